@@ -3,8 +3,12 @@
 //! trusted edge is `FileStore` over the file system and `OutSink` over a stream, a few lines each.
 #![tactic(auto)]
 
+mod mem_sink;
+mod mem_store;
 mod sinks;
 mod stores;
 
+pub use mem_sink::{Act, MemSink};
+pub use mem_store::MemStore;
 pub use sinks::{Failed, Sink};
 pub use stores::{FetchError, Store};

@@ -1,5 +1,5 @@
 -- What stores and sinks hold, and how often they failed.
-use Rattle.std.specs.Prelude.{◌≡◌, ◌⊎◌, ℕ, ◌+◌, ◌-◌, ◌^◌, min, ◌<◌, ◌≤◌, List, ◌++◌, take, Option, Some, None}
+use Rattle.std.specs.Prelude.{◌≡◌, ◌⊎◌, ℕ, ◌+◌, ◌-◌, ◌^◌, min, ◌<◌, ◌≤◌, List, ◌++◌, take, Option, Some}
 use Rattle.std.specs.Option.{option_map}
 
 -- A count of faults rose. At the last value of a 64-bit counter it counts as risen.

@@ -1,0 +1,58 @@
+//! A sink over a stream.
+ghost use Rattle.std.specs.Prelude.{◌≡◌, ◌<◌, ◌≤◌, None, IfSome, length, take};
+ghost use Rattle.std.specs.Io.KnownBytes.{Appends};
+
+use crate::sinks::{Failed, Sink};
+use std::io::Write;
+use std::marker::Model;
+
+/// A sink over a stream. It does not tell what it holds. What the stream refuses is a failure.
+#[derive(Drop)]
+pub struct OutSink<W: Write> {
+    stream: W,
+    faults: u64,
+}
+
+// Contracts see how often it failed.
+impl<W: Write> Model for OutSink<W> {
+    ghost use Rattle.std.specs.Prelude.{ℕ};
+
+    ghost Value = { ℕ };
+
+    ghost view = { λ s. s.faults };
+}
+
+impl<W: Write> OutSink<W> {
+    pub fn new(stream: W) -> OutSink<W>
+        ensures { result ≡ 0 }
+    {
+        OutSink { stream, faults: 0 }
+    }
+}
+
+impl<W: Write> Sink for OutSink<W> {
+    ghost held = { λ _. None };
+
+    ghost faults = { λ s. s };
+
+    fn give(&mut self, piece: &[u8]) -> Result<usize, Failed> {
+        match write_some(&mut self.stream, piece) {
+            Some(count) => Ok(count),
+            None => {
+                self.faults = self.faults.saturating_add(1);
+                Err(Failed)
+            }
+        }
+    }
+}
+
+// Writes the front of a piece, and answers how many bytes the stream took, if any.
+fn write_some<W: Write>(stream: &mut W, piece: &[u8]) -> Option<usize>
+    ensures count { IfSome result (λ n. (0 < n) × (n ≤ length piece.now)) }
+    ensures written { IfSome result (λ n. Appends (W.contents stream.old) (W.contents stream.new) (take n piece.now)) }
+{
+    match stream.write(piece) {
+        Ok(count) if 0 < count && count <= piece.len() => Some(count),
+        _ => None,
+    }
+}

@@ -66,7 +66,8 @@ fn open_and_read<R: Files>(
 // The first `most` bytes that the reader gives, or all where it gives fewer.
 fn read_front<F: Read>(alloc: Global, reader: &mut F, most: usize) -> Result<Vec<u8>, FetchError>
     ensures length { IfOk result (λ bytes. length bytes.items ≤ most) }
-    ensures front { IfOk result (λ bytes. IfSome (F.remaining reader.old) (λ content. bytes.items ≡ take most content)) }
+    ensures front { IfOk result (λ bytes.
+        IfSome (F.remaining reader.old) (λ content. bytes.items ≡ take most content)) }
 {
     let mut bytes = Vec::new(alloc);
     let mut buffer = [0u8; 4096];

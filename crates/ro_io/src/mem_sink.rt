@@ -1,6 +1,7 @@
 //! A sink over memory.
-ghost use Rattle.std.specs.Prelude.{◌≡◌, ◌+◌, ◌<◌, ◌≤◌, ◌++◌, [], Some, None, drop, length, take, IfOk, OnErr, IfSome, MatchResult, vec_len, vec_capacity};
-ghost use Rattle.ro_io.specs.Outside.{Rose, more, risen};
+ghost use Rattle.std.specs.Prelude.{◌≡◌, ◌+◌, ◌<◌, ◌≤◌, ◌++◌, [], Some, drop, length, take, IfOk, OnErr, IfSome, vec_len, vec_capacity};
+ghost use Rattle.std.specs.Result.{result_ok};
+ghost use Rattle.ro_io.specs.Outside.{Rose};
 ghost use Rattle.ro_io.specs.MemSink.{portion_of, taken_of, after_piece};
 
 use crate::sinks::{Failed, Sink};
@@ -28,12 +29,17 @@ pub struct MemSink {
 }
 
 impl Model for MemSink {
-    ghost use Rattle.std.specs.Prelude.{◌≤◌, ◌<◌, ◌^◌, length, vec_capacity};
+    ghost use Rattle.std.specs.Prelude.{◌≤◌, length, vec_capacity};
     ghost use Rattle.ro_io.specs.MemSink.{SinkState};
 
     ghost Value = { SinkState };
 
-    ghost view = { λ s. record { bytes = s.bytes.items; room = s.room; acts = s.acts.items; faults = s.faults } };
+    ghost view = { λ s. record {
+      bytes = s.bytes.items;
+      room = s.room;
+      acts = s.acts.items;
+      faults = s.faults;
+    } };
 
     ghost invariant = { λ s. (length s.bytes.items ≤ s.room) × (s.room ≤ vec_capacity s.bytes) };
 }
@@ -44,7 +50,8 @@ impl MemSink {
     /// # Errors
     /// Where there is no memory for the room.
     pub fn new(alloc: Global, room: usize, acts: Vec<Act>) -> Result<MemSink, AllocError>
-        ensures { IfOk result (λ sink. sink ≡ record { bytes = []; room = room; acts = acts.items; faults = 0 }) }
+        ensures { IfOk result (λ sink.
+            sink ≡ record { bytes = []; room = room; acts = acts.items; faults = 0 }) }
     {
         Ok(MemSink {
             bytes: Vec::with_capacity(alloc, room)?,
@@ -70,13 +77,13 @@ impl Sink for MemSink {
     fn give(&mut self, piece: &[u8]) -> Result<usize, Failed>
         requires { 0 < length piece.now }
         ensures count { IfOk result (λ n. (0 < n) × (n ≤ length piece.now)) }
-        ensures taken { IfOk result (λ n. Some self.new.bytes ≡ more (Some self.old.bytes) (take n piece.now)) }
-        ensures refused { OnErr result (Some self.new.bytes ≡ Some self.old.bytes) }
+        ensures taken { IfOk result (λ n. self.new.bytes ≡ self.old.bytes ++ take n piece.now) }
+        ensures refused { OnErr result (self.new.bytes ≡ self.old.bytes) }
         ensures cause { OnErr result (Rose self.old.faults self.new.faults) }
         ensures faults { self.old.faults ≤ self.new.faults }
 
         // Which answer comes, and all that it changes.
-        ensures answer { MatchResult result (λ n. taken_of self.old piece.now ≡ Some n) (λ _. taken_of self.old piece.now ≡ None) }
+        ensures answer { result_ok result ≡ taken_of self.old piece.now }
         ensures after { self.new ≡ after_piece self.old piece.now }
     {
         let fits = piece.len() <= self.room - self.bytes.len();

@@ -1,5 +1,5 @@
 //! A store over memory.
-ghost use Rattle.std.specs.Prelude.{◌≡◌, ◌≤◌, ◌↔◌, ◌++◌, [], ◌∷◌, Some, None, nat_eq, find, length, take, IfOk, OnOk, OnErr, IsErrOf, MatchResult};
+ghost use Rattle.std.specs.Prelude.{◌≡◌, ◌≤◌, ◌↔◌, ◌++◌, [], ◌∷◌, Some, None, nat_eq, find, length, take, IfOk, OnOk, OnErr, IsErrOf, IfErr};
 ghost use Rattle.std.specs.Option.{option_copied};
 ghost use Rattle.std.specs.Cmp.Lexicographic.{pointwise};
 ghost use Rattle.ro_io.specs.Outside.{Rose, IsFront};
@@ -20,12 +20,16 @@ pub struct MemStore {
 }
 
 impl Model for MemStore {
-    ghost use Rattle.std.specs.Prelude.{◌<◌, ◌^◌};
     ghost use Rattle.ro_io.specs.MemStore.{StoreState};
 
     ghost Value = { StoreState };
 
-    ghost view = { λ s. record { files = s.files.items; failing = s.failing.items; calls = s.calls; faults = s.faults } };
+    ghost view = { λ s. record {
+      files = s.files.items;
+      failing = s.failing.items;
+      calls = s.calls;
+      faults = s.faults;
+    } };
 }
 
 // A file: its name and its bytes.
@@ -91,7 +95,8 @@ impl MemStore {
     /// # Errors
     /// Where there is no memory for it. The store is as before then.
     pub fn put(&mut self, name: &str, bytes: &[u8]) -> Result<(), AllocError>
-        ensures ok { OnOk result (self.new ≡ record self.old { files = self.old.files ++ (name.now, bytes.now) ∷ [] }) }
+        ensures ok { OnOk result
+            (self.new ≡ record self.old { files = self.old.files ++ (name.now, bytes.now) ∷ [] }) }
         ensures err { OnErr result (self.new ≡ self.old) }
     {
         self.files.push(File::new(self.alloc, name, bytes)?)?;
@@ -103,7 +108,8 @@ impl MemStore {
     /// # Errors
     /// Where there is no memory to note it. The store is as before then.
     pub fn fail_at(&mut self, call: u64) -> Result<(), AllocError>
-        ensures ok { OnOk result (self.new ≡ record self.old { failing = self.old.failing ++ call ∷ [] }) }
+        ensures ok { OnOk result
+            (self.new ≡ record self.old { failing = self.old.failing ++ call ∷ [] }) }
         ensures err { OnErr result (self.new ≡ self.old) }
     {
         self.failing.push(call)?;
@@ -139,14 +145,17 @@ impl Store for MemStore {
 
     fn fetch(&mut self, alloc: Global, name: &str, most: usize) -> Result<Vec<u8>, FetchError>
         ensures length { IfOk result (λ bytes. length bytes.items ≤ most) }
-        ensures front { IfOk result (λ bytes. IsFront (file_in self.old.files) name.now most bytes.items) }
+        ensures front { IfOk result (λ bytes.
+            IsFront (file_in self.old.files) name.now most bytes.items) }
         ensures told { self.new.files ≡ self.old.files }
         ensures cause { IsErrOf result FetchError.Failed → Rose self.old.faults self.new.faults }
         ensures faults { self.old.faults ≤ self.new.faults }
 
         // Which answer comes, but for want of memory, and all that the call changes.
-        ensures fetched { IfOk result (λ bytes. fetched_of self.old name.now most ≡ Some bytes.items) }
-        ensures failed { IsErrOf result FetchError.Failed ↔ (fetched_of self.old name.now most ≡ None) }
+        ensures fetched { IfOk result (λ bytes.
+            fetched_of self.old name.now most ≡ Some bytes.items) }
+        ensures failed { IsErrOf result FetchError.Failed ↔
+            (fetched_of self.old name.now most ≡ None) }
         ensures after { self.new ≡ after_fetch self.old name.now most }
     {
         let Some(bytes) = self.next(name, most) else {
@@ -162,7 +171,8 @@ impl Store for MemStore {
 
 // The bytes in memory of their own.
 fn copy_of(alloc: Global, bytes: &[u8]) -> Result<Vec<u8>, FetchError>
-    ensures { MatchResult result (λ copy. copy.items ≡ bytes.now) (λ error. error ≡ FetchError.NoMemory) }
+    ensures ok { IfOk result (λ copy. copy.items ≡ bytes.now) }
+    ensures err { IfErr result (λ error. error ≡ FetchError.NoMemory) }
 {
     match Vec::from_slice(alloc, bytes) {
         Ok(copy) => Ok(copy),

@@ -17,12 +17,18 @@ pub struct View {
 }
 
 impl Model for View {
-    ghost use Rattle.std.specs.Prelude.{ℕ, ◌≤◌, take};
+    ghost use Rattle.std.specs.Prelude.{◌≤◌, take};
     ghost use Rattle.ro_event.specs.Views.{View as ViewOf};
 
     ghost Value = { ViewOf };
 
-    ghost view = { λ v. record { registers = v.registers; pc = v.pc; since = v.since; stop = v.stop; payload = take v.payload_len v.payload } };
+    ghost view = { λ v. record {
+      registers = v.registers;
+      pc = v.pc;
+      since = v.since;
+      stop = v.stop;
+      payload = take v.payload_len v.payload;
+    } };
 
     ghost invariant = { λ v. v.payload_len ≤ 4096 };
 }
@@ -30,7 +36,13 @@ impl Model for View {
 impl View {
     /// A view with no payload.
     pub fn new(registers: [u32; 31], pc: u32, since: u32, stop: Stop) -> View
-        ensures { result ≡ record { registers = registers; pc = pc; since = since; stop = stop; payload = [] } }
+        ensures { result ≡ record {
+          registers = registers;
+          pc = pc;
+          since = since;
+          stop = stop;
+          payload = [];
+        } }
     {
         View {
             registers,

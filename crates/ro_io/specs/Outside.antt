@@ -1,10 +1,14 @@
 -- What stores and sinks hold, and how often they failed.
-use Rattle.std.specs.Prelude.{◌≡◌, ◌⊎◌, ℕ, ◌-◌, ◌^◌, ◌<◌, ◌≤◌, List, ◌++◌, take, Option, Some, None}
+use Rattle.std.specs.Prelude.{◌≡◌, ◌⊎◌, ℕ, ◌+◌, ◌-◌, ◌^◌, min, ◌<◌, ◌≤◌, List, ◌++◌, take, Option, Some}
 use Rattle.std.specs.Option.{option_map}
 
 -- A count of faults rose. At the last value of a 64-bit counter it counts as risen.
 abbrev pub Rose : ℕ → ℕ → Type 0
 Rose before after = (before < after) ⊎ (2 ^ 64 - 1 ≤ after)
+
+-- a counter after one more, which stays at its last value
+abbrev pub risen : ℕ → ℕ
+risen count = min (count + 1) (2 ^ 64 - 1)
 
 -- the bytes of each name that is a file
 abbrev pub Files : Type 0

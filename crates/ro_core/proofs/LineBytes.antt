@@ -7,11 +7,8 @@ use Rattle.std.proofs.lemmas.List.{get_or-append-add}
 use Rattle.ro_pages.specs.Bytes.{Memory, within, bytes_of, bytes_at, number_of, number_at, stored}
 use Rattle.ro_image.specs.Image.{memory_of}
 use Rattle.ro_image.specs.Straight.{word, headers_of, file_of, size_with, load_place, entry_place, image_with}
+use Rattle.ro_core.specs.Line.{AreWords}
 use Rattle.ro_image.proofs.Files.{length-headers_of, length-file_of}
-
--- each is a number of 32 bits
-abbrev pub AreWords : List ℕ → Type 0
-AreWords words = (i : ℕ) → get_or words i 0 < 2 ^ 32
 
 -- the k-th byte of the i-th word
 byte_of_word : (words : List ℕ) (i k : ℕ) → i < length words → k < 4 → get_or (flat_map word words) (4 * i + k) 0 ≡ get_or (word (get_or words i 0)) k 0

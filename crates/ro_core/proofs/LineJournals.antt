@@ -27,15 +27,17 @@ use Rattle.ro_replica.specs.Runs.{Ran, struck, execute, run_of, standing_at, wit
 use Rattle.ro_vote.specs.Verdict.{Won, Split, verdict_of}
 use Rattle.ro_plain.specs.Machine.{layout_of, setup_of}
 use Rattle.ro_image.specs.Straight.{image_with}
-use Rattle.ro_core.specs.Core.{Job, Lease, Core, opening_core, is_going, nothing_lent, is_out, is_lendable, may_vote, may_free, payload_at, view_with, views_of}
+use Rattle.ro_core.specs.declared.actions.Lease.{Lease}
+use Rattle.ro_core.specs.Core.{Job, Core, opening_core, is_going, nothing_lent, is_out, is_lendable, may_vote, may_free, payload_at, view_with, views_of}
 use Rattle.ro_core.specs.Event.{Event, event_of, quiet_effect, core_after}
 use Rattle.ro_kernel.specs.Kernel.{lives_on}
 use Rattle.ro_core.specs.Legal.{lease_run, is_lease, arrival, arrived, HasArrived, core_after_put, core_after_event, cut_output, MayTake, MayPut, MayVote, MayFree, MayEnd, due, alone, for_vote, for_free, EndsVote, EndsFree, EndsAlone, PassesLimit, event_in, since_in, is_stuck, any_below, IsAllowed, after, LegalFrom, Legal, replay_from}
 use Rattle.ro_core.specs.Defaults.{default_job}
-use Rattle.ro_core.specs.Line.{line_cpu, line_length, exits, last_cpu, line_stop, line_end}
+use Rattle.ro_core.specs.Line.{IsLine, line_cpu, line_length, exits, last_cpu, line_stop, line_end}
+use Rattle.ro_core.specs.Replicas.{line_thread}
 use Rattle.ro_core.proofs.LineBytes.{line_memory}
 use Rattle.ro_core.proofs.LineNext.{line_layout}
-use Rattle.ro_core.proofs.LineRuns.{IsLine, line_thread, line_replica, stopped_replica, the_watchdog, opening_is_line, run_is, run_stopped, line_standing_last, some_is, few_steps}
+use Rattle.ro_core.proofs.LineRuns.{line_replica, stopped_replica, the_watchdog, opening_is_line, run_is, run_stopped, line_standing_last, some_is, few_steps}
 use Rattle.ro_core.proofs.LineMachine.{line_kernel}
 use Rattle.ro_core.proofs.Journals.{plan_of-append, outcome_of-append}
 
@@ -113,7 +115,7 @@ module _ (words : List ℕ) (line : IsLine words) where
   arrives_at n stop e =
       let last : Replica = line_replica words (line_length words) stop in
       let at : arrival (line_job words) 0 n last ≡ Some (line_stop words) =
-          ap (λ (b : Bool). cond b None (standing_at (line_layout words) the_watchdog last 0)) e ∙ line_standing_last words line stop
+      ap (λ (b : Bool). cond b None (standing_at (line_layout words) the_watchdog last 0)) e ∙ line_standing_last words line stop
       in
       ap (λ (s : Option Stop). line_replica words (line_length words) s) at
 
@@ -125,18 +127,22 @@ module _ (words : List ℕ) (line : IsLine words) where
       absurd (not_made words (line_length words) (Some (line_stop words)) thread count ran (ap (λ (r : Replica). run_of (line_layout words) the_watchdog count r (suc thread)) (sym is) ∙ e) arrives)
   comes_back replica zero count ran (fresh is) e arrives =
       let t = run_is words line count 4096 ran (omega arith) (ap (λ (r : Replica). run_of (line_layout words) the_watchdog count r 0) (sym is) ∙ e) arrives in
-      let short : count ≡ 4096 → ⊥ = λ h. let f : count ≡ line_length words = t.0 in absurd (omega (arith, few_steps words line)) in
-      (refl, record {
-        no_hit = ap (λ (r : Ran). r.hit) t.1;
-        stands = ap (λ (r : Ran). arrived (line_job words) 0 count r.replica) t.1 ∙ arrives_at count None (differ count 4096 short);
-      })
+      let short : count ≡ 4096 → ⊥ = λ h. let f : count ≡ line_length words = t.0 in absurd (omega (arith, few_steps words line)) in (
+        refl,
+        record {
+          no_hit = ap (λ (r : Ran). r.hit) t.1;
+          stands = ap (λ (r : Ran). arrived (line_job words) 0 count r.replica) t.1 ∙ arrives_at count None (differ count 4096 short);
+        },
+      )
   comes_back replica zero count ran (stopped is) e arrives =
       let t = run_stopped words line count ran (ap (λ (r : Replica). run_of (line_layout words) the_watchdog count r 0) (sym is) ∙ e) in
-      let short : count ≡ 4096 → ⊥ = λ h. let f : count ≡ 0 = t.0 in absurd (omega arith) in
-      (refl, record {
-        no_hit = ap (λ (r : Ran). r.hit) t.1;
-        stands = ap (λ (r : Ran). arrived (line_job words) 0 count r.replica) t.1 ∙ arrives_at count (Some (line_stop words)) (differ count 4096 short);
-      })
+      let short : count ≡ 4096 → ⊥ = λ h. let f : count ≡ 0 = t.0 in absurd (omega arith) in (
+        refl,
+        record {
+          no_hit = ap (λ (r : Ran). r.hit) t.1;
+          stands = ap (λ (r : Ran). arrived (line_job words) 0 count r.replica) t.1 ∙ arrives_at count (Some (line_stop words)) (differ count 4096 short);
+        },
+      )
 
 -- the vote on the guest: its event
 abbrev pub line_event : List ℕ → Event
@@ -167,12 +173,13 @@ line_event_is words = by (exits words)
   where
     payload : Stop → List ℕ
     payload stop = payload_at (image_with words).ranges (line_memory words) stop
+
     by : (b : Bool) → Some (event_of (setup_of (line_job words).program) (line_kernel words) 0 (cond b (call_of (last_cpu words) (System 93)) (Trap 2)) (payload (cond b (call_of (last_cpu words) (System 93)) (Trap 2))))
         ≡ Some (record { did = cond b WasServed Trapped; kernel = line_kernel words; effect = quiet_effect 0 None false; payload = []; blocked = None; due = Some (cond b (Exit (register (last_cpu words) 10 % 256)) (TrapHow 2)) })
     by true = refl
     by false = refl
 
-one_step : (words : List ℕ) → event_steps (line_event words).did ≡ 1
+pub one_step : (words : List ℕ) → event_steps (line_event words).did ≡ 1
 one_step words = by (exits words)
   where
     by : (b : Bool) → event_steps (cond b WasServed Trapped) ≡ 1
@@ -193,7 +200,7 @@ pub record AllStopped (words : List ℕ) (thread : ℕ) (core : Core) : Type 0 w
   pub thread_is : thread ≡ 0
   pub core_is : core ≡ stopped_core words
 
-all_stopped : (words : List ℕ) (a b c : Replica) (leases : List Lease) (thread : ℕ) → AtAStop words a → AtAStop words b → AtAStop words c
+pub all_stopped : (words : List ℕ) (a b c : Replica) (leases : List Lease) (thread : ℕ) → AtAStop words a → AtAStop words b → AtAStop words c
     → may_vote (going_core words a b c leases) thread ≡ true → AllStopped words thread (going_core words a b c leases)
 all_stopped words a b c leases (suc thread) at bt ct e =
     let p = and_parts _ _ e in let q = and_parts _ _ p.0 in let r = and_parts _ _ q.0 in absurd (true≢false (sym r.1))
@@ -228,13 +235,13 @@ goes_on words a b c (stopped ea) (fresh eb) ct s =
     let t : false ≡ true = ap (λ (r : Replica). not (can_go_on words (stopped_replica words) r c)) (sym eb) ∙ ap (λ (r : Replica). not (can_go_on words r b c)) (sym ea) ∙ s in true≢false (sym t)
 goes_on words a b c (stopped ea) (stopped eb) (fresh ec) s =
     let t : false ≡ true =
-        ap (λ (r : Replica). not (can_go_on words (stopped_replica words) (stopped_replica words) r)) (sym ec)
-        ∙ ap (λ (r : Replica). not (can_go_on words (stopped_replica words) r c)) (sym eb) ∙ ap (λ (r : Replica). not (can_go_on words r b c)) (sym ea) ∙ s
+    ap (λ (r : Replica). not (can_go_on words (stopped_replica words) (stopped_replica words) r)) (sym ec)
+    ∙ ap (λ (r : Replica). not (can_go_on words (stopped_replica words) r c)) (sym eb) ∙ ap (λ (r : Replica). not (can_go_on words r b c)) (sym ea) ∙ s
     in true≢false (sym t)
 goes_on words a b c (stopped ea) (stopped eb) (stopped ec) s =
     let t : false ≡ true =
-        ap (λ (r : Replica). not (can_go_on words (stopped_replica words) (stopped_replica words) r)) (sym ec)
-        ∙ ap (λ (r : Replica). not (can_go_on words (stopped_replica words) r c)) (sym eb) ∙ ap (λ (r : Replica). not (can_go_on words r b c)) (sym ea) ∙ s
+    ap (λ (r : Replica). not (can_go_on words (stopped_replica words) (stopped_replica words) r)) (sym ec)
+    ∙ ap (λ (r : Replica). not (can_go_on words (stopped_replica words) r c)) (sym eb) ∙ ap (λ (r : Replica). not (can_go_on words r b c)) (sym ea) ∙ s
     in true≢false (sym t)
 
 not_stuck : (words : List ℕ) (a b c : Replica) (leases : List Lease) → AtAStop words a → AtAStop words b → AtAStop words c
@@ -307,12 +314,12 @@ pub record Ending (words : List ℕ) (core : Core) : Type 0 where
   pub not_over : core.ended ≡ None
   pub nothing_out : core.output ≡ []
 
-after_vote : (words : List ℕ) (count : ℕ) (did : Did) → Ending words (after (line_job words) (stopped_core words) (Vote 0 count 0 None did))
+pub after_vote : (words : List ℕ) (count : ℕ) (did : Did) → Ending words (after (line_job words) (stopped_core words) (Vote 0 count 0 None did))
 unfolding after
 after_vote words count did =
     let all : List Replica = (stopped_core words).replicas in
     let is : core_after_event (stopped_core words) 0 count all (event_in (line_job words) (stopped_core words) 0 0) ≡ core_after (stopped_core words) 0 count all (line_event words) =
-        ap (core_after_event (stopped_core words) 0 count all) (line_event_is words)
+    ap (core_after_event (stopped_core words) 0 count all) (line_event_is words)
     in
     record {
       home = ap (λ (core : Core). core.leases) is;
@@ -329,16 +336,16 @@ uncut words core = by (exits words)
     by true = refl
     by false = refl
 
-not_going : (core : Core) (how : How) → core.due ≡ Some how → is_going core ≡ true → ⊥
+pub not_going : (core : Core) (how : How) → core.due ≡ Some how → is_going core ≡ true → ⊥
 not_going core how e g = let f : is_none core.due ≡ false = ap is_none e in let p = and_parts (is_none core.due) (is_none core.ended) g in cc
 
-not_going_over : (core : Core) (how : How) → core.ended ≡ Some how → is_going core ≡ true → ⊥
+pub not_going_over : (core : Core) (how : How) → core.ended ≡ Some how → is_going core ≡ true → ⊥
 not_going_over core how e g = let f : is_none core.ended ≡ false = ap is_none e in let p = and_parts (is_none core.due) (is_none core.ended) g in cc
 
-voting_goes : (core : Core) (thread : ℕ) → may_vote core thread ≡ true → is_going core ≡ true
+pub voting_goes : (core : Core) (thread : ℕ) → may_vote core thread ≡ true → is_going core ≡ true
 voting_goes core thread e = (and_parts (is_going core) (nothing_lent core) (and_parts _ (lives_on core.kernel thread) (and_parts _ (is_none (core.blocked thread)) (and_parts _ (list_all (λ replica. is_some (stop_of replica thread)) core.replicas) e).0).0).0).0
 
-freeing_goes : (job : Job) (core : Core) (thread : ℕ) → may_free job core thread ≡ true → is_going core ≡ true
+pub freeing_goes : (job : Job) (core : Core) (thread : ℕ) → may_free job core thread ≡ true → is_going core ≡ true
 freeing_goes job core thread e = (and_parts (is_going core) (nothing_lent core) (and_parts (is_going core && nothing_lent core) _ e).0).0
 
 -- one entry more
@@ -355,7 +362,7 @@ plan_then : (words : List ℕ) (before : List Entry) (how : How) → plan_of bef
 plan_then words before how p = plan_of-append before (End how ∷ []) ∙ append-nil (plan_of before) ∙ p
 
 module _ (words : List ℕ) (line : IsLine words) (before : List Entry) (core : Core) (a b c : Replica) (leases : List Lease) (at : AtAStop words a) (bt : AtAStop words b) (ct : AtAStop words c)
-  (core_is : core ≡ going_core words a b c leases) (plan : plan_of before ≡ []) (none : outcome_of before ≡ None) where
+    (core_is : core ≡ going_core words a b c leases) (plan : plan_of before ≡ []) (none : outcome_of before ≡ None) where
   go_take : (driver replica thread : ℕ) → Goes words before core (Take driver replica thread)
   unfolding after
   go_take driver replica thread = record {
@@ -412,24 +419,24 @@ module _ (words : List ℕ) (line : IsLine words) (before : List Entry) (core : 
       let job : Job = line_job words in
       let all = all_stopped words a b c leases thread at bt ct m.may in
       let there : MayVote job (stopped_core words) 0 count won lost did =
-          subst (λ (t : ℕ). MayVote job (stopped_core words) t count won lost did) all.thread_is (subst (λ (x : Core). MayVote job x thread count won lost did) all.core_is m)
+      subst (λ (t : ℕ). MayVote job (stopped_core words) t count won lost did) all.thread_is (subst (λ (x : Core). MayVote job x thread count won lost did) all.core_is m)
       in
       let is = vote_is words won lost count there.event there.verdict there.count_is there.comes in
       let left : Ending words (after job (stopped_core words) (Vote 0 count 0 None did)) = after_vote words count did in
       let here : Ending words (after job core (Vote thread count won lost did)) =
-          subst (λ (x : Core). Ending words (after job x (Vote thread count won lost did))) (sym (core_is ∙ all.core_is))
-          (subst (λ (t : ℕ). Ending words (after job (stopped_core words) (Vote t count won lost did))) (sym all.thread_is)
-          (subst (λ (w : ℕ). Ending words (after job (stopped_core words) (Vote 0 count w lost did))) (sym is.won_is)
-          (subst (λ (l : Option ℕ). Ending words (after job (stopped_core words) (Vote 0 count 0 l did))) (sym is.lost_is) left)))
+      subst (λ (x : Core). Ending words (after job x (Vote thread count won lost did))) (sym (core_is ∙ all.core_is))
+      (subst (λ (t : ℕ). Ending words (after job (stopped_core words) (Vote t count won lost did))) (sym all.thread_is)
+      (subst (λ (w : ℕ). Ending words (after job (stopped_core words) (Vote 0 count w lost did))) (sym is.won_is)
+      (subst (λ (l : Option ℕ). Ending words (after job (stopped_core words) (Vote 0 count 0 l did))) (sym is.lost_is) left)))
       in
       let one : event_steps did ≡ 1 = ap event_steps (sym there.did_is) ∙ ap (λ (v : Event). event_steps v.did) is.event_is ∙ one_step words in
       let planned : plan_of (before ++ Vote thread count won lost did ∷ []) ≡ line_plan words =
-          plan_of-append before (Vote thread count won lost did ∷ [])
-          ∙ ap (λ (xs : List ℕ). xs ++ ((replicate count thread ++ replicate (event_steps did) thread) ++ [])) plan
-          ∙ append-nil (replicate count thread ++ replicate (event_steps did) thread)
-          ∙ ap (λ (n : ℕ). replicate n thread ++ replicate (event_steps did) thread) is.count_is
-          ∙ ap (λ (n : ℕ). replicate (line_length words) thread ++ replicate n thread) one
-          ∙ ap (λ (t : ℕ). replicate (line_length words) t ++ t ∷ []) all.thread_is
+      plan_of-append before (Vote thread count won lost did ∷ [])
+      ∙ ap (λ (xs : List ℕ). xs ++ ((replicate count thread ++ replicate (event_steps did) thread) ++ [])) plan
+      ∙ append-nil (replicate count thread ++ replicate (event_steps did) thread)
+      ∙ ap (λ (n : ℕ). replicate n thread ++ replicate (event_steps did) thread) is.count_is
+      ∙ ap (λ (n : ℕ). replicate (line_length words) thread ++ replicate n thread) one
+      ∙ ap (λ (t : ℕ). replicate (line_length words) t ++ t ∷ []) all.thread_is
       in
       record {
         phase = ending here.home here.due_is here.not_over here.nothing_out planned (outcome_of-append before (Vote thread count won lost did ∷ []) none);
@@ -445,7 +452,7 @@ module _ (words : List ℕ) (line : IsLine words) (before : List Entry) (core : 
 
 -- what is behind the vote
 module _ (words : List ℕ) (before : List Entry) (core : Core) (home : core.leases ≡ []) (due_is : core.due ≡ Some (line_end words)) (not_over : core.ended ≡ None) (nothing_out : core.output ≡ [])
-  (plan : plan_of before ≡ line_plan words) (none : outcome_of before ≡ None) where
+    (plan : plan_of before ≡ line_plan words) (none : outcome_of before ≡ None) where
   stands_still : is_going core ≡ true → ⊥
   stands_still = not_going core (line_end words) due_is
 

@@ -19,10 +19,10 @@ use Rattle.ro_plain.specs.Machine.{Program, layout_of, setup_of, Machine, openin
 use Rattle.ro_plain.specs.Order.{RaceFree}
 use Rattle.ro_plain.proofs.Swap.{run-append}
 use Rattle.std.proofs.lemmas.Bool.{cases_lt}
-use Rattle.ro_core.specs.Line.{addi_of, line_cpu, line_length, exits, last_cpu, line_stop, line_end}
+use Rattle.ro_core.specs.Line.{IsLine, addi_of, line_cpu, line_length, exits, last_cpu, line_stop, line_end}
 use Rattle.ro_core.proofs.LineBytes.{line_memory}
 use Rattle.ro_core.proofs.LineNext.{line_layout}
-use Rattle.ro_core.proofs.LineRuns.{IsLine, next_before, next_last}
+use Rattle.ro_core.proofs.LineRuns.{next_before, next_last}
 
 abbrev pub line_program : List ℕ → Program
 line_program words = record { image = image_with words; input = [] }
@@ -115,7 +115,7 @@ module _ (words : List ℕ) (line : IsLine words) where
     | inr last ↦
         let at : i ≡ line_length words = omega arith in
         let over : run (line_program words) (line_machine words i None) (0 ∷ threads) ≡ run (line_program words) (line_machine words (line_length words) (Some (line_end words))) threads =
-            ap (λ (k : ℕ). run (line_program words) (line_machine words k None) (0 ∷ threads)) at ∙ ap (option_and_then (λ after. run (line_program words) after threads)) (machine_ends words line)
+        ap (λ (k : ℕ). run (line_program words) (line_machine words k None) (0 ∷ threads)) at ∙ ap (option_and_then (λ after. run (line_program words) after threads)) (machine_ends words line)
         in
         (refl, nothing_left (line_length words) (line_end words) threads end (sym over ∙ e))
   ]

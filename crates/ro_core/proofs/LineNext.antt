@@ -24,8 +24,8 @@ use Rattle.ro_exec.specs.Next.{Layout, Backed, Next, Stands as StandsAt, Execute
 use Rattle.ro_image.specs.Image.{holds_file_byte, ranges_with}
 use Rattle.ro_image.specs.Straight.{is_addi, is_straight, is_guest, entry_place, load_place, size_with, file_of, no_calls, segment_of, heap_behind, image_with}
 use Rattle.ro_image.proofs.Files.{length-file_of}
-use Rattle.ro_core.specs.Line.{addi_of, line_cpu, line_length}
-use Rattle.ro_core.proofs.LineBytes.{AreWords, line_memory, word_at}
+use Rattle.ro_core.specs.Line.{AreWords, addi_of, line_cpu, line_length}
+use Rattle.ro_core.proofs.LineBytes.{line_memory, word_at}
 use Rattle.ro_core.proofs.LineCode.{Stands, an_addi, the_call, the_end, line_pc, line_length-le}
 
 abbrev pub line_layout : List ℕ → Layout
@@ -100,10 +100,10 @@ not_fetchable words =
     let rest : List Range = ranges_with [] (heap_behind n) in
     let behind : nat_lt p (load_place + size_with n) ≡ false = ap (λ (k : ℕ). nat_lt p k) (let e : load_place + size_with n ≡ p = omega arith in e) ∙ not_below p in
     let segment : (nat_le load_place p && nat_lt p (load_place + size_with n) && true) ≡ false =
-        ap (λ (b : Bool). nat_le load_place p && b && true) behind ∙ ap (λ (b : Bool). b && true) (and_false (nat_le load_place p) false refl)
+    ap (λ (b : Bool). nat_le load_place p && b && true) behind ∙ ap (λ (b : Bool). b && true) (and_false (nat_le load_place p) false refl)
     in
     let byte : permits_byte (segment_of n ∷ rest) Execute p ≡ false =
-        or_false _ _ segment (no_code rest p refl)
+    or_false _ _ segment (no_code rest p refl)
     in
     and_false (nat_le (p + 4) (2 ^ 32)) _ (ap (λ (b : Bool). b && permits_each (segment_of n ∷ rest) Execute (p + 1) 3) byte)
 
@@ -119,7 +119,7 @@ file_page words i h =
     let p : ℕ = entry_place + 4 * i in
     let last : ℕ = load_place + length (file_of words) - 1 in
     let covers : (nat_lt 0 (length (file_of words)) && nat_le (page_of load_place) (page_of p) && nat_le (page_of p) (page_of last)) ≡ true =
-        and_from _ _ (and_from _ _ (lt-ltb 0 (length (file_of words)) (omega arith)) (le-leb (page_of load_place) (page_of p) (omega arith))) (le-leb (page_of p) (page_of last) (omega arith))
+    and_from _ _ (and_from _ _ (lt-ltb 0 (length (file_of words)) (omega arith)) (le-leb (page_of load_place) (page_of p) (omega arith))) (le-leb (page_of p) (page_of last) (omega arith))
     in
     ap (λ (b : Bool). b || false) covers
 

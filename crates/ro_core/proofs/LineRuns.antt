@@ -15,26 +15,20 @@ use Rattle.ro_exec.specs.Next.{Layout, Backed, all_backed, Next, Stands as Stand
 use Rattle.ro_thread.specs.declared.Thread.{Thread}
 use Rattle.ro_thread.specs.Stops.{standing}
 use Rattle.ro_image.specs.Image.{holds_file_byte}
-use Rattle.ro_image.specs.Straight.{is_addi, is_straight, is_guest, entry_place, image_with}
+use Rattle.ro_image.specs.Straight.{is_addi, is_straight, IsGuest, entry_place, image_with}
 use Rattle.ro_replica.specs.Replica.{Replica, opening_replica}
 use Rattle.ro_replica.specs.Runs.{Ran, struck, execute, execute_at, execute_next, run_of, standing_at, plus_hit}
-use Rattle.ro_core.specs.Line.{addi_of, after_addi, line_cpu, line_length, exits, last_cpu, line_stop}
-use Rattle.ro_core.proofs.LineBytes.{AreWords, line_memory}
+use Rattle.ro_core.specs.Line.{AreWords, IsLine, addi_of, after_addi, line_cpu, line_length, exits, last_cpu, line_stop}
+use Rattle.ro_core.specs.Replicas.{line_thread}
+use Rattle.ro_core.proofs.LineBytes.{line_memory}
 use Rattle.ro_core.proofs.LineCode.{Stands, an_addi, the_call, the_end, stands_at, line_length-le, call_is_exit}
 use Rattle.ro_core.proofs.LineNext.{line_layout, AreBacked, file_is_backed, next_addi, next_call, next_end}
 
--- a straight-line guest
-pub record IsLine (words : List ℕ) : Type 0 where
-  pub are : AreWords words
-  pub straight : is_straight words ≡ true
-  pub some : 1 ≤ length words
-  pub few : length words ≤ 1024
-
-pub guest_is_line : (words : List ℕ) → AreWords words → is_guest words ≡ true → IsLine words
-guest_is_line words are e =
-    let p = and_parts (nat_le 1 (length words) && nat_le (length words) 1024) (is_straight words) e in
+pub guest_is_line : (words : List ℕ) → IsGuest words → IsLine words
+guest_is_line words guest =
+    let p = and_parts (nat_le 1 (length words) && nat_le (length words) 1024) (is_straight words) guest.straight in
     let q = and_parts (nat_le 1 (length words)) (nat_le (length words) 1024) p.0 in
-    record { are = are; straight = p.1; some = leb-true 1 (length words) q.0; few = leb-true (length words) 1024 q.1 }
+    record { are = guest.small; straight = p.1; some = leb-true 1 (length words) q.0; few = leb-true (length words) 1024 q.1 }
 
 -- what the thread does next: an instruction before the end, and there the last stop
 module _ (words : List ℕ) (line : IsLine words) (backed : Backed) (pages : AreBacked words backed) where
@@ -58,10 +52,6 @@ module _ (words : List ℕ) (line : IsLine words) (backed : Backed) (pages : Are
       by (the_end at last ends) =
           next_end words line.are line.few backed pages (line_length words) last
           ∙ sym (ap (λ (b : Bool). StandsAt (cond b (call_of (last_cpu words) (System 93)) (Trap 2))) ends)
-
--- the replica's thread after so many instructions, with a stop or none
-abbrev pub line_thread : List ℕ → ℕ → Option Stop → Thread
-line_thread words i stop = record { cpu = line_cpu words i; since = i; done = i; stop = stop }
 
 abbrev pub line_backed : List ℕ → Backed
 line_backed words = holds_file_byte (image_with words).pieces
@@ -189,7 +179,7 @@ module _ (words : List ℕ) (line : IsLine words) where
   run_is n quantum ran big e arrives =
       let most : 0 + n ≤ line_length words = line_run_most n 0 ran (omega arith) e in
       let is : ran ≡ record { replica = line_replica words n None; hit = 0 } =
-          some_is (sym e ∙ line_run n 0 most) ∙ ap (λ (k : ℕ). record { replica = line_replica words k None; hit = 0 }) (let z : 0 + n ≡ n = omega arith in z)
+      some_is (sym e ∙ line_run n 0 most) ∙ ap (λ (k : ℕ). record { replica = line_replica words k None; hit = 0 }) (let z : 0 + n ≡ n = omega arith in z)
       in
       let last : n ≡ line_length words = elim (cases_lt n (line_length words)) [
         | inl less ↦ elim arrives [

@@ -1,7 +1,7 @@
 -- A run that is asked for with nothing but an executable.
 use Rattle.std.specs.Prelude.{ℕ, []}
 use Rattle.ro_image.specs.Image.{Image}
-use Rattle.ro_core.specs.declared.Settings.{Settings}
+use Rattle.ro_core.specs.declared.settings.Settings.{Settings}
 use Rattle.ro_core.specs.Core.{Job}
 
 abbrev pub default_settings : Settings

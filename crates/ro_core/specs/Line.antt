@@ -1,5 +1,5 @@
 -- The run of a straight-line guest, so far the only kind of program: ADDIs, and then, or not, an exit.
-use Rattle.std.specs.Prelude.{ℕ, zero, suc, ◌+◌, ◌-◌, ◌*◌, ◌%◌, Bool, true, false, List, [], ◌∷◌, length, Option, Some, None, ◌==◌, if◌then◌else◌, slice_index}
+use Rattle.std.specs.Prelude.{◌≡◌, ◌<◌, ◌≤◌, ◌^◌, ℕ, zero, suc, ◌+◌, ◌-◌, ◌*◌, ◌%◌, Bool, true, false, List, [], ◌∷◌, length, Option, Some, None, ◌==◌, if◌then◌else◌, slice_index}
 use Rattle.ro_decode.specs.Fields.{rd_in, rs1_in, i_immediate}
 use Rattle.ro_decode.specs.declared.AluOp.TheVariants.{Add}
 use Rattle.ro_decode.specs.declared.Instr.{Instr}
@@ -8,6 +8,8 @@ use Rattle.ro_alu.specs.Results.{alu_of}
 use Rattle.ro_event.specs.declared.calls.Which.TheVariants.{System}
 use Rattle.ro_event.specs.declared.stops.Stop.{Stop}
 use Rattle.ro_event.specs.declared.stops.Stop.TheVariants.{Trap}
+use Rattle.ro_journal.specs.declared.Did.{Did}
+use Rattle.ro_journal.specs.declared.Did.TheVariants.{Served, Trapped}
 use Rattle.ro_journal.specs.declared.How.{How}
 use Rattle.ro_journal.specs.declared.How.TheVariants.{Exit, Trap as TrapHow}
 use Rattle.ro_exec.specs.declared.Cpu.{Cpu}
@@ -15,7 +17,18 @@ use Rattle.ro_exec.specs.Registers.{register}
 use Rattle.ro_exec.specs.Meaning.{with_value}
 use Rattle.ro_exec.specs.Next.{call_of}
 use Rattle.ro_exec.specs.Threads.{first_cpu}
-use Rattle.ro_image.specs.Straight.{entry_place, is_exit}
+use Rattle.ro_image.specs.Straight.{entry_place, is_exit, is_straight}
+
+-- each is a number of 32 bits
+abbrev pub AreWords : List ℕ → Type 0
+AreWords words = (i : ℕ) → slice_index words i < 2 ^ 32
+
+-- a straight-line guest
+pub record IsLine (words : List ℕ) : Type 0 where
+  pub are : AreWords words
+  pub straight : is_straight words ≡ true
+  pub some : 1 ≤ length words
+  pub few : length words ≤ 1024
 
 -- the ADDI of a word
 abbrev pub addi_of : ℕ → Instr
@@ -47,6 +60,10 @@ last_cpu words = line_cpu words (line_length words)
 -- the stop there: the exit, or behind the last word a fetch that is not permitted
 abbrev pub line_stop : List ℕ → Stop
 line_stop words = if exits words then call_of (last_cpu words) (System 93) else Trap 2
+
+-- what the vote on it did
+abbrev pub line_did : List ℕ → Did
+line_did words = if exits words then Served else Trapped
 
 -- the end of the program
 abbrev pub line_end : List ℕ → How

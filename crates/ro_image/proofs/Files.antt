@@ -1,12 +1,12 @@
 -- Files and the words that they are made of.
-use Rattle.std.proofs.Common.{le-leb, leb-true, suc, append_assoc, length-drop, cond, ◌&&◌, Some, None, ◌≡◌, ℕ, ◌+◌, ◌-◌, ◌*◌, ◌/◌, ◌%◌, ◌<◌, ◌≤◌, Bool, true, false, List, [], ◌∷◌, ◌++◌, length, take, drop, get_or, refl, sym, ap, ◌∙◌, arith, length-append}
+use Rattle.std.proofs.Common.{◌^◌, zero, le-leb, leb-true, suc, append_assoc, length-drop, cond, ◌&&◌, Some, None, ◌≡◌, ℕ, ◌+◌, ◌-◌, ◌*◌, ◌/◌, ◌%◌, ◌<◌, ◌≤◌, Bool, true, false, List, [], ◌∷◌, ◌++◌, length, take, drop, get_or, refl, sym, ap, ◌∙◌, arith, length-append}
 use Rattle.std.specs.List.{flat_map}
 use Rattle.std.specs.Str.{bytes_eq}
 use Rattle.std.proofs.lemmas.Slice.Eq.{bytes_eq-Decides}
 use Rattle.std.proofs.lemmas.List.{take_at, take_all, take-append-drop, drop-drop, get_or-drop}
 use Rattle.byteorder.specs.Endian.{little_number}
 use Rattle.ro_pages.specs.Bytes.{bytes_of, number_of}
-use Rattle.ro_image.specs.Straight.{word, headers_of, file_of, words_of, words_in, size_with, is_straight, is_guest, is_accepted, bad_code, HasForm}
+use Rattle.ro_image.specs.Straight.{word, headers_of, file_of, words_of, words_in, size_with, is_straight, is_guest, IsGuest, is_accepted, bad_code, HasForm}
 
 -- each number is a byte's
 abbrev pub AreBytes : List ℕ → Type 0
@@ -133,7 +133,7 @@ pub bad_code_some : (bytes : List ℕ) → (is_accepted bytes ≡ true → ⊥) 
 bad_code_some bytes f = ap (λ (b : Bool). cond b None (Some 0)) (not_true (is_accepted bytes) f)
 
 -- the words of an accepted file are a guest's
-pub guest_of : (bytes : List ℕ) → is_accepted bytes ≡ true → is_guest (words_in bytes) ≡ true
+guest_of : (bytes : List ℕ) → is_accepted bytes ≡ true → is_guest (words_in bytes) ≡ true
 guest_of bytes e = (parts (bytes_eq bytes (file_of (words_in bytes))) (is_guest (words_in bytes)) e).1
 
 -- what the slice behind the headers reads as
@@ -146,3 +146,18 @@ length_behind bytes form =
     let whole : length bytes % 4 ≡ 0 = form.whole in
     let same : length (take (length bytes - 84) (drop 84 bytes)) ≡ length (drop 84 bytes) = ap length (take_all (length bytes - 84) (drop 84 bytes) (omega (arith, length-drop 84 bytes))) in
     omega (arith, length-drop 84 bytes)
+
+-- a word of four bytes is a number of 32 bits
+words_small : (bytes : List ℕ) → AreBytes bytes → (i : ℕ) → get_or (words_of bytes) i 0 < 2 ^ 32
+words_small [] are i = omega arith
+words_small (a ∷ []) are i = omega arith
+words_small (a ∷ b ∷ []) are i = omega arith
+words_small (a ∷ b ∷ c ∷ []) are i = omega arith
+words_small (a ∷ b ∷ c ∷ d ∷ bytes) are zero = omega (arith, are 0, are 1, are 2, are 3)
+words_small (a ∷ b ∷ c ∷ d ∷ bytes) are (suc i) = words_small bytes (λ j. are (suc (suc (suc (suc j))))) i
+
+pub is_guest_file : (bytes : List ℕ) → AreBytes bytes → is_accepted bytes ≡ true → IsGuest (words_in bytes)
+is_guest_file bytes are e = record {
+  straight = guest_of bytes e;
+  small = words_small (drop 84 bytes) (λ i. let f = get_or-drop 84 bytes i 0 in rw f (are (84 + i)));
+}

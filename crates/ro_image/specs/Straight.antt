@@ -1,5 +1,5 @@
 -- The one form of file that is accepted so far: the executable made of 1 to 1,024 straight-line words.
-use Rattle.std.specs.Prelude.{◌≡◌, ℕ, ◌<◌, ◌≤◌, take, ◌+◌, ◌*◌, ◌/◌, ◌%◌, ◌^◌, Bool, true, false, ◌&&◌, ◌||◌, List, [], ◌∷◌, ◌++◌, length, drop, replicate, Option, Some, None, ◌==◌, nat_le, if◌then◌else◌}
+use Rattle.std.specs.Prelude.{IsTrue, slice_index, ◌≡◌, ℕ, ◌<◌, ◌≤◌, take, ◌+◌, ◌*◌, ◌/◌, ◌%◌, ◌^◌, Bool, true, false, ◌&&◌, ◌||◌, List, [], ◌∷◌, ◌++◌, length, drop, replicate, Option, Some, None, ◌==◌, nat_le, if◌then◌else◌}
 use Rattle.std.specs.List.{flat_map}
 use Rattle.std.specs.Str.{bytes_eq}
 use Rattle.ro_event.specs.declared.table.CallTable.{CallTable}
@@ -70,6 +70,11 @@ is_straight (w ∷ words) = is_exit (w ∷ words) || (is_addi w && is_straight w
 -- 1 to 1,024 straight-line words
 abbrev pub is_guest : List ℕ → Bool
 is_guest words = nat_le 1 (length words) && nat_le (length words) 1024 && is_straight words
+
+-- the same of numbers of 32 bits
+pub record IsGuest (words : List ℕ) : Type 0 where
+  pub straight : IsTrue (is_guest words)
+  pub small : (i : ℕ) → slice_index words i < 2 ^ 32
 
 -- the words behind the headers
 abbrev pub words_in : List ℕ → List ℕ

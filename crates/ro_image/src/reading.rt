@@ -1,6 +1,6 @@
 //! Reading an executable file.
 ghost use Rattle.std.specs.Prelude.{◌≡◌, ◌%◌, ◌↔◌, IsTrue, IfOk, length};
-ghost use Rattle.ro_image.specs.Straight.{headers_of, words_of, is_addi as addi, is_straight as straight, is_guest, HasForm, image_with};
+ghost use Rattle.ro_image.specs.Straight.{headers_of, words_of, is_addi as addi, is_straight as straight, IsGuest, HasForm, image_with};
 ghost use Rattle.ro_image.specs.Reading.{Reads};
 
 use byteorder::{ByteOrder, LittleEndian};
@@ -30,28 +30,27 @@ pub enum ImageError {
 }
 
 /// What an accepted executable says of the machine at its opening.
-#[derive(Drop)]
+#[derive(Clone, Drop)]
 pub struct Image {
     words: Vec<u32>,
 }
 
 impl Model for Image {
-    ghost use Rattle.std.specs.Prelude.{IsTrue};
     ghost use Rattle.ro_image.specs.Image.{Image as ImageOf};
-    ghost use Rattle.ro_image.specs.Straight.{image_with, is_guest};
+    ghost use Rattle.ro_image.specs.Straight.{image_with, IsGuest};
 
     ghost Value = { ImageOf };
 
     ghost view = { λ i. image_with i.words.items };
 
-    ghost invariant = { λ i. IsTrue (is_guest i.words.items) };
+    ghost invariant = { λ i. IsGuest i.words.items };
 }
 
 impl Image {
     /// The words of the program, in order from its entry.
     pub fn words(&self) -> &[u32]
         ensures image { self.now ≡ image_with result.now }
-        ensures guest { IsTrue (is_guest result.now) }
+        ensures guest { IsGuest result.now }
     {
         self.words.as_slice()
     }

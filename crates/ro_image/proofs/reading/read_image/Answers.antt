@@ -1,6 +1,6 @@
 use Rattle.std.proofs.Common.{◌≡◌, ◌<◌, true, false, sym, ap, ◌∙◌, get_or, ℕ, List, arith, subst}
-use Rattle.ro_image.specs.Straight.{words_in, is_accepted, is_straight, is_guest, image_with, HasForm}
-use Rattle.ro_image.proofs.Files.{accepted, accepted_only, bad_code_none, bad_code_some, guest_of, words_behind}
+use Rattle.ro_image.specs.Straight.{words_in, is_accepted, is_straight, IsGuest, image_with, HasForm}
+use Rattle.ro_image.proofs.Files.{accepted, accepted_only, bad_code_none, bad_code_some, is_guest_file, words_behind}
 use Rattle.ro_image.proofs.reading.read_image.Goals as goal
 
 module _ (bytes words seen : List ℕ) (are : (i : ℕ) → get_or bytes i 0 < 256) (form : HasForm bytes) (words_are : words ≡ words_in bytes) (seen_are : seen ≡ words) where
@@ -18,7 +18,7 @@ invariant_of-result c =
     let bytes : List ℕ = c.args.bytes.now in
     let words_are : c.in-Ok.words.items ≡ words_in bytes = words_behind bytes c.in-Ok.words.items c.in-Ok.ensures in
     let good : is_accepted bytes ≡ true = is_good bytes c.in-Ok.words.items c.as_slice.result.now (λ i. omega (arith, c.type_inv.bytes i)) (c.has_form.ensures.0 c.if-not-has_form.false) words_are c.as_slice.ensures.value (sym c.if-is_straight.ensures) in
-    subst (λ (ws : List ℕ). is_guest ws ≡ true) (sym words_are) (guest_of bytes good)
+    subst IsGuest (sym words_are) (is_guest_file bytes (λ i. omega (arith, c.type_inv.bytes i)) good)
 
 pub returns-then-is_straight : goal.returns-then-is_straight
 returns-then-is_straight c =

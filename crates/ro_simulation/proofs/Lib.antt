@@ -10,3 +10,8 @@ pub mod Put
 pub mod Served
 pub mod Effects
 pub mod Events
+pub mod Verdicts
+pub mod Steps
+pub mod Copies
+pub mod Kept
+pub mod Votes

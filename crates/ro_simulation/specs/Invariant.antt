@@ -1,5 +1,5 @@
 -- What every entry of a legal journal keeps.
-use Rattle.std.specs.Prelude.{◌≡◌, ◌≢◌, ℕ, ◌≤◌, IsTrue, List, length, Option, Some, None, slice_get}
+use Rattle.std.specs.Prelude.{◌≡◌, ◌≢◌, ℕ, ◌≤◌, IsTrue, List, [], length, Option, Some, None, slice_get}
 use Rattle.ro_event.specs.declared.calls.Call.{Call}
 use Rattle.ro_event.specs.declared.stops.Stop.{Stop}
 use Rattle.ro_event.specs.declared.stops.Stop.TheVariants.{Calls}
@@ -7,7 +7,9 @@ use Rattle.ro_journal.specs.declared.How.{How}
 use Rattle.ro_journal.specs.declared.How.TheVariants.{Exit, Trap}
 use Rattle.ro_journal.specs.declared.Entry.{Entry}
 use Rattle.ro_faults.specs.declared.Fault.{Fault}
+use Rattle.ro_pages.specs.Bytes.{Memory}
 use Rattle.ro_kernel.specs.Kernel.{lives_on}
+use Rattle.ro_kernel.specs.Serve.{payload_of}
 use Rattle.ro_exec.specs.declared.Cpu.{Cpu}
 use Rattle.ro_exec.specs.Next.{Backed, Stands}
 use Rattle.ro_thread.specs.declared.Thread.{Thread}
@@ -44,11 +46,12 @@ pub record IsSound (job : Job) (core : Core) (backed : Backed) (number : ℕ) (r
   pub within_watch : (place : ℕ) (thread : Thread) → slice_get replica.threads place ≡ Some thread → thread.since ≤ job.settings.watchdog
   pub own_faults : (fault : Fault) → Listed replica.waiting fault → (fault.replica ≡ number) × Listed job.faults fault
 
--- A blocked thread stands at its voted call.
+-- A blocked thread stands at its voted call, which writes nothing.
 pub record StandsAtCall (program : Program) (machine : Machine) (number : ℕ) (call : Call) : Type 0 where
   pub cpu : Cpu
   pub live : steppable machine number ≡ Some cpu
   pub stands : next_of program machine cpu ≡ Stands (Calls call)
+  pub writes_nothing : (memory : Memory) → payload_of program.image.ranges memory call ≡ []
 
 -- The program ended by an exit or a trap.
 pub data IsOver : How → Type 0 where

@@ -8,7 +8,7 @@ use Rattle.ro_kernel.specs.Kernel.{Kernel, lives_on}
 use Rattle.ro_exec.specs.declared.Cpu.{Cpu}
 use Rattle.ro_exec.specs.Next.{Backed, Executes, next}
 use Rattle.ro_exec.proofs.Backing.{executes-backed}
-use Rattle.ro_plain.specs.Machine.{Program, layout_of, Machine, opening, executed, steppable, step, IsPlain, run, PlainRun, BackedRun, nothing_left, then_backed}
+use Rattle.ro_plain.specs.Machine.{Program, layout_of, Machine, opening, executed, next_of, steppable, step, IsPlain, run, PlainRun, BackedRun, nothing_left, then_backed}
 use Rattle.ro_plain.specs.Order.{RaceFree}
 use Rattle.ro_plain.proofs.Commute.{steppable-other, plain-step}
 use Rattle.ro_plain.proofs.Calls.{some-injective}
@@ -28,6 +28,9 @@ pub record StepsBacked (program : Program) (backed : Backed) (machine : Machine)
 pub plain-of : (program : Program) (backed : Backed) (machine : Machine) (t : ℕ) → StepsBacked program backed machine t → IsPlain program machine t
 plain-of program backed machine t h =
     record { cpu = h.cpu; instr = h.instr; live = h.live; executes = executes-backed (layout_of program) backed machine.memory h.cpu h.instr h.executes }
+
+pub plain-executes : (program : Program) (backed : Backed) (machine : Machine) (t : ℕ) (h : StepsBacked program backed machine t) → next_of program machine h.cpu ≡ Executes h.instr
+plain-executes program backed machine t h = executes-backed (layout_of program) backed machine.memory h.cpu h.instr h.executes
 
 -- the step is its instruction's change
 pub backed-step : (program : Program) (backed : Backed) (machine : Machine) (t : ℕ) (h : StepsBacked program backed machine t) → step program machine t ≡ Some (executed machine t h.cpu h.instr)

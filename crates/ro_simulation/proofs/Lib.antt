@@ -15,3 +15,9 @@ pub mod Steps
 pub mod Copies
 pub mod Kept
 pub mod Votes
+pub mod Entries
+pub mod Frees
+pub mod Ends
+pub mod Opening
+pub mod Alike
+pub mod Journals

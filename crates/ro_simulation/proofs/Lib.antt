@@ -21,3 +21,4 @@ pub mod Ends
 pub mod Opening
 pub mod Alike
 pub mod Journals
+pub mod Simulation

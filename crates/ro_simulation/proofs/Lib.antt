@@ -21,4 +21,5 @@ pub mod Ends
 pub mod Opening
 pub mod Alike
 pub mod Journals
-pub mod Simulation
+pub mod Simulates
+pub mod Laws

@@ -1,14 +1,13 @@
 -- Runs that touch only backed pages: a thread's step taken before or after the steps that other threads have run ahead.
-use Rattle.std.specs.Prelude.{◌≡◌, ◌≢◌, ℕ, zero, suc, ◌+◌, Bool, true, false, List, [], ◌∷◌, ◌++◌, length, replicate, Option, Some, None}
+use Rattle.std.specs.Prelude.{◌≡◌, ℕ, zero, suc, List, [], ◌∷◌, ◌++◌, length, replicate, Some, None}
 use Rattle.std.specs.Option.{option_and_then}
-use Rattle.std.proofs.Common.{refl, sym, ap, ◌∙◌, subst, append_assoc, append-nil}
+use Rattle.std.proofs.Common.{refl, sym, ap, ◌∙◌, subst, append-nil}
 use Rattle.std.proofs.lemmas.List.{length-set}
 use Rattle.ro_decode.specs.declared.Instr.{Instr}
-use Rattle.ro_kernel.specs.Kernel.{Kernel, lives_on}
 use Rattle.ro_exec.specs.declared.Cpu.{Cpu}
 use Rattle.ro_exec.specs.Next.{Backed, Executes, next}
 use Rattle.ro_exec.proofs.Backing.{executes-backed}
-use Rattle.ro_plain.specs.Machine.{Program, layout_of, Machine, opening, executed, next_of, steppable, step, IsPlain, run, PlainRun, BackedRun, nothing_left, then_backed}
+use Rattle.ro_plain.specs.Machine.{Program, layout_of, Machine, opening, executed, next_of, steppable, step, IsPlain, run, BackedRun, nothing_left, then_backed}
 use Rattle.ro_plain.specs.Order.{RaceFree}
 use Rattle.ro_plain.proofs.Commute.{steppable-other, plain-step}
 use Rattle.ro_plain.proofs.Calls.{some-injective}

@@ -1,13 +1,13 @@
 -- A replica is alike exactly where it agrees with the ideal machine.
-use Rattle.std.specs.Prelude.{◌≡◌, ◌≢◌, ℕ, List, Option, Some, None, slice_get}
-use Rattle.std.proofs.Common.{refl, sym, ap, ◌∙◌, subst}
+use Rattle.std.specs.Prelude.{◌≡◌, List, Some, None}
+use Rattle.std.proofs.Common.{sym, ◌∙◌, subst}
 use Rattle.ro_journal.specs.declared.Entry.{Entry}
 use Rattle.ro_replica.specs.Replica.{Replica}
 use Rattle.ro_plain.specs.Machine.{Machine}
 use Rattle.ro_plain.proofs.Calls.{some-injective}
 use Rattle.ro_core.specs.Core.{Job}
 use Rattle.ro_core.specs.Ideal.{ideal, IsAlike}
-use Rattle.ro_simulation.specs.Invariant.{RunsAhead, StopStands, Agrees}
+use Rattle.ro_simulation.specs.Invariant.{Agrees}
 
 pub agrees-is-alike : (job : Job) (journal : List Entry) (machine : Machine) (r : Replica) → ideal job journal ≡ Some machine → machine.ended ≡ None → Agrees job machine r → IsAlike job journal r
 agrees-is-alike job journal machine r e on h = record {

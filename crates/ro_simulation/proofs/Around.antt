@@ -1,6 +1,6 @@
 -- A thread's steps among those that a replica has run ahead.
-use Rattle.std.specs.Prelude.{◌≡◌, ◌≢◌, ℕ, zero, suc, ◌+◌, ◌<◌, ◌≤◌, List, [], ◌∷◌, ◌++◌, replicate, Option, Some, None, slice_get, slice_set}
-use Rattle.std.proofs.Common.{refl, sym, ap, ◌∙◌, subst, arith, append_assoc}
+use Rattle.std.specs.Prelude.{◌≡◌, ◌≢◌, ℕ, zero, suc, ◌+◌, ◌<◌, List, [], ◌∷◌, ◌++◌, replicate, Some, None, slice_get, slice_set}
+use Rattle.std.proofs.Common.{refl, sym, ap, ◌∙◌, arith, append_assoc}
 use Rattle.ro_thread.specs.declared.Thread.{Thread}
 use Rattle.ro_plain.proofs.Ahead.{Without}
 use Rattle.ro_core.specs.Ideal.{ahead_from}

@@ -1,8 +1,7 @@
 -- A copy of a replica that agrees agrees too.
-use Rattle.std.specs.Prelude.{◌≡◌, ◌≢◌, ℕ, zero, suc, ◌<◌, ◌≤◌, ◌⊎◌, List, [], ◌∷◌, length, map, Option, Some, None, slice_get, slice_set}
+use Rattle.std.specs.Prelude.{◌≡◌, ◌≢◌, ℕ, zero, suc, ◌≤◌, ◌⊎◌, List, [], ◌∷◌, length, Option, Some, None, slice_get, slice_set}
 use Rattle.std.specs.Option.{option_map_or}
-use Rattle.std.proofs.Common.{refl, sym, ap, ap₂, ◌∙◌, subst, arith, inl, inr}
-use Rattle.std.proofs.lemmas.Bool.{cases_eq}
+use Rattle.std.proofs.Common.{refl, sym, ap, ◌∙◌, subst, arith, inl, inr}
 use Rattle.std.proofs.lemmas.List.{length-set}
 use Rattle.ro_exec.specs.Next.{Backed}
 use Rattle.ro_thread.specs.declared.Thread.{Thread}
@@ -12,7 +11,7 @@ use Rattle.ro_plain.specs.Machine.{layout_of, Machine, BackedRun}
 use Rattle.ro_plain.proofs.Calls.{some-injective}
 use Rattle.ro_core.specs.Core.{Job, Core}
 use Rattle.ro_core.specs.Event.{with_recovered}
-use Rattle.ro_simulation.specs.Invariant.{IsSound, RunsAhead, StopStands, Agrees}
+use Rattle.ro_simulation.specs.Invariant.{IsSound, Agrees}
 use Rattle.ro_simulation.proofs.Lists.{get-set-cases}
 use Rattle.ro_simulation.proofs.Counts.{counts, same-counts-ahead}
 
@@ -66,8 +65,10 @@ agrees-recovered job machine winner loser n h = record {
     same_cpus = λ number thread alive e. let c = copied-from winner.threads loser.threads number thread e in
         h.runs_ahead.same_cpus number c.from alive c.there ∙ ap (λ (y : Thread). Some y.cpu) c.is;
   };
-  stops = λ number. record { stands = λ thread stop alive e stopped. let c = copied-from winner.threads loser.threads number thread e in
-      subst (λ (y : Thread). y.stop ≡ Some stop → standing_in (layout_of job.program) job.settings.watchdog winner y ≡ Some stop) c.is ((h.stops number).stands c.from stop alive c.there) stopped };
+  stops = λ number. record {
+    stands = λ thread stop alive e stopped. let c = copied-from winner.threads loser.threads number thread e in
+        subst (λ (y : Thread). y.stop ≡ Some stop → standing_in (layout_of job.program) job.settings.watchdog winner y ≡ Some stop) c.is ((h.stops number).stands c.from stop alive c.there) stopped;
+  };
 }
 
 -- a replica after a vote's copy: one as it was, or the copy

@@ -1,6 +1,6 @@
 -- What a replica has run ahead depends on its threads' counts alone.
-use Rattle.std.specs.Prelude.{◌≡◌, ◌≢◌, ℕ, zero, suc, ◌+◌, List, [], ◌∷◌, ◌++◌, map, replicate, Option, Some, None, slice_get}
-use Rattle.std.proofs.Common.{refl, sym, ap, ap₂, ◌∙◌, subst, append-nil}
+use Rattle.std.specs.Prelude.{◌≡◌, ℕ, zero, suc, List, [], ◌∷◌, ◌++◌, map, replicate}
+use Rattle.std.proofs.Common.{refl, sym, ap, ap₂, ◌∙◌}
 use Rattle.ro_thread.specs.declared.Thread.{Thread}
 use Rattle.ro_replica.specs.Replica.{changed_at}
 use Rattle.ro_core.specs.Ideal.{ahead_from}

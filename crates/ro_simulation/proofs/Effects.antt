@@ -1,40 +1,34 @@
 -- An effect in a replica that agrees with the machine: it still agrees, with the machine that the effect leaves.
-use Rattle.std.specs.Prelude.{◌≡◌, ◌≢◌, ℕ, zero, suc, ◌+◌, ◌<◌, ◌≤◌, ◌⊎◌, Bool, true, false, IsTrue, cond, ◌&&◌, ◌||◌, ◌==◌, List, [], ◌∷◌, ◌++◌, replicate, length, map, Option, Some, None, slice_get, slice_set, slice_index_or}
-use Rattle.std.specs.Option.{option_map, option_and_then}
-use Rattle.std.proofs.Common.{refl, sym, ap, ap₂, ◌∙◌, subst, arith, inl, inr, append_assoc, length-append}
-use Rattle.std.proofs.lemmas.Bool.{true≢false, cases_eq}
-use Rattle.std.proofs.lemmas.List.{length-set}
-use Rattle.std.proofs.lemmas.Option.{get_or_from_slice_get, slice_get_within}
-use Rattle.ro_event.specs.declared.calls.Call.{Call}
+use Rattle.std.specs.Prelude.{◌≡◌, ◌≢◌, ℕ, ◌+◌, ◌<◌, ◌≤◌, ◌⊎◌, Bool, true, false, IsTrue, cond, ◌||◌, ◌==◌, List, [], ◌∷◌, ◌++◌, length, map, Option, Some, None, slice_get, slice_index_or}
+use Rattle.std.proofs.Common.{refl, sym, ap, ◌∙◌, subst, arith, inl, inr, length-append}
+use Rattle.std.proofs.lemmas.Bool.{true≢false}
+use Rattle.std.proofs.lemmas.Option.{get_or_from_slice_get}
 use Rattle.ro_event.specs.declared.effects.Made.{Made}
 use Rattle.ro_event.specs.declared.stops.Stop.{Stop}
 use Rattle.ro_event.specs.declared.stops.Stop.TheVariants.{Calls, Trap, PageFault, Watchdog}
 use Rattle.ro_event.specs.Effects.{Effect}
 use Rattle.ro_pages.specs.Bytes.{Memory, stored, covers_page}
-use Rattle.ro_kernel.specs.Kernel.{Kernel, lives_on}
-use Rattle.ro_kernel.specs.Serve.{Served, Done, serve, payload_of}
-use Rattle.ro_kernel.proofs.Kept.{IsOwn, slice_get-set_other}
+use Rattle.ro_kernel.specs.Kernel.{lives_on}
 use Rattle.ro_exec.specs.declared.Cpu.{Cpu}
-use Rattle.ro_exec.specs.Next.{Layout, Backed, all_backed, Next, Stands, Executes, next, stop_in}
-use Rattle.ro_exec.specs.Threads.{made_cpu, cpu_after}
+use Rattle.ro_exec.specs.Next.{Layout, Backed, Next, Stands, Executes, next, stop_in}
+use Rattle.ro_exec.specs.Threads.{made_cpu}
 use Rattle.ro_thread.specs.declared.Thread.{Thread}
 use Rattle.ro_thread.specs.Stops.{standing}
 use Rattle.ro_replica.specs.Replica.{Replica, unstopped, changed_at, thread_after, creator_of, with_made, is_page, applied, is_cancelled, without_cancelled, cancelled}
-use Rattle.ro_replica.specs.Runs.{standing_in}
-use Rattle.ro_plain.specs.Machine.{Program, layout_of, setup_of, Machine, opening, with_made as machine_made, affected, next_of, steppable, step, run, BackedRun}
+use Rattle.ro_plain.specs.Machine.{layout_of, Machine, BackedRun}
 use Rattle.ro_plain.specs.Order.{RaceFree}
 use Rattle.ro_plain.proofs.Calls.{some-injective}
 use Rattle.ro_core.specs.Core.{Job, Core}
-use Rattle.ro_core.specs.Ideal.{ahead_from, ahead}
-use Rattle.ro_simulation.specs.Invariant.{Listed, IsSound, RunsAhead, StopStands, Agrees}
+use Rattle.ro_core.specs.Ideal.{ahead_from}
+use Rattle.ro_simulation.specs.Invariant.{IsSound, Agrees}
 use Rattle.ro_simulation.proofs.Pages.{IsMore, stands-more}
-use Rattle.ro_simulation.proofs.Stays.{Stays, stays}
-use Rattle.ro_simulation.proofs.Ahead.{BackedRun-more, KeepsRest, BackedRun-keeps, reach-run, TakenAfter, take-after, stays-along}
-use Rattle.ro_simulation.proofs.Lists.{get-set-same, get-set-cases, ChangedFrom, unchanged, changed_here, get-changed, changed-is-set, length-changed, MappedFrom, get-map, length-mapped, get-append-left, get-append-cases}
+use Rattle.ro_simulation.proofs.Stays.{stays}
+use Rattle.ro_simulation.proofs.Ahead.{BackedRun-more}
+use Rattle.ro_simulation.proofs.Lists.{get-set-same, ChangedFrom, unchanged, changed_here, get-changed, changed-is-set, length-changed, MappedFrom, get-map, length-mapped, get-append-cases}
 use Rattle.ro_simulation.proofs.Around.{Around}
-use Rattle.ro_simulation.proofs.Counts.{counts, same-counts-ahead, counts-mapped, ahead-new}
+use Rattle.ro_simulation.proofs.Counts.{same-counts-ahead, counts-mapped, ahead-new}
 use Rattle.ro_simulation.proofs.Served.{made_count}
-use Rattle.ro_simulation.proofs.Views.{Comes, standing_by, StandsNext, stands-next, not-equal}
+use Rattle.ro_simulation.proofs.Views.{Comes}
 
 -- ---- the parts of a replica after an effect
 
@@ -143,31 +137,31 @@ sound-applied job core after backed number replica effect lives some h = record 
   within_watch = λ place thread e. watch place thread (get-map _ (threads_after effect replica.threads) place thread e);
   own_faults = h.own_faults;
 }
-    where
-      same_length : length (changed_at (thread_after effect) replica.threads effect.thread) ≡ length core.kernel.lives
-      same_length = length-changed (thread_after effect) replica.threads effect.thread ∙ h.all_made
+  where
+    same_length : length (changed_at (thread_after effect) replica.threads effect.thread) ≡ length core.kernel.lives
+    same_length = length-changed (thread_after effect) replica.threads effect.thread ∙ h.all_made
 
-      all : length (map (without_cancelled (backed_after effect replica.backed)) (threads_after effect replica.threads)) ≡ length after.kernel.lives
-      all = length-mapped _ (threads_after effect replica.threads)
-          ∙ (length-made effect.made (changed_at (thread_after effect) replica.threads effect.thread) (subst (λ (n : ℕ). 0 < n) (sym same_length) some)
-          ∙ (ap (λ (n : ℕ). n + made_count effect.made) same_length ∙ sym lives))
+    all : length (map (without_cancelled (backed_after effect replica.backed)) (threads_after effect replica.threads)) ≡ length after.kernel.lives
+    all = length-mapped _ (threads_after effect replica.threads)
+        ∙ (length-made effect.made (changed_at (thread_after effect) replica.threads effect.thread) (subst (λ (n : ℕ). 0 < n) (sym same_length) some)
+        ∙ (ap (λ (n : ℕ). n + made_count effect.made) same_length ∙ sym lives))
 
-      in_changed : (place : ℕ) (thread : Thread) → ChangedFrom (thread_after effect) replica.threads effect.thread place thread → thread.since ≤ job.settings.watchdog
-      in_changed place thread (unchanged d e) = h.within_watch place thread e
-      in_changed place thread (changed_here x d e g) = subst (λ (y : Thread). y.since ≤ job.settings.watchdog) g (omega arith)
+    in_changed : (place : ℕ) (thread : Thread) → ChangedFrom (thread_after effect) replica.threads effect.thread place thread → thread.since ≤ job.settings.watchdog
+    in_changed place thread (unchanged d e) = h.within_watch place thread e
+    in_changed place thread (changed_here x d e g) = subst (λ (y : Thread). y.since ≤ job.settings.watchdog) g (omega arith)
 
-      in_made : (made : Option Made) (threads : List Thread) → ((place : ℕ) (thread : Thread) → slice_get threads place ≡ Some thread → thread.since ≤ job.settings.watchdog) → (place : ℕ) (thread : Thread) → slice_get (with_made made threads) place ≡ Some thread → thread.since ≤ job.settings.watchdog
-      in_made None threads all place thread e = all place thread e
-      in_made (Some made) [] all place thread e = absurd (let f : None ≡ Some thread = e in cc)
-      in_made (Some made) (x ∷ threads) all place thread e = by (get-append-cases (x ∷ threads) (unstopped (made_cpu made (creator_of made (x ∷ threads) x) (length (x ∷ threads)))) place thread e)
-        where
-          by : (slice_get (x ∷ threads) place ≡ Some thread) ⊎ ((place ≡ length (x ∷ threads)) × (unstopped (made_cpu made (creator_of made (x ∷ threads) x) (length (x ∷ threads))) ≡ thread)) → thread.since ≤ job.settings.watchdog
-          by (inl f) = all place thread f
-          by (inr f) = subst (λ (y : Thread). y.since ≤ job.settings.watchdog) f.1 (omega arith)
+    in_made : (made : Option Made) (threads : List Thread) → ((place : ℕ) (thread : Thread) → slice_get threads place ≡ Some thread → thread.since ≤ job.settings.watchdog) → (place : ℕ) (thread : Thread) → slice_get (with_made made threads) place ≡ Some thread → thread.since ≤ job.settings.watchdog
+    in_made None threads all place thread e = all place thread e
+    in_made (Some made) [] all place thread e = absurd (let f : None ≡ Some thread = e in cc)
+    in_made (Some made) (x ∷ threads) all place thread e = by (get-append-cases (x ∷ threads) (unstopped (made_cpu made (creator_of made (x ∷ threads) x) (length (x ∷ threads)))) place thread e)
+      where
+        by : (slice_get (x ∷ threads) place ≡ Some thread) ⊎ ((place ≡ length (x ∷ threads)) × (unstopped (made_cpu made (creator_of made (x ∷ threads) x) (length (x ∷ threads))) ≡ thread)) → thread.since ≤ job.settings.watchdog
+        by (inl f) = all place thread f
+        by (inr f) = subst (λ (y : Thread). y.since ≤ job.settings.watchdog) f.1 (omega arith)
 
-      watch : (place : ℕ) (thread : Thread) → MappedFrom (without_cancelled (backed_after effect replica.backed)) (threads_after effect replica.threads) place thread → thread.since ≤ job.settings.watchdog
-      watch place thread m = subst (λ (y : Thread). y.since ≤ job.settings.watchdog) m.gives
-          (in_made effect.made (changed_at (thread_after effect) replica.threads effect.thread) (λ p y e. in_changed p y (get-changed _ replica.threads effect.thread p y e)) place m.from m.there)
+    watch : (place : ℕ) (thread : Thread) → MappedFrom (without_cancelled (backed_after effect replica.backed)) (threads_after effect replica.threads) place thread → thread.since ≤ job.settings.watchdog
+    watch place thread m = subst (λ (y : Thread). y.since ≤ job.settings.watchdog) m.gives
+        (in_made effect.made (changed_at (thread_after effect) replica.threads effect.thread) (λ p y e. in_changed p y (get-changed _ replica.threads effect.thread p y e)) place m.from m.there)
 
 -- ---- a replica that agrees
 
@@ -188,14 +182,16 @@ module _ (job : Job) (free : RaceFree job.program) (backed : Backed) (machine mi
       same_cpus = λ number other alive e. let m = get-map (without_cancelled (backed_after effect replica.backed)) (threads_after effect replica.threads) number other e in
           cpus number m.from alive (thread-cases effect replica.threads t thread number m.from own there m.there) ∙ ap (λ (y : Thread). Some y.cpu) m.gives;
     };
-    stops = λ number. record { stands = λ other stop alive e stopped. let m = get-map (without_cancelled (backed_after effect replica.backed)) (threads_after effect replica.threads) number other e in
-        ap (λ (y : Memory). standing (layout_of job.program) job.settings.watchdog (backed_after effect replica.backed) y other.cpu other.since) memory
-        ∙ (ap (λ (y : Thread). standing (layout_of job.program) job.settings.watchdog (backed_after effect replica.backed) last.memory y.cpu y.since) (sym m.gives)
-        ∙ stops number m.from stop alive (thread-cases effect replica.threads t thread number m.from own there m.there) (kept-stop (backed_after effect replica.backed) m.from.stop stop (ap (λ (y : Thread). y.stop) m.gives ∙ stopped))) };
+    stops = λ number. record {
+      stands = λ other stop alive e stopped. let m = get-map (without_cancelled (backed_after effect replica.backed)) (threads_after effect replica.threads) number other e in
+          ap (λ (y : Memory). standing (layout_of job.program) job.settings.watchdog (backed_after effect replica.backed) y other.cpu other.since) memory
+          ∙ (ap (λ (y : Thread). standing (layout_of job.program) job.settings.watchdog (backed_after effect replica.backed) last.memory y.cpu y.since) (sym m.gives)
+          ∙ stops number m.from stop alive (thread-cases effect replica.threads t thread number m.from own there m.there) (kept-stop (backed_after effect replica.backed) m.from.stop stop (ap (λ (y : Thread). y.stop) m.gives ∙ stopped)));
+    };
   }
-      where
-        ahead_is : ahead_from 0 (map (without_cancelled (backed_after effect replica.backed)) (threads_after effect replica.threads)) ≡ comes.among.front ++ comes.among.back
-        ahead_is = same-counts-ahead _ _ (counts-mapped (without_cancelled (backed_after effect replica.backed)) (λ x. refl) (threads_after effect replica.threads)) ∙ ahead-after effect replica.threads t thread comes.among own there
+    where
+      ahead_is : ahead_from 0 (map (without_cancelled (backed_after effect replica.backed)) (threads_after effect replica.threads)) ≡ comes.among.front ++ comes.among.back
+      ahead_is = same-counts-ahead _ _ (counts-mapped (without_cancelled (backed_after effect replica.backed)) (λ x. refl) (threads_after effect replica.threads)) ∙ ahead-after effect replica.threads t thread comes.among own there
 
 -- a stop stands with more pages and other bytes, where the thread does next what it did
 pub stands-later : (layout : Layout) (watchdog : ℕ) (backed more : Backed) (m n : Memory) (cpu : Cpu) (since : ℕ) (stop : Stop) → IsMore backed more → next layout backed m cpu ≡ next layout backed n cpu → ((page : ℕ) → stop ≡ PageFault page → more page ≡ false) → standing layout watchdog backed m cpu since ≡ Some stop → standing layout watchdog more n cpu since ≡ Some stop

@@ -1,13 +1,11 @@
 -- How the machine stands where a journal ends.
-use Rattle.std.specs.Prelude.{◌≡◌, ◌≢◌, ℕ, zero, suc, ◌+◌, ◌<◌, ◌≤◌, ◌⊎◌, Bool, true, false, not, IsTrue, cond, ◌&&◌, ◌||◌, ◌==◌, List, [], ◌∷◌, length, Option, Some, None, is_none, is_some, slice_get}
+use Rattle.std.specs.Prelude.{◌≡◌, ◌≢◌, ℕ, zero, suc, ◌<◌, ◌≤◌, Bool, true, false, not, ◌&&◌, ◌||◌, ◌==◌, List, length, Option, Some, None, is_none, is_some, slice_get}
 use Rattle.std.specs.List.{list_all, list_any}
 use Rattle.std.specs.Option.{option_map_or, option_and_then}
-use Rattle.std.proofs.Common.{refl, sym, ap, ap₂, ◌∙◌, subst, arith, inl, inr, ⊎_elim}
-use Rattle.std.proofs.lemmas.Bool.{true≢false, false≢true, and_parts, and_from, eqb-true, cases_eq}
+use Rattle.std.proofs.Common.{refl, sym, ap, ◌∙◌, arith, inl, inr, ⊎_elim}
+use Rattle.std.proofs.lemmas.Bool.{true≢false, false≢true, and_parts, and_from, cases_eq}
 use Rattle.std.proofs.lemmas.Option.{slice_get_within}
 use Rattle.ro_event.specs.declared.calls.Call.{Call}
-use Rattle.ro_event.specs.declared.stops.Stop.{Stop}
-use Rattle.ro_event.specs.declared.stops.Stop.TheVariants.{Calls}
 use Rattle.ro_journal.specs.declared.How.{How}
 use Rattle.ro_journal.specs.declared.How.TheVariants.{Exit, Trap, Deadlock, Limit, Differ, NoMajority, Sink}
 use Rattle.ro_journal.specs.declared.Entry.{Entry}
@@ -15,21 +13,21 @@ use Rattle.ro_kernel.specs.Kernel.{Kernel, lives_on}
 use Rattle.ro_kernel.specs.Serve.{Served, Done, Blocked, Ends, serve, is_blocked, blocks, payload_of}
 use Rattle.ro_exec.specs.declared.Cpu.{Cpu}
 use Rattle.ro_thread.specs.declared.Thread.{Thread}
-use Rattle.ro_vote.specs.Verdict.{Verdict, Split, verdict_of}
+use Rattle.ro_vote.specs.Verdict.{Split, verdict_of}
 use Rattle.ro_replica.specs.Replica.{Replica, stop_of}
 use Rattle.ro_plain.specs.Machine.{Program, setup_of, Machine, called, step_by, next_of, steppable, step}
 use Rattle.ro_plain.specs.Order.{RaceFree}
 use Rattle.ro_plain.proofs.Calls.{steppable-parts, step-at}
 use Rattle.ro_core.specs.Core.{Job, Lease, Core, is_going, nothing_lent, is_home, is_unstopped, is_lendable, may_vote, may_free, views_of}
-use Rattle.ro_core.specs.Legal.{any_below, is_stuck, EndsVote, EndsFree, EndsAlone, MayEnd, due, alone, for_vote, for_free}
-use Rattle.ro_simulation.specs.Invariant.{IsSound, StandsAtCall, IsOver, exits, traps, Holds}
+use Rattle.ro_core.specs.Legal.{any_below, is_stuck, MayEnd, due, alone, for_vote, for_free}
+use Rattle.ro_simulation.specs.Invariant.{IsOver, exits, traps, Holds}
 use Rattle.ro_simulation.specs.Theorem.{EndsAs, TwoOrThree}
 use Rattle.ro_simulation.proofs.Stays.{live-within}
 use Rattle.ro_simulation.proofs.Lists.{get-within, all-from}
-use Rattle.ro_simulation.proofs.Verdicts.{AllBut, never-splits, pair-agrees}
-use Rattle.ro_simulation.proofs.Kept.{Going, going-from, none-lent}
+use Rattle.ro_simulation.proofs.Verdicts.{never-splits, pair-agrees}
+use Rattle.ro_simulation.proofs.Kept.{going-from, none-lent}
 use Rattle.ro_simulation.proofs.Frees.{free-parts}
-use Rattle.ro_simulation.proofs.Votes.{VoteParts, vote-parts, some-good, all-but-odd, as-many-views}
+use Rattle.ro_simulation.proofs.Votes.{vote-parts, some-good, all-but-odd, as-many-views}
 
 over-as : (program : Program) (machine : Machine) (how : How) → IsOver how → machine.ended ≡ Some how → EndsAs program machine how
 over-as program machine (Exit status) exits e = e

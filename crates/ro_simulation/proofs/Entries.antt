@@ -1,9 +1,8 @@
 -- The invariant after a take and after a put.
-use Rattle.std.specs.Prelude.{◌≡◌, ◌≢◌, ℕ, zero, suc, ◌+◌, ◌<◌, ◌≤◌, ◌⊎◌, Bool, true, false, not, IsTrue, cond, ◌&&◌, ◌||◌, ◌==◌, List, [], ◌∷◌, ◌++◌, length, Option, Some, None, slice_get, slice_set}
+use Rattle.std.specs.Prelude.{◌≡◌, ◌≢◌, ℕ, ◌<◌, ◌⊎◌, Bool, true, false, not, IsTrue, cond, ◌&&◌, ◌||◌, ◌==◌, List, [], ◌∷◌, ◌++◌, length, Some, None, slice_get, slice_set}
 use Rattle.std.specs.List.{list_any, filter}
-use Rattle.std.specs.Option.{option_and_then}
-use Rattle.std.proofs.Common.{refl, sym, ap, ap₂, ◌∙◌, subst, arith, inl, inr}
-use Rattle.std.proofs.lemmas.Bool.{true≢false, false≢true, eqb-true, and_parts, cases_eq}
+use Rattle.std.proofs.Common.{refl, sym, ap, ap₂, ◌∙◌, subst, inl, inr}
+use Rattle.std.proofs.lemmas.Bool.{false≢true, eqb-true, and_parts}
 use Rattle.std.proofs.lemmas.List.{length-set}
 use Rattle.std.proofs.lemmas.Option.{option_and_then_some}
 use Rattle.ro_journal.specs.declared.Entry.{Entry}
@@ -11,10 +10,9 @@ use Rattle.ro_journal.specs.declared.Entry.TheVariants.{Take, Put}
 use Rattle.ro_journal.specs.Plan.{plan_of}
 use Rattle.ro_kernel.specs.Kernel.{Kernel, lives_on}
 use Rattle.ro_exec.specs.Next.{Backed}
-use Rattle.ro_thread.specs.declared.Thread.{Thread}
 use Rattle.ro_replica.specs.Replica.{Replica}
 use Rattle.ro_replica.specs.Runs.{Ran, run_of, with_stop}
-use Rattle.ro_plain.specs.Machine.{Program, layout_of, Machine}
+use Rattle.ro_plain.specs.Machine.{layout_of}
 use Rattle.ro_plain.specs.Order.{RaceFree}
 use Rattle.ro_core.specs.Core.{Job, Lease, Core, is_out}
 use Rattle.ro_core.specs.Legal.{arrived, arrival, is_lease, core_after_put, after, lease_run, MayTake, MayPut}
@@ -22,7 +20,7 @@ use Rattle.ro_simulation.specs.Invariant.{IsSound, Agrees, Holds}
 use Rattle.ro_simulation.proofs.Lists.{get-set-cases}
 use Rattle.ro_simulation.proofs.Sound.{HasFault, StruckWell, run-well, sound-changed}
 use Rattle.ro_simulation.proofs.Put.{agrees-after-lease}
-use Rattle.ro_simulation.proofs.Kept.{Going, going-from, ideal-same}
+use Rattle.ro_simulation.proofs.Kept.{going-from, ideal-same}
 
 -- what holds of a replica depends on the kernel's lives alone
 sound-with : (job : Job) (core other : Core) (backed : Backed) (number : ℕ) (r : Replica) → core.kernel ≡ other.kernel → IsSound job core backed number r → IsSound job other backed number r

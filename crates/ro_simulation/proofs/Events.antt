@@ -1,36 +1,36 @@
 -- What an event leaves of a replica that agrees: after a release or a mapped page, after a call that blocks, and after a served call.
-use Rattle.std.specs.Prelude.{◌≡◌, ◌≢◌, ℕ, zero, suc, ◌+◌, ◌<◌, ◌≤◌, ◌⊎◌, Bool, true, false, IsTrue, cond, ◌==◌, List, [], ◌∷◌, ◌++◌, replicate, length, Option, Some, None, is_none, slice_get, slice_set, slice_index_or}
-use Rattle.std.proofs.Common.{refl, sym, ap, ap₂, ◌∙◌, subst, arith}
+use Rattle.std.specs.Prelude.{◌≡◌, ◌≢◌, ℕ, Bool, true, false, IsTrue, cond, List, ◌++◌, replicate, length, Option, Some, None, is_none, slice_get, slice_set, slice_index_or}
+use Rattle.std.proofs.Common.{refl, sym, ap, ap₂, ◌∙◌, arith}
 use Rattle.std.proofs.lemmas.Bool.{true≢false}
 use Rattle.std.proofs.lemmas.List.{length-set}
 use Rattle.std.proofs.lemmas.Option.{get_or_from_slice_get, slice_get_within}
 use Rattle.ro_event.specs.declared.calls.Call.{Call}
 use Rattle.ro_event.specs.declared.effects.Made.{Made}
 use Rattle.ro_event.specs.declared.stops.Stop.{Stop}
-use Rattle.ro_event.specs.declared.stops.Stop.TheVariants.{Calls, Trap, PageFault, Watchdog}
+use Rattle.ro_event.specs.declared.stops.Stop.TheVariants.{Calls}
 use Rattle.ro_event.specs.Effects.{Effect}
 use Rattle.ro_pages.specs.Bytes.{Memory, stored}
 use Rattle.ro_kernel.specs.Kernel.{Kernel, lives_on}
-use Rattle.ro_kernel.specs.Serve.{Served, Done, serve, payload_of}
+use Rattle.ro_kernel.specs.Serve.{Done, serve, payload_of}
 use Rattle.ro_kernel.proofs.Kept.{IsOwn, slice_get-set_other}
 use Rattle.ro_exec.specs.declared.Cpu.{Cpu}
-use Rattle.ro_exec.specs.Next.{Layout, Backed, all_backed, Next, Stands, next}
+use Rattle.ro_exec.specs.Next.{Backed, all_backed, Stands, next}
 use Rattle.ro_exec.specs.Threads.{made_cpu, cpu_after}
 use Rattle.ro_thread.specs.declared.Thread.{Thread}
 use Rattle.ro_thread.specs.Stops.{standing}
-use Rattle.ro_replica.specs.Replica.{Replica, unstopped, thread_after, applied, cancelled}
-use Rattle.ro_plain.specs.Machine.{Program, layout_of, setup_of, Machine, opening, with_made, affected, called, step_by, next_of, steppable, step, run, BackedRun}
+use Rattle.ro_replica.specs.Replica.{Replica, applied, cancelled}
+use Rattle.ro_plain.specs.Machine.{layout_of, setup_of, Machine, opening, with_made, affected, called, step_by, next_of, steppable, step, run}
 use Rattle.ro_plain.specs.Order.{RaceFree}
 use Rattle.ro_plain.proofs.Backed.{backed-is-plain}
-use Rattle.ro_plain.proofs.Calls.{some-injective, MaySteps, steppable-parts, steppable-from, step-at}
+use Rattle.ro_plain.proofs.Calls.{some-injective, steppable-from, step-at}
 use Rattle.ro_plain.proofs.Stays.{steppable-along}
 use Rattle.ro_core.specs.Core.{Job}
 use Rattle.ro_core.specs.Event.{quiet_effect}
-use Rattle.ro_simulation.specs.Invariant.{RunsAhead, StopStands, Agrees}
+use Rattle.ro_simulation.specs.Invariant.{StopStands, Agrees}
 use Rattle.ro_simulation.proofs.Stays.{Stays, stays}
 use Rattle.ro_simulation.proofs.Ahead.{KeepsRest, BackedRun-keeps, reach-run, TakenAfter, take-after, stays-along}
 use Rattle.ro_simulation.proofs.Lists.{get-set-same, get-append-left, get-append-last}
-use Rattle.ro_simulation.proofs.Served.{made_count, IsTidy}
+use Rattle.ro_simulation.proofs.Served.{IsTidy}
 use Rattle.ro_simulation.proofs.Views.{Comes}
 use Rattle.ro_simulation.proofs.Effects.{backed_after, more-after, KeptStop, IsOf, ThreadAfter, as_before, its_own, newly_made, agrees-applied, stands-later}
 

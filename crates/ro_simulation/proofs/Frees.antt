@@ -1,33 +1,31 @@
 -- The invariant after a free: the blocked call is served where the thread stands, in the machine and in every replica.
-use Rattle.std.specs.Prelude.{◌≡◌, ◌≢◌, ℕ, zero, suc, ◌+◌, ◌<◌, ◌≤◌, Bool, true, false, not, IsTrue, cond, ◌&&◌, ◌==◌, List, [], ◌∷◌, ◌++◌, replicate, length, Option, Some, None, slice_get}
+use Rattle.std.specs.Prelude.{◌≡◌, ◌≢◌, ℕ, zero, suc, Bool, true, false, not, IsTrue, List, [], ◌∷◌, ◌++◌, replicate, length, Option, Some, None, slice_get}
 use Rattle.std.specs.Option.{option_map, option_map_or}
-use Rattle.std.proofs.Common.{refl, sym, ap, ap₂, ◌∙◌, subst, arith}
+use Rattle.std.proofs.Common.{refl, sym, ap, ◌∙◌, subst, arith}
 use Rattle.std.proofs.lemmas.Bool.{true≢false, false≢true, and_parts}
 use Rattle.ro_event.specs.declared.calls.Call.{Call}
-use Rattle.ro_event.specs.declared.stops.Stop.{Stop}
 use Rattle.ro_event.specs.declared.stops.Stop.TheVariants.{Calls}
 use Rattle.ro_journal.specs.declared.Entry.{Entry}
 use Rattle.ro_journal.specs.declared.Entry.TheVariants.{Free}
 use Rattle.ro_journal.specs.Plan.{event_steps, plan_of}
 use Rattle.ro_kernel.specs.Kernel.{Kernel, lives_on}
 use Rattle.ro_kernel.specs.Serve.{Served, Done, Blocked, Ends, serve, is_blocked, blocks}
-use Rattle.ro_exec.specs.declared.Cpu.{Cpu}
-use Rattle.ro_exec.specs.Next.{Backed, Stands, Executes}
+use Rattle.ro_exec.specs.Next.{Stands, Executes}
 use Rattle.ro_thread.specs.declared.Thread.{Thread}
 use Rattle.ro_thread.specs.Stops.{standing}
 use Rattle.ro_replica.specs.Replica.{Replica}
-use Rattle.ro_plain.specs.Machine.{Program, layout_of, setup_of, Machine, next_of, steppable, BackedRun, nothing_left}
+use Rattle.ro_plain.specs.Machine.{layout_of, setup_of, Machine, next_of, BackedRun, nothing_left}
 use Rattle.ro_plain.specs.Order.{RaceFree}
 use Rattle.ro_plain.proofs.Calls.{some-injective, steppable-parts}
-use Rattle.ro_core.specs.Core.{Job, Core, is_going, nothing_lent, may_free}
+use Rattle.ro_core.specs.Core.{Job, Core, may_free}
 use Rattle.ro_core.specs.Event.{Event, call_event, core_after}
 use Rattle.ro_core.specs.Legal.{freed_event, core_after_event, after, MayFree}
-use Rattle.ro_simulation.specs.Invariant.{StopStands, Agrees, StandsAtCall, Holds}
+use Rattle.ro_simulation.specs.Invariant.{Agrees, StandsAtCall, Holds}
 use Rattle.ro_simulation.proofs.Stays.{live-within}
-use Rattle.ro_simulation.proofs.Ahead.{BackedHead, BackedRun-head, plain-executes}
+use Rattle.ro_simulation.proofs.Ahead.{BackedRun-head, plain-executes}
 use Rattle.ro_simulation.proofs.Lists.{get-within}
 use Rattle.ro_simulation.proofs.Views.{Comes, comes-by, none-left}
-use Rattle.ro_simulation.proofs.Steps.{EventStep, HasEvent, step-of-call}
+use Rattle.ro_simulation.proofs.Steps.{HasEvent, step-of-call}
 use Rattle.ro_simulation.proofs.Kept.{Going, going-from, none-lent, Meets, event-holds}
 
 -- the blocked call of a free that is allowed

@@ -1,8 +1,7 @@
 -- The invariant along a legal journal.
-use Rattle.std.specs.Prelude.{◌≡◌, ◌≢◌, ℕ, zero, suc, ◌+◌, ◌<◌, ◌≤◌, List, [], ◌∷◌, ◌++◌, length, Option, Some, None, slice_get}
+use Rattle.std.specs.Prelude.{◌≡◌, ◌≢◌, ℕ, zero, suc, ◌<◌, List, [], ◌∷◌, ◌++◌, Option, Some, None, slice_get}
 use Rattle.std.specs.Option.{option_map}
-use Rattle.std.proofs.Common.{refl, sym, ap, ap₂, ◌∙◌, subst, arith, append_assoc, append-nil}
-use Rattle.std.proofs.lemmas.Bool.{and_parts}
+use Rattle.std.proofs.Common.{refl, sym, ap, ◌∙◌, subst, arith, append_assoc, append-nil}
 use Rattle.ro_event.specs.declared.calls.Call.{Call}
 use Rattle.ro_journal.specs.declared.Did.{Did}
 use Rattle.ro_journal.specs.declared.How.{How}
@@ -17,11 +16,11 @@ use Rattle.ro_plain.specs.Machine.{setup_of}
 use Rattle.ro_plain.specs.Order.{RaceFree}
 use Rattle.ro_core.specs.Core.{Job, Core, opening_core}
 use Rattle.ro_core.specs.Event.{Event, call_event, with_recovered}
-use Rattle.ro_core.specs.Legal.{lease_run, core_after_put, event_in, freed_event, core_after_event, after, MayTake, MayPut, MayVote, MayFree, MayEnd, IsAllowed, LegalFrom, Legal, replay_from, replay}
+use Rattle.ro_core.specs.Legal.{lease_run, core_after_put, event_in, freed_event, core_after_event, after, MayPut, MayEnd, IsAllowed, LegalFrom, Legal, replay_from, replay}
 use Rattle.ro_simulation.specs.Invariant.{Agrees, Holds}
 use Rattle.ro_simulation.specs.Theorem.{event_payload, payload_by, payloads_from, payloads_of}
-use Rattle.ro_simulation.proofs.Kept.{Going, going-from}
-use Rattle.ro_simulation.proofs.Votes.{vote-parts, AfterVote, after-vote}
+use Rattle.ro_simulation.proofs.Kept.{going-from}
+use Rattle.ro_simulation.proofs.Votes.{vote-parts, after-vote}
 use Rattle.ro_simulation.proofs.Frees.{free-parts, after-free}
 use Rattle.ro_simulation.proofs.Entries.{after-take, after-calm-put, after-struck-put}
 use Rattle.ro_simulation.proofs.Opening.{opening-holds}

@@ -1,28 +1,25 @@
 -- The invariant after an entry whose event is a step of the machine: a vote or a free.
-use Rattle.std.specs.Prelude.{◌≡◌, ◌≢◌, ℕ, zero, suc, ◌+◌, ◌<◌, ◌≤◌, Bool, true, false, IsTrue, cond, ◌&&◌, ◌==◌, List, [], ◌∷◌, ◌++◌, replicate, length, map, Option, Some, None, is_none, slice_get}
+use Rattle.std.specs.Prelude.{◌≡◌, ◌≢◌, ℕ, ◌+◌, ◌<◌, Bool, true, false, IsTrue, cond, ◌&&◌, ◌==◌, List, [], ◌∷◌, ◌++◌, replicate, length, Option, Some, None, is_none, slice_get}
 use Rattle.std.specs.Option.{option_and_then}
 use Rattle.std.specs.List.{list_any}
-use Rattle.std.proofs.Common.{refl, sym, ap, ap₂, ◌∙◌, subst, arith, append_assoc, append-nil}
+use Rattle.std.proofs.Common.{refl, sym, ap, ◌∙◌, subst, arith, append_assoc, append-nil}
 use Rattle.std.proofs.lemmas.Bool.{true≢false, false≢true, eqb-true, eq-eqb, and_parts}
 use Rattle.std.proofs.lemmas.List.{nil_from_length}
 use Rattle.ro_event.specs.declared.calls.Call.{Call}
 use Rattle.ro_event.specs.declared.stops.Stop.{Stop}
-use Rattle.ro_journal.specs.declared.How.{How}
 use Rattle.ro_journal.specs.declared.Entry.{Entry}
-use Rattle.ro_journal.specs.declared.Entry.TheVariants.{Take, Put, Vote, Free, End}
 use Rattle.ro_journal.specs.Plan.{event_steps, entry_plan, plan_of}
 use Rattle.ro_kernel.specs.Kernel.{Kernel, lives_on}
 use Rattle.ro_exec.specs.Next.{Backed}
 use Rattle.ro_thread.specs.declared.Thread.{Thread}
 use Rattle.ro_thread.specs.Stops.{standing}
 use Rattle.ro_replica.specs.Replica.{Replica, applied, cancelled}
-use Rattle.ro_plain.specs.Machine.{Program, layout_of, Machine, opening, run, BackedRun}
+use Rattle.ro_plain.specs.Machine.{layout_of, Machine, opening, run, BackedRun}
 use Rattle.ro_plain.proofs.Swap.{run-append}
-use Rattle.ro_plain.proofs.Calls.{some-injective}
 use Rattle.ro_core.specs.Core.{Job, Lease, Core, is_going, nothing_lent, is_out}
 use Rattle.ro_core.specs.Event.{Event, core_after}
 use Rattle.ro_core.specs.Ideal.{ideal}
-use Rattle.ro_simulation.specs.Invariant.{IsSound, StopStands, Agrees, StandsAtCall, IsOver, Holds}
+use Rattle.ro_simulation.specs.Invariant.{IsSound, Agrees, StandsAtCall, Holds}
 use Rattle.ro_simulation.proofs.Stays.{live-within}
 use Rattle.ro_simulation.proofs.Ahead.{KeepsRest, BackedRun-keeps, BackedRun-run}
 use Rattle.ro_simulation.proofs.Lists.{MappedFrom, get-map, length-mapped}
@@ -76,7 +73,7 @@ pub record Meets (job : Job) (machine middle : Machine) (backed : Backed) (t : �
   pub own_stop : (stop : Stop) → event.effect.releases ≡ false → thread.stop ≡ Some stop → standing (layout_of job.program) job.settings.watchdog r.backed r.memory thread.cpu 0 ≡ Some stop
 
 module _ (job : Job) (odd : ℕ) (journal : List Entry) (core : Core) (h : Holds job odd journal core) (going : h.machine.ended ≡ None) (no_lease : core.leases ≡ []) (t count : ℕ) (live : IsTrue (lives_on h.machine.kernel t)) (middle : Machine) (own : BackedRun job.program h.backed h.machine (replicate count t) middle) (event : Event) (after : Machine) (step : EventStep job h.backed h.machine middle t event after)
-  (entry : Entry) (plan_is : entry_plan entry ≡ replicate count t ++ replicate (event_steps event.did) t) (replicas : List Replica) (as_many : length replicas ≡ length core.replicas) (sound : (number : ℕ) (r : Replica) → slice_get replicas number ≡ Some r → IsSound job core h.backed number r) (odd' : ℕ) where
+    (entry : Entry) (plan_is : entry_plan entry ≡ replicate count t ++ replicate (event_steps event.did) t) (replicas : List Replica) (as_many : length replicas ≡ length core.replicas) (sound : (number : ℕ) (r : Replica) → slice_get replicas number ≡ Some r → IsSound job core h.backed number r) (odd' : ℕ) where
   kept : KeepsRest h.machine middle
   kept = BackedRun-keeps job.program h.backed own
 

@@ -1,5 +1,5 @@
 -- The laws beside the simulation theorem.
-use Rattle.std.specs.Prelude.{◌≡◌, ◌≢◌, ℕ, zero, suc, ◌+◌, ◌<◌, ◌≤◌, ◌⊎◌, Bool, true, false, IsTrue, List, [], ◌∷◌, ◌++◌, length, Option, Some, None, slice_get}
+use Rattle.std.specs.Prelude.{◌≡◌, ◌≢◌, ℕ, zero, suc, ◌<◌, List, [], ◌∷◌, ◌++◌, length, Some, None, slice_get}
 use Rattle.std.specs.Option.{option_and_then}
 use Rattle.std.proofs.Common.{refl, sym, ap, ◌∙◌, subst, arith}
 use Rattle.std.proofs.lemmas.Option.{option_and_then_some}
@@ -7,29 +7,26 @@ use Rattle.ro_journal.specs.declared.Did.{Did}
 use Rattle.ro_journal.specs.declared.How.{How}
 use Rattle.ro_journal.specs.declared.How.TheVariants.{Exit, Trap, Deadlock, Limit, Differ, NoMajority, Sink}
 use Rattle.ro_journal.specs.declared.Entry.{Entry}
-use Rattle.ro_journal.specs.declared.Entry.TheVariants.{Take, Put, Vote, Free, End}
+use Rattle.ro_journal.specs.declared.Entry.TheVariants.{Put, Vote}
 use Rattle.ro_journal.specs.Plan.{outcome_of}
 use Rattle.ro_faults.specs.declared.Fault.{Fault}
-use Rattle.ro_kernel.specs.Kernel.{lives_on}
-use Rattle.ro_exec.specs.declared.Cpu.{Cpu}
-use Rattle.ro_replica.specs.Replica.{Replica}
-use Rattle.ro_plain.specs.Machine.{Program, Machine, opening, step_by, next_of, steppable, step, run, IsExecution}
+use Rattle.ro_plain.specs.Machine.{Program, Machine, opening, step_by, next_of, steppable, step, run}
 use Rattle.ro_plain.specs.Order.{RaceFree}
 use Rattle.ro_plain.proofs.Calls.{some-injective, steppable-parts, step-opens}
 use Rattle.ro_plain.proofs.Swap.{run-append}
 use Rattle.ro_core.specs.Core.{Job, Core, opening_core}
-use Rattle.ro_core.specs.Legal.{MayPut, MayVote, MayEnd, due, alone, for_vote, for_free, after, Legal, replay, output_of}
-use Rattle.ro_core.specs.Ideal.{ideal, IsAlike, StaysApart}
-use Rattle.ro_simulation.specs.Invariant.{Listed, Agrees, Holds, IsOver, exits, traps}
-use Rattle.ro_simulation.specs.Theorem.{Simulates, TwoOrThree, IsComplete, by_exit, by_trap, by_deadlock, WritesAsIdeal, AllOfOne, StaysAlone, NeverDiffers}
+use Rattle.ro_core.specs.Legal.{MayEnd, due, alone, for_vote, for_free, after, Legal, replay}
+use Rattle.ro_core.specs.Ideal.{IsAlike, StaysApart}
+use Rattle.ro_simulation.specs.Invariant.{Listed, IsOver}
+use Rattle.ro_simulation.specs.Theorem.{Simulates, IsComplete, by_exit, by_trap, by_deadlock, WritesAsIdeal, AllOfOne, StaysAlone, NeverDiffers}
 use Rattle.ro_simulation.proofs.Alike.{agrees-is-alike}
 use Rattle.ro_simulation.proofs.Sound.{HasFault}
 use Rattle.ro_simulation.proofs.Stays.{live-within}
 use Rattle.ro_simulation.proofs.Entries.{put-fault, put-going}
 use Rattle.ro_simulation.proofs.Ends.{never-differ}
-use Rattle.ro_simulation.proofs.Votes.{AfterVote, after-vote}
-use Rattle.ro_simulation.proofs.Journals.{outcome-ended, ended-outcome, after-end-ended, Reached, opening-reached, Policy, Stage, goes_on, has_ended, Before, reach-before}
-use Rattle.ro_simulation.proofs.Simulates.{simulates, stage}
+use Rattle.ro_simulation.proofs.Votes.{after-vote}
+use Rattle.ro_simulation.proofs.Journals.{outcome-ended, after-end-ended, Reached, Policy, Stage, goes_on, has_ended, Before, reach-before}
+use Rattle.ro_simulation.proofs.Simulates.{stage}
 
 -- ---- the headline
 

@@ -23,3 +23,4 @@ pub mod Alike
 pub mod Journals
 pub mod Simulates
 pub mod Laws
+pub mod RowsStruck

@@ -1,22 +1,15 @@
 -- The invariant at the opening.
-use Rattle.std.specs.Prelude.{◌≡◌, ◌≢◌, ℕ, zero, suc, ◌+◌, ◌<◌, ◌≤◌, ◌⊎◌, Bool, true, false, IsTrue, ◌==◌, List, [], ◌∷◌, ◌++◌, length, Option, Some, None, slice_get}
-use Rattle.std.specs.List.{filter}
+use Rattle.std.specs.Prelude.{◌≡◌, ℕ, zero, suc, ◌≤◌, ◌⊎◌, ◌==◌, [], ◌∷◌, length, Some, None, slice_get}
 use Rattle.std.proofs.Common.{refl, sym, ap, ◌∙◌, subst, arith, inl, inr, length-append}
-use Rattle.std.proofs.lemmas.Bool.{true≢false, false≢true, eqb-true}
-use Rattle.ro_event.specs.declared.calls.Call.{Call}
-use Rattle.ro_event.specs.declared.stops.Stop.{Stop}
-use Rattle.ro_journal.specs.declared.How.{How}
-use Rattle.ro_faults.specs.declared.Fault.{Fault}
+use Rattle.std.proofs.lemmas.Bool.{false≢true, eqb-true}
 use Rattle.ro_image.specs.Image.{holds_file_byte}
-use Rattle.ro_exec.specs.Next.{Backed}
 use Rattle.ro_exec.specs.Threads.{first_cpu}
-use Rattle.ro_kernel.specs.Kernel.{lives_on}
 use Rattle.ro_thread.specs.declared.Thread.{Thread}
 use Rattle.ro_replica.specs.Replica.{Replica, unstopped, opening_replica}
-use Rattle.ro_plain.specs.Machine.{Machine, opening, nothing_left}
+use Rattle.ro_plain.specs.Machine.{opening, nothing_left}
 use Rattle.ro_plain.proofs.Calls.{some-injective}
 use Rattle.ro_core.specs.Core.{Job, Core, opening_replicas, opening_core}
-use Rattle.ro_simulation.specs.Invariant.{Listed, IsSound, RunsAhead, StopStands, Agrees, IsOver, Holds}
+use Rattle.ro_simulation.specs.Invariant.{IsSound, Agrees, Holds}
 use Rattle.ro_simulation.proofs.Lists.{get-append-cases, listed-filter}
 
 length-opening : (job : Job) (n : ℕ) → length (opening_replicas job n) ≡ n
@@ -56,8 +49,10 @@ opening-agrees job number = record {
     same_cpus = λ place thread alive e. let o = one-thread (unstopped (first_cpu job.program.image.entry)) place thread e in
         ap (slice_get (first_cpu job.program.image.entry ∷ [])) o.0 ∙ ap (λ (x : Thread). Some x.cpu) o.1;
   };
-  stops = λ place. record { stands = λ thread stop alive e stopped. let o = one-thread (unstopped (first_cpu job.program.image.entry)) place thread e in
-      absurd (let f : None ≡ Some stop = ap (λ (x : Thread). x.stop) o.1 ∙ stopped in cc) };
+  stops = λ place. record {
+    stands = λ thread stop alive e stopped. let o = one-thread (unstopped (first_cpu job.program.image.entry)) place thread e in
+        absurd (let f : None ≡ Some stop = ap (λ (x : Thread). x.stop) o.1 ∙ stopped in cc);
+  };
 }
 
 pub opening-holds : (job : Job) (odd : ℕ) → Holds job odd [] (opening_core job)

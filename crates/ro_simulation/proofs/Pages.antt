@@ -1,14 +1,13 @@
 -- With more pages backed a thread does what it did, but for page faults on pages that are backed by now.
 use Rattle.std.specs.Prelude.{◌≡◌, ℕ, ◌%◌, Bool, true, false, not, ◌==◌, List, [], ◌∷◌, Option, Some, None}
 use Rattle.std.specs.Option.{option_map}
-use Rattle.std.proofs.Common.{refl, sym, ap, ◌∙◌, subst}
+use Rattle.std.proofs.Common.{refl, sym, ◌∙◌}
 use Rattle.std.proofs.lemmas.Bool.{true≢false}
 use Rattle.ro_decode.specs.declared.Instr.{Instr}
 use Rattle.ro_decode.specs.declared.Instr.TheVariants.{Lui, Auipc, Jal, Jalr, Branch, Load, Store, AluImm, Alu, MulDiv, Fence, Ecall, Ebreak}
 use Rattle.ro_decode.specs.Table.{instruction_of}
-use Rattle.ro_event.specs.declared.calls.Call.{Call}
 use Rattle.ro_event.specs.declared.stops.Stop.{Stop}
-use Rattle.ro_event.specs.declared.stops.Stop.TheVariants.{Calls, Trap, PageFault, Watchdog}
+use Rattle.ro_event.specs.declared.stops.Stop.TheVariants.{Trap, PageFault}
 use Rattle.ro_event.specs.declared.calls.Which.TheVariants.{Exit}
 use Rattle.ro_event.specs.Table.{call_at}
 use Rattle.ro_region.specs.declared.Range.{Range}
@@ -17,8 +16,8 @@ use Rattle.ro_region.specs.declared.Kind.TheVariants.{Read, Write, Execute}
 use Rattle.ro_region.specs.Permission.{permits_of}
 use Rattle.ro_pages.specs.Bytes.{Memory, Span, number_at, page_of}
 use Rattle.ro_exec.specs.declared.Cpu.{Cpu}
-use Rattle.ro_exec.specs.Meaning.{loads, stores, target_of}
-use Rattle.ro_exec.specs.Next.{Layout, Backed, all_backed, exit_place, call_of, Next, Stands, Executes, first, stop_if, access_stop, fetch_stop, jump_stop, instruction_stop, unless_stop, next_at, next, stop_in}
+use Rattle.ro_exec.specs.Meaning.{loads, stores}
+use Rattle.ro_exec.specs.Next.{Layout, Backed, all_backed, exit_place, call_of, Next, Stands, Executes, first, stop_if, access_stop, fetch_stop, instruction_stop, unless_stop, next_at, next}
 
 -- every page that is backed in the one is backed in the other
 pub record IsMore (backed more : Backed) : Type 0 where

@@ -1,33 +1,29 @@
 -- A run of one thread in which no fault is struck: the replica that agreed with the machine still does, one thread further ahead.
-use Rattle.std.specs.Prelude.{◌≡◌, ◌≢◌, ℕ, zero, suc, ◌+◌, ◌<◌, ◌≤◌, ◌⊎◌, Bool, true, false, IsTrue, cond, ◌==◌, List, [], ◌∷◌, ◌++◌, replicate, length, Option, Some, None, slice_get, slice_set}
-use Rattle.std.specs.Option.{option_map, option_and_then}
-use Rattle.std.proofs.Common.{refl, sym, ap, ap₂, ◌∙◌, subst, arith, inl, inr, append_assoc}
-use Rattle.std.proofs.lemmas.Bool.{true≢false, cases_eq}
-use Rattle.ro_decode.specs.declared.Instr.{Instr}
+use Rattle.std.specs.Prelude.{◌≡◌, ◌≢◌, ℕ, zero, suc, ◌+◌, ◌⊎◌, Bool, true, false, IsTrue, cond, ◌==◌, List, [], ◌∷◌, ◌++◌, replicate, Option, Some, None, slice_get}
+use Rattle.std.specs.Option.{option_and_then}
+use Rattle.std.proofs.Common.{refl, sym, ap, ◌∙◌, subst, arith, inl, inr, append_assoc}
 use Rattle.ro_event.specs.declared.stops.Stop.{Stop}
 use Rattle.ro_event.specs.declared.stops.Stop.TheVariants.{Watchdog}
 use Rattle.ro_pages.specs.Bytes.{Memory, stored}
 use Rattle.ro_kernel.specs.Kernel.{lives_on}
-use Rattle.ro_exec.specs.declared.Cpu.{Cpu}
-use Rattle.ro_exec.specs.Next.{Layout, Backed, Next, Executes, next, stop_in, change_of}
+use Rattle.ro_exec.specs.Next.{Next, next, stop_in, change_of}
 use Rattle.ro_thread.specs.declared.Thread.{Thread}
-use Rattle.ro_replica.specs.Replica.{Replica, changed_at}
-use Rattle.ro_replica.specs.Runs.{Ran, struck, executed, plus_hit, run_of, with_stop, standing_in, standing_at}
-use Rattle.ro_plain.specs.Machine.{Program, layout_of, Machine, opening, executed as machine_executed, steppable, step, IsPlain, run, BackedRun}
+use Rattle.ro_replica.specs.Replica.{Replica}
+use Rattle.ro_replica.specs.Runs.{Ran, struck, executed, run_of, with_stop, standing_in, standing_at}
+use Rattle.ro_plain.specs.Machine.{layout_of, Machine, opening, executed as machine_executed, steppable, step, run, BackedRun}
 use Rattle.ro_plain.specs.Order.{RaceFree}
-use Rattle.ro_plain.proofs.Commute.{plain-step}
 use Rattle.ro_plain.proofs.Calls.{some-injective}
 use Rattle.ro_core.specs.Core.{Job}
 use Rattle.ro_core.specs.Legal.{arrival, arrived}
-use Rattle.ro_core.specs.Ideal.{ahead_from, ahead}
+use Rattle.ro_core.specs.Ideal.{ahead}
 use Rattle.ro_simulation.specs.Invariant.{RunsAhead, StopStands, Agrees}
 use Rattle.ro_simulation.proofs.Stays.{Stays, stays}
-use Rattle.ro_simulation.proofs.Ahead.{StepsBacked, backed-step, KeepsRest, BackedRun-keeps, reach-run, push}
+use Rattle.ro_simulation.proofs.Ahead.{StepsBacked, backed-step, BackedRun-keeps, reach-run, push}
 use Rattle.ro_simulation.proofs.Views.{ahead-is, live-at-end}
 use Rattle.ro_simulation.proofs.Lists.{get-set-same, get-set-cases, ChangedFrom, unchanged, changed_here, get-changed}
 use Rattle.ro_simulation.proofs.Around.{Around, around, replicate-last}
-use Rattle.ro_simulation.proofs.Counts.{counts, same-counts-ahead, counts-changed}
-use Rattle.ro_simulation.proofs.Sound.{Instructs, instructs, instructed, RunParts, run-parts, SameButWaiting, none-struck}
+use Rattle.ro_simulation.proofs.Counts.{same-counts-ahead, counts-changed}
+use Rattle.ro_simulation.proofs.Sound.{Instructs, instructs, instructed, run-parts, SameButWaiting, none-struck}
 use Rattle.ro_kernel.proofs.Kept.{slice_get-set_other}
 
 -- the replica agrees with the machine, but for this thread's stop

@@ -1,7 +1,7 @@
 -- What a served call leaves as it is: dead threads stay dead, one life for each thread, the caller goes on, and the program ends by an exit only.
-use Rattle.std.specs.Prelude.{◌≡◌, ◌≢◌, ℕ, zero, suc, ◌+◌, ◌<◌, ◌≤◌, Bool, true, false, cond, List, [], ◌∷◌, ◌++◌, length, Option, Some, None, slice_get, slice_set}
+use Rattle.std.specs.Prelude.{◌≡◌, ◌≢◌, ℕ, zero, suc, ◌+◌, ◌<◌, Bool, true, false, cond, List, [], ◌∷◌, ◌++◌, length, Option, Some, None, slice_get, slice_set}
 use Rattle.std.proofs.Common.{refl, sym, ap, ◌∙◌, subst, arith, ⊎_elim, length-append}
-use Rattle.std.proofs.lemmas.Bool.{true≢false, false≢true, cases_eq}
+use Rattle.std.proofs.lemmas.Bool.{false≢true, cases_eq}
 use Rattle.std.proofs.lemmas.List.{length-set}
 use Rattle.ro_event.specs.declared.calls.Which.{Which}
 use Rattle.ro_event.specs.declared.calls.Which.TheVariants.{System, Create, Join, Exit, ThreadSelf, MutexInit, MutexDestroy, Lock, TryLock, Unlock}
@@ -14,8 +14,8 @@ use Rattle.ro_journal.specs.declared.How.TheVariants.{Exit as ExitHow}
 use Rattle.ro_mutex.specs.Owners.{owner_of, with_owner}
 use Rattle.ro_kernel.specs.declared.Life.{Life}
 use Rattle.ro_kernel.specs.declared.Life.TheVariants.{Live, Exited, Joined}
-use Rattle.ro_kernel.specs.Kernel.{Setup, Kernel, is_live, live_option, lives_on, any_live}
-use Rattle.ro_kernel.specs.Serve.{Served, Done, Blocked, Ends, answers, stores_effect, serve_read, serve_write, serve_brk, serve_system, serve_create, joined, serve_join_at, serve_join, serve_exit, gets, lock_at, trylock_at, unlock_at, on_mutex, serve_which, serve}
+use Rattle.ro_kernel.specs.Kernel.{Setup, Kernel, is_live, live_option, lives_on}
+use Rattle.ro_kernel.specs.Serve.{Served, Done, Blocked, Ends, answers, stores_effect, serve_read, serve_write, serve_brk, serve_system, serve_create, joined, serve_join_at, serve_exit, gets, lock_at, trylock_at, unlock_at, on_mutex, serve_which, serve}
 use Rattle.ro_kernel.proofs.Kept.{slice_get-set_other}
 use Rattle.ro_simulation.specs.Invariant.{IsOver, exits}
 

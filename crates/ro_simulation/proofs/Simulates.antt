@@ -1,30 +1,28 @@
 -- The simulation theorem, from the invariant along the journal.
-use Rattle.std.specs.Prelude.{◌≡◌, ◌≢◌, ℕ, zero, suc, ◌+◌, ◌-◌, ◌<◌, ◌≤◌, ◌⊎◌, Bool, true, false, IsTrue, IsSome, List, [], ◌∷◌, ◌++◌, length, take, drop, Option, Some, None, slice_get}
-use Rattle.std.proofs.Common.{refl, sym, ap, ap₂, ◌∙◌, subst, arith, inl, inr, append-nil}
+use Rattle.std.specs.Prelude.{◌≡◌, ◌≢◌, ℕ, suc, ◌+◌, ◌-◌, IsTrue, List, [], ◌∷◌, ◌++◌, length, drop, Some, None, slice_get}
+use Rattle.std.proofs.Common.{refl, sym, ap, ◌∙◌, subst, arith, append-nil}
 use Rattle.std.proofs.lemmas.List.{take-append-drop}
-use Rattle.ro_event.specs.Views.{View}
-use Rattle.ro_journal.specs.declared.Did.{Did}
 use Rattle.ro_journal.specs.declared.How.{How}
 use Rattle.ro_journal.specs.declared.How.TheVariants.{Exit, Trap, Deadlock, Limit, Differ, NoMajority, Sink}
 use Rattle.ro_journal.specs.declared.Entry.{Entry}
-use Rattle.ro_journal.specs.declared.Entry.TheVariants.{Take, Put, Vote, Free, End}
+use Rattle.ro_journal.specs.declared.Entry.TheVariants.{Vote, End}
 use Rattle.ro_journal.specs.Plan.{outcome_of, plan_of}
 use Rattle.ro_kernel.specs.Kernel.{Kernel, lives_on}
-use Rattle.ro_replica.specs.Replica.{Replica, stop_of}
-use Rattle.ro_plain.specs.Machine.{Program, Machine}
+use Rattle.ro_replica.specs.Replica.{Replica}
+use Rattle.ro_plain.specs.Machine.{Machine}
 use Rattle.ro_plain.specs.Order.{RaceFree}
 use Rattle.ro_plain.proofs.Calls.{some-injective}
-use Rattle.ro_core.specs.Core.{Job, Core, opening_core, view_of}
-use Rattle.ro_core.specs.Legal.{cut_output, after, MayPut, MayVote, MayEnd, Legal, LegalFrom, replay_from, replay, output_of}
-use Rattle.ro_core.specs.Ideal.{ideal, IsAlike, StaysApart}
-use Rattle.ro_simulation.specs.Invariant.{IsSound, Agrees, Holds}
-use Rattle.ro_simulation.specs.Theorem.{payloads_from, payloads_of, IsFront, HasWritten, AtMostOneDiffers, HaveEqualViews, HaveEqualPages, CopiesWell, EachCopiesWell, EndsAs, Simulates, TwoOrThree}
+use Rattle.ro_core.specs.Core.{Job, Core, opening_core}
+use Rattle.ro_core.specs.Legal.{cut_output, after, MayVote, MayEnd, Legal, replay, output_of}
+use Rattle.ro_core.specs.Ideal.{ideal, StaysApart}
+use Rattle.ro_simulation.specs.Invariant.{Holds}
+use Rattle.ro_simulation.specs.Theorem.{payloads_of, IsFront, AtMostOneDiffers, HaveEqualViews, HaveEqualPages, CopiesWell, EachCopiesWell, EndsAs, Simulates, TwoOrThree}
 use Rattle.ro_simulation.proofs.Alike.{agrees-is-alike, alike-agrees}
 use Rattle.ro_simulation.proofs.Views.{arrives, equal-views}
 use Rattle.ro_simulation.proofs.Kept.{ideal-same}
-use Rattle.ro_simulation.proofs.Votes.{StoppedIn, stopped-in, vote-parts, AfterVote, after-vote}
+use Rattle.ro_simulation.proofs.Votes.{stopped-in, vote-parts, after-vote}
 use Rattle.ro_simulation.proofs.Ends.{end-as}
-use Rattle.ro_simulation.proofs.Journals.{replay-append, payloads-append, outcome-ended, ended-outcome, after-end-ended, Reached, opening-reached, Policy, Stage, goes_on, has_ended, reach, Before, reach-before}
+use Rattle.ro_simulation.proofs.Journals.{replay-append, payloads-append, outcome-ended, ended-outcome, after-end-ended, Reached, opening-reached, Policy, Stage, goes_on, has_ended, reach, reach-before}
 
 -- ---- what the invariant says of a journal with the same machine, replicas and kernel
 
@@ -69,9 +67,12 @@ module _ (job : Job) (free : RaceFree job.program) (odd : ℕ) (journal before :
 -- the others are alike where faults are struck
 pub apart-policy : (job : Job) (journal : List Entry) → StaysApart job journal → Policy job (λ odd. Unit {0}) journal
 apart-policy job journal apart = record {
-  strikes = λ odd q before rest driver replica thread count hit whole core reached may some. (tt, λ number r d e.
-      alike-agrees job before reached.holds.machine r reached.holds.ideal_is
-      (apart before rest driver replica thread count hit whole some number r d (ap (λ (c : Core). slice_get c.replicas number) reached.is_replay ∙ e)));
+  strikes = λ odd q before rest driver replica thread count hit whole core reached may some. (
+    tt,
+    λ number r d e.
+        alike-agrees job before reached.holds.machine r reached.holds.ideal_is
+        (apart before rest driver replica thread count hit whole some number r d (ap (λ (c : Core). slice_get c.replicas number) reached.is_replay ∙ e)),
+  );
 }
 
 module _ (job : Job) (free : RaceFree job.program) (Q : ℕ → Type 0) (journal : List Entry) (policy : Policy job Q journal) (start : ℕ) (start_allowed : Q start) (legal : Legal job journal) where

@@ -1,5 +1,5 @@
 -- A run of one thread, with its faults: it keeps what holds of every replica.
-use Rattle.std.specs.Prelude.{◌≡◌, ◌≢◌, ℕ, zero, suc, ◌+◌, ◌<◌, ◌≤◌, ◌⊎◌, Bool, true, false, not, cond, ◌==◌, List, [], ◌∷◌, ◌++◌, length, Option, Some, None, slice_get, slice_set}
+use Rattle.std.specs.Prelude.{◌≡◌, ◌≢◌, ℕ, zero, suc, ◌+◌, ◌<◌, ◌≤◌, ◌⊎◌, Bool, true, false, not, cond, ◌==◌, List, [], ◌∷◌, length, Option, Some, None, slice_get}
 use Rattle.std.specs.List.{filter, fold}
 use Rattle.std.specs.Option.{option_map, option_and_then}
 use Rattle.std.proofs.Common.{refl, sym, ap, ◌∙◌, subst, arith, inl, inr, ⊎_elim}
@@ -7,16 +7,14 @@ use Rattle.std.proofs.lemmas.Bool.{true≢false, eq-eqb}
 use Rattle.std.proofs.lemmas.List.{length-set, nil_from_length}
 use Rattle.std.proofs.lemmas.Option.{option_and_then_some}
 use Rattle.ro_decode.specs.declared.Instr.{Instr}
-use Rattle.ro_event.specs.declared.stops.Stop.{Stop}
 use Rattle.ro_region.specs.declared.Range.{Range}
-use Rattle.ro_exec.specs.declared.Cpu.{Cpu}
 use Rattle.ro_exec.specs.Next.{Layout, Backed, Next, Stands, Executes, next, change_of}
 use Rattle.ro_thread.specs.declared.Thread.{Thread}
 use Rattle.ro_faults.specs.declared.Fault.{Fault}
 use Rattle.ro_faults.specs.declared.Target.{Target}
 use Rattle.ro_faults.specs.declared.Target.TheVariants.{Register, Pc, Byte}
 use Rattle.ro_replica.specs.Replica.{Replica, changed_at}
-use Rattle.ro_replica.specs.Runs.{is_due, struck_by, Ran, strike, strike_in, struck, executed, execute_next, execute_at, execute, plus_hit, run_of, with_stop}
+use Rattle.ro_replica.specs.Runs.{is_due, struck_by, Ran, strike, strike_in, struck, executed, execute_next, execute_at, execute, plus_hit, run_of}
 use Rattle.ro_core.specs.Core.{Job, Core}
 use Rattle.ro_plain.proofs.Calls.{some-injective}
 use Rattle.ro_simulation.specs.Invariant.{Listed, IsSound}

@@ -1,28 +1,27 @@
 -- In a program without races, what a thread does next stays the same while another thread takes any step, a call too.
-use Rattle.std.specs.Prelude.{◌≡◌, ◌≢◌, ℕ, suc, ◌+◌, ◌<◌, ◌≤◌, Bool, true, false, IsTrue, ◌&&◌, cond, List, [], ◌∷◌, ◌++◌, length, take, Option, Some, None, is_none, slice_get}
+use Rattle.std.specs.Prelude.{◌≡◌, ◌≢◌, ℕ, suc, ◌<◌, Bool, true, false, cond, List, [], ◌∷◌, ◌++◌, length, take, Option, Some, None, is_none, slice_get}
 use Rattle.std.specs.Option.{option_and_then, option_map_or}
 use Rattle.std.proofs.Common.{refl, sym, ap, ap₂, ◌∙◌, subst, arith, length-append}
 use Rattle.std.proofs.lemmas.Option.{slice_get_within, option_and_then_some}
 use Rattle.std.proofs.lemmas.Bool.{true≢false}
 use Rattle.ro_decode.specs.declared.Instr.{Instr}
-use Rattle.ro_decode.specs.Table.{instruction_of}
 use Rattle.ro_event.specs.declared.calls.Which.{Which}
 use Rattle.ro_event.specs.declared.calls.Which.TheVariants.{System, Create, Join, Exit, ThreadSelf, MutexInit, MutexDestroy, Lock, TryLock, Unlock}
 use Rattle.ro_event.specs.declared.calls.Call.{Call}
 use Rattle.ro_event.specs.declared.stops.Stop.{Stop}
 use Rattle.ro_event.specs.declared.stops.Stop.TheVariants.{Calls, Trap, PageFault, Watchdog}
-use Rattle.ro_pages.specs.Bytes.{Memory, number_at}
+use Rattle.ro_pages.specs.Bytes.{Memory}
 use Rattle.ro_kernel.specs.declared.Life.{Life}
-use Rattle.ro_kernel.specs.Kernel.{live_option, lives_on}
-use Rattle.ro_kernel.specs.Serve.{Served, Done, Blocked, Ends, serve}
+use Rattle.ro_kernel.specs.Kernel.{live_option}
+use Rattle.ro_kernel.specs.Serve.{Served, Done, Blocked, Ends}
 use Rattle.ro_exec.specs.declared.Cpu.{Cpu}
-use Rattle.ro_exec.specs.Next.{Backed, all_backed, Next, Stands, Executes, fetch_stop, instruction_stop, unless_stop, next_at, next}
+use Rattle.ro_exec.specs.Next.{Backed, all_backed, Next, Stands, Executes, fetch_stop, unless_stop, next_at, next}
 use Rattle.ro_exec.proofs.Frame.{fetched, next-agree, next-stopped, next-fetched}
-use Rattle.ro_plain.specs.Machine.{Program, layout_of, setup_of, Machine, opening, step_by, next_of, steppable, step, run, IsExecution}
-use Rattle.ro_plain.specs.Accesses.{Accesses, no_access, fetches, accesses_by, accesses, touches, conflict_at}
-use Rattle.ro_plain.specs.Order.{Sync, Unlocks, Locks, Makes, Joins, Exits, Nothing, is_zero, sync_by, is_exit, sync_served, sync_next, sync_of, at_place, machine_at, sync_at, accesses_at, HappensBefore, in_thread, by_mutex, by_creation, by_join, chain, RaceFree}
+use Rattle.ro_plain.specs.Machine.{Program, layout_of, Machine, opening, step_by, next_of, steppable, step, run, IsExecution}
+use Rattle.ro_plain.specs.Accesses.{Accesses, no_access, fetches, accesses_by, accesses, conflict_at}
+use Rattle.ro_plain.specs.Order.{Sync, Unlocks, Locks, Makes, Joins, Exits, Nothing, is_zero, sync_by, is_exit, sync_served, sync_next, sync_of, at_place, machine_at, sync_at, HappensBefore, in_thread, by_mutex, by_creation, by_join, chain, RaceFree}
 use Rattle.ro_plain.proofs.Separate.{Separate, separate, AgreeOn, AgreeOn-first}
-use Rattle.ro_plain.proofs.Calls.{some-injective, MaySteps, steppable-parts, Keeps, step_by-keeps, fetches-agree, accesses-at, step-at, step-opens}
+use Rattle.ro_plain.proofs.Calls.{some-injective, steppable-parts, Keeps, step_by-keeps, fetches-agree, accesses-at, step-at, step-opens}
 use Rattle.ro_plain.proofs.Swap.{run-append}
 use Rattle.ro_plain.proofs.Exists.{HasStep, IsPassable, no_stop, a_trap, a_system_call, instruction-passable, fetched-step}
 use Rattle.ro_plain.proofs.Unordered.{happens-later}
@@ -150,10 +149,13 @@ module _ (program : Program) (free : RaceFree program) (before : List ℕ) (mach
       has = subst (λ (n : Next). HasStep (step_by program after t cpu n)) (sym (next-fetched (layout_of program) all_backed _ cpu read)) (fetched-step program after t cpu _)
 
       is-execution : IsExecution program (before ++ x ∷ t ∷ [])
-      is-execution = (has.0, run-append program (opening program) before (x ∷ t ∷ [])
-          ∙ (ap (option_and_then (λ m. run program m (x ∷ t ∷ []))) reached
-          ∙ (ap (option_and_then (λ m. run program m (t ∷ []))) steps
-          ∙ ap (option_and_then (λ m. run program m [])) (step-at program after t cpu keeps.may ∙ has.1))))
+      is-execution = (
+        has.0,
+        run-append program (opening program) before (x ∷ t ∷ [])
+            ∙ (ap (option_and_then (λ m. run program m (x ∷ t ∷ []))) reached
+            ∙ (ap (option_and_then (λ m. run program m (t ∷ []))) steps
+            ∙ ap (option_and_then (λ m. run program m [])) (step-at program after t cpu keeps.may ∙ has.1))),
+      )
 
       second-nothing : sync_at program (before ++ x ∷ t ∷ []) (suc (length before)) ≡ Nothing
       second-nothing = at-both (sync_of program) Nothing _ _ after t reached_t (slice_get-second before x t)

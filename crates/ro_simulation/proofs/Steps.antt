@@ -1,8 +1,7 @@
 -- The event that a thread's stop comes to, and the step of the machine that it stands for.
-use Rattle.std.specs.Prelude.{◌≡◌, ◌≢◌, ℕ, zero, suc, ◌+◌, ◌<◌, ◌≤◌, Bool, true, false, IsTrue, cond, ◌&&◌, ◌==◌, List, [], ◌∷◌, ◌++◌, replicate, length, Option, Some, None, is_none, slice_get, slice_set}
+use Rattle.std.specs.Prelude.{◌≡◌, ◌≢◌, ℕ, ◌+◌, Bool, true, false, IsTrue, cond, ◌&&◌, List, [], ◌++◌, replicate, length, Option, Some, None, slice_get}
 use Rattle.std.specs.Option.{option_and_then}
-use Rattle.std.proofs.Common.{refl, sym, ap, ap₂, ◌∙◌, subst, arith, append-nil, length-append}
-use Rattle.std.proofs.lemmas.Bool.{true≢false}
+use Rattle.std.proofs.Common.{refl, sym, ap, ◌∙◌, subst, arith, append-nil, length-append}
 use Rattle.std.proofs.lemmas.List.{length-set}
 use Rattle.ro_event.specs.declared.calls.Which.{Which}
 use Rattle.ro_event.specs.declared.calls.Which.TheVariants.{System, Create, Join, Exit, ThreadSelf, MutexInit, MutexDestroy, Lock, TryLock, Unlock}
@@ -14,31 +13,29 @@ use Rattle.ro_event.specs.Effects.{Effect}
 use Rattle.ro_region.specs.declared.Range.{Range}
 use Rattle.ro_pages.specs.Bytes.{Memory, bytes_at}
 use Rattle.ro_journal.specs.declared.Did.{Did}
-use Rattle.ro_journal.specs.declared.Did.TheVariants.{Served as WasServed, Blocked as WasBlocked, Mapped, Watch, Trapped}
+use Rattle.ro_journal.specs.declared.Did.TheVariants.{Blocked as WasBlocked, Mapped, Watch, Trapped}
 use Rattle.ro_journal.specs.declared.How.{How}
 use Rattle.ro_journal.specs.declared.How.TheVariants.{Trap as TrapHow}
 use Rattle.ro_journal.specs.Plan.{event_steps}
 use Rattle.ro_kernel.specs.Kernel.{Setup, Kernel, lives_on}
 use Rattle.ro_kernel.specs.Serve.{Served, Done, Blocked, Ends, serve, payload_of, is_write, is_good_write, capped}
-use Rattle.ro_kernel.proofs.Kept.{IsOwn, Own, done, blocked, ends, serve-own, IsServed, system-served}
+use Rattle.ro_kernel.proofs.Kept.{Own, done, blocked, ends, serve-own, IsServed, system-served}
 use Rattle.ro_exec.specs.declared.Cpu.{Cpu}
-use Rattle.ro_exec.specs.Next.{Layout, Backed, all_backed, Next, Stands, next}
-use Rattle.ro_exec.specs.Threads.{made_cpu, cpu_after}
+use Rattle.ro_exec.specs.Next.{Backed, all_backed, Stands}
 use Rattle.ro_exec.proofs.Backing.{IsNoFault, a_call, a_trap}
 use Rattle.ro_thread.specs.declared.Thread.{Thread}
 use Rattle.ro_thread.specs.Stops.{standing}
 use Rattle.ro_replica.specs.Replica.{Replica, applied, cancelled}
-use Rattle.ro_plain.specs.Machine.{Program, layout_of, setup_of, Machine, opening, with_made, affected, called, step_by, next_of, steppable, step, run, BackedRun}
+use Rattle.ro_plain.specs.Machine.{layout_of, setup_of, Machine, opening, with_made, affected, called, step_by, next_of, steppable, step, run, BackedRun}
 use Rattle.ro_plain.specs.Order.{RaceFree}
-use Rattle.ro_plain.proofs.Ahead.{Without}
 use Rattle.ro_plain.proofs.Calls.{some-injective, step-at}
 use Rattle.ro_core.specs.Core.{Job, payload_at}
-use Rattle.ro_core.specs.Event.{Event, quiet_effect, quiet_event, call_event, event_of}
-use Rattle.ro_simulation.specs.Invariant.{StopStands, Agrees, StandsAtCall, IsOver, exits, traps}
+use Rattle.ro_core.specs.Event.{Event, quiet_effect, call_event, event_of}
+use Rattle.ro_simulation.specs.Invariant.{StopStands, Agrees, StandsAtCall, IsOver, traps}
 use Rattle.ro_simulation.proofs.Stays.{Stays, stays}
 use Rattle.ro_simulation.proofs.Ahead.{KeepsRest, BackedRun-keeps, reach-run, stays-along}
 use Rattle.ro_simulation.proofs.Around.{Without-replicate}
-use Rattle.ro_simulation.proofs.Served.{made_count, IsTidy, Tidy, tidy_done, tidy_blocked, tidy_end, serve-tidy}
+use Rattle.ro_simulation.proofs.Served.{made_count, Tidy, tidy_done, tidy_blocked, tidy_end, serve-tidy}
 use Rattle.ro_simulation.proofs.Views.{Comes}
 use Rattle.ro_simulation.proofs.Events.{agrees-quiet, agrees-served}
 
@@ -148,36 +145,45 @@ module _ (job : Job) (free : RaceFree job.program) (before : List ℕ) (backed :
         ∙ (ap (called middle cpu (payload_of job.program.image.ranges middle.memory call)) e ∙ f))
 
     call-step : (served : Served) → serve (setup_of job.program) middle.kernel t call ≡ served → Own middle.kernel t served → Tidy middle.kernel t served → HasEvent job backed machine middle t (call_event middle.kernel t call payload served)
-    call-step (Done kernel effect) e (done own_effect) (tidy_done tidy) = (affected middle cpu kernel effect (payload_of job.program.image.ranges middle.memory call), record {
-      run_event = ap (option_and_then (λ m. run job.program m [])) (step-called (Done kernel effect) _ e refl);
-      same_kernel = refl;
-      same_output = ap (λ (p : List ℕ). middle.output ++ p) payload_is;
-      same_end = sym going_middle;
-      ends_well = over-middle;
-      as_many = length-made effect.made cpu _ ∙ (ap (λ (n : ℕ). n + made_count effect.made) (length-set middle.cpus effect.thread _ ∙ as_many_middle) ∙ sym tidy.one_life_each);
-      one_life_each = tidy.one_life_each ∙ ap (λ (n : ℕ). n + made_count effect.made) lives_middle;
-      own_blocked = λ other (f : None ≡ Some other). absurd cc;
-      others_stand = λ u other d h on. stands-after _ (step-called (Done kernel effect) _ e refl) going_middle u other d h;
-      agrees = λ on replica thread same there all_made comes stops own_stop.
-          let same_cpu : thread.cpu ≡ cpu = some-injective (sym comes.live ∙ live_middle) in
-          subst (λ (c : Cpu). Agrees job (affected middle c kernel effect (payload_of job.program.image.ranges middle.memory call)) (cancelled (applied effect replica))) same_cpu
-          (agrees-served job free before backed machine middle reached going replica same t live thread there comes stops call kernel effect (ap (next_of job.program middle) same_cpu ∙ stands) e own_effect tidy all_made as_many);
-    })
-    call-step Blocked e blocked tidy_blocked = (middle, quiet-step WasBlocked None false _ refl refl (λ other (f : Some call ≡ Some other).
-        subst (λ (c : Call). StandsAtCall job.program middle t c) (some-injective f)
-        (record { cpu = cpu; live = live_middle; stands = stands; writes_nothing = λ m. no-write job.program.image.ranges m call (blocked-no-write (setup_of job.program) middle.kernel t call e) })))
-    call-step (Ends kernel how) e ends (tidy_end same over) = (record middle { kernel = kernel; ended = Some how }, record {
-      run_event = ap (option_and_then (λ m. run job.program m [])) (step-called (Ends kernel how) _ e refl);
-      same_kernel = refl;
-      same_output = append-nil middle.output;
-      same_end = refl;
-      ends_well = λ other f. subst IsOver (some-injective f) over;
-      as_many = as_many_middle ∙ sym same;
-      one_life_each = same ∙ (lives_middle ∙ zero-more (length machine.kernel.lives));
-      own_blocked = λ other (f : None ≡ Some other). absurd cc;
-      others_stand = λ u other d h (on : Some how ≡ None). absurd cc;
-      agrees = λ (on : Some how ≡ None). absurd cc;
-    })
+    call-step (Done kernel effect) e (done own_effect) (tidy_done tidy) = (
+      affected middle cpu kernel effect (payload_of job.program.image.ranges middle.memory call),
+      record {
+        run_event = ap (option_and_then (λ m. run job.program m [])) (step-called (Done kernel effect) _ e refl);
+        same_kernel = refl;
+        same_output = ap (λ (p : List ℕ). middle.output ++ p) payload_is;
+        same_end = sym going_middle;
+        ends_well = over-middle;
+        as_many = length-made effect.made cpu _ ∙ (ap (λ (n : ℕ). n + made_count effect.made) (length-set middle.cpus effect.thread _ ∙ as_many_middle) ∙ sym tidy.one_life_each);
+        one_life_each = tidy.one_life_each ∙ ap (λ (n : ℕ). n + made_count effect.made) lives_middle;
+        own_blocked = λ other (f : None ≡ Some other). absurd cc;
+        others_stand = λ u other d h on. stands-after _ (step-called (Done kernel effect) _ e refl) going_middle u other d h;
+        agrees = λ on replica thread same there all_made comes stops own_stop.
+            let same_cpu : thread.cpu ≡ cpu = some-injective (sym comes.live ∙ live_middle) in
+            subst (λ (c : Cpu). Agrees job (affected middle c kernel effect (payload_of job.program.image.ranges middle.memory call)) (cancelled (applied effect replica))) same_cpu
+            (agrees-served job free before backed machine middle reached going replica same t live thread there comes stops call kernel effect (ap (next_of job.program middle) same_cpu ∙ stands) e own_effect tidy all_made as_many);
+      },
+    )
+    call-step Blocked e blocked tidy_blocked = (
+      middle,
+      quiet-step WasBlocked None false _ refl refl (λ other (f : Some call ≡ Some other).
+          subst (λ (c : Call). StandsAtCall job.program middle t c) (some-injective f)
+          (record { cpu = cpu; live = live_middle; stands = stands; writes_nothing = λ m. no-write job.program.image.ranges m call (blocked-no-write (setup_of job.program) middle.kernel t call e) })),
+    )
+    call-step (Ends kernel how) e ends (tidy_end same over) = (
+      record middle { kernel = kernel; ended = Some how },
+      record {
+        run_event = ap (option_and_then (λ m. run job.program m [])) (step-called (Ends kernel how) _ e refl);
+        same_kernel = refl;
+        same_output = append-nil middle.output;
+        same_end = refl;
+        ends_well = λ other f. subst IsOver (some-injective f) over;
+        as_many = as_many_middle ∙ sym same;
+        one_life_each = same ∙ (lives_middle ∙ zero-more (length machine.kernel.lives));
+        own_blocked = λ other (f : None ≡ Some other). absurd cc;
+        others_stand = λ u other d h (on : Some how ≡ None). absurd cc;
+        agrees = λ (on : Some how ≡ None). absurd cc;
+      },
+    )
       where
         zero-more : (n : ℕ) → n ≡ n + 0
         zero-more n = omega arith
@@ -186,18 +192,21 @@ module _ (job : Job) (free : RaceFree job.program) (before : List ℕ) (backed :
     step-of-call = call-step _ refl (serve-own (setup_of job.program) middle.kernel t call) (serve-tidy (setup_of job.program) middle.kernel t call)
 
   trap-step : (code : ℕ) → next_of job.program middle cpu ≡ Stands (Trap code) → HasEvent job backed machine middle t (record { did = Trapped; kernel = middle.kernel; effect = quiet_effect t None false; payload = []; blocked = None; due = Some (TrapHow code) })
-  trap-step code stands = (record middle { ended = Some (TrapHow code) }, record {
-    run_event = ap (option_and_then (λ m. run job.program m [])) (step-at job.program middle t cpu live_middle ∙ ap (step_by job.program middle t cpu) stands);
-    same_kernel = refl;
-    same_output = append-nil middle.output;
-    same_end = refl;
-    ends_well = λ other f. subst IsOver (some-injective f) traps;
-    as_many = as_many_middle;
-    one_life_each = lives_middle ∙ zero-more (length machine.kernel.lives);
-    own_blocked = λ other (f : None ≡ Some other). absurd cc;
-    others_stand = λ u other d h (on : Some (TrapHow code) ≡ None). absurd cc;
-    agrees = λ (on : Some (TrapHow code) ≡ None). absurd cc;
-  })
+  trap-step code stands = (
+    record middle { ended = Some (TrapHow code) },
+    record {
+      run_event = ap (option_and_then (λ m. run job.program m [])) (step-at job.program middle t cpu live_middle ∙ ap (step_by job.program middle t cpu) stands);
+      same_kernel = refl;
+      same_output = append-nil middle.output;
+      same_end = refl;
+      ends_well = λ other f. subst IsOver (some-injective f) traps;
+      as_many = as_many_middle;
+      one_life_each = lives_middle ∙ zero-more (length machine.kernel.lives);
+      own_blocked = λ other (f : None ≡ Some other). absurd cc;
+      others_stand = λ u other d h (on : Some (TrapHow code) ≡ None). absurd cc;
+      agrees = λ (on : Some (TrapHow code) ≡ None). absurd cc;
+    },
+  )
     where
       zero-more : (n : ℕ) → n ≡ n + 0
       zero-more n = omega arith

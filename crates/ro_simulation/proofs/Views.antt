@@ -1,10 +1,9 @@
 -- A stopped thread of a replica that agrees with the machine: the machine comes to the same stop by the thread's own steps, and so replicas that agree have equal views of it.
-use Rattle.std.specs.Prelude.{◌≡◌, ◌≢◌, ℕ, zero, suc, ◌+◌, ◌<◌, ◌≤◌, Bool, true, false, IsTrue, cond, ◌==◌, List, [], ◌∷◌, ◌++◌, replicate, Option, Some, None, is_none, slice_get, slice_set}
+use Rattle.std.specs.Prelude.{◌≡◌, ◌≢◌, ℕ, zero, suc, ◌+◌, ◌<◌, ◌≤◌, Bool, true, false, IsTrue, cond, ◌==◌, List, [], ◌++◌, replicate, Option, Some, None, is_none, slice_get}
 use Rattle.std.specs.Option.{option_map, option_and_then}
 use Rattle.std.proofs.Common.{refl, sym, ap, ap₂, ◌∙◌, subst, arith, append_assoc}
-use Rattle.std.proofs.lemmas.Bool.{true≢false, eqb-true}
+use Rattle.std.proofs.lemmas.Bool.{eqb-true}
 use Rattle.ro_decode.specs.declared.Instr.{Instr}
-use Rattle.ro_event.specs.declared.calls.Call.{Call}
 use Rattle.ro_event.specs.declared.stops.Stop.{Stop}
 use Rattle.ro_event.specs.declared.stops.Stop.TheVariants.{Calls, Trap, PageFault, Watchdog}
 use Rattle.ro_event.specs.Views.{View}
@@ -13,15 +12,15 @@ use Rattle.ro_pages.specs.Bytes.{Memory}
 use Rattle.ro_kernel.specs.Kernel.{Kernel, lives_on}
 use Rattle.ro_kernel.specs.Serve.{payload_of}
 use Rattle.ro_exec.specs.declared.Cpu.{Cpu}
-use Rattle.ro_exec.specs.Next.{Layout, Backed, all_backed, Next, Stands, Executes, next, stop_in}
+use Rattle.ro_exec.specs.Next.{Backed, Next, Stands, Executes, next, stop_in}
 use Rattle.ro_exec.proofs.Backing.{IsNoFault, a_call, a_trap, stands-backed}
 use Rattle.ro_thread.specs.declared.Thread.{Thread}
 use Rattle.ro_thread.specs.Stops.{standing}
 use Rattle.ro_replica.specs.Replica.{Replica}
-use Rattle.ro_plain.specs.Machine.{Program, layout_of, Machine, opening, next_of, steppable, step, run, BackedRun, nothing_left, then_backed}
+use Rattle.ro_plain.specs.Machine.{Program, layout_of, Machine, opening, next_of, steppable, run, BackedRun, nothing_left}
 use Rattle.ro_plain.specs.Order.{RaceFree}
 use Rattle.ro_plain.proofs.Backed.{backed-is-plain}
-use Rattle.ro_plain.proofs.Calls.{some-injective, MaySteps, steppable-from}
+use Rattle.ro_plain.proofs.Calls.{some-injective, steppable-from}
 use Rattle.ro_plain.proofs.Stays.{steppable-along, payload-stays}
 use Rattle.ro_plain.proofs.Ahead.{Without}
 use Rattle.ro_core.specs.Core.{Job, payload_at, view_with, view_of}
@@ -103,17 +102,20 @@ module _ (job : Job) (free : RaceFree job.program) (before : List ℕ) (machine 
       })
 
   pub comes-by : (backed : Backed) (replica : Replica) → replica.backed ≡ backed → (h : RunsAhead job machine replica) (t : ℕ) (thread : Thread) → IsTrue (lives_on machine.kernel t) → slice_get replica.threads t ≡ Some thread → (middle : Machine) × Comes job backed machine middle replica t thread
-  comes-by backed replica same h t thread live there = (own.middle, record {
-    among = among;
-    end = h.end;
-    own = own.front;
-    back = back;
-    apart = apart;
-    live = live_middle;
-    same_memory = h.same_memory;
-    same_cpus = h.same_cpus;
-    reached_middle = λ b r. reach-run job.program backed b r own.front;
-  })
+  comes-by backed replica same h t thread live there = (
+    own.middle,
+    record {
+      among = among;
+      end = h.end;
+      own = own.front;
+      back = back;
+      apart = apart;
+      live = live_middle;
+      same_memory = h.same_memory;
+      same_cpus = h.same_cpus;
+      reached_middle = λ b r. reach-run job.program backed b r own.front;
+    },
+  )
     where
       among : Around 0 replica.threads t t
       among = around 0 replica.threads t t thread there (omega arith)

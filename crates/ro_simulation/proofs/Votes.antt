@@ -1,11 +1,10 @@
 -- A vote that is allowed: the replicas that agree stand at one stop of the machine, and the winner's view is that of the machine.
-use Rattle.std.specs.Prelude.{◌≡◌, ◌≢◌, ℕ, zero, suc, ◌+◌, ◌<◌, ◌≤◌, ◌⊎◌, Bool, true, false, IsTrue, cond, ◌&&◌, ◌==◌, List, [], ◌∷◌, ◌++◌, replicate, length, map, Option, Some, None, is_none, is_some, slice_get}
+use Rattle.std.specs.Prelude.{◌≡◌, ◌≢◌, ℕ, ◌≤◌, Bool, true, false, IsTrue, ◌==◌, List, [], ◌∷◌, ◌++◌, replicate, length, Option, Some, None, is_some, slice_get}
 use Rattle.std.specs.Option.{option_map, option_and_then}
-use Rattle.std.specs.List.{list_all, filter_map}
+use Rattle.std.specs.List.{list_all}
 use Rattle.std.proofs.Common.{refl, sym, ap, ap₂, ◌∙◌, subst, arith, inl, inr, ⊎_elim}
-use Rattle.std.proofs.lemmas.Bool.{true≢false, false≢true, eqb-true, eq-eqb, and_parts, cases_eq}
+use Rattle.std.proofs.lemmas.Bool.{true≢false, false≢true, eq-eqb, and_parts, cases_eq}
 use Rattle.std.proofs.lemmas.Option.{slice_get_within}
-use Rattle.ro_event.specs.declared.calls.Call.{Call}
 use Rattle.ro_event.specs.declared.stops.Stop.{Stop}
 use Rattle.ro_event.specs.declared.stops.Stop.TheVariants.{Calls, Trap, PageFault, Watchdog}
 use Rattle.ro_event.specs.Views.{View}
@@ -15,26 +14,23 @@ use Rattle.ro_journal.specs.declared.Entry.{Entry}
 use Rattle.ro_journal.specs.declared.Entry.TheVariants.{Vote}
 use Rattle.ro_journal.specs.Plan.{event_steps, plan_of}
 use Rattle.ro_kernel.specs.Kernel.{Setup, Kernel, lives_on}
-use Rattle.ro_exec.specs.declared.Cpu.{Cpu}
-use Rattle.ro_exec.specs.Next.{Backed, Next, Stands, next, stop_in}
-use Rattle.ro_exec.proofs.Backing.{IsNoFault}
+use Rattle.ro_exec.specs.Next.{next, stop_in}
 use Rattle.ro_thread.specs.declared.Thread.{Thread}
 use Rattle.ro_thread.specs.Stops.{standing}
-use Rattle.ro_vote.specs.Verdict.{Verdict, Won, Split, verdict_of}
-use Rattle.ro_replica.specs.Replica.{Replica, copied_threads, recovered, stop_of}
-use Rattle.ro_plain.specs.Machine.{Program, layout_of, setup_of, Machine, opening, next_of, steppable, run, BackedRun}
+use Rattle.ro_replica.specs.Replica.{Replica, recovered, stop_of}
+use Rattle.ro_plain.specs.Machine.{layout_of, setup_of, Machine}
 use Rattle.ro_plain.specs.Order.{RaceFree}
 use Rattle.ro_plain.proofs.Calls.{some-injective}
-use Rattle.ro_core.specs.Core.{Job, Core, is_going, nothing_lent, may_vote, payload_at, view_with, view_of, views_of}
+use Rattle.ro_core.specs.Core.{Job, Core, may_vote, payload_at, view_with, view_of, views_of}
 use Rattle.ro_core.specs.Event.{Event, event_of, with_recovered, core_after}
 use Rattle.ro_core.specs.Legal.{event_with, event_in, core_after_event, after, since_in, MayVote}
-use Rattle.ro_simulation.specs.Invariant.{IsSound, RunsAhead, StopStands, Agrees, StandsAtCall, Holds}
+use Rattle.ro_simulation.specs.Invariant.{IsSound, Agrees, Holds}
 use Rattle.ro_simulation.proofs.Lists.{get-within, get-filter-map, length-filter-map, get-all, all-from}
-use Rattle.ro_simulation.proofs.Views.{Comes, Arrives, arrives, SameArrival, same-arrival, machine_view, next-at-middle, view-is, standing_by, stands-next, StandsNext, not-equal}
+use Rattle.ro_simulation.proofs.Views.{Comes, Arrives, arrives, SameArrival, same-arrival, machine_view, next-at-middle, view-is, standing_by, stands-next, not-equal}
 use Rattle.ro_simulation.proofs.Ahead.{KeepsRest, BackedRun-keeps}
 use Rattle.ro_simulation.proofs.Verdicts.{AllBut, WonWell, won-well, won-some}
 use Rattle.ro_simulation.proofs.Copies.{copied-there, sound-recovered, agrees-recovered, AfterCopy, not_lost, is_copy, after-copy, length-with-copy}
-use Rattle.ro_simulation.proofs.Steps.{EventStep, HasEvent, step-of-stop}
+use Rattle.ro_simulation.proofs.Steps.{HasEvent, step-of-stop}
 use Rattle.ro_simulation.proofs.Kept.{Going, going-from, none-lent, Meets, event-holds}
 
 -- ---- a thread that is stopped in a replica

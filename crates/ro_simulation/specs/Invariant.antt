@@ -1,5 +1,5 @@
 -- What every entry of a legal journal keeps.
-use Rattle.std.specs.Prelude.{◌≡◌, ◌≢◌, ℕ, ◌≤◌, IsTrue, List, [], length, Option, Some, None, slice_get}
+use Rattle.std.specs.Prelude.{◌≡◌, ◌≢◌, ℕ, ◌≤◌, IsTrue, List, [], length, Some, None, slice_get}
 use Rattle.ro_event.specs.declared.calls.Call.{Call}
 use Rattle.ro_event.specs.declared.stops.Stop.{Stop}
 use Rattle.ro_event.specs.declared.stops.Stop.TheVariants.{Calls}

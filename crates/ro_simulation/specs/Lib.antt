@@ -1,2 +1,4 @@
 pub mod Invariant
 pub mod Theorem
+pub mod Guests
+pub mod Rows

@@ -24,3 +24,5 @@ pub mod Journals
 pub mod Simulates
 pub mod Laws
 pub mod RowsStruck
+pub mod Checks
+pub mod RowsThreads

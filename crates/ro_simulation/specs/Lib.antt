@@ -2,3 +2,4 @@ pub mod Invariant
 pub mod Theorem
 pub mod Guests
 pub mod Rows
+pub mod Drives

@@ -1,7 +1,8 @@
 // The simulation theorem: a legal journal's replicas simulate the unreplicated machine that its plan names.
 #![tactic(auto)]
 
-ghost use Rattle.std.specs.Prelude.{◌≡◌, List, []};
+ghost use Rattle.std.specs.Prelude.{◌≡◌, List, [], ◌∷◌};
+ghost use Rattle.ro_journal.specs.declared.How.TheVariants.{Exit};
 ghost use Rattle.ro_journal.specs.declared.Entry.{Entry};
 ghost use Rattle.ro_plain.specs.Machine.{Program};
 ghost use Rattle.ro_plain.specs.Order.{RaceFree};
@@ -9,6 +10,9 @@ ghost use Rattle.ro_core.specs.Core.{Job};
 ghost use Rattle.ro_core.specs.Legal.{Legal};
 ghost use Rattle.ro_core.specs.Ideal.{StaysApart};
 ghost use Rattle.ro_simulation.specs.Theorem.{Simulates, TwoOrThree, WritesAsIdeal, AllOfOne, StaysAlone, NeverDiffers};
+ghost use Rattle.ro_simulation.specs.Guests.{exit_guest, locking_guest, usual_job};
+ghost use Rattle.ro_simulation.specs.Rows.{flip_a0, one_struck, two_struck, IsCovered};
+ghost use Rattle.ro_simulation.specs.Drives.{driven};
 
 /// The simulation theorem: in a legal journal of a race-free program whose faults stay apart, two or three replicas
 /// simulate the unreplicated machine.
@@ -36,3 +40,22 @@ pub fn one_thread()
 pub fn no_fault()
     ensures { (job : Job) (journal : List Entry) → RaceFree job.program → job.faults ≡ [] → Legal job journal → NeverDiffers journal }
 {}
+
+/// A row: one struck register loses the vote, and the program exits with 7.
+pub fn one_struck_row()
+    ensures { IsCovered (usual_job exit_guest (flip_a0 1 ∷ [])) one_struck (Exit 7) [] }
+{
+}
+
+/// A row: where two replicas are struck alike, the journal is legal, but faults do not stay apart.
+pub fn two_struck_row()
+    ensures legal { Legal (usual_job exit_guest (flip_a0 0 ∷ flip_a0 1 ∷ [])) two_struck }
+    ensures not_apart { StaysApart (usual_job exit_guest (flip_a0 0 ∷ flip_a0 1 ∷ [])) two_struck → ⊥ }
+{
+}
+
+/// A row: two threads that lock round their writes, in the journal of one driver.
+pub fn locking_row()
+    ensures { RaceFree locking_guest → IsCovered (usual_job locking_guest []) (driven 200 (usual_job locking_guest [])) (Exit 0) (65 ∷ 66 ∷ []) }
+{
+}

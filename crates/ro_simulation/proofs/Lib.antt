@@ -26,3 +26,5 @@ pub mod Laws
 pub mod RowsStruck
 pub mod Checks
 pub mod RowsThreads
+pub mod Strikes
+pub mod RowsWeaker

@@ -40,11 +40,11 @@ use Rattle.ro_plain.proofs.Calls.{some-injective}
 
 -- ---- the guest makes no thread
 
-one-life : (machine : Machine) (o : Option Machine) → o ≡ Some machine → option_map (λ (m : Machine). length m.kernel.lives) o ≡ Some 1 → length machine.kernel.lives ≤ 1
+pub one-life : (machine : Machine) (o : Option Machine) → o ≡ Some machine → option_map (λ (m : Machine). length m.kernel.lives) o ≡ Some 1 → length machine.kernel.lives ≤ 1
 one-life machine o e f =
     let same : length machine.kernel.lives ≡ 1 = some-injective (sym (ap (option_map (λ (m : Machine). length m.kernel.lives)) e) ∙ f) in omega arith
 
-no-run : (machine : Machine) (o : Option Machine) → o ≡ Some machine → o ≡ None → length machine.kernel.lives ≤ 1
+pub no-run : (machine : Machine) (o : Option Machine) → o ≡ Some machine → o ≡ None → length machine.kernel.lives ≤ 1
 no-run machine o e f = absurd (let g : None ≡ Some machine = sym f ∙ e in cc)
 
 exit-alone : StaysAlone exit_guest

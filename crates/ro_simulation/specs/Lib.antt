@@ -3,3 +3,4 @@ pub mod Theorem
 pub mod Guests
 pub mod Rows
 pub mod Drives
+pub mod Weaker

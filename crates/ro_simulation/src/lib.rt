@@ -1,8 +1,8 @@
 // The simulation theorem: a legal journal's replicas simulate the unreplicated machine that its plan names.
 #![tactic(auto)]
 
-ghost use Rattle.std.specs.Prelude.{◌≡◌, List, [], ◌∷◌};
-ghost use Rattle.ro_journal.specs.declared.How.TheVariants.{Exit};
+ghost use Rattle.std.specs.Prelude.{◌≡◌, List, [], ◌∷◌, Some};
+ghost use Rattle.ro_journal.specs.declared.How.TheVariants.{Exit, NoMajority};
 ghost use Rattle.ro_journal.specs.declared.Entry.{Entry};
 ghost use Rattle.ro_plain.specs.Machine.{Program};
 ghost use Rattle.ro_plain.specs.Order.{RaceFree};
@@ -13,6 +13,8 @@ ghost use Rattle.ro_simulation.specs.Theorem.{Simulates, TwoOrThree, WritesAsIde
 ghost use Rattle.ro_simulation.specs.Guests.{exit_guest, locking_guest, usual_job};
 ghost use Rattle.ro_simulation.specs.Rows.{flip_a0, one_struck, two_struck, IsCovered};
 ghost use Rattle.ro_simulation.specs.Drives.{driven};
+ghost use Rattle.ro_simulation.specs.Weaker.{StaysNearlyApart, loading_guest, slipping, slipped};
+ghost use Rattle.ro_journal.specs.Plan.{outcome_of};
 
 /// The simulation theorem: in a legal journal of a race-free program whose faults stay apart, two or three replicas
 /// simulate the unreplicated machine.
@@ -57,5 +59,16 @@ pub fn two_struck_row()
 /// A row: two threads that lock round their writes, in the journal of one driver.
 pub fn locking_row()
     ensures { RaceFree locking_guest → IsCovered (usual_job locking_guest []) (driven 200 (usual_job locking_guest [])) (Exit 0) (65 ∷ 66 ∷ []) }
+{
+}
+
+/// A row: alike has to ask that touched pages are backed. With the weaker form faults stay apart in a legal journal of a
+/// race-free program that comes to no majority.
+pub fn weaker_alike_row()
+    ensures race_free { RaceFree loading_guest }
+    ensures legal { Legal (usual_job loading_guest slipping) slipped }
+    ensures nearly_apart { StaysNearlyApart (usual_job loading_guest slipping) slipped }
+    ensures no_majority { outcome_of slipped ≡ Some NoMajority }
+    ensures not_apart { StaysApart (usual_job loading_guest slipping) slipped → ⊥ }
 {
 }

@@ -20,7 +20,7 @@ use Rattle.ro_simulation.specs.Invariant.{IsSound, Agrees, Holds}
 use Rattle.ro_simulation.proofs.Lists.{get-set-cases}
 use Rattle.ro_simulation.proofs.Sound.{HasFault, StruckWell, run-well, sound-changed}
 use Rattle.ro_simulation.proofs.Put.{agrees-after-lease}
-use Rattle.ro_simulation.proofs.Kept.{going-from, ideal-same}
+use Rattle.ro_simulation.proofs.Kept.{going-from, ideal-same, plan-same}
 
 -- what holds of a replica depends on the kernel's lives alone
 sound-with : (job : Job) (core other : Core) (backed : Backed) (number : ℕ) (r : Replica) → core.kernel ≡ other.kernel → IsSound job core backed number r → IsSound job other backed number r
@@ -78,6 +78,7 @@ module _ (job : Job) (odd : ℕ) (journal : List Entry) (core : Core) (h : Holds
     same_kernel = h.same_kernel;
     same_output = h.same_output;
     same_end = h.same_end;
+    steps_are = h.steps_are ∙ ap length (sym (plan-same journal (Take driver replica t) refl));
     ends_well = h.ends_well;
     not_ended = h.not_ended;
     as_many = h.as_many;
@@ -141,6 +142,7 @@ module _ (job : Job) (odd : ℕ) (journal : List Entry) (core : Core) (h : Holds
     same_kernel = h.same_kernel;
     same_output = h.same_output;
     same_end = h.same_end;
+    steps_are = h.steps_are ∙ ap length (sym (plan-same journal (Put driver replica t count hit) refl));
     ends_well = h.ends_well;
     not_ended = h.not_ended;
     as_many = h.as_many;

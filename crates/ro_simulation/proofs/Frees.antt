@@ -14,7 +14,7 @@ use Rattle.ro_exec.specs.Next.{Stands, Executes}
 use Rattle.ro_thread.specs.declared.Thread.{Thread}
 use Rattle.ro_thread.specs.Stops.{standing}
 use Rattle.ro_replica.specs.Replica.{Replica}
-use Rattle.ro_plain.specs.Machine.{layout_of, setup_of, Machine, next_of, BackedRun, nothing_left}
+use Rattle.ro_plain.specs.Machine.{layout_of, setup_of, Machine, next_of, IsExecution, BackedRun, nothing_left}
 use Rattle.ro_plain.specs.Order.{RaceFree}
 use Rattle.ro_plain.proofs.Calls.{some-injective, steppable-parts}
 use Rattle.ro_core.specs.Core.{Job, Core, may_free}
@@ -26,6 +26,7 @@ use Rattle.ro_simulation.proofs.Ahead.{BackedRun-head, plain-executes}
 use Rattle.ro_simulation.proofs.Lists.{get-within}
 use Rattle.ro_simulation.proofs.Views.{Comes, comes-by, none-left}
 use Rattle.ro_simulation.proofs.Steps.{HasEvent, step-of-call}
+use Rattle.ro_simulation.proofs.Votes.{run-more}
 use Rattle.ro_simulation.proofs.Kept.{Going, going-from, none-lent, Meets, event-holds}
 
 -- the blocked call of a free that is allowed
@@ -116,6 +117,13 @@ module _ (job : Job) (free : RaceFree job.program) (odd : ℕ) (journal : List E
       subst (Holds job odd (journal ++ Free t ∷ [])) after-is
       (event-holds job odd journal core h going parts.no_lease t 0 live h.machine nothing_left _ event.0 event.1
       (Free t) (ap (λ (n : ℕ). replicate n t) (sym (one-step h.machine.kernel t parts.call _ unblocked))) core.replicas refl h.sound odd meets-at)
+
+-- the step of the call that is freed
+pub free-runs : (job : Job) (free : RaceFree job.program) (odd : ℕ) (journal : List Entry) (core : Core) (h : Holds job odd journal core) (t : ℕ) (parts : FreeParts job core t) → IsExecution job.program (plan_of journal ++ t ∷ [])
+free-runs job free odd journal core h t parts =
+    let event = has-event job free odd journal core h t parts in
+    subst (λ (n : ℕ). IsExecution job.program (plan_of journal ++ replicate n t)) (one-step h.machine.kernel t parts.call _ (unblocked job free odd journal core h t parts))
+    (event.0, run-more job.program (plan_of journal) h.machine h.machine [] _ h.ideal_is refl event.1.run_event)
 
 -- the invariant after a free
 pub after-free : (job : Job) (free : RaceFree job.program) (odd : ℕ) (journal : List Entry) (core : Core) → Holds job odd journal core → (t : ℕ) → MayFree job core t → Holds job odd (journal ++ Free t ∷ []) (after job core (Free t))

@@ -2,9 +2,10 @@
 use Rattle.std.specs.Prelude.{◌≡◌, ◌≢◌, ℕ, ◌+◌, ◌<◌, Bool, true, false, IsTrue, cond, ◌&&◌, ◌==◌, List, [], ◌∷◌, ◌++◌, replicate, length, Option, Some, None, is_none, slice_get}
 use Rattle.std.specs.Option.{option_and_then}
 use Rattle.std.specs.List.{list_any}
-use Rattle.std.proofs.Common.{refl, sym, ap, ◌∙◌, subst, arith, append_assoc, append-nil}
+use Rattle.std.proofs.Common.{refl, sym, ap, ◌∙◌, subst, arith, append_assoc, append-nil, length-append}
 use Rattle.std.proofs.lemmas.Bool.{true≢false, false≢true, eqb-true, eq-eqb, and_parts}
 use Rattle.std.proofs.lemmas.List.{nil_from_length}
+use Rattle.std.proofs.Math.ListN.{length-replicate}
 use Rattle.ro_event.specs.declared.calls.Call.{Call}
 use Rattle.ro_event.specs.declared.stops.Stop.{Stop}
 use Rattle.ro_journal.specs.declared.Entry.{Entry}
@@ -36,6 +37,9 @@ plan-append (x ∷ xs) ys = ap (λ (r : List ℕ). entry_plan x ++ r) (plan-appe
 
 pub plan-snoc : (journal : List Entry) (entry : Entry) → plan_of (journal ++ entry ∷ []) ≡ plan_of journal ++ entry_plan entry
 plan-snoc journal entry = plan-append journal (entry ∷ []) ∙ ap (λ (r : List ℕ). plan_of journal ++ r) (append-nil (entry_plan entry))
+
+pub plan-same : (journal : List Entry) (entry : Entry) → entry_plan entry ≡ [] → plan_of (journal ++ entry ∷ []) ≡ plan_of journal
+plan-same journal entry none = plan-snoc journal entry ∙ (ap (λ (r : List ℕ). plan_of journal ++ r) none ∙ append-nil (plan_of journal))
 
 -- an entry without steps leaves the machine
 pub ideal-same : (job : Job) (journal : List Entry) (entry : Entry) → entry_plan entry ≡ [] → ideal job (journal ++ entry ∷ []) ≡ ideal job journal
@@ -114,6 +118,16 @@ module _ (job : Job) (odd : ℕ) (journal : List Entry) (core : Core) (h : Holds
       subst (Agrees job after) m.gives
       (step.agrees on m.from k.thread s.same_backed k.there (s.all_made ∙ ap (λ (k : Kernel). length k.lives) h.same_kernel) k.comes k.agree.stops k.own_stop)
 
+  steps_after : core.steps + count + event_steps event.did ≡ length (plan_of (journal ++ entry ∷ []))
+  steps_after =
+      let whole = ap length (plan-snoc journal entry ∙ ap (λ (r : List ℕ). plan_of journal ++ r) plan_is) in
+      let front = length-append (plan_of journal) (replicate count t ++ replicate (event_steps event.did) t) in
+      let back = length-append (replicate count t) (replicate (event_steps event.did) t) in
+      let one = length-replicate count t in
+      let other = length-replicate (event_steps event.did) t in
+      let before = h.steps_are in
+      omega arith
+
   pub event-holds : ((number : ℕ) (r : Replica) → number ≢ odd' → slice_get replicas number ≡ Some r → Meets job h.machine middle h.backed t event r) → Holds job odd' (journal ++ entry ∷ []) (core_after core t count replicas event)
   event-holds meets = record {
     machine = after;
@@ -121,6 +135,7 @@ module _ (job : Job) (odd : ℕ) (journal : List Entry) (core : Core) (h : Holds
     same_kernel = step.same_kernel;
     same_output = ap (λ (o : List ℕ). o ++ event.payload) (h.same_output ∙ sym kept.same_output) ∙ step.same_output;
     same_end = step.same_end;
+    steps_are = steps_after;
     ends_well = step.ends_well;
     not_ended = h.not_ended;
     as_many = step.as_many;

@@ -28,3 +28,4 @@ pub mod Checks
 pub mod RowsThreads
 pub mod Strikes
 pub mod RowsWeaker
+pub mod Limits

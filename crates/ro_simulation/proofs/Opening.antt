@@ -63,6 +63,7 @@ opening-holds job odd = record {
   same_kernel = refl;
   same_output = refl;
   same_end = refl;
+  steps_are = refl;
   ends_well = λ how (e : None ≡ Some how). absurd cc;
   not_ended = refl;
   as_many = refl;

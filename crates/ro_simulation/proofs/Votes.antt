@@ -18,8 +18,10 @@ use Rattle.ro_exec.specs.Next.{next, stop_in}
 use Rattle.ro_thread.specs.declared.Thread.{Thread}
 use Rattle.ro_thread.specs.Stops.{standing}
 use Rattle.ro_replica.specs.Replica.{Replica, recovered, stop_of}
-use Rattle.ro_plain.specs.Machine.{layout_of, setup_of, Machine}
+use Rattle.ro_plain.specs.Machine.{Program, layout_of, setup_of, Machine, opening, run, IsExecution}
+use Rattle.ro_vote.specs.Verdict.{Won, verdict_of}
 use Rattle.ro_plain.specs.Order.{RaceFree}
+use Rattle.ro_plain.proofs.Swap.{run-append}
 use Rattle.ro_plain.proofs.Calls.{some-injective}
 use Rattle.ro_core.specs.Core.{Job, Core, may_vote, payload_at, view_with, view_of, views_of}
 use Rattle.ro_core.specs.Event.{Event, event_of, with_recovered, core_after}
@@ -27,11 +29,18 @@ use Rattle.ro_core.specs.Legal.{event_with, event_in, core_after_event, after, s
 use Rattle.ro_simulation.specs.Invariant.{IsSound, Agrees, Holds}
 use Rattle.ro_simulation.proofs.Lists.{get-within, get-filter-map, length-filter-map, get-all, all-from}
 use Rattle.ro_simulation.proofs.Views.{Comes, Arrives, arrives, SameArrival, same-arrival, machine_view, next-at-middle, view-is, standing_by, stands-next, not-equal}
-use Rattle.ro_simulation.proofs.Ahead.{KeepsRest, BackedRun-keeps}
+use Rattle.ro_simulation.proofs.Ahead.{KeepsRest, BackedRun-keeps, BackedRun-run}
 use Rattle.ro_simulation.proofs.Verdicts.{AllBut, WonWell, won-well, won-some}
 use Rattle.ro_simulation.proofs.Copies.{copied-there, sound-recovered, agrees-recovered, AfterCopy, not_lost, is_copy, after-copy, length-with-copy}
 use Rattle.ro_simulation.proofs.Steps.{HasEvent, step-of-stop}
 use Rattle.ro_simulation.proofs.Kept.{Going, going-from, none-lent, Meets, event-holds}
+
+-- a list of steps in three parts
+pub run-more : (program : Program) (before : List ℕ) (machine middle : Machine) (xs ys : List ℕ) {end : Machine} → run program (opening program) before ≡ Some machine → run program machine xs ≡ Some middle → run program middle ys ≡ Some end → run program (opening program) (before ++ (xs ++ ys)) ≡ Some end
+run-more program before machine middle xs ys reached front back =
+    run-append program (opening program) before (xs ++ ys)
+    ∙ (ap (option_and_then (λ m. run program m (xs ++ ys))) reached
+    ∙ (run-append program machine xs ys ∙ (ap (option_and_then (λ m. run program m ys)) front ∙ back)))
 
 -- ---- a thread that is stopped in a replica
 
@@ -302,6 +311,22 @@ module _ (job : Job) (free : RaceFree job.program) (odd : ℕ) (journal : List E
           (Vote t count won lost did) plan_same (with_recovered won lost core.replicas) (length-with-copy won lost core.replicas)
           (sound-with-copy won lost (winner-shows won well.winner).winner (winner-shows won well.winner).winner_there) odd'
           (λ number r d e. meets r (fit number r d e)))
+
+-- ---- the steps that a vote would retire
+
+module _ (job : Job) (free : RaceFree job.program) (odd : ℕ) (journal : List Entry) (core : Core) (h : Holds job odd journal core) (t : ℕ) (parts : VoteParts core t) where
+  -- they are an execution, whether the vote fits the limit or not
+  pub vote-runs : (won : ℕ) (lost : Option ℕ) → verdict_of (views_of job core t) ≡ Won won lost → (count : ℕ) → since_in core t won ≡ Some count → (event : Event) → event_in job core t won ≡ Some event → IsExecution job.program (plan_of journal ++ (replicate count t ++ replicate (event_steps event.did) t))
+  vote-runs won lost verdict count since event comes =
+      let many = won-some (views_of job core t) won lost verdict in
+      let good = some-good job free odd journal core h t parts (let n = as-many-views job free odd journal core h t parts in let m = many.0 in omega arith) in
+      let well = won-well odd (machine_view job.program.image.ranges good.arrival.middle good.thread.cpu good.thread.since good.stop) (views_of job core t) won lost verdict (all-but-odd job free odd journal core h t parts good) in
+      let shows = winner-shows job free odd journal core h t parts good won well.winner in
+      let step = has-good-event job free odd journal core h t parts good in
+      let same_count : good.thread.since ≡ count = some-injective (sym (since-is job free odd journal core h t parts good won shows) ∙ since) in
+      let same_event : event_of (setup_of job.program) good.arrival.middle.kernel t good.stop (payload_at job.program.image.ranges good.arrival.middle.memory good.stop) ≡ event = some-injective (sym (event-is job free odd journal core h t parts good won shows) ∙ comes) in
+      subst (λ (threads : List ℕ). IsExecution job.program (plan_of journal ++ threads)) (ap₂ (λ (n : ℕ) (e : Event). replicate n t ++ replicate (event_steps e.did) t) same_count same_event)
+      (step.0, run-more job.program (plan_of journal) h.machine good.arrival.middle (replicate good.thread.since t) _ h.ideal_is (BackedRun-run job.program h.backed good.arrival.comes.own) step.1.run_event)
 
 -- ---- the vote
 

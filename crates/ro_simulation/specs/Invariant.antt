@@ -6,6 +6,7 @@ use Rattle.ro_event.specs.declared.stops.Stop.TheVariants.{Calls}
 use Rattle.ro_journal.specs.declared.How.{How}
 use Rattle.ro_journal.specs.declared.How.TheVariants.{Exit, Trap}
 use Rattle.ro_journal.specs.declared.Entry.{Entry}
+use Rattle.ro_journal.specs.Plan.{plan_of}
 use Rattle.ro_faults.specs.declared.Fault.{Fault}
 use Rattle.ro_pages.specs.Bytes.{Memory}
 use Rattle.ro_kernel.specs.Kernel.{lives_on}
@@ -65,6 +66,7 @@ pub record Holds (job : Job) (odd : ℕ) (journal : List Entry) (core : Core) : 
   pub same_kernel : core.kernel ≡ machine.kernel
   pub same_output : core.output ≡ machine.output
   pub same_end : core.due ≡ machine.ended
+  pub steps_are : core.steps ≡ length (plan_of journal)
   pub ends_well : (how : How) → machine.ended ≡ Some how → IsOver how
   pub not_ended : core.ended ≡ None
   pub as_many : length machine.cpus ≡ length machine.kernel.lives

@@ -1,15 +1,15 @@
 -- What the simulation theorem and the laws beside it say.
-use Rattle.std.specs.Prelude.{◌≡◌, ◌≢◌, ℕ, ◌≤◌, ◌⊎◌, IsTrue, IsSome, List, [], ◌∷◌, ◌++◌, length, Option, Some, None, slice_get}
+use Rattle.std.specs.Prelude.{◌≡◌, ◌≢◌, ℕ, ◌+◌, ◌<◌, ◌≤◌, ◌⊎◌, IsTrue, IsSome, List, [], ◌∷◌, ◌++◌, length, Option, Some, None, slice_get}
 use Rattle.ro_journal.specs.declared.Did.{Did}
 use Rattle.ro_journal.specs.declared.How.{How}
 use Rattle.ro_journal.specs.declared.How.TheVariants.{Exit, Trap, Deadlock, Limit, Differ, NoMajority, Sink}
 use Rattle.ro_journal.specs.declared.Entry.{Entry}
 use Rattle.ro_journal.specs.declared.Entry.TheVariants.{Vote}
-use Rattle.ro_journal.specs.Plan.{outcome_of}
+use Rattle.ro_journal.specs.Plan.{plan_of, outcome_of}
 use Rattle.ro_faults.specs.declared.Fault.{Fault}
 use Rattle.ro_kernel.specs.Kernel.{lives_on}
 use Rattle.ro_replica.specs.Replica.{Replica, stop_of}
-use Rattle.ro_plain.specs.Machine.{Program, Machine, opening, step, run}
+use Rattle.ro_plain.specs.Machine.{Program, Machine, opening, step, run, IsExecution}
 use Rattle.ro_core.specs.Core.{Job, Core, opening_core, view_of}
 use Rattle.ro_core.specs.Event.{Event}
 use Rattle.ro_core.specs.Legal.{event_in, after, replay, output_of}
@@ -127,3 +127,19 @@ StaysAlone program = (threads : List ℕ) (machine : Machine) → run program (o
 pub record NeverDiffers (journal : List Entry) : Type 0 where
   pub no_loser : (before rest : List Entry) (thread count won lost : ℕ) (did : Did) → journal ≢ before ++ Vote thread count won (Some lost) did ∷ rest
   pub no_end : outcome_of journal ≢ Some Differ
+
+-- The steps that would have come are an execution, whose first steps are the plan, and it is longer than the limit.
+pub record PassedLimit (job : Job) (journal : List Entry) (steps next : ℕ) : Type 0 where
+  pub threads : List ℕ
+  pub runs : IsExecution job.program (plan_of journal ++ threads)
+  pub steps_are : steps ≡ length (plan_of journal)
+  pub next_is : next ≡ length threads
+  pub above : job.settings.limit < steps + next
+
+-- Two replicas cannot differ by a fault: there are three of them, or no fault.
+abbrev pub CannotDiffer : Job → Type 0
+CannotDiffer job = (job.settings.replicas ≡ 3) ⊎ (job.faults ≡ [])
+
+-- The journal's end, if it has one, is the program's, unless the sink failed.
+abbrev pub EndsComplete : List Entry → Type 0
+EndsComplete journal = (how : How) → outcome_of journal ≡ Some how → ((bytes : ℕ) → how ≢ Sink bytes) → IsComplete how

@@ -1,15 +1,15 @@
 // The simulation theorem: a legal journal's replicas simulate the unreplicated machine that its plan names.
 #![tactic(auto)]
 
-ghost use Rattle.std.specs.Prelude.{◌≡◌, List, [], ◌∷◌, Some};
-ghost use Rattle.ro_journal.specs.declared.How.TheVariants.{Exit, NoMajority};
+ghost use Rattle.std.specs.Prelude.{◌≡◌, ℕ, List, [], ◌∷◌, Some};
+ghost use Rattle.ro_journal.specs.declared.How.TheVariants.{Exit, Limit, NoMajority};
 ghost use Rattle.ro_journal.specs.declared.Entry.{Entry};
-ghost use Rattle.ro_plain.specs.Machine.{Program};
+ghost use Rattle.ro_plain.specs.Machine.{Program, AllEnd};
 ghost use Rattle.ro_plain.specs.Order.{RaceFree};
 ghost use Rattle.ro_core.specs.Core.{Job};
 ghost use Rattle.ro_core.specs.Legal.{Legal};
 ghost use Rattle.ro_core.specs.Ideal.{StaysApart};
-ghost use Rattle.ro_simulation.specs.Theorem.{Simulates, TwoOrThree, WritesAsIdeal, AllOfOne, StaysAlone, NeverDiffers};
+ghost use Rattle.ro_simulation.specs.Theorem.{Simulates, TwoOrThree, WritesAsIdeal, AllOfOne, StaysAlone, NeverDiffers, PassedLimit, CannotDiffer, EndsComplete};
 ghost use Rattle.ro_simulation.specs.Guests.{exit_guest, locking_guest, usual_job};
 ghost use Rattle.ro_simulation.specs.Rows.{flip_a0, one_struck, two_struck, IsCovered};
 ghost use Rattle.ro_simulation.specs.Drives.{driven};
@@ -42,6 +42,20 @@ pub fn one_thread()
 pub fn no_fault()
     ensures { (job : Job) (journal : List Entry) → RaceFree job.program → job.faults ≡ [] → Legal job journal → NeverDiffers journal }
 {}
+
+/// A limit is passed: where a journal ends by a limit, the steps that would have come next are an execution that is
+/// longer than the limit.
+pub fn limit_is_passed()
+    ensures { (job : Job) (journal : List Entry) → RaceFree job.program → Legal job journal → StaysApart job journal → (steps next : ℕ) → outcome_of journal ≡ Some (Limit steps next) → PassedLimit job journal steps next }
+{
+}
+
+/// Completeness: a program whose executions are no longer than the limit comes to its own end, an exit, a trap or a
+/// deadlock, unless the sink fails.
+pub fn completeness()
+    ensures { (job : Job) (journal : List Entry) → RaceFree job.program → TwoOrThree job → Legal job journal → StaysApart job journal → AllEnd job.program job.settings.limit → CannotDiffer job → EndsComplete journal }
+{
+}
 
 /// A row: one struck register loses the vote, and the program exits with 7.
 pub fn one_struck_row()

@@ -1,12 +1,11 @@
 -- A test of journals by computation: what passes is legal.
-use Rattle.std.specs.Prelude.{◌≡◌, ℕ, zero, suc, ◌+◌, ◌<◌, ◌≤◌, ◌⊎◌, Bool, true, false, ◌&&◌, ◌||◌, ◌==◌, nat_lt, nat_le, List, [], ◌∷◌, Option, Some, None, is_none, is_some}
-use Rattle.std.specs.Option.{option_map_or}
-use Rattle.std.proofs.Common.{refl, sym, ap, ◌∙◌, inl, inr}
-use Rattle.std.proofs.lemmas.Bool.{true≢false, false≢true, eqb-true, leb-true, ltb-true, and_parts}
+use Rattle.std.specs.Prelude.{◌≡◌, ℕ, ◌+◌, ◌≤◌, ◌⊎◌, Bool, true, false, ◌&&◌, ◌||◌, ◌==◌, nat_lt, nat_le, List, [], ◌∷◌, Option, Some, None, is_none, is_some}
+use Rattle.std.proofs.Common.{refl, ap, ◌∙◌, inl, inr}
+use Rattle.std.proofs.lemmas.Bool.{false≢true, eqb-true, leb-true, ltb-true, and_parts}
 use Rattle.ro_journal.specs.declared.Did.{Did}
 use Rattle.ro_journal.specs.declared.Did.TheVariants.{Served, Blocked, Mapped, Watch, Trapped}
 use Rattle.ro_journal.specs.declared.How.{How}
-use Rattle.ro_journal.specs.declared.How.TheVariants.{Exit, NoMajority}
+use Rattle.ro_journal.specs.declared.How.TheVariants.{Exit}
 use Rattle.ro_journal.specs.declared.Entry.{Entry}
 use Rattle.ro_journal.specs.declared.Entry.TheVariants.{Take, Put, Vote, Free, End}
 use Rattle.ro_journal.specs.Plan.{event_steps}
@@ -14,7 +13,7 @@ use Rattle.ro_vote.specs.Verdict.{Verdict, Won, Split, verdict_of}
 use Rattle.ro_replica.specs.Runs.{Ran}
 use Rattle.ro_core.specs.Core.{Job, Core, is_going, is_idle, is_out, is_lendable, may_vote, may_free, views_of}
 use Rattle.ro_core.specs.Event.{Event}
-use Rattle.ro_core.specs.Legal.{arrival, lease_run, since_in, event_in, HasArrived, MayTake, MayPut, MayVote, MayFree, MayEnd, due, IsAllowed, after, LegalFrom}
+use Rattle.ro_core.specs.Legal.{arrival, lease_run, since_in, event_in, HasArrived, MayPut, MayVote, MayEnd, due, IsAllowed, after, LegalFrom}
 
 abbrev pub test_take : Job → Core → (driver replica thread : ℕ) → Bool
 test_take job core driver replica thread = is_going core && nat_lt driver job.settings.drivers && is_idle core driver && is_lendable core replica thread

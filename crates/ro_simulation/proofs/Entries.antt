@@ -117,13 +117,6 @@ module _ (job : Job) (odd : ℕ) (journal : List Entry) (core : Core) (h : Holds
   pub put-going : (h.machine.ended ≡ None) × IsTrue (lives_on h.machine.kernel t)
   put-going = h.lent_live driver replica t may.out
 
-  abbrev put_core : Core
-  put_core = record core {
-    replicas = slice_set core.replicas replica (arrived job t count may.ran.replica);
-    leases = filter (λ lease. not (is_lease driver replica t lease)) core.leases;
-    wrote = 0;
-  }
-
   sound-at : (number : ℕ) (r : Replica) → ((number ≢ replica) × (slice_get core.replicas number ≡ Some r)) ⊎ ((number ≡ replica) × (arrived job t count may.ran.replica ≡ r)) → IsSound job core h.backed number r
   sound-at number r (inl e) = h.sound number r e.1
   sound-at number r (inr e) =

@@ -77,9 +77,6 @@ module _ (job : Job) (free : RaceFree job.program) (before : List ℕ) (backed :
   -- ---- a served call
 
   module _ (call : Call) (kernel : Kernel) (effect : Effect) (stands : next_of job.program middle thread.cpu ≡ Stands (Calls call)) (served : serve (setup_of job.program) middle.kernel t call ≡ Done kernel effect) (own : IsOwn middle.kernel t kernel effect) (tidy : IsTidy middle.kernel t kernel effect) (all_made : length replica.threads ≡ length machine.kernel.lives) (as_many : length machine.cpus ≡ length machine.kernel.lives) where
-    abbrev after : Machine
-    after = affected middle thread.cpu kernel effect (payload_of job.program.image.ranges middle.memory call)
-
     is_of : IsOf effect t
     is_of = record { thread_is = own.thread_is; creator_is = own.creator_is }
 

@@ -99,9 +99,6 @@ module _ (job : Job) (odd : ℕ) (journal : List Entry) (core : Core) (h : Holds
   lives_after = ap (λ (k : Kernel). length k.lives) step.same_kernel
       ∙ (step.one_life_each ∙ ap (λ (k : Kernel). length k.lives + made_count event.effect.made) (sym h.same_kernel))
 
-  abbrev next_core : Core
-  next_core = core_after core t count replicas event
-
   sound_after : (number : ℕ) (r : Replica) → MappedFrom (λ x. cancelled (applied event.effect x)) replicas number r → IsSound job (core_after core t count replicas event) (backed_after event.effect h.backed) number r
   sound_after number r m = subst (IsSound job (core_after core t count replicas event) (backed_after event.effect h.backed) number) m.gives
       (sound-applied job core (core_after core t count replicas event) h.backed number m.from event.effect lives_after some_life (sound number m.from m.there))

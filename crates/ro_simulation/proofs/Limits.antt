@@ -1,5 +1,5 @@
 -- A limit stands only where an execution is longer than it; so a program whose executions are short enough comes to its end.
-use Rattle.std.specs.Prelude.{◌≡◌, ◌≢◌, ℕ, zero, suc, ◌+◌, ◌<◌, ◌≤◌, ◌⊎◌, List, [], ◌∷◌, ◌++◌, length, replicate, Option, Some, None}
+use Rattle.std.specs.Prelude.{◌≡◌, ◌≢◌, ℕ, List, [], ◌∷◌, ◌++◌, length, replicate, Some, None}
 use Rattle.std.proofs.Common.{refl, sym, ap, ◌∙◌, subst, arith, inl, inr, length-append}
 use Rattle.std.proofs.Math.ListN.{length-replicate}
 use Rattle.ro_journal.specs.declared.How.{How}
@@ -7,14 +7,14 @@ use Rattle.ro_journal.specs.declared.How.TheVariants.{Exit, Trap, Deadlock, Limi
 use Rattle.ro_journal.specs.declared.Entry.{Entry}
 use Rattle.ro_journal.specs.declared.Entry.TheVariants.{End}
 use Rattle.ro_journal.specs.Plan.{event_steps, plan_of, outcome_of}
-use Rattle.ro_plain.specs.Machine.{Program, Machine, IsExecution, AllEnd}
+use Rattle.ro_plain.specs.Machine.{IsExecution, AllEnd}
 use Rattle.ro_plain.specs.Order.{RaceFree}
 use Rattle.ro_plain.proofs.Calls.{some-injective}
 use Rattle.ro_core.specs.Core.{Job, Core, opening_core}
-use Rattle.ro_core.specs.Legal.{PassesLimit, MayEnd, due, alone, for_vote, for_free, after, Legal, replay}
+use Rattle.ro_core.specs.Legal.{MayEnd, due, alone, for_vote, for_free, Legal, replay}
 use Rattle.ro_core.specs.Ideal.{StaysApart}
 use Rattle.ro_simulation.specs.Invariant.{IsOver, Holds}
-use Rattle.ro_simulation.specs.Theorem.{TwoOrThree, IsComplete, by_exit, by_trap, by_deadlock, EndsAs, Simulates, NeverDiffers, PassedLimit, CannotDiffer, EndsComplete}
+use Rattle.ro_simulation.specs.Theorem.{TwoOrThree, IsComplete, by_exit, by_trap, by_deadlock, PassedLimit, CannotDiffer, EndsComplete}
 use Rattle.ro_simulation.proofs.Kept.{plan-same}
 use Rattle.ro_simulation.proofs.Votes.{vote-parts, vote-runs}
 use Rattle.ro_simulation.proofs.Frees.{free-parts, free-runs}

@@ -1,5 +1,5 @@
 -- A run of one thread in which no fault is struck: the replica that agreed with the machine still does, one thread further ahead.
-use Rattle.std.specs.Prelude.{◌≡◌, ◌≢◌, ℕ, zero, suc, ◌+◌, ◌⊎◌, Bool, true, false, IsTrue, cond, ◌==◌, List, [], ◌∷◌, ◌++◌, replicate, Option, Some, None, slice_get}
+use Rattle.std.specs.Prelude.{◌≡◌, ◌≢◌, ℕ, zero, suc, ◌+◌, ◌⊎◌, Bool, true, false, IsTrue, cond, ◌==◌, List, [], ◌∷◌, ◌++◌, replicate, Some, None, slice_get}
 use Rattle.std.specs.Option.{option_and_then}
 use Rattle.std.proofs.Common.{refl, sym, ap, ◌∙◌, subst, arith, inl, inr, append_assoc}
 use Rattle.ro_event.specs.declared.stops.Stop.{Stop}
@@ -58,9 +58,6 @@ module _ (job : Job) (free : RaceFree job.program) (before : List ℕ) (machine 
       live = live_end;
       executes = ap (λ (m : Memory). next (layout_of job.program) replica.backed m i.thread.cpu) (sym h.runs_ahead.same_memory) ∙ i.executes;
     }
-
-    end_after : Machine
-    end_after = machine_executed h.runs_ahead.end t i.thread.cpu i.instr
 
     step_end : step job.program h.runs_ahead.end t ≡ Some (machine_executed h.runs_ahead.end t i.thread.cpu i.instr)
     step_end = backed-step job.program replica.backed h.runs_ahead.end t (record {
@@ -140,9 +137,6 @@ module _ (job : Job) (free : RaceFree job.program) (before : List ℕ) (machine 
   -- ---- the stop at which the thread arrives
 
   module _ (count : ℕ) (replica : Replica) (h : AgreesBut job machine replica t) where
-    abbrev stop : Option Stop
-    stop = arrival job t count replica
-
     same_ahead : ahead (arrived job t count replica) ≡ ahead replica
     same_ahead = same-counts-ahead _ _ (counts-changed (with_stop (arrival job t count replica)) (λ x. refl) replica.threads t)
 

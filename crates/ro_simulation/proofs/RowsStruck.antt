@@ -1,7 +1,7 @@
 -- One struck register is covered by the simulation theorem; two replicas struck alike are not.
-use Rattle.std.specs.Prelude.{◌≡◌, ◌≢◌, ℕ, zero, suc, ◌+◌, ◌<◌, ◌≤◌, true, List, [], ◌∷◌, ◌++◌, length, Option, Some, None, slice_get, slice_index}
+use Rattle.std.specs.Prelude.{◌≡◌, ◌≢◌, ℕ, zero, suc, ◌≤◌, true, List, [], ◌∷◌, length, Option, Some, None, slice_get, slice_index}
 use Rattle.std.specs.Option.{option_map}
-use Rattle.std.proofs.Common.{refl, sym, ap, ◌∙◌, subst, arith, inl, inr}
+use Rattle.std.proofs.Common.{refl, sym, ap, ◌∙◌, arith, inr}
 use Rattle.std.proofs.Math.Dec.{lit<, lit≤}
 use Rattle.ro_decode.specs.Table.{instruction_of}
 use Rattle.ro_event.specs.Table.{call_at}
@@ -17,18 +17,17 @@ use Rattle.ro_kernel.specs.Serve.{serve, payload_of}
 use Rattle.ro_journal.specs.declared.Did.TheVariants.{Served}
 use Rattle.ro_journal.specs.declared.How.TheVariants.{Exit, Sink}
 use Rattle.ro_journal.specs.declared.Entry.{Entry}
-use Rattle.ro_journal.specs.declared.Entry.TheVariants.{Take, Put, Vote, Free, End}
+use Rattle.ro_journal.specs.declared.Entry.TheVariants.{Take, Put, Vote, End}
 use Rattle.ro_journal.specs.Plan.{outcome_of}
 use Rattle.ro_vote.specs.Verdict.{verdict_of}
 use Rattle.ro_faults.specs.declared.Fault.{Fault}
 use Rattle.ro_replica.specs.Replica.{Replica, opening_replica, applied, cancelled, recovered}
 use Rattle.ro_replica.specs.Runs.{struck, execute}
-use Rattle.ro_plain.specs.Machine.{Program, Machine, opening, steppable, step, run}
-use Rattle.ro_plain.specs.Order.{RaceFree}
+use Rattle.ro_plain.specs.Machine.{Machine, opening, steppable, step, run}
 use Rattle.ro_core.specs.Core.{Job, opening_core}
 use Rattle.ro_core.specs.Event.{event_of}
-use Rattle.ro_core.specs.Legal.{Legal, after, output_of, replay, due}
-use Rattle.ro_core.specs.Ideal.{ideal, ahead, IsAlike, StaysApart}
+use Rattle.ro_core.specs.Legal.{Legal, after, output_of, due}
+use Rattle.ro_core.specs.Ideal.{ahead, IsAlike, StaysApart}
 use Rattle.ro_simulation.specs.Theorem.{StaysAlone, AllOfOne, Simulates}
 use Rattle.ro_simulation.specs.Invariant.{Listed}
 use Rattle.ro_simulation.specs.Guests.{exit_guest, usual_job}

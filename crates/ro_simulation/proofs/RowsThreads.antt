@@ -1,6 +1,6 @@
 -- The two-thread guest that locks round its writes: the journal of one driver is covered.
-use Rattle.std.specs.Prelude.{◌≡◌, ◌≢◌, ℕ, zero, suc, ◌+◌, true, Bool, List, [], ◌∷◌, ◌++◌, Option, Some, None, slice_get}
-use Rattle.std.proofs.Common.{refl, sym, ap, ◌∙◌, inl, inr}
+use Rattle.std.specs.Prelude.{◌≡◌, ℕ, true, List, [], ◌∷◌, Some, None}
+use Rattle.std.proofs.Common.{refl, sym, ◌∙◌, inr}
 use Rattle.ro_decode.specs.Table.{instruction_of}
 use Rattle.ro_event.specs.Table.{call_at}
 use Rattle.ro_region.specs.Permission.{permits_of}
@@ -9,12 +9,10 @@ use Rattle.ro_exec.specs.Meaning.{meaning}
 use Rattle.ro_exec.specs.Next.{fetch_stop, instruction_stop, next}
 use Rattle.ro_exec.specs.Threads.{first_cpu, made_cpu}
 use Rattle.ro_kernel.specs.Serve.{serve, payload_of}
-use Rattle.ro_journal.specs.declared.How.{How}
 use Rattle.ro_journal.specs.declared.How.TheVariants.{Exit, Sink}
 use Rattle.ro_journal.specs.declared.Entry.{Entry}
 use Rattle.ro_journal.specs.Plan.{outcome_of}
 use Rattle.ro_vote.specs.Verdict.{verdict_of}
-use Rattle.ro_faults.specs.declared.Fault.{Fault}
 use Rattle.ro_replica.specs.Replica.{opening_replica, applied, cancelled, recovered}
 use Rattle.ro_replica.specs.Runs.{struck, execute}
 use Rattle.ro_plain.specs.Order.{RaceFree}
@@ -24,7 +22,6 @@ use Rattle.ro_core.specs.Event.{event_of}
 use Rattle.ro_core.specs.Legal.{Legal, after, output_of}
 use Rattle.ro_core.specs.Ideal.{StaysApart}
 use Rattle.ro_core.specs.Action.{next_action}
-use Rattle.ro_simulation.specs.Invariant.{Listed}
 use Rattle.ro_simulation.specs.Theorem.{Simulates, AllOfOne}
 use Rattle.ro_simulation.specs.Guests.{locking_guest, usual_job}
 use Rattle.ro_simulation.specs.Drives.{driven}

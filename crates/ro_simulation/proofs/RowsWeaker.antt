@@ -1,9 +1,7 @@
 -- The run that shows the weaker form of alike to be too weak.
-use Rattle.std.specs.Prelude.{◌≡◌, ◌≢◌, ℕ, zero, suc, ◌+◌, ◌<◌, ◌≤◌, Bool, true, false, IsTrue, List, [], ◌∷◌, ◌++◌, length, Option, Some, None, slice_get}
-use Rattle.std.specs.Option.{option_map}
-use Rattle.std.proofs.Common.{refl, sym, ap, ◌∙◌, subst, arith, inl, inr}
+use Rattle.std.specs.Prelude.{◌≡◌, ◌≢◌, ℕ, zero, suc, List, [], ◌∷◌, Some, None, slice_get}
+use Rattle.std.proofs.Common.{refl, sym, ap, ◌∙◌, subst, inr}
 use Rattle.std.proofs.Math.Dec.{lit<, lit≤}
-use Rattle.std.proofs.lemmas.Bool.{false≢true}
 use Rattle.ro_decode.specs.Table.{instruction_of}
 use Rattle.ro_event.specs.Table.{call_at}
 use Rattle.ro_event.specs.declared.stops.Stop.{Stop}
@@ -15,16 +13,15 @@ use Rattle.ro_exec.specs.Threads.{first_cpu, made_cpu}
 use Rattle.ro_kernel.specs.Serve.{serve, payload_of}
 use Rattle.ro_journal.specs.declared.How.TheVariants.{NoMajority}
 use Rattle.ro_journal.specs.declared.Entry.{Entry}
-use Rattle.ro_journal.specs.declared.Entry.TheVariants.{Take, Put, Vote, Free, End}
 use Rattle.ro_vote.specs.Verdict.{verdict_of}
 use Rattle.ro_thread.specs.declared.Thread.{Thread}
 use Rattle.ro_replica.specs.Replica.{Replica, opening_replica, applied, cancelled, recovered}
 use Rattle.ro_replica.specs.Runs.{struck, execute, standing_in}
-use Rattle.ro_plain.specs.Machine.{Program, layout_of, Machine, opening, steppable, step, run, PlainRun, done, then_plain}
+use Rattle.ro_plain.specs.Machine.{layout_of, Machine, opening, steppable, step, PlainRun, done, then_plain}
 use Rattle.ro_plain.proofs.Calls.{some-injective}
 use Rattle.ro_core.specs.Core.{Job, opening_core}
 use Rattle.ro_core.specs.Event.{event_of}
-use Rattle.ro_core.specs.Legal.{Legal, LegalFrom, after, replay, for_vote}
+use Rattle.ro_core.specs.Legal.{Legal, after, replay, for_vote}
 use Rattle.ro_plain.specs.Order.{RaceFree}
 use Rattle.ro_core.specs.Ideal.{ideal, ahead, StaysApart}
 use Rattle.ro_simulation.specs.Theorem.{StaysAlone}

@@ -4,7 +4,7 @@ use Rattle.std.proofs.Common.{refl, sym, ap, ◌∙◌, subst, arith, inl, inr, 
 use Rattle.std.proofs.lemmas.Bool.{true≢false, cases_eq}
 use Rattle.ro_event.specs.Views.{View, same_view}
 use Rattle.ro_event.proofs.Same.{view-true, view-same}
-use Rattle.ro_vote.specs.Verdict.{Verdict, Won, Split, verdict_of}
+use Rattle.ro_vote.specs.Verdict.{Won, Split, verdict_of}
 use Rattle.ro_plain.proofs.Calls.{some-injective}
 
 -- every view but that at this place is the good one
@@ -49,9 +49,6 @@ module _ (odd : ℕ) (good : View) where
         winner = ap (slice_get (a ∷ b ∷ [])) (sym zero_won) ∙ ap Some (both-good (a ∷ b ∷ []) 0 1 a b h refl refl (λ (f : 0 ≡ 1). omega arith) (view-true a b e));
         loser = λ l f. no-loser l odd won (none_lost ∙ f);
       }
-
-  abbrev three : Bool → Bool → Bool → Verdict
-  three ab ac bc = cond ab (cond ac (Won 0 None) (Won 0 (Some 2))) (cond ac (Won 0 (Some 1)) (cond bc (Won 1 (Some 0)) Split))
 
   -- the views that are alike are those of two places, the loser's is another
   by-pair : (views : List View) (i j l won : ℕ) (lost : Option ℕ) (a b c : View) → AllBut odd good views → slice_get views i ≡ Some a → slice_get views j ≡ Some b → slice_get views l ≡ Some c → i ≢ j → i ≢ l → a ≡ b → a ≢ c → Won i (Some l) ≡ Won won lost → WonWell odd good views won lost

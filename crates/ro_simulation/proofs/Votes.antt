@@ -143,13 +143,13 @@ module _ (job : Job) (free : RaceFree job.program) (odd : ℕ) (journal : List E
     pub same-as-good : (r : Replica) (agree : Agrees job h.machine r) (same : r.backed ≡ h.backed) (s : StoppedIn r t) → s.thread.since ≤ job.settings.watchdog → SameArrival job h.backed h.machine r good.replica t s.thread good.thread s.stop good.stop (arrives-at r agree same s) good.arrival
     same-as-good r agree same s low = same-arrival job h.backed h.machine r good.replica t s.thread good.thread s.stop good.stop (arrives-at r agree same s) good.arrival low good.within
 
-    good-view-of : (r : Replica) → Agrees job h.machine r → r.backed ≡ h.backed → (s : StoppedIn r t) → s.thread.since ≤ job.settings.watchdog → view_of job.program.image.ranges t r ≡ Some (machine_view job.program.image.ranges good.arrival.middle good.thread.cpu good.thread.since good.stop)
+    good-view-of : (r : Replica) → Agrees job h.machine r → r.backed ≡ h.backed → (s : StoppedIn r t) → s.thread.since ≤ job.settings.watchdog → view_of job.program.image.ranges t r ≡ Some good_view
     good-view-of r agree same s low =
         let k = same-as-good r agree same s low in
         view-is job free (plan_of journal) h.machine h.ideal_is h.backed r t s.thread s.stop (arrives-at r agree same s) s.there s.stopped
         ∙ (λ i. Some (machine_view job.program.image.ranges (k.same_middle i) (k.same_cpu i) (k.same_since i) (k.same_stop i)))
 
-    pub all-but-odd : AllBut odd (machine_view job.program.image.ranges good.arrival.middle good.thread.cpu good.thread.since good.stop) (views_of job core t)
+    pub all-but-odd : AllBut odd good_view (views_of job core t)
     all-but-odd = record {
       others = λ i v d e.
           let short = slice_get_within (views_of job core t) i v e in
@@ -168,12 +168,12 @@ module _ (job : Job) (free : RaceFree job.program) (odd : ℕ) (journal : List E
       pub same_stop : shown.stop ≡ good.stop
       pub same_payload : payload_at job.program.image.ranges winner.memory shown.stop ≡ payload_at job.program.image.ranges good.arrival.middle.memory good.stop
 
-    pub winner-shows : (won : ℕ) → slice_get (views_of job core t) won ≡ Some (machine_view job.program.image.ranges good.arrival.middle good.thread.cpu good.thread.since good.stop) → WinnerShows won
+    pub winner-shows : (won : ℕ) → slice_get (views_of job core t) won ≡ Some good_view → WinnerShows won
     winner-shows won e =
         let short = slice_get_within (views_of job core t) won _ e in
         let at = get-within core.replicas won (let n = views-as-long in omega arith) in
         let s = stops-at won at.0 at.1 in
-        let same : view_with job.program.image.ranges at.0 s.thread s.stop ≡ machine_view job.program.image.ranges good.arrival.middle good.thread.cpu good.thread.since good.stop =
+        let same : view_with job.program.image.ranges at.0 s.thread s.stop ≡ good_view =
         some-injective (sym (view-of-stopped job.program.image.ranges at.0 t s) ∙ (sym (view-at won at.0 at.1) ∙ e)) in
         record {
           winner = at.0;
@@ -191,7 +191,7 @@ module _ (job : Job) (free : RaceFree job.program) (odd : ℕ) (journal : List E
     abbrev pub good_event : Event
     good_event = event_of (setup_of job.program) good.arrival.middle.kernel t good.stop (payload_at job.program.image.ranges good.arrival.middle.memory good.stop)
 
-    event-is : (won : ℕ) (w : WinnerShows won) → event_in job core t won ≡ Some (event_of (setup_of job.program) good.arrival.middle.kernel t good.stop (payload_at job.program.image.ranges good.arrival.middle.memory good.stop))
+    event-is : (won : ℕ) (w : WinnerShows won) → event_in job core t won ≡ Some good_event
     event-is won w =
         ap (option_and_then (λ (r : Replica). option_map (event_with job core t r) (stop_of r t))) w.winner_there
         ∙ (ap (λ (o : Option Thread). option_map (event_with job core t w.winner) (option_and_then (λ (x : Thread). x.stop) o)) w.shown.there
@@ -203,12 +203,12 @@ module _ (job : Job) (free : RaceFree job.program) (odd : ℕ) (journal : List E
         ap (option_and_then (λ (r : Replica). option_map (λ (x : Thread). x.since) (slice_get r.threads t))) w.winner_there
         ∙ (ap (option_map (λ (x : Thread). x.since)) w.shown.there ∙ ap Some w.same_since)
 
-    pub has-good-event : HasEvent job h.backed h.machine good.arrival.middle t (event_of (setup_of job.program) good.arrival.middle.kernel t good.stop (payload_at job.program.image.ranges good.arrival.middle.memory good.stop))
+    pub has-good-event : HasEvent job h.backed h.machine good.arrival.middle t good_event
     has-good-event = step-of-stop job free (plan_of journal) h.backed h.machine good.arrival.middle h.ideal_is going t good.thread.since live-in-machine good.arrival.comes.own good.thread.cpu good.arrival.comes.live h.as_many good.stop
         (λ kind. next-at-middle job free (plan_of journal) h.machine h.ideal_is h.backed good.replica t good.thread good.stop kind good.arrival)
 
     -- a stop that is kept stands also at the count 0
-    stands-at-zero : (r : Replica) (agree : Agrees job h.machine r) (s : StoppedIn r t) → s.thread.since ≤ job.settings.watchdog → s.stop ≡ good.stop → (stop : Stop) → (event_of (setup_of job.program) good.arrival.middle.kernel t good.stop (payload_at job.program.image.ranges good.arrival.middle.memory good.stop)).effect.releases ≡ false → s.thread.stop ≡ Some stop → standing (layout_of job.program) job.settings.watchdog r.backed r.memory s.thread.cpu 0 ≡ Some stop
+    stands-at-zero : (r : Replica) (agree : Agrees job h.machine r) (s : StoppedIn r t) → s.thread.since ≤ job.settings.watchdog → s.stop ≡ good.stop → (stop : Stop) → good_event.effect.releases ≡ false → s.thread.stop ≡ Some stop → standing (layout_of job.program) job.settings.watchdog r.backed r.memory s.thread.cpu 0 ≡ Some stop
     stands-at-zero r agree s low same stop kept_stop e = by stop (some-injective (sym s.stopped ∙ e))
       where
         stands : standing (layout_of job.program) job.settings.watchdog r.backed r.memory s.thread.cpu s.thread.since ≡ Some s.stop
@@ -238,7 +238,7 @@ module _ (job : Job) (free : RaceFree job.program) (odd : ℕ) (journal : List E
       pub stopped : StoppedIn r t
       pub low : stopped.thread.since ≤ job.settings.watchdog
 
-    meets : (r : Replica) → Fits r → Meets job h.machine good.arrival.middle h.backed t (event_of (setup_of job.program) good.arrival.middle.kernel t good.stop (payload_at job.program.image.ranges good.arrival.middle.memory good.stop)) r
+    meets : (r : Replica) → Fits r → Meets job h.machine good.arrival.middle h.backed t good_event r
     meets r f =
         let k = same-as-good r f.agree f.same f.stopped f.low in
         record {
@@ -283,23 +283,23 @@ module _ (job : Job) (free : RaceFree job.program) (odd : ℕ) (journal : List E
           by (is_copy w l same w_there l_there g) =
               subst Fits g (fits-copied w l ((h.sound won w w_there).all_made ∙ sym (h.sound lost l l_there).all_made) (fits-as-it-is won w d w_there))
 
-    module _ (count won : ℕ) (lost : Option ℕ) (did : Did) (may : MayVote job core t count won lost did) (well : WonWell odd (machine_view job.program.image.ranges good.arrival.middle good.thread.cpu good.thread.since good.stop) (views_of job core t) won lost) where
+    module _ (count won : ℕ) (lost : Option ℕ) (did : Did) (may : MayVote job core t count won lost did) (well : WonWell odd good_view (views_of job core t) won lost) where
       shows : WinnerShows won
       shows = winner-shows won well.winner
 
       count_is : good.thread.since ≡ count
       count_is = some-injective (sym (since-is won (winner-shows won well.winner)) ∙ may.count_is)
 
-      event_same : event_of (setup_of job.program) good.arrival.middle.kernel t good.stop (payload_at job.program.image.ranges good.arrival.middle.memory good.stop) ≡ may.event
+      event_same : good_event ≡ may.event
       event_same = some-injective (sym (event-is won (winner-shows won well.winner)) ∙ may.comes)
 
-      plan_same : replicate count t ++ replicate (event_steps did) t ≡ replicate good.thread.since t ++ replicate (event_steps (event_of (setup_of job.program) good.arrival.middle.kernel t good.stop (payload_at job.program.image.ranges good.arrival.middle.memory good.stop)).did) t
+      plan_same : replicate count t ++ replicate (event_steps did) t ≡ replicate good.thread.since t ++ replicate (event_steps good_event.did) t
       plan_same = ap₂ (λ (n : ℕ) (d : Did). replicate n t ++ replicate (event_steps d) t) (sym count_is) (sym (ap (λ (e : Event). e.did) event_same ∙ may.did_is))
 
-      after-is : core_after core t good.thread.since (with_recovered won lost core.replicas) (event_of (setup_of job.program) good.arrival.middle.kernel t good.stop (payload_at job.program.image.ranges good.arrival.middle.memory good.stop)) ≡ after job core (Vote t count won lost did)
+      after-is : core_after core t good.thread.since (with_recovered won lost core.replicas) good_event ≡ after job core (Vote t count won lost did)
       unfolding after
       after-is =
-          ap (λ (n : ℕ). core_after core t n (with_recovered won lost core.replicas) (event_of (setup_of job.program) good.arrival.middle.kernel t good.stop (payload_at job.program.image.ranges good.arrival.middle.memory good.stop))) count_is
+          ap (λ (n : ℕ). core_after core t n (with_recovered won lost core.replicas) good_event) count_is
           ∙ ap (core_after_event core t count (with_recovered won lost core.replicas)) (sym (event-is won (winner-shows won well.winner)))
 
       -- the invariant with any odd replica, where all others fit

@@ -1,5 +1,5 @@
 -- The journal that one driver makes, which always does what comes next and runs each lease at once.
-use Rattle.std.specs.Prelude.{ℕ, zero, suc, ◌+◌, Bool, true, false, List, [], ◌∷◌, length, Option, Some, None, slice_get}
+use Rattle.std.specs.Prelude.{ℕ, zero, suc, List, [], ◌∷◌, slice_get}
 use Rattle.std.specs.Option.{option_map_or}
 use Rattle.ro_exec.specs.Next.{Layout}
 use Rattle.ro_journal.specs.declared.Did.TheVariants.{Watch}

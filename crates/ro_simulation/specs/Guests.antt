@@ -1,10 +1,9 @@
 -- Small guests and their jobs.
-use Rattle.std.specs.Prelude.{ℕ, ◌+◌, Bool, true, false, List, [], ◌∷◌, ◌++◌, Option, Some, None, replicate}
+use Rattle.std.specs.Prelude.{ℕ, Bool, true, false, List, [], ◌∷◌, ◌++◌, Some, None, replicate}
 use Rattle.std.specs.List.{flat_map}
 use Rattle.ro_event.specs.declared.table.CallTable.{CallTable}
-use Rattle.ro_region.specs.declared.Range.{Range}
 use Rattle.ro_pages.specs.Bytes.{bytes_of}
-use Rattle.ro_image.specs.Image.{Image, ranges_with}
+use Rattle.ro_image.specs.Image.{ranges_with}
 use Rattle.ro_faults.specs.declared.Fault.{Fault}
 use Rattle.ro_plain.specs.Machine.{Program}
 use Rattle.ro_core.specs.Core.{Job}

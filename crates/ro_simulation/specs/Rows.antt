@@ -1,5 +1,5 @@
 -- Worked rows: journals of small guests.
-use Rattle.std.specs.Prelude.{◌≡◌, ℕ, List, [], ◌∷◌, Option, Some, None}
+use Rattle.std.specs.Prelude.{◌≡◌, ℕ, List, [], ◌∷◌, Some}
 use Rattle.ro_journal.specs.declared.Did.TheVariants.{Served}
 use Rattle.ro_journal.specs.declared.How.{How}
 use Rattle.ro_journal.specs.declared.How.TheVariants.{Exit}
@@ -7,11 +7,9 @@ use Rattle.ro_journal.specs.declared.Entry.{Entry}
 use Rattle.ro_journal.specs.declared.Entry.TheVariants.{Take, Put, Vote, End}
 use Rattle.ro_faults.specs.declared.Fault.{Fault}
 use Rattle.ro_faults.specs.declared.Target.TheVariants.{Register}
-use Rattle.ro_plain.specs.Machine.{Program, Machine}
-use Rattle.ro_plain.specs.Order.{RaceFree}
 use Rattle.ro_core.specs.Core.{Job}
-use Rattle.ro_core.specs.Legal.{Legal, output_of}
-use Rattle.ro_core.specs.Ideal.{ideal, StaysApart}
+use Rattle.ro_core.specs.Legal.{Legal}
+use Rattle.ro_core.specs.Ideal.{StaysApart}
 use Rattle.ro_simulation.specs.Theorem.{Simulates}
 
 -- the lowest bit of a0 flips in a replica after its first instruction

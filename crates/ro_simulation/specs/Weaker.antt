@@ -1,5 +1,5 @@
 -- A weaker form of alike, and the run that shows that it is too weak: a struck replica slips past a page fault.
-use Rattle.std.specs.Prelude.{◌≡◌, ◌≢◌, ℕ, ◌<◌, IsTrue, Bool, false, List, [], ◌∷◌, ◌++◌, Option, Some, None, slice_get}
+use Rattle.std.specs.Prelude.{◌≡◌, ◌≢◌, ℕ, ◌<◌, IsTrue, false, List, [], ◌∷◌, ◌++◌, Some, None, slice_get}
 use Rattle.ro_event.specs.declared.stops.Stop.{Stop}
 use Rattle.ro_journal.specs.declared.Did.TheVariants.{Mapped}
 use Rattle.ro_journal.specs.declared.How.TheVariants.{NoMajority}
@@ -15,7 +15,7 @@ use Rattle.ro_plain.specs.Machine.{Program, layout_of, Machine, PlainRun}
 use Rattle.ro_core.specs.Core.{Job}
 use Rattle.ro_core.specs.Legal.{replay}
 use Rattle.ro_core.specs.Ideal.{ideal, ahead}
-use Rattle.ro_simulation.specs.Guests.{no_calls, guest, usual_job}
+use Rattle.ro_simulation.specs.Guests.{no_calls, guest}
 
 -- Alike, but for the demand that the replica ran ahead on backed pages only.
 pub record IsNearlyAlike (job : Job) (journal : List Entry) (replica : Replica) : Type 0 where

@@ -47,34 +47,29 @@ pub fn no_fault()
 /// longer than the limit.
 pub fn limit_is_passed()
     ensures { (job : Job) (journal : List Entry) → RaceFree job.program → Legal job journal → StaysApart job journal → (steps next : ℕ) → outcome_of journal ≡ Some (Limit steps next) → PassedLimit job journal steps next }
-{
-}
+{}
 
 /// Completeness: a program whose executions are no longer than the limit comes to its own end, an exit, a trap or a
 /// deadlock, unless the sink fails.
 pub fn completeness()
     ensures { (job : Job) (journal : List Entry) → RaceFree job.program → TwoOrThree job → Legal job journal → StaysApart job journal → AllEnd job.program job.settings.limit → CannotDiffer job → EndsComplete journal }
-{
-}
+{}
 
 /// A row: one struck register loses the vote, and the program exits with 7.
 pub fn one_struck_row()
     ensures { IsCovered (usual_job exit_guest (flip_a0 1 ∷ [])) one_struck (Exit 7) [] }
-{
-}
+{}
 
 /// A row: where two replicas are struck alike, the journal is legal, but faults do not stay apart.
 pub fn two_struck_row()
     ensures legal { Legal (usual_job exit_guest (flip_a0 0 ∷ flip_a0 1 ∷ [])) two_struck }
     ensures not_apart { StaysApart (usual_job exit_guest (flip_a0 0 ∷ flip_a0 1 ∷ [])) two_struck → ⊥ }
-{
-}
+{}
 
 /// A row: two threads that lock round their writes, in the journal of one driver.
 pub fn locking_row()
     ensures { RaceFree locking_guest → IsCovered (usual_job locking_guest []) (driven 200 (usual_job locking_guest [])) (Exit 0) (65 ∷ 66 ∷ []) }
-{
-}
+{}
 
 /// A row: alike has to ask that touched pages are backed. With the weaker form faults stay apart in a legal journal of a
 /// race-free program that comes to no majority.
@@ -84,5 +79,4 @@ pub fn weaker_alike_row()
     ensures nearly_apart { StaysNearlyApart (usual_job loading_guest slipping) slipped }
     ensures no_majority { outcome_of slipped ≡ Some NoMajority }
     ensures not_apart { StaysApart (usual_job loading_guest slipping) slipped → ⊥ }
-{
-}
+{}

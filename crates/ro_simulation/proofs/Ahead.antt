@@ -24,10 +24,12 @@ pub record StepsBacked (program : Program) (backed : Backed) (machine : Machine)
   pub live : steppable machine t ≡ Some cpu
   pub executes : next (layout_of program) backed machine.memory cpu ≡ Executes instr
 
+-- such a step is a plain instruction
 pub plain-of : (program : Program) (backed : Backed) (machine : Machine) (t : ℕ) → StepsBacked program backed machine t → IsPlain program machine t
 plain-of program backed machine t h =
     record { cpu = h.cpu; instr = h.instr; live = h.live; executes = executes-backed (layout_of program) backed machine.memory h.cpu h.instr h.executes }
 
+-- its instruction is what the thread does next
 pub plain-executes : (program : Program) (backed : Backed) (machine : Machine) (t : ℕ) (h : StepsBacked program backed machine t) → next_of program machine h.cpu ≡ Executes h.instr
 plain-executes program backed machine t h = executes-backed (layout_of program) backed machine.memory h.cpu h.instr h.executes
 
@@ -38,31 +40,37 @@ backed-step program backed machine t h = plain-step program machine t (plain-of 
 
 -- ---- runs in parts
 
+-- a run of two lists of steps, and the machine between them
 pub record BackedParts (program : Program) (backed : Backed) (machine : Machine) (xs ys : List ℕ) (end : Machine) : Type 0 where
   pub middle : Machine
   pub front : BackedRun program backed machine xs middle
   pub back : BackedRun program backed middle ys end
 
+-- a run of two lists can be cut between them
 pub BackedRun-split : (program : Program) (backed : Backed) (machine end : Machine) (xs ys : List ℕ) → BackedRun program backed machine (xs ++ ys) end → BackedParts program backed machine xs ys end
 BackedRun-split program backed machine end [] ys h = record { middle = machine; front = nothing_left; back = h }
 BackedRun-split program backed machine end (x ∷ xs) ys (then_backed {after = next} cpu instr live ex e rest) =
     let parts = BackedRun-split program backed next end xs ys rest in
     record { middle = parts.middle; front = then_backed cpu instr live ex e parts.front; back = parts.back }
 
+-- a run and one from its end are one run
 pub BackedRun-join : (program : Program) (backed : Backed) {machine middle end : Machine} {xs ys : List ℕ} → BackedRun program backed machine xs middle → BackedRun program backed middle ys end → BackedRun program backed machine (xs ++ ys) end
 BackedRun-join program backed nothing_left k = k
 BackedRun-join program backed (then_backed cpu instr live ex e rest) k = then_backed cpu instr live ex e (BackedRun-join program backed rest k)
 
+-- the first step of a run, and the others
 pub record BackedHead (program : Program) (backed : Backed) (machine : Machine) (t : ℕ) (rest : List ℕ) (end : Machine) : Type 0 where
   pub after : Machine
   pub backed_step : StepsBacked program backed machine t
   pub steps : step program machine t ≡ Some after
   pub runs : BackedRun program backed after rest end
 
+-- a run of one step and more begins with that step
 pub BackedRun-head : (program : Program) (backed : Backed) (machine end : Machine) (t : ℕ) (rest : List ℕ) → BackedRun program backed machine (t ∷ rest) end → BackedHead program backed machine t rest end
 BackedRun-head program backed machine end t rest (then_backed {after = next} cpu instr live ex e runs) =
     record { after = next; backed_step = record { cpu = cpu; instr = instr; live = live; executes = ex }; steps = e; runs = runs }
 
+-- a step and a run from its machine are one run
 pub then-step : (program : Program) (backed : Backed) {machine after end : Machine} {t : ℕ} {rest : List ℕ} → StepsBacked program backed machine t → step program machine t ≡ Some after → BackedRun program backed after rest end → BackedRun program backed machine (t ∷ rest) end
 then-step program backed h e runs = then_backed h.cpu h.instr h.live h.executes e runs
 
@@ -85,6 +93,7 @@ pub record KeepsRest (machine end : Machine) : Type 0 where
   pub same_end : end.ended ≡ machine.ended
   pub same_length : length end.cpus ≡ length machine.cpus
 
+-- a run of plain steps keeps all but memory and registers
 pub BackedRun-keeps : (program : Program) (backed : Backed) {machine end : Machine} {xs : List ℕ} → BackedRun program backed machine xs end → KeepsRest machine end
 BackedRun-keeps program backed nothing_left = record { same_kernel = refl; same_output = refl; same_end = refl; same_length = refl }
 BackedRun-keeps program backed (then_backed {machine = machine} {after = after} {thread = x} cpu instr live ex e rest) =
@@ -99,11 +108,13 @@ BackedRun-keeps program backed (then_backed {machine = machine} {after = after} 
 
 -- ---- a list of steps from the opening, and more
 
+-- a list of steps from the opening, and a run from there
 pub reach-run : (program : Program) (backed : Backed) (before : List ℕ) {machine end : Machine} {xs : List ℕ} → run program (opening program) before ≡ Some machine → BackedRun program backed machine xs end → run program (opening program) (before ++ xs) ≡ Some end
 reach-run program backed before {machine} {end} {xs} reached h =
     run-append program (opening program) before xs ∙ (ap (option_and_then (λ m. run program m xs)) reached ∙ BackedRun-run program backed h)
 
 module _ (program : Program) (free : RaceFree program) (backed : Backed) where
+  -- the program goes on after a plain step
   step-going : (machine after : Machine) (t : ℕ) → StepsBacked program backed machine t → step program machine t ≡ Some after → after.ended ≡ None
   step-going machine after t h e =
       let p = plain-of program backed machine t h in PlainRun-going program machine t p after e ∙ plain-going program machine t p
@@ -116,6 +127,7 @@ module _ (program : Program) (free : RaceFree program) (backed : Backed) where
     pub runs : BackedRun program backed after others last
     pub backed_too : StepsBacked program backed end t → StepsBacked program backed machine t
 
+  -- a step at the end of what others ran ahead can come first
   pub take-before : (before : List ℕ) (t : ℕ) {machine end : Machine} {others : List ℕ} (last : Machine) → run program (opening program) before ≡ Some machine → BackedRun program backed machine others end → Without t others → step program end t ≡ Some last → last.ended ≡ None → TakenBefore machine t others end last
   take-before before t last reached nothing_left apart e going = record { after = last; step_t = e; goes_on = going; runs = nothing_left; backed_too = λ q. q }
   take-before before t {machine} {end} last reached (then_backed {after = next} {thread = x} {threads = others} cpu instr live ex sx rest) apart e going =
@@ -144,6 +156,7 @@ module _ (program : Program) (free : RaceFree program) (backed : Backed) where
     pub goes_on : last.ended ≡ None
     pub runs : BackedRun program backed after others last
 
+  -- a step can come behind what others have run ahead
   pub take-after : (before : List ℕ) (t : ℕ) {machine end : Machine} {others : List ℕ} (after : Machine) → run program (opening program) before ≡ Some machine → BackedRun program backed machine others end → Without t others → step program machine t ≡ Some after → after.ended ≡ None → TakenAfter after t others end
   take-after before t after reached nothing_left apart e going = record { last = after; step_t = e; goes_on = going; runs = nothing_left }
   take-after before t {machine} {end} after reached (then_backed {after = next} {thread = x} {threads = others} cpu instr live ex sx rest) apart e going =

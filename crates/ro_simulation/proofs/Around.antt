@@ -5,14 +5,17 @@ use Rattle.ro_thread.specs.declared.Thread.{Thread}
 use Rattle.ro_plain.proofs.Ahead.{Without}
 use Rattle.ro_core.specs.Ideal.{ahead_from}
 
+-- neither of two lists has the thread
 pub Without-append : (t : ℕ) (xs ys : List ℕ) → Without t xs → Without t ys → Without t (xs ++ ys)
 Without-append t [] ys h k = k
 Without-append t (x ∷ xs) ys h k = (h.0, Without-append t xs ys h.1 k)
 
+-- the steps of another thread are not the thread's
 pub Without-replicate : (t n x : ℕ) → x ≢ t → Without t (replicate n x)
 Without-replicate t zero x h = tt
 Without-replicate t (suc n) x h = (h, Without-replicate t n x h)
 
+-- threads of higher numbers run other steps
 Without-later : (t k : ℕ) (threads : List Thread) → t < k → Without t (ahead_from k threads)
 Without-later t k [] h = tt
 Without-later t k (thread ∷ threads) h =
@@ -26,6 +29,7 @@ pub record Around (k : ℕ) (threads : List Thread) (t number : ℕ) : Type 0 wh
   pub front_without : Without number front
   pub back_without : Without number back
 
+-- the steps round those of a thread that was made
 pub around : (k : ℕ) (threads : List Thread) (t number : ℕ) (thread : Thread) → slice_get threads t ≡ Some thread → k + t ≡ number → Around k threads t number
 around k [] t number thread h e = absurd (let f : None ≡ Some thread = h in cc)
 around k (x ∷ threads) zero number thread h e = let same : k ≡ number = omega arith in record {

@@ -22,6 +22,7 @@ pub record CopiedFrom (winners : List Thread) (i : ℕ) (y : Thread) : Type 0 wh
   pub retired : ℕ
   pub is : record from { done = retired } ≡ y
 
+-- each thread of a copy comes from the winner
 pub copied-from : (winners losers : List Thread) (i : ℕ) (y : Thread) → slice_get (copied_threads winners losers) i ≡ Some y → CopiedFrom winners i y
 copied-from [] losers i y e = absurd (let f : None ≡ Some y = e in cc)
 copied-from (w ∷ winners) [] i y e = absurd (let f : None ≡ Some y = e in cc)
@@ -35,16 +36,19 @@ copied-there (x ∷ winners) [] i w n e = absurd (omega arith)
 copied-there (x ∷ winners) (l ∷ losers) zero w n e = (l.done, ap (λ (y : Thread). Some (record y { done = l.done })) (some-injective e))
 copied-there (x ∷ winners) (l ∷ losers) (suc i) w n e = copied-there winners losers i w (omega arith) e
 
+-- a copy has the winner's counts
 counts-copied : (winners losers : List Thread) → length winners ≡ length losers → counts (copied_threads winners losers) ≡ counts winners
 counts-copied [] losers n = refl
 counts-copied (w ∷ winners) [] n = absurd (omega arith)
 counts-copied (w ∷ winners) (l ∷ losers) n = ap {B = List ℕ} (λ (r : List ℕ). w.since ∷ r) (counts-copied winners losers (omega arith))
 
+-- a copy has as many threads as the winner
 length-copied : (winners losers : List Thread) → length winners ≡ length losers → length (copied_threads winners losers) ≡ length winners
 length-copied [] losers n = refl
 length-copied (w ∷ winners) [] n = absurd (omega arith)
 length-copied (w ∷ winners) (l ∷ losers) n = ap suc (length-copied winners losers (omega arith))
 
+-- a copy keeps what holds of every replica
 pub sound-recovered : (job : Job) (core : Core) (backed : Backed) (won lost : ℕ) (winner loser : Replica) → IsSound job core backed won winner → IsSound job core backed lost loser → IsSound job core backed lost (recovered winner loser)
 unfolding recovered
 sound-recovered job core backed won lost winner loser h k = record {
@@ -55,6 +59,7 @@ sound-recovered job core backed won lost winner loser h k = record {
   own_faults = k.own_faults;
 }
 
+-- a copy of a replica that agrees agrees
 pub agrees-recovered : (job : Job) (machine : Machine) (winner loser : Replica) → length winner.threads ≡ length loser.threads → Agrees job machine winner → Agrees job machine (recovered winner loser)
 unfolding recovered
 agrees-recovered job machine winner loser n h = record {
@@ -76,6 +81,7 @@ pub data AfterCopy (won lost : ℕ) (replicas : List Replica) (number : ℕ) (r 
   not_lost : number ≢ lost → slice_get replicas number ≡ Some r → AfterCopy won lost replicas number r
   is_copy : (winner loser : Replica) → number ≡ lost → slice_get replicas won ≡ Some winner → slice_get replicas lost ≡ Some loser → recovered winner loser ≡ r → AfterCopy won lost replicas number r
 
+-- after a copy each other replica is as it was
 pub after-copy : (won lost : ℕ) (replicas : List Replica) (winner : Replica) (number : ℕ) (r : Replica) → slice_get replicas won ≡ Some winner → slice_get (with_recovered won (Some lost) replicas) number ≡ Some r → AfterCopy won lost replicas number r
 after-copy won lost replicas winner number r there e =
     by (slice_get replicas lost) refl (sym (ap (λ (o : Option Replica). slice_get (option_map_or (λ w. option_map_or (λ l. slice_set replicas lost (recovered w l)) (slice_get replicas lost) replicas) o replicas) number) there) ∙ e)
@@ -88,10 +94,12 @@ after-copy won lost replicas winner number r there e =
     by None f g = not_lost (λ (k : number ≡ lost). let l : None ≡ Some r = sym f ∙ (ap (slice_get replicas) (sym k) ∙ g) in cc) g
     by (Some loser) f g = set-case loser f (get-set-cases replicas lost number (recovered winner loser) r g)
 
+-- a copy changes no number of replicas
 set-or-same : (replicas : List Replica) (lost : ℕ) (winner : Replica) (o : Option Replica) → length (option_map_or (λ l. slice_set replicas lost (recovered winner l)) o replicas) ≡ length replicas
 set-or-same replicas lost winner None = refl
 set-or-same replicas lost winner (Some loser) = length-set replicas lost (recovered winner loser)
 
+-- there are as many replicas after a vote's copy
 pub length-with-copy : (won : ℕ) (lost : Option ℕ) (replicas : List Replica) → length (with_recovered won lost replicas) ≡ length replicas
 length-with-copy won None replicas = refl
 length-with-copy won (Some lost) replicas = by (slice_get replicas won)

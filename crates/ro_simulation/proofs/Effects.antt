@@ -32,16 +32,20 @@ use Rattle.ro_simulation.proofs.Views.{Comes}
 
 -- ---- the parts of a replica after an effect
 
+-- the pages that are backed after an effect
 abbrev pub backed_after : Effect → Backed → Backed
 backed_after effect backed = λ page. backed page || is_page effect.page page || covers_page (record { place = effect.place; count = length effect.bytes }) page
 
+-- the threads after an effect, before page faults are forgotten
 abbrev pub threads_after : Effect → List Thread → List Thread
 threads_after effect threads = with_made effect.made (changed_at (thread_after effect) threads effect.thread)
 
+-- one test of three passed
 or-first : (b c d : Bool) → b ≡ true → (b || c || d) ≡ true
 or-first true c d h = refl
 or-first false c d h = absurd (true≢false (sym h))
 
+-- an effect takes no page away
 pub more-after : (effect : Effect) (backed : Backed) → IsMore backed (backed_after effect backed)
 more-after effect backed = record { keeps = λ page h. or-first (backed page) (is_page effect.page page) (covers_page (record { place = effect.place; count = length effect.bytes }) page) h }
 
@@ -50,6 +54,7 @@ pub record KeptStop (backed : Backed) (o : Option Stop) (stop : Stop) : Type 0 w
   pub was : o ≡ Some stop
   pub unbacked : (page : ℕ) → stop ≡ PageFault page → backed page ≡ false
 
+-- a page fault that is kept is on an unbacked page
 kept-fault : (backed : Backed) (page : ℕ) (stop : Stop) (b : Bool) → backed page ≡ b → cond b None (Some (PageFault page)) ≡ Some stop → KeptStop backed (Some (PageFault page)) stop
 kept-fault backed page stop true e h = absurd (let f : None ≡ Some stop = h in cc)
 kept-fault backed page stop false e h = record {
@@ -57,6 +62,7 @@ kept-fault backed page stop false e h = record {
   unbacked = λ other f. let same : page ≡ other = (let g : PageFault page ≡ PageFault other = some-injective h ∙ f in cc) in subst (λ (p : ℕ). backed p ≡ false) same e;
 }
 
+-- a stop that is kept was there, and is no fault on a backed page
 kept-stop : (backed : Backed) (o : Option Stop) (stop : Stop) → cond (is_cancelled backed o) None o ≡ Some stop → KeptStop backed o stop
 kept-stop backed None stop h = absurd (let f : None ≡ Some stop = h in cc)
 kept-stop backed (Some (PageFault page)) stop h = kept-fault backed page stop (backed page) refl h
@@ -83,6 +89,7 @@ changed-there : (effect : Effect) (threads : List Thread) (t : ℕ) (x : Thread)
 changed-there effect threads t x there =
     ap (λ (xs : List Thread). slice_get xs t) (changed-is-set (thread_after effect) threads t x there) ∙ get-set-same threads t x _ there
 
+-- a made thread has run nothing ahead
 ahead-made : (made : Option Made) (threads : List Thread) (t : ℕ) (x : Thread) → slice_get threads t ≡ Some x → ((m : Made) → made ≡ Some m → m.creator ≡ t) → ahead_from 0 (with_made made threads) ≡ ahead_from 0 threads
 ahead-made None threads t x there own = refl
 ahead-made (Some made) threads t x there own = ap (ahead_from 0) (made-is made threads t x there (own made refl)) ∙ ahead-new 0 threads (unstopped (made_cpu made x.cpu (length threads))) refl
@@ -100,11 +107,13 @@ pub data ThreadAfter (effect : Effect) (threads : List Thread) (t : ℕ) (x : Th
   its_own : number ≡ t → thread_after effect x ≡ other → ThreadAfter effect threads t x number other
   newly_made : (made : Made) → effect.made ≡ Some made → number ≡ length threads → unstopped (made_cpu made (thread_after effect x).cpu (length threads)) ≡ other → ThreadAfter effect threads t x number other
 
+-- a thread of the changed list
 changed-cases : (effect : Effect) (threads : List Thread) (t : ℕ) (x : Thread) (number : ℕ) (other : Thread) → slice_get threads t ≡ Some x → ChangedFrom (thread_after effect) threads t number other → ThreadAfter effect threads t x number other
 changed-cases effect threads t x number other there (unchanged d e) = as_before d e
 changed-cases effect threads t x number other there (changed_here y d e g) =
     let same : x ≡ y = some-injective (sym there ∙ (ap (slice_get threads) (sym d) ∙ e)) in its_own d (ap (thread_after effect) same ∙ g)
 
+-- a thread of the list with the made one
 made-cases : (effect : Effect) (threads : List Thread) (t : ℕ) (x : Thread) (number : ℕ) (other : Thread) (made : Option Made) → effect.made ≡ made → ((m : Made) → made ≡ Some m → m.creator ≡ t) → slice_get threads t ≡ Some x → slice_get (with_made made (changed_at (thread_after effect) threads t)) number ≡ Some other → ThreadAfter effect threads t x number other
 made-cases effect threads t x number other None is own there e = changed-cases effect threads t x number other there (get-changed (thread_after effect) threads t number other e)
 made-cases effect threads t x number other (Some made) is own there e =
@@ -117,6 +126,7 @@ made-cases effect threads t x number other (Some made) is own there e =
         let same : length (changed_at (thread_after effect) threads t) ≡ length threads = length-changed (thread_after effect) threads t in
         newly_made made is (f.0 ∙ same) (ap (λ (n : ℕ). unstopped (made_cpu made (thread_after effect x).cpu n)) (sym same) ∙ f.1)
 
+-- a thread after the effect is one of three kinds
 pub thread-cases : (effect : Effect) (threads : List Thread) (t : ℕ) (x : Thread) (number : ℕ) (other : Thread) → IsOf effect t → slice_get threads t ≡ Some x → slice_get (threads_after effect threads) number ≡ Some other → ThreadAfter effect threads t x number other
 thread-cases effect threads t x number other own there e =
     made-cases effect threads t x number other effect.made refl own.creator_is there
@@ -124,11 +134,13 @@ thread-cases effect threads t x number other own there e =
 
 -- ---- what holds of every replica
 
+-- an effect makes one thread or none
 length-made : (made : Option Made) (threads : List Thread) → 0 < length threads → length (with_made made threads) ≡ length threads + made_count made
 length-made None threads h = omega arith
 length-made (Some made) [] h = absurd (omega arith)
 length-made (Some made) (thread ∷ threads) h = length-append (thread ∷ threads) _
 
+-- an effect keeps what holds of every replica
 pub sound-applied : (job : Job) (core after : Core) (backed : Backed) (number : ℕ) (replica : Replica) (effect : Effect) → length after.kernel.lives ≡ length core.kernel.lives + made_count effect.made → 0 < length core.kernel.lives → IsSound job core backed number replica → IsSound job after (backed_after effect backed) number (cancelled (applied effect replica))
 unfolding applied cancelled
 sound-applied job core after backed number replica effect lives some h = record {

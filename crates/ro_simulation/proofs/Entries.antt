@@ -31,18 +31,22 @@ sound-with job core other backed number r e h = record {
   own_faults = h.own_faults;
 }
 
+-- one of two tests passed
 or-cases : (b c : Bool) → (b || c) ≡ true → (b ≡ true) ⊎ (c ≡ true)
 or-cases true c e = inl refl
 or-cases false c e = inr e
 
+-- the first test passed
 or-left : (b c : Bool) → b ≡ true → (b || c) ≡ true
 or-left true c e = refl
 or-left false c e = absurd (false≢true e)
 
+-- the second test passed
 or-right : (b c : Bool) → c ≡ true → (b || c) ≡ true
 or-right true c e = refl
 or-right false c e = e
 
+-- a test of a filtered list with one more
 any-filter-cons : {X : Type 0} (p q : X → Bool) (x : X) (xs : List X) → (list_any p (filter q xs) ≡ true → list_any p xs ≡ true) → (b : Bool) → list_any p (cond b (x ∷ filter q xs) (filter q xs)) ≡ true → (p x || list_any p xs) ≡ true
 any-filter-cons p q x xs rec false e = or-right (p x) (list_any p xs) (rec e)
 any-filter-cons p q x xs rec true e = by (or-cases (p x) (list_any p (filter q xs)) e)
@@ -51,6 +55,7 @@ any-filter-cons p q x xs rec true e = by (or-cases (p x) (list_any p (filter q x
     by (inl f) = or-left (p x) (list_any p xs) f
     by (inr f) = or-right (p x) (list_any p xs) (rec f)
 
+-- what is found in a filtered list is in the list
 any-filter : {X : Type 0} (p q : X → Bool) (xs : List X) → list_any p (filter q xs) ≡ true → list_any p xs ≡ true
 any-filter p q [] e = e
 any-filter p q (x ∷ xs) e = any-filter-cons p q x xs (any-filter p q xs) (q x) e
@@ -58,18 +63,22 @@ any-filter p q (x ∷ xs) e = any-filter-cons p q x xs (any-filter p q xs) (q x)
 -- ---- take
 
 module _ (job : Job) (odd : ℕ) (journal : List Entry) (core : Core) (h : Holds job odd journal core) (driver replica t : ℕ) (may : MayTake job core driver replica t) where
+  -- the taken thread lives
   live : IsTrue (lives_on core.kernel t)
   live = (and_parts _ _ (and_parts _ _ may.lendable).0).1
 
+  -- the program goes on at a take
   going : h.machine.ended ≡ None
   going = sym h.same_end ∙ (going-from core may.going).not_due
 
+  -- what is lent after a take lives
   lent-after : (d r u : ℕ) → (((driver == d) && (replica == r) && (t == u)) ≡ true) ⊎ (is_out core d r u ≡ true) → (h.machine.ended ≡ None) × IsTrue (lives_on h.machine.kernel u)
   lent-after d r u (inl e) =
       let same : t ≡ u = eqb-true t u (and_parts _ _ e).1 in
       (going, ap₂ (λ (k : Kernel) (n : ℕ). lives_on k n) (sym h.same_kernel) (sym same) ∙ live)
   lent-after d r u (inr e) = h.lent_live d r u e
 
+  -- the invariant after a take
   pub after-take : Holds job odd (journal ++ Take driver replica t ∷ []) (after job core (Take driver replica t))
   unfolding after
   after-take = record {
@@ -92,20 +101,24 @@ module _ (job : Job) (odd : ℕ) (journal : List Entry) (core : Core) (h : Holds
 
 -- ---- put
 
+-- the lent replica of a put, and its run
 pub record PutParts (job : Job) (core : Core) (replica t count : ℕ) (ran : Ran) : Type 0 where
   pub lent : Replica
   pub lent_there : slice_get core.replicas replica ≡ Some lent
   pub runs : run_of (layout_of job.program) job.settings.watchdog count lent t ≡ Some ran
 
+-- a put has its replica and its run
 pub put-parts : (job : Job) (core : Core) (replica t count : ℕ) (ran : Ran) → lease_run job core replica t count ≡ Some ran → PutParts job core replica t count ran
 put-parts job core replica t count ran e =
     option_and_then_some (λ r. run_of (layout_of job.program) job.settings.watchdog count r t) (slice_get core.replicas replica) ran e
     (λ r there runs. record { lent = r; lent_there = there; runs = runs })
 
 module _ (job : Job) (odd : ℕ) (journal : List Entry) (core : Core) (h : Holds job odd journal core) (driver replica t count hit : ℕ) (may : MayPut job core driver replica t count hit) where
+  -- the replica of this put, and its run
   parts : PutParts job core replica t count may.ran
   parts = put-parts job core replica t count may.ran may.runs
 
+  -- the run keeps what holds of every replica
   well : StruckWell job core h.backed replica may.ran
   well = run-well job core h.backed replica (layout_of job.program) count t parts.lent may.ran parts.runs (h.sound replica parts.lent parts.lent_there)
 
@@ -117,12 +130,14 @@ module _ (job : Job) (odd : ℕ) (journal : List Entry) (core : Core) (h : Holds
   pub put-going : (h.machine.ended ≡ None) × IsTrue (lives_on h.machine.kernel t)
   put-going = h.lent_live driver replica t may.out
 
+  -- what holds of every replica after the put
   sound-at : (number : ℕ) (r : Replica) → ((number ≢ replica) × (slice_get core.replicas number ≡ Some r)) ⊎ ((number ≡ replica) × (arrived job t count may.ran.replica ≡ r)) → IsSound job core h.backed number r
   sound-at number r (inl e) = h.sound number r e.1
   sound-at number r (inr e) =
       subst (λ (n : ℕ). IsSound job core h.backed n r) (sym e.0)
       (subst (IsSound job core h.backed replica) e.1 (sound-changed job core h.backed replica may.ran.replica (with_stop (arrival job t count may.ran.replica)) t (λ x k. k) well.sound))
 
+  -- the core after the put
   after-put-is : record core { replicas = slice_set core.replicas replica (arrived job t count may.ran.replica); leases = filter (λ lease. not (is_lease driver replica t lease)) core.leases; wrote = 0 } ≡ after job core (Put driver replica t count hit)
   unfolding after
   after-put-is = ap (core_after_put job core driver replica t count) (sym may.runs)

@@ -37,10 +37,12 @@ pub record FreeParts (job : Job) (core : Core) (t : ℕ) : Type 0 where
   pub is_blocked_on : core.blocked t ≡ Some call
   pub unblocked : blocks (setup_of job.program) core.kernel t call ≡ false
 
+-- what is denied is false
 not-true-from : (b : Bool) → not b ≡ true → b ≡ false
 not-true-from true h = absurd (false≢true h)
 not-true-from false h = refl
 
+-- a free that is allowed has its call
 pub free-parts : (job : Job) (core : Core) (t : ℕ) → may_free job core t ≡ true → FreeParts job core t
 free-parts job core t h =
     let a = and_parts _ _ h in let b = and_parts _ _ a.0 in by (going-from core b.0) (none-lent core b.1) (core.blocked t) refl a.1
@@ -49,43 +51,53 @@ free-parts job core t h =
     by g l None e f = absurd (false≢true f)
     by g l (Some call) e f = record { going = g; no_lease = l; call = call; is_blocked_on = e; unblocked = not-true-from _ f }
 
+-- a call that does not block is one step
 one-step : (kernel : Kernel) (t : ℕ) (call : Call) (served : Served) → is_blocked served ≡ false → event_steps (call_event kernel t call [] served).did ≡ 1
 one-step kernel t call (Done after effect) e = refl
 one-step kernel t call Blocked e = absurd (true≢false e)
 one-step kernel t call (Ends after how) e = refl
 
 module _ (job : Job) (free : RaceFree job.program) (odd : ℕ) (journal : List Entry) (core : Core) (h : Holds job odd journal core) (t : ℕ) (parts : FreeParts job core t) where
+  -- the program goes on at a free
   going : h.machine.ended ≡ None
   going = sym h.same_end ∙ parts.going.not_due
 
+  -- the thread stands at its call
   stands : StandsAtCall job.program h.machine t parts.call
   stands = h.blocked_stands t parts.call parts.is_blocked_on (sym h.same_end ∙ parts.going.not_due)
 
+  -- the thread lives
   live : IsTrue (lives_on h.machine.kernel t)
   live = (steppable-parts h.machine t stands.cpu stands.live).live
 
+  -- the event of the call
   has-event : HasEvent job h.backed h.machine h.machine t (call_event h.machine.kernel t parts.call [] (serve (setup_of job.program) h.machine.kernel t parts.call))
   has-event = step-of-call job free (plan_of journal) h.backed h.machine h.machine h.ideal_is going t 0 live nothing_left stands.cpu stands.live h.as_many parts.call stands.stands [] (sym (stands.writes_nothing h.machine.memory))
 
+  -- the core's event is that one
   freed-is : freed_event job core t ≡ Some (call_event h.machine.kernel t parts.call [] (serve (setup_of job.program) h.machine.kernel t parts.call))
   freed-is = ap (option_map (λ call. call_event core.kernel t call [] (serve (setup_of job.program) core.kernel t call))) parts.is_blocked_on
       ∙ ap (λ (k : Kernel). Some (call_event k t parts.call [] (serve (setup_of job.program) k t parts.call))) h.same_kernel
 
+  -- the call does not block in the machine
   unblocked : is_blocked (serve (setup_of job.program) h.machine.kernel t parts.call) ≡ false
   unblocked = ap (λ (k : Kernel). is_blocked (serve (setup_of job.program) k t parts.call)) (sym h.same_kernel) ∙ parts.unblocked
 
   -- a blocked thread has not run ahead
   module _ (r : Replica) (agree : Agrees job h.machine r) (thread : Thread) (there : slice_get r.threads t ≡ Some thread) where
+    -- a thread that stands at a call runs nothing
     cannot-run : (n : ℕ) (middle : Machine) → BackedRun job.program h.backed h.machine (replicate (suc n) t) middle → ⊥
     cannot-run n middle runs =
         let head = BackedRun-head job.program h.backed h.machine middle t (replicate n t) runs in
         let same : stands.cpu ≡ head.backed_step.cpu = some-injective (sym stands.live ∙ head.backed_step.live) in
         let e : Stands (Calls parts.call) ≡ Executes head.backed_step.instr = sym stands.stands ∙ (ap (next_of job.program h.machine) same ∙ plain-executes job.program h.backed h.machine t head.backed_step) in cc
 
+    -- so its count is 0
     no-count : (n : ℕ) (middle : Machine) → BackedRun job.program h.backed h.machine (replicate n t) middle → (n ≡ 0) × (h.machine ≡ middle)
     no-count zero middle runs = (refl, none-left job.program h.backed runs)
     no-count (suc n) middle runs = absurd (cannot-run n middle runs)
 
+    -- what the event needs of a replica
     meets-free : (same : r.backed ≡ h.backed) (event : Event) → Meets job h.machine h.machine h.backed t event r
     meets-free same event =
         let by = comes-by job free (plan_of journal) h.machine h.ideal_is going h.backed r same agree.runs_ahead t thread live there in
@@ -100,10 +112,12 @@ module _ (job : Job) (free : RaceFree job.program) (odd : ℕ) (journal : List E
               ∙ (agree.stops t).stands thread stop live there stopped;
         }
 
+  -- the core after the free
   after-is : core_after core t 0 core.replicas (call_event h.machine.kernel t parts.call [] (serve (setup_of job.program) h.machine.kernel t parts.call)) ≡ after job core (Free t)
   unfolding after
   after-is = ap (core_after_event core t 0 core.replicas) (sym freed-is)
 
+  -- what the event needs of each replica that agrees
   meets-at : (number : ℕ) (r : Replica) → number ≢ odd → slice_get core.replicas number ≡ Some r → Meets job h.machine h.machine h.backed t (call_event h.machine.kernel t parts.call [] (serve (setup_of job.program) h.machine.kernel t parts.call)) r
   meets-at number r d e =
       let sound = h.sound number r e in
@@ -111,6 +125,7 @@ module _ (job : Job) (free : RaceFree job.program) (odd : ℕ) (journal : List E
       let thread = get-within r.threads t (let low = live-within h.machine.kernel.lives t live in let all = sound.all_made in omega arith) in
       meets-free r (h.others_agree going number r d e) thread.0 thread.1 sound.same_backed _
 
+  -- the invariant after the free
   freed : Holds job odd (journal ++ Free t ∷ []) (after job core (Free t))
   freed =
       let event = has-event in

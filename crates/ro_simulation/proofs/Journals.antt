@@ -27,14 +27,17 @@ use Rattle.ro_simulation.proofs.Opening.{opening-holds}
 
 -- ---- journals in parts
 
+-- the core after two parts of a journal
 pub replay-append : (job : Job) (core : Core) (xs ys : List Entry) → replay_from job core (xs ++ ys) ≡ replay_from job (replay_from job core xs) ys
 replay-append job core [] ys = refl
 replay-append job core (x ∷ xs) ys = replay-append job (after job core x) xs ys
 
+-- both parts of a legal journal are legal
 pub legal-split : (job : Job) (core : Core) (xs ys : List Entry) → LegalFrom job core (xs ++ ys) → LegalFrom job core xs × LegalFrom job (replay_from job core xs) ys
 legal-split job core [] ys h = (tt, h)
 legal-split job core (x ∷ xs) ys h = let r = legal-split job (after job core x) xs ys h.1 in ((h.0, r.0), r.1)
 
+-- the payloads of two parts
 pub payloads-append : (job : Job) (core : Core) (xs ys : List Entry) → payloads_from job core (xs ++ ys) ≡ payloads_from job core xs ++ payloads_from job (replay_from job core xs) ys
 payloads-append job core [] ys = refl
 payloads-append job core (x ∷ xs) ys =
@@ -54,12 +57,14 @@ pub nothing-after : (job : Job) (core : Core) (how : How) (rest : List Entry) �
 nothing-after job core how [] e h = refl
 nothing-after job core how (entry ∷ rest) e h = absurd (let f : None ≡ Some how = sym (allowed-not-ended job core entry h.0) ∙ e in cc)
 
+-- after an end the core has ended
 pub after-end-ended : (job : Job) (core : Core) (how : How) → (after job core (End how)).ended ≡ Some how
 unfolding after
 after-end-ended job core how = refl
 
 -- ---- what an entry that is no end leaves of the output and the end
 
+-- an entry that is no end
 pub data IsStep : Entry → Type 0 where
   takes : {driver replica thread : ℕ} → IsStep (Take driver replica thread)
   puts : {driver replica thread count hit : ℕ} → IsStep (Put driver replica thread count hit)
@@ -71,23 +76,28 @@ pub record Leaves (core other : Core) (payload : List ℕ) : Type 0 where
   pub output : other.output ≡ core.output ++ payload
   pub ended : other.ended ≡ core.ended
 
+-- a put writes nothing
 put-leaves : (job : Job) (core : Core) (driver replica thread count : ℕ) (o : Option Ran) → Leaves core (core_after_put job core driver replica thread count o) []
 put-leaves job core driver replica thread count None = record { output = sym (append-nil core.output); ended = refl }
 put-leaves job core driver replica thread count (Some ran) = record { output = sym (append-nil core.output); ended = refl }
 
+-- an event writes its payload
 event-leaves : (core : Core) (thread count : ℕ) (replicas : List Replica) (o : Option Event) → Leaves core (core_after_event core thread count replicas o) (event_payload o)
 event-leaves core thread count replicas None = record { output = sym (append-nil core.output); ended = refl }
 event-leaves core thread count replicas (Some event) = record { output = refl; ended = refl }
 
+-- a freed call writes nothing
 call-no-payload : (kernel : Kernel) (thread : ℕ) (call : Call) (served : Served) → (call_event kernel thread call [] served).payload ≡ []
 call-no-payload kernel thread call (Done k effect) = refl
 call-no-payload kernel thread call Blocked = refl
 call-no-payload kernel thread call (Ends k how) = refl
 
+-- a free writes nothing
 free-no-payload : (job : Job) (core : Core) (thread : ℕ) (o : Option Call) → event_payload (option_map (λ call. call_event core.kernel thread call [] (serve (setup_of job.program) core.kernel thread call)) o) ≡ []
 free-no-payload job core thread None = refl
 free-no-payload job core thread (Some call) = call-no-payload core.kernel thread call _
 
+-- what an entry leaves
 pub step-leaves : (job : Job) (core : Core) (entry : Entry) → IsStep entry → Leaves core (after job core entry) (payload_by job core entry)
 unfolding after
 step-leaves job core (Take driver replica thread) takes = record { output = sym (append-nil core.output); ended = refl }
@@ -100,6 +110,7 @@ step-leaves job core (End how) kind = elim kind [ ]
 
 -- ---- the outcome and the end of the core
 
+-- the core after an end and nothing
 end-nothing : (job : Job) (core : Core) (how : How) (rest : List Entry) → rest ≡ [] → (replay_from job (after job core (End how)) rest).ended ≡ Some how
 end-nothing job core how rest e = ap (λ (r : List Entry). (replay_from job (after job core (End how)) r).ended) e ∙ after-end-ended job core how
 
@@ -125,15 +136,18 @@ ended-outcome job core (Free thread ∷ rest) how on h e = ended-outcome job (af
 
 -- ---- the invariant along a journal
 
+-- the invariant, in the core of the journal, whose output is that of its payloads
 pub record Reached (job : Job) (odd : ℕ) (journal : List Entry) (core : Core) : Type 0 where
   pub holds : Holds job odd journal core
   pub is_replay : replay job journal ≡ core
   pub written : core.output ≡ payloads_of job journal
 
+-- the invariant at the opening
 pub opening-reached : (job : Job) (odd : ℕ) → Reached job odd [] (opening_core job)
 unfolding opening_core
 opening-reached job odd = record { holds = opening-holds job odd; is_replay = refl; written = refl }
 
+-- one entry further
 reached-next : (job : Job) (odd odd' : ℕ) (journal : List Entry) (core : Core) (entry : Entry) → IsStep entry → Reached job odd journal core → Holds job odd' (journal ++ entry ∷ []) (after job core entry) → Reached job odd' (journal ++ entry ∷ []) (after job core entry)
 reached-next job odd odd' journal core entry kind r h = record {
   holds = h;
@@ -162,6 +176,7 @@ pub data AfterEntry (job : Job) (Q : ℕ → Type 0) (journal : List Entry) (cor
   is_end : (how : How) → entry ≡ End how → MayEnd job core how → AfterEntry job Q journal core entry
 
 module _ (job : Job) (free : RaceFree job.program) (Q : ℕ → Type 0) (whole : List Entry) (policy : Policy job Q whole) where
+  -- the invariant after a put, with or without a strike
   after-put : (odd : ℕ) (q : Q odd) (journal rest : List Entry) (driver replica thread count hit : ℕ) → whole ≡ journal ++ Put driver replica thread count hit ∷ rest → (core : Core) (reached : Reached job odd journal core) → MayPut job core driver replica thread count hit → AfterEntry job Q journal core (Put driver replica thread count hit)
   after-put odd q journal rest driver replica thread count zero whole_is core reached may =
       is_step odd q puts (after-calm-put job odd journal core reached.holds driver replica thread count 0 may free refl)
@@ -169,6 +184,7 @@ module _ (job : Job) (free : RaceFree job.program) (Q : ℕ → Type 0) (whole :
       let s = policy.strikes odd q journal rest driver replica thread count (suc hit) whole_is core reached may (omega arith) in
       is_step replica s.0 puts (after-struck-put job odd journal core reached.holds driver replica thread count (suc hit) may s.1)
 
+  -- the invariant after an entry
   after-entry : (odd : ℕ) (q : Q odd) (journal rest : List Entry) (entry : Entry) → whole ≡ journal ++ entry ∷ rest → (core : Core) (reached : Reached job odd journal core) → IsAllowed job core entry → AfterEntry job Q journal core entry
   after-entry odd q journal rest (Take driver replica thread) whole_is core reached h = is_step odd q takes (after-take job odd journal core reached.holds driver replica thread h)
   after-entry odd q journal rest (Put driver replica thread count hit) whole_is core reached h = after-put odd q journal rest driver replica thread count hit whole_is core reached h
@@ -176,6 +192,7 @@ module _ (job : Job) (free : RaceFree job.program) (Q : ℕ → Type 0) (whole :
   after-entry odd q journal rest (Free thread) whole_is core reached h = is_step odd q frees (after-free job free odd journal core reached.holds thread h)
   after-entry odd q journal rest (End how) whole_is core reached h = is_end how refl h.1
 
+  -- a journal that ends here
   stage-end : (odd : ℕ) (q : Q odd) (journal rest : List Entry) (core : Core) (how : How) → Reached job odd journal core → MayEnd job core how → rest ≡ [] → Stage job Q (journal ++ End how ∷ rest) (replay_from job (after job core (End how)) rest)
   stage-end odd q journal rest core how reached may none =
       has_ended journal how odd core q (ap (λ (r : List Entry). journal ++ End how ∷ r) none) reached may (ap (replay_from job (after job core (End how))) none)
@@ -204,6 +221,7 @@ module _ (job : Job) (free : RaceFree job.program) (Q : ℕ → Type 0) (whole :
     pub reached : Reached job odd journal (replay job journal)
     pub allowed : IsAllowed job (replay job journal) entry
 
+  -- the invariant before an entry
   pub reach-before : (odd : ℕ) → Q odd → Legal job whole → (journal rest : List Entry) (entry : Entry) → whole ≡ journal ++ entry ∷ rest → Before journal entry
   reach-before odd q legal journal rest entry whole_is =
       let parts = legal-split job (opening_core job) journal (entry ∷ rest) (subst (Legal job) whole_is legal) in

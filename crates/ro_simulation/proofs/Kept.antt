@@ -31,13 +31,16 @@ use Rattle.ro_simulation.proofs.Views.{Comes}
 
 -- ---- plans
 
+-- the plan of two parts
 pub plan-append : (xs ys : List Entry) → plan_of (xs ++ ys) ≡ plan_of xs ++ plan_of ys
 plan-append [] ys = refl
 plan-append (x ∷ xs) ys = ap (λ (r : List ℕ). entry_plan x ++ r) (plan-append xs ys) ∙ sym (append_assoc (entry_plan x) (plan_of xs) (plan_of ys))
 
+-- the plan with one more entry
 pub plan-snoc : (journal : List Entry) (entry : Entry) → plan_of (journal ++ entry ∷ []) ≡ plan_of journal ++ entry_plan entry
 plan-snoc journal entry = plan-append journal (entry ∷ []) ∙ ap (λ (r : List ℕ). plan_of journal ++ r) (append-nil (entry_plan entry))
 
+-- an entry without steps leaves the plan
 pub plan-same : (journal : List Entry) (entry : Entry) → entry_plan entry ≡ [] → plan_of (journal ++ entry ∷ []) ≡ plan_of journal
 plan-same journal entry none = plan-snoc journal entry ∙ (ap (λ (r : List ℕ). plan_of journal ++ r) none ∙ append-nil (plan_of journal))
 
@@ -48,20 +51,25 @@ ideal-same job journal entry none =
 
 -- ---- what an allowed vote or free says
 
+-- what is tested to be none is none
 is-none-from : {X : Type 0} (o : Option X) → is_none o ≡ true → o ≡ None
 is-none-from None h = refl
 is-none-from (Some x) h = absurd (false≢true h)
 
+-- no end has come, and none must
 pub record Going (core : Core) : Type 0 where
   pub not_due : core.due ≡ None
   pub not_ended : core.ended ≡ None
 
+-- the test says so
 pub going-from : (core : Core) → is_going core ≡ true → Going core
 going-from core h = let p = and_parts _ _ h in record { not_due = is-none-from core.due p.0; not_ended = is-none-from core.ended p.1 }
 
+-- the test says that nothing is lent
 pub none-lent : (core : Core) → nothing_lent core ≡ true → core.leases ≡ []
 none-lent core h = nil_from_length core.leases (eqb-true (length core.leases) 0 h)
 
+-- where nothing is lent no lease is out
 none-out : (leases : List Lease) (core : Core) (driver replica thread : ℕ) → core.leases ≡ leases → leases ≡ [] → is_out core driver replica thread ≡ false
 none-out leases core driver replica thread e f =
     ap (list_any (λ (lease : Lease). (lease.driver == driver) && (lease.replica == replica) && (lease.thread == thread))) (e ∙ f)
@@ -78,9 +86,11 @@ pub record Meets (job : Job) (machine middle : Machine) (backed : Backed) (t : �
 
 module _ (job : Job) (odd : ℕ) (journal : List Entry) (core : Core) (h : Holds job odd journal core) (going : h.machine.ended ≡ None) (no_lease : core.leases ≡ []) (t count : ℕ) (live : IsTrue (lives_on h.machine.kernel t)) (middle : Machine) (own : BackedRun job.program h.backed h.machine (replicate count t) middle) (event : Event) (after : Machine) (step : EventStep job h.backed h.machine middle t event after)
     (entry : Entry) (plan_is : entry_plan entry ≡ replicate count t ++ replicate (event_steps event.did) t) (replicas : List Replica) (as_many : length replicas ≡ length core.replicas) (sound : (number : ℕ) (r : Replica) → slice_get replicas number ≡ Some r → IsSound job core h.backed number r) (odd' : ℕ) where
+  -- the thread's own steps keep the kernel
   kept : KeepsRest h.machine middle
   kept = BackedRun-keeps job.program h.backed own
 
+  -- the ideal machine after the entry
   ideal_after : ideal job (journal ++ entry ∷ []) ≡ Some after
   ideal_after =
       ap (run job.program (opening job.program)) (plan-snoc journal entry ∙ ap (λ (r : List ℕ). plan_of journal ++ r) plan_is)
@@ -90,24 +100,29 @@ module _ (job : Job) (odd : ℕ) (journal : List Entry) (core : Core) (h : Holds
       ∙ (ap (option_and_then (λ m. run job.program m (replicate (event_steps event.did) t))) (BackedRun-run job.program h.backed own)
       ∙ step.run_event))))
 
+  -- some thread was made
   some_life : 0 < length core.kernel.lives
   some_life =
       let low = live-within h.machine.kernel.lives t live in
       let same : length core.kernel.lives ≡ length h.machine.kernel.lives = ap (λ (k : Kernel). length k.lives) h.same_kernel in omega arith
 
+  -- one life for each thread after the event
   lives_after : length event.kernel.lives ≡ length core.kernel.lives + made_count event.effect.made
   lives_after = ap (λ (k : Kernel). length k.lives) step.same_kernel
       ∙ (step.one_life_each ∙ ap (λ (k : Kernel). length k.lives + made_count event.effect.made) (sym h.same_kernel))
 
+  -- what holds of every replica after the event
   sound_after : (number : ℕ) (r : Replica) → MappedFrom (λ x. cancelled (applied event.effect x)) replicas number r → IsSound job (core_after core t count replicas event) (backed_after event.effect h.backed) number r
   sound_after number r m = subst (IsSound job (core_after core t count replicas event) (backed_after event.effect h.backed) number) m.gives
       (sound-applied job core (core_after core t count replicas event) h.backed number m.from event.effect lives_after some_life (sound number m.from m.there))
 
+  -- blocked threads after the event
   blocked_after : (u : ℕ) (call : Call) → (b : Bool) → (u == t) ≡ b → cond b event.blocked (core.blocked u) ≡ Some call → after.ended ≡ None → StandsAtCall job.program after u call
   blocked_after u call true e f on = subst (λ (n : ℕ). StandsAtCall job.program after n call) (sym (eqb-true u t e)) (step.own_blocked call f)
   blocked_after u call false e f on =
       step.others_stand u call (λ (same : u ≡ t). true≢false (sym (eq-eqb u t same) ∙ e)) (h.blocked_stands u call f going) on
 
+  -- the replicas that agree after the event
   agrees_after : ((number : ℕ) (r : Replica) → number ≢ odd' → slice_get replicas number ≡ Some r → Meets job h.machine middle h.backed t event r) → after.ended ≡ None → (number : ℕ) (r : Replica) → number ≢ odd' → MappedFrom (λ x. cancelled (applied event.effect x)) replicas number r → Agrees job after r
   agrees_after meets on number r d m =
       let k = meets number m.from d m.there in
@@ -115,6 +130,7 @@ module _ (job : Job) (odd : ℕ) (journal : List Entry) (core : Core) (h : Holds
       subst (Agrees job after) m.gives
       (step.agrees on m.from k.thread s.same_backed k.there (s.all_made ∙ ap (λ (k : Kernel). length k.lives) h.same_kernel) k.comes k.agree.stops k.own_stop)
 
+  -- the plan's length after the entry
   steps_after : core.steps + count + event_steps event.did ≡ length (plan_of (journal ++ entry ∷ []))
   steps_after =
       let whole = ap length (plan-snoc journal entry ∙ ap (λ (r : List ℕ). plan_of journal ++ r) plan_is) in
@@ -125,6 +141,7 @@ module _ (job : Job) (odd : ℕ) (journal : List Entry) (core : Core) (h : Holds
       let before = h.steps_are in
       omega arith
 
+  -- the invariant after the entry
   pub event-holds : ((number : ℕ) (r : Replica) → number ≢ odd' → slice_get replicas number ≡ Some r → Meets job h.machine middle h.backed t event r) → Holds job odd' (journal ++ entry ∷ []) (core_after core t count replicas event)
   event-holds meets = record {
     machine = after;

@@ -30,6 +30,7 @@ use Rattle.ro_simulation.proofs.Simulates.{stage}
 
 -- ---- the headline
 
+-- a complete end is no failing sink
 complete-no-sink : (how : How) → IsComplete how → (bytes : ℕ) → how ≢ Sink bytes
 complete-no-sink (Exit status) by_exit bytes e = let f : Exit status ≡ Sink bytes = e in cc
 complete-no-sink (Trap code) by_trap bytes e = let f : Trap code ≡ Sink bytes = e in cc
@@ -39,6 +40,7 @@ complete-no-sink Differ h bytes e = elim h [ ]
 complete-no-sink NoMajority h bytes e = elim h [ ]
 complete-no-sink (Sink other) h bytes e = elim h [ ]
 
+-- the headline, from the theorem
 pub writes-as-ideal : (job : Job) (journal : List Entry) → Simulates job journal → WritesAsIdeal job journal
 writes-as-ideal job journal s = record {
   machine = s.machine;
@@ -50,6 +52,7 @@ writes-as-ideal job journal s = record {
 -- ---- one struck replica
 
 module _ (job : Job) (journal : List Entry) (b : ℕ) (all : (fault : Fault) → Listed job.faults fault → fault.replica ≡ b) where
+  -- a fault that strikes is the one replica's
   only-one : (replica : ℕ) → HasFault job replica → replica ≡ b
   only-one replica f = sym f.1 ∙ all f.0 f.2
 
@@ -61,6 +64,7 @@ module _ (job : Job) (journal : List Entry) (b : ℕ) (all : (fault : Fault) →
         (same, λ number r d e. reached.holds.others_agree (put-going job odd before core reached.holds driver replica thread count hit may).0 number r (λ (f : number ≡ odd). d (f ∙ (q ∙ sym same))) e);
   }
 
+  -- so faults stay apart
   apart-by : RaceFree job.program → Legal job journal → StaysApart job journal
   apart-by free legal before rest driver replica thread count hit whole some other r d there = at
       (reach-before job free (λ odd. odd ≡ b) journal one-policy b refl legal before rest (Put driver replica thread count hit) whole)
@@ -77,16 +81,19 @@ named : List Fault → ℕ
 named [] = 0
 named (fault ∷ faults) = fault.replica
 
+-- each fault of the list names that replica
 named-all : (faults : List Fault) → AllOfOne faults → (fault : Fault) → Listed faults fault → fault.replica ≡ named faults
 unfolding named
 named-all [] one fault e = absurd (let f : None ≡ Some fault = e.1 in cc)
 named-all (first ∷ faults) one fault e = one fault first e (0, refl)
 
+-- faults of one replica stay apart
 pub one-struck-apart : (job : Job) (journal : List Entry) → RaceFree job.program → AllOfOne job.faults → Legal job journal → StaysApart job journal
 one-struck-apart job journal free one legal = apart-by job journal (named job.faults) (named-all job.faults one) free legal
 
 -- ---- no fault
 
+-- an empty list names whatever replica
 none-listed : (faults : List Fault) → faults ≡ [] → (b : ℕ) (fault : Fault) → Listed faults fault → fault.replica ≡ b
 none-listed faults none b fault e = absurd (let f : None ≡ Some fault = ap (λ (fs : List Fault). slice_get fs e.0) (sym none) ∙ e.1 in cc)
 
@@ -99,6 +106,7 @@ module _ (job : Job) (journal : List Entry) (free : RaceFree job.program) (none 
       at : Before job free (λ odd. odd ≡ b) journal (one-policy job journal b (none-listed job.faults none b)) before (Vote thread count won (Some lost) did) → lost ≡ b
       at h = ((after-vote job free h.odd before (replay job before) h.reached.holds thread count won did (Some lost) h.allowed).loser_odd lost refl).0 ∙ h.allows
 
+  -- two replicas that both agree do not end by a difference
   cannot-differ : (odd : ℕ) → odd ≡ 2 → (before : List Entry) (core : Core) → Reached job odd before core → MayEnd job core Differ → ⊥
   cannot-differ odd two before core reached (due e) =
       over-differ (reached.holds.ends_well Differ (sym reached.holds.same_end ∙ e))
@@ -109,6 +117,7 @@ module _ (job : Job) (journal : List Entry) (free : RaceFree job.program) (none 
   cannot-differ odd two before core reached (for_vote t may e) = never-differ job odd before core reached.holds free (omega arith) t may e.0 e.1
   cannot-differ odd two before core reached (for_free t may e) = e
 
+  -- without faults no journal ends by a difference
   no-differ : outcome_of journal ≢ Some Differ
   no-differ e = by (stage job free (λ odd. odd ≡ 2) journal (one-policy job journal 2 (none-listed job.faults none 2)) 2 refl legal)
     where
@@ -121,6 +130,7 @@ module _ (job : Job) (journal : List Entry) (free : RaceFree job.program) (none 
           let how_is : how ≡ Differ = some-injective (sym (ap (λ (c : Core). c.ended) last_is ∙ after-end-ended job last how) ∙ ended) in
           cannot-differ odd q before last reached (subst (MayEnd job last) how_is may)
 
+  -- no fault, no difference
   pub never-differs : NeverDiffers journal
   never-differs = record {
     no_loser = λ before rest thread count won lost did whole.
@@ -132,12 +142,14 @@ module _ (job : Job) (journal : List Entry) (free : RaceFree job.program) (none 
 
 -- ---- one thread
 
+-- a thread that steps was made
 step-live : (program : Program) (machine : Machine) (x : ℕ) (after : Machine) → step program machine x ≡ Some after → x < length machine.kernel.lives
 step-live program machine x after e =
     option_and_then_some (λ cpu. step_by program machine x cpu (next_of program machine cpu)) (steppable machine x) after (step-opens program machine x after e)
     (λ cpu live by_x. live-within machine.kernel.lives x (steppable-parts machine x cpu live).live)
 
 module _ (program : Program) (alone_is : StaysAlone program) where
+  -- each step is the first thread's
   all-first : (before rest : List ℕ) (machine end : Machine) → run program (opening program) before ≡ Some machine → run program machine rest ≡ Some end → (i : ℕ) → i < length rest → slice_get rest i ≡ Some 0
   all-first before [] machine end reached e i short = absurd (omega arith)
   all-first before (x ∷ rest) machine end reached e i short =
@@ -150,6 +162,7 @@ module _ (program : Program) (alone_is : StaysAlone program) where
       first-cases x rest zero short first later = ap Some first
       first-cases x rest (suc i) short first later = later i (omega arith)
 
+  -- a program of one thread has no races
   pub alone-race-free : RaceFree program
   alone-race-free threads runs i j byte low short different conflict =
       absurd (different (all-first [] threads (opening program) runs.0 refl runs.1 i (omega arith) ∙ sym (all-first [] threads (opening program) runs.0 refl runs.1 j short)))

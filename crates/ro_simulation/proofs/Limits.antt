@@ -22,13 +22,16 @@ use Rattle.ro_simulation.proofs.Journals.{outcome-ended, after-end-ended, Reache
 use Rattle.ro_simulation.proofs.Simulates.{simulates, stage, apart-policy}
 use Rattle.ro_simulation.proofs.Laws.{never-differs}
 
+-- no program ends by a difference
 no-over-differ : IsOver Differ → ⊥
 no-over-differ h = elim h [ ]
 
+-- no program ends by a limit
 no-over-limit : (steps next : ℕ) → IsOver (Limit steps next) → ⊥
 no-over-limit steps next h = elim h [ ]
 
 module _ (job : Job) (free : RaceFree job.program) (odd : ℕ) (journal : List Entry) (core : Core) (h : Holds job odd journal core) where
+  -- an end by a limit in a core that the invariant holds of
   passed : (steps next : ℕ) → MayEnd job core (Limit steps next) → PassedLimit job journal steps next
   passed steps next (due e) = absurd (no-over-limit steps next (h.ends_well (Limit steps next) (sym h.same_end ∙ e)))
   passed steps next (alone e) = absurd e
@@ -49,6 +52,7 @@ module _ (job : Job) (free : RaceFree job.program) (odd : ℕ) (journal : List E
   }
 
 module _ (job : Job) (journal : List Entry) (free : RaceFree job.program) (legal : Legal job journal) (apart : StaysApart job journal) where
+  -- the same for a journal with the same plan
   same-passed : (before : List Entry) (steps next : ℕ) → plan_of journal ≡ plan_of before → PassedLimit job before steps next → PassedLimit job journal steps next
   same-passed before steps next e p = record {
     threads = p.threads;
@@ -67,6 +71,7 @@ module _ (job : Job) (journal : List Entry) (free : RaceFree job.program) (legal
     pub may : MayEnd job last how
     pub same_plan : plan_of journal ≡ plan_of before
 
+  -- the last entry of a journal that ends
   ends-by : (how : How) → outcome_of journal ≡ Some how → EndsBy how
   ends-by how e = by (stage job free (λ odd. Unit {0}) journal (apart-policy job journal apart) 0 tt legal)
     where
@@ -79,17 +84,20 @@ module _ (job : Job) (journal : List Entry) (free : RaceFree job.program) (legal
           let how_is : other ≡ how = some-injective (sym (ap (λ (c : Core). c.ended) last_is ∙ after-end-ended job last other) ∙ ended) in
           record { odd = odd; before = before; last = last; reached = reached; may = subst (MayEnd job last) how_is may; same_plan = ap plan_of same ∙ plan-same before (End other) refl }
 
+  -- a limit stands only where an execution is longer
   pub limit-passed : (steps next : ℕ) → outcome_of journal ≡ Some (Limit steps next) → PassedLimit job journal steps next
   limit-passed steps next e =
       let h = ends-by (Limit steps next) e in
       same-passed h.before steps next h.same_plan (passed job free h.odd h.before h.last h.reached.holds steps next h.may)
 
+  -- three replicas do not end by a difference
   three-cannot : (core : Core) → job.settings.replicas ≡ 3 → length core.replicas ≡ job.settings.replicas → MayEnd job core Differ → (core.due ≡ Some Differ → ⊥) → ⊥
   three-cannot core three count (due e) over = over e
   three-cannot core three count (alone e) over = e
   three-cannot core three count (for_vote t may e) over = let two = e.1 in omega arith
   three-cannot core three count (for_free t may e) over = e
 
+  -- the journal does not end by a difference
   no-differ : CannotDiffer job → outcome_of journal ≡ Some Differ → ⊥
   no-differ (inl three) e =
       let h = ends-by Differ e in
@@ -99,12 +107,14 @@ module _ (job : Job) (journal : List Entry) (free : RaceFree job.program) (legal
   -- ---- a program whose executions are short enough
 
   module _ (ends : AllEnd job.program job.settings.limit) (cannot : CannotDiffer job) where
+    -- no limit is passed by executions that are short enough
     not-passed : (steps next : ℕ) → PassedLimit job journal steps next → ⊥
     not-passed steps next p =
         let short = ends (plan_of journal ++ p.threads) p.runs in
         let long = length-append (plan_of journal) p.threads in
         let a = p.steps_are in let b = p.next_is in let c = p.above in omega arith
 
+    -- what ends are left
     by-how : (how : How) → outcome_of journal ≡ Some how → ((bytes : ℕ) → how ≢ Sink bytes) → (outcome_of journal ≡ Some Differ → ⊥) → (outcome_of journal ≡ Some NoMajority → ⊥) → IsComplete how
     by-how (Exit status) e sinks differs splits = by_exit
     by-how (Trap code) e sinks differs splits = by_trap
@@ -114,6 +124,7 @@ module _ (job : Job) (journal : List Entry) (free : RaceFree job.program) (legal
     by-how NoMajority e sinks differs splits = absurd (splits e)
     by-how (Sink bytes) e sinks differs splits = absurd (sinks bytes refl)
 
+    -- completeness
     pub ends-complete : TwoOrThree job → EndsComplete journal
     ends-complete count how e sinks =
         by-how how e sinks (no-differ cannot) (λ f. (simulates job journal free count legal apart).ends_as NoMajority f)

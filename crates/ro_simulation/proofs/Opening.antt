@@ -12,6 +12,7 @@ use Rattle.ro_core.specs.Core.{Job, Core, opening_replicas, opening_core}
 use Rattle.ro_simulation.specs.Invariant.{IsSound, Agrees, Holds}
 use Rattle.ro_simulation.proofs.Lists.{get-append-cases, listed-filter}
 
+-- so many replicas are made
 length-opening : (job : Job) (n : ℕ) → length (opening_replicas job n) ≡ n
 length-opening job zero = refl
 length-opening job (suc n) =
@@ -26,10 +27,12 @@ get-opening job (suc n) number r e = opened-cases job n number r (get-opening jo
     opened-cases job n number r rec (inl f) = rec f
     opened-cases job n number r rec (inr f) = ap (opening_replica job.program.image job.faults) (f.0 ∙ length-opening job n) ∙ f.1
 
+-- the only thread of the opening
 one-thread : (x : Thread) (place : ℕ) (thread : Thread) → slice_get (x ∷ []) place ≡ Some thread → (place ≡ 0) × (x ≡ thread)
 one-thread x zero thread e = (refl, some-injective e)
 one-thread x (suc place) thread e = absurd (let f : None ≡ Some thread = e in cc)
 
+-- what holds of every replica at the opening
 opening-sound : (job : Job) (core : Core) (number : ℕ) → length core.kernel.lives ≡ 1 → IsSound job core (holds_file_byte job.program.image.pieces) number (opening_replica job.program.image job.faults number)
 unfolding opening_replica
 opening-sound job core number one = record {
@@ -39,6 +42,7 @@ opening-sound job core number one = record {
   own_faults = λ fault e. let l = listed-filter (λ f. f.replica == number) job.faults fault e in (eqb-true fault.replica number l.1, l.0);
 }
 
+-- each replica agrees at the opening
 opening-agrees : (job : Job) (number : ℕ) → Agrees job (opening job.program) (opening_replica job.program.image job.faults number)
 unfolding opening_replica opening
 opening-agrees job number = record {
@@ -55,6 +59,7 @@ opening-agrees job number = record {
   };
 }
 
+-- the invariant, whichever replica may be the odd one
 pub opening-holds : (job : Job) (odd : ℕ) → Holds job odd [] (opening_core job)
 unfolding opening_core opening
 opening-holds job odd = record {

@@ -41,6 +41,7 @@ one-more front back n t =
     ∙ ap (λ (r : List ℕ). r ++ back) (sym (replicate-last n t) ∙ ap (λ (k : ℕ). replicate k t) (sym more)))
 
 module _ (job : Job) (free : RaceFree job.program) (before : List ℕ) (machine : Machine) (reached : run job.program (opening job.program) before ≡ Some machine) (going : machine.ended ≡ None) (t : ℕ) (live : IsTrue (lives_on machine.kernel t)) where
+  -- faults that wait do not matter
   but-waiting : (replica other : Replica) → SameButWaiting replica other → AgreesBut job machine replica t → AgreesBut job machine other t
   but-waiting replica other same h = subst (λ (r : Replica). AgreesBut job machine r t) (sym same.is) (record {
     runs_ahead = record { end = h.runs_ahead.end; runs = h.runs_ahead.runs; same_memory = h.runs_ahead.same_memory; same_cpus = h.runs_ahead.same_cpus };
@@ -48,9 +49,11 @@ module _ (job : Job) (free : RaceFree job.program) (before : List ℕ) (machine 
   })
 
   module _ (replica after : Replica) (h : AgreesBut job machine replica t) (i : Instructs (layout_of job.program) job.settings.watchdog replica t after) where
+    -- the thread may step at the end of what was run ahead
     live_end : steppable h.runs_ahead.end t ≡ Some i.thread.cpu
     live_end = live-at-end job free before machine reached going replica h.runs_ahead t i.thread live i.there
 
+    -- its next instruction touches only backed pages
     steps_backed : StepsBacked job.program replica.backed h.runs_ahead.end t
     steps_backed = record {
       cpu = i.thread.cpu;
@@ -59,6 +62,7 @@ module _ (job : Job) (free : RaceFree job.program) (before : List ℕ) (machine 
       executes = ap (λ (m : Memory). next (layout_of job.program) replica.backed m i.thread.cpu) (sym h.runs_ahead.same_memory) ∙ i.executes;
     }
 
+    -- that instruction is a step of the machine
     step_end : step job.program h.runs_ahead.end t ≡ Some (machine_executed h.runs_ahead.end t i.thread.cpu i.instr)
     step_end = backed-step job.program replica.backed h.runs_ahead.end t (record {
       cpu = i.thread.cpu;
@@ -67,12 +71,15 @@ module _ (job : Job) (free : RaceFree job.program) (before : List ℕ) (machine 
       executes = ap (λ (m : Memory). next (layout_of job.program) replica.backed m i.thread.cpu) (sym h.runs_ahead.same_memory) ∙ i.executes;
     })
 
+    -- the end of what was run ahead is reached
     reached_end : run job.program (opening job.program) (before ++ ahead replica) ≡ Some h.runs_ahead.end
     reached_end = reach-run job.program replica.backed before reached h.runs_ahead.runs
 
+    -- the thread's steps among the others
     among : Around 0 replica.threads t t
     among = around 0 replica.threads t t i.thread i.there (omega arith)
 
+    -- the run with one more step
     runs_end : BackedRun job.program replica.backed machine (ahead (executed t replica i.thread i.instr)) (machine_executed h.runs_ahead.end t i.thread.cpu i.instr)
     runs_end = subst (λ (xs : List ℕ). BackedRun job.program replica.backed machine xs (machine_executed h.runs_ahead.end t i.thread.cpu i.instr))
         (one-more among.front among.back i.thread.since t ∙ sym (among.with_set (instructed replica i.thread i.instr)))
@@ -80,6 +87,7 @@ module _ (job : Job) (free : RaceFree job.program) (before : List ℕ) (machine 
         (subst (λ (xs : List ℕ). BackedRun job.program replica.backed machine xs h.runs_ahead.end) (ahead-is replica t i.thread i.there among ∙ sym (append_assoc among.front (replicate i.thread.since t) among.back)) h.runs_ahead.runs)
         steps_backed step_end)
 
+    -- registers after the instruction
     cpus_end : (number : ℕ) (other : Thread) → IsTrue (lives_on machine.kernel number) → ((number ≢ t) × (slice_get replica.threads number ≡ Some other)) ⊎ ((number ≡ t) × (instructed replica i.thread i.instr ≡ other)) → slice_get (machine_executed h.runs_ahead.end t i.thread.cpu i.instr).cpus number ≡ Some other.cpu
     cpus_end number other alive (inl e) = slice_get-set_other h.runs_ahead.end.cpus t number _ (λ f. e.0 (sym f)) ∙ h.runs_ahead.same_cpus number other alive e.1
     cpus_end number other alive (inr e) =
@@ -87,14 +95,17 @@ module _ (job : Job) (free : RaceFree job.program) (before : List ℕ) (machine 
         ∙ (get-set-same h.runs_ahead.end.cpus t i.thread.cpu _ (h.runs_ahead.same_cpus t i.thread live i.there)
         ∙ (ap (λ (m : Memory). Some (change_of m i.thread.cpu i.instr).cpu) (sym h.runs_ahead.same_memory) ∙ ap (λ (x : Thread). Some x.cpu) e.1))
 
+    -- memory after the instruction
     memory_end : (executed t replica i.thread i.instr).memory ≡ (machine_executed h.runs_ahead.end t i.thread.cpu i.instr).memory
     memory_end = ap (λ (m : Memory). stored m (change_of m i.thread.cpu i.instr).place (change_of m i.thread.cpu i.instr).bytes) h.runs_ahead.same_memory
 
+    -- what another thread does next stays
     other-stays : (number : ℕ) → number ≢ t → (other : Thread) → IsTrue (lives_on machine.kernel number) → slice_get replica.threads number ≡ Some other → Stays job.program h.runs_ahead.end (machine_executed h.runs_ahead.end t i.thread.cpu i.instr) number other.cpu
     other-stays number d other alive there =
         stays job.program free (before ++ ahead replica) h.runs_ahead.end reached_end t number (λ e. d (sym e)) _ step_end ((BackedRun-keeps job.program replica.backed h.runs_ahead.runs).same_end ∙ going) other.cpu
         (live-at-end job free before machine reached going replica h.runs_ahead number other alive there)
 
+    -- stops of other threads after the instruction
     stop_end : (number : ℕ) → number ≢ t → StopStands job machine (executed t replica i.thread i.instr) number
     stop_end number d = record {
       stands = λ other stop alive there stopped.
@@ -118,6 +129,7 @@ module _ (job : Job) (free : RaceFree job.program) (before : List ℕ) (machine 
       stops = stop_end;
     })
 
+  -- no fault in all is none in each part
   no-hit : (m n : ℕ) → m + n ≡ 0 → (m ≡ 0) × (n ≡ 0)
   no-hit m n e = (omega arith, omega arith)
 
@@ -137,23 +149,28 @@ module _ (job : Job) (free : RaceFree job.program) (before : List ℕ) (machine 
   -- ---- the stop at which the thread arrives
 
   module _ (count : ℕ) (replica : Replica) (h : AgreesBut job machine replica t) where
+    -- a stop changes nothing of what was run ahead
     same_ahead : ahead (arrived job t count replica) ≡ ahead replica
     same_ahead = same-counts-ahead _ _ (counts-changed (with_stop (arrival job t count replica)) (λ x. refl) replica.threads t)
 
+    -- registers after the arrival
     cpus_arrived : (number : ℕ) (other : Thread) → IsTrue (lives_on machine.kernel number) → ChangedFrom (with_stop (arrival job t count replica)) replica.threads t number other → slice_get h.runs_ahead.end.cpus number ≡ Some other.cpu
     cpus_arrived number other alive (unchanged d e) = h.runs_ahead.same_cpus number other alive e
     cpus_arrived number other alive (changed_here x d e g) = h.runs_ahead.same_cpus number x alive e ∙ ap (λ (y : Thread). Some y.cpu) g
 
+    -- the stop of an arrival stands
     stands-there : (b : Bool) (x : Thread) (stop : Stop) → slice_get replica.threads t ≡ Some x → cond b None (standing_at (layout_of job.program) job.settings.watchdog replica t) ≡ Some stop → standing_in (layout_of job.program) job.settings.watchdog replica x ≡ Some stop
     stands-there true x stop there e = absurd (let f : None ≡ Some stop = e in cc)
     stands-there false x stop there e = sym (ap (option_and_then (standing_in (layout_of job.program) job.settings.watchdog replica)) there) ∙ e
 
+    -- stops after the arrival
     stop_arrived : (number : ℕ) (other : Thread) (stop : Stop) → IsTrue (lives_on machine.kernel number) → other.stop ≡ Some stop → ChangedFrom (with_stop (arrival job t count replica)) replica.threads t number other → standing_in (layout_of job.program) job.settings.watchdog (arrived job t count replica) other ≡ Some stop
     stop_arrived number other stop alive stopped (unchanged d e) = (h.stops number d).stands other stop alive e stopped
     stop_arrived number other stop alive stopped (changed_here x d e g) =
         ap (λ (y : Thread). standing_in (layout_of job.program) job.settings.watchdog replica y) (sym g)
         ∙ stands-there (count == job.settings.quantum) x stop (ap (slice_get replica.threads) (sym d) ∙ e) (ap (λ (y : Thread). y.stop) g ∙ stopped)
 
+    -- the replica agrees after the arrival
     pub agrees-arrived : Agrees job machine (arrived job t count replica)
     agrees-arrived = record {
       runs_ahead = record {

@@ -39,13 +39,16 @@ use Rattle.ro_plain.proofs.Calls.{some-injective}
 
 -- ---- the guest makes no thread
 
+-- one thread in a machine that was computed
 pub one-life : (machine : Machine) (o : Option Machine) → o ≡ Some machine → option_map (λ (m : Machine). length m.kernel.lives) o ≡ Some 1 → length machine.kernel.lives ≤ 1
 one-life machine o e f =
     let same : length machine.kernel.lives ≡ 1 = some-injective (sym (ap (option_map (λ (m : Machine). length m.kernel.lives)) e) ∙ f) in omega arith
 
+-- steps that do not exist
 pub no-run : (machine : Machine) (o : Option Machine) → o ≡ Some machine → o ≡ None → length machine.kernel.lives ≤ 1
 no-run machine o e f = absurd (let g : None ≡ Some machine = sym f ∙ e in cc)
 
+-- no execution of the guest makes a thread
 exit-alone : StaysAlone exit_guest
 unfolding opening first_cpu steppable step next fetch_stop instruction_stop instruction_of call_at permits_of alu_of meaning serve payload_of
 exit-alone [] machine e = one-life machine _ e refl
@@ -59,13 +62,16 @@ exit-alone (suc x ∷ rest) machine e = no-run machine _ e refl
 
 -- ---- one struck register
 
+-- a list of one fault
 one-listed : (x fault : Fault) → Listed (x ∷ []) fault → x ≡ fault
 one-listed x fault (zero, e) = some-injective e
 one-listed x fault (suc place, e) = absurd (let f : None ≡ Some fault = e in cc)
 
+-- a list of one fault names one replica
 only-one : (x : Fault) → AllOfOne (x ∷ [])
 only-one x one other a b = ap (λ (f : Fault). f.replica) (sym (one-listed x one a) ∙ one-listed x other b)
 
+-- the journal is legal
 legal-one : Legal (usual_job exit_guest (flip_a0 1 ∷ [])) one_struck
 unfolding opening opening_core opening_replica struck execute applied cancelled recovered verdict_of event_of after first_cpu made_cpu steppable step next fetch_stop instruction_stop instruction_of call_at permits_of alu_of meaning serve payload_of
 legal-one = (
@@ -91,13 +97,16 @@ legal-one = (
   ),
 )
 
+-- it writes nothing
 no-output : output_of (usual_job exit_guest (flip_a0 1 ∷ [])) one_struck ≡ []
 unfolding opening opening_core opening_replica struck execute applied cancelled recovered verdict_of event_of after first_cpu made_cpu steppable step next fetch_stop instruction_stop instruction_of call_at permits_of alu_of meaning serve payload_of
 no-output = refl
 
+-- it does not end by a sink
 no-sink : (bytes : ℕ) → outcome_of one_struck ≢ Some (Sink bytes)
 no-sink bytes e = let f : Exit 7 ≡ Sink bytes = some-injective e in cc
 
+-- it is covered
 one-covered : Simulates (usual_job exit_guest (flip_a0 1 ∷ [])) one_struck → IsCovered (usual_job exit_guest (flip_a0 1 ∷ [])) one_struck (Exit 7) []
 one-covered s = record {
   legal = legal-one;
@@ -107,15 +116,18 @@ one-covered s = record {
   writes = sym (s.written.all_left no-sink) ∙ no-output;
 }
 
+-- the row of one struck register
 pub one-struck-covered : IsCovered (usual_job exit_guest (flip_a0 1 ∷ [])) one_struck (Exit 7) []
 one-struck-covered = one-covered (simulates (usual_job exit_guest (flip_a0 1 ∷ [])) one_struck (alone-race-free exit_guest exit-alone) (inr refl) legal-one
     (one-struck-apart (usual_job exit_guest (flip_a0 1 ∷ [])) one_struck (alone-race-free exit_guest exit-alone) (only-one (flip_a0 1)) legal-one))
 
 -- ---- two replicas struck alike
 
+-- the job in which two replicas are struck
 abbrev twice : Job
 twice = usual_job exit_guest (flip_a0 0 ∷ flip_a0 1 ∷ [])
 
+-- the journal is legal
 pub legal-two : Legal (usual_job exit_guest (flip_a0 0 ∷ flip_a0 1 ∷ [])) two_struck
 unfolding opening opening_core opening_replica struck execute applied cancelled recovered verdict_of event_of after first_cpu made_cpu steppable step next fetch_stop instruction_stop instruction_of call_at permits_of alu_of meaning serve payload_of
 legal-two = (
@@ -141,6 +153,7 @@ legal-two = (
   ),
 )
 
+-- before the second strike
 abbrev first_part : List Entry
 first_part = Take 0 0 0 ∷ Put 0 0 0 2 1 ∷ Take 0 1 0 ∷ []
 
@@ -148,10 +161,12 @@ first_part = Take 0 0 0 ∷ Put 0 0 0 2 1 ∷ Take 0 1 0 ∷ []
 abbrev a0 : Machine → Option ℕ
 a0 m = option_map (λ (cpu : Cpu). slice_index cpu.registers 9) (slice_get m.cpus 0)
 
+-- the ideal machine has 7 in a0
 ideal-seven : (end : Machine) → run exit_guest (opening exit_guest) (0 ∷ 0 ∷ []) ≡ Some end → a0 end ≡ Some 7
 unfolding opening first_cpu steppable step next fetch_stop instruction_stop instruction_of call_at permits_of alu_of meaning serve payload_of
 ideal-seven end e = let f : Some (Some 7) ≡ Some (a0 end) = ap (option_map a0) e in sym (some-injective f)
 
+-- thread 0 lives at the opening
 opening-alive : lives_on (opening exit_guest).kernel 0 ≡ true
 unfolding opening
 opening-alive = refl
@@ -167,6 +182,7 @@ six-not-alike r thread steps there six h =
     let seven_is : ◌≡◌ {A = ℕ} 7 6 = some-injective (sym (ideal-seven h.end runs) ∙ has_six) in
     omega arith
 
+-- faults do not stay apart
 pub not-apart : StaysApart (usual_job exit_guest (flip_a0 0 ∷ flip_a0 1 ∷ [])) two_struck → ⊥
 unfolding opening opening_core opening_replica struck execute applied cancelled recovered verdict_of event_of after first_cpu made_cpu steppable step next fetch_stop instruction_stop instruction_of call_at permits_of alu_of meaning serve payload_of
 not-apart apart =

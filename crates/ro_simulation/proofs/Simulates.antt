@@ -26,27 +26,33 @@ use Rattle.ro_simulation.proofs.Journals.{replay-append, payloads-append, outcom
 
 -- ---- what the invariant says of a journal with the same machine, replicas and kernel
 
+-- a journal, and the part of it that leaves the same machine, replicas and kernel
 pub record SameState (job : Job) (journal before : List Entry) (core : Core) : Type 0 where
   pub same_ideal : ideal job journal ≡ ideal job before
   pub same_replicas : (replay job journal).replicas ≡ core.replicas
   pub same_kernel : (replay job journal).kernel ≡ core.kernel
 
 module _ (job : Job) (free : RaceFree job.program) (odd : ℕ) (journal before : List Entry) (core : Core) (h : Holds job odd before core) (s : SameState job journal before core) where
+  -- the ideal machine
   ideal_is : ideal job journal ≡ Some h.machine
   ideal_is = s.same_ideal ∙ h.ideal_is
 
+  -- a replica of the journal is one of the core
   there-too : (number : ℕ) (r : Replica) → slice_get (replay job journal).replicas number ≡ Some r → slice_get core.replicas number ≡ Some r
   there-too number r e = ap (λ (rs : List Replica). slice_get rs number) (sym s.same_replicas) ∙ e
 
+  -- at most one replica differs
   pub at-most-one : h.machine.ended ≡ None → AtMostOneDiffers job journal
   at-most-one on = record {
     odd = odd;
     others_alike = λ number r d e. agrees-is-alike job journal h.machine r ideal_is on (h.others_agree on number r d (there-too number r e));
   }
 
+  -- backed pages are equal
   pub equal-pages : HaveEqualPages job journal
   equal-pages i j one other e f = (h.sound i one (there-too i one e)).same_backed ∙ sym (h.sound j other (there-too j other f)).same_backed
 
+  -- views are equal
   pub equal-views-of : HaveEqualViews job journal
   equal-views-of i j t one other e f alike alike' live stopped stopped' =
       let a = h.sound i one (there-too i one e) in
@@ -76,9 +82,11 @@ apart-policy job journal apart = record {
 }
 
 module _ (job : Job) (free : RaceFree job.program) (Q : ℕ → Type 0) (journal : List Entry) (policy : Policy job Q journal) (start : ℕ) (start_allowed : Q start) (legal : Legal job journal) where
+  -- where the journal stands
   pub stage : Stage job Q journal (replay job journal)
   stage = reach job free Q journal policy start start_allowed [] journal [] (opening_core job) (sym (append-nil journal)) (opening-reached job start) legal
 
+  -- each copy is good
   pub copies-well : EachCopiesWell job journal
   copies-well before rest thread count won lost did whole =
       let b = reach-before job free Q journal policy start start_allowed legal before rest (Vote thread count won (Some lost) did) whole in
@@ -99,15 +107,18 @@ module _ (job : Job) (free : RaceFree job.program) (Q : ℕ → Type 0) (journal
                 (ap (λ (c : Core). slice_get c.replicas number) (sym (replay-append job (opening_core job) before (Vote thread count won (Some lost) did ∷ []))) ∙ there));
           }
 
+  -- the opening has not ended
   opening_not_ended : (opening_core job).ended ≡ None
   opening_not_ended = (opening-reached job start).holds.not_ended
 
   -- ---- a journal that goes on
 
   module _ (odd : ℕ) (reached : Reached job odd journal (replay job journal)) where
+    -- a journal that goes on leaves its own state
     same_state : SameState job journal journal (replay job journal)
     same_state = record { same_ideal = refl; same_replicas = refl; same_kernel = refl }
 
+    -- a journal that goes on simulates
     goes-on-simulates : Simulates job journal
     goes-on-simulates = record {
       machine = reached.holds.machine;
@@ -128,12 +139,15 @@ module _ (job : Job) (free : RaceFree job.program) (Q : ℕ → Type 0) (journal
   -- ---- a journal that has ended
 
   module _ (count : TwoOrThree job) (before : List Entry) (how : How) (odd : ℕ) (last : Core) (same : journal ≡ before ++ End how ∷ []) (reached : Reached job odd before last) (may : MayEnd job last how) (last_is : replay job journal ≡ after job last (End how)) where
+    -- how the core ended
     ended_is : (replay job journal).ended ≡ Some how
     ended_is = ap (λ (c : Core). c.ended) last_is ∙ after-end-ended job last how
 
+    -- the journal's outcome
     outcome_is : outcome_of journal ≡ Some how
     outcome_is = ended-outcome job (opening_core job) journal how opening_not_ended legal ended_is
 
+    -- an end leaves machine, replicas and kernel
     ended_state : SameState job journal before last
     unfolding after
     ended_state = record {
@@ -142,16 +156,19 @@ module _ (job : Job) (free : RaceFree job.program) (Q : ℕ → Type 0) (journal
       same_kernel = ap (λ (c : Core). c.kernel) last_is;
     }
 
+    -- the output after the end
     output_is : output_of job journal ≡ cut_output last how
     unfolding after
     output_is = ap (λ (c : Core). c.output) last_is
 
+    -- the machine's output is that of the payloads
     whole_is : reached.holds.machine.output ≡ payloads_of job journal
     whole_is = sym reached.holds.same_output
         ∙ (reached.written
         ∙ (sym (append-nil (payloads_of job before))
         ∙ sym (ap (payloads_of job) same ∙ payloads-append job (opening_core job) before (End how ∷ []))))
 
+    -- what left is the front
     cut-front : (how : How) → IsFront (cut_output last how) last.output
     cut-front (Sink bytes) = (drop (length last.output - last.wrote + bytes) last.output, sym (take-append-drop (length last.output - last.wrote + bytes) last.output))
     cut-front (Exit status) = ([], sym (append-nil last.output))
@@ -161,6 +178,7 @@ module _ (job : Job) (free : RaceFree job.program) (Q : ℕ → Type 0) (journal
     cut-front Differ = ([], sym (append-nil last.output))
     cut-front NoMajority = ([], sym (append-nil last.output))
 
+    -- all has left where no sink failed
     cut-whole : (other : How) → how ≡ other → ((bytes : ℕ) → outcome_of journal ≢ Some (Sink bytes)) → cut_output last other ≡ last.output
     cut-whole (Sink bytes) e none = absurd (none bytes (outcome_is ∙ ap Some e))
     cut-whole (Exit status) e none = refl
@@ -170,6 +188,7 @@ module _ (job : Job) (free : RaceFree job.program) (Q : ℕ → Type 0) (journal
     cut-whole Differ e none = refl
     cut-whole NoMajority e none = refl
 
+    -- a journal that has ended simulates
     ended-simulates : Simulates job journal
     ended-simulates = record {
       machine = reached.holds.machine;
@@ -187,6 +206,7 @@ module _ (job : Job) (free : RaceFree job.program) (Q : ℕ → Type 0) (journal
       ends_as = λ other e. subst (EndsAs job.program reached.holds.machine) (some-injective (sym outcome_is ∙ e)) (end-as job odd before last reached.holds free count how may);
     }
 
+  -- the theorem under a policy
   pub simulates-with : TwoOrThree job → Simulates job journal
   simulates-with count = by stage
     where

@@ -22,6 +22,7 @@ use Rattle.ro_simulation.proofs.Lists.{ChangedFrom, unchanged, changed_here, get
 
 -- ---- one instruction
 
+-- an instruction that a replica executes
 pub record Instructs (layout : Layout) (watchdog : ℕ) (replica : Replica) (t : ℕ) (after : Replica) : Type 0 where
   pub thread : Thread
   pub instr : Instr
@@ -31,14 +32,17 @@ pub record Instructs (layout : Layout) (watchdog : ℕ) (replica : Replica) (t :
   pub is : after ≡ executed t replica thread instr
 
 module _ (layout : Layout) (watchdog : ℕ) (replica : Replica) (t : ℕ) (after : Replica) where
+  -- by what the thread does next
   by-next : (thread : Thread) → slice_get replica.threads t ≡ Some thread → (thread.since == watchdog) ≡ false → (n : Next) → next layout replica.backed replica.memory thread.cpu ≡ n → execute_next t replica thread n ≡ Some after → Instructs layout watchdog replica t after
   by-next thread there w (Stands stop) e f = absurd (let g : None ≡ Some after = f in cc)
   by-next thread there w (Executes instr) e f = record { thread = thread; instr = instr; there = there; unwatched = w; executes = e; is = some-injective (sym f) }
 
+  -- by the watchdog
   by-watchdog : (thread : Thread) → slice_get replica.threads t ≡ Some thread → (b : Bool) → (thread.since == watchdog) ≡ b → cond b None (execute_next t replica thread (next layout replica.backed replica.memory thread.cpu)) ≡ Some after → Instructs layout watchdog replica t after
   by-watchdog thread there true w e = absurd (let g : None ≡ Some after = e in cc)
   by-watchdog thread there false w e = by-next thread there w _ refl e
 
+  -- where a replica executes, this is its instruction
   pub instructs : execute layout watchdog replica t ≡ Some after → Instructs layout watchdog replica t after
   unfolding execute
   instructs e = option_and_then_some (execute_at layout watchdog t replica) (slice_get replica.threads t) after e (λ thread there f. by-watchdog thread there (thread.since == watchdog) refl f)
@@ -50,6 +54,7 @@ instructed replica thread instr =
 
 -- ---- a run in parts
 
+-- the first instruction of a run, and the others
 pub record RunParts (layout : Layout) (watchdog n : ℕ) (replica : Replica) (t : ℕ) (ran : Ran) : Type 0 where
   pub after : Replica
   pub rest : Ran
@@ -57,6 +62,7 @@ pub record RunParts (layout : Layout) (watchdog n : ℕ) (replica : Replica) (t 
   pub runs : run_of layout watchdog n after t ≡ Some rest
   pub sum : plus_hit (struck layout.ranges replica t).hit rest ≡ ran
 
+-- a run of one instruction and more has both
 pub run-parts : (layout : Layout) (watchdog n : ℕ) (replica : Replica) (t : ℕ) (ran : Ran) → run_of layout watchdog (suc n) replica t ≡ Some ran → RunParts layout watchdog n replica t ran
 run-parts layout watchdog n replica t ran e = by (option_and_then (λ after. run_of layout watchdog n after t) (execute layout watchdog (struck layout.ranges replica t).replica t)) refl e
   where
@@ -72,6 +78,7 @@ abbrev pub HasFault : Job → ℕ → Type 0
 HasFault job number = (fault : Fault) × (fault.replica ≡ number) × Listed job.faults fault
 
 module _ (job : Job) (core : Core) (backed : Backed) (number : ℕ) where
+  -- a change of a thread keeps it
   pub sound-changed : (replica : Replica) (f : Thread → Thread) (t : ℕ) → ((x : Thread) → x.since ≤ job.settings.watchdog → (f x).since ≤ job.settings.watchdog) → IsSound job core backed number replica → IsSound job core backed number (record replica { threads = changed_at f replica.threads t })
   sound-changed replica f t keeps h = record {
     same_backed = h.same_backed;
@@ -84,19 +91,23 @@ module _ (job : Job) (core : Core) (backed : Backed) (number : ℕ) where
       by place thread (unchanged d e) = h.within_watch place thread e
       by place thread (changed_here x d e g) = subst (λ (y : Thread). y.since ≤ job.settings.watchdog) g (keeps x (h.within_watch place x e))
 
+  -- a strike keeps it
   sound-struck-by : (ranges : List Range) (t : ℕ) (replica : Replica) (target : Target) → IsSound job core backed number replica → IsSound job core backed number (struck_by ranges t replica target)
   sound-struck-by ranges t replica (Register r bit) h = sound-changed replica _ t (λ x k. k) h
   sound-struck-by ranges t replica (Pc bit) h = sound-changed replica _ t (λ x k. k) h
   sound-struck-by ranges t replica (Byte address bit) h = record { same_backed = h.same_backed; all_made = h.all_made; within_watch = h.within_watch; own_faults = h.own_faults }
 
+  -- strikes keep it
   sound-fold : (ranges : List Range) (t : ℕ) (due : List Fault) (replica : Replica) → IsSound job core backed number replica → IsSound job core backed number (fold (λ r fault. struck_by ranges t r fault.target) replica due)
   sound-fold ranges t [] replica h = h
   sound-fold ranges t (fault ∷ due) replica h = sound-fold ranges t due _ (sound-struck-by ranges t replica fault.target h)
 
+  -- the due faults keep it
   sound-strike : (ranges : List Range) (t done : ℕ) (replica : Replica) → IsSound job core backed number replica → IsSound job core backed number (strike ranges t done replica).replica
   sound-strike ranges t done replica h = sound-fold ranges t (filter (is_due t done) replica.waiting) (record replica { waiting = filter (λ fault. not (is_due t done fault)) replica.waiting })
       (record { same_backed = h.same_backed; all_made = h.all_made; within_watch = h.within_watch; own_faults = λ fault e. h.own_faults fault (listed-filter (λ f. not (is_due t done f)) replica.waiting fault e).0 })
 
+  -- a due fault is the replica's own
   has-fault : (t done : ℕ) (replica : Replica) → IsSound job core backed number replica → 0 < length (filter (is_due t done) replica.waiting) → HasFault job number
   has-fault t done replica h some =
       let first = get-within (filter (is_due t done) replica.waiting) 0 some in
@@ -108,14 +119,17 @@ module _ (job : Job) (core : Core) (backed : Backed) (number : ℕ) where
     pub sound : IsSound job core backed number ran.replica
     pub own : 0 < ran.hit → HasFault job number
 
+  -- by whether the thread was made
   struck-in : (ranges : List Range) (t : ℕ) (replica : Replica) (o : Option Thread) → IsSound job core backed number replica → StruckWell (strike_in ranges t replica o)
   struck-in ranges t replica None h = record { sound = h; own = λ (k : 0 < 0). absurd (omega arith) }
   struck-in ranges t replica (Some thread) h = record { sound = sound-strike ranges t thread.done replica h; own = λ k. has-fault t thread.done replica h k }
 
+  -- due faults are struck well
   struck-well : (ranges : List Range) (t : ℕ) (replica : Replica) → IsSound job core backed number replica → StruckWell (struck ranges replica t)
   unfolding struck
   struck-well ranges t replica h = struck-in ranges t replica (slice_get replica.threads t) h
 
+  -- an instruction keeps it
   sound-executed : (layout : Layout) (t : ℕ) (replica after : Replica) → Instructs layout job.settings.watchdog replica t after → IsSound job core backed number replica → IsSound job core backed number after
   sound-executed layout t replica after step h = subst (IsSound job core backed number) (sym step.is) (record {
     same_backed = h.same_backed;
@@ -134,6 +148,7 @@ module _ (job : Job) (core : Core) (backed : Backed) (number : ℕ) where
       by place thread (inl e) = h.within_watch place thread e.1
       by place thread (inr e) = subst (λ (x : Thread). x.since ≤ job.settings.watchdog) e.1 more
 
+  -- some fault in all is some in one part
   hit-cases : (m n : ℕ) → 0 < m + n → (0 < m) ⊎ (0 < n)
   hit-cases zero n h = inr (omega arith)
   hit-cases (suc m) n h = inl (omega arith)
@@ -155,9 +170,11 @@ pub record SameButWaiting (replica other : Replica) : Type 0 where
   pub waiting : List Fault
   pub is : other ≡ record replica { waiting = waiting }
 
+-- no strike changes nothing
 none-struck-by : (ranges : List Range) (t : ℕ) (replica : Replica) (due : List Fault) → length due ≡ 0 → fold (λ r fault. struck_by ranges t r fault.target) replica due ≡ replica
 none-struck-by ranges t replica due e = ap (fold (λ r fault. struck_by ranges t r fault.target) replica) (nil_from_length due e)
 
+-- by whether the thread was made
 none-struck-in : (ranges : List Range) (t : ℕ) (replica : Replica) (o : Option Thread) → (strike_in ranges t replica o).hit ≡ 0 → SameButWaiting replica (strike_in ranges t replica o).replica
 none-struck-in ranges t replica None e = record { waiting = replica.waiting; is = refl }
 none-struck-in ranges t replica (Some thread) e = record {
@@ -165,6 +182,7 @@ none-struck-in ranges t replica (Some thread) e = record {
   is = none-struck-by ranges t _ (filter (is_due t thread.done) replica.waiting) e;
 }
 
+-- where no fault is due the replica is the same but for those that wait
 pub none-struck : (ranges : List Range) (t : ℕ) (replica : Replica) → (struck ranges replica t).hit ≡ 0 → SameButWaiting replica (struck ranges replica t).replica
 unfolding struck
 none-struck ranges t replica e = none-struck-in ranges t replica (slice_get replica.threads t) e

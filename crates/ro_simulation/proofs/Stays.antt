@@ -27,6 +27,7 @@ use Rattle.ro_plain.proofs.Exists.{HasStep, IsPassable, no_stop, a_trap, a_syste
 use Rattle.ro_plain.proofs.Unordered.{happens-later}
 use Rattle.ro_simulation.proofs.Pages.{fetched-with-all}
 
+-- the stretch of an instruction that is read
 agree-fetched : (program : Program) (m n : Memory) (cpu : Cpu) (o : Option Stop) → o ≡ None → AgreeOn m n (cond (is_none o) (fetched cpu ∷ []) []) → AgreeOn m n (fetched cpu ∷ [])
 agree-fetched program m n cpu o e h = subst (λ (p : Option Stop). AgreeOn m n (cond (is_none p) (fetched cpu ∷ []) [])) e h
 
@@ -40,6 +41,7 @@ next-same-with program backed m n cpu h = by (fetch_stop (layout_of program) bac
 
 -- ---- what the two steps mean for the order
 
+-- a system call orders nothing
 system-nothing : (machine : Machine) (call : Call) (number : ℕ) (served : Served) → call.which ≡ System number → sync_served machine call served ≡ Nothing
 system-nothing machine call number (Done kernel effect) e =
     ap (λ w. cond (is_exit w) Exits (cond (is_zero effect.answer) (sync_by machine call w) Nothing)) e ∙ either (is_zero effect.answer)
@@ -50,6 +52,7 @@ system-nothing machine call number (Done kernel effect) e =
 system-nothing machine call number (Ends kernel how) e = ap (λ w. cond (is_exit w) Exits Nothing) e
 system-nothing machine call number Blocked e = refl
 
+-- nor does a plain instruction or a trap
 passable-nothing : (program : Program) (machine : Machine) (t : ℕ) (instr : Instr) (o : Option Stop) → IsPassable o → sync_next program machine t (unless_stop o (Executes instr)) ≡ Nothing
 passable-nothing program machine t instr None no_stop = refl
 passable-nothing program machine t instr (Some (Trap code)) a_trap = refl
@@ -57,10 +60,12 @@ passable-nothing program machine t instr (Some (Calls call)) (a_system_call {num
 passable-nothing program machine t instr (Some (PageFault page)) h = elim h [ ]
 passable-nothing program machine t instr (Some Watchdog) h = elim h [ ]
 
+-- nor does whatever is read from memory
 fetched-nothing : (program : Program) (machine : Machine) (t : ℕ) (cpu : Cpu) (o : Option Instr) → sync_next program machine t (next_at program.image.ranges all_backed cpu o) ≡ Nothing
 fetched-nothing program machine t cpu None = refl
 fetched-nothing program machine t cpu (Some instr) = passable-nothing program machine t instr _ (instruction-passable program.image.ranges cpu instr)
 
+-- a call that makes a thread makes the next one
 makes-by : (machine : Machine) (call : Call) (w : Which) (made : ℕ) → sync_by machine call w ≡ Makes made → made ≡ length machine.kernel.lives
 makes-by machine call (System n) made e = absurd (let f : Nothing ≡ Makes made = e in cc)
 makes-by machine call Create made e = let f : Makes (length machine.kernel.lives) ≡ Makes made = e in cc
@@ -73,16 +78,19 @@ makes-by machine call Lock made e = absurd (let f : Locks call.a0 ≡ Makes made
 makes-by machine call TryLock made e = absurd (let f : Locks call.a0 ≡ Makes made = e in cc)
 makes-by machine call Unlock made e = absurd (let f : Unlocks call.a0 ≡ Makes made = e in cc)
 
+-- through the tests
 makes-cond : (b c : Bool) (s : Sync) (made n : ℕ) → (s ≡ Makes made → made ≡ n) → cond b Exits (cond c s Nothing) ≡ Makes made → made ≡ n
 makes-cond true c s made n h e = absurd (let f : Exits ≡ Makes made = e in cc)
 makes-cond false true s made n h e = h e
 makes-cond false false s made n h e = absurd (let f : Nothing ≡ Makes made = e in cc)
 
+-- as it is served
 makes-served : (machine : Machine) (call : Call) (served : Served) (made : ℕ) → sync_served machine call served ≡ Makes made → made ≡ length machine.kernel.lives
 makes-served machine call (Done kernel effect) made e = makes-cond (is_exit call.which) (is_zero effect.answer) _ made _ (makes-by machine call call.which made) e
 makes-served machine call (Ends kernel how) made e = makes-cond (is_exit call.which) false Nothing made _ (λ (f : Nothing ≡ Makes made). absurd cc) (e ∙ refl)
 makes-served machine call Blocked made e = absurd (let f : Nothing ≡ Makes made = e in cc)
 
+-- as the thread's step
 makes-next : (program : Program) (machine : Machine) (x : ℕ) (n : Next) (made : ℕ) → sync_next program machine x n ≡ Makes made → made ≡ length machine.kernel.lives
 makes-next program machine x (Stands (Calls call)) made e = makes-served machine call _ made e
 makes-next program machine x (Stands (Trap code)) made e = absurd (let f : Nothing ≡ Makes made = e in cc)
@@ -90,6 +98,7 @@ makes-next program machine x (Stands (PageFault page)) made e = absurd (let f : 
 makes-next program machine x (Stands Watchdog) made e = absurd (let f : Nothing ≡ Makes made = e in cc)
 makes-next program machine x (Executes instr) made e = absurd (let f : Nothing ≡ Makes made = e in cc)
 
+-- a live thread was made
 pub live-within : (lives : List Life) (t : ℕ) → live_option (slice_get lives t) ≡ true → t < length lives
 live-within lives t h = by (slice_get lives t) refl h
   where
@@ -97,31 +106,38 @@ live-within lives t h = by (slice_get lives t) refl h
     by None e k = absurd (true≢false (sym k))
     by (Some life) e k = slice_get_within lives t life e
 
+-- what a step means for the order, by its registers
 sync-at : (program : Program) (machine : Machine) (u : ℕ) (cpu : Cpu) → steppable machine u ≡ Some cpu → sync_of program machine u ≡ sync_next program machine u (next_of program machine cpu)
 unfolding sync_of
 sync-at program machine u cpu live = ap (λ o. option_map_or (λ cpu. sync_next program machine u (next_of program machine cpu)) o Nothing) live
 
 -- ---- the two last steps of an execution
 
+-- the front of two lists
 take-seam : {X : Type 0} (xs ys : List X) → take (length xs) (xs ++ ys) ≡ xs
 take-seam [] ys = refl
 take-seam (x ∷ xs) ys = ap {B = List _} (λ r. x ∷ r) (take-seam xs ys)
 
+-- the first element of the back
 slice_get-seam : {X : Type 0} (xs : List X) (y : X) (ys : List X) → slice_get (xs ++ y ∷ ys) (length xs) ≡ Some y
 slice_get-seam [] y ys = refl
 slice_get-seam (x ∷ xs) y ys = slice_get-seam xs y ys
 
+-- the second of two last elements
 slice_get-second : {X : Type 0} (xs : List X) (y z : X) → slice_get (xs ++ y ∷ z ∷ []) (suc (length xs)) ≡ Some z
 slice_get-second [] y z = refl
 slice_get-second (x ∷ xs) y z = slice_get-second xs y z
 
+-- all but the last element
 take-second : {X : Type 0} (xs : List X) (y z : X) → take (suc (length xs)) (xs ++ y ∷ z ∷ []) ≡ xs ++ y ∷ []
 take-second [] y z = refl
 take-second (x ∷ xs) y z = ap {B = List _} (λ r. x ∷ r) (take-second xs y z)
 
+-- at a place that is there
 at-both : {X : Type 0} (f : Machine → ℕ → X) (none : X) (o : Option Machine) (t : Option ℕ) (m : Machine) (n : ℕ) → o ≡ Some m → t ≡ Some n → at_place f none o t ≡ f m n
 at-both f none o t m n e g = ap₂ (at_place f none) e g
 
+-- what cannot be true is false
 not-true : (b : Bool) → (b ≡ true → ⊥) → b ≡ false
 not-true true h = absurd (h refl)
 not-true false h = refl
@@ -133,21 +149,26 @@ pub record Stays (program : Program) (machine after : Machine) (t : ℕ) (cpu : 
 
 module _ (program : Program) (free : RaceFree program) (before : List ℕ) (machine : Machine) (reached : run program (opening program) before ≡ Some machine) (x t : ℕ) (different : x ≢ t) (after : Machine) (steps : step program machine x ≡ Some after) (going : after.ended ≡ None) (cpu : Cpu) (live : steppable machine t ≡ Some cpu) where
   module _ (own : Cpu) (live_x : steppable machine x ≡ Some own) (by_x : step_by program machine x own (next_of program machine own) ≡ Some after) where
+    -- the step keeps the thread
     keeps : Keeps program machine t x (λ e. different (sym e)) cpu (steppable-parts machine t cpu live) own (accesses_by program machine x own (next_of program machine own)).writes after
     keeps = step_by-keeps program machine t x (λ e. different (sym e)) cpu (steppable-parts machine t cpu live) own (next_of program machine own) after by_x going
 
+    -- the machine before the step
     reached_x : machine_at program (before ++ x ∷ t ∷ []) (length before) ≡ Some machine
     reached_x = ap (run program (opening program)) (take-seam before (x ∷ t ∷ [])) ∙ reached
 
+    -- the machine after it
     reached_t : machine_at program (before ++ x ∷ t ∷ []) (suc (length before)) ≡ Some after
     reached_t = ap (run program (opening program)) (take-second before x t) ∙ (run-append program (opening program) before (x ∷ [])
         ∙ (ap (option_and_then (λ m. run program m (x ∷ []))) reached
         ∙ ap (option_and_then (λ m. run program m [])) steps))
 
     module _ (read : fetch_stop (layout_of program) all_backed cpu ≡ None) where
+      -- the thread has a step there
       has : HasStep (step_by program after t cpu (next_of program after cpu))
       has = subst (λ (n : Next). HasStep (step_by program after t cpu n)) (sym (next-fetched (layout_of program) all_backed _ cpu read)) (fetched-step program after t cpu _)
 
+      -- both steps are an execution
       is-execution : IsExecution program (before ++ x ∷ t ∷ [])
       is-execution = (
         has.0,
@@ -157,15 +178,18 @@ module _ (program : Program) (free : RaceFree program) (before : List ℕ) (mach
             ∙ ap (option_and_then (λ m. run program m [])) (step-at program after t cpu keeps.may ∙ has.1))),
       )
 
+      -- the second step orders nothing
       second-nothing : sync_at program (before ++ x ∷ t ∷ []) (suc (length before)) ≡ Nothing
       second-nothing = at-both (sync_of program) Nothing _ _ after t reached_t (slice_get-second before x t)
           ∙ (sync-at program after t cpu keeps.may
           ∙ (ap (sync_next program after t) (next-fetched (layout_of program) all_backed _ cpu read)
           ∙ fetched-nothing program after t cpu _))
 
+      -- what the first step means
       first-is : sync_at program (before ++ x ∷ t ∷ []) (length before) ≡ sync_next program machine x (next_of program machine own)
       first-is = at-both (sync_of program) Nothing _ _ machine x reached_x (slice_get-seam before x (t ∷ [])) ∙ sync-at program machine x own live_x
 
+      -- the two steps are not ordered
       no-order : {i j : ℕ} → HappensBefore program (before ++ x ∷ t ∷ []) i j → i ≡ length before → j ≡ suc (length before) → ⊥
       no-order (in_thread u lt a b) e f =
           different (some-injective (sym (slice_get-seam before x (t ∷ [])) ∙ (ap (slice_get (before ++ x ∷ t ∷ [])) (sym e) ∙ (a ∙ (sym b ∙ (ap (slice_get (before ++ x ∷ t ∷ [])) f ∙ slice_get-second before x t))))))
@@ -180,6 +204,7 @@ module _ (program : Program) (free : RaceFree program) (before : List ℕ) (mach
           let g : Nothing ≡ Joins u = sym second-nothing ∙ (ap (sync_at program (before ++ x ∷ t ∷ [])) (sym f) ∙ c) in cc
       no-order (chain h k) e f = let a = happens-later h in let b = happens-later k in omega arith
 
+      -- so they do not conflict
       apart : (byte : ℕ) → conflict_at (accesses program machine x) (accesses program after t) byte ≡ false
       apart byte =
           sym (ap₂ (λ a b. conflict_at a b byte)
@@ -188,6 +213,7 @@ module _ (program : Program) (free : RaceFree program) (before : List ℕ) (mach
           ∙ not-true _ (λ e. no-order (free (before ++ x ∷ t ∷ []) is-execution (length before) (suc (length before)) byte (omega arith) (omega (arith, length-append before (x ∷ t ∷ [])))
           (λ f. different (some-injective (sym (slice_get-seam before x (t ∷ [])) ∙ (f ∙ slice_get-second before x t)))) e) refl refl)
 
+      -- and the thread reads what it did
       read-agrees : AgreeOn machine.memory after.memory (fetches program cpu)
       read-agrees =
           let whole : Separate (accesses_by program machine x own (next_of program machine own)) (accesses_by program after t cpu (next_of program after cpu)) =
@@ -195,10 +221,12 @@ module _ (program : Program) (free : RaceFree program) (before : List ℕ) (mach
           (subst (λ (b : Accesses). Separate (accesses program machine x) b) (accesses-at program after t cpu keeps.may) (separate _ _ apart)) in
           fetches-agree program after t cpu _ _ (next_of program after cpu) (keeps.agrees _ whole.writes_reads)
 
+    -- by whether it reads its instruction
     stays-at : (o : Option Stop) → fetch_stop (layout_of program) all_backed cpu ≡ o → AgreeOn machine.memory after.memory (fetches program cpu)
     stays-at None e = read-agrees e
     stays-at (Some stop) e = subst (λ (p : Option Stop). AgreeOn machine.memory after.memory (cond (is_none p) (fetched cpu ∷ []) [])) (sym e) (record { same = λ a (w : false ≡ true). absurd (true≢false (sym w)) })
 
+    -- by the registers of the other thread
     stays-by : Stays program machine after t cpu
     stays-by = record { live = keeps.may; next_stays = λ backed. next-same-with program backed _ _ cpu (stays-at _ refl) }
 

@@ -44,9 +44,11 @@ no-write : (ranges : List Range) (m : Memory) (call : Call) → is_write call.wh
 unfolding payload_of
 no-write ranges m call e = ap (λ (b : Bool). cond (b && is_good_write ranges call) (bytes_at m call.a1 (capped call.a2)) []) e
 
+-- what blocks is not served
 never-blocked : IsServed Blocked → ⊥
 never-blocked h = elim h [ ]
 
+-- a call that blocks is no write
 blocked-no-write : (setup : Setup) (kernel : Kernel) (t : ℕ) (call : Call) → serve setup kernel t call ≡ Blocked → is_write call.which ≡ false
 blocked-no-write setup kernel t call e = by call.which refl
   where
@@ -81,26 +83,33 @@ pub record EventStep (job : Job) (backed : Backed) (machine middle : Machine) (t
 abbrev pub HasEvent : Job → Backed → Machine → Machine → ℕ → Event → Type 0
 HasEvent job backed machine middle t event = (after : Machine) × EventStep job backed machine middle t event after
 
+-- one thread more or none
 length-made : (made : Option Made) (cpu : Cpu) (cpus : List Cpu) → length (with_made made cpu cpus) ≡ length cpus + made_count made
 length-made None cpu cpus = omega arith
 length-made (Some made) cpu cpus = length-append cpus _
 
 module _ (job : Job) (free : RaceFree job.program) (before : List ℕ) (backed : Backed) (machine middle : Machine) (reached : run job.program (opening job.program) before ≡ Some machine) (going : machine.ended ≡ None) (t count : ℕ) (live : IsTrue (lives_on machine.kernel t)) (own : BackedRun job.program backed machine (replicate count t) middle) (cpu : Cpu) (live_middle : steppable middle t ≡ Some cpu) (as_many : length machine.cpus ≡ length machine.kernel.lives) where
+  -- the thread's own steps keep the kernel
   kept : KeepsRest machine middle
   kept = BackedRun-keeps job.program backed own
 
+  -- the program goes on in the middle
   going_middle : middle.ended ≡ None
   going_middle = kept.same_end ∙ going
 
+  -- the middle machine is reached
   reached_middle : run job.program (opening job.program) (before ++ replicate count t) ≡ Some middle
   reached_middle = reach-run job.program backed before reached own
 
+  -- the lives in the middle
   lives_middle : length middle.kernel.lives ≡ length machine.kernel.lives
   lives_middle = ap (λ (k : Kernel). length k.lives) kept.same_kernel
 
+  -- one life for each thread in the middle
   as_many_middle : length middle.cpus ≡ length middle.kernel.lives
   as_many_middle = kept.same_length ∙ (as_many ∙ sym lives_middle)
 
+  -- the middle machine has not ended
   over-middle : (how : How) → middle.ended ≡ Some how → IsOver how
   over-middle how e = absurd (let f : None ≡ Some how = sym going_middle ∙ e in cc)
 
@@ -117,6 +126,7 @@ module _ (job : Job) (free : RaceFree job.program) (before : List ℕ) (backed :
       let along : Stays job.program middle after u m.cpu = stays job.program free (before ++ replicate count t) middle reached_middle t u (λ f. d (sym f)) after e on m.cpu m.live in
       record { cpu = m.cpu; live = along.live; stands = sym (along.next_stays all_backed) ∙ m.stands; writes_nothing = m.writes_nothing }
 
+  -- an event without a step
   quiet-step : (did : Did) (page : Option ℕ) (releases : Bool) (event : Event) → event_steps did ≡ 0 → event ≡ record { did = did; kernel = middle.kernel; effect = quiet_effect t page releases; payload = []; blocked = event.blocked; due = None } → ((call : Call) → event.blocked ≡ Some call → StandsAtCall job.program middle t call) → EventStep job backed machine middle t event middle
   quiet-step did page releases event none is stays_blocked = record {
     run_event = ap (λ (n : ℕ). run job.program middle (replicate n t)) (ap (λ (e : Event). event_steps e.did) is ∙ none);
@@ -139,11 +149,13 @@ module _ (job : Job) (free : RaceFree job.program) (before : List ℕ) (backed :
   -- ---- a call
 
   module _ (call : Call) (stands : next_of job.program middle cpu ≡ Stands (Calls call)) (payload : List ℕ) (payload_is : payload ≡ payload_of job.program.image.ranges middle.memory call) where
+    -- a call's step
     step-called : (served : Served) (after : Machine) → serve (setup_of job.program) middle.kernel t call ≡ served → called middle cpu (payload_of job.program.image.ranges middle.memory call) served ≡ Some after → step job.program middle t ≡ Some after
     step-called served after e f = step-at job.program middle t cpu live_middle
         ∙ (ap (step_by job.program middle t cpu) stands
         ∙ (ap (called middle cpu (payload_of job.program.image.ranges middle.memory call)) e ∙ f))
 
+    -- the event of a call, by what comes of it
     call-step : (served : Served) → serve (setup_of job.program) middle.kernel t call ≡ served → Own middle.kernel t served → Tidy middle.kernel t served → HasEvent job backed machine middle t (call_event middle.kernel t call payload served)
     call-step (Done kernel effect) e (done own_effect) (tidy_done tidy) = (
       affected middle cpu kernel effect (payload_of job.program.image.ranges middle.memory call),
@@ -188,9 +200,11 @@ module _ (job : Job) (free : RaceFree job.program) (before : List ℕ) (backed :
         zero-more : (n : ℕ) → n ≡ n + 0
         zero-more n = omega arith
 
+    -- the event of a call
     pub step-of-call : HasEvent job backed machine middle t (call_event middle.kernel t call payload (serve (setup_of job.program) middle.kernel t call))
     step-of-call = call-step _ refl (serve-own (setup_of job.program) middle.kernel t call) (serve-tidy (setup_of job.program) middle.kernel t call)
 
+  -- the event of a trap
   trap-step : (code : ℕ) → next_of job.program middle cpu ≡ Stands (Trap code) → HasEvent job backed machine middle t (record { did = Trapped; kernel = middle.kernel; effect = quiet_effect t None false; payload = []; blocked = None; due = Some (TrapHow code) })
   trap-step code stands = (
     record middle { ended = Some (TrapHow code) },

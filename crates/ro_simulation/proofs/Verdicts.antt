@@ -16,6 +16,7 @@ pub record WonWell (odd : ℕ) (good : View) (views : List View) (won : ℕ) (lo
   pub winner : slice_get views won ≡ Some good
   pub loser : (l : ℕ) → lost ≡ Some l → (l ≡ odd) × (won ≢ odd)
 
+-- views that fail the test differ
 differ : (a b : View) → same_view a b ≡ false → a ≢ b
 differ a b h e = true≢false (sym (subst (λ (x : View). same_view a x ≡ true) e (view-same a)) ∙ h)
 
@@ -23,15 +24,19 @@ differ a b h e = true≢false (sym (subst (λ (x : View). same_view a x ≡ true
 one-of-two : (m n odd : ℕ) → m ≢ n → (m ≢ odd) ⊎ (n ≢ odd)
 one-of-two m n odd d = ⊎_elim (λ (e : m ≡ odd). inr (λ f. d (e ∙ sym f))) (λ (e : m ≢ odd). inl e) (cases_eq m odd)
 
+-- another place than the odd one
 not-odd : (i l odd : ℕ) → i ≢ l → l ≡ odd → i ≢ odd
 not-odd i l odd d e f = d (f ∙ sym e)
 
+-- what must be the odd one is
 is-odd : (l odd : ℕ) → (l ≢ odd → ⊥) → l ≡ odd
 is-odd l odd h = ⊎_elim (λ (e : l ≡ odd). e) (λ (e : l ≢ odd). absurd (h e)) (cases_eq l odd)
 
+-- the loser is the odd one
 some-loser : (l m odd won : ℕ) → (Some l ≡ Some m) → l ≡ odd → won ≢ l → (m ≡ odd) × (won ≢ odd)
 some-loser l m odd won e f d = (sym (some-injective e) ∙ f, not-odd won l odd d f)
 
+-- where there is no loser
 no-loser : (l odd won : ℕ) → None ≡ Some l → (l ≡ odd) × (won ≢ odd)
 no-loser l odd won e = absurd (let f : None ≡ Some l = e in cc)
 
@@ -40,6 +45,7 @@ module _ (odd : ℕ) (good : View) where
   both-good : (views : List View) (i j : ℕ) (a b : View) → AllBut odd good views → slice_get views i ≡ Some a → slice_get views j ≡ Some b → i ≢ j → a ≡ b → a ≡ good
   both-good views i j a b h e f d same = ⊎_elim (λ (n : i ≢ odd). h.others i a n e) (λ (n : j ≢ odd). same ∙ h.others j b n f) (one-of-two i j odd d)
 
+  -- of two views
   won-two : (a b : View) (ab : Bool) → same_view a b ≡ ab → (won : ℕ) (lost : Option ℕ) → cond ab (Won 0 None) Split ≡ Won won lost → AllBut odd good (a ∷ b ∷ []) → WonWell odd good (a ∷ b ∷ []) won lost
   won-two a b false e won lost is h = absurd (let f : Split ≡ Won won lost = is in cc)
   won-two a b true e won lost is h =
@@ -62,6 +68,7 @@ module _ (odd : ℕ) (good : View) where
         loser = λ m k. some-loser l m odd won (lost_is ∙ k) l_odd (λ n. d' (won_is ∙ n));
       }
 
+  -- of three views
   won-three : (a b c : View) (ab ac bc : Bool) → same_view a b ≡ ab → same_view a c ≡ ac → same_view b c ≡ bc → (won : ℕ) (lost : Option ℕ) → cond ab (cond ac (Won 0 None) (Won 0 (Some 2))) (cond ac (Won 0 (Some 1)) (cond bc (Won 1 (Some 0)) Split)) ≡ Won won lost → AllBut odd good (a ∷ b ∷ c ∷ []) → WonWell odd good (a ∷ b ∷ c ∷ []) won lost
   won-three a b c true true bc e f g won lost is h =
       let zero_won : 0 ≡ won = (let k : Won 0 None ≡ Won won lost = is in cc) in
@@ -78,6 +85,7 @@ module _ (odd : ℕ) (good : View) where
       by-pair (a ∷ b ∷ c ∷ []) 1 2 0 won lost b c a h refl refl refl (λ (k : 1 ≡ 2). omega arith) (λ (k : 1 ≡ 0). omega arith) (view-true b c g) (λ k. differ a b e (sym k)) is
   won-three a b c false false false e f g won lost is h = absurd (let k : Split ≡ Won won lost = is in cc)
 
+  -- a vote is won well
   pub won-well : (views : List View) (won : ℕ) (lost : Option ℕ) → verdict_of views ≡ Won won lost → AllBut odd good views → WonWell odd good views won lost
   unfolding verdict_of
   won-well [] won lost is h = absurd (let k : Split ≡ Won won lost = is in cc)
@@ -88,9 +96,11 @@ module _ (odd : ℕ) (good : View) where
 
   -- ---- three views never split
 
+  -- two views of other places do not fail the test
   two-alike : (views : List View) (i j : ℕ) (a b : View) → AllBut odd good views → slice_get views i ≡ Some a → slice_get views j ≡ Some b → i ≢ odd → j ≢ odd → same_view a b ≡ false → ⊥
   two-alike views i j a b h e f d d' other = differ a b other (h.others i a d e ∙ sym (h.others j b d' f))
 
+  -- three views do not split
   split-three : (a b c : View) (ab ac bc : Bool) → same_view a b ≡ ab → same_view a c ≡ ac → same_view b c ≡ bc → cond ab (cond ac (Won 0 None) (Won 0 (Some 2))) (cond ac (Won 0 (Some 1)) (cond bc (Won 1 (Some 0)) Split)) ≡ Split → AllBut odd good (a ∷ b ∷ c ∷ []) → ⊥
   split-three a b c true true bc e f g is h = let k : Won 0 None ≡ Split = is in cc
   split-three a b c true false bc e f g is h = let k : Won 0 (Some 2) ≡ Split = is in cc
@@ -105,6 +115,7 @@ module _ (odd : ℕ) (good : View) where
       (one-of-two 1 2 odd (λ (k : 1 ≡ 2). omega arith)))
       (cases_eq 0 odd)
 
+  -- so three replicas always come to a majority
   pub never-splits : (views : List View) → length views ≡ 3 → verdict_of views ≡ Split → AllBut odd good views → ⊥
   unfolding verdict_of
   never-splits [] n is h = omega arith

@@ -37,10 +37,12 @@ use Rattle.ro_simulation.proofs.Around.{Around, around, Without-append}
 abbrev pub standing_by : Bool → Next → Option Stop
 standing_by watched n = cond watched (Some Watchdog) (stop_in n)
 
+-- a stop that is not the watchdog's
 pub record StandsNext (watched : Bool) (n : Next) (stop : Stop) : Type 0 where
   pub unwatched : watched ≡ false
   pub next_is : n ≡ Stands stop
 
+-- what a thread does next, by its stop
 next-stands : (n : Next) (stop : Stop) → stop_in n ≡ Some stop → n ≡ Stands stop
 next-stands (Stands other) stop e = ap Stands (some-injective e)
 next-stands (Executes instr) stop e = absurd (let f : None ≡ Some stop = e in cc)
@@ -50,16 +52,19 @@ pub stands-next : (watched : Bool) (n : Next) (stop : Stop) → standing_by watc
 stands-next true n stop e other = absurd (other (let f : Some Watchdog ≡ Some stop = e in cc))
 stands-next false n stop e other = record { unwatched = refl; next_is = next-stands n stop e }
 
+-- a call or a trap is not the watchdog's
 pub no-watchdog : (stop : Stop) → IsNoFault stop → stop ≢ Watchdog
 no-watchdog (Calls call) a_call e = let f : Calls call ≡ Watchdog = e in cc
 no-watchdog (Trap code) a_trap e = let f : Trap code ≡ Watchdog = e in cc
 no-watchdog (PageFault page) h e = elim h [ ]
 no-watchdog Watchdog h e = elim h [ ]
 
+-- a thread that executes does not stand
 executes-not-stands : (watched : Bool) (n : Next) (instr : Instr) (stop : Stop) → watched ≡ false → n ≡ Executes instr → standing_by watched n ≡ Some stop → ⊥
 executes-not-stands watched n instr stop w e h =
     let f : None ≡ Some stop = sym (ap₂ standing_by w e) ∙ h in cc
 
+-- a smaller number is another one
 pub not-equal : (m n : ℕ) → m < n → (m == n) ≡ false
 not-equal m n h = by (m == n) refl
   where
@@ -87,6 +92,7 @@ pub record Arrives (job : Job) (backed : Backed) (machine : Machine) (replica : 
   pub comes : Comes job backed machine middle replica t thread
   pub stands : standing (layout_of job.program) job.settings.watchdog backed middle.memory thread.cpu thread.since ≡ Some stop
 
+-- what was run ahead, round a thread's steps
 pub ahead-is : (replica : Replica) (t : ℕ) (thread : Thread) (there : slice_get replica.threads t ≡ Some thread) (among : Around 0 replica.threads t t) → ahead replica ≡ among.front ++ (replicate thread.since t ++ among.back)
 ahead-is replica t thread there among = sym (ap (ahead_from 0) (set-same replica.threads t thread there)) ∙ among.with_set thread
 
@@ -101,6 +107,7 @@ module _ (job : Job) (free : RaceFree job.program) (before : List ℕ) (machine 
         there = h.same_cpus t thread live there;
       })
 
+  -- a live thread's own steps come first
   pub comes-by : (backed : Backed) (replica : Replica) → replica.backed ≡ backed → (h : RunsAhead job machine replica) (t : ℕ) (thread : Thread) → IsTrue (lives_on machine.kernel t) → slice_get replica.threads t ≡ Some thread → (middle : Machine) × Comes job backed machine middle replica t thread
   comes-by backed replica same h t thread live there = (
     own.middle,
@@ -140,6 +147,7 @@ module _ (job : Job) (free : RaceFree job.program) (before : List ℕ) (machine 
       live_middle : steppable own.middle t ≡ Some thread.cpu
       live_middle = sym (steppable-along job.program t (backed-is-plain back) apart) ∙ live-at-end replica h t thread live there
 
+  -- a stopped thread arrives at its stop
   pub arrives : (backed : Backed) (replica : Replica) → replica.backed ≡ backed → (h : RunsAhead job machine replica) (t : ℕ) (thread : Thread) (stop : Stop) → IsTrue (lives_on machine.kernel t) → slice_get replica.threads t ≡ Some thread → thread.stop ≡ Some stop → StopStands job machine replica t → Arrives job backed machine replica t thread stop
   arrives backed replica same h t thread stop live there stopped s =
       let by = comes-by backed replica same h t thread live there in
@@ -152,16 +160,19 @@ module _ (job : Job) (free : RaceFree job.program) (before : List ℕ) (machine 
             ∙ s.stands thread stop live there stopped);
       }
 
+-- a run of no steps stays
 pub none-left : (program : Program) (backed : Backed) {machine end : Machine} → BackedRun program backed machine [] end → machine ≡ end
 none-left program backed nothing_left = refl
 
 -- ---- two stopped threads
 
+-- the same count and the same machine
 pub record SameCount (m n : ℕ) (middle middle' : Machine) : Type 0 where
   pub same_count : m ≡ n
   pub same_middle : middle ≡ middle'
 
 module _ (job : Job) (backed : Backed) (t : ℕ) where
+  -- a thread that stands goes no further
   cannot-go-on : (k n : ℕ) (machine middle : Machine) (cpu : Cpu) (stop : Stop) (after end : Machine) → machine ≡ middle → (steppable middle t ≡ Some cpu) × (standing (layout_of job.program) job.settings.watchdog backed middle.memory cpu (k + 0) ≡ Some stop) → k + suc n ≤ job.settings.watchdog → BackedHead job.program backed machine t (replicate n t) end → ⊥
   cannot-go-on k n machine middle cpu stop after end here h below head =
       let step_here : steppable middle t ≡ Some head.backed_step.cpu = ap (λ (m : Machine). steppable m t) (sym here) ∙ head.backed_step.live in
@@ -171,6 +182,7 @@ module _ (job : Job) (backed : Backed) (t : ℕ) where
       (ap₂ (λ (m : Machine) (c : Cpu). next (layout_of job.program) backed m.memory c) (sym here) same ∙ head.backed_step.executes)
       h.1
 
+  -- two runs to a stop are equally long
   same-counts : (k m n : ℕ) (machine middle middle' : Machine) (cpu cpu' : Cpu) (stop stop' : Stop) → BackedRun job.program backed machine (replicate m t) middle → BackedRun job.program backed machine (replicate n t) middle'
       → (steppable middle t ≡ Some cpu) × (standing (layout_of job.program) job.settings.watchdog backed middle.memory cpu (k + m) ≡ Some stop)
       → (steppable middle' t ≡ Some cpu') × (standing (layout_of job.program) job.settings.watchdog backed middle'.memory cpu' (k + n) ≡ Some stop')
@@ -200,9 +212,11 @@ pub record SameArrival (job : Job) (backed : Backed) (machine : Machine) (one ot
   pub same_cpu : thread.cpu ≡ thread'.cpu
   pub same_stop : stop ≡ stop'
 
+-- nothing is added
 zero-plus : (n : ℕ) → n ≡ 0 + n
 zero-plus n = omega arith
 
+-- two replicas that agree bring a thread to the same stop
 pub same-arrival : (job : Job) (backed : Backed) (machine : Machine) (one other : Replica) (t : ℕ) (thread thread' : Thread) (stop stop' : Stop) (a : Arrives job backed machine one t thread stop) (b : Arrives job backed machine other t thread' stop') → thread.since ≤ job.settings.watchdog → thread'.since ≤ job.settings.watchdog → SameArrival job backed machine one other t thread thread' stop stop' a b
 same-arrival job backed machine one other t thread thread' stop stop' a b low low' =
     let s = same-counts job backed t 0 thread.since thread'.since machine a.middle b.middle thread.cpu thread'.cpu stop stop' a.comes.own b.comes.own
@@ -231,6 +245,7 @@ module _ (job : Job) (free : RaceFree job.program) (before : List ℕ) (machine 
       stands-backed (layout_of job.program) backed a.middle.memory thread.cpu stop kind
       (stands-next _ _ stop a.stands (no-watchdog stop kind)).next_is
 
+  -- the bytes that are about to be written
   pub same-payload : (stop : Stop) (a : Arrives job backed machine replica t thread stop) → payload_at job.program.image.ranges replica.memory stop ≡ payload_at job.program.image.ranges a.middle.memory stop
   same-payload (Calls call) a =
       ap (λ (m : Memory). payload_of job.program.image.ranges m call) a.comes.same_memory

@@ -44,12 +44,14 @@ run-more program before machine middle xs ys reached front back =
 
 -- ---- a thread that is stopped in a replica
 
+-- the thread and its stop
 pub record StoppedIn (r : Replica) (t : ℕ) : Type 0 where
   pub thread : Thread
   pub stop : Stop
   pub there : slice_get r.threads t ≡ Some thread
   pub stopped : thread.stop ≡ Some stop
 
+-- by the thread that is there
 stopped-by : (r : Replica) (t : ℕ) (o : Option Thread) → slice_get r.threads t ≡ o → is_some (option_and_then (λ (x : Thread). x.stop) o) ≡ true → StoppedIn r t
 stopped-by r t None e h = absurd (false≢true h)
 stopped-by r t (Some thread) e h = by thread.stop refl h
@@ -58,6 +60,7 @@ stopped-by r t (Some thread) e h = by thread.stop refl h
     by None f k = absurd (false≢true k)
     by (Some stop) f k = record { thread = thread; stop = stop; there = e; stopped = f }
 
+-- the test says that it is stopped
 pub stopped-in : (r : Replica) (t : ℕ) → is_some (stop_of r t) ≡ true → StoppedIn r t
 stopped-in r t h = stopped-by r t (slice_get r.threads t) refl h
 
@@ -66,9 +69,11 @@ pub view-of-stopped : (ranges : List Range) (r : Replica) (t : ℕ) (s : Stopped
 view-of-stopped ranges r t s =
     ap (option_and_then (λ (x : Thread). option_map (view_with ranges r x) x.stop)) s.there ∙ ap (option_map (view_with ranges r s.thread)) s.stopped
 
+-- a stopped thread has a view
 pub has-view : (ranges : List Range) (r : Replica) (t : ℕ) → is_some (stop_of r t) ≡ true → is_some (view_of ranges t r) ≡ true
 has-view ranges r t h = ap is_some (view-of-stopped ranges r t (stopped-in r t h))
 
+-- the watchdog's event releases the thread
 watchdog-releases : (setup : Setup) (kernel : Kernel) (t : ℕ) (payload : List ℕ) → (event_of setup kernel t Watchdog payload).effect.releases ≡ true
 unfolding event_of
 watchdog-releases setup kernel t payload = refl
@@ -82,18 +87,22 @@ pub record VoteParts (core : Core) (t : ℕ) : Type 0 where
   pub live : IsTrue (lives_on core.kernel t)
   pub stopped : list_all (λ r. is_some (stop_of r t)) core.replicas ≡ true
 
+-- a vote that may come has them
 pub vote-parts : (core : Core) (t : ℕ) → may_vote core t ≡ true → VoteParts core t
 vote-parts core t h =
     let a = and_parts _ _ h in let b = and_parts _ _ a.0 in let c = and_parts _ _ b.0 in let d = and_parts _ _ c.0 in
     record { going = going-from core d.0; no_lease = none-lent core d.1; live = c.1; stopped = a.1 }
 
 module _ (job : Job) (free : RaceFree job.program) (odd : ℕ) (journal : List Entry) (core : Core) (h : Holds job odd journal core) (t : ℕ) (parts : VoteParts core t) where
+  -- the program goes on at a vote
   going : h.machine.ended ≡ None
   going = sym h.same_end ∙ parts.going.not_due
 
+  -- the thread lives in the machine
   pub live-in-machine : IsTrue (lives_on h.machine.kernel t)
   live-in-machine = ap (λ (k : Kernel). lives_on k t) (sym h.same_kernel) ∙ parts.live
 
+  -- it is stopped in each replica
   stops-at : (number : ℕ) (r : Replica) → slice_get core.replicas number ≡ Some r → StoppedIn r t
   stops-at number r e = stopped-in r t (get-all (λ x. is_some (stop_of x t)) core.replicas parts.stopped number r e)
 
@@ -110,6 +119,7 @@ module _ (job : Job) (free : RaceFree job.program) (odd : ℕ) (journal : List E
     pub arrival : Arrives job h.backed h.machine replica t thread stop
     pub within : thread.since ≤ job.settings.watchdog
 
+  -- any replica that agrees shows it
   pub good-from : (number : ℕ) (r : Replica) → slice_get core.replicas number ≡ Some r → number ≢ odd → GoodStop
   good-from number r e d =
       let s = stops-at number r e in
@@ -124,18 +134,22 @@ module _ (job : Job) (free : RaceFree job.program) (odd : ℕ) (journal : List E
       ⊎_elim (λ (d : 0 ≢ odd). good-from 0 first.0 first.1 d) (λ (d : 1 ≢ odd). good-from 1 second.0 second.1 d)
       (⊎_elim (λ (e : 0 ≡ odd). inr (λ (f : 1 ≡ odd). omega arith)) (λ (d : 0 ≢ odd). inl d) (cases_eq 0 odd))
 
+  -- one view for each replica
   views-as-long : length (views_of job core t) ≡ length core.replicas
   views-as-long = length-filter-map (view_of job.program.image.ranges t) core.replicas
       (all-from _ core.replicas (λ i r e. has-view job.program.image.ranges r t (get-all (λ x. is_some (stop_of x t)) core.replicas parts.stopped i r e)))
 
+  -- the view of each replica
   view-at : (i : ℕ) (r : Replica) → slice_get core.replicas i ≡ Some r → slice_get (views_of job core t) i ≡ view_of job.program.image.ranges t r
   view-at i r e = get-filter-map (view_of job.program.image.ranges t) core.replicas
       (all-from _ core.replicas (λ i r e. has-view job.program.image.ranges r t (get-all (λ x. is_some (stop_of x t)) core.replicas parts.stopped i r e))) i r e
 
+  -- as many views as replicas
   pub as-many-views : length (views_of job core t) ≡ length core.replicas
   as-many-views = views-as-long
 
   module _ (good : GoodStop) where
+    -- the view that it gives
     abbrev pub good_view : View
     good_view = machine_view job.program.image.ranges good.arrival.middle good.thread.cpu good.thread.since good.stop
 
@@ -143,12 +157,14 @@ module _ (job : Job) (free : RaceFree job.program) (odd : ℕ) (journal : List E
     pub same-as-good : (r : Replica) (agree : Agrees job h.machine r) (same : r.backed ≡ h.backed) (s : StoppedIn r t) → s.thread.since ≤ job.settings.watchdog → SameArrival job h.backed h.machine r good.replica t s.thread good.thread s.stop good.stop (arrives-at r agree same s) good.arrival
     same-as-good r agree same s low = same-arrival job h.backed h.machine r good.replica t s.thread good.thread s.stop good.stop (arrives-at r agree same s) good.arrival low good.within
 
+    -- each replica that agrees has it
     good-view-of : (r : Replica) → Agrees job h.machine r → r.backed ≡ h.backed → (s : StoppedIn r t) → s.thread.since ≤ job.settings.watchdog → view_of job.program.image.ranges t r ≡ Some good_view
     good-view-of r agree same s low =
         let k = same-as-good r agree same s low in
         view-is job free (plan_of journal) h.machine h.ideal_is h.backed r t s.thread s.stop (arrives-at r agree same s) s.there s.stopped
         ∙ (λ i. Some (machine_view job.program.image.ranges (k.same_middle i) (k.same_cpu i) (k.same_since i) (k.same_stop i)))
 
+    -- each replica but the odd one has it
     pub all-but-odd : AllBut odd good_view (views_of job core t)
     all-but-odd = record {
       others = λ i v d e.
@@ -168,6 +184,7 @@ module _ (job : Job) (free : RaceFree job.program) (odd : ℕ) (journal : List E
       pub same_stop : shown.stop ≡ good.stop
       pub same_payload : payload_at job.program.image.ranges winner.memory shown.stop ≡ payload_at job.program.image.ranges good.arrival.middle.memory good.stop
 
+    -- the winner has it
     pub winner-shows : (won : ℕ) → slice_get (views_of job core t) won ≡ Some good_view → WinnerShows won
     winner-shows won e =
         let short = slice_get_within (views_of job core t) won _ e in
@@ -184,6 +201,7 @@ module _ (job : Job) (free : RaceFree job.program) (odd : ℕ) (journal : List E
           same_payload = ap (λ (v : View). v.payload) same;
         }
 
+    -- the thread's own steps keep the kernel
     kept : KeepsRest h.machine good.arrival.middle
     kept = BackedRun-keeps job.program h.backed good.arrival.comes.own
 
@@ -191,6 +209,7 @@ module _ (job : Job) (free : RaceFree job.program) (odd : ℕ) (journal : List E
     abbrev pub good_event : Event
     good_event = event_of (setup_of job.program) good.arrival.middle.kernel t good.stop (payload_at job.program.image.ranges good.arrival.middle.memory good.stop)
 
+    -- the core's event is the machine's
     event-is : (won : ℕ) (w : WinnerShows won) → event_in job core t won ≡ Some good_event
     event-is won w =
         ap (option_and_then (λ (r : Replica). option_map (event_with job core t r) (stop_of r t))) w.winner_there
@@ -198,11 +217,13 @@ module _ (job : Job) (free : RaceFree job.program) (odd : ℕ) (journal : List E
         ∙ (ap (option_map (event_with job core t w.winner)) w.shown.stopped
         ∙ (λ i. Some (event_of (setup_of job.program) ((h.same_kernel ∙ sym kept.same_kernel) i) t (w.same_stop i) (w.same_payload i)))))
 
+    -- the winner's count is the machine's
     since-is : (won : ℕ) (w : WinnerShows won) → since_in core t won ≡ Some good.thread.since
     since-is won w =
         ap (option_and_then (λ (r : Replica). option_map (λ (x : Thread). x.since) (slice_get r.threads t))) w.winner_there
         ∙ (ap (option_map (λ (x : Thread). x.since)) w.shown.there ∙ ap Some w.same_since)
 
+    -- the machine makes that event
     pub has-good-event : HasEvent job h.backed h.machine good.arrival.middle t good_event
     has-good-event = step-of-stop job free (plan_of journal) h.backed h.machine good.arrival.middle h.ideal_is going t good.thread.since live-in-machine good.arrival.comes.own good.thread.cpu good.arrival.comes.live h.as_many good.stop
         (λ kind. next-at-middle job free (plan_of journal) h.machine h.ideal_is h.backed good.replica t good.thread good.stop kind good.arrival)
@@ -238,6 +259,7 @@ module _ (job : Job) (free : RaceFree job.program) (odd : ℕ) (journal : List E
       pub stopped : StoppedIn r t
       pub low : stopped.thread.since ≤ job.settings.watchdog
 
+    -- what the event needs of a replica that fits
     meets : (r : Replica) → Fits r → Meets job h.machine good.arrival.middle h.backed t good_event r
     meets r f =
         let k = same-as-good r f.agree f.same f.stopped f.low in
@@ -249,11 +271,13 @@ module _ (job : Job) (free : RaceFree job.program) (odd : ℕ) (journal : List E
           own_stop = stands-at-zero r f.agree f.stopped f.low k.same_stop;
         }
 
+    -- a replica that is not the odd one fits
     fits-as-it-is : (number : ℕ) (r : Replica) → number ≢ odd → slice_get core.replicas number ≡ Some r → Fits r
     fits-as-it-is number r d e =
         let sound = h.sound number r e in let s = stops-at number r e in
         record { agree = h.others_agree going number r d e; same = sound.same_backed; stopped = s; low = sound.within_watch t s.thread s.there }
 
+    -- a copy of one that fits fits
     fits-copied : (winner loser : Replica) → length winner.threads ≡ length loser.threads → Fits winner → Fits (recovered winner loser)
     unfolding recovered
     fits-copied winner loser n f =
@@ -266,6 +290,7 @@ module _ (job : Job) (free : RaceFree job.program) (odd : ℕ) (journal : List E
         }
 
     module _ (won : ℕ) where
+      -- what holds of every replica after the copy
       sound-with-copy : (lost : Option ℕ) (winner : Replica) → slice_get core.replicas won ≡ Some winner → (number : ℕ) (r : Replica) → slice_get (with_recovered won lost core.replicas) number ≡ Some r → IsSound job core h.backed number r
       sound-with-copy None winner there number r e = h.sound number r e
       sound-with-copy (Some lost) winner there number r e = by (after-copy won lost core.replicas winner number r there e)
@@ -275,6 +300,7 @@ module _ (job : Job) (free : RaceFree job.program) (odd : ℕ) (journal : List E
           by (is_copy w l same w_there l_there is) =
               subst (IsSound job core h.backed number) is (subst (λ (n : ℕ). IsSound job core h.backed n (recovered w l)) (sym same) (sound-recovered job core h.backed won lost w l (h.sound won w w_there) (h.sound lost l l_there)))
 
+      -- after a copy every replica fits
       fits-after-copy : (lost : ℕ) (winner : Replica) → slice_get core.replicas won ≡ Some winner → lost ≡ odd → won ≢ odd → (number : ℕ) (r : Replica) → slice_get (with_recovered won (Some lost) core.replicas) number ≡ Some r → Fits r
       fits-after-copy lost winner there is d number r e = by (after-copy won lost core.replicas winner number r there e)
         where
@@ -284,18 +310,23 @@ module _ (job : Job) (free : RaceFree job.program) (odd : ℕ) (journal : List E
               subst Fits g (fits-copied w l ((h.sound won w w_there).all_made ∙ sym (h.sound lost l l_there).all_made) (fits-as-it-is won w d w_there))
 
     module _ (count won : ℕ) (lost : Option ℕ) (did : Did) (may : MayVote job core t count won lost did) (well : WonWell odd good_view (views_of job core t) won lost) where
+      -- the winner shows the stop
       shows : WinnerShows won
       shows = winner-shows won well.winner
 
+      -- the vote's count
       count_is : good.thread.since ≡ count
       count_is = some-injective (sym (since-is won (winner-shows won well.winner)) ∙ may.count_is)
 
+      -- the vote's event
       event_same : good_event ≡ may.event
       event_same = some-injective (sym (event-is won (winner-shows won well.winner)) ∙ may.comes)
 
+      -- the vote's steps
       plan_same : replicate count t ++ replicate (event_steps did) t ≡ replicate good.thread.since t ++ replicate (event_steps good_event.did) t
       plan_same = ap₂ (λ (n : ℕ) (d : Did). replicate n t ++ replicate (event_steps d) t) (sym count_is) (sym (ap (λ (e : Event). e.did) event_same ∙ may.did_is))
 
+      -- the core after the vote
       after-is : core_after core t good.thread.since (with_recovered won lost core.replicas) good_event ≡ after job core (Vote t count won lost did)
       unfolding after
       after-is =
@@ -330,12 +361,14 @@ module _ (job : Job) (free : RaceFree job.program) (odd : ℕ) (journal : List E
 
 -- ---- the vote
 
+-- what a vote leaves
 pub record AfterVote (job : Job) (odd : ℕ) (journal : List Entry) (core : Core) (t count won : ℕ) (lost : Option ℕ) (did : Did) : Type 0 where
   pub holds : Holds job odd (journal ++ Vote t count won lost did ∷ []) (after job core (Vote t count won lost did))
   pub loser_odd : (l : ℕ) → lost ≡ Some l → (l ≡ odd) × (won ≢ odd)
   pub then_all : (l : ℕ) → lost ≡ Some l → (odd' : ℕ) → Holds job odd' (journal ++ Vote t count won lost did ∷ []) (after job core (Vote t count won lost did))
 
 module _ (job : Job) (free : RaceFree job.program) (odd : ℕ) (journal : List Entry) (core : Core) (h : Holds job odd journal core) (t count won : ℕ) (did : Did) where
+  -- with a loser or without
   with-loser : (lost : Option ℕ) (may : MayVote job core t count won lost did) (parts : VoteParts core t) (good : GoodStop job free odd journal core h t parts) → WonWell odd (machine_view job.program.image.ranges good.arrival.middle good.thread.cpu good.thread.since good.stop) (views_of job core t) won lost → AfterVote job odd journal core t count won lost did
   with-loser None may parts good well = record {
     holds = voted-with job free odd journal core h t parts good count won None did may well odd (fits-as-it-is job free odd journal core h t parts good);

@@ -22,13 +22,16 @@ count_run zero layout watchdog r thread = 0
 count_run (suc most) layout watchdog r thread =
     option_map_or (λ after. suc (count_run most layout watchdog after thread)) (execute layout watchdog (struck layout.ranges r thread).replica thread) 0
 
+-- how many instructions a lease of the core would run
 abbrev pub count_in : Job → Core → ℕ → ℕ → ℕ
 count_in job core replica thread =
     option_map_or (λ r. count_run job.settings.quantum (layout_of job.program) job.settings.watchdog r thread) (slice_get core.replicas replica) 0
 
+-- how many faults it would strike
 abbrev pub hit_in : Job → Core → ℕ → ℕ → ℕ → ℕ
 hit_in job core replica thread count = option_map_or (λ ran. ran.hit) (lease_run job core replica thread count) 0
 
+-- the entry of a vote
 abbrev pub vote_entry : Job → Core → ℕ → Verdict → Entry
 vote_entry job core thread (Won won lost) =
     Vote thread (option_map_or (λ n. n) (since_in core thread won) 0) won lost (option_map_or (λ event. event.did) (event_in job core thread won) Watch)
@@ -44,6 +47,7 @@ entries_for job core (DoEnd how) = End how ∷ []
 entries_for job core Wait = []
 entries_for job core Over = []
 
+-- entries, and what comes after them
 abbrev pub with_entries : (Core → List Entry) → Job → Core → List Entry → List Entry
 with_entries go job core [] = []
 with_entries go job core (e ∷ []) = e ∷ go (after job core e)

@@ -18,6 +18,7 @@ use Rattle.ro_simulation.specs.Invariant.{Listed}
 
 -- ---- the payloads of all served writes
 
+-- the bytes of an event
 abbrev pub event_payload : Option Event → List ℕ
 event_payload None = []
 event_payload (Some event) = event.payload
@@ -27,10 +28,12 @@ abbrev pub payload_by : Job → Core → Entry → List ℕ
 payload_by job core (Vote thread count won lost did) = event_payload (event_in job core thread won)
 payload_by job core entry = []
 
+-- the bytes of each entry's event, from a core on
 abbrev pub payloads_from : Job → Core → List Entry → List ℕ
 payloads_from job core [] = []
 payloads_from job core (entry ∷ journal) = payload_by job core entry ++ payloads_from job (after job core entry) journal
 
+-- the bytes of a whole journal
 abbrev pub payloads_of : Job → List Entry → List ℕ
 payloads_of job journal = payloads_from job (opening_core job) journal
 
@@ -69,6 +72,7 @@ pub record CopiesWell (job : Job) (before : List Entry) (vote : Entry) (won : �
   pub then_all : (machine : Machine) → ideal job (before ++ vote ∷ []) ≡ Some machine → machine.ended ≡ None →
       (number : ℕ) (replica : Replica) → slice_get (replay job (before ++ vote ∷ [])).replicas number ≡ Some replica → IsAlike job (before ++ vote ∷ []) replica
 
+-- Each copy of the journal is a good one.
 abbrev pub EachCopiesWell : Job → List Entry → Type 0
 EachCopiesWell job journal =
     (before rest : List Entry) (thread count won lost : ℕ) (did : Did) → journal ≡ before ++ Vote thread count won (Some lost) did ∷ rest →

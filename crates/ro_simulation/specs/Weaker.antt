@@ -47,6 +47,7 @@ slipping = record { replica = 0; thread = 0; at = 3; target = Register 6 13 } �
 abbrev pub until_first : List Entry
 until_first = Take 0 0 0 ∷ Put 0 0 0 1 0 ∷ Take 0 1 0 ∷ Put 0 1 0 1 0 ∷ Take 0 2 0 ∷ Put 0 2 0 1 0 ∷ Vote 0 1 0 None Mapped ∷ Take 0 0 0 ∷ []
 
+-- before the second strike
 abbrev pub until_second : List Entry
 until_second = Take 0 0 0 ∷ Put 0 0 0 1 0 ∷ Take 0 1 0 ∷ Put 0 1 0 1 0 ∷ Take 0 2 0 ∷ Put 0 2 0 1 0 ∷ Vote 0 1 0 None Mapped ∷ Take 0 0 0 ∷ Put 0 0 0 6 1 ∷ Take 0 1 0 ∷ []
 

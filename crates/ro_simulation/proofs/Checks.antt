@@ -11,6 +11,8 @@ use Rattle.ro_journal.specs.declared.Entry.TheVariants.{Take, Put, Vote, Free, E
 use Rattle.ro_journal.specs.Plan.{event_steps}
 use Rattle.ro_vote.specs.Verdict.{Verdict, Won, Split, verdict_of}
 use Rattle.ro_replica.specs.Runs.{Ran}
+use Rattle.ro_plain.proofs.Ahead.{is-none-from}
+use Rattle.ro_simulation.proofs.Entries.{or-cases}
 use Rattle.ro_core.specs.Core.{Job, Core, is_going, is_idle, is_out, is_lendable, may_vote, may_free, views_of}
 use Rattle.ro_core.specs.Event.{Event}
 use Rattle.ro_core.specs.Legal.{arrival, lease_run, since_in, event_in, HasArrived, MayPut, MayVote, MayEnd, due, IsAllowed, after, LegalFrom}
@@ -80,11 +82,6 @@ test_legal job core (entry ∷ journal) = test_entry job core entry && test_lega
 
 -- ---- what passes is allowed
 
--- what is tested to be none is none
-none-from : {X : Type 0} (o : Option X) → is_none o ≡ true → o ≡ None
-none-from None e = refl
-none-from (Some x) e = absurd (false≢true e)
-
 -- optional numbers that pass are equal
 same-number : (a b : Option ℕ) → same_number a b ≡ true → a ≡ b
 same-number None None e = refl
@@ -106,17 +103,12 @@ verdict-is : (v : Verdict) (won : ℕ) (lost : Option ℕ) → test_verdict v wo
 verdict-is Split won lost e = absurd (false≢true e)
 verdict-is (Won w l) won lost e = let p = and_parts _ _ e in let a = eqb-true w won p.0 in let b = same-number l lost p.1 in λ i. Won (a i) (b i)
 
--- one of two tests passed
-or-either : (b c : Bool) → (b || c) ≡ true → (b ≡ true) ⊎ (c ≡ true)
-or-either true c e = inl refl
-or-either false c e = inr e
-
 -- a put that passes is allowed
 put-allowed : (job : Job) (core : Core) (driver replica thread count hit : ℕ) → core.ended ≡ None → is_out core driver replica thread ≡ true → (o : Option Ran) → lease_run job core replica thread count ≡ o → test_ran job thread count hit o ≡ true → MayPut job core driver replica thread count hit
 put-allowed job core driver replica thread count hit on out None e f = absurd (false≢true f)
 put-allowed job core driver replica thread count hit on out (Some ran) e f =
     let p = and_parts _ _ f in
-    record { not_ended = on; out = out; ran = ran; runs = e; struck = eqb-true ran.hit hit p.0; arrives = by (or-either _ _ p.1) }
+    record { not_ended = on; out = out; ran = ran; runs = e; struck = eqb-true ran.hit hit p.0; arrives = by (or-cases _ _ p.1) }
   where
     by : ((count == job.settings.quantum) ≡ true) ⊎ ((nat_lt count job.settings.quantum && is_some (arrival job thread count ran.replica)) ≡ true) → HasArrived job thread count ran.replica
     by (inl g) = inl (eqb-true count job.settings.quantum g)
@@ -140,12 +132,12 @@ entry-allowed job core (Take driver replica thread) e =
     record { going = c.0; driver_exists = ltb-true driver job.settings.drivers c.1; driver_is_idle = b.1; lendable = a.1 }
 entry-allowed job core (Put driver replica thread count hit) e =
     let a = and_parts _ _ e in let b = and_parts _ _ a.0 in
-    put-allowed job core driver replica thread count hit (none-from core.ended b.0) b.1 _ refl a.1
+    put-allowed job core driver replica thread count hit (is-none-from core.ended b.0) b.1 _ refl a.1
 entry-allowed job core (Vote thread count won lost did) e =
     let a = and_parts _ _ e in let b = and_parts _ _ a.0 in let c = and_parts _ _ b.0 in let d = and_parts _ _ c.0 in
     vote-allowed job core thread count won lost did d.0 (verdict-is _ won lost d.1) (same-number _ _ c.1) _ refl b.1 (leb-true _ _ a.1)
 entry-allowed job core (Free thread) e = let a = and_parts _ _ e in record { may = a.0; fits = leb-true _ _ a.1 }
-entry-allowed job core (End how) e = let a = and_parts _ _ e in (none-from core.ended a.0, end-allowed job core core.due how refl a.1)
+entry-allowed job core (End how) e = let a = and_parts _ _ e in (is-none-from core.ended a.0, end-allowed job core core.due how refl a.1)
 
 -- a journal that passes is legal
 pub legal-by-test : (job : Job) (core : Core) (journal : List Entry) → test_legal job core journal ≡ true → LegalFrom job core journal

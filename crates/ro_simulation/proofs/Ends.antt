@@ -26,7 +26,7 @@ use Rattle.ro_simulation.proofs.Stays.{live-within}
 use Rattle.ro_simulation.proofs.Lists.{get-within, all-from}
 use Rattle.ro_simulation.proofs.Verdicts.{never-splits, pair-agrees}
 use Rattle.ro_simulation.proofs.Kept.{going-from, none-lent}
-use Rattle.ro_simulation.proofs.Frees.{free-parts}
+use Rattle.ro_simulation.proofs.Frees.{not-true-from, free-parts}
 use Rattle.ro_simulation.proofs.Votes.{vote-parts, some-good, all-but-odd, as-many-views}
 
 -- a program that is over ended so
@@ -38,11 +38,6 @@ over-as program machine (Limit steps next) h e = elim h [ ]
 over-as program machine Differ h e = elim h [ ]
 over-as program machine NoMajority h e = elim h [ ]
 over-as program machine (Sink bytes) h e = elim h [ ]
-
--- what is denied is false
-not-true-from : (b : Bool) → not b ≡ true → b ≡ false
-not-true-from true h = absurd (false≢true h)
-not-true-from false h = refl
 
 -- neither test passed, not the first
 or-first : (b c : Bool) → (b || c) ≡ false → b ≡ false

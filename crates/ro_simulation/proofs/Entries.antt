@@ -32,7 +32,7 @@ sound-with job core other backed number r e h = record {
 }
 
 -- one of two tests passed
-or-cases : (b c : Bool) → (b || c) ≡ true → (b ≡ true) ⊎ (c ≡ true)
+pub or-cases : (b c : Bool) → (b || c) ≡ true → (b ≡ true) ⊎ (c ≡ true)
 or-cases true c e = inl refl
 or-cases false c e = inr e
 

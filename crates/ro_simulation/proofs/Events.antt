@@ -22,14 +22,14 @@ use Rattle.ro_replica.specs.Replica.{Replica, applied, cancelled}
 use Rattle.ro_plain.specs.Machine.{layout_of, setup_of, Machine, opening, with_made, affected, called, step_by, next_of, steppable, step, run}
 use Rattle.ro_plain.specs.Order.{RaceFree}
 use Rattle.ro_plain.proofs.Backed.{backed-is-plain}
-use Rattle.ro_plain.proofs.Calls.{some-injective, steppable-from, step-at}
+use Rattle.ro_plain.proofs.Calls.{some-injective, slice_get-append, steppable-from, step-at}
 use Rattle.ro_plain.proofs.Stays.{steppable-along}
 use Rattle.ro_core.specs.Core.{Job}
 use Rattle.ro_core.specs.Event.{quiet_effect}
 use Rattle.ro_simulation.specs.Invariant.{StopStands, Agrees}
 use Rattle.ro_simulation.proofs.Stays.{Stays, stays}
 use Rattle.ro_simulation.proofs.Ahead.{KeepsRest, BackedRun-keeps, reach-run, TakenAfter, take-after, stays-along}
-use Rattle.ro_simulation.proofs.Lists.{get-set-same, get-append-left, get-append-last}
+use Rattle.ro_simulation.proofs.Lists.{get-set-same, get-append-last}
 use Rattle.ro_simulation.proofs.Served.{IsTidy}
 use Rattle.ro_simulation.proofs.Views.{Comes}
 use Rattle.ro_simulation.proofs.Effects.{backed_after, more-after, KeptStop, IsOf, ThreadAfter, as_before, its_own, newly_made, agrees-applied, stands-later}
@@ -136,7 +136,7 @@ module _ (job : Job) (free : RaceFree job.program) (before : List ℕ) (backed :
     -- a made thread leaves the others' registers
     keeps-made : (made : Option Made) (cpus : List Cpu) (number : ℕ) (x : Cpu) → slice_get cpus number ≡ Some x → slice_get (with_made made thread.cpu cpus) number ≡ Some x
     keeps-made None cpus number x e = e
-    keeps-made (Some made) cpus number x e = get-append-left cpus _ number x e
+    keeps-made (Some made) cpus number x e = slice_get-append cpus _ number x e
 
     -- the thread's registers at the end
     at_t : slice_get comes.end.cpus t ≡ Some thread.cpu

@@ -38,7 +38,7 @@ pub record FreeParts (job : Job) (core : Core) (t : ℕ) : Type 0 where
   pub unblocked : blocks (setup_of job.program) core.kernel t call ≡ false
 
 -- what is denied is false
-not-true-from : (b : Bool) → not b ≡ true → b ≡ false
+pub not-true-from : (b : Bool) → not b ≡ true → b ≡ false
 not-true-from true h = absurd (false≢true h)
 not-true-from false h = refl
 

@@ -1,9 +1,9 @@
 -- The invariant after an entry whose event is a step of the machine: a vote or a free.
-use Rattle.std.specs.Prelude.{◌≡◌, ◌≢◌, ℕ, ◌+◌, ◌<◌, Bool, true, false, IsTrue, cond, ◌&&◌, ◌==◌, List, [], ◌∷◌, ◌++◌, replicate, length, Option, Some, None, is_none, slice_get}
+use Rattle.std.specs.Prelude.{◌≡◌, ◌≢◌, ℕ, ◌+◌, ◌<◌, Bool, true, false, IsTrue, cond, ◌&&◌, ◌==◌, List, [], ◌∷◌, ◌++◌, replicate, length, Some, None, slice_get}
 use Rattle.std.specs.Option.{option_and_then}
 use Rattle.std.specs.List.{list_any}
 use Rattle.std.proofs.Common.{refl, sym, ap, ◌∙◌, subst, arith, append_assoc, append-nil, length-append}
-use Rattle.std.proofs.lemmas.Bool.{true≢false, false≢true, eqb-true, eq-eqb, and_parts}
+use Rattle.std.proofs.lemmas.Bool.{true≢false, eqb-true, eq-eqb, and_parts}
 use Rattle.std.proofs.lemmas.List.{nil_from_length}
 use Rattle.std.proofs.Math.ListN.{length-replicate}
 use Rattle.ro_event.specs.declared.calls.Call.{Call}
@@ -16,6 +16,7 @@ use Rattle.ro_thread.specs.declared.Thread.{Thread}
 use Rattle.ro_thread.specs.Stops.{standing}
 use Rattle.ro_replica.specs.Replica.{Replica, applied, cancelled}
 use Rattle.ro_plain.specs.Machine.{layout_of, Machine, opening, run, BackedRun}
+use Rattle.ro_plain.proofs.Ahead.{is-none-from}
 use Rattle.ro_plain.proofs.Swap.{run-append}
 use Rattle.ro_core.specs.Core.{Job, Lease, Core, is_going, nothing_lent, is_out}
 use Rattle.ro_core.specs.Event.{Event, core_after}
@@ -50,11 +51,6 @@ ideal-same job journal entry none =
     ap (run job.program (opening job.program)) (plan-snoc journal entry ∙ (ap (λ (r : List ℕ). plan_of journal ++ r) none ∙ append-nil (plan_of journal)))
 
 -- ---- what an allowed vote or free says
-
--- what is tested to be none is none
-is-none-from : {X : Type 0} (o : Option X) → is_none o ≡ true → o ≡ None
-is-none-from None h = refl
-is-none-from (Some x) h = absurd (false≢true h)
 
 -- no end has come, and none must
 pub record Going (core : Core) : Type 0 where

@@ -30,12 +30,6 @@ set-same [] i x h = refl
 set-same (z ∷ xs) zero x h = ap {B = List _} (λ w. w ∷ xs) (some-injective (sym h))
 set-same (z ∷ xs) (suc i) x h = ap {B = List _} (λ r. z ∷ r) (set-same xs i x h)
 
--- an element stays where more come behind
-pub get-append-left : {X : Type 0} (xs ys : List X) (i : ℕ) (x : X) → slice_get xs i ≡ Some x → slice_get (xs ++ ys) i ≡ Some x
-get-append-left [] ys i x h = absurd (let e : None ≡ Some x = h in cc)
-get-append-left (y ∷ xs) ys zero x h = h
-get-append-left (y ∷ xs) ys (suc i) x h = get-append-left xs ys i x h
-
 -- the last element
 pub get-append-last : {X : Type 0} (xs : List X) (y : X) → slice_get (xs ++ y ∷ []) (length xs) ≡ Some y
 get-append-last [] y = refl

@@ -1,5 +1,5 @@
 -- In a program without races, what a thread does next stays the same while another thread takes any step, a call too.
-use Rattle.std.specs.Prelude.{◌≡◌, ◌≢◌, ℕ, suc, ◌<◌, Bool, true, false, cond, List, [], ◌∷◌, ◌++◌, length, take, Option, Some, None, is_none, slice_get}
+use Rattle.std.specs.Prelude.{◌≡◌, ◌≢◌, ℕ, suc, ◌<◌, Bool, true, false, cond, List, [], ◌∷◌, ◌++◌, length, Option, Some, None, is_none, slice_get}
 use Rattle.std.specs.Option.{option_and_then, option_map_or}
 use Rattle.std.proofs.Common.{refl, sym, ap, ap₂, ◌∙◌, subst, arith, length-append}
 use Rattle.std.proofs.lemmas.Option.{slice_get_within, option_and_then_some}
@@ -19,10 +19,10 @@ use Rattle.ro_exec.specs.Next.{Backed, all_backed, Next, Stands, Executes, fetch
 use Rattle.ro_exec.proofs.Frame.{fetched, next-agree, next-stopped, next-fetched}
 use Rattle.ro_plain.specs.Machine.{Program, layout_of, Machine, opening, step_by, next_of, steppable, step, run, IsExecution}
 use Rattle.ro_plain.specs.Accesses.{Accesses, no_access, fetches, accesses_by, accesses, conflict_at}
-use Rattle.ro_plain.specs.Order.{Sync, Unlocks, Locks, Makes, Joins, Exits, Nothing, is_zero, sync_by, is_exit, sync_served, sync_next, sync_of, at_place, machine_at, sync_at, HappensBefore, in_thread, by_mutex, by_creation, by_join, chain, RaceFree}
+use Rattle.ro_plain.specs.Order.{Sync, Unlocks, Locks, Makes, Joins, Exits, Nothing, is_zero, sync_by, is_exit, sync_served, sync_next, sync_of, machine_at, sync_at, HappensBefore, in_thread, by_mutex, by_creation, by_join, chain, RaceFree}
 use Rattle.ro_plain.proofs.Separate.{Separate, separate, AgreeOn, AgreeOn-first}
 use Rattle.ro_plain.proofs.Calls.{some-injective, steppable-parts, Keeps, step_by-keeps, fetches-agree, accesses-at, step-at, step-opens}
-use Rattle.ro_plain.proofs.Swap.{run-append}
+use Rattle.ro_plain.proofs.Swap.{run-append, take-seam, slice_get-seam, slice_get-second, take-second, at-both}
 use Rattle.ro_plain.proofs.Exists.{HasStep, IsPassable, no_stop, a_trap, a_system_call, instruction-passable, fetched-step}
 use Rattle.ro_plain.proofs.Unordered.{happens-later}
 use Rattle.ro_simulation.proofs.Pages.{fetched-with-all}
@@ -112,30 +112,6 @@ unfolding sync_of
 sync-at program machine u cpu live = ap (λ o. option_map_or (λ cpu. sync_next program machine u (next_of program machine cpu)) o Nothing) live
 
 -- ---- the two last steps of an execution
-
--- the front of two lists
-take-seam : {X : Type 0} (xs ys : List X) → take (length xs) (xs ++ ys) ≡ xs
-take-seam [] ys = refl
-take-seam (x ∷ xs) ys = ap {B = List _} (λ r. x ∷ r) (take-seam xs ys)
-
--- the first element of the back
-slice_get-seam : {X : Type 0} (xs : List X) (y : X) (ys : List X) → slice_get (xs ++ y ∷ ys) (length xs) ≡ Some y
-slice_get-seam [] y ys = refl
-slice_get-seam (x ∷ xs) y ys = slice_get-seam xs y ys
-
--- the second of two last elements
-slice_get-second : {X : Type 0} (xs : List X) (y z : X) → slice_get (xs ++ y ∷ z ∷ []) (suc (length xs)) ≡ Some z
-slice_get-second [] y z = refl
-slice_get-second (x ∷ xs) y z = slice_get-second xs y z
-
--- all but the last element
-take-second : {X : Type 0} (xs : List X) (y z : X) → take (suc (length xs)) (xs ++ y ∷ z ∷ []) ≡ xs ++ y ∷ []
-take-second [] y z = refl
-take-second (x ∷ xs) y z = ap {B = List _} (λ r. x ∷ r) (take-second xs y z)
-
--- at a place that is there
-at-both : {X : Type 0} (f : Machine → ℕ → X) (none : X) (o : Option Machine) (t : Option ℕ) (m : Machine) (n : ℕ) → o ≡ Some m → t ≡ Some n → at_place f none o t ≡ f m n
-at-both f none o t m n e g = ap₂ (at_place f none) e g
 
 -- what cannot be true is false
 not-true : (b : Bool) → (b ≡ true → ⊥) → b ≡ false

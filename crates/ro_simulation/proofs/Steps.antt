@@ -1,5 +1,5 @@
 -- The event that a thread's stop comes to, and the step of the machine that it stands for.
-use Rattle.std.specs.Prelude.{◌≡◌, ◌≢◌, ℕ, ◌+◌, Bool, true, false, IsTrue, cond, ◌&&◌, List, [], ◌++◌, replicate, length, Option, Some, None, slice_get}
+use Rattle.std.specs.Prelude.{◌≡◌, ◌≢◌, ℕ, ◌+◌, Bool, true, false, IsTrue, List, [], ◌++◌, replicate, length, Option, Some, None, slice_get}
 use Rattle.std.specs.Option.{option_and_then}
 use Rattle.std.proofs.Common.{refl, sym, ap, ◌∙◌, subst, arith, append-nil, length-append}
 use Rattle.std.proofs.lemmas.List.{length-set}
@@ -10,15 +10,13 @@ use Rattle.ro_event.specs.declared.effects.Made.{Made}
 use Rattle.ro_event.specs.declared.stops.Stop.{Stop}
 use Rattle.ro_event.specs.declared.stops.Stop.TheVariants.{Calls, Trap, PageFault, Watchdog}
 use Rattle.ro_event.specs.Effects.{Effect}
-use Rattle.ro_region.specs.declared.Range.{Range}
-use Rattle.ro_pages.specs.Bytes.{Memory, bytes_at}
 use Rattle.ro_journal.specs.declared.Did.{Did}
 use Rattle.ro_journal.specs.declared.Did.TheVariants.{Blocked as WasBlocked, Mapped, Watch, Trapped}
 use Rattle.ro_journal.specs.declared.How.{How}
 use Rattle.ro_journal.specs.declared.How.TheVariants.{Trap as TrapHow}
 use Rattle.ro_journal.specs.Plan.{event_steps}
 use Rattle.ro_kernel.specs.Kernel.{Setup, Kernel, lives_on}
-use Rattle.ro_kernel.specs.Serve.{Served, Done, Blocked, Ends, serve, payload_of, is_write, is_good_write, capped}
+use Rattle.ro_kernel.specs.Serve.{Served, Done, Blocked, Ends, serve, payload_of, is_write}
 use Rattle.ro_kernel.proofs.Kept.{Own, done, blocked, ends, serve-own, IsServed, system-served}
 use Rattle.ro_exec.specs.declared.Cpu.{Cpu}
 use Rattle.ro_exec.specs.Next.{Backed, all_backed, Stands}
@@ -28,6 +26,7 @@ use Rattle.ro_thread.specs.Stops.{standing}
 use Rattle.ro_replica.specs.Replica.{Replica, applied, cancelled}
 use Rattle.ro_plain.specs.Machine.{layout_of, setup_of, Machine, opening, with_made, affected, called, step_by, next_of, steppable, step, run, BackedRun}
 use Rattle.ro_plain.specs.Order.{RaceFree}
+use Rattle.ro_plain.proofs.Stays.{no-payload}
 use Rattle.ro_plain.proofs.Calls.{some-injective, step-at}
 use Rattle.ro_core.specs.Core.{Job, payload_at}
 use Rattle.ro_core.specs.Event.{Event, quiet_effect, call_event, event_of}
@@ -38,11 +37,6 @@ use Rattle.ro_simulation.proofs.Around.{Without-replicate}
 use Rattle.ro_simulation.proofs.Served.{made_count, Tidy, tidy_done, tidy_blocked, tidy_end, serve-tidy}
 use Rattle.ro_simulation.proofs.Views.{Comes}
 use Rattle.ro_simulation.proofs.Events.{agrees-quiet, agrees-served}
-
--- a call that may block writes nothing
-no-write : (ranges : List Range) (m : Memory) (call : Call) → is_write call.which ≡ false → payload_of ranges m call ≡ []
-unfolding payload_of
-no-write ranges m call e = ap (λ (b : Bool). cond (b && is_good_write ranges call) (bytes_at m call.a1 (capped call.a2)) []) e
 
 -- what blocks is not served
 never-blocked : IsServed Blocked → ⊥
@@ -179,7 +173,7 @@ module _ (job : Job) (free : RaceFree job.program) (before : List ℕ) (backed :
       middle,
       quiet-step WasBlocked None false _ refl refl (λ other (f : Some call ≡ Some other).
           subst (λ (c : Call). StandsAtCall job.program middle t c) (some-injective f)
-          (record { cpu = cpu; live = live_middle; stands = stands; writes_nothing = λ m. no-write job.program.image.ranges m call (blocked-no-write (setup_of job.program) middle.kernel t call e) })),
+          (record { cpu = cpu; live = live_middle; stands = stands; writes_nothing = λ m. no-payload job.program.image.ranges m call (blocked-no-write (setup_of job.program) middle.kernel t call e) })),
     )
     call-step (Ends kernel how) e ends (tidy_end same over) = (
       record middle { kernel = kernel; ended = Some how },

@@ -1,0 +1,218 @@
+-- How the machine stands where a journal ends.
+use Rattle.std.specs.Prelude.{◌≡◌, ◌≢◌, ℕ, zero, suc, ◌<◌, ◌≤◌, Bool, true, false, not, ◌&&◌, ◌||◌, ◌==◌, List, length, Option, Some, None, is_none, is_some, slice_get}
+use Rattle.std.specs.List.{list_all, list_any}
+use Rattle.std.specs.Option.{option_map_or, option_and_then}
+use Rattle.std.proofs.Common.{refl, sym, ap, ◌∙◌, arith, inl, inr, ⊎_elim}
+use Rattle.std.proofs.lemmas.Bool.{true≢false, false≢true, and_parts, and_from, cases_eq}
+use Rattle.std.proofs.lemmas.Option.{slice_get_within}
+use Rattle.ro_event.specs.declared.calls.Call.{Call}
+use Rattle.ro_journal.specs.declared.How.{How}
+use Rattle.ro_journal.specs.declared.How.TheVariants.{Exit, Trap, Deadlock, Limit, Differ, NoMajority, Sink}
+use Rattle.ro_journal.specs.declared.Entry.{Entry}
+use Rattle.ro_kernel.specs.Kernel.{Kernel, lives_on}
+use Rattle.ro_kernel.specs.Serve.{Served, Done, Blocked, Ends, serve, is_blocked, blocks, payload_of}
+use Rattle.ro_exec.specs.declared.Cpu.{Cpu}
+use Rattle.ro_thread.specs.declared.Thread.{Thread}
+use Rattle.ro_vote.specs.Verdict.{Split, verdict_of}
+use Rattle.ro_replica.specs.Replica.{Replica, stop_of}
+use Rattle.ro_plain.specs.Machine.{Program, setup_of, Machine, called, step_by, next_of, steppable, step}
+use Rattle.ro_plain.specs.Order.{RaceFree}
+use Rattle.ro_plain.proofs.Calls.{steppable-parts, step-at}
+use Rattle.ro_core.specs.declared.actions.Lease.{Lease}
+use Rattle.ro_core.specs.Core.{Job, Core, is_going, nothing_lent, is_home, is_unstopped, is_lendable, may_vote, may_free, views_of}
+use Rattle.ro_core.specs.Legal.{any_below, is_stuck, MayEnd, due, alone, for_vote, for_free}
+use Rattle.ro_simulation.specs.Invariant.{IsOver, exits, traps, Holds}
+use Rattle.ro_simulation.specs.Theorem.{EndsAs, TwoOrThree}
+use Rattle.ro_simulation.proofs.Stays.{live-within}
+use Rattle.ro_simulation.proofs.Lists.{get-within, all-from}
+use Rattle.ro_simulation.proofs.Verdicts.{never-splits, pair-agrees}
+use Rattle.ro_simulation.proofs.Kept.{going-from, none-lent}
+use Rattle.ro_simulation.proofs.Frees.{not-true-from, free-parts}
+use Rattle.ro_simulation.proofs.Votes.{vote-parts, some-good, all-but-odd, as-many-views}
+
+-- a program that is over ended so
+over-as : (program : Program) (machine : Machine) (how : How) → IsOver how → machine.ended ≡ Some how → EndsAs program machine how
+over-as program machine (Exit status) exits e = e
+over-as program machine (Trap code) traps e = e
+over-as program machine Deadlock h e = elim h [ ]
+over-as program machine (Limit steps next) h e = elim h [ ]
+over-as program machine Differ h e = elim h [ ]
+over-as program machine NoMajority h e = elim h [ ]
+over-as program machine (Sink bytes) h e = elim h [ ]
+
+-- neither test passed, not the first
+or-first : (b c : Bool) → (b || c) ≡ false → b ≡ false
+or-first true c e = absurd (true≢false e)
+or-first false c e = refl
+
+-- neither test passed, not the second
+or-second : (b c : Bool) → (b || c) ≡ false → c ≡ false
+or-second true c e = absurd (true≢false e)
+or-second false c e = e
+
+-- no number below, and not the number itself
+below-cases : (n : ℕ) (test : ℕ → Bool) → ((i : ℕ) → i < n → test i ≡ false) → test n ≡ false → (i : ℕ) → i < suc n → test i ≡ false
+below-cases n test before last i low = ⊎_elim (λ (e : i ≡ n). ap test e ∙ last) (λ (d : i ≢ n). before i (omega arith)) (cases_eq i n)
+
+-- no number below passes
+none-below : (n : ℕ) (test : ℕ → Bool) → any_below n test ≡ false → (i : ℕ) → i < n → test i ≡ false
+none-below zero test e i low = absurd (omega arith)
+none-below (suc n) test e i low = below-cases n test (none-below n test (or-first _ _ e)) (or-second _ _ e) i low
+
+-- none of three tests passed
+none-of-three : (a b c : Bool) → (a || b || c) ≡ false → (a ≡ false) × (b ≡ false) × (c ≡ false)
+none-of-three false false false e = (refl, refl, refl)
+none-of-three true b c e = absurd (true≢false e)
+none-of-three false true c e = absurd (true≢false e)
+none-of-three false false true e = absurd (true≢false e)
+
+-- a conjunction failed by its last part
+last-false : (b c : Bool) → b ≡ true → (b && c) ≡ false → c ≡ false
+last-false true c e f = f
+last-false false c e f = absurd (false≢true e)
+
+-- what is tested not to be none is something
+some-from : {X : Type 0} (o : Option X) → is_none o ≡ false → (x : X) × (o ≡ Some x)
+some-from None e = absurd (true≢false e)
+some-from (Some x) e = (x, refl)
+
+-- what is tested to block blocks
+blocked-from : (served : Served) → is_blocked served ≡ true → served ≡ Blocked
+blocked-from (Done kernel effect) e = absurd (false≢true e)
+blocked-from Blocked e = refl
+blocked-from (Ends kernel how) e = absurd (false≢true e)
+
+-- a thread has no step if none comes where it may step
+no-step : (program : Program) (machine : Machine) (u : ℕ) → ((cpu : Cpu) → steppable machine u ≡ Some cpu → step program machine u ≡ None) → step program machine u ≡ None
+unfolding step
+no-step program machine u h = by (steppable machine u) refl
+  where
+    by : (o : Option Cpu) → steppable machine u ≡ o → option_and_then (λ cpu. step_by program machine u cpu (next_of program machine cpu)) (steppable machine u) ≡ None
+    by None e = ap (option_and_then (λ cpu. step_by program machine u cpu (next_of program machine cpu))) e
+    by (Some cpu) e = h cpu e
+
+module _ (job : Job) (odd : ℕ) (journal : List Entry) (core : Core) (h : Holds job odd journal core) where
+  -- the machine goes on where the core does
+  pub going-machine : is_going core ≡ true → h.machine.ended ≡ None
+  going-machine e = sym h.same_end ∙ (going-from core e).not_due
+
+  -- ---- nothing can be done any more
+
+  module _ (stuck : is_stuck job core ≡ true) (u : ℕ) (cpu : Cpu) (live : steppable h.machine u ≡ Some cpu) where
+    -- the core goes on
+    going : is_going core ≡ true
+    going = (and_parts _ _ (and_parts _ _ stuck).0).0
+
+    -- nothing is lent
+    lent : nothing_lent core ≡ true
+    lent = (and_parts _ _ (and_parts _ _ stuck).0).1
+
+    -- the thread lives in the core
+    alive : lives_on core.kernel u ≡ true
+    alive = ap (λ (k : Kernel). lives_on k u) h.same_kernel ∙ (steppable-parts h.machine u cpu live).live
+
+    -- no vote, free or lease of the thread is possible
+    nothing : (may_vote core u ≡ false) × (may_free job core u ≡ false) × (any_below (length core.replicas) (λ replica. is_lendable core replica u) ≡ false)
+    nothing = none-of-three _ _ _ (none-below (length core.kernel.lives) (λ thread. may_vote core thread || may_free job core thread || any_below (length core.replicas) (λ replica. is_lendable core replica thread))
+        (not-true-from _ (and_parts _ _ stuck).1) u (live-within core.kernel.lives u alive))
+
+    -- every replica is home
+    at_home : (i : ℕ) → is_home core i ≡ true
+    at_home i = ap (λ (l : List Lease). not (list_any (λ lease. lease.replica == i) l)) (none-lent core lent)
+
+    -- the thread is stopped in a replica
+    is-stopped : (i : ℕ) (r : Replica) → slice_get core.replicas i ≡ Some r → is_some (stop_of r u) ≡ true
+    is-stopped i r e =
+        let short = slice_get_within core.replicas i r e in
+        let unlent : is_lendable core i u ≡ false = none-below (length core.replicas) (λ replica. is_lendable core replica u) nothing.2 i short in
+        let none : option_map_or (is_unstopped u) (slice_get core.replicas i) false ≡ false = last-false (is_home core i && lives_on core.kernel u) _ (and_from _ _ (at_home i) alive) unlent in
+        let here : is_unstopped u r ≡ false = sym (ap (λ (o : Option Replica). option_map_or (is_unstopped u) o false) e) ∙ none in
+        let thread = get-within r.threads u (let low = live-within core.kernel.lives u alive in let all = (h.sound i r e).all_made in omega arith) in
+        let is_open : is_none thread.0.stop ≡ false = sym (ap (λ (o : Option Thread). option_map_or (λ t. is_none t.stop) o false) thread.1) ∙ here in
+        let stop = some-from thread.0.stop is_open in
+        ap (λ (o : Option Thread). is_some (option_and_then (λ (x : Thread). x.stop) o)) thread.1 ∙ ap is_some stop.1
+
+    -- the thread is stopped in every replica
+    all_stopped : list_all (λ replica. is_some (stop_of replica u)) core.replicas ≡ true
+    all_stopped = all-from (λ replica. is_some (stop_of replica u)) core.replicas is-stopped
+
+    -- the thread is blocked
+    unblocked-false : is_none (core.blocked u) ≡ false
+    unblocked-false = by (is_none (core.blocked u)) refl
+      where
+        by : (b : Bool) → is_none (core.blocked u) ≡ b → is_none (core.blocked u) ≡ false
+        by false e = e
+        by true e = absurd (true≢false (sym (and_from _ _ (and_from _ _ (and_from _ _ (and_from _ _ going lent) alive) e) all_stopped) ∙ nothing.0))
+
+    -- the call on which the thread is blocked
+    call : (c : Call) × (core.blocked u ≡ Some c)
+    call = some-from (core.blocked u) unblocked-false
+
+    -- that call still blocks
+    call_blocks : serve (setup_of job.program) h.machine.kernel u call.0 ≡ Blocked
+    call_blocks = blocked-from _ (ap (λ (k : Kernel). blocks (setup_of job.program) k u call.0) (sym h.same_kernel) ∙ by (blocks (setup_of job.program) core.kernel u call.0) refl)
+      where
+        by : (b : Bool) → blocks (setup_of job.program) core.kernel u call.0 ≡ b → blocks (setup_of job.program) core.kernel u call.0 ≡ true
+        by true e = e
+        by false e = absurd (true≢false (sym (and_from _ _ (and_from _ _ going lent) (ap (λ (o : Option Call). option_map_or (λ c. not (blocks (setup_of job.program) core.kernel u c)) o false) call.1 ∙ ap not e)) ∙ nothing.1))
+
+    -- so the thread has no step
+    stuck-step : step job.program h.machine u ≡ None
+    stuck-step =
+        let s = h.blocked_stands u call.0 call.1 (going-machine going) in
+        step-at job.program h.machine u s.cpu s.live
+        ∙ (ap (step_by job.program h.machine u s.cpu) s.stands
+        ∙ ap (called h.machine s.cpu (payload_of job.program.image.ranges h.machine.memory call.0)) call_blocks)
+
+  -- no thread of the machine has a step where the core is stuck
+  pub deadlocked : is_stuck job core ≡ true → EndsAs job.program h.machine Deadlock
+  deadlocked stuck = (going-machine (and_parts _ _ (and_parts _ _ stuck).0).0, λ u. no-step job.program h.machine u (stuck-step stuck u))
+
+  -- ---- ends that come in the place of a vote
+
+  -- of two or three replicas, at least three are three
+  three-replicas : TwoOrThree job → 3 ≤ length core.replicas → length core.replicas ≡ 3
+  three-replicas (inl two) many = let n = h.replica_count in absurd (omega arith)
+  three-replicas (inr three) many = let n = h.replica_count in omega arith
+
+  -- three replicas always come to a majority
+  always-majority : RaceFree job.program → (t : ℕ) → may_vote core t ≡ true → verdict_of (views_of job core t) ≡ Split → length core.replicas ≡ 3 → ⊥
+  always-majority free t may split three =
+      let parts = vote-parts core t may in
+      let good = some-good job free odd journal core h t parts (omega arith) in
+      never-splits odd _ (views_of job core t) (as-many-views job free odd journal core h t parts ∙ three) split (all-but-odd job free odd journal core h t parts good)
+
+  -- two replicas that both agree do not differ
+  pub never-differ : RaceFree job.program → 2 ≤ odd → (t : ℕ) → may_vote core t ≡ true → verdict_of (views_of job core t) ≡ Split → length core.replicas ≡ 2 → ⊥
+  never-differ free past t may split two =
+      let parts = vote-parts core t may in
+      let good = some-good job free odd journal core h t parts (omega arith) in
+      let many = as-many-views job free odd journal core h t parts in
+      let all = all-but-odd job free odd journal core h t parts good in
+      pair-agrees _ (views_of job core t) (many ∙ two) split
+      (λ i v e. all.others i v (λ (f : i ≡ odd). let short = slice_get_within (views_of job core t) i v e in omega arith) e)
+
+  -- the machine stands as the end says
+  pub end-as : RaceFree job.program → TwoOrThree job → (how : How) → MayEnd job core how → EndsAs job.program h.machine how
+  end-as free count how (due e) = let ended : h.machine.ended ≡ Some how = sym h.same_end ∙ e in over-as job.program h.machine how (h.ends_well how ended) ended
+  end-as free count Deadlock (alone stuck) = deadlocked stuck
+  end-as free count (Sink bytes) (alone e) = going-machine e.0
+  end-as free count (Exit status) (alone e) = absurd e
+  end-as free count (Trap code) (alone e) = absurd e
+  end-as free count (Limit steps next) (alone e) = absurd e
+  end-as free count Differ (alone e) = absurd e
+  end-as free count NoMajority (alone e) = absurd e
+  end-as free count Differ (for_vote t may e) = sym h.same_end ∙ (vote-parts core t may).going.not_due
+  end-as free count (Limit steps next) (for_vote t may e) = sym h.same_end ∙ (vote-parts core t may).going.not_due
+  end-as free count NoMajority (for_vote t may e) = absurd (always-majority free t may e.0 (three-replicas count e.1))
+  end-as free count (Exit status) (for_vote t may e) = absurd e
+  end-as free count (Trap code) (for_vote t may e) = absurd e
+  end-as free count Deadlock (for_vote t may e) = absurd e
+  end-as free count (Sink bytes) (for_vote t may e) = absurd e
+  end-as free count (Limit steps next) (for_free t may e) = sym h.same_end ∙ (free-parts job core t may).going.not_due
+  end-as free count Differ (for_free t may e) = absurd e
+  end-as free count NoMajority (for_free t may e) = absurd e
+  end-as free count (Exit status) (for_free t may e) = absurd e
+  end-as free count (Trap code) (for_free t may e) = absurd e
+  end-as free count Deadlock (for_free t may e) = absurd e
+  end-as free count (Sink bytes) (for_free t may e) = absurd e

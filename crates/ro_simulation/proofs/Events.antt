@@ -1,0 +1,201 @@
+-- What an event leaves of a replica that agrees: after a release or a mapped page, after a call that blocks, and after a served call.
+use Rattle.std.specs.Prelude.{◌≡◌, ◌≢◌, ℕ, Bool, true, false, IsTrue, cond, List, ◌++◌, replicate, length, Option, Some, None, is_none, slice_get, slice_set, slice_index_or}
+use Rattle.std.proofs.Common.{refl, sym, ap, ap₂, ◌∙◌, arith}
+use Rattle.std.proofs.lemmas.Bool.{true≢false}
+use Rattle.std.proofs.lemmas.List.{length-set}
+use Rattle.std.proofs.lemmas.Option.{get_or_from_slice_get, slice_get_within}
+use Rattle.ro_event.specs.declared.calls.Call.{Call}
+use Rattle.ro_event.specs.declared.effects.Made.{Made}
+use Rattle.ro_event.specs.declared.stops.Stop.{Stop}
+use Rattle.ro_event.specs.declared.stops.Stop.TheVariants.{Calls}
+use Rattle.ro_event.specs.Effects.{Effect}
+use Rattle.ro_pages.specs.Bytes.{Memory, stored}
+use Rattle.ro_kernel.specs.Kernel.{Kernel, lives_on}
+use Rattle.ro_kernel.specs.Serve.{Done, serve, payload_of}
+use Rattle.ro_kernel.proofs.Kept.{IsOwn, slice_get-set_other}
+use Rattle.ro_exec.specs.declared.Cpu.{Cpu}
+use Rattle.ro_exec.specs.Next.{Backed, all_backed, Stands, next}
+use Rattle.ro_exec.specs.Threads.{made_cpu, cpu_after}
+use Rattle.ro_thread.specs.declared.Thread.{Thread}
+use Rattle.ro_thread.specs.Stops.{standing}
+use Rattle.ro_replica.specs.Replica.{Replica, applied, cancelled}
+use Rattle.ro_plain.specs.Machine.{layout_of, setup_of, Machine, opening, with_made, affected, called, step_by, next_of, steppable, step, run}
+use Rattle.ro_plain.specs.Order.{RaceFree}
+use Rattle.ro_plain.proofs.Backed.{backed-is-plain}
+use Rattle.ro_plain.proofs.Calls.{some-injective, slice_get-append, steppable-from, step-at}
+use Rattle.ro_plain.proofs.Stays.{steppable-along}
+use Rattle.ro_core.specs.Core.{Job}
+use Rattle.ro_core.specs.Event.{quiet_effect}
+use Rattle.ro_simulation.specs.Invariant.{StopStands, Agrees}
+use Rattle.ro_simulation.proofs.Stays.{Stays, stays}
+use Rattle.ro_simulation.proofs.Ahead.{KeepsRest, BackedRun-keeps, reach-run, TakenAfter, take-after, stays-along}
+use Rattle.ro_simulation.proofs.Lists.{get-set-same, get-append-last}
+use Rattle.ro_simulation.proofs.Served.{IsTidy}
+use Rattle.ro_simulation.proofs.Views.{Comes}
+use Rattle.ro_simulation.proofs.Effects.{backed_after, more-after, KeptStop, IsOf, ThreadAfter, as_before, its_own, newly_made, agrees-applied, stands-later}
+
+-- a stop that is left was not released
+if-released : (releases : Bool) (o : Option Stop) (stop : Stop) → cond releases None o ≡ Some stop → (releases ≡ false) × (o ≡ Some stop)
+if-released true o stop e = absurd (let f : None ≡ Some stop = e in cc)
+if-released false o stop e = (refl, e)
+
+-- a quiet effect is about its thread
+pub quiet-is-of : (t : ℕ) (page : Option ℕ) (releases : Bool) → IsOf (quiet_effect t page releases) t
+quiet-is-of t page releases = record { thread_is = refl; creator_is = λ made (e : None ≡ Some made). cc }
+
+module _ (job : Job) (free : RaceFree job.program) (before : List ℕ) (backed : Backed) (machine middle : Machine) (reached : run job.program (opening job.program) before ≡ Some machine) (going : machine.ended ≡ None) (replica : Replica) (same : replica.backed ≡ backed) (t : ℕ) (live : IsTrue (lives_on machine.kernel t)) (thread : Thread) (there : slice_get replica.threads t ≡ Some thread) (comes : Comes job backed machine middle replica t thread) (stops : (number : ℕ) → StopStands job machine replica number) where
+  -- the thread's own steps keep the kernel
+  own_kept : KeepsRest machine middle
+  own_kept = BackedRun-keeps job.program backed comes.own
+
+  -- the others' steps keep the kernel
+  back_kept : KeepsRest middle comes.end
+  back_kept = BackedRun-keeps job.program backed comes.back
+
+  -- a thread that lives in the middle lives in the machine
+  live-machine : (number : ℕ) → IsTrue (lives_on middle.kernel number) → IsTrue (lives_on machine.kernel number)
+  live-machine number alive = ap (λ (k : Kernel). lives_on k number) (sym own_kept.same_kernel) ∙ alive
+
+  -- ---- nothing is stored and no register changes
+
+  module _ (page : Option ℕ) (releases : Bool) (own_stop : (stop : Stop) → releases ≡ false → thread.stop ≡ Some stop → standing (layout_of job.program) job.settings.watchdog replica.backed replica.memory thread.cpu 0 ≡ Some stop) where
+    -- registers after a quiet effect
+    quiet-cpus : (number : ℕ) (other : Thread) → IsTrue (lives_on middle.kernel number) → ThreadAfter (quiet_effect t page releases) replica.threads t thread number other → slice_get comes.end.cpus number ≡ Some other.cpu
+    quiet-cpus number other alive (as_before d e) = comes.same_cpus number other (live-machine number alive) e
+    quiet-cpus number other alive (its_own d g) = ap (slice_get comes.end.cpus) d ∙ (comes.same_cpus t thread live there ∙ ap (λ (y : Thread). Some y.cpu) g)
+    quiet-cpus number other alive (newly_made made e n g) = absurd (let f : None ≡ Some made = e in cc)
+
+    -- stops after a quiet effect
+    quiet-stops : (number : ℕ) (other : Thread) (stop : Stop) → IsTrue (lives_on middle.kernel number) → ThreadAfter (quiet_effect t page releases) replica.threads t thread number other → KeptStop (backed_after (quiet_effect t page releases) replica.backed) other.stop stop
+        → standing (layout_of job.program) job.settings.watchdog (backed_after (quiet_effect t page releases) replica.backed) comes.end.memory other.cpu other.since ≡ Some stop
+    quiet-stops number other stop alive (as_before d e) kept =
+        stands-later (layout_of job.program) job.settings.watchdog replica.backed _ replica.memory comes.end.memory other.cpu other.since stop (more-after (quiet_effect t page releases) replica.backed)
+        (ap (λ (m : Memory). next (layout_of job.program) replica.backed m other.cpu) comes.same_memory) kept.unbacked ((stops number).stands other stop (live-machine number alive) e kept.was)
+    quiet-stops number other stop alive (its_own d g) kept =
+        let parts = if-released releases thread.stop stop (ap (λ (y : Thread). y.stop) g ∙ kept.was) in
+        ap (λ (y : Thread). standing (layout_of job.program) job.settings.watchdog (backed_after (quiet_effect t page releases) replica.backed) comes.end.memory y.cpu y.since) (sym g)
+        ∙ stands-later (layout_of job.program) job.settings.watchdog replica.backed _ replica.memory comes.end.memory thread.cpu 0 stop (more-after (quiet_effect t page releases) replica.backed)
+        (ap (λ (m : Memory). next (layout_of job.program) replica.backed m thread.cpu) comes.same_memory) kept.unbacked (own_stop stop parts.0 parts.1)
+    quiet-stops number other stop alive (newly_made made e n g) kept = absurd (let f : None ≡ Some made = e in cc)
+
+    -- a replica that agreed agrees after a quiet effect
+    pub agrees-quiet : Agrees job middle (cancelled (applied (quiet_effect t page releases) replica))
+    agrees-quiet = agrees-applied job free backed machine middle replica same t thread there comes (quiet_effect t page releases) (quiet-is-of t page releases) middle comes.end comes.back comes.same_memory quiet-cpus quiet-stops
+
+  -- ---- a served call
+
+  module _ (call : Call) (kernel : Kernel) (effect : Effect) (stands : next_of job.program middle thread.cpu ≡ Stands (Calls call)) (served : serve (setup_of job.program) middle.kernel t call ≡ Done kernel effect) (own : IsOwn middle.kernel t kernel effect) (tidy : IsTidy middle.kernel t kernel effect) (all_made : length replica.threads ≡ length machine.kernel.lives) (as_many : length machine.cpus ≡ length machine.kernel.lives) where
+    -- the effect is about the thread
+    is_of : IsOf effect t
+    is_of = record { thread_is = own.thread_is; creator_is = own.creator_is }
+
+    -- the call's step in the middle machine
+    step-middle : step job.program middle t ≡ Some (affected middle thread.cpu kernel effect (payload_of job.program.image.ranges middle.memory call))
+    step-middle = step-at job.program middle t thread.cpu comes.live
+        ∙ (ap (step_by job.program middle t thread.cpu) stands
+        ∙ ap (called middle thread.cpu (payload_of job.program.image.ranges middle.memory call)) served)
+
+    -- the program goes on in the middle
+    going_middle : middle.ended ≡ None
+    going_middle = own_kept.same_end ∙ going
+
+    -- the middle machine is reached
+    reached_middle : run job.program (opening job.program) (before ++ replicate thread.since t) ≡ Some middle
+    reached_middle = comes.reached_middle before reached
+
+    -- the call's step behind what others ran ahead
+    taken : TakenAfter job.program free backed (affected middle thread.cpu kernel effect (payload_of job.program.image.ranges middle.memory call)) t (comes.among.front ++ comes.among.back) comes.end
+    taken = take-after job.program free backed (before ++ replicate thread.since t) t _ reached_middle comes.back comes.apart step-middle going_middle
+
+    -- the thread may step at the end
+    live_end : steppable comes.end t ≡ Some thread.cpu
+    live_end = steppable-along job.program t (backed-is-plain comes.back) comes.apart ∙ comes.live
+
+    -- it stands at the same call there
+    stands_end : next_of job.program comes.end thread.cpu ≡ Stands (Calls call)
+    stands_end = sym ((stays-along job.program free backed (before ++ replicate thread.since t) t thread.cpu reached_middle comes.back comes.apart comes.live).next_stays all_backed) ∙ stands
+
+    -- the call is served alike there
+    served_end : serve (setup_of job.program) comes.end.kernel t call ≡ Done kernel effect
+    served_end = ap (λ (k : Kernel). serve (setup_of job.program) k t call) back_kept.same_kernel ∙ served
+
+    -- the machine after the call at the end
+    last_is : taken.last ≡ affected comes.end thread.cpu kernel effect (payload_of job.program.image.ranges comes.end.memory call)
+    last_is = some-injective (sym taken.step_t
+        ∙ (step-at job.program comes.end t thread.cpu live_end
+        ∙ (ap (step_by job.program comes.end t thread.cpu) stands_end
+        ∙ ap (called comes.end thread.cpu (payload_of job.program.image.ranges comes.end.memory call)) served_end)))
+
+    -- another thread that lives after the call lived before it
+    alive-before : (number : ℕ) (other : Thread) → number ≢ t → slice_get replica.threads number ≡ Some other → IsTrue (lives_on kernel number) → IsTrue (lives_on machine.kernel number)
+    alive-before number other d e alive =
+        let short = slice_get_within replica.threads number other e in
+        let lengths : length middle.kernel.lives ≡ length machine.kernel.lives = ap (λ (k : Kernel). length k.lives) own_kept.same_kernel in
+        live-machine number (tidy.stays_dead number d (omega arith) alive)
+
+    -- a made thread leaves the others' registers
+    keeps-made : (made : Option Made) (cpus : List Cpu) (number : ℕ) (x : Cpu) → slice_get cpus number ≡ Some x → slice_get (with_made made thread.cpu cpus) number ≡ Some x
+    keeps-made None cpus number x e = e
+    keeps-made (Some made) cpus number x e = slice_get-append cpus _ number x e
+
+    -- the thread's registers at the end
+    at_t : slice_get comes.end.cpus t ≡ Some thread.cpu
+    at_t = comes.same_cpus t thread live there
+
+    -- the thread's registers after the call
+    set_at_t : slice_get (slice_set comes.end.cpus t (cpu_after effect thread.cpu)) t ≡ Some (cpu_after effect thread.cpu)
+    set_at_t = get-set-same comes.end.cpus t thread.cpu _ at_t
+
+    -- the made thread's registers
+    new-cpu : (made : Made) → made.creator ≡ t → (number : ℕ) → number ≡ length replica.threads → slice_get (with_made (Some made) thread.cpu (slice_set comes.end.cpus t (cpu_after effect thread.cpu))) number ≡ Some (made_cpu made (cpu_after effect thread.cpu) (length replica.threads))
+    new-cpu made creator number n =
+        let long : length replica.threads ≡ length (slice_set comes.end.cpus t (cpu_after effect thread.cpu)) = all_made ∙ (sym as_many ∙ (sym (back_kept.same_length ∙ own_kept.same_length) ∙ sym (length-set comes.end.cpus t _))) in
+        ap (slice_get (with_made (Some made) thread.cpu (slice_set comes.end.cpus t (cpu_after effect thread.cpu)))) (n ∙ long)
+        ∙ (get-append-last (slice_set comes.end.cpus t (cpu_after effect thread.cpu)) _
+        ∙ ap₂ (λ (c : Cpu) (k : ℕ). Some (made_cpu made c k)) (ap (λ (i : ℕ). slice_index_or (slice_set comes.end.cpus t (cpu_after effect thread.cpu)) i thread.cpu) creator ∙ get_or_from_slice_get (slice_set comes.end.cpus t (cpu_after effect thread.cpu)) t _ thread.cpu set_at_t) (sym long))
+
+    -- registers after the call
+    cpus-at : (number : ℕ) (other : Thread) → IsTrue (lives_on kernel number) → ThreadAfter effect replica.threads t thread number other → slice_get (with_made effect.made thread.cpu (slice_set comes.end.cpus t (cpu_after effect thread.cpu))) number ≡ Some other.cpu
+    cpus-at number other alive (as_before d e) =
+        keeps-made effect.made _ number other.cpu (slice_get-set_other comes.end.cpus t number _ (λ f. d (sym f)) ∙ comes.same_cpus number other (alive-before number other d e alive) e)
+    cpus-at number other alive (its_own d g) =
+        keeps-made effect.made _ number other.cpu (ap (slice_get (slice_set comes.end.cpus t (cpu_after effect thread.cpu))) d ∙ (set_at_t ∙ ap (λ (y : Thread). Some y.cpu) g))
+    cpus-at number other alive (newly_made made e n g) =
+        ap (λ (o : Option Made). slice_get (with_made o thread.cpu (slice_set comes.end.cpus t (cpu_after effect thread.cpu))) number) e
+        ∙ (new-cpu made (own.creator_is made e) number n ∙ ap (λ (y : Thread). Some y.cpu) g)
+
+    -- registers in the machine after the call
+    served-cpus : (number : ℕ) (other : Thread) → IsTrue (lives_on kernel number) → ThreadAfter effect replica.threads t thread number other → slice_get taken.last.cpus number ≡ Some other.cpu
+    served-cpus number other alive h =
+        ap (λ (m : Machine). slice_get m.cpus number) last_is
+        ∙ (ap (λ (n : ℕ). slice_get (with_made effect.made thread.cpu (slice_set comes.end.cpus n (cpu_after effect thread.cpu))) number) own.thread_is
+        ∙ cpus-at number other alive h)
+
+    -- what another thread does next stays
+    other-stays : (number : ℕ) (other : Thread) → number ≢ t → slice_get replica.threads number ≡ Some other → IsTrue (lives_on machine.kernel number) → Stays job.program comes.end taken.last number other.cpu
+    other-stays number other d e alive =
+        stays job.program free ((before ++ replicate thread.since t) ++ (comes.among.front ++ comes.among.back)) comes.end (reach-run job.program backed (before ++ replicate thread.since t) reached_middle comes.back) t number (λ f. d (sym f)) taken.last taken.step_t taken.goes_on other.cpu
+        (steppable-from comes.end number other.cpu (record {
+          going = ap is_none (back_kept.same_end ∙ going_middle);
+          live = ap (λ (k : Kernel). lives_on k number) (back_kept.same_kernel ∙ own_kept.same_kernel) ∙ alive;
+          there = comes.same_cpus number other alive e;
+        }))
+
+    -- stops after the call
+    served-stops : (number : ℕ) (other : Thread) (stop : Stop) → IsTrue (lives_on kernel number) → ThreadAfter effect replica.threads t thread number other → KeptStop (backed_after effect replica.backed) other.stop stop
+        → standing (layout_of job.program) job.settings.watchdog (backed_after effect replica.backed) taken.last.memory other.cpu other.since ≡ Some stop
+    served-stops number other stop alive (as_before d e) kept =
+        let alive_before = alive-before number other d e alive in
+        stands-later (layout_of job.program) job.settings.watchdog replica.backed _ replica.memory taken.last.memory other.cpu other.since stop (more-after effect replica.backed)
+        (ap (λ (m : Memory). next (layout_of job.program) replica.backed m other.cpu) comes.same_memory ∙ (other-stays number other d e alive_before).next_stays replica.backed)
+        kept.unbacked ((stops number).stands other stop alive_before e kept.was)
+    served-stops number other stop alive (its_own d g) kept =
+        let parts = if-released effect.releases thread.stop stop (ap (λ (y : Thread). y.stop) g ∙ kept.was) in absurd (true≢false (sym tidy.goes_on ∙ parts.0))
+    served-stops number other stop alive (newly_made made e n g) kept =
+        absurd (let f : None ≡ Some stop = ap (λ (y : Thread). y.stop) g ∙ kept.was in cc)
+
+    -- a replica that agreed agrees after a served call
+    pub agrees-served : Agrees job (affected middle thread.cpu kernel effect (payload_of job.program.image.ranges middle.memory call)) (cancelled (applied effect replica))
+    agrees-served = agrees-applied job free backed machine middle replica same t thread there comes effect is_of _ taken.last taken.runs
+        (ap (λ (m : Memory). stored m effect.place effect.bytes) comes.same_memory ∙ ap (λ (m : Machine). m.memory) (sym last_is))
+        served-cpus served-stops

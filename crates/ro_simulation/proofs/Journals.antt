@@ -1,0 +1,233 @@
+-- The invariant along a legal journal.
+use Rattle.std.specs.Prelude.{◌≡◌, ◌≢◌, ℕ, zero, suc, ◌<◌, List, [], ◌∷◌, ◌++◌, Option, Some, None, slice_get}
+use Rattle.std.specs.Option.{option_map}
+use Rattle.std.proofs.Common.{refl, sym, ap, ◌∙◌, subst, arith, append_assoc, append-nil}
+use Rattle.ro_event.specs.declared.calls.Call.{Call}
+use Rattle.ro_journal.specs.declared.Did.{Did}
+use Rattle.ro_journal.specs.declared.How.{How}
+use Rattle.ro_journal.specs.declared.Entry.{Entry}
+use Rattle.ro_journal.specs.declared.Entry.TheVariants.{Take, Put, Vote, Free, End}
+use Rattle.ro_journal.specs.Plan.{outcome_of}
+use Rattle.ro_kernel.specs.Serve.{Served, Done, Blocked, Ends, serve}
+use Rattle.ro_kernel.specs.Kernel.{Kernel}
+use Rattle.ro_replica.specs.Replica.{Replica}
+use Rattle.ro_replica.specs.Runs.{Ran}
+use Rattle.ro_plain.specs.Machine.{setup_of}
+use Rattle.ro_plain.specs.Order.{RaceFree}
+use Rattle.ro_core.specs.Core.{Job, Core, opening_core}
+use Rattle.ro_core.specs.Event.{Event, call_event, with_recovered}
+use Rattle.ro_core.specs.Legal.{lease_run, core_after_put, event_in, freed_event, core_after_event, after, MayPut, MayEnd, IsAllowed, LegalFrom, Legal, replay_from, replay}
+use Rattle.ro_simulation.specs.Invariant.{Agrees, Holds}
+use Rattle.ro_simulation.specs.Theorem.{event_payload, payload_by, payloads_from, payloads_of}
+use Rattle.ro_simulation.proofs.Kept.{going-from}
+use Rattle.ro_simulation.proofs.Votes.{vote-parts, after-vote}
+use Rattle.ro_simulation.proofs.Frees.{free-parts, after-free}
+use Rattle.ro_simulation.proofs.Entries.{after-take, after-calm-put, after-struck-put}
+use Rattle.ro_simulation.proofs.Opening.{opening-holds}
+
+-- ---- journals in parts
+
+-- the core after two parts of a journal
+pub replay-append : (job : Job) (core : Core) (xs ys : List Entry) → replay_from job core (xs ++ ys) ≡ replay_from job (replay_from job core xs) ys
+replay-append job core [] ys = refl
+replay-append job core (x ∷ xs) ys = replay-append job (after job core x) xs ys
+
+-- both parts of a legal journal are legal
+pub legal-split : (job : Job) (core : Core) (xs ys : List Entry) → LegalFrom job core (xs ++ ys) → LegalFrom job core xs × LegalFrom job (replay_from job core xs) ys
+legal-split job core [] ys h = (tt, h)
+legal-split job core (x ∷ xs) ys h = let r = legal-split job (after job core x) xs ys h.1 in ((h.0, r.0), r.1)
+
+-- the payloads of two parts
+pub payloads-append : (job : Job) (core : Core) (xs ys : List Entry) → payloads_from job core (xs ++ ys) ≡ payloads_from job core xs ++ payloads_from job (replay_from job core xs) ys
+payloads-append job core [] ys = refl
+payloads-append job core (x ∷ xs) ys =
+    ap (λ (r : List ℕ). payload_by job core x ++ r) (payloads-append job (after job core x) xs ys)
+    ∙ sym (append_assoc (payload_by job core x) (payloads_from job (after job core x) xs) (payloads_from job (replay_from job (after job core x) xs) ys))
+
+-- an entry is allowed only in a run that has not ended
+pub allowed-not-ended : (job : Job) (core : Core) (entry : Entry) → IsAllowed job core entry → core.ended ≡ None
+allowed-not-ended job core (Take driver replica thread) h = (going-from core h.going).not_ended
+allowed-not-ended job core (Put driver replica thread count hit) h = h.not_ended
+allowed-not-ended job core (Vote thread count won lost did) h = (vote-parts core thread h.may).going.not_ended
+allowed-not-ended job core (Free thread) h = (free-parts job core thread h.may).going.not_ended
+allowed-not-ended job core (End how) h = h.0
+
+-- after an end comes nothing
+pub nothing-after : (job : Job) (core : Core) (how : How) (rest : List Entry) → core.ended ≡ Some how → LegalFrom job core rest → rest ≡ []
+nothing-after job core how [] e h = refl
+nothing-after job core how (entry ∷ rest) e h = absurd (let f : None ≡ Some how = sym (allowed-not-ended job core entry h.0) ∙ e in cc)
+
+-- after an end the core has ended
+pub after-end-ended : (job : Job) (core : Core) (how : How) → (after job core (End how)).ended ≡ Some how
+unfolding after
+after-end-ended job core how = refl
+
+-- ---- what an entry that is no end leaves of the output and the end
+
+-- an entry that is no end
+pub data IsStep : Entry → Type 0 where
+  takes : {driver replica thread : ℕ} → IsStep (Take driver replica thread)
+  puts : {driver replica thread count hit : ℕ} → IsStep (Put driver replica thread count hit)
+  votes : {thread count won : ℕ} {lost : Option ℕ} {did : Did} → IsStep (Vote thread count won lost did)
+  frees : {thread : ℕ} → IsStep (Free thread)
+
+-- the output with the payload, and the end as it was
+pub record Leaves (core other : Core) (payload : List ℕ) : Type 0 where
+  pub output : other.output ≡ core.output ++ payload
+  pub ended : other.ended ≡ core.ended
+
+-- a put writes nothing
+put-leaves : (job : Job) (core : Core) (driver replica thread count : ℕ) (o : Option Ran) → Leaves core (core_after_put job core driver replica thread count o) []
+put-leaves job core driver replica thread count None = record { output = sym (append-nil core.output); ended = refl }
+put-leaves job core driver replica thread count (Some ran) = record { output = sym (append-nil core.output); ended = refl }
+
+-- an event writes its payload
+event-leaves : (core : Core) (thread count : ℕ) (replicas : List Replica) (o : Option Event) → Leaves core (core_after_event core thread count replicas o) (event_payload o)
+event-leaves core thread count replicas None = record { output = sym (append-nil core.output); ended = refl }
+event-leaves core thread count replicas (Some event) = record { output = refl; ended = refl }
+
+-- a freed call writes nothing
+call-no-payload : (kernel : Kernel) (thread : ℕ) (call : Call) (served : Served) → (call_event kernel thread call [] served).payload ≡ []
+call-no-payload kernel thread call (Done k effect) = refl
+call-no-payload kernel thread call Blocked = refl
+call-no-payload kernel thread call (Ends k how) = refl
+
+-- a free writes nothing
+free-no-payload : (job : Job) (core : Core) (thread : ℕ) (o : Option Call) → event_payload (option_map (λ call. call_event core.kernel thread call [] (serve (setup_of job.program) core.kernel thread call)) o) ≡ []
+free-no-payload job core thread None = refl
+free-no-payload job core thread (Some call) = call-no-payload core.kernel thread call _
+
+-- what an entry leaves
+pub step-leaves : (job : Job) (core : Core) (entry : Entry) → IsStep entry → Leaves core (after job core entry) (payload_by job core entry)
+unfolding after
+step-leaves job core (Take driver replica thread) takes = record { output = sym (append-nil core.output); ended = refl }
+step-leaves job core (Put driver replica thread count hit) puts = put-leaves job core driver replica thread count (lease_run job core replica thread count)
+step-leaves job core (Vote thread count won lost did) votes = event-leaves core thread count (with_recovered won lost core.replicas) (event_in job core thread won)
+step-leaves job core (Free thread) frees =
+    subst (Leaves core (core_after_event core thread 0 core.replicas (freed_event job core thread))) (free-no-payload job core thread (core.blocked thread))
+    (event-leaves core thread 0 core.replicas (freed_event job core thread))
+step-leaves job core (End how) kind = elim kind [ ]
+
+-- ---- the outcome and the end of the core
+
+-- the core after an end and nothing
+end-nothing : (job : Job) (core : Core) (how : How) (rest : List Entry) → rest ≡ [] → (replay_from job (after job core (End how)) rest).ended ≡ Some how
+end-nothing job core how rest e = ap (λ (r : List Entry). (replay_from job (after job core (End how)) r).ended) e ∙ after-end-ended job core how
+
+-- the core has ended as the journal's end says
+pub outcome-ended : (job : Job) (core : Core) (journal : List Entry) (how : How) → LegalFrom job core journal → outcome_of journal ≡ Some how → (replay_from job core journal).ended ≡ Some how
+outcome-ended job core [] how h e = absurd (let f : None ≡ Some how = e in cc)
+outcome-ended job core (End other ∷ rest) how h e =
+    end-nothing job core other rest (nothing-after job (after job core (End other)) other rest (after-end-ended job core other) h.1) ∙ e
+outcome-ended job core (Take driver replica thread ∷ rest) how h e = outcome-ended job (after job core (Take driver replica thread)) rest how h.1 e
+outcome-ended job core (Put driver replica thread count hit ∷ rest) how h e = outcome-ended job (after job core (Put driver replica thread count hit)) rest how h.1 e
+outcome-ended job core (Vote thread count won lost did ∷ rest) how h e = outcome-ended job (after job core (Vote thread count won lost did)) rest how h.1 e
+outcome-ended job core (Free thread ∷ rest) how h e = outcome-ended job (after job core (Free thread)) rest how h.1 e
+
+-- and the other way round
+pub ended-outcome : (job : Job) (core : Core) (journal : List Entry) (how : How) → core.ended ≡ None → LegalFrom job core journal → (replay_from job core journal).ended ≡ Some how → outcome_of journal ≡ Some how
+ended-outcome job core [] how on h e = absurd (let f : None ≡ Some how = sym on ∙ e in cc)
+ended-outcome job core (End other ∷ rest) how on h e =
+    sym (end-nothing job core other rest (nothing-after job (after job core (End other)) other rest (after-end-ended job core other) h.1)) ∙ e
+ended-outcome job core (Take driver replica thread ∷ rest) how on h e = ended-outcome job (after job core (Take driver replica thread)) rest how ((step-leaves job core (Take driver replica thread) takes).ended ∙ on) h.1 e
+ended-outcome job core (Put driver replica thread count hit ∷ rest) how on h e = ended-outcome job (after job core (Put driver replica thread count hit)) rest how ((step-leaves job core (Put driver replica thread count hit) puts).ended ∙ on) h.1 e
+ended-outcome job core (Vote thread count won lost did ∷ rest) how on h e = ended-outcome job (after job core (Vote thread count won lost did)) rest how ((step-leaves job core (Vote thread count won lost did) votes).ended ∙ on) h.1 e
+ended-outcome job core (Free thread ∷ rest) how on h e = ended-outcome job (after job core (Free thread)) rest how ((step-leaves job core (Free thread) frees).ended ∙ on) h.1 e
+
+-- ---- the invariant along a journal
+
+-- the invariant, in the core of the journal, whose output is that of its payloads
+pub record Reached (job : Job) (odd : ℕ) (journal : List Entry) (core : Core) : Type 0 where
+  pub holds : Holds job odd journal core
+  pub is_replay : replay job journal ≡ core
+  pub written : core.output ≡ payloads_of job journal
+
+-- the invariant at the opening
+pub opening-reached : (job : Job) (odd : ℕ) → Reached job odd [] (opening_core job)
+unfolding opening_core
+opening-reached job odd = record { holds = opening-holds job odd; is_replay = refl; written = refl }
+
+-- one entry further
+reached-next : (job : Job) (odd odd' : ℕ) (journal : List Entry) (core : Core) (entry : Entry) → IsStep entry → Reached job odd journal core → Holds job odd' (journal ++ entry ∷ []) (after job core entry) → Reached job odd' (journal ++ entry ∷ []) (after job core entry)
+reached-next job odd odd' journal core entry kind r h = record {
+  holds = h;
+  is_replay = replay-append job (opening_core job) journal (entry ∷ []) ∙ ap (λ (c : Core). after job c entry) r.is_replay;
+  written = (step-leaves job core entry kind).output
+      ∙ (ap (λ (o : List ℕ). o ++ payload_by job core entry) r.written
+      ∙ (ap (λ (c : Core). payloads_of job journal ++ payload_by job c entry) (sym r.is_replay)
+      ∙ (ap (λ (p : List ℕ). payloads_of job journal ++ p) (sym (append-nil (payload_by job (replay job journal) entry)))
+      ∙ sym (payloads-append job (opening_core job) journal (entry ∷ [])))));
+}
+
+-- Which replica may be the odd one, and why the others agree where faults are struck.
+pub record Policy (job : Job) (Q : ℕ → Type 0) (whole : List Entry) : Type 0 where
+  pub strikes : (odd : ℕ) → Q odd → (before rest : List Entry) (driver replica thread count hit : ℕ) → whole ≡ before ++ Put driver replica thread count hit ∷ rest →
+      (core : Core) (reached : Reached job odd before core) → MayPut job core driver replica thread count hit → 0 < hit →
+      Q replica × ((number : ℕ) (r : Replica) → number ≢ replica → slice_get core.replicas number ≡ Some r → Agrees job reached.holds.machine r)
+
+-- A legal journal goes on, or has ended by its last entry.
+pub data Stage (job : Job) (Q : ℕ → Type 0) (journal : List Entry) (core : Core) : Type 0 where
+  goes_on : (odd : ℕ) → Q odd → Reached job odd journal core → Stage job Q journal core
+  has_ended : (before : List Entry) (how : How) (odd : ℕ) (last : Core) → Q odd → journal ≡ before ++ End how ∷ [] → Reached job odd before last → MayEnd job last how → core ≡ after job last (End how) → Stage job Q journal core
+
+-- one entry
+pub data AfterEntry (job : Job) (Q : ℕ → Type 0) (journal : List Entry) (core : Core) (entry : Entry) : Type 0 where
+  is_step : (odd : ℕ) → Q odd → IsStep entry → Holds job odd (journal ++ entry ∷ []) (after job core entry) → AfterEntry job Q journal core entry
+  is_end : (how : How) → entry ≡ End how → MayEnd job core how → AfterEntry job Q journal core entry
+
+module _ (job : Job) (free : RaceFree job.program) (Q : ℕ → Type 0) (whole : List Entry) (policy : Policy job Q whole) where
+  -- the invariant after a put, with or without a strike
+  after-put : (odd : ℕ) (q : Q odd) (journal rest : List Entry) (driver replica thread count hit : ℕ) → whole ≡ journal ++ Put driver replica thread count hit ∷ rest → (core : Core) (reached : Reached job odd journal core) → MayPut job core driver replica thread count hit → AfterEntry job Q journal core (Put driver replica thread count hit)
+  after-put odd q journal rest driver replica thread count zero whole_is core reached may =
+      is_step odd q puts (after-calm-put job odd journal core reached.holds driver replica thread count 0 may free refl)
+  after-put odd q journal rest driver replica thread count (suc hit) whole_is core reached may =
+      let s = policy.strikes odd q journal rest driver replica thread count (suc hit) whole_is core reached may (omega arith) in
+      is_step replica s.0 puts (after-struck-put job odd journal core reached.holds driver replica thread count (suc hit) may s.1)
+
+  -- the invariant after an entry
+  after-entry : (odd : ℕ) (q : Q odd) (journal rest : List Entry) (entry : Entry) → whole ≡ journal ++ entry ∷ rest → (core : Core) (reached : Reached job odd journal core) → IsAllowed job core entry → AfterEntry job Q journal core entry
+  after-entry odd q journal rest (Take driver replica thread) whole_is core reached h = is_step odd q takes (after-take job odd journal core reached.holds driver replica thread h)
+  after-entry odd q journal rest (Put driver replica thread count hit) whole_is core reached h = after-put odd q journal rest driver replica thread count hit whole_is core reached h
+  after-entry odd q journal rest (Vote thread count won lost did) whole_is core reached h = is_step odd q votes (after-vote job free odd journal core reached.holds thread count won did lost h).holds
+  after-entry odd q journal rest (Free thread) whole_is core reached h = is_step odd q frees (after-free job free odd journal core reached.holds thread h)
+  after-entry odd q journal rest (End how) whole_is core reached h = is_end how refl h.1
+
+  -- a journal that ends here
+  stage-end : (odd : ℕ) (q : Q odd) (journal rest : List Entry) (core : Core) (how : How) → Reached job odd journal core → MayEnd job core how → rest ≡ [] → Stage job Q (journal ++ End how ∷ rest) (replay_from job (after job core (End how)) rest)
+  stage-end odd q journal rest core how reached may none =
+      has_ended journal how odd core q (ap (λ (r : List Entry). journal ++ End how ∷ r) none) reached may (ap (replay_from job (after job core (End how))) none)
+
+  -- the invariant after any number of entries
+  pub reach : (odd : ℕ) (q : Q odd) (journal rest tail : List Entry) (core : Core) → whole ≡ journal ++ (rest ++ tail) → Reached job odd journal core → LegalFrom job core rest → Stage job Q (journal ++ rest) (replay_from job core rest)
+  reach odd q journal [] tail core whole_is reached legal = goes_on odd q (subst (λ (j : List Entry). Reached job odd j core) (sym (append-nil journal)) reached)
+  reach odd q journal (entry ∷ rest) tail core whole_is reached legal =
+      after-reach odd q journal rest tail core entry whole_is reached legal.1 (after-entry odd q journal (rest ++ tail) entry whole_is core reached legal.0)
+      (λ odd' q' reached'. reach odd' q' (journal ++ entry ∷ []) rest tail (after job core entry) (whole_is ∙ sym (append_assoc journal (entry ∷ []) (rest ++ tail))) reached' legal.1)
+    where
+      after-reach : (odd : ℕ) (q : Q odd) (journal rest tail : List Entry) (core : Core) (entry : Entry) → whole ≡ journal ++ (entry ∷ (rest ++ tail)) → Reached job odd journal core → LegalFrom job (after job core entry) rest → AfterEntry job Q journal core entry
+          → ((odd' : ℕ) → Q odd' → Reached job odd' (journal ++ entry ∷ []) (after job core entry) → Stage job Q ((journal ++ entry ∷ []) ++ rest) (replay_from job (after job core entry) rest))
+          → Stage job Q (journal ++ entry ∷ rest) (replay_from job (after job core entry) rest)
+      after-reach odd q journal rest tail core entry whole_is reached legal (is_step odd' q' kind h) later =
+          subst (λ (j : List Entry). Stage job Q j (replay_from job (after job core entry) rest)) (append_assoc journal (entry ∷ []) rest) (later odd' q' (reached-next job odd odd' journal core entry kind reached h))
+      after-reach odd q journal rest tail core entry whole_is reached legal (is_end how same may) later =
+          subst (λ (e : Entry). Stage job Q (journal ++ e ∷ rest) (replay_from job (after job core e) rest)) (sym same)
+          (stage-end odd q journal rest core how reached may
+          (nothing-after job (after job core (End how)) how rest (after-end-ended job core how) (subst (λ (e : Entry). LegalFrom job (after job core e) rest) same legal)))
+
+  -- before an entry that is allowed the journal goes on
+  pub record Before (journal : List Entry) (entry : Entry) : Type 0 where
+    pub odd : ℕ
+    pub allows : Q odd
+    pub reached : Reached job odd journal (replay job journal)
+    pub allowed : IsAllowed job (replay job journal) entry
+
+  -- the invariant before an entry
+  pub reach-before : (odd : ℕ) → Q odd → Legal job whole → (journal rest : List Entry) (entry : Entry) → whole ≡ journal ++ entry ∷ rest → Before journal entry
+  reach-before odd q legal journal rest entry whole_is =
+      let parts = legal-split job (opening_core job) journal (entry ∷ rest) (subst (Legal job) whole_is legal) in
+      by parts.1.0 (reach odd q [] journal (entry ∷ rest) (opening_core job) whole_is (opening-reached job odd) parts.0)
+    where
+      by : IsAllowed job (replay job journal) entry → Stage job Q journal (replay job journal) → Before journal entry
+      by allowed (goes_on o q' r) = record { odd = o; allows = q'; reached = r; allowed = allowed }
+      by allowed (has_ended before how o last q' same r may e) =
+          absurd (let f : None ≡ Some how = sym (allowed-not-ended job (replay job journal) entry allowed) ∙ (ap (λ (c : Core). c.ended) e ∙ after-end-ended job last how) in cc)

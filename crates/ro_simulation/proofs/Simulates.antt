@@ -1,0 +1,219 @@
+-- The simulation theorem, from the invariant along the journal.
+use Rattle.std.specs.Prelude.{◌≡◌, ◌≢◌, ℕ, suc, ◌+◌, ◌-◌, IsTrue, List, [], ◌∷◌, ◌++◌, length, drop, Some, None, slice_get}
+use Rattle.std.proofs.Common.{refl, sym, ap, ◌∙◌, subst, arith, append-nil}
+use Rattle.std.proofs.lemmas.List.{take-append-drop}
+use Rattle.ro_journal.specs.declared.How.{How}
+use Rattle.ro_journal.specs.declared.How.TheVariants.{Exit, Trap, Deadlock, Limit, Differ, NoMajority, Sink}
+use Rattle.ro_journal.specs.declared.Entry.{Entry}
+use Rattle.ro_journal.specs.declared.Entry.TheVariants.{Vote, End}
+use Rattle.ro_journal.specs.Plan.{outcome_of, plan_of}
+use Rattle.ro_kernel.specs.Kernel.{Kernel, lives_on}
+use Rattle.ro_replica.specs.Replica.{Replica}
+use Rattle.ro_plain.specs.Machine.{Machine}
+use Rattle.ro_plain.specs.Order.{RaceFree}
+use Rattle.ro_plain.proofs.Calls.{some-injective}
+use Rattle.ro_core.specs.Core.{Job, Core, opening_core}
+use Rattle.ro_core.specs.Legal.{cut_output, after, MayVote, MayEnd, Legal, replay, output_of}
+use Rattle.ro_core.specs.Ideal.{ideal, StaysApart}
+use Rattle.ro_simulation.specs.Invariant.{Holds}
+use Rattle.ro_simulation.specs.Theorem.{payloads_of, IsFront, AtMostOneDiffers, HaveEqualViews, HaveEqualPages, CopiesWell, EachCopiesWell, EndsAs, Simulates, TwoOrThree}
+use Rattle.ro_simulation.proofs.Alike.{agrees-is-alike, alike-agrees}
+use Rattle.ro_simulation.proofs.Views.{arrives, equal-views}
+use Rattle.ro_simulation.proofs.Kept.{ideal-same}
+use Rattle.ro_simulation.proofs.Votes.{stopped-in, vote-parts, after-vote}
+use Rattle.ro_simulation.proofs.Ends.{end-as}
+use Rattle.ro_simulation.proofs.Journals.{replay-append, payloads-append, outcome-ended, ended-outcome, after-end-ended, Reached, opening-reached, Policy, Stage, goes_on, has_ended, reach, reach-before}
+
+-- ---- what the invariant says of a journal with the same machine, replicas and kernel
+
+-- a journal, and the part of it that leaves the same machine, replicas and kernel
+pub record SameState (job : Job) (journal before : List Entry) (core : Core) : Type 0 where
+  pub same_ideal : ideal job journal ≡ ideal job before
+  pub same_replicas : (replay job journal).replicas ≡ core.replicas
+  pub same_kernel : (replay job journal).kernel ≡ core.kernel
+
+module _ (job : Job) (free : RaceFree job.program) (odd : ℕ) (journal before : List Entry) (core : Core) (h : Holds job odd before core) (s : SameState job journal before core) where
+  -- the ideal machine
+  ideal_is : ideal job journal ≡ Some h.machine
+  ideal_is = s.same_ideal ∙ h.ideal_is
+
+  -- a replica of the journal is one of the core
+  there-too : (number : ℕ) (r : Replica) → slice_get (replay job journal).replicas number ≡ Some r → slice_get core.replicas number ≡ Some r
+  there-too number r e = ap (λ (rs : List Replica). slice_get rs number) (sym s.same_replicas) ∙ e
+
+  -- at most one replica differs
+  pub at-most-one : h.machine.ended ≡ None → AtMostOneDiffers job journal
+  at-most-one on = record {
+    odd = odd;
+    others_alike = λ number r d e. agrees-is-alike job journal h.machine r ideal_is on (h.others_agree on number r d (there-too number r e));
+  }
+
+  -- backed pages are equal
+  pub equal-pages : HaveEqualPages job journal
+  equal-pages i j one other e f = (h.sound i one (there-too i one e)).same_backed ∙ sym (h.sound j other (there-too j other f)).same_backed
+
+  -- views are equal
+  pub equal-views-of : HaveEqualViews job journal
+  equal-views-of i j t one other e f alike alike' live stopped stopped' =
+      let a = h.sound i one (there-too i one e) in
+      let b = h.sound j other (there-too j other f) in
+      let going : h.machine.ended ≡ None = ap (λ (m : Machine). m.ended) (some-injective (sym ideal_is ∙ alike.ideal_is)) ∙ alike.goes_on in
+      let live_machine : IsTrue (lives_on h.machine.kernel t) = ap (λ (k : Kernel). lives_on k t) (sym (s.same_kernel ∙ h.same_kernel)) ∙ live in
+      let at = stopped-in one t stopped in
+      let at' = stopped-in other t stopped' in
+      let agree = alike-agrees job journal h.machine one ideal_is alike in
+      let agree' = alike-agrees job journal h.machine other ideal_is alike' in
+      equal-views job free (plan_of before) h.machine h.ideal_is h.backed one other t at.thread at'.thread at.stop at'.stop
+      (arrives job free (plan_of before) h.machine h.ideal_is going h.backed one a.same_backed agree.runs_ahead t at.thread at.stop live_machine at.there at.stopped (agree.stops t))
+      (arrives job free (plan_of before) h.machine h.ideal_is going h.backed other b.same_backed agree'.runs_ahead t at'.thread at'.stop live_machine at'.there at'.stopped (agree'.stops t))
+      (a.within_watch t at.thread at.there) (b.within_watch t at'.thread at'.there) at.there at.stopped at'.there at'.stopped
+
+-- ---- faults stay apart
+
+-- the others are alike where faults are struck
+pub apart-policy : (job : Job) (journal : List Entry) → StaysApart job journal → Policy job (λ odd. Unit {0}) journal
+apart-policy job journal apart = record {
+  strikes = λ odd q before rest driver replica thread count hit whole core reached may some. (
+    tt,
+    λ number r d e.
+        alike-agrees job before reached.holds.machine r reached.holds.ideal_is
+        (apart before rest driver replica thread count hit whole some number r d (ap (λ (c : Core). slice_get c.replicas number) reached.is_replay ∙ e)),
+  );
+}
+
+module _ (job : Job) (free : RaceFree job.program) (Q : ℕ → Type 0) (journal : List Entry) (policy : Policy job Q journal) (start : ℕ) (start_allowed : Q start) (legal : Legal job journal) where
+  -- where the journal stands
+  pub stage : Stage job Q journal (replay job journal)
+  stage = reach job free Q journal policy start start_allowed [] journal [] (opening_core job) (sym (append-nil journal)) (opening-reached job start) legal
+
+  -- each copy is good
+  pub copies-well : EachCopiesWell job journal
+  copies-well before rest thread count won lost did whole =
+      let b = reach-before job free Q journal policy start start_allowed legal before rest (Vote thread count won (Some lost) did) whole in
+      by b.odd b.reached b.allowed
+    where
+      by : (odd : ℕ) (reached : Reached job odd before (replay job before)) → MayVote job (replay job before) thread count won (Some lost) did → CopiesWell job before (Vote thread count won (Some lost) did) won
+      by odd reached may =
+          let voted = after-vote job free odd before (replay job before) reached.holds thread count won did (Some lost) may in
+          let going : reached.holds.machine.ended ≡ None = sym reached.holds.same_end ∙ (vote-parts (replay job before) thread may.may).going.not_due in
+          record {
+            winner_alike = λ winner there. agrees-is-alike job before reached.holds.machine winner reached.holds.ideal_is going (reached.holds.others_agree going won winner (voted.loser_odd lost refl).1 there);
+            then_all = λ machine e on number r there.
+                let all = voted.then_all lost refl (suc number) in
+                let same : machine ≡ all.machine = some-injective (sym e ∙ all.ideal_is) in
+                let on_all : all.machine.ended ≡ None = ap (λ (m : Machine). m.ended) (sym same) ∙ on in
+                agrees-is-alike job (before ++ Vote thread count won (Some lost) did ∷ []) all.machine r all.ideal_is on_all
+                (all.others_agree on_all number r (λ (f : number ≡ suc number). omega arith)
+                (ap (λ (c : Core). slice_get c.replicas number) (sym (replay-append job (opening_core job) before (Vote thread count won (Some lost) did ∷ []))) ∙ there));
+          }
+
+  -- the opening has not ended
+  opening_not_ended : (opening_core job).ended ≡ None
+  opening_not_ended = (opening-reached job start).holds.not_ended
+
+  -- ---- a journal that goes on
+
+  module _ (odd : ℕ) (reached : Reached job odd journal (replay job journal)) where
+    -- a journal that goes on leaves its own state
+    same_state : SameState job journal journal (replay job journal)
+    same_state = record { same_ideal = refl; same_replicas = refl; same_kernel = refl }
+
+    -- a journal that goes on simulates
+    goes-on-simulates : Simulates job journal
+    goes-on-simulates = record {
+      machine = reached.holds.machine;
+      ideal_is = reached.holds.ideal_is;
+      same_kernel = reached.holds.same_kernel;
+      written = record {
+        whole = sym reached.holds.same_output ∙ reached.written;
+        front = ([], sym reached.holds.same_output ∙ sym (append-nil (output_of job journal)));
+        all_left = λ h. reached.holds.same_output;
+      };
+      at_most_one = at-most-one job free odd journal journal (replay job journal) reached.holds same_state;
+      equal_views = equal-views-of job free odd journal journal (replay job journal) reached.holds same_state;
+      equal_pages = equal-pages job free odd journal journal (replay job journal) reached.holds same_state;
+      copies = copies-well;
+      ends_as = λ how e. absurd (let f : None ≡ Some how = sym reached.holds.not_ended ∙ outcome-ended job (opening_core job) journal how legal e in cc);
+    }
+
+  -- ---- a journal that has ended
+
+  module _ (count : TwoOrThree job) (before : List Entry) (how : How) (odd : ℕ) (last : Core) (same : journal ≡ before ++ End how ∷ []) (reached : Reached job odd before last) (may : MayEnd job last how) (last_is : replay job journal ≡ after job last (End how)) where
+    -- how the core ended
+    ended_is : (replay job journal).ended ≡ Some how
+    ended_is = ap (λ (c : Core). c.ended) last_is ∙ after-end-ended job last how
+
+    -- the journal's outcome
+    outcome_is : outcome_of journal ≡ Some how
+    outcome_is = ended-outcome job (opening_core job) journal how opening_not_ended legal ended_is
+
+    -- an end leaves machine, replicas and kernel
+    ended_state : SameState job journal before last
+    unfolding after
+    ended_state = record {
+      same_ideal = ap (ideal job) same ∙ ideal-same job before (End how) refl;
+      same_replicas = ap (λ (c : Core). c.replicas) last_is;
+      same_kernel = ap (λ (c : Core). c.kernel) last_is;
+    }
+
+    -- the output after the end
+    output_is : output_of job journal ≡ cut_output last how
+    unfolding after
+    output_is = ap (λ (c : Core). c.output) last_is
+
+    -- the machine's output is that of the payloads
+    whole_is : reached.holds.machine.output ≡ payloads_of job journal
+    whole_is = sym reached.holds.same_output
+        ∙ (reached.written
+        ∙ (sym (append-nil (payloads_of job before))
+        ∙ sym (ap (payloads_of job) same ∙ payloads-append job (opening_core job) before (End how ∷ []))))
+
+    -- what left is the front
+    cut-front : (how : How) → IsFront (cut_output last how) last.output
+    cut-front (Sink bytes) = (drop (length last.output - last.wrote + bytes) last.output, sym (take-append-drop (length last.output - last.wrote + bytes) last.output))
+    cut-front (Exit status) = ([], sym (append-nil last.output))
+    cut-front (Trap code) = ([], sym (append-nil last.output))
+    cut-front Deadlock = ([], sym (append-nil last.output))
+    cut-front (Limit steps next) = ([], sym (append-nil last.output))
+    cut-front Differ = ([], sym (append-nil last.output))
+    cut-front NoMajority = ([], sym (append-nil last.output))
+
+    -- all has left where no sink failed
+    cut-whole : (other : How) → how ≡ other → ((bytes : ℕ) → outcome_of journal ≢ Some (Sink bytes)) → cut_output last other ≡ last.output
+    cut-whole (Sink bytes) e none = absurd (none bytes (outcome_is ∙ ap Some e))
+    cut-whole (Exit status) e none = refl
+    cut-whole (Trap code) e none = refl
+    cut-whole Deadlock e none = refl
+    cut-whole (Limit steps next) e none = refl
+    cut-whole Differ e none = refl
+    cut-whole NoMajority e none = refl
+
+    -- a journal that has ended simulates
+    ended-simulates : Simulates job journal
+    ended-simulates = record {
+      machine = reached.holds.machine;
+      ideal_is = ended_state.same_ideal ∙ reached.holds.ideal_is;
+      same_kernel = ended_state.same_kernel ∙ reached.holds.same_kernel;
+      written = record {
+        whole = whole_is;
+        front = subst (λ (o : List ℕ). IsFront o reached.holds.machine.output) (sym output_is) (subst (IsFront (cut_output last how)) reached.holds.same_output (cut-front how));
+        all_left = λ none. output_is ∙ (cut-whole how refl none ∙ reached.holds.same_output);
+      };
+      at_most_one = at-most-one job free odd journal before last reached.holds ended_state;
+      equal_views = equal-views-of job free odd journal before last reached.holds ended_state;
+      equal_pages = equal-pages job free odd journal before last reached.holds ended_state;
+      copies = copies-well;
+      ends_as = λ other e. subst (EndsAs job.program reached.holds.machine) (some-injective (sym outcome_is ∙ e)) (end-as job odd before last reached.holds free count how may);
+    }
+
+  -- the theorem under a policy
+  pub simulates-with : TwoOrThree job → Simulates job journal
+  simulates-with count = by stage
+    where
+      by : Stage job Q journal (replay job journal) → Simulates job journal
+      by (goes_on odd q reached) = goes-on-simulates odd reached
+      by (has_ended before how odd last q same reached may last_is) = ended-simulates count before how odd last same reached may last_is
+
+-- the simulation theorem
+pub simulates : (job : Job) (journal : List Entry) → RaceFree job.program → TwoOrThree job → Legal job journal → StaysApart job journal → Simulates job journal
+simulates job journal free count legal apart = simulates-with job free (λ odd. Unit {0}) journal (apart-policy job journal apart) 0 tt legal count

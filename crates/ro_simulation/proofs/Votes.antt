@@ -1,0 +1,390 @@
+-- A vote that is allowed: the replicas that agree stand at one stop of the machine, and the winner's view is that of the machine.
+use Rattle.std.specs.Prelude.{◌≡◌, ◌≢◌, ℕ, ◌≤◌, Bool, true, false, IsTrue, ◌==◌, List, [], ◌∷◌, ◌++◌, replicate, length, Option, Some, None, is_some, slice_get}
+use Rattle.std.specs.Option.{option_map, option_and_then}
+use Rattle.std.specs.List.{list_all}
+use Rattle.std.proofs.Common.{refl, sym, ap, ap₂, ◌∙◌, subst, arith, inl, inr, ⊎_elim}
+use Rattle.std.proofs.lemmas.Bool.{true≢false, false≢true, eq-eqb, and_parts, cases_eq}
+use Rattle.std.proofs.lemmas.Option.{slice_get_within}
+use Rattle.ro_event.specs.declared.stops.Stop.{Stop}
+use Rattle.ro_event.specs.declared.stops.Stop.TheVariants.{Calls, Trap, PageFault, Watchdog}
+use Rattle.ro_event.specs.Views.{View}
+use Rattle.ro_region.specs.declared.Range.{Range}
+use Rattle.ro_journal.specs.declared.Did.{Did}
+use Rattle.ro_journal.specs.declared.Entry.{Entry}
+use Rattle.ro_journal.specs.declared.Entry.TheVariants.{Vote}
+use Rattle.ro_journal.specs.Plan.{event_steps, plan_of}
+use Rattle.ro_kernel.specs.Kernel.{Setup, Kernel, lives_on}
+use Rattle.ro_exec.specs.Next.{next, stop_in}
+use Rattle.ro_thread.specs.declared.Thread.{Thread}
+use Rattle.ro_thread.specs.Stops.{standing}
+use Rattle.ro_replica.specs.Replica.{Replica, recovered, stop_of}
+use Rattle.ro_plain.specs.Machine.{Program, layout_of, setup_of, Machine, opening, run, IsExecution}
+use Rattle.ro_vote.specs.Verdict.{Won, verdict_of}
+use Rattle.ro_plain.specs.Order.{RaceFree}
+use Rattle.ro_plain.proofs.Swap.{run-append}
+use Rattle.ro_plain.proofs.Calls.{some-injective}
+use Rattle.ro_core.specs.Core.{Job, Core, may_vote, payload_at, view_with, view_of, views_of}
+use Rattle.ro_core.specs.Event.{Event, event_of, with_recovered, core_after}
+use Rattle.ro_core.specs.Legal.{event_with, event_in, core_after_event, after, since_in, MayVote}
+use Rattle.ro_simulation.specs.Invariant.{IsSound, Agrees, Holds}
+use Rattle.ro_simulation.proofs.Lists.{get-within, get-filter-map, length-filter-map, get-all, all-from}
+use Rattle.ro_simulation.proofs.Views.{Comes, Arrives, arrives, SameArrival, same-arrival, machine_view, next-at-middle, view-is, standing_by, stands-next, not-equal}
+use Rattle.ro_simulation.proofs.Ahead.{KeepsRest, BackedRun-keeps, BackedRun-run}
+use Rattle.ro_simulation.proofs.Verdicts.{AllBut, WonWell, won-well, won-some}
+use Rattle.ro_simulation.proofs.Copies.{copied-there, sound-recovered, agrees-recovered, AfterCopy, not_lost, is_copy, after-copy, length-with-copy}
+use Rattle.ro_simulation.proofs.Steps.{HasEvent, step-of-stop}
+use Rattle.ro_simulation.proofs.Kept.{Going, going-from, none-lent, Meets, event-holds}
+
+-- a list of steps in three parts
+pub run-more : (program : Program) (before : List ℕ) (machine middle : Machine) (xs ys : List ℕ) {end : Machine} → run program (opening program) before ≡ Some machine → run program machine xs ≡ Some middle → run program middle ys ≡ Some end → run program (opening program) (before ++ (xs ++ ys)) ≡ Some end
+run-more program before machine middle xs ys reached front back =
+    run-append program (opening program) before (xs ++ ys)
+    ∙ (ap (option_and_then (λ m. run program m (xs ++ ys))) reached
+    ∙ (run-append program machine xs ys ∙ (ap (option_and_then (λ m. run program m ys)) front ∙ back)))
+
+-- ---- a thread that is stopped in a replica
+
+-- the thread and its stop
+pub record StoppedIn (r : Replica) (t : ℕ) : Type 0 where
+  pub thread : Thread
+  pub stop : Stop
+  pub there : slice_get r.threads t ≡ Some thread
+  pub stopped : thread.stop ≡ Some stop
+
+-- by the thread that is there
+stopped-by : (r : Replica) (t : ℕ) (o : Option Thread) → slice_get r.threads t ≡ o → is_some (option_and_then (λ (x : Thread). x.stop) o) ≡ true → StoppedIn r t
+stopped-by r t None e h = absurd (false≢true h)
+stopped-by r t (Some thread) e h = by thread.stop refl h
+  where
+    by : (o : Option Stop) → thread.stop ≡ o → is_some o ≡ true → StoppedIn r t
+    by None f k = absurd (false≢true k)
+    by (Some stop) f k = record { thread = thread; stop = stop; there = e; stopped = f }
+
+-- the test says that it is stopped
+pub stopped-in : (r : Replica) (t : ℕ) → is_some (stop_of r t) ≡ true → StoppedIn r t
+stopped-in r t h = stopped-by r t (slice_get r.threads t) refl h
+
+-- the view of a stopped thread
+pub view-of-stopped : (ranges : List Range) (r : Replica) (t : ℕ) (s : StoppedIn r t) → view_of ranges t r ≡ Some (view_with ranges r s.thread s.stop)
+view-of-stopped ranges r t s =
+    ap (option_and_then (λ (x : Thread). option_map (view_with ranges r x) x.stop)) s.there ∙ ap (option_map (view_with ranges r s.thread)) s.stopped
+
+-- a stopped thread has a view
+pub has-view : (ranges : List Range) (r : Replica) (t : ℕ) → is_some (stop_of r t) ≡ true → is_some (view_of ranges t r) ≡ true
+has-view ranges r t h = ap is_some (view-of-stopped ranges r t (stopped-in r t h))
+
+-- the watchdog's event releases the thread
+watchdog-releases : (setup : Setup) (kernel : Kernel) (t : ℕ) (payload : List ℕ) → (event_of setup kernel t Watchdog payload).effect.releases ≡ true
+unfolding event_of
+watchdog-releases setup kernel t payload = refl
+
+-- ---- a vote that may come
+
+-- the parts of it
+pub record VoteParts (core : Core) (t : ℕ) : Type 0 where
+  pub going : Going core
+  pub no_lease : core.leases ≡ []
+  pub live : IsTrue (lives_on core.kernel t)
+  pub stopped : list_all (λ r. is_some (stop_of r t)) core.replicas ≡ true
+
+-- a vote that may come has them
+pub vote-parts : (core : Core) (t : ℕ) → may_vote core t ≡ true → VoteParts core t
+vote-parts core t h =
+    let a = and_parts _ _ h in let b = and_parts _ _ a.0 in let c = and_parts _ _ b.0 in let d = and_parts _ _ c.0 in
+    record { going = going-from core d.0; no_lease = none-lent core d.1; live = c.1; stopped = a.1 }
+
+module _ (job : Job) (free : RaceFree job.program) (odd : ℕ) (journal : List Entry) (core : Core) (h : Holds job odd journal core) (t : ℕ) (parts : VoteParts core t) where
+  -- the program goes on at a vote
+  going : h.machine.ended ≡ None
+  going = sym h.same_end ∙ parts.going.not_due
+
+  -- the thread lives in the machine
+  pub live-in-machine : IsTrue (lives_on h.machine.kernel t)
+  live-in-machine = ap (λ (k : Kernel). lives_on k t) (sym h.same_kernel) ∙ parts.live
+
+  -- it is stopped in each replica
+  stops-at : (number : ℕ) (r : Replica) → slice_get core.replicas number ≡ Some r → StoppedIn r t
+  stops-at number r e = stopped-in r t (get-all (λ x. is_some (stop_of x t)) core.replicas parts.stopped number r e)
+
+  -- a replica that agrees comes to a stop
+  pub arrives-at : (r : Replica) → Agrees job h.machine r → r.backed ≡ h.backed → (s : StoppedIn r t) → Arrives job h.backed h.machine r t s.thread s.stop
+  arrives-at r agree same s =
+      arrives job free (plan_of journal) h.machine h.ideal_is going h.backed r same agree.runs_ahead t s.thread s.stop live-in-machine s.there s.stopped (agree.stops t)
+
+  -- The stop at which the replicas that agree stand, as one of them shows it.
+  pub record GoodStop : Type 0 where
+    pub replica : Replica
+    pub thread : Thread
+    pub stop : Stop
+    pub arrival : Arrives job h.backed h.machine replica t thread stop
+    pub within : thread.since ≤ job.settings.watchdog
+
+  -- any replica that agrees shows it
+  pub good-from : (number : ℕ) (r : Replica) → slice_get core.replicas number ≡ Some r → number ≢ odd → GoodStop
+  good-from number r e d =
+      let s = stops-at number r e in
+      let sound = h.sound number r e in
+      record { replica = r; thread = s.thread; stop = s.stop; arrival = arrives-at r (h.others_agree going number r d e) sound.same_backed s; within = sound.within_watch t s.thread s.there }
+
+  -- with two or more replicas there is one
+  pub some-good : 2 ≤ length core.replicas → GoodStop
+  some-good two =
+      let first = get-within core.replicas 0 (omega arith) in
+      let second = get-within core.replicas 1 (omega arith) in
+      ⊎_elim (λ (d : 0 ≢ odd). good-from 0 first.0 first.1 d) (λ (d : 1 ≢ odd). good-from 1 second.0 second.1 d)
+      (⊎_elim (λ (e : 0 ≡ odd). inr (λ (f : 1 ≡ odd). omega arith)) (λ (d : 0 ≢ odd). inl d) (cases_eq 0 odd))
+
+  -- one view for each replica
+  views-as-long : length (views_of job core t) ≡ length core.replicas
+  views-as-long = length-filter-map (view_of job.program.image.ranges t) core.replicas
+      (all-from _ core.replicas (λ i r e. has-view job.program.image.ranges r t (get-all (λ x. is_some (stop_of x t)) core.replicas parts.stopped i r e)))
+
+  -- the view of each replica
+  view-at : (i : ℕ) (r : Replica) → slice_get core.replicas i ≡ Some r → slice_get (views_of job core t) i ≡ view_of job.program.image.ranges t r
+  view-at i r e = get-filter-map (view_of job.program.image.ranges t) core.replicas
+      (all-from _ core.replicas (λ i r e. has-view job.program.image.ranges r t (get-all (λ x. is_some (stop_of x t)) core.replicas parts.stopped i r e))) i r e
+
+  -- as many views as replicas
+  pub as-many-views : length (views_of job core t) ≡ length core.replicas
+  as-many-views = views-as-long
+
+  module _ (good : GoodStop) where
+    -- the view that it gives
+    abbrev pub good_view : View
+    good_view = machine_view job.program.image.ranges good.arrival.middle good.thread.cpu good.thread.since good.stop
+
+    -- a replica that agrees has that view
+    pub same-as-good : (r : Replica) (agree : Agrees job h.machine r) (same : r.backed ≡ h.backed) (s : StoppedIn r t) → s.thread.since ≤ job.settings.watchdog → SameArrival job h.backed h.machine r good.replica t s.thread good.thread s.stop good.stop (arrives-at r agree same s) good.arrival
+    same-as-good r agree same s low = same-arrival job h.backed h.machine r good.replica t s.thread good.thread s.stop good.stop (arrives-at r agree same s) good.arrival low good.within
+
+    -- each replica that agrees has it
+    good-view-of : (r : Replica) → Agrees job h.machine r → r.backed ≡ h.backed → (s : StoppedIn r t) → s.thread.since ≤ job.settings.watchdog → view_of job.program.image.ranges t r ≡ Some good_view
+    good-view-of r agree same s low =
+        let k = same-as-good r agree same s low in
+        view-is job free (plan_of journal) h.machine h.ideal_is h.backed r t s.thread s.stop (arrives-at r agree same s) s.there s.stopped
+        ∙ (λ i. Some (machine_view job.program.image.ranges (k.same_middle i) (k.same_cpu i) (k.same_since i) (k.same_stop i)))
+
+    -- each replica but the odd one has it
+    pub all-but-odd : AllBut odd good_view (views_of job core t)
+    all-but-odd = record {
+      others = λ i v d e.
+          let short = slice_get_within (views_of job core t) i v e in
+          let at = get-within core.replicas i (let n = views-as-long in omega arith) in
+          let sound = h.sound i at.0 at.1 in
+          let s = stops-at i at.0 at.1 in
+          some-injective (sym e ∙ (view-at i at.0 at.1 ∙ good-view-of at.0 (h.others_agree going i at.0 d at.1) sound.same_backed s (sound.within_watch t s.thread s.there)));
+    }
+
+    -- the winner's thread shows what the good one does
+    pub record WinnerShows (won : ℕ) : Type 0 where
+      pub winner : Replica
+      pub winner_there : slice_get core.replicas won ≡ Some winner
+      pub shown : StoppedIn winner t
+      pub same_since : shown.thread.since ≡ good.thread.since
+      pub same_stop : shown.stop ≡ good.stop
+      pub same_payload : payload_at job.program.image.ranges winner.memory shown.stop ≡ payload_at job.program.image.ranges good.arrival.middle.memory good.stop
+
+    -- the winner has it
+    pub winner-shows : (won : ℕ) → slice_get (views_of job core t) won ≡ Some good_view → WinnerShows won
+    winner-shows won e =
+        let short = slice_get_within (views_of job core t) won _ e in
+        let at = get-within core.replicas won (let n = views-as-long in omega arith) in
+        let s = stops-at won at.0 at.1 in
+        let same : view_with job.program.image.ranges at.0 s.thread s.stop ≡ good_view =
+        some-injective (sym (view-of-stopped job.program.image.ranges at.0 t s) ∙ (sym (view-at won at.0 at.1) ∙ e)) in
+        record {
+          winner = at.0;
+          winner_there = at.1;
+          shown = s;
+          same_since = ap (λ (v : View). v.since) same;
+          same_stop = ap (λ (v : View). v.stop) same;
+          same_payload = ap (λ (v : View). v.payload) same;
+        }
+
+    -- the thread's own steps keep the kernel
+    kept : KeepsRest h.machine good.arrival.middle
+    kept = BackedRun-keeps job.program h.backed good.arrival.comes.own
+
+    -- the event of the winner's stop is that of the machine's
+    abbrev pub good_event : Event
+    good_event = event_of (setup_of job.program) good.arrival.middle.kernel t good.stop (payload_at job.program.image.ranges good.arrival.middle.memory good.stop)
+
+    -- the core's event is the machine's
+    event-is : (won : ℕ) (w : WinnerShows won) → event_in job core t won ≡ Some good_event
+    event-is won w =
+        ap (option_and_then (λ (r : Replica). option_map (event_with job core t r) (stop_of r t))) w.winner_there
+        ∙ (ap (λ (o : Option Thread). option_map (event_with job core t w.winner) (option_and_then (λ (x : Thread). x.stop) o)) w.shown.there
+        ∙ (ap (option_map (event_with job core t w.winner)) w.shown.stopped
+        ∙ (λ i. Some (event_of (setup_of job.program) ((h.same_kernel ∙ sym kept.same_kernel) i) t (w.same_stop i) (w.same_payload i)))))
+
+    -- the winner's count is the machine's
+    since-is : (won : ℕ) (w : WinnerShows won) → since_in core t won ≡ Some good.thread.since
+    since-is won w =
+        ap (option_and_then (λ (r : Replica). option_map (λ (x : Thread). x.since) (slice_get r.threads t))) w.winner_there
+        ∙ (ap (option_map (λ (x : Thread). x.since)) w.shown.there ∙ ap Some w.same_since)
+
+    -- the machine makes that event
+    pub has-good-event : HasEvent job h.backed h.machine good.arrival.middle t good_event
+    has-good-event = step-of-stop job free (plan_of journal) h.backed h.machine good.arrival.middle h.ideal_is going t good.thread.since live-in-machine good.arrival.comes.own good.thread.cpu good.arrival.comes.live h.as_many good.stop
+        (λ kind. next-at-middle job free (plan_of journal) h.machine h.ideal_is h.backed good.replica t good.thread good.stop kind good.arrival)
+
+    -- a stop that is kept stands also at the count 0
+    stands-at-zero : (r : Replica) (agree : Agrees job h.machine r) (s : StoppedIn r t) → s.thread.since ≤ job.settings.watchdog → s.stop ≡ good.stop → (stop : Stop) → good_event.effect.releases ≡ false → s.thread.stop ≡ Some stop → standing (layout_of job.program) job.settings.watchdog r.backed r.memory s.thread.cpu 0 ≡ Some stop
+    stands-at-zero r agree s low same stop kept_stop e = by stop (some-injective (sym s.stopped ∙ e))
+      where
+        stands : standing (layout_of job.program) job.settings.watchdog r.backed r.memory s.thread.cpu s.thread.since ≡ Some s.stop
+        stands = (agree.stops t).stands s.thread s.stop live-in-machine s.there s.stopped
+
+        unwatched : (stop : Stop) → s.stop ≡ stop → stop ≢ Watchdog → standing (layout_of job.program) job.settings.watchdog r.backed r.memory s.thread.cpu 0 ≡ Some stop
+        unwatched stop f d =
+            let n = stands-next (s.thread.since == job.settings.watchdog) (next (layout_of job.program) r.backed r.memory s.thread.cpu) stop (stands ∙ ap Some f) d in
+            let other : s.thread.since ≢ job.settings.watchdog = λ g. true≢false (sym (eq-eqb s.thread.since job.settings.watchdog g) ∙ n.unwatched) in
+            ap (λ (b : Bool). standing_by b (next (layout_of job.program) r.backed r.memory s.thread.cpu)) (not-equal 0 job.settings.watchdog (omega arith))
+            ∙ ap stop_in n.next_is
+
+        released : s.stop ≡ Watchdog → ⊥
+        released f =
+            true≢false (sym (watchdog-releases (setup_of job.program) good.arrival.middle.kernel t _) ∙ (ap (λ (x : Stop). (event_of (setup_of job.program) good.arrival.middle.kernel t x (payload_at job.program.image.ranges good.arrival.middle.memory x)).effect.releases) (sym f ∙ same) ∙ kept_stop))
+
+        by : (stop : Stop) → s.stop ≡ stop → standing (layout_of job.program) job.settings.watchdog r.backed r.memory s.thread.cpu 0 ≡ Some stop
+        by (Calls call) f = unwatched (Calls call) f (λ (g : Calls call ≡ Watchdog). cc)
+        by (Trap code) f = unwatched (Trap code) f (λ (g : Trap code ≡ Watchdog). cc)
+        by (PageFault page) f = unwatched (PageFault page) f (λ (g : PageFault page ≡ Watchdog). cc)
+        by Watchdog f = absurd (released f)
+
+    -- a replica that agrees, and in which the thread is stopped
+    pub record Fits (r : Replica) : Type 0 where
+      pub agree : Agrees job h.machine r
+      pub same : r.backed ≡ h.backed
+      pub stopped : StoppedIn r t
+      pub low : stopped.thread.since ≤ job.settings.watchdog
+
+    -- what the event needs of a replica that fits
+    meets : (r : Replica) → Fits r → Meets job h.machine good.arrival.middle h.backed t good_event r
+    meets r f =
+        let k = same-as-good r f.agree f.same f.stopped f.low in
+        record {
+          agree = f.agree;
+          thread = f.stopped.thread;
+          there = f.stopped.there;
+          comes = subst (λ (m : Machine). Comes job h.backed h.machine m r t f.stopped.thread) k.same_middle (arrives-at r f.agree f.same f.stopped).comes;
+          own_stop = stands-at-zero r f.agree f.stopped f.low k.same_stop;
+        }
+
+    -- a replica that is not the odd one fits
+    fits-as-it-is : (number : ℕ) (r : Replica) → number ≢ odd → slice_get core.replicas number ≡ Some r → Fits r
+    fits-as-it-is number r d e =
+        let sound = h.sound number r e in let s = stops-at number r e in
+        record { agree = h.others_agree going number r d e; same = sound.same_backed; stopped = s; low = sound.within_watch t s.thread s.there }
+
+    -- a copy of one that fits fits
+    fits-copied : (winner loser : Replica) → length winner.threads ≡ length loser.threads → Fits winner → Fits (recovered winner loser)
+    unfolding recovered
+    fits-copied winner loser n f =
+        let c = copied-there winner.threads loser.threads t f.stopped.thread n f.stopped.there in
+        record {
+          agree = agrees-recovered job h.machine winner loser n f.agree;
+          same = f.same;
+          stopped = record { thread = record f.stopped.thread { done = c.0 }; stop = f.stopped.stop; there = c.1; stopped = f.stopped.stopped };
+          low = f.low;
+        }
+
+    module _ (won : ℕ) where
+      -- what holds of every replica after the copy
+      sound-with-copy : (lost : Option ℕ) (winner : Replica) → slice_get core.replicas won ≡ Some winner → (number : ℕ) (r : Replica) → slice_get (with_recovered won lost core.replicas) number ≡ Some r → IsSound job core h.backed number r
+      sound-with-copy None winner there number r e = h.sound number r e
+      sound-with-copy (Some lost) winner there number r e = by (after-copy won lost core.replicas winner number r there e)
+        where
+          by : AfterCopy won lost core.replicas number r → IsSound job core h.backed number r
+          by (not_lost d f) = h.sound number r f
+          by (is_copy w l same w_there l_there is) =
+              subst (IsSound job core h.backed number) is (subst (λ (n : ℕ). IsSound job core h.backed n (recovered w l)) (sym same) (sound-recovered job core h.backed won lost w l (h.sound won w w_there) (h.sound lost l l_there)))
+
+      -- after a copy every replica fits
+      fits-after-copy : (lost : ℕ) (winner : Replica) → slice_get core.replicas won ≡ Some winner → lost ≡ odd → won ≢ odd → (number : ℕ) (r : Replica) → slice_get (with_recovered won (Some lost) core.replicas) number ≡ Some r → Fits r
+      fits-after-copy lost winner there is d number r e = by (after-copy won lost core.replicas winner number r there e)
+        where
+          by : AfterCopy won lost core.replicas number r → Fits r
+          by (not_lost other f) = fits-as-it-is number r (λ (g : number ≡ odd). other (g ∙ sym is)) f
+          by (is_copy w l same w_there l_there g) =
+              subst Fits g (fits-copied w l ((h.sound won w w_there).all_made ∙ sym (h.sound lost l l_there).all_made) (fits-as-it-is won w d w_there))
+
+    module _ (count won : ℕ) (lost : Option ℕ) (did : Did) (may : MayVote job core t count won lost did) (well : WonWell odd good_view (views_of job core t) won lost) where
+      -- the winner shows the stop
+      shows : WinnerShows won
+      shows = winner-shows won well.winner
+
+      -- the vote's count
+      count_is : good.thread.since ≡ count
+      count_is = some-injective (sym (since-is won (winner-shows won well.winner)) ∙ may.count_is)
+
+      -- the vote's event
+      event_same : good_event ≡ may.event
+      event_same = some-injective (sym (event-is won (winner-shows won well.winner)) ∙ may.comes)
+
+      -- the vote's steps
+      plan_same : replicate count t ++ replicate (event_steps did) t ≡ replicate good.thread.since t ++ replicate (event_steps good_event.did) t
+      plan_same = ap₂ (λ (n : ℕ) (d : Did). replicate n t ++ replicate (event_steps d) t) (sym count_is) (sym (ap (λ (e : Event). e.did) event_same ∙ may.did_is))
+
+      -- the core after the vote
+      after-is : core_after core t good.thread.since (with_recovered won lost core.replicas) good_event ≡ after job core (Vote t count won lost did)
+      unfolding after
+      after-is =
+          ap (λ (n : ℕ). core_after core t n (with_recovered won lost core.replicas) good_event) count_is
+          ∙ ap (core_after_event core t count (with_recovered won lost core.replicas)) (sym (event-is won (winner-shows won well.winner)))
+
+      -- the invariant with any odd replica, where all others fit
+      voted-with : (odd' : ℕ) → ((number : ℕ) (r : Replica) → number ≢ odd' → slice_get (with_recovered won lost core.replicas) number ≡ Some r → Fits r) → Holds job odd' (journal ++ Vote t count won lost did ∷ []) (after job core (Vote t count won lost did))
+      voted-with odd' fit =
+          let event = has-good-event in
+          subst (Holds job odd' (journal ++ Vote t count won lost did ∷ [])) after-is
+          (event-holds job odd journal core h going parts.no_lease t good.thread.since live-in-machine good.arrival.middle good.arrival.comes.own _ event.0 event.1
+          (Vote t count won lost did) plan_same (with_recovered won lost core.replicas) (length-with-copy won lost core.replicas)
+          (sound-with-copy won lost (winner-shows won well.winner).winner (winner-shows won well.winner).winner_there) odd'
+          (λ number r d e. meets r (fit number r d e)))
+
+-- ---- the steps that a vote would retire
+
+module _ (job : Job) (free : RaceFree job.program) (odd : ℕ) (journal : List Entry) (core : Core) (h : Holds job odd journal core) (t : ℕ) (parts : VoteParts core t) where
+  -- they are an execution, whether the vote fits the limit or not
+  pub vote-runs : (won : ℕ) (lost : Option ℕ) → verdict_of (views_of job core t) ≡ Won won lost → (count : ℕ) → since_in core t won ≡ Some count → (event : Event) → event_in job core t won ≡ Some event → IsExecution job.program (plan_of journal ++ (replicate count t ++ replicate (event_steps event.did) t))
+  vote-runs won lost verdict count since event comes =
+      let many = won-some (views_of job core t) won lost verdict in
+      let good = some-good job free odd journal core h t parts (let n = as-many-views job free odd journal core h t parts in let m = many.0 in omega arith) in
+      let well = won-well odd (machine_view job.program.image.ranges good.arrival.middle good.thread.cpu good.thread.since good.stop) (views_of job core t) won lost verdict (all-but-odd job free odd journal core h t parts good) in
+      let shows = winner-shows job free odd journal core h t parts good won well.winner in
+      let step = has-good-event job free odd journal core h t parts good in
+      let same_count : good.thread.since ≡ count = some-injective (sym (since-is job free odd journal core h t parts good won shows) ∙ since) in
+      let same_event : event_of (setup_of job.program) good.arrival.middle.kernel t good.stop (payload_at job.program.image.ranges good.arrival.middle.memory good.stop) ≡ event = some-injective (sym (event-is job free odd journal core h t parts good won shows) ∙ comes) in
+      subst (λ (threads : List ℕ). IsExecution job.program (plan_of journal ++ threads)) (ap₂ (λ (n : ℕ) (e : Event). replicate n t ++ replicate (event_steps e.did) t) same_count same_event)
+      (step.0, run-more job.program (plan_of journal) h.machine good.arrival.middle (replicate good.thread.since t) _ h.ideal_is (BackedRun-run job.program h.backed good.arrival.comes.own) step.1.run_event)
+
+-- ---- the vote
+
+-- what a vote leaves
+pub record AfterVote (job : Job) (odd : ℕ) (journal : List Entry) (core : Core) (t count won : ℕ) (lost : Option ℕ) (did : Did) : Type 0 where
+  pub holds : Holds job odd (journal ++ Vote t count won lost did ∷ []) (after job core (Vote t count won lost did))
+  pub loser_odd : (l : ℕ) → lost ≡ Some l → (l ≡ odd) × (won ≢ odd)
+  pub then_all : (l : ℕ) → lost ≡ Some l → (odd' : ℕ) → Holds job odd' (journal ++ Vote t count won lost did ∷ []) (after job core (Vote t count won lost did))
+
+module _ (job : Job) (free : RaceFree job.program) (odd : ℕ) (journal : List Entry) (core : Core) (h : Holds job odd journal core) (t count won : ℕ) (did : Did) where
+  -- with a loser or without
+  with-loser : (lost : Option ℕ) (may : MayVote job core t count won lost did) (parts : VoteParts core t) (good : GoodStop job free odd journal core h t parts) → WonWell odd (machine_view job.program.image.ranges good.arrival.middle good.thread.cpu good.thread.since good.stop) (views_of job core t) won lost → AfterVote job odd journal core t count won lost did
+  with-loser None may parts good well = record {
+    holds = voted-with job free odd journal core h t parts good count won None did may well odd (fits-as-it-is job free odd journal core h t parts good);
+    loser_odd = well.loser;
+    then_all = λ l (e : None ≡ Some l). absurd cc;
+  }
+  with-loser (Some lost) may parts good well =
+      let d = well.loser lost refl in
+      let w = winner-shows job free odd journal core h t parts good won well.winner in
+      let all = λ (odd' : ℕ). voted-with job free odd journal core h t parts good count won (Some lost) did may well odd' (λ number r n. fits-after-copy job free odd journal core h t parts good won lost w.winner w.winner_there d.0 d.1 number r) in
+      record { holds = all odd; loser_odd = well.loser; then_all = λ l e. all }
+
+  -- the invariant after a vote
+  pub after-vote : (lost : Option ℕ) → MayVote job core t count won lost did → AfterVote job odd journal core t count won lost did
+  after-vote lost may =
+      let parts = vote-parts core t may.may in
+      let many = won-some (views_of job core t) won lost may.verdict in
+      let good = some-good job free odd journal core h t parts (let n = as-many-views job free odd journal core h t parts in let m = many.0 in omega arith) in
+      with-loser lost may parts good (won-well odd (machine_view job.program.image.ranges good.arrival.middle good.thread.cpu good.thread.since good.stop) (views_of job core t) won lost may.verdict (all-but-odd job free odd journal core h t parts good))

@@ -1,0 +1,78 @@
+-- What every entry of a legal journal keeps.
+use Rattle.std.specs.Prelude.{◌≡◌, ◌≢◌, ℕ, ◌≤◌, IsTrue, List, [], length, Some, None, slice_get}
+use Rattle.ro_event.specs.declared.calls.Call.{Call}
+use Rattle.ro_event.specs.declared.stops.Stop.{Stop}
+use Rattle.ro_event.specs.declared.stops.Stop.TheVariants.{Calls}
+use Rattle.ro_journal.specs.declared.How.{How}
+use Rattle.ro_journal.specs.declared.How.TheVariants.{Exit, Trap}
+use Rattle.ro_journal.specs.declared.Entry.{Entry}
+use Rattle.ro_journal.specs.Plan.{plan_of}
+use Rattle.ro_faults.specs.declared.Fault.{Fault}
+use Rattle.ro_pages.specs.Bytes.{Memory}
+use Rattle.ro_kernel.specs.Kernel.{lives_on}
+use Rattle.ro_kernel.specs.Serve.{payload_of}
+use Rattle.ro_exec.specs.declared.Cpu.{Cpu}
+use Rattle.ro_exec.specs.Next.{Backed, Stands}
+use Rattle.ro_thread.specs.declared.Thread.{Thread}
+use Rattle.ro_replica.specs.Replica.{Replica}
+use Rattle.ro_replica.specs.Runs.{standing_in}
+use Rattle.ro_plain.specs.Machine.{Program, layout_of, Machine, BackedRun, next_of, steppable}
+use Rattle.ro_core.specs.Core.{Job, Core, is_out}
+use Rattle.ro_core.specs.Ideal.{ideal, ahead}
+
+-- The replica is the machine, run ahead by plain instructions that touch only backed pages.
+pub record RunsAhead (job : Job) (machine : Machine) (replica : Replica) : Type 0 where
+  pub end : Machine
+  pub runs : BackedRun job.program replica.backed machine (ahead replica) end
+  pub same_memory : replica.memory ≡ end.memory
+  pub same_cpus : (number : ℕ) (thread : Thread) → IsTrue (lives_on machine.kernel number) → slice_get replica.threads number ≡ Some thread → slice_get end.cpus number ≡ Some thread.cpu
+
+-- A stop of a live thread is the one that stands there.
+pub record StopStands (job : Job) (machine : Machine) (replica : Replica) (number : ℕ) : Type 0 where
+  pub stands : (thread : Thread) (stop : Stop) → IsTrue (lives_on machine.kernel number) → slice_get replica.threads number ≡ Some thread → thread.stop ≡ Some stop → standing_in (layout_of job.program) job.settings.watchdog replica thread ≡ Some stop
+
+-- The replica has run ahead of the machine and nothing else, and each stop in it stands.
+pub record Agrees (job : Job) (machine : Machine) (replica : Replica) : Type 0 where
+  pub runs_ahead : RunsAhead job machine replica
+  pub stops : (number : ℕ) → StopStands job machine replica number
+
+-- The element stands somewhere in the list.
+abbrev pub Listed : {X : Type 0} → List X → X → Type 0
+Listed xs x = (place : ℕ) × (slice_get xs place ≡ Some x)
+
+-- What holds of every replica, struck or not.
+pub record IsSound (job : Job) (core : Core) (backed : Backed) (number : ℕ) (replica : Replica) : Type 0 where
+  pub same_backed : replica.backed ≡ backed
+  pub all_made : length replica.threads ≡ length core.kernel.lives
+  pub within_watch : (place : ℕ) (thread : Thread) → slice_get replica.threads place ≡ Some thread → thread.since ≤ job.settings.watchdog
+  pub own_faults : (fault : Fault) → Listed replica.waiting fault → (fault.replica ≡ number) × Listed job.faults fault
+
+-- A blocked thread stands at its voted call, which writes nothing.
+pub record StandsAtCall (program : Program) (machine : Machine) (number : ℕ) (call : Call) : Type 0 where
+  pub cpu : Cpu
+  pub live : steppable machine number ≡ Some cpu
+  pub stands : next_of program machine cpu ≡ Stands (Calls call)
+  pub writes_nothing : (memory : Memory) → payload_of program.image.ranges memory call ≡ []
+
+-- The program ended by an exit or a trap.
+pub data IsOver : How → Type 0 where
+  exits : {status : ℕ} → IsOver (Exit status)
+  traps : {code : ℕ} → IsOver (Trap code)
+
+-- The core stands to the ideal machine as it must; every replica but this one agrees with it.
+pub record Holds (job : Job) (odd : ℕ) (journal : List Entry) (core : Core) : Type 0 where
+  pub machine : Machine
+  pub ideal_is : ideal job journal ≡ Some machine
+  pub same_kernel : core.kernel ≡ machine.kernel
+  pub same_output : core.output ≡ machine.output
+  pub same_end : core.due ≡ machine.ended
+  pub steps_are : core.steps ≡ length (plan_of journal)
+  pub ends_well : (how : How) → machine.ended ≡ Some how → IsOver how
+  pub not_ended : core.ended ≡ None
+  pub as_many : length machine.cpus ≡ length machine.kernel.lives
+  pub replica_count : length core.replicas ≡ job.settings.replicas
+  pub backed : Backed
+  pub sound : (number : ℕ) (replica : Replica) → slice_get core.replicas number ≡ Some replica → IsSound job core backed number replica
+  pub lent_live : (driver replica thread : ℕ) → IsTrue (is_out core driver replica thread) → (machine.ended ≡ None) × IsTrue (lives_on machine.kernel thread)
+  pub blocked_stands : (thread : ℕ) (call : Call) → core.blocked thread ≡ Some call → machine.ended ≡ None → StandsAtCall job.program machine thread call
+  pub others_agree : machine.ended ≡ None → (number : ℕ) (replica : Replica) → number ≢ odd → slice_get core.replicas number ≡ Some replica → Agrees job machine replica

@@ -1,0 +1,6 @@
+pub mod Invariant
+pub mod Theorem
+pub mod Guests
+pub mod Rows
+pub mod Drives
+pub mod Weaker

@@ -1,0 +1,82 @@
+// The simulation theorem: a legal journal's replicas simulate the unreplicated machine that its plan names.
+#![tactic(auto)]
+
+ghost use Rattle.std.specs.Prelude.{◌≡◌, ℕ, List, [], ◌∷◌, Some};
+ghost use Rattle.ro_journal.specs.declared.How.TheVariants.{Exit, Limit, NoMajority};
+ghost use Rattle.ro_journal.specs.declared.Entry.{Entry};
+ghost use Rattle.ro_plain.specs.Machine.{Program, AllEnd};
+ghost use Rattle.ro_plain.specs.Order.{RaceFree};
+ghost use Rattle.ro_core.specs.Core.{Job};
+ghost use Rattle.ro_core.specs.Legal.{Legal};
+ghost use Rattle.ro_core.specs.Ideal.{StaysApart};
+ghost use Rattle.ro_simulation.specs.Theorem.{Simulates, TwoOrThree, WritesAsIdeal, AllOfOne, StaysAlone, NeverDiffers, PassedLimit, CannotDiffer, EndsComplete};
+ghost use Rattle.ro_simulation.specs.Guests.{exit_guest, locking_guest, usual_job};
+ghost use Rattle.ro_simulation.specs.Rows.{flip_a0, one_struck, two_struck, IsCovered};
+ghost use Rattle.ro_simulation.specs.Drives.{driven};
+ghost use Rattle.ro_simulation.specs.Weaker.{StaysNearlyApart, loading_guest, slipping, slipped};
+ghost use Rattle.ro_journal.specs.Plan.{outcome_of};
+
+/// The simulation theorem: in a legal journal of a race-free program whose faults stay apart, two or three replicas
+/// simulate the unreplicated machine.
+pub fn simulation()
+    ensures { (job : Job) (journal : List Entry) → RaceFree job.program → TwoOrThree job → Legal job journal → StaysApart job journal → Simulates job journal }
+{}
+
+/// The headline: what a run writes is the front of what the unreplicated machine writes, and all of it, with its
+/// outcome, where the run ends by an exit, a trap or a deadlock.
+pub fn headline()
+    ensures { (job : Job) (journal : List Entry) → RaceFree job.program → TwoOrThree job → Legal job journal → StaysApart job journal → WritesAsIdeal job journal }
+{}
+
+/// One struck replica stays apart: where all faults name one replica, they strike none while another differs.
+pub fn one_struck_replica()
+    ensures { (job : Job) (journal : List Entry) → RaceFree job.program → AllOfOne job.faults → Legal job journal → StaysApart job journal }
+{}
+
+/// One thread is race-free: a program of which no execution makes a second thread has no races.
+pub fn one_thread()
+    ensures { (program : Program) → StaysAlone program → RaceFree program }
+{}
+
+/// No fault, no difference: without faults no vote has a loser, and no journal ends by a difference.
+pub fn no_fault()
+    ensures { (job : Job) (journal : List Entry) → RaceFree job.program → job.faults ≡ [] → Legal job journal → NeverDiffers journal }
+{}
+
+/// A limit is passed: where a journal ends by a limit, the steps that would have come next are an execution that is
+/// longer than the limit.
+pub fn limit_is_passed()
+    ensures { (job : Job) (journal : List Entry) → RaceFree job.program → Legal job journal → StaysApart job journal → (steps next : ℕ) → outcome_of journal ≡ Some (Limit steps next) → PassedLimit job journal steps next }
+{}
+
+/// Completeness: a program whose executions are no longer than the limit comes to its own end, an exit, a trap or a
+/// deadlock, unless the sink fails.
+pub fn completeness()
+    ensures { (job : Job) (journal : List Entry) → RaceFree job.program → TwoOrThree job → Legal job journal → StaysApart job journal → AllEnd job.program job.settings.limit → CannotDiffer job → EndsComplete journal }
+{}
+
+/// A row: one struck register loses the vote, and the program exits with 7.
+pub fn one_struck_row()
+    ensures { IsCovered (usual_job exit_guest (flip_a0 1 ∷ [])) one_struck (Exit 7) [] }
+{}
+
+/// A row: where two replicas are struck alike, the journal is legal, but faults do not stay apart.
+pub fn two_struck_row()
+    ensures legal { Legal (usual_job exit_guest (flip_a0 0 ∷ flip_a0 1 ∷ [])) two_struck }
+    ensures not_apart { StaysApart (usual_job exit_guest (flip_a0 0 ∷ flip_a0 1 ∷ [])) two_struck → ⊥ }
+{}
+
+/// A row: two threads that lock round their writes, in the journal of one driver.
+pub fn locking_row()
+    ensures { RaceFree locking_guest → IsCovered (usual_job locking_guest []) (driven 200 (usual_job locking_guest [])) (Exit 0) (65 ∷ 66 ∷ []) }
+{}
+
+/// A row: alike has to ask that touched pages are backed. With the weaker form faults stay apart in a legal journal of a
+/// race-free program that comes to no majority.
+pub fn weaker_alike_row()
+    ensures race_free { RaceFree loading_guest }
+    ensures legal { Legal (usual_job loading_guest slipping) slipped }
+    ensures nearly_apart { StaysNearlyApart (usual_job loading_guest slipping) slipped }
+    ensures no_majority { outcome_of slipped ≡ Some NoMajority }
+    ensures not_apart { StaysApart (usual_job loading_guest slipping) slipped → ⊥ }
+{}

@@ -157,3 +157,105 @@ next_over job core e = ap (λ (b : Bool). if b then Over else action_unless_due 
 pub next_due : (job : Job) (core : Core) (how : How) → is_some core.ended ≡ false → core.due ≡ Some how → next_action job core ≡ DoEnd how
 unfolding next_action
 next_due job core how e due_is = ap (λ (b : Bool). if b then Over else action_unless_due job core core.due) e ∙ ap (action_unless_due job core) due_is
+
+some_mapped : (f : ℕ → Action) (o : Option ℕ) (a : Action) → map_action f o ≡ Some a → (n : ℕ) × (o ≡ Some n) × (f n ≡ a)
+some_mapped f None a e = absurd (let g : None ≡ Some a = e in cc)
+some_mapped f (Some n) a e = (n, refl, let g : Some (f n) ≡ Some a = e in cc)
+
+-- where the action is neither an end nor nothing any more, the core goes on
+pub data Acts (job : Job) (core : Core) (action : Action) : Type 0 where
+  first : is_going core ≡ true → first_action job core ≡ Some action → Acts job core action
+  waits : is_going core ≡ true → first_action job core ≡ None → nothing_lent core ≡ false → action ≡ Wait → Acts job core action
+
+acts : (job : Job) (core : Core) (action : Action) → next_action job core ≡ action → (action ≡ Over → ⊥) → ((how : How) → action ≡ DoEnd how → ⊥) → Acts job core action
+unfolding next_action
+acts job core action e not_over not_end = by (is_some core.ended) refl e
+  where
+    by_first : is_going core ≡ true → (o : Option Action) → first_action job core ≡ o → (b : Bool) → nothing_lent core ≡ b → action_or (if b then DoEnd Deadlock else Wait) o ≡ action → Acts job core action
+    by_first goes (Some a) f b g h = first goes (f ∙ ap (λ (x : Action). Some x) h)
+    by_first goes None f true g h = absurd (not_end Deadlock (sym h))
+    by_first goes None f false g h = waits goes f g (sym h)
+    by_due : core.ended ≡ None → (d : Option How) → core.due ≡ d → action_unless_due job core d ≡ action → Acts job core action
+    by_due over (Some d) f h = absurd (not_end d (sym h))
+    by_due over None f h = by_first (and_from _ _ (ap is_none f) (ap is_none over)) (first_action job core) refl (nothing_lent core) refl h
+    by : (b : Bool) → is_some core.ended ≡ b → (if b then Over else action_unless_due job core core.due) ≡ action → Acts job core action
+    by true f h = absurd (not_over (sym h))
+    by false f h = by_due (none_of core.ended f) core.due refl h
+
+lend_parts : (job : Job) (core : Core) (action : Action) → lend_next core ≡ Some action → (replica : ℕ) × (thread : ℕ) × (action ≡ Lend replica thread) × (is_lendable core replica thread ≡ true)
+lend_parts job core action e = by (lowest_below (length core.replicas) (λ r. any_below (threads_made core) (is_lendable core r))) e
+  where
+    by : (o : Option ℕ) → lend_in core o ≡ Some action → (replica : ℕ) × (thread : ℕ) × (action ≡ Lend replica thread) × (is_lendable core replica thread ≡ true)
+    by None f = absurd (let g : None ≡ Some action = f in cc)
+    by (Some r) f = let m = some_mapped (λ t. Lend r t) (lowest_below (threads_made core) (is_lendable core r)) action f in (r, m.0, sym m.2, found_below (threads_made core) (is_lendable core r) m.0 m.1)
+
+-- a vote that is next may be held
+pub vote_next : (job : Job) (core : Core) (thread : ℕ) → next_action job core ≡ DoVote thread → may_vote core thread ≡ true
+vote_next job core thread e = by (acts job core (DoVote thread) e (λ (f : DoVote thread ≡ Over). cc) (λ how (f : DoVote thread ≡ DoEnd how). cc))
+  where
+    by : Acts job core (DoVote thread) → may_vote core thread ≡ true
+    by (waits goes f g h) = absurd (let x : DoVote thread ≡ Wait = h in cc)
+    by (first goes f) = elim (some_or_else (map_action DoFree (lowest_below (threads_made core) (may_free job core))) _ _ f) [
+      | inl g ↦ let m = some_mapped DoFree _ _ g in absurd (let x : DoFree m.0 ≡ DoVote thread = m.2 in cc)
+      | inr g ↦ elim (some_or_else (map_action DoVote (lowest_below (threads_made core) (may_vote core))) (lend_next core) _ g) [
+        | inl h ↦ let m = some_mapped DoVote _ _ h in let same : m.0 ≡ thread = (let x : DoVote m.0 ≡ DoVote thread = m.2 in cc) in ap (may_vote core) (sym same) ∙ found_below (threads_made core) (may_vote core) m.0 m.1
+        | inr h ↦ let p = lend_parts job core (DoVote thread) h in absurd (let x : DoVote thread ≡ Lend p.0 p.1 = p.2 in cc)
+      ]
+    ]
+
+-- what is to be lent may be lent
+pub lend_is_next : (job : Job) (core : Core) (replica thread : ℕ) → next_action job core ≡ Lend replica thread → (is_going core ≡ true) × (is_lendable core replica thread ≡ true)
+lend_is_next job core replica thread e = by (acts job core (Lend replica thread) e (λ (f : Lend replica thread ≡ Over). cc) (λ how (f : Lend replica thread ≡ DoEnd how). cc))
+  where
+    by : Acts job core (Lend replica thread) → (is_going core ≡ true) × (is_lendable core replica thread ≡ true)
+    by (waits goes f g h) = absurd (let x : Lend replica thread ≡ Wait = h in cc)
+    by (first goes f) = elim (some_or_else (map_action DoFree (lowest_below (threads_made core) (may_free job core))) _ _ f) [
+      | inl g ↦ let m = some_mapped DoFree _ _ g in absurd (let x : DoFree m.0 ≡ Lend replica thread = m.2 in cc)
+      | inr g ↦ elim (some_or_else (map_action DoVote (lowest_below (threads_made core) (may_vote core))) (lend_next core) _ g) [
+        | inl h ↦ let m = some_mapped DoVote _ _ h in absurd (let x : DoVote m.0 ≡ Lend replica thread = m.2 in cc)
+        | inr h ↦
+          let p = lend_parts job core (Lend replica thread) h in
+          let r : p.0 ≡ replica = (let x : Lend replica thread ≡ Lend p.0 p.1 = p.2 in cc) in
+          let t : p.1 ≡ thread = (let x : Lend replica thread ≡ Lend p.0 p.1 = p.2 in cc) in
+          (goes, ap (λ x. is_lendable core x thread) (sym r) ∙ ap (is_lendable core p.0) (sym t) ∙ p.3)
+      ]
+    ]
+
+-- the core waits only for a lease
+pub wait_next : (job : Job) (core : Core) → next_action job core ≡ Wait → nothing_lent core ≡ false
+wait_next job core e = by (acts job core Wait e (λ (f : Wait ≡ Over). cc) (λ how (f : Wait ≡ DoEnd how). cc))
+  where
+    by : Acts job core Wait → nothing_lent core ≡ false
+    by (waits goes f g h) = g
+    by (first goes f) = elim (some_or_else (map_action DoFree (lowest_below (threads_made core) (may_free job core))) _ _ f) [
+      | inl g ↦ let m = some_mapped DoFree _ _ g in absurd (let x : DoFree m.0 ≡ Wait = m.2 in cc)
+      | inr g ↦ elim (some_or_else (map_action DoVote (lowest_below (threads_made core) (may_vote core))) (lend_next core) _ g) [
+        | inl h ↦ let m = some_mapped DoVote _ _ h in absurd (let x : DoVote m.0 ≡ Wait = m.2 in cc)
+        | inr h ↦ let p = lend_parts job core Wait h in absurd (let x : Wait ≡ Lend p.0 p.1 = p.2 in cc)
+      ]
+    ]
+
+-- nothing is left to do only behind the end
+pub over_is_next : (job : Job) (core : Core) → next_action job core ≡ Over → is_some core.ended ≡ true
+unfolding next_action
+over_is_next job core e = by (is_some core.ended) refl e
+  where
+    by_first : (o : Option Action) → first_action job core ≡ o → action_or (if nothing_lent core then DoEnd Deadlock else Wait) o ≡ Over → ⊥
+    by_first (Some a) f h = elim (some_or_else (map_action DoFree (lowest_below (threads_made core) (may_free job core))) _ _ (f ∙ ap (λ (x : Action). Some x) h)) [
+      | inl g ↦ let m = some_mapped DoFree _ _ g in let x : DoFree m.0 ≡ Over = m.2 in cc
+      | inr g ↦ elim (some_or_else (map_action DoVote (lowest_below (threads_made core) (may_vote core))) (lend_next core) _ g) [
+        | inl k ↦ let m = some_mapped DoVote _ _ k in let x : DoVote m.0 ≡ Over = m.2 in cc
+        | inr k ↦ let p = lend_parts job core Over k in let x : Over ≡ Lend p.0 p.1 = p.2 in cc
+      ]
+    ]
+    by_first None f h = none (nothing_lent core) h
+      where
+        none : (b : Bool) → (if b then DoEnd Deadlock else Wait) ≡ Over → ⊥
+        none true g = let x : DoEnd Deadlock ≡ Over = g in cc
+        none false g = let x : Wait ≡ Over = g in cc
+    by_due : (d : Option How) → action_unless_due job core d ≡ Over → ⊥
+    by_due (Some d) h = let x : DoEnd d ≡ Over = h in cc
+    by_due None h = by_first (first_action job core) refl h
+    by : (b : Bool) → is_some core.ended ≡ b → (if b then Over else action_unless_due job core core.due) ≡ Over → is_some core.ended ≡ true
+    by true f h = f
+    by false f h = absurd (by_due core.due h)

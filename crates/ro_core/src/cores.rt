@@ -1,5 +1,5 @@
 //! The core: a sequential machine whose journal only grows.
-ghost use Rattle.std.specs.Prelude.{◌≡◌, ◌+◌, ◌≤◌, ◌<◌, ◌==◌, ◌&&◌, ◌^◌, ℕ, List, [], ◌∷◌, vec_len, vec_capacity, slice_get, slice_set, IfOk, IfErr, OnErr, OnOk, Some, None, IsTrue, length, not, is_some, if◌then◌else◌};
+ghost use Rattle.std.specs.Prelude.{◌≡◌, ◌≢◌, ◌+◌, ◌≤◌, ◌<◌, ◌==◌, ◌&&◌, ◌^◌, ℕ, List, [], ◌∷◌, vec_len, vec_capacity, slice_get, slice_set, IfOk, IfErr, OnErr, OnOk, Some, None, IsTrue, length, not, is_some, if◌then◌else◌};
 ghost use Rattle.std.specs.List.{list_all, filter, find};
 ghost use Rattle.std.specs.Option.{option_copied};
 ghost use Rattle.ro_journal.specs.declared.Entry.TheVariants.{Take, End};
@@ -74,9 +74,10 @@ impl<K: Sink> Core<K> {
         }
     }
 
-    /// What comes next.
+    /// What comes next. No call blocks so far, so it is never a `Free`.
     pub fn next_action(&self) -> Action
-        ensures { result ≡ next self.now.job (state self.now) }
+        ensures next { result ≡ next self.now.job (state self.now) }
+        ensures unblocked { (thread : ℕ) → result ≢ act.Free thread }
     {
         if self.ended.is_some() {
             return Action::Over;
@@ -229,7 +230,8 @@ fn opening_seats(alloc: Global, words: &[u32]) -> Result<Vec<Option<Replica>>, A
 
 // What comes next while nothing is due.
 fn choose(is_home: bool, is_ready: bool, free: Option<u32>) -> Action
-    ensures { result ≡ line_next is_home is_ready free }
+    ensures next { result ≡ line_next is_home is_ready free }
+    ensures unblocked { (thread : ℕ) → result ≢ act.Free thread }
 {
     if is_home && is_ready {
         return Action::Vote(0);

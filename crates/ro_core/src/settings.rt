@@ -14,3 +14,14 @@ pub struct Settings {
     /// How many steps the run may have, 1 to 10^12.
     pub limit: u64,
 }
+
+impl Settings {
+    /// Three replicas, three drivers, and the usual bounds.
+    pub const DEFAULT: Settings = Settings {
+        replicas: 3,
+        drivers: 3,
+        watchdog: 10_000,
+        quantum: 4_096,
+        limit: 1_000_000_000,
+    };
+}

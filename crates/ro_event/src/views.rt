@@ -1,5 +1,6 @@
 //! The view of a stopped thread.
-ghost use Rattle.std.specs.Prelude.{◌≡◌, take};
+ghost use Rattle.std.specs.Prelude.{◌≡◌, ◌↔◌, [], IsTrue};
+ghost use Rattle.ro_event.specs.Views.{same_view};
 
 use crate::stops::Stop;
 use std::marker::Model;
@@ -16,20 +17,87 @@ pub struct View {
 }
 
 impl Model for View {
-    ghost use Rattle.std.specs.Prelude.{ℕ, ◌≤◌, take};
+    ghost use Rattle.std.specs.Prelude.{◌≤◌, take};
     ghost use Rattle.ro_event.specs.Views.{View as ViewOf};
 
     ghost Value = { ViewOf };
 
-    ghost view = { λ v. record { registers = v.registers; pc = v.pc; since = v.since; stop = v.stop; payload = take v.payload_len v.payload } };
+    ghost view = { λ v. record {
+      registers = v.registers;
+      pc = v.pc;
+      since = v.since;
+      stop = v.stop;
+      payload = take v.payload_len v.payload;
+    } };
 
     ghost invariant = { λ v. v.payload_len ≤ 4096 };
 }
 
 impl View {
+    /// A view with no payload.
+    pub fn new(registers: [u32; 31], pc: u32, since: u32, stop: Stop) -> View
+        ensures { result ≡ record {
+          registers = registers;
+          pc = pc;
+          since = since;
+          stop = stop;
+          payload = [];
+        } }
+    {
+        View {
+            registers,
+            pc,
+            since,
+            stop,
+            payload: [0; 4096],
+            payload_len: 0,
+        }
+    }
+
+    /// The registers x1 to x31.
+    pub fn registers(&self) -> &[u32; 31]
+        ensures { result.now ≡ self.now.registers }
+    {
+        &self.registers
+    }
+
+    /// Where the thread stands.
     pub fn pc(&self) -> u32
         ensures { result ≡ self.now.pc }
     {
         self.pc
+    }
+
+    /// How many instructions the thread has retired since its last release.
+    pub fn since(&self) -> u32
+        ensures { result ≡ self.now.since }
+    {
+        self.since
+    }
+
+    /// Why the thread stands still.
+    pub fn stop(&self) -> &Stop
+        ensures { result.now ≡ self.now.stop }
+    {
+        &self.stop
+    }
+
+    /// The bytes that the thread writes, where its stop is such a call.
+    pub fn payload(&self) -> &[u8]
+        ensures { result.now ≡ self.now.payload }
+    {
+        &self.payload[..self.payload_len]
+    }
+
+    /// Whether the views are equal in all their parts.
+    pub fn same(&self, other: &View) -> bool
+        ensures test { result ≡ same_view self.now other.now }
+        ensures equal { IsTrue result ↔ (self.now ≡ other.now) }
+    {
+        self.registers == other.registers
+            && self.pc == other.pc
+            && self.since == other.since
+            && self.stop == other.stop
+            && self.payload() == other.payload()
     }
 }

@@ -14,7 +14,8 @@ use Rattle.ro_replica.specs.Replica.{Replica}
 use Rattle.ro_replica.specs.Runs.{Ran, run_of, with_stop}
 use Rattle.ro_plain.specs.Machine.{layout_of}
 use Rattle.ro_plain.specs.Order.{RaceFree}
-use Rattle.ro_core.specs.Core.{Job, Lease, Core, is_out}
+use Rattle.ro_core.specs.declared.actions.Lease.{Lease}
+use Rattle.ro_core.specs.Core.{Job, Core, is_out}
 use Rattle.ro_core.specs.Legal.{arrived, arrival, is_lease, core_after_put, after, lease_run, MayTake, MayPut}
 use Rattle.ro_simulation.specs.Invariant.{IsSound, Agrees, Holds}
 use Rattle.ro_simulation.proofs.Lists.{get-set-cases}

@@ -18,7 +18,8 @@ use Rattle.ro_replica.specs.Replica.{Replica, applied, cancelled}
 use Rattle.ro_plain.specs.Machine.{layout_of, Machine, opening, run, BackedRun}
 use Rattle.ro_plain.proofs.Ahead.{is-none-from}
 use Rattle.ro_plain.proofs.Swap.{run-append}
-use Rattle.ro_core.specs.Core.{Job, Lease, Core, is_going, nothing_lent, is_out}
+use Rattle.ro_core.specs.declared.actions.Lease.{Lease}
+use Rattle.ro_core.specs.Core.{Job, Core, is_going, nothing_lent, is_out}
 use Rattle.ro_core.specs.Event.{Event, core_after}
 use Rattle.ro_core.specs.Ideal.{ideal}
 use Rattle.ro_simulation.specs.Invariant.{IsSound, Agrees, StandsAtCall, Holds}

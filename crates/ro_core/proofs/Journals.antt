@@ -1,0 +1,33 @@
+-- Journals that grow at their end.
+use Rattle.std.proofs.Common.{◌≡◌, ℕ, ◌<◌, List, [], ◌∷◌, ◌++◌, Option, Some, None, refl, sym, ap, ◌∙◌, append_assoc}
+use Rattle.ro_journal.specs.declared.How.{How}
+use Rattle.ro_journal.specs.declared.Entry.{Entry}
+use Rattle.ro_journal.specs.declared.Entry.TheVariants.{Take, Put, Vote, Free, End}
+use Rattle.ro_journal.specs.Plan.{entry_plan, plan_of, outcome_of}
+use Rattle.ro_core.specs.Core.{Job, Core}
+use Rattle.ro_core.specs.Legal.{IsAllowed, after, LegalFrom, replay_from}
+use Rattle.ro_core.specs.Action.{IsNext, EachIsNext}
+
+pub plan_of-append : (xs ys : List Entry) → plan_of (xs ++ ys) ≡ plan_of xs ++ plan_of ys
+plan_of-append [] ys = refl
+plan_of-append (x ∷ xs) ys = ap (λ (p : List ℕ). entry_plan x ++ p) (plan_of-append xs ys) ∙ sym (append_assoc (entry_plan x) (plan_of xs) (plan_of ys))
+
+pub outcome_of-append : (xs ys : List Entry) → outcome_of xs ≡ None → outcome_of (xs ++ ys) ≡ outcome_of ys
+outcome_of-append [] ys e = refl
+outcome_of-append (Take d r t ∷ xs) ys e = outcome_of-append xs ys e
+outcome_of-append (Put d r t n h ∷ xs) ys e = outcome_of-append xs ys e
+outcome_of-append (Vote t n w l d ∷ xs) ys e = outcome_of-append xs ys e
+outcome_of-append (Free t ∷ xs) ys e = outcome_of-append xs ys e
+outcome_of-append (End how ∷ xs) ys e = absurd (let f : Some how ≡ None = e in cc)
+
+pub replay_from-append : (job : Job) (core : Core) (xs ys : List Entry) → replay_from job core (xs ++ ys) ≡ replay_from job (replay_from job core xs) ys
+replay_from-append job core [] ys = refl
+replay_from-append job core (x ∷ xs) ys = replay_from-append job (after job core x) xs ys
+
+pub LegalFrom-append : (job : Job) (core : Core) (xs ys : List Entry) → LegalFrom job core xs → LegalFrom job (replay_from job core xs) ys → LegalFrom job core (xs ++ ys)
+LegalFrom-append job core [] ys l m = m
+LegalFrom-append job core (x ∷ xs) ys l m = (l.0, LegalFrom-append job (after job core x) xs ys l.1 m)
+
+pub EachIsNext-append : (job : Job) (core : Core) (xs ys : List Entry) → EachIsNext job core xs → EachIsNext job (replay_from job core xs) ys → EachIsNext job core (xs ++ ys)
+EachIsNext-append job core [] ys l m = m
+EachIsNext-append job core (x ∷ xs) ys l m = (l.0, EachIsNext-append job (after job core x) xs ys l.1 m)

@@ -1,0 +1,21 @@
+//! The outside: where files come from, and where bytes go. Contracts see what a store or a sink holds where it
+//! tells, and how often it failed, a count that never falls. Over memory there are `MemStore` and `MemSink`; the
+//! trusted edge is `FileStore` over the file system and `OutSink` over a stream, a few lines each.
+#![tactic(auto)]
+
+mod file_store;
+mod mem_sink;
+mod mem_store;
+mod out_sink;
+mod sinks;
+mod stores;
+
+pub use file_store::FileStore;
+pub use mem_sink::{Act, MemSink};
+pub use mem_store::MemStore;
+pub use out_sink::OutSink;
+pub use sinks::{Failed, Sink};
+pub use stores::{FetchError, Store};
+
+#[cfg(test)]
+mod tests;

@@ -1,0 +1,30 @@
+//! Where bytes go.
+ghost use Rattle.std.specs.Prelude.{◌≡◌, ◌<◌, ◌≤◌, length, take, IfOk, OnErr};
+ghost use Rattle.ro_io.specs.Outside.{Rose, more};
+
+/// A sink took nothing.
+#[derive(Clone, Copy, Debug, PartialEq, Eq)]
+pub struct Failed;
+
+/// Where bytes go, a piece at a time.
+pub trait Sink {
+    ghost use Rattle.std.specs.Prelude.{ℕ, List, Option};
+
+    // The bytes that it holds, where it tells.
+    ghost held: { Self → Option (List ℕ) };
+
+    // How often it failed.
+    ghost faults: { Self → ℕ };
+
+    /// Gives bytes to the sink, at least one of them, and answers how many it took, from the front.
+    ///
+    /// # Errors
+    /// `Failed` where it took none. Its count of faults rose then.
+    fn give(&mut self, piece: &[u8]) -> Result<usize, Failed>
+        requires { 0 < length piece.now }
+        ensures count { IfOk result (λ n. (0 < n) × (n ≤ length piece.now)) }
+        ensures taken { IfOk result (λ n. held self.new ≡ more (held self.old) (take n piece.now)) }
+        ensures refused { OnErr result (held self.new ≡ held self.old) }
+        ensures cause { OnErr result (Rose (faults self.old) (faults self.new)) }
+        ensures faults { faults self.old ≤ faults self.new };
+}

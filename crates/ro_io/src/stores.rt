@@ -1,0 +1,36 @@
+//! Where files come from.
+ghost use Rattle.std.specs.Prelude.{◌≡◌, ◌≤◌, IfOk, IsErrOf, IfSome, length};
+ghost use Rattle.ro_io.specs.Outside.{Rose, IsFront};
+
+use std::alloc::Global;
+
+/// Why a file did not come.
+#[derive(Clone, Copy, Debug, PartialEq, Eq)]
+pub enum FetchError {
+    Failed,
+    NoMemory,
+}
+
+/// Where files come from.
+pub trait Store {
+    ghost use Rattle.std.specs.Prelude.{ℕ, Option};
+    ghost use Rattle.ro_io.specs.Outside.{Files};
+
+    // The files that it holds, where it tells.
+    ghost told: { Self → Option Files };
+
+    // How often it failed.
+    ghost faults: { Self → ℕ };
+
+    /// Fetches the first `most` bytes of a file, or all where it has fewer.
+    ///
+    /// # Errors
+    /// `Failed` where there is no such file or it can't be read; the count of faults rose then. `NoMemory` where
+    /// there is no memory for the bytes.
+    fn fetch(&mut self, alloc: Global, name: &str, most: usize) -> Result<Vec<u8>, FetchError>
+        ensures length { IfOk result (λ bytes. length bytes.items ≤ most) }
+        ensures front { IfOk result (λ bytes. IfSome (told self.old) (λ files. IsFront files name.now most bytes.items)) }
+        ensures told { told self.new ≡ told self.old }
+        ensures cause { IsErrOf result FetchError.Failed → Rose (faults self.old) (faults self.new) }
+        ensures faults { faults self.old ≤ faults self.new };
+}

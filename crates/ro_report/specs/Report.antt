@@ -1,0 +1,57 @@
+-- The report of a run: a summary of its journal, and the answer.
+use Rattle.std.specs.Prelude.{ℕ, Bool, true, false, List, [], ◌∷◌, ◌++◌, Some, length, count_by, sum_by, codes, decimal}
+use Rattle.ro_journal.specs.declared.Entry.{Entry}
+use Rattle.ro_journal.specs.declared.Entry.TheVariants.{Put, Vote}
+use Rattle.ro_journal.specs.Plan.{plan_of}
+use Rattle.ro_report.specs.declared.answers.Answer.{Answer}
+use Rattle.ro_report.specs.declared.answers.Answer.TheVariants.{Exit, Trap, BadWords, StoreFailed, BadExe, NoMemory}
+
+abbrev pub is_vote : Entry → Bool
+is_vote (Vote thread count won lost did) = true
+is_vote _ = false
+
+-- a vote after which the winner was copied over a loser
+abbrev pub is_copy : Entry → Bool
+is_copy (Vote thread count won (Some loser) did) = true
+is_copy _ = false
+
+-- the faults that were struck in the run that the entry puts back
+abbrev pub hits_of : Entry → ℕ
+hits_of (Put driver replica thread count hit) = hit
+hits_of _ = 0
+
+abbrev pub votes_in : List Entry → ℕ
+votes_in journal = count_by is_vote journal
+
+abbrev pub copies_in : List Entry → ℕ
+copies_in journal = count_by is_copy journal
+
+abbrev pub struck_in : List Entry → ℕ
+struck_in journal = sum_by hits_of journal
+
+abbrev pub steps_in : List Entry → ℕ
+steps_in journal = length (plan_of journal)
+
+-- the summary line, where so many bytes were written
+abbrev pub summary_text : List Entry → (bytes : ℕ) → List ℕ
+summary_text journal bytes =
+    codes "votes " ++ decimal (votes_in journal)
+    ++ codes " copies " ++ decimal (copies_in journal)
+    ++ codes " struck " ++ decimal (struck_in journal)
+    ++ codes " steps " ++ decimal (steps_in journal)
+    ++ codes " bytes " ++ decimal bytes
+    ++ codes "\n"
+
+-- the answer line
+abbrev pub answer_text : Answer → List ℕ
+answer_text (Exit status) = codes "answer exit " ++ decimal status ++ codes "\n"
+answer_text (Trap cause) = codes "answer trap " ++ decimal cause ++ codes "\n"
+answer_text BadWords = codes "answer words\n"
+answer_text StoreFailed = codes "answer store\n"
+answer_text (BadExe code) = codes "answer exe " ++ decimal code ++ codes "\n"
+answer_text NoMemory = codes "answer no-memory\n"
+
+-- the report of a run that wrote so many bytes: of one whose journal has no entry, the answer line alone
+abbrev pub report_text : List Entry → (bytes : ℕ) → Answer → List ℕ
+report_text [] bytes answer = answer_text answer
+report_text (entry ∷ journal) bytes answer = summary_text (entry ∷ journal) bytes ++ answer_text answer

@@ -1,0 +1,102 @@
+//! The summary of a run's journal.
+ghost use Rattle.std.specs.Prelude.{◌≡◌, ◌+◌, ◌^◌, ◌<◌, ◌≤◌, ◌++◌, length, decimal};
+ghost use Rattle.arrayvec.specs.ArrayString.{array_string_len};
+ghost use Rattle.ro_journal.specs.Plan.{entry_plan, event_steps};
+ghost use Rattle.ro_report.specs.Report.{is_vote, is_copy, hits_of, votes_in, copies_in, struck_in, steps_in, summary_text};
+
+use crate::lines::{Line, ROOM, Text, push_number};
+use ro_journal::{Did, Entry};
+
+/// The line that sums a journal up: its votes, the copies that followed them, the faults that were struck, the
+/// steps of its plan, and the bytes that the run wrote.
+pub fn summary(journal: &[Entry], bytes: u64) -> Line
+    requires struck { struck_in journal.now < 2 ^ 64 }
+    requires steps { steps_in journal.now < 2 ^ 64 }
+    ensures { result ≡ summary_text journal.now bytes }
+{
+    let mut text = Text::new();
+    push_field(&mut text, "votes ", votes(journal));
+    push_field(&mut text, " copies ", copies(journal));
+    push_field(&mut text, " struck ", struck(journal));
+    push_field(&mut text, " steps ", steps(journal));
+    push_field(&mut text, " bytes ", bytes);
+    text.push_str("\n");
+    Line::of(text)
+}
+
+fn push_field(text: &mut Text, name: &str, number: u64)
+    requires { array_string_len text.old + length name.now + 20 ≤ ROOM }
+    ensures bytes { text.new.bytes ≡ text.old.bytes ++ name.now ++ decimal number }
+    ensures len { array_string_len text.new ≤ array_string_len text.old + length name.now + 20 }
+{
+    text.push_str(name);
+    push_number(text, number);
+}
+
+fn votes(journal: &[Entry]) -> u64
+    ensures { result ≡ votes_in journal.now }
+{
+    journal.iter().filter(|entry| is_vote(entry)).count() as u64
+}
+
+fn copies(journal: &[Entry]) -> u64
+    ensures { result ≡ copies_in journal.now }
+{
+    journal.iter().filter(|entry| is_copy(entry)).count() as u64
+}
+
+fn struck(journal: &[Entry]) -> u64
+    requires { struck_in journal.now < 2 ^ 64 }
+    ensures { result ≡ struck_in journal.now }
+{
+    journal.iter().map(|entry| hits(entry)).sum()
+}
+
+fn steps(journal: &[Entry]) -> u64
+    requires { steps_in journal.now < 2 ^ 64 }
+    ensures { result ≡ steps_in journal.now }
+{
+    journal.iter().map(|entry| entry_steps(entry)).sum()
+}
+
+fn is_vote(entry: &Entry) -> bool
+    ensures { result ≡ is_vote entry.now }
+{
+    matches!(entry, Entry::Vote { .. })
+}
+
+fn is_copy(entry: &Entry) -> bool
+    ensures { result ≡ is_copy entry.now }
+{
+    matches!(entry, Entry::Vote { lost: Some(_), .. })
+}
+
+fn hits(entry: &Entry) -> u64
+    ensures { result ≡ hits_of entry.now }
+{
+    match *entry {
+        Entry::Put { hit, .. } => u64::from(hit),
+        _ => 0,
+    }
+}
+
+// How many steps the entry adds to the plan.
+fn entry_steps(entry: &Entry) -> u64
+    ensures { result ≡ length (entry_plan entry.now) }
+{
+    match *entry {
+        Entry::Vote { count, did, .. } => u64::from(count) + event_steps(did),
+        Entry::Free { .. } => 1,
+        _ => 0,
+    }
+}
+
+// The step of the event itself: a call that is served, or a trap that is taken.
+fn event_steps(did: Did) -> u64
+    ensures { result ≡ event_steps did }
+{
+    match did {
+        Did::Served | Did::Trapped => 1,
+        Did::Blocked | Did::Mapped | Did::Watch => 0,
+    }
+}

@@ -1,0 +1,95 @@
+//! Lines against the text that they are to be.
+ghost use Rattle.std.specs.Prelude.{◌≡◌};
+
+use super::*;
+use ro_journal::{Did, Entry, How};
+
+#[test]
+fn answers(rt: HostRuntime) {
+    let cases = [
+        (Answer::Exit(7), "answer exit 7\n"),
+        (Answer::Exit(255), "answer exit 255\n"),
+        (Answer::Trap(2), "answer trap 2\n"),
+        (Answer::BadWords, "answer words\n"),
+        (Answer::StoreFailed, "answer store\n"),
+        (Answer::BadExe(0), "answer exe 0\n"),
+        (Answer::NoMemory, "answer no-memory\n"),
+    ];
+    for (answer, want) in cases {
+        let line = answer_line(&answer);
+        assert_eq!(rt; line.as_bytes(), want.as_bytes(), "of {answer:?}");
+    }
+}
+
+#[test]
+fn exit_alike(rt: HostRuntime) {
+    let journal = [
+        take(0),
+        put(0, 0),
+        take(1),
+        put(1, 0),
+        take(2),
+        put(2, 0),
+        vote(2, None, Did::Served),
+        Entry::End { how: How::Exit(7) },
+    ];
+    let line = summary(&journal, 0);
+    let want = "votes 1 copies 0 struck 0 steps 3 bytes 0\n";
+    assert_eq!(rt; line.as_bytes(), want.as_bytes());
+}
+
+#[test]
+fn copies_and_frees(rt: HostRuntime) {
+    let journal = [
+        put(0, 1),
+        put(1, 2),
+        vote(100, Some(1), Did::Blocked),
+        vote(20, None, Did::Mapped),
+        vote(3, Some(0), Did::Trapped),
+        Entry::Free { thread: 0 },
+    ];
+    let line = summary(&journal, 4096);
+    let want = "votes 3 copies 2 struck 3 steps 125 bytes 4096\n";
+    assert_eq!(rt; line.as_bytes(), want.as_bytes());
+}
+
+#[test]
+fn nothing_yet(rt: HostRuntime) {
+    let line = summary(&[], u64::MAX);
+    let want = "votes 0 copies 0 struck 0 steps 0 bytes 18446744073709551615\n";
+    assert_eq!(rt; line.as_bytes(), want.as_bytes());
+}
+
+fn take(replica: u32) -> Entry
+    ensures { result ≡ Entry.Take 0 replica 0 }
+{
+    Entry::Take {
+        driver: 0,
+        replica,
+        thread: 0,
+    }
+}
+
+fn put(replica: u32, hit: u32) -> Entry
+    ensures { result ≡ Entry.Put 0 replica 0 2 hit }
+{
+    Entry::Put {
+        driver: 0,
+        replica,
+        thread: 0,
+        count: 2,
+        hit,
+    }
+}
+
+fn vote(count: u32, lost: Option<u32>, did: Did) -> Entry
+    ensures { result ≡ Entry.Vote 0 count 0 lost did }
+{
+    Entry::Vote {
+        thread: 0,
+        count,
+        won: 0,
+        lost,
+        did,
+    }
+}

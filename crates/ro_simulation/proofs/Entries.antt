@@ -38,12 +38,12 @@ or-cases true c e = inl refl
 or-cases false c e = inr e
 
 -- the first test passed
-or-left : (b c : Bool) → b ≡ true → (b || c) ≡ true
+pub or-left : (b c : Bool) → b ≡ true → (b || c) ≡ true
 or-left true c e = refl
 or-left false c e = absurd (false≢true e)
 
 -- the second test passed
-or-right : (b c : Bool) → c ≡ true → (b || c) ≡ true
+pub or-right : (b c : Bool) → c ≡ true → (b || c) ≡ true
 or-right true c e = refl
 or-right false c e = e
 

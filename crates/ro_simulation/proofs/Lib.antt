@@ -29,3 +29,4 @@ pub mod RowsThreads
 pub mod Strikes
 pub mod RowsWeaker
 pub mod Limits
+pub mod LockingGuest

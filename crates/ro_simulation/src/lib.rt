@@ -66,9 +66,10 @@ pub fn two_struck_row()
     ensures not_apart { StaysApart (usual_job exit_guest (flip_a0 0 ∷ flip_a0 1 ∷ [])) two_struck → ⊥ }
 {}
 
-/// A row: two threads that lock round their writes, in the journal of one driver.
+/// A row: two threads that lock round their writes have no races, and the journal of one driver is covered.
 pub fn locking_row()
-    ensures { RaceFree locking_guest → IsCovered (usual_job locking_guest []) (driven 200 (usual_job locking_guest [])) (Exit 0) (65 ∷ 66 ∷ []) }
+    ensures race_free { RaceFree locking_guest }
+    ensures covered { IsCovered (usual_job locking_guest []) (driven 200 (usual_job locking_guest [])) (Exit 0) (65 ∷ 66 ∷ []) }
 {}
 
 /// A row: alike has to ask that touched pages are backed. With the weaker form faults stay apart in a legal journal of a

@@ -50,7 +50,7 @@ Apart-filter p (lease ∷ leases) h = by (p lease) (has_replica-filter p lease.r
     by false one rest = rest
 
 -- the leases after an event are those before it
-event_leases : (core : Core) (thread count : ℕ) (replicas : List Replica) (event : Option Event) → (core_after_event core thread count replicas event).leases ≡ core.leases
+pub event_leases : (core : Core) (thread count : ℕ) (replicas : List Replica) (event : Option Event) → (core_after_event core thread count replicas event).leases ≡ core.leases
 event_leases core thread count replicas None = refl
 event_leases core thread count replicas (Some event) = refl
 

@@ -34,7 +34,7 @@ pub legal_more : (job : Job) (journal : List Entry) (entry : Entry) → Legal jo
 legal_more job journal entry legal allowed = LegalFrom-append job (opening_core job) journal (entry ∷ []) legal (allowed, tt)
 
 -- the parts of a core that goes on
-going_parts : (core : Core) → is_going core ≡ true → (core.due ≡ None) × (core.ended ≡ None)
+pub going_parts : (core : Core) → is_going core ≡ true → (core.due ≡ None) × (core.ended ≡ None)
 going_parts core e = let p = and_parts (is_none core.due) (is_none core.ended) e in (none_of core.due p.0, none_of core.ended p.1)
   where
     none_of : {X : Type 0} (o : Option X) → is_none o ≡ true → o ≡ None
@@ -73,7 +73,7 @@ length-set [] i x = refl
 length-set (y ∷ ys) zero x = refl
 length-set (y ∷ ys) (suc i) x = ap suc (length-set ys i x)
 
-set_same : {X : Type 0} (xs : List X) (i : ℕ) (x y : X) → slice_get xs i ≡ Some y → slice_get (slice_set xs i x) i ≡ Some x
+pub set_same : {X : Type 0} (xs : List X) (i : ℕ) (x y : X) → slice_get xs i ≡ Some y → slice_get (slice_set xs i x) i ≡ Some x
 set_same [] i x y e = absurd (let f : None ≡ Some y = e in cc)
 set_same (z ∷ zs) zero x y e = refl
 set_same (z ∷ zs) (suc i) x y e = set_same zs i x y e

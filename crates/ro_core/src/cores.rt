@@ -59,6 +59,7 @@ impl<K: Sink> Core<K> {
     pub fn begin(alloc: Global, image: &Image, out: K) -> Result<Core<K>, K>
         ensures opens { IfOk result (λ c. Opens (default_job image.now) (K.held out) (K.faults out) c) }
         ensures back { IfErr result (λ k. k ≡ out) }
+        ensures line { (words : List ℕ) × IsLine words × (image.now ≡ image_with words) }
     {
         match opening_parts(alloc, image) {
             Ok((image, journal, seats)) => Ok(Core {

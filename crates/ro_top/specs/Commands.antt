@@ -1,6 +1,11 @@
 -- The command that words spell: so far one, `run EXE`.
-use Rattle.std.specs.Prelude.{ℕ, Bool, false, not, ◌&&◌, List, [], ◌∷◌, Option, Some, None, ◌==◌, codes, if◌then◌else◌}
+use Rattle.std.specs.Prelude.{map, ℕ, Bool, false, not, ◌&&◌, List, [], ◌∷◌, Option, Some, None, ◌==◌, codes, if◌then◌else◌}
 use Rattle.std.specs.Str.{bytes_eq}
+use denote.Bor.{Bor}
+
+-- the words as texts
+abbrev pub texts_of : List (Bor (List ℕ)) → List (List ℕ)
+texts_of words = map (λ word. word.now) words
 
 -- neither empty nor beginning with `-`
 abbrev pub is_argument : List ℕ → Bool

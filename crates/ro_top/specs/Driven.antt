@@ -1,8 +1,9 @@
 -- The core of a run that one driver drives.
-use Rattle.std.specs.Prelude.{◌≡◌, ℕ, List, [], Option, Some, None}
+use Rattle.std.specs.Prelude.{◌≡◌, ◌<◌, ◌^◌, ℕ, List, [], Option, Some, None}
 use Rattle.ro_journal.specs.declared.How.{How}
 use Rattle.ro_journal.specs.declared.How.TheVariants.{Exit as ByExit, Trap as ByTrap}
 use Rattle.ro_journal.specs.declared.Entry.{Entry}
+use Rattle.ro_report.specs.Report.{struck_in, steps_in}
 use Rattle.ro_report.specs.declared.answers.Answer.{Answer}
 use Rattle.ro_report.specs.declared.answers.Answer.TheVariants.{Exit, Trap, NoMemory}
 use Rattle.ro_image.specs.Image.{Image}
@@ -40,9 +41,9 @@ pub record HasRun (image : Image) (journal : List Entry) : Type 0 where
   pub legal : Legal (default_job image) journal
   pub next : EachIsNext (default_job image) (opening_core (default_job image)) journal
 
--- some straight-line guest has it as a legal journal
-abbrev pub IsLineJournal : List Entry → Type 0
-IsLineJournal journal = (words : List ℕ) × IsLine words × Legal (default_job (image_with words)) journal
+-- what a summary counts are numbers of 64 bits
+abbrev pub AreCounts : List Entry → Type 0
+AreCounts journal = (struck_in journal < 2 ^ 64) × (steps_in journal < 2 ^ 64)
 
 -- so far a program ends by an exit or a trap, if it has ended
 abbrev pub IsProgramEnd : Option How → Type 0

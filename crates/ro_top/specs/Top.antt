@@ -1,10 +1,11 @@
 -- What a command does, and what it answers.
-use Rattle.std.specs.Prelude.{◌≡◌, ◌⊎◌, ℕ, List, [], ◌++◌, length, Option, Some, None, IfSome}
+use Rattle.std.specs.Prelude.{◌≡◌, ◌⊎◌, ℕ, List, [], ◌∷◌, ◌++◌, length, Option, Some, None, IfSome}
 use Rattle.ro_io.specs.Outside.{Files, more}
 use Rattle.ro_image.specs.Straight.{bad_code, image_of}
 use Rattle.ro_journal.specs.declared.How.{How}
 use Rattle.ro_journal.specs.declared.How.TheVariants.{Exit as ByExit, Trap as ByTrap}
 use Rattle.ro_journal.specs.declared.Entry.{Entry}
+use Rattle.ro_report.specs.Report.{summary_text}
 use Rattle.ro_report.specs.declared.answers.Answer.{Answer}
 use Rattle.ro_report.specs.declared.answers.Answer.TheVariants.{Exit, Trap, BadWords, StoreFailed, BadExe, NoMemory}
 use Rattle.ro_core.specs.Core.{Job}
@@ -13,6 +14,7 @@ use Rattle.ro_core.specs.Defaults.{default_job}
 use Rattle.ro_top.specs.declared.done.Told.{Told}
 use Rattle.ro_top.specs.declared.done.Told.TheVariants.{Whole, Failed}
 use Rattle.ro_top.specs.Commands.{command_of}
+use Rattle.ro_top.specs.Driven.{HasRun}
 
 -- the status with which the process ends
 abbrev pub status_of : Told → Answer → ℕ
@@ -37,6 +39,13 @@ pub record IsAskedJob (files : Option Files) (words : List (List ℕ)) (job : Jo
   pub accepted : bad_code content ≡ None
   pub job_is : job ≡ default_job (image_of content)
 
+-- the file that the words name is accepted, and the journal came of running it
+pub record HasRunFile (files : Option Files) (words : List (List ℕ)) (journal : List Entry) : Type 0 where
+  pub content : List ℕ
+  pub file : IsAskedFile files words content
+  pub accepted : bad_code content ≡ None
+  pub run : HasRun (image_of content) journal
+
 -- Nothing was run, or the journal is a legal one of the job that is asked for, and of that job this holds.
 abbrev pub OfItsJob : Option Files → List (List ℕ) → List Entry → (Job → Type 0) → Type 0
 OfItsJob files words journal P = (journal ≡ []) ⊎ ((job : Job) × IsAskedJob files words job × Legal job journal × P job)
@@ -50,6 +59,11 @@ abbrev pub IsOutcome : Answer → Option How → Type 0
 IsOutcome (Exit status) outcome = outcome ≡ Some (ByExit status)
 IsOutcome (Trap cause) outcome = outcome ≡ Some (ByTrap cause)
 IsOutcome answer outcome = outcome ≡ None
+
+-- the summary, where anything ran
+abbrev pub summary_part : List Entry → (bytes : ℕ) → List ℕ
+summary_part [] bytes = []
+summary_part (entry ∷ journal) bytes = summary_text (entry ∷ journal) bytes
 
 -- the sink took a front of the text, where it tells
 pub record TakesFront (old new : Option (List ℕ)) (text : List ℕ) : Type 0 where

@@ -2,7 +2,7 @@
 ghost use Rattle.std.specs.Prelude.{◌≡◌, ◌<◌, ◌≤◌, ◌^◌, OnOk, OnErr};
 ghost use Rattle.ro_io.specs.Outside.{Rose, more};
 ghost use Rattle.ro_report.specs.Report.{struck_in, steps_in, report_text};
-ghost use Rattle.ro_top.specs.Top.{TakesFront, IsTold};
+ghost use Rattle.ro_top.specs.Top.{TakesFront, IsTold, summary_part};
 ghost use Rattle.ro_top.specs.declared.done.Told.TheVariants as told;
 
 use crate::done::Told;
@@ -34,10 +34,23 @@ fn give_report<E: Sink>(
     ensures err { OnErr result (TakesFront (E.held report.old) (E.held report.new) (report_text journal.now 0 answer.now)) }
     ensures cause { OnErr result (Rose (E.faults report.old) (E.faults report.new)) }
 {
-    if !journal.is_empty() {
-        give_all(report, summary(journal, 0).as_bytes())?;
-    }
+    give_summary(report, journal)?;
     give_all(report, answer_line(answer).as_bytes())
+}
+
+// The summary, where anything ran.
+fn give_summary<E: Sink>(report: &mut E, journal: &[Entry]) -> Result<(), Failed>
+    requires struck { struck_in journal.now < 2 ^ 64 }
+    requires steps { steps_in journal.now < 2 ^ 64 }
+    ensures ok { OnOk result (E.held report.new ≡ more (E.held report.old) (summary_part journal.now 0)) }
+    ensures err { OnErr result (TakesFront (E.held report.old) (E.held report.new) (summary_part journal.now 0)) }
+    ensures cause { OnErr result (Rose (E.faults report.old) (E.faults report.new)) }
+    ensures faults { E.faults report.old ≤ E.faults report.new }
+{
+    if journal.is_empty() {
+        return Ok(());
+    }
+    give_all(report, summary(journal, 0).as_bytes())
 }
 
 // Gives all of the bytes, a piece at a time.

@@ -1,5 +1,5 @@
 //! The call that does it all.
-ghost use Rattle.std.specs.Prelude.{◌≡◌, ◌≢◌, ◌↔◌, ◌+◌, ℕ, List, [], None, Some, IfSome, MatchOption};
+ghost use Rattle.std.specs.Prelude.{◌≡◌, ◌⊎◌, ◌≢◌, ◌↔◌, ◌+◌, ℕ, List, [], None, Some, IfSome, MatchOption};
 ghost use Rattle.ro_io.specs.Outside.{Rose, more};
 ghost use Rattle.ro_image.specs.Straight.{bad_code};
 ghost use Rattle.ro_journal.specs.Plan.{outcome_of};
@@ -11,9 +11,9 @@ ghost use Rattle.ro_core.specs.Legal.{output_of};
 ghost use Rattle.ro_core.specs.Action.{EachIsNext};
 ghost use Rattle.ro_core.specs.Ideal.{StaysApart};
 ghost use Rattle.ro_simulation.specs.Theorem.{WritesAsIdeal};
-ghost use Rattle.ro_top.specs.Commands.{command_of as command_in};
-ghost use Rattle.ro_top.specs.Driven.{HasRun, IsLineJournal, IsProgramEnd, IsProgramAnswer};
-ghost use Rattle.ro_top.specs.Top.{IsAskedFile, OfItsJob, Wrote, IsOutcome, IsTold};
+ghost use Rattle.ro_top.specs.Commands.{texts_of, command_of as command_in};
+ghost use Rattle.ro_top.specs.Driven.{HasRun, AreCounts, IsProgramEnd, IsProgramAnswer};
+ghost use Rattle.ro_top.specs.Top.{IsAskedFile, HasRunFile, OfItsJob, Wrote, IsOutcome, IsTold};
 ghost use Rattle.ro_top.specs.declared.done.Told.TheVariants as t;
 
 use crate::commands::command_of;
@@ -44,17 +44,17 @@ pub fn romain<'a, R: Wait, S: Store, K: Sink, E: Sink>(
     out: K,
     report: &mut E,
 ) -> Done<K>
-    ensures legal { OfItsJob (S.told store.old) words.now result.journal.items (λ job. EachIsNext job (opening_core job) result.journal.items) }
+    ensures legal { OfItsJob (S.told store.old) (texts_of words.now) result.journal.items (λ job. EachIsNext job (opening_core job) result.journal.items) }
     ensures answer { IsOutcome result.answer (outcome_of result.journal.items) }
-    ensures headline { OfItsJob (S.told store.old) words.now result.journal.items (λ job. RaceFree job.program → StaysApart job result.journal.items → WritesAsIdeal job result.journal.items) }
-    ensures premises { OfItsJob (S.told store.old) words.now result.journal.items (λ job. RaceFree job.program × StaysApart job result.journal.items) }
-    ensures output { OfItsJob (S.told store.old) words.now result.journal.items (λ job. K.held result.out ≡ more (K.held out) (output_of job result.journal.items)) }
+    ensures headline { OfItsJob (S.told store.old) (texts_of words.now) result.journal.items (λ job. RaceFree job.program → StaysApart job result.journal.items → WritesAsIdeal job result.journal.items) }
+    ensures premises { OfItsJob (S.told store.old) (texts_of words.now) result.journal.items (λ job. RaceFree job.program × StaysApart job result.journal.items) }
+    ensures output { OfItsJob (S.told store.old) (texts_of words.now) result.journal.items (λ job. K.held result.out ≡ more (K.held out) (output_of job result.journal.items)) }
     ensures nothing_run { result.journal.items ≡ [] → (K.held result.out ≡ K.held out) × (K.faults result.out ≡ K.faults out) }
-    ensures report { (bytes : ℕ) × Wrote (S.told store.old) words.now result.journal.items bytes × IsTold result.told (E.held report.old) (E.held report.new) (report_text result.journal.items bytes result.answer) }
+    ensures report { (bytes : ℕ) × Wrote (S.told store.old) (texts_of words.now) result.journal.items bytes × IsTold result.told (E.held report.old) (E.held report.new) (report_text result.journal.items bytes result.answer) }
     ensures told { result.told ≡ t.Failed → Rose (E.faults report.old) (E.faults report.new) }
-    ensures words { (result.answer ≡ a.BadWords) ↔ (command_in words.now ≡ None) }
+    ensures words { (result.answer ≡ a.BadWords) ↔ (command_in (texts_of words.now) ≡ None) }
     ensures store { result.answer ≡ a.StoreFailed → Rose (S.faults store.old) (S.faults store.new) }
-    ensures executable { (code : ℕ) → result.answer ≡ a.BadExe code → (content : List ℕ) × IsAskedFile (S.told store.old) words.now content × (bad_code content ≡ Some code) }
+    ensures executable { (code : ℕ) → result.answer ≡ a.BadExe code → (content : List ℕ) × IsAskedFile (S.told store.old) (texts_of words.now) content × (bad_code content ≡ Some code) }
 {
     let Ran {
         answer,
@@ -85,14 +85,14 @@ fn command<R: Wait, S: Store, K: Sink>(
     store: &mut S,
     out: K,
 ) -> Ran<K>
-    ensures legal { OfItsJob (S.told store.old) words.now result.journal.items (λ job. EachIsNext job (opening_core job) result.journal.items) }
-    ensures line { IsLineJournal result.journal.items }
+    ensures run { (result.journal.items ≡ []) ⊎ HasRunFile (S.told store.old) (texts_of words.now) result.journal.items }
+    ensures counts { AreCounts result.journal.items }
     ensures answer { IsOutcome result.answer (outcome_of result.journal.items) }
     ensures held { K.held result.out ≡ K.held out }
     ensures faults { K.faults result.out ≡ K.faults out }
-    ensures words { (result.answer ≡ a.BadWords) ↔ (command_in words.now ≡ None) }
+    ensures words { (result.answer ≡ a.BadWords) ↔ (command_in (texts_of words.now) ≡ None) }
     ensures store { result.answer ≡ a.StoreFailed → Rose (S.faults store.old) (S.faults store.new) }
-    ensures executable { (code : ℕ) → result.answer ≡ a.BadExe code → (content : List ℕ) × IsAskedFile (S.told store.old) words.now content × (bad_code content ≡ Some code) }
+    ensures executable { (code : ℕ) → result.answer ≡ a.BadExe code → (content : List ℕ) × IsAskedFile (S.told store.old) (texts_of words.now) content × (bad_code content ≡ Some code) }
 {
     let Some(exe) = command_of(words) else {
         return refused(alloc, Answer::BadWords, out);
@@ -124,7 +124,8 @@ fn refused<K>(alloc: Global, answer: Answer, out: K) -> Ran<K>
 
 // Runs the program of an image.
 fn run<R: Wait, K: Sink>(rt: &R, alloc: Global, image: &Image, out: K) -> Ran<K>
-    ensures driven { HasRun image.now result.journal.items }
+    ensures run { HasRun image.now result.journal.items }
+    ensures counts { AreCounts result.journal.items }
     ensures answer { IsOutcome result.answer (outcome_of result.journal.items) }
     ensures program { IsProgramAnswer result.answer }
     ensures held { K.held result.out ≡ K.held out }

@@ -39,6 +39,7 @@ won_is won e = λ i. record { won = first i; lost = second i }
   where
     first : won.won ≡ 0
     first = cc
+
     second : won.lost ≡ None
     second = cc
 

@@ -92,10 +92,10 @@ module _ (words : List ℕ) (a b c : Replica) (ls : List Lease) (job : Job) wher
   seats_next (p ∷ q ∷ r ∷ []) e f =
       next_is (seat_free p) (seat_free q) (seat_free r) (free_is 0 p (f 0)) (free_is 1 q (f 1)) (free_is 2 r (f 2))
       ∙ same_next (length ls == 0) (are_stopped (a ∷ b ∷ c ∷ [])) (list_all seat_stopped (p ∷ q ∷ r ∷ [])) (first_free_from 0 (p ∷ q ∷ r ∷ [])) (λ h.
-          let home : (number : ℕ) → is_home (going_core words a b c ls) number ≡ true = λ number. ap (λ (l : List Lease). not (list_any (λ lease. lease.replica == number) l)) (no_leases ls h) in
-          ap (λ (x : Bool). x && (is_some (stop_of b 0) && (is_some (stop_of c 0) && true))) (stopped_is 0 p a (home 0) refl (f 0))
-          ∙ ap (λ (x : Bool). seat_stopped p && (x && (is_some (stop_of c 0) && true))) (stopped_is 1 q b (home 1) refl (f 1))
-          ∙ ap (λ (x : Bool). seat_stopped p && (seat_stopped q && (x && true))) (stopped_is 2 r c (home 2) refl (f 2)))
+      let home : (number : ℕ) → is_home (going_core words a b c ls) number ≡ true = λ number. ap (λ (l : List Lease). not (list_any (λ lease. lease.replica == number) l)) (no_leases ls h) in
+      ap (λ (x : Bool). x && (is_some (stop_of b 0) && (is_some (stop_of c 0) && true))) (stopped_is 0 p a (home 0) refl (f 0))
+      ∙ ap (λ (x : Bool). seat_stopped p && (x && (is_some (stop_of c 0) && true))) (stopped_is 1 q b (home 1) refl (f 1))
+      ∙ ap (λ (x : Bool). seat_stopped p && (seat_stopped q && (x && true))) (stopped_is 2 r c (home 2) refl (f 2)))
   seats_next (p ∷ q ∷ r ∷ s ∷ rest) e f = absurd (omega arith)
 
 -- the choice, while nothing is due
@@ -105,6 +105,7 @@ next_going job journal seats leases due ended places h none not_over = by (phase
   where
     seated : AreSeated job (replay job journal) seats
     seated = h.seats_are none not_over
+
     by : Phase h.words journal (replay job journal) → next_action job (replay job journal) ≡ line_next (length leases == 0) (list_all seat_stopped seats) (first_free_from 0 seats)
     by (going a b c ls at bt ct core_is plan nothing) =
         let there : AreSeated job (going_core h.words a b c ls) seats = subst (λ (x : Core). AreSeated job x seats) core_is seated in

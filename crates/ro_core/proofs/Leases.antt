@@ -91,6 +91,7 @@ out_has driver replica thread (lease ∷ leases) e = by (is_lease driver replica
     or_true : (a b : Bool) → b ≡ true → (a || b) ≡ true
     or_true true b f = refl
     or_true false b f = f
+
     by : (b : Bool) → is_lease driver replica thread lease ≡ b → (list_any (is_lease driver replica thread) leases ≡ true → has_replica replica leases ≡ true) → ((lease.replica == replica) || has_replica replica leases) ≡ true
     by true is rest =
         let p = and_parts (lease.driver == driver && (lease.replica == replica)) (lease.thread == thread) is in
@@ -130,9 +131,11 @@ others_stay driver replica thread other (lease ∷ leases) ne = by (is_lease dri
   where
     kept : List Lease
     kept = filter (λ l. not (is_lease driver replica thread l)) leases
+
     not_other : (b : Bool) → (lease.replica == other) ≡ b → lease.replica ≡ replica → b ≡ false
     not_other false f same = refl
     not_other true f same = absurd (ne (sym (eqb-true lease.replica other f) ∙ same))
+
     by : (b : Bool) → is_lease driver replica thread lease ≡ b → has_replica other kept ≡ has_replica other leases → has_replica other (cond (not b) (lease ∷ kept) kept) ≡ ((lease.replica == other) || has_replica other leases)
     by true is rest =
         let p = and_parts (lease.driver == driver && (lease.replica == replica)) (lease.thread == thread) is in

@@ -79,10 +79,10 @@ nothing_to_do job core going home e =
     let frees : any_below made (may_free job core) ≡ false = none_below made (may_free job core) (none_mapped DoFree (lowest_below made (may_free job core)) p.0) in
     let votes : any_below made (may_vote core) ≡ false = none_below made (may_vote core) (none_mapped DoVote (lowest_below made (may_vote core)) q.0) in
     let none : any_below made (λ thread. may_vote core thread || may_free job core thread || any_below (length core.replicas) (λ replica. is_lendable core replica thread)) ≡ false =
-        all_false_below made (λ thread. may_vote core thread || may_free job core thread || any_below (length core.replicas) (λ replica. is_lendable core replica thread)) (λ t less.
-            both_false (may_vote core t || may_free job core t) (any_below (length core.replicas) (λ replica. is_lendable core replica t))
-            (both_false (may_vote core t) (may_free job core t) (never_below made (may_vote core) votes t less) (never_below made (may_free job core) frees t less))
-            (all_false_below (length core.replicas) (λ replica. is_lendable core replica t) (λ r under. none_lent job core q.1 r t under less)))
+    all_false_below made (λ thread. may_vote core thread || may_free job core thread || any_below (length core.replicas) (λ replica. is_lendable core replica thread)) (λ t less.
+    both_false (may_vote core t || may_free job core t) (any_below (length core.replicas) (λ replica. is_lendable core replica t))
+    (both_false (may_vote core t) (may_free job core t) (never_below made (may_vote core) votes t less) (never_below made (may_free job core) frees t less))
+    (all_false_below (length core.replicas) (λ replica. is_lendable core replica t) (λ r under. none_lent job core q.1 r t under less)))
     in
     and_from _ _ (and_from _ _ going home) (ap not none)
 
@@ -118,6 +118,7 @@ end_next job core how e = by (is_some core.ended) refl e
   where
     open_core : Option How → Option How → Bool
     open_core a b = is_none a && is_none b
+
     by_first : core.ended ≡ None → core.due ≡ None → (o : Option Action) → first_action job core ≡ o → (b : Bool) → nothing_lent core ≡ b → action_or (if b then DoEnd Deadlock else Wait) o ≡ DoEnd how → MayEnd job core how
     by_first over none (Some a) f b g h = absurd (no_end_first job core how (f ∙ ap (λ (x : Action). Some x) h))
     by_first over none None f false g h = absurd (let x : Wait ≡ DoEnd how = h in cc)
@@ -125,9 +126,11 @@ end_next job core how e = by (is_some core.ended) refl e
         let is : Deadlock ≡ how = (let x : DoEnd Deadlock ≡ DoEnd how = h in cc) in
         let going : is_going core ≡ true = and_from _ _ (ap is_none none) (ap is_none over) in
         subst (λ (k : How). MayEnd job core k) is (alone (nothing_to_do job core going g f))
+
     by_due : core.ended ≡ None → (d : Option How) → core.due ≡ d → action_unless_due job core d ≡ DoEnd how → MayEnd job core how
     by_due over (Some d) f h = due (f ∙ ap (λ (x : How). Some x) (let x : DoEnd d ≡ DoEnd how = h in cc))
     by_due over None f h = by_first over f (first_action job core) refl (nothing_lent core) refl h
+
     by : (b : Bool) → is_some core.ended ≡ b → (if b then Over else action_unless_due job core core.due) ≡ DoEnd how → (core.ended ≡ None) × MayEnd job core how
     by true f h = absurd (let x : Over ≡ DoEnd how = h in cc)
     by false f h = let over : core.ended ≡ None = none_of core.ended f in (over, by_due over core.due refl h)
@@ -141,9 +144,11 @@ end_is job core how e = by (is_some core.ended) refl e
     by_first (Some a) f b h = absurd (no_end_first job core how (f ∙ ap (λ (x : Action). Some x) h))
     by_first None f false h = absurd (let x : Wait ≡ DoEnd how = h in cc)
     by_first None f true h = let x : DoEnd Deadlock ≡ DoEnd how = h in cc
+
     by_due : (d : Option How) → action_unless_due job core d ≡ DoEnd how → unwrap_or d Deadlock ≡ how
     by_due (Some d) h = let x : DoEnd d ≡ DoEnd how = h in cc
     by_due None h = by_first (first_action job core) refl (nothing_lent core) h
+
     by : (b : Bool) → is_some core.ended ≡ b → (if b then Over else action_unless_due job core core.due) ≡ DoEnd how → unwrap_or core.due Deadlock ≡ how
     by true f h = absurd (let x : Over ≡ DoEnd how = h in cc)
     by false f h = by_due core.due h
@@ -175,9 +180,11 @@ acts job core action e not_over not_end = by (is_some core.ended) refl e
     by_first goes (Some a) f b g h = first goes (f ∙ ap (λ (x : Action). Some x) h)
     by_first goes None f true g h = absurd (not_end Deadlock (sym h))
     by_first goes None f false g h = waits goes f g (sym h)
+
     by_due : core.ended ≡ None → (d : Option How) → core.due ≡ d → action_unless_due job core d ≡ action → Acts job core action
     by_due over (Some d) f h = absurd (not_end d (sym h))
     by_due over None f h = by_first (and_from _ _ (ap is_none f) (ap is_none over)) (first_action job core) refl (nothing_lent core) refl h
+
     by : (b : Bool) → is_some core.ended ≡ b → (if b then Over else action_unless_due job core core.due) ≡ action → Acts job core action
     by true f h = absurd (not_over (sym h))
     by false f h = by_due (none_of core.ended f) core.due refl h
@@ -214,10 +221,10 @@ lend_is_next job core replica thread e = by (acts job core (Lend replica thread)
       | inr g ↦ elim (some_or_else (map_action DoVote (lowest_below (threads_made core) (may_vote core))) (lend_next core) _ g) [
         | inl h ↦ let m = some_mapped DoVote _ _ h in absurd (let x : DoVote m.0 ≡ Lend replica thread = m.2 in cc)
         | inr h ↦
-          let p = lend_parts job core (Lend replica thread) h in
-          let r : p.0 ≡ replica = (let x : Lend replica thread ≡ Lend p.0 p.1 = p.2 in cc) in
-          let t : p.1 ≡ thread = (let x : Lend replica thread ≡ Lend p.0 p.1 = p.2 in cc) in
-          (goes, ap (λ x. is_lendable core x thread) (sym r) ∙ ap (is_lendable core p.0) (sym t) ∙ p.3)
+            let p = lend_parts job core (Lend replica thread) h in
+            let r : p.0 ≡ replica = (let x : Lend replica thread ≡ Lend p.0 p.1 = p.2 in cc) in
+            let t : p.1 ≡ thread = (let x : Lend replica thread ≡ Lend p.0 p.1 = p.2 in cc) in
+            (goes, ap (λ x. is_lendable core x thread) (sym r) ∙ ap (is_lendable core p.0) (sym t) ∙ p.3)
       ]
     ]
 
@@ -253,9 +260,11 @@ over_is_next job core e = by (is_some core.ended) refl e
         none : (b : Bool) → (if b then DoEnd Deadlock else Wait) ≡ Over → ⊥
         none true g = let x : DoEnd Deadlock ≡ Over = g in cc
         none false g = let x : Wait ≡ Over = g in cc
+
     by_due : (d : Option How) → action_unless_due job core d ≡ Over → ⊥
     by_due (Some d) h = let x : DoEnd d ≡ Over = h in cc
     by_due None h = by_first (first_action job core) refl h
+
     by : (b : Bool) → is_some core.ended ≡ b → (if b then Over else action_unless_due job core core.due) ≡ Over → is_some core.ended ≡ true
     by true f h = f
     by false f h = absurd (by_due core.due h)

@@ -63,6 +63,7 @@ seat_there job core seats replica r seated home there = by (slice_get seats repl
   where
     within : replica < length seats
     within = let h : replica < length core.replicas = slice_get_within core.replicas replica r there in let c : length seats ≡ length core.replicas = seated.count in omega arith
+
     by : (o : Option (Option ReplicaOf)) → slice_get seats replica ≡ o → Seated job core replica o → (value : ReplicaOf) × (slice_get seats replica ≡ Some (Some value))
     by None f s = absurd (let g : None ≡ Some _ = sym f ∙ slice_get-get_or seats replica None within in cc)
     by (Some None) f s = absurd (true≢false (sym home ∙ s))
@@ -140,8 +141,10 @@ put_seated job core seats driver replica thread count hit value apart seated m i
   where
     left : List Lease
     left = filter (λ l. not (is_lease driver replica thread l)) core.leases
+
     within : replica < length seats
     within = seat_within job core seats replica thread count m.ran seated m.runs
+
     by : (number : ℕ) → slice_get (core_after_put job core driver replica thread count (Some m.ran)).replicas replica ≡ Some (replica_of value) → (b : Bool) → (replica == number) ≡ b
         → Seated job (core_after_put job core driver replica thread count (Some m.ran)) number (slice_get (slice_set seats replica (Some value)) number)
     by number there true e =

@@ -29,13 +29,16 @@ alike_by words job core seats image is seated = by seats seated.count (λ n. sea
   where
     three : length core.replicas ≡ 3
     three = ap (λ (c : Core). length c.replicas) is
+
     shows : (number : ℕ) (seat : Option ReplicaOf) → is_home core number ≡ true → slice_get core.replicas number ≡ Some (stopped_replica words) → Seated job core number (Some seat) → Shows 0 (line_view words) seat
     shows number None home there s = true≢false (sym home ∙ s)
     shows number (Some value) home there s =
         let same : replica_of value ≡ stopped_replica words = some_is (sym s.2 ∙ there) in
         ap (λ (i : Image). view_of i.ranges 0 (replica_of value)) (s.1 ∙ image) ∙ ap (view_of (image_with words).ranges 0) same
+
     home_at : (number : ℕ) → is_home core number ≡ true
     home_at number = ap (λ (c : Core). is_home c number) is
+
     by : (xs : List (Option ReplicaOf)) → length xs ≡ length core.replicas → ((number : ℕ) → Seated job core number (slice_get xs number)) → AreAlike xs 0 (line_view words)
     by [] e f = absurd (omega (arith, three))
     by (a ∷ []) e f = absurd (omega (arith, three))
@@ -48,7 +51,7 @@ alike_by words job core seats image is seated = by seats seated.count (λ n. sea
     )
 
 module _ (job : Job) (journal new : List Entry) (seats : List (Option ReplicaOf)) (leases : List Lease) (due ended : Option How) (places places' : ℕ) (h : Holds job journal seats leases due ended places) (thread : ℕ)
-  (may : may_vote (replay job journal) thread ≡ true) where
+    (may : may_vote (replay job journal) thread ≡ true) where
   -- all replicas stand at the guest's stop
   pub voted : AllStopped h.words thread (replay job journal)
   voted = by (phase_is job journal new seats leases due ended places places' h)

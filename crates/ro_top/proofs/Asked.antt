@@ -53,10 +53,10 @@ front_is : (content bytes : List ℕ) (most : ℕ) → 4180 < most → bytes ≡
 front_is content bytes most long is e = elim (cases_lt (length content) most) [
   | inl less ↦ sym (is ∙ take_all most content (omega arith))
   | inr past ↦
-    let few : length bytes ≤ 4180 = accepted_few bytes e in
-    let full : length (take most content) ≡ most = (let m = length-take most content in omega (arith, m)) in
-    let same : length bytes ≡ length (take most content) = ap (λ (x : List ℕ). length x) is in
-    absurd (omega arith)
+      let few : length bytes ≤ 4180 = accepted_few bytes e in
+      let full : length (take most content) ≡ most = (let m = length-take most content in omega (arith, m)) in
+      let same : length bytes ≡ length (take most content) = ap (λ (x : List ℕ). length x) is in
+      absurd (omega arith)
 ]
 
 pub asked_content : (files : Option Files) (exe bytes : List ℕ) (most : ℕ) → 4180 < most → IfSome files (λ all. IsFront all exe most bytes) → bad_code bytes ≡ None → IfSome files (λ all. all exe ≡ Some bytes)
@@ -116,6 +116,7 @@ module _ (words : List ℕ) (line : IsLine words) (journal : List Entry) (legal 
     where
       long : plan_of journal ≡ line_plan words → length (plan_of journal) ≤ 1025
       long e = let n : length (plan_of journal) ≡ line_length words + 1 = ap (λ (x : List ℕ). length x) e ∙ length-replicate (line_length words) 0 in omega (arith, few_steps words line, n)
+
       by : Phase words journal (replay (line_job words) journal) → length (plan_of journal) ≤ 1025
       by (going a b c ls at bt ct core_is plan none) = omega (arith, ap (λ (x : List ℕ). length x) plan)
       by (ending home due_is e nothing plan none) = long plan
@@ -130,6 +131,7 @@ module _ (words : List ℕ) (line : IsLine words) (journal : List Entry) (legal 
       ends : (b : Bool) (status : ℕ) → IsProgramEnd (Some (if b then Exit status else Trap 2))
       ends true status = tt
       ends false status = tt
+
       by : Phase words journal (replay (line_job words) journal) → IsProgramEnd (outcome_of journal)
       by (going a b c ls at bt ct core_is plan none) = subst (λ (o : Option How). IsProgramEnd o) (sym none) tt
       by (ending home due_is e nothing plan none) = subst (λ (o : Option How). IsProgramEnd o) (sym none) tt

@@ -106,8 +106,8 @@ is_its_lease : (replica thread : ℕ) → is_lease 0 replica thread (record { dr
 is_its_lease replica thread = ap (λ (b : Bool). b && (thread == thread)) (eq-eqb replica replica refl) ∙ eq-eqb thread thread refl
 
 module _ (old mid : CoreOf) (replica thread quantum count hit : ℕ) (lent value : ReplicaOf) (stop : Option Stop) (h : IsDriven old) (home : IsHome old) (m : MayTake old.job (state old) 0 replica thread)
-  (a : Appends old mid (Take 0 replica thread)) (is : IsLent old replica lent) (same : value.image ≡ lent.image) (quantum_is : quantum ≡ 4096)
-  (runs : Runs (layout_in lent.image) 10000 quantum thread (replica_of lent) (replica_of value) count hit stop) where
+    (a : Appends old mid (Take 0 replica thread)) (is : IsLent old replica lent) (same : value.image ≡ lent.image) (quantum_is : quantum ≡ 4096)
+    (runs : Runs (layout_in lent.image) 10000 quantum thread (replica_of lent) (replica_of value) count hit stop) where
   job_runs : Runs (layout_of old.job.program) old.job.settings.watchdog old.job.settings.quantum thread (replica_of lent) (replica_of value) count hit stop
   job_runs =
       subst (λ (q : ℕ). Runs (layout_of old.job.program) old.job.settings.watchdog q thread (replica_of lent) (replica_of value) count hit stop) (quantum_is ∙ sym (ap (λ (j : Job). j.settings.quantum) h.job_is))

@@ -11,3 +11,6 @@ mod top;
 pub use done::{Done, Told};
 pub use ro_report::Answer;
 pub use top::romain;
+
+#[cfg(test)]
+mod tests;

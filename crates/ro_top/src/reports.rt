@@ -23,11 +23,7 @@ pub(crate) fn tell<E: Sink>(report: &mut E, journal: &[Entry], answer: &Answer) 
     }
 }
 
-fn give_report<E: Sink>(
-    report: &mut E,
-    journal: &[Entry],
-    answer: &Answer,
-) -> Result<(), Failed>
+fn give_report<E: Sink>(report: &mut E, journal: &[Entry], answer: &Answer) -> Result<(), Failed>
     requires struck { struck_in journal.now < 2 ^ 64 }
     requires steps { steps_in journal.now < 2 ^ 64 }
     ensures ok { OnOk result (E.held report.new ≡ more (E.held report.old) (report_text journal.now 0 answer.now)) }

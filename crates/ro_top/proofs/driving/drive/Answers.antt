@@ -13,6 +13,6 @@ pub unreachable-requires : goal.unreachable-requires
 unreachable-requires g c = elim c.in-Free.is [
   | inl free ↦ c.next_action.ensures.unblocked free.0 free.1
   | inr waits ↦
-    let home : (length (state c.loop.core).leases == 0) ≡ true = ap (λ (ls : List Lease). length ls == 0) c.loop.invariant.3 in
-    true≢false (sym home ∙ wait_next c.loop.core.job (state c.loop.core) (sym c.next_action.ensures.next ∙ waits))
+      let home : (length (state c.loop.core).leases == 0) ≡ true = ap (λ (ls : List Lease). length ls == 0) c.loop.invariant.3 in
+      true≢false (sym home ∙ wait_next c.loop.core.job (state c.loop.core) (sym c.next_action.ensures.next ∙ waits))
 ]

@@ -18,7 +18,7 @@ compare-view-requires g c =
     let view : View = line_view c.self.invariant.words in (
       view,
       subst (λ xs. AreAlike xs c.args.thread view) (sym c.as_slice.ensures.value)
-      (vote_alike job s.journal.items s.journal.items s.seats.items s.leases.items s.due s.ended (vec_capacity s.journal - vec_len s.journal) 1 c.self.invariant c.args.thread may),
+          (vote_alike job s.journal.items s.journal.items s.seats.items s.leases.items s.due s.ended (vec_capacity s.journal - vec_len s.journal) 1 c.self.invariant c.args.thread may),
     )
 
 pub event_of-did-requires : goal.event_of-did-requires
@@ -60,5 +60,5 @@ returns-clause-ok g c =
       subst (λ (v : CoreOf). MayVote v.job (state v) c.args.thread c.since.result c.compare-view.result.1.won c.compare-view.result.1.lost c.event_of-did.result.0) c.self.view_is allowed,
       refl,
       appends job s.journal.items c.push_reserved.new.self.items _ _ _ _ c.args.self.now (Vote c.args.thread c.since.result c.compare-view.result.1.won c.compare-view.result.1.lost c.event_of-did.result.0) c.self.view_is
-      (c.push_reserved.ensures.items ∙ ap (λ js. js ++ Vote c.args.thread c.since.result c.compare-view.result.1.won c.compare-view.result.1.lost c.event_of-did.result.0 ∷ []) c.in_ok-reserve.ensures.items),
+          (c.push_reserved.ensures.items ∙ ap (λ js. js ++ Vote c.args.thread c.since.result c.compare-view.result.1.won c.compare-view.result.1.lost c.event_of-did.result.0 ∷ []) c.in_ok-reserve.ensures.items),
     )

@@ -1,5 +1,5 @@
 -- Numbers in a page, and the memory after one is stored.
-use Rattle.std.specs.Prelude.{◌≡◌, ◌⊎◌, ℕ, zero, suc, ◌+◌, ◌-◌, ◌*◌, ◌/◌, ◌%◌, ◌^◌, ◌<◌, ◌≤◌, ◌&&◌, Bool, true, false, cond, List, [], ◌∷◌, length, Option, Some, None, slice_index, is_some, nat_lt, nat_le}
+use Rattle.std.specs.Prelude.{◌≡◌, ℕ, zero, suc, ◌+◌, ◌-◌, ◌*◌, ◌/◌, ◌%◌, ◌^◌, ◌<◌, ◌≤◌, ◌&&◌, Bool, true, false, cond, List, ◌∷◌, Some, slice_index, is_some, nat_lt, nat_le}
 use Rattle.std.proofs.Common.{refl, sym, ap, ap₂, ◌∙◌, subst, inl, inr, arith, add-zero}
 use Rattle.std.proofs.lemmas.Bool.{cases_eq, cases_lt, and_parts, leb-true, ltb-true}
 use Rattle.std.proofs.lemmas.Bool.Decides.{nat_tests}
@@ -20,7 +20,7 @@ later P a k h = let e : a + suc k ≡ a + 1 + k = omega arith in rw (← e) h
 same_bytes : (f g : Memory) (a b n : ℕ) → ((k : ℕ) → k < n → f (a + k) ≡ g (b + k)) → bytes_at f a n ≡ bytes_at g b n
 same_bytes f g a b zero h = refl
 same_bytes f g a b (suc n) h =
-    ap₂ (λ (x : ℕ) (xs : List ℕ). x ∷ xs) (rw (add-zero, add-zero) at (h 0 (omega arith)))
+    ap₂ (λ (x : ℕ) (xs : List ℕ). x ∷ xs) (rw (← add-zero a, ← add-zero b) (h 0 (omega arith)))
     (same_bytes f g (a + 1) (b + 1) n (λ k l. let e : a + suc k ≡ a + 1 + k = omega arith in let d : b + suc k ≡ b + 1 + k = omega arith in rw (← e, ← d) (h (suc k) (omega arith))))
 
 -- a byte in a page

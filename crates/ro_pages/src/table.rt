@@ -1,5 +1,5 @@
 //! Pages in a table, found by their numbers.
-ghost use Rattle.std.specs.Prelude.{ℕ, ◌≡◌, ◌+◌, ◌/◌, ◌^◌, ◌<◌, ◌≤◌, OnOk, OnErr, IfOk, MatchOption, Some, None, vec_len, false};
+ghost use Rattle.std.specs.Prelude.{ℕ, ◌≡◌, ◌+◌, ◌/◌, ◌^◌, ◌<◌, ◌≤◌, OnOk, OnErr, IfOk, MatchOption, Some, None, vec_len, false, ◌==◌, ◌||◌};
 ghost use Rattle.std.specs.FinMap as map;
 ghost use Rattle.std.specs.List.{All};
 ghost use Rattle.std.specs.Option.{option_map, is_some};
@@ -78,13 +78,14 @@ impl Pages {
     }
 
     /// Backs a page, with zeros, by a spare one. It takes no memory, and no byte changes.
-    #[tactic(auto, using(crate::proofs::Places::pages_from_set, crate::proofs::Backed::same_memory))]
+    #[tactic(auto, using(crate::proofs::Places::pages_from_set, crate::proofs::Backed::same_memory, crate::proofs::Backed::one_more))]
     pub fn back(&mut self, page: u32)
         requires page { page < 2 ^ 20 }
         requires unbacked { has_page self.old.pages page ≡ false }
         requires spare { 0 < self.old.spare }
         ensures pages { self.new.pages ≡ map.insert self.old.pages page zeros }
         ensures bytes { memory_of self.new.pages ≡ memory_of self.old.pages }
+        ensures backed { (other : ℕ) → has_page self.new.pages other ≡ ((other == page) || has_page self.old.pages other) }
         ensures spare { self.new.spare + 1 ≡ self.old.spare }
     {
         if let Some(fresh) = self.spare.pop() {
@@ -178,7 +179,22 @@ fn copy_place(mine: &mut Option<Page>, theirs: &Option<Page>)
 #[cfg(test)]
 mod tests {
     use super::*;
+    use std::process::Abort;
     use std::test::Fail;
+
+    fn put(rt: &impl Abort, memory: &mut impl Memory, address: u32, size: u32, value: u32) {
+        assert!(rt; size == 1 || size == 2 || size == 4);
+        assert!(rt; address % size == 0);
+        assert!(rt; memory.backed(address / 4096));
+        memory.store(address, size, value);
+    }
+
+    fn get(rt: &impl Abort, memory: &impl Memory, address: u32, size: u32) -> u32 {
+        assert!(rt; size == 1 || size == 2 || size == 4);
+        assert!(rt; address % size == 0);
+        assert!(rt; memory.backed(address / 4096));
+        memory.load(address, size)
+    }
 
     // each size at each alignment, over a word of 0xDDCCBBAA
     #[test]
@@ -186,10 +202,9 @@ mod tests {
         let mut pages = Pages::new(rt.alloc())?;
         pages.reserve(2)?;
         assert!(rt; !pages.backed(0xF_FFFF));
-        assert!(rt; !pages.backed(0));
         pages.back(0xF_FFFF);
+        assert!(rt; !pages.backed(0));
         pages.back(0);
-        assert!(rt; pages.backed(0xF_FFFF));
         for (offset, size, value, want) in [
             (0, 1, 0x1234_5678, 0xDDCC_BB78),
             (1, 1, 0x1234_5678, 0xDDCC_78AA),
@@ -199,17 +214,11 @@ mod tests {
             (2, 2, 0x1234_5678, 0x5678_BBAA),
             (0, 4, 0x1234_5678, 0x1234_5678u32),
         ] {
-            let word = 0xFFFF_FFFC;
-            pages.store(word, 4, 0xDDCC_BBAA);
-            match size {
-                1 => pages.store(word + offset, 1, value),
-                2 => if offset % 2 == 0 {
-                    pages.store(word + offset, 2, value)
-                },
-                _ => pages.store(word, 4, value),
-            }
-            assert_eq!(rt; pages.load(word, 4), want, "{size} at {offset}");
-            assert_eq!(rt; pages.load(0xFFFF_FFF8, 4), 0);
+            let word = 0xFFFF_FFFCu32;
+            put(&rt, &mut pages, word, 4, 0xDDCC_BBAA);
+            put(&rt, &mut pages, word.wrapping_add(offset), size, value);
+            assert_eq!(rt; get(&rt, &pages, word, 4), want, "{size} at {offset}");
+            assert_eq!(rt; get(&rt, &pages, 0xFFFF_FFF8, 4), 0);
         }
         Ok(())
     }
@@ -220,7 +229,9 @@ mod tests {
         let mut to = Pages::new(rt.alloc())?;
         from.reserve(1)?;
         to.reserve(3)?;
+        assert!(rt; !from.backed(16));
         from.back(16);
+        assert!(rt; !to.backed(16));
         to.back(16);
         from.store(0x1_0000, 4, 0x89AB_CDEF);
         to.store(0x1_0004, 4, 1);
@@ -232,11 +243,9 @@ mod tests {
             (0x1_0003, 0x89),
             (0x1_0004, 0),
         ] {
-            assert!(rt; to.backed(address / 4096));
-            assert_eq!(rt; to.load(address, 1), want, "at {address:x}");
+            assert_eq!(rt; get(&rt, &to, address, 1), want, "at {address:x}");
         }
-        assert!(rt; from.backed(16));
-        assert_eq!(rt; from.load(0x1_0002, 2), 0x89AB);
+        assert_eq!(rt; get(&rt, &from, 0x1_0002, 2), 0x89AB);
         Ok(())
     }
 }

@@ -1,11 +1,6 @@
-use Rattle.std.proofs.Common.{rules, arith, refl, ap, sym, ◌∙◌, subst, ℕ, Bool, ◌≡◌, ◌+◌, ◌-◌, ◌*◌, ◌/◌, ◌%◌, ◌^◌, ◌<◌, ◌≤◌, vec_len, slice_index, true, false, length, List, Some, None, is_some}
-use Rattle.std.proofs.lemmas.Grind.{common_steps}
-use Rattle.std.specs.FinMap as map
-use Rattle.ro_pages.specs.Held.{zeros}
+use Rattle.std.proofs.Common.{rules, arith, refl, ap, sym, ◌∙◌, is_some}
 use Rattle.ro_pages.specs.Held.{has_page}
-use Rattle.ro_pages.proofs.Places.{get_pages_from_read}
-use Rattle.std.specs.Option.{option_map}
-use Rattle.ro_pages.proofs.Places.{place, place_read, is_some_map, backed_more, copied_more, same_places, backed_places}
+use Rattle.ro_pages.proofs.Places.{place_read, is_some_map, backed_more, copied_more, same_places, backed_places}
 use Rattle.ro_pages.specs.Words.{bytes_in}
 use Rattle.ro_pages.proofs.table.Pages.copy_from.Goals as goal
 

@@ -1,4 +1,4 @@
-use Rattle.std.proofs.Common.{ℕ, ◌≡◌, vec_len}
+use Rattle.std.proofs.Common.{◌≡◌, vec_len}
 use Rattle.std.specs.FinMap as map
 use Rattle.ro_pages.specs.Held.{pages_from}
 use Rattle.ro_pages.specs.Words.{bytes_in}

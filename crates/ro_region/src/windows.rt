@@ -1,5 +1,5 @@
 //! For each page a window: bytes of it, one after another, that are all permitted.
-ghost use Rattle.std.specs.Prelude.{ℕ, ◌≡◌, ◌+◌, ◌*◌, ◌^◌, ◌<◌, ◌≤◌, ◌⊎◌, true, length, vec_len, slice_index, IfOk};
+ghost use Rattle.std.specs.Prelude.{ℕ, ◌≡◌, IsTrue, ◌↔◌, ◌+◌, ◌*◌, ◌^◌, ◌<◌, ◌≤◌, ◌⊎◌, length, vec_len, slice_index, IfOk};
 ghost use Rattle.ro_region.specs.Permission.{allows};
 ghost use Rattle.ro_region.specs.Windows.{IsOpen, AreOpen};
 
@@ -17,7 +17,7 @@ impl Window {
     /// Whether so many bytes from an offset on lie in the window.
     #[inline(always)]
     pub fn holds(self, offset: u32, len: u32) -> bool
-        ensures { result ≡ true → (self.from ≤ offset) × (offset + len ≤ self.to) }
+        ensures { IsTrue result ↔ ((self.from ≤ offset) × (offset + len ≤ self.to)) }
     {
         u32::from(self.from) <= offset && u64::from(offset) + u64::from(len) <= u64::from(self.to)
     }

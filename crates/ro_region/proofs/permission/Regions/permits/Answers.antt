@@ -1,4 +1,4 @@
-use Rattle.std.proofs.Common.{arith, ap, sym, ◌∙◌, ℕ, ◌≡◌, ◌+◌, ◌*◌, ◌/◌, ◌%◌, ◌<◌, true}
+use Rattle.std.proofs.Common.{arith, rules, ap, sym, ◌∙◌, ℕ, ◌≡◌, ◌+◌, ◌*◌, ◌/◌, ◌%◌, ◌<◌, true}
 use Rattle.ro_region.specs.Permission.{permits_byte}
 use Rattle.ro_region.proofs.Each.{permits_all}
 use Rattle.ro_region.proofs.permission.Regions.permits.Goals as goal
@@ -6,7 +6,7 @@ use Rattle.ro_region.proofs.permission.Regions.permits.Goals as goal
 pub returns-then-holds : goal.returns-then-holds
 returns-then-holds c =
     let a = c.args.address in
-    let held = c.holds.ensures c.if-holds.true in
+    let held = c.holds.ensures.0 (search rules) in
     let low = held.0 in
     let high = held.1 in
     let within = c.window.ensures.within in

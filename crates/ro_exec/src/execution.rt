@@ -1,9 +1,9 @@
 //! What each instruction does.
-ghost use Rattle.std.specs.Prelude.{◌≡◌, ◌+◌, ◌*◌, ◌^◌, ◌<◌};
+ghost use Rattle.std.specs.Prelude.{◌≡◌, ◌+◌, ◌/◌, ◌%◌, ◌<◌, true};
 ghost use Rattle.ro_decode.specs.Table.{InRange};
 ghost use Rattle.ro_alu.specs.Results.{low_word};
-ghost use Rattle.ro_pages.specs.Bytes.{IsSize};
-ghost use Rattle.ro_exec.specs.Meaning.{with_value, jumps, goes_to, load_size as load_size_of, store_size as store_size_of, loaded_as as loaded_as_of};
+ghost use Rattle.ro_pages.specs.Bytes.{IsSize, number_at, bytes_of, stored};
+ghost use Rattle.ro_exec.specs.Meaning.{with_value, jumps, goes_to, load_size as load_size_of, store_size as store_size_of, loaded_as};
 ghost use Rattle.ro_exec.specs.Next.{Executes, instruction_stop, unless_stop};
 ghost use Rattle.ro_exec.specs.Steps.{IsStep, IsJump};
 
@@ -45,16 +45,40 @@ fn store_size(op: StoreOp) -> u32
     }
 }
 
-/// What a load makes of the number that it finds: LB and LH spread its sign.
+/// What a load puts into its register; LB and LH spread the sign of what they find.
 #[inline(always)]
-fn loaded_as(op: LoadOp, found: u32) -> u32
-    requires { found < 2 ^ (8 * load_size_of op) }
-    ensures { result ≡ loaded_as_of op found }
+fn load<M: Memory>(memory: &M, op: LoadOp, address: u32) -> u32
+    requires aligned { address % load_size_of op ≡ 0 }
+    requires backed { M.backing memory.now (address / 4096) ≡ true }
+    ensures { result ≡ loaded_as op (number_at (M.memory memory.now) address (load_size_of op)) }
 {
     match op {
-        LoadOp::Lb => found + (found >> 7) * 0xFFFF_FF00,
-        LoadOp::Lh => found + (found >> 15) * 0xFFFF_0000,
-        LoadOp::Lw | LoadOp::Lbu | LoadOp::Lhu => found,
+        LoadOp::Lb => {
+            let found = memory.load(address, 1);
+            found + (found >> 7) * 0xFFFF_FF00
+        }
+        LoadOp::Lh => {
+            let found = memory.load(address, 2);
+            found + (found >> 15) * 0xFFFF_0000
+        }
+        LoadOp::Lw => memory.load(address, 4),
+        LoadOp::Lbu => memory.load(address, 1),
+        LoadOp::Lhu => memory.load(address, 2),
+    }
+}
+
+/// Stores as many bytes of a value as the store writes.
+#[inline(always)]
+fn store<M: Memory>(memory: &mut M, op: StoreOp, address: u32, value: u32)
+    requires aligned { address % store_size_of op ≡ 0 }
+    requires backed { M.backing memory.old (address / 4096) ≡ true }
+    ensures bytes { M.memory memory.new ≡ stored (M.memory memory.old) address (bytes_of (store_size_of op) value) }
+    ensures pages { M.backing memory.new ≡ M.backing memory.old }
+{
+    match op {
+        StoreOp::Sb => memory.store(address, 1, value),
+        StoreOp::Sh => memory.store(address, 2, value),
+        StoreOp::Sw => memory.store(address, 4, value),
     }
 }
 
@@ -136,7 +160,7 @@ pub fn execute<M: Memory>(instr: Instr, cpu: &mut Cpu, memory: &mut M, regions: 
             let address = cpu.get(rs1).wrapping_add(imm);
             let size = load_size(op);
             match check_access(memory, regions, Kind::Read, address, size, 5, 6) {
-                Ok(()) => give(cpu, rd, loaded_as(op, memory.load(address, size))),
+                Ok(()) => give(cpu, rd, load(memory, op, address)),
                 Err(stop) => Step::Stopped(stop),
             }
         }
@@ -145,7 +169,7 @@ pub fn execute<M: Memory>(instr: Instr, cpu: &mut Cpu, memory: &mut M, regions: 
             let size = store_size(op);
             match check_access(memory, regions, Kind::Write, address, size, 7, 8) {
                 Ok(()) => {
-                    memory.store(address, size, cpu.get(rs2));
+                    store(memory, op, address, cpu.get(rs2));
                     go_on(cpu)
                 }
                 Err(stop) => Step::Stopped(stop),

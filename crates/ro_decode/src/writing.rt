@@ -1,8 +1,11 @@
 //! Writing the word of an instruction.
-ghost use Rattle.std.specs.Prelude.{◌≡◌, ◌+◌, ◌*◌, ◌%◌, ◌^◌, ◌<◌};
-ghost use Rattle.ro_decode.specs.Table.{InRange, word_of, r_word as r_word_of, i_word as i_word_of, s_word as s_word_of, b_word as b_word_of, u_word as u_word_of, j_word as j_word_of, alu_imm_word, IsAluImmediate, alu_funct3, alu_funct7, muldiv_funct3, load_funct3, store_funct3, branch_funct3};
+ghost use Rattle.std.specs.Prelude.{◌≡◌, ◌%◌, ◌<◌};
+ghost use Rattle.ro_decode.specs.Table.{InRange, word_of, r_word as r_word_of, i_word as i_word_of, s_word as s_word_of, b_word as b_word_of, u_word as u_word_of, j_word as j_word_of, alu_imm_word, IsAluImmediate};
 
-use crate::{AluOp, BranchOp, Instr, LoadOp, MulDivOp, StoreOp};
+use crate::operations::{
+    alu_code, branch_code, load_code, muldiv_code, store_code, upper_alu_code,
+};
+use crate::{AluOp, Instr};
 
 /// The word that spells an instruction whose fields are in range.
 ///
@@ -135,86 +138,4 @@ fn j_word(imm: u32, rd: u8, opcode: u32) -> u32
         | (imm >> 11) % 2 << 20
         | (imm >> 1) % 1024 << 21
         | (imm >> 20) % 2 << 31
-}
-
-fn branch_code(op: BranchOp) -> u32
-    ensures value { result ≡ branch_funct3 op }
-    ensures below { result < 8 }
-{
-    match op {
-        BranchOp::Beq => 0b000,
-        BranchOp::Bne => 0b001,
-        BranchOp::Blt => 0b100,
-        BranchOp::Bge => 0b101,
-        BranchOp::Bltu => 0b110,
-        BranchOp::Bgeu => 0b111,
-    }
-}
-
-fn load_code(op: LoadOp) -> u32
-    ensures value { result ≡ load_funct3 op }
-    ensures below { result < 8 }
-{
-    match op {
-        LoadOp::Lb => 0b000,
-        LoadOp::Lh => 0b001,
-        LoadOp::Lw => 0b010,
-        LoadOp::Lbu => 0b100,
-        LoadOp::Lhu => 0b101,
-    }
-}
-
-fn store_code(op: StoreOp) -> u32
-    ensures value { result ≡ store_funct3 op }
-    ensures below { result < 8 }
-{
-    match op {
-        StoreOp::Sb => 0b000,
-        StoreOp::Sh => 0b001,
-        StoreOp::Sw => 0b010,
-    }
-}
-
-fn alu_code(op: AluOp) -> u32
-    ensures value { result ≡ alu_funct3 op }
-    ensures below { result < 8 }
-{
-    match op {
-        AluOp::Add => 0b000,
-        AluOp::Sub => 0b000,
-        AluOp::Sll => 0b001,
-        AluOp::Slt => 0b010,
-        AluOp::Sltu => 0b011,
-        AluOp::Xor => 0b100,
-        AluOp::Srl => 0b101,
-        AluOp::Sra => 0b101,
-        AluOp::Or => 0b110,
-        AluOp::And => 0b111,
-    }
-}
-
-fn upper_alu_code(op: AluOp) -> u32
-    ensures value { result ≡ alu_funct7 op }
-    ensures below { result < 128 }
-{
-    match op {
-        AluOp::Sub | AluOp::Sra => 0b0100000,
-        _ => 0b0000000,
-    }
-}
-
-fn muldiv_code(op: MulDivOp) -> u32
-    ensures value { result ≡ muldiv_funct3 op }
-    ensures below { result < 8 }
-{
-    match op {
-        MulDivOp::Mul => 0b000,
-        MulDivOp::Mulh => 0b001,
-        MulDivOp::Mulhsu => 0b010,
-        MulDivOp::Mulhu => 0b011,
-        MulDivOp::Div => 0b100,
-        MulDivOp::Divu => 0b101,
-        MulDivOp::Rem => 0b110,
-        MulDivOp::Remu => 0b111,
-    }
 }

@@ -1,7 +1,140 @@
 //! The addresses at which a thread calls a function of POSIX threads.
+ghost use Rattle.std.specs.Prelude.{ℕ, ◌≡◌, ◌+◌, ◌/◌, ◌%◌, ◌^◌, ◌<◌, ◌∷◌, drop, true};
+ghost use Rattle.ro_event.specs.Addresses.{is_at};
+ghost use Rattle.ro_event.specs.Table.{functions, call_at};
 
-/// The addresses of the nine functions, in the order of `Which` from `Create` on.
-#[derive(Clone, Copy, PartialEq, Eq, Debug)]
+use crate::calls::Which;
+use std::marker::Model;
+
+/// The addresses of the nine functions, in the order of `Which` from `Create` on; `None` where the program has none.
+#[derive(Drop)]
 pub struct CallTable {
-    pub addresses: [Option<u32>; 9],
+    addresses: [Option<u32>; 9],
+    /// The bits of the addresses, so that most places are seen to be none of them at once.
+    filter: u64,
+}
+
+impl Model for CallTable {
+    ghost use Rattle.ro_event.specs.Addresses.{Addresses, IsFilter};
+
+    ghost Value = { Addresses };
+
+    ghost view = { λ s. record { addresses = s.addresses } };
+
+    ghost invariant = { λ s. IsFilter s.addresses s.filter };
+}
+
+impl CallTable {
+    /// The table of these addresses.
+    pub fn new(addresses: [Option<u32>; 9]) -> CallTable
+        ensures { result.addresses ≡ addresses }
+    {
+        let mut filter = 0u64;
+        for i in 0..9usize {
+            filter = with_address(filter, addresses[i]);
+        }
+        CallTable { addresses, filter }
+    }
+
+    /// The function whose address this is, the first where several have it.
+    #[inline(always)]
+    pub fn find(&self, pc: u32) -> Option<Which>
+        ensures { result ≡ call_at self.now pc }
+    {
+        if (self.filter >> (pc / 4 % 64)) % 2 == 0 {
+            return None;
+        }
+        self.search(pc)
+    }
+
+    fn search(&self, pc: u32) -> Option<Which>
+        ensures { result ≡ call_at self.now pc }
+    {
+        for i in 0..9usize {
+            let which = function(i);
+            if stands_at(self.addresses[i], pc) {
+                return Some(which);
+            }
+        }
+        None
+    }
+}
+
+fn stands_at(address: Option<u32>, pc: u32) -> bool
+    ensures { result ≡ is_at pc address }
+{
+    match address {
+        Some(address) => address == pc,
+        None => false,
+    }
+}
+
+/// The function of a place in the table.
+fn function(place: usize) -> Which
+    requires { place < 9 }
+    ensures { drop place functions ≡ result ∷ drop (place + 1) functions }
+{
+    match place {
+        0 => Which::Create,
+        1 => Which::Join,
+        2 => Which::Exit,
+        3 => Which::ThreadSelf,
+        4 => Which::MutexInit,
+        5 => Which::MutexDestroy,
+        6 => Which::Lock,
+        7 => Which::TryLock,
+        _ => Which::Unlock,
+    }
+}
+
+/// The filter with the bit of one more address.
+fn with_address(filter: u64, address: Option<u32>) -> u64
+    ensures set { (pc : ℕ) → is_at pc address ≡ true → result / 2 ^ (pc / 4 % 64) % 2 ≡ 1 }
+    ensures kept { (k : ℕ) → filter / 2 ^ k % 2 ≡ 1 → result / 2 ^ k % 2 ≡ 1 }
+{
+    match address {
+        Some(address) => with_bit(filter, address / 4 % 64),
+        None => filter,
+    }
+}
+
+fn with_bit(filter: u64, bit: u32) -> u64
+    requires { bit < 64 }
+    ensures set { result / 2 ^ bit % 2 ≡ 1 }
+    ensures kept { (k : ℕ) → filter / 2 ^ k % 2 ≡ 1 → result / 2 ^ k % 2 ≡ 1 }
+{
+    filter | 1u64 << bit
+}
+
+#[cfg(test)]
+mod tests {
+    use super::*;
+
+    #[test]
+    fn finds_the_first(rt: HostRuntime) {
+        let table = CallTable::new([
+            Some(0x1_0000),
+            Some(0x1_0100),
+            None,
+            Some(0x1_0100),
+            Some(0x1_0204),
+            None,
+            Some(0x1_0208),
+            Some(0x1_020C),
+            Some(0x1_0001),
+        ]);
+        for (pc, want) in [
+            (0x1_0000, Some(Which::Create)),
+            (0x1_0100, Some(Which::Join)),
+            (0x1_0204, Some(Which::MutexInit)),
+            (0x1_0208, Some(Which::Lock)),
+            (0x1_020C, Some(Which::TryLock)),
+            (0x1_0001, Some(Which::Unlock)),
+            (0x1_0004, None),
+            (0x0, None),
+            (0xFFFF_FFFC, None),
+        ] {
+            assert_eq!(rt; table.find(pc), want, "at {pc:x}");
+        }
+    }
 }

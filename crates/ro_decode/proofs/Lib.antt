@@ -1,0 +1,2 @@
+pub mod InstructionsBack
+pub mod WordsBack

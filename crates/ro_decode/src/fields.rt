@@ -1,0 +1,99 @@
+//! The fields of a word, and the immediates that it spells, as the 32 bits that the machine adds.
+//!
+//! RISC-V Unprivileged ISA 20191213, sections 2.2, "Base Instruction Formats", and 2.3, "Immediate Encoding Variants".
+ghost use Rattle.std.specs.Prelude.{◌≡◌};
+ghost use Rattle.ro_decode.specs.Fields.{opcode_in, rd_in, funct3_in, rs1_in, rs2_in, funct7_in, i_immediate, s_immediate, b_immediate, u_immediate, j_immediate};
+
+/// Bits 6 to 0.
+#[inline(always)]
+pub fn opcode(word: u32) -> u32
+    ensures { result ≡ opcode_in word }
+{
+    word & 0x7F
+}
+
+/// Bits 11 to 7.
+#[inline(always)]
+pub fn rd(word: u32) -> u8
+    ensures { result ≡ rd_in word }
+{
+    (word >> 7 & 31) as u8
+}
+
+/// Bits 14 to 12.
+#[inline(always)]
+pub fn funct3(word: u32) -> u32
+    ensures { result ≡ funct3_in word }
+{
+    word >> 12 & 7
+}
+
+/// Bits 19 to 15.
+#[inline(always)]
+pub fn rs1(word: u32) -> u8
+    ensures { result ≡ rs1_in word }
+{
+    (word >> 15 & 31) as u8
+}
+
+/// Bits 24 to 20.
+#[inline(always)]
+pub fn rs2(word: u32) -> u8
+    ensures { result ≡ rs2_in word }
+{
+    (word >> 20 & 31) as u8
+}
+
+/// Bits 31 to 25.
+#[inline(always)]
+pub fn funct7(word: u32) -> u32
+    ensures { result ≡ funct7_in word }
+{
+    word >> 25
+}
+
+/// The immediate of loads, JALR and operations on a register and an immediate.
+#[inline(always)]
+pub fn i_form(word: u32) -> u32
+    ensures { result ≡ i_immediate word }
+{
+    (word >> 20) + (word >> 31) * 0xFFFF_F000
+}
+
+/// The immediate of stores.
+#[inline(always)]
+pub fn s_form(word: u32) -> u32
+    ensures { result ≡ s_immediate word }
+{
+    (word >> 7 & 31) + (word >> 25) * 32 + (word >> 31) * 0xFFFF_F000
+}
+
+/// The immediate of branches.
+#[inline(always)]
+pub fn b_form(word: u32) -> u32
+    ensures { result ≡ b_immediate word }
+{
+    (word >> 25 & 63) * 32
+        + (word >> 8 & 15) * 2
+        + (word >> 7 & 1) * 2048
+        + (word >> 31) * 0xFFFF_F000
+}
+
+/// The immediate of LUI and AUIPC, with its twelve zeros.
+#[inline(always)]
+pub fn u_form(word: u32) -> u32
+    ensures { result ≡ u_immediate word }
+{
+    word & 0xFFFF_F000
+}
+
+/// The immediate of JAL.
+#[inline(always)]
+pub fn j_form(word: u32) -> u32
+    ensures { result ≡ j_immediate word }
+{
+    (word >> 20 & 1) * 2048
+        + (word >> 21 & 0x3FF) * 2
+        + (word >> 12 & 0xFF) * 4096
+        + (word >> 31) * 0xFFF0_0000
+}

@@ -1,0 +1,187 @@
+//! What each instruction does.
+ghost use Rattle.std.specs.Prelude.{◌≡◌, ◌+◌, ◌/◌, ◌%◌, ◌<◌, true};
+ghost use Rattle.ro_decode.specs.Table.{InRange};
+ghost use Rattle.ro_alu.specs.Results.{low_word};
+ghost use Rattle.ro_pages.specs.Bytes.{IsSize, number_at, bytes_of, stored};
+ghost use Rattle.ro_exec.specs.Meaning.{with_value, jumps, goes_to, load_size as load_size_of, store_size as store_size_of, loaded_as};
+ghost use Rattle.ro_exec.specs.Next.{Executes, instruction_stop, unless_stop};
+ghost use Rattle.ro_exec.specs.Steps.{IsStep, IsJump};
+
+use crate::Cpu;
+use crate::access::check_access;
+use crate::fetching::call;
+use crate::outcome::Step;
+use ro_alu::{alu, muldiv, taken};
+use ro_decode::{Instr, LoadOp, StoreOp};
+use ro_event::{Stop, Which};
+use ro_pages::Memory;
+use ro_region::{Kind, Regions};
+
+/// How many bytes a load reads.
+#[inline(always)]
+fn load_size(op: LoadOp) -> u32
+    ensures value { result ≡ load_size_of op }
+    ensures size { IsSize result }
+    ensures positive { 0 < result }
+{
+    match op {
+        LoadOp::Lb | LoadOp::Lbu => 1,
+        LoadOp::Lh | LoadOp::Lhu => 2,
+        LoadOp::Lw => 4,
+    }
+}
+
+/// How many bytes a store writes.
+#[inline(always)]
+fn store_size(op: StoreOp) -> u32
+    ensures value { result ≡ store_size_of op }
+    ensures size { IsSize result }
+    ensures positive { 0 < result }
+{
+    match op {
+        StoreOp::Sb => 1,
+        StoreOp::Sh => 2,
+        StoreOp::Sw => 4,
+    }
+}
+
+/// What a load puts into its register; LB and LH spread the sign of what they find.
+#[inline(always)]
+fn load<M: Memory>(memory: &M, op: LoadOp, address: u32) -> u32
+    requires aligned { address % load_size_of op ≡ 0 }
+    requires backed { M.backing memory.now (address / 4096) ≡ true }
+    ensures { result ≡ loaded_as op (number_at (M.memory memory.now) address (load_size_of op)) }
+{
+    match op {
+        LoadOp::Lb => {
+            let found = memory.load(address, 1);
+            found + (found >> 7) * 0xFFFF_FF00
+        }
+        LoadOp::Lh => {
+            let found = memory.load(address, 2);
+            found + (found >> 15) * 0xFFFF_0000
+        }
+        LoadOp::Lw => memory.load(address, 4),
+        LoadOp::Lbu => memory.load(address, 1),
+        LoadOp::Lhu => memory.load(address, 2),
+    }
+}
+
+/// Stores as many bytes of a value as the store writes.
+#[inline(always)]
+fn store<M: Memory>(memory: &mut M, op: StoreOp, address: u32, value: u32)
+    requires aligned { address % store_size_of op ≡ 0 }
+    requires backed { M.backing memory.old (address / 4096) ≡ true }
+    ensures bytes { M.memory memory.new ≡ stored (M.memory memory.old) address (bytes_of (store_size_of op) value) }
+    ensures pages { M.backing memory.new ≡ M.backing memory.old }
+{
+    match op {
+        StoreOp::Sb => memory.store(address, 1, value),
+        StoreOp::Sh => memory.store(address, 2, value),
+        StoreOp::Sw => memory.store(address, 4, value),
+    }
+}
+
+/// Goes on at the next instruction.
+#[inline(always)]
+fn go_on(cpu: &mut Cpu) -> Step
+    ensures did { result ≡ Step.Did }
+    ensures cpu { cpu.new ≡ (goes_to cpu.old (low_word (cpu.old.pc + 4))).cpu }
+{
+    cpu.pc = cpu.pc.wrapping_add(4);
+    Step::Did
+}
+
+/// Goes on at the next instruction with a value in rd.
+#[inline(always)]
+fn give(cpu: &mut Cpu, rd: u8, value: u32) -> Step
+    requires { rd < 32 }
+    ensures did { result ≡ Step.Did }
+    ensures cpu { cpu.new ≡ (with_value cpu.old rd value).cpu }
+{
+    cpu.set(rd, value);
+    go_on(cpu)
+}
+
+/// Jumps, with the place after the jump in rd.
+#[inline(always)]
+fn jump(cpu: &mut Cpu, rd: u8, target: u32) -> Step
+    requires { rd < 32 }
+    ensures { IsJump target result cpu.old cpu.new (jumps cpu.old rd target).cpu }
+{
+    if target % 4 != 0 {
+        return Step::Stopped(Stop::Trap(4));
+    }
+    cpu.set(rd, cpu.pc.wrapping_add(4));
+    cpu.pc = target;
+    Step::Did
+}
+
+/// Goes on at the place that a branch comes to.
+#[inline(always)]
+fn branch(cpu: &mut Cpu, target: u32) -> Step
+    ensures { IsJump target result cpu.old cpu.new (goes_to cpu.old target).cpu }
+{
+    if target % 4 != 0 {
+        return Step::Stopped(Stop::Trap(4));
+    }
+    cpu.pc = target;
+    Step::Did
+}
+
+/// Executes an instruction, or says at which stop the thread stands at it.
+///
+/// RISC-V Unprivileged ISA 20191213, sections 2.4 to 2.8 and chapter 7. Where the standard lets an implementation
+/// choose: a misaligned load, store or jump stops the thread, and FENCE does nothing.
+#[tactic(auto, unfolding(crate::specs::Next::instruction_stop, crate::specs::Meaning::meaning))]
+#[inline(always)]
+pub fn execute<M: Memory>(instr: Instr, cpu: &mut Cpu, memory: &mut M, regions: &Regions) -> Step
+    requires { InRange instr }
+    ensures step { IsStep (unless_stop (instruction_stop regions.now (M.backing memory.old) cpu.old instr) (Executes instr)) result cpu.old cpu.new (M.memory memory.old) (M.memory memory.new) }
+    ensures pages { M.backing memory.new ≡ M.backing memory.old }
+{
+    let pc = cpu.pc;
+    match instr {
+        Instr::Lui { rd, imm } => give(cpu, rd, imm),
+        Instr::Auipc { rd, imm } => give(cpu, rd, pc.wrapping_add(imm)),
+        Instr::Jal { rd, imm } => jump(cpu, rd, pc.wrapping_add(imm)),
+        Instr::Jalr { rd, rs1, imm } => {
+            let target = cpu.get(rs1).wrapping_add(imm) / 2 * 2;
+            jump(cpu, rd, target)
+        }
+        Instr::Branch { op, rs1, rs2, imm } => {
+            if taken(op, cpu.get(rs1), cpu.get(rs2)) {
+                branch(cpu, pc.wrapping_add(imm))
+            } else {
+                branch(cpu, pc.wrapping_add(4))
+            }
+        }
+        Instr::Load { op, rd, rs1, imm } => {
+            let address = cpu.get(rs1).wrapping_add(imm);
+            let size = load_size(op);
+            match check_access(memory, regions, Kind::Read, address, size, 5, 6) {
+                Ok(()) => give(cpu, rd, load(memory, op, address)),
+                Err(stop) => Step::Stopped(stop),
+            }
+        }
+        Instr::Store { op, rs1, rs2, imm } => {
+            let address = cpu.get(rs1).wrapping_add(imm);
+            let size = store_size(op);
+            match check_access(memory, regions, Kind::Write, address, size, 7, 8) {
+                Ok(()) => {
+                    store(memory, op, address, cpu.get(rs2));
+                    go_on(cpu)
+                }
+                Err(stop) => Step::Stopped(stop),
+            }
+        }
+        Instr::AluImm { op, rd, rs1, imm } => give(cpu, rd, alu(op, cpu.get(rs1), imm)),
+        Instr::Alu { op, rd, rs1, rs2 } => give(cpu, rd, alu(op, cpu.get(rs1), cpu.get(rs2))),
+        Instr::MulDiv { op, rd, rs1, rs2 } => {
+            give(cpu, rd, muldiv(op, cpu.get(rs1), cpu.get(rs2)))
+        }
+        Instr::Fence { .. } => go_on(cpu),
+        Instr::Ecall => Step::Stopped(call(cpu, Which::System(cpu.get(17)))),
+        Instr::Ebreak => Step::Stopped(Stop::Trap(9)),
+    }
+}

@@ -1,0 +1,13 @@
+use Rattle.std.proofs.Common.{◌≡◌, ◌≤◌, vec_len}
+use Rattle.std.specs.List.{All}
+use Rattle.ro_pages.specs.Held.{zeros}
+use Rattle.ro_pages.specs.Words.{bytes_in}
+use Rattle.ro_pages.proofs.table.Pages.reserve.Given as goal
+
+abbrev pub invariant-loop : goal.invariant-loop
+invariant-loop l = record {
+  table : l.self-inside.table ≡ l.initial.self-inside.table;
+  zeroed : All (λ b. bytes_in b.value ≡ zeros) l.self-inside.spare.items;
+  kept : l.before ≤ vec_len l.self-inside.spare;
+  grown : l.counter ≤ vec_len l.self-inside.spare;
+}

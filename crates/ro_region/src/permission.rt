@@ -1,0 +1,160 @@
+//! The ranges and their windows together.
+ghost use Rattle.std.specs.Prelude.{◌≡◌, ◌^◌, ◌<◌, IfOk};
+ghost use Rattle.ro_region.specs.Permission.{permits_byte, permits_each, permits_of};
+ghost use Rattle.ro_region.specs.Windows.{IsOpen};
+
+use crate::windows::{Window, windows_of};
+use crate::{Kind, Range};
+use std::alloc::{AllocError, Global};
+use std::marker::Model;
+
+/// Ranges of addresses, with windows that answer for most accesses without a look at the ranges.
+#[derive(Drop)]
+pub struct Regions {
+    ranges: Vec<Range>,
+    read: Vec<Window>,
+    write: Vec<Window>,
+    execute: Vec<Window>,
+}
+
+impl Model for Regions {
+    ghost use Rattle.std.specs.Prelude.{List};
+    ghost use Rattle.ro_region.specs.declared.Range.{Range};
+    ghost use Rattle.ro_region.specs.declared.Kind.TheVariants.{Read, Write, Execute};
+    ghost use Rattle.ro_region.specs.Windows.{AreAll};
+
+    ghost Value = { List Range };
+
+    ghost view = { λ s. s.ranges.items };
+
+    ghost invariant = { λ s. AreAll s.ranges.items Read s.read.items × AreAll s.ranges.items Write s.write.items × AreAll s.ranges.items Execute s.execute.items };
+}
+
+impl Regions {
+    /// The regions of these ranges. It fails only for want of memory; it takes about 12 MiB.
+    pub fn new(alloc: Global, list: &[Range]) -> Result<Regions, AllocError>
+        ensures { IfOk result (λ regions. regions ≡ list.now) }
+    {
+        let ranges = list.to_vec(alloc)?;
+        let read = windows_of(alloc, list, Kind::Read)?;
+        let write = windows_of(alloc, list, Kind::Write)?;
+        let execute = windows_of(alloc, list, Kind::Execute)?;
+        Ok(Regions {
+            ranges,
+            read,
+            write,
+            execute,
+        })
+    }
+
+    /// Whether each of `len` bytes from `address` on lies in a range that permits this kind of access, and none past
+    /// the last address of 32 bits.
+    #[inline(always)]
+    pub fn permits(&self, address: u32, len: u32, kind: Kind) -> bool
+        ensures { result ≡ permits_of self.now kind address len }
+    {
+        self.window(address / 4096, kind).holds(address % 4096, len)
+            || self.permits_each_byte(address, len, kind)
+    }
+
+    /// The window of a page.
+    #[inline(always)]
+    fn window(&self, page: u32, kind: Kind) -> Window
+        requires { page < 2 ^ 20 }
+        ensures { IsOpen self.now kind page result }
+    {
+        match kind {
+            Kind::Read => self.read[page as usize],
+            Kind::Write => self.write[page as usize],
+            Kind::Execute => self.execute[page as usize],
+        }
+    }
+
+    #[inline(never)]
+    #[cold]
+    #[tactic(auto, using(crate::proofs::Each::permits_all, crate::proofs::Each::permits_not, crate::proofs::Each::permits_past))]
+    fn permits_each_byte(&self, address: u32, len: u32, kind: Kind) -> bool
+        ensures { result ≡ permits_of self.now kind address len }
+    {
+        if len > 0 && address > u32::MAX - (len - 1) {
+            return false;
+        }
+        for k in 0..len {
+            if !self.permits_byte(address + k, kind) {
+                return false;
+            }
+        }
+        true
+    }
+
+    fn permits_byte(&self, address: u32, kind: Kind) -> bool
+        ensures { result ≡ permits_byte self.now kind address }
+    {
+        self.ranges.iter().any(|range| {
+            range.start <= address
+                && u64::from(address) < u64::from(range.start) + u64::from(range.length)
+                && range.allows(kind)
+        })
+    }
+}
+
+#[cfg(test)]
+mod tests {
+    use super::*;
+    use std::test::Fail;
+
+    fn range(start: u32, length: u32, read: bool, write: bool, execute: bool) -> Range {
+        Range {
+            start,
+            length,
+            read,
+            write,
+            execute,
+        }
+    }
+
+    #[test]
+    fn permits_what_the_ranges_do(rt: HostRuntime) -> Result<(), Fail> {
+        let list = [
+            range(0x1_0000, 0x24, true, false, true),
+            range(0x1_0024, 6, true, false, false),
+            range(0x1_1000, 0x1800, true, true, false),
+            range(0x1_2900, 0x10, true, true, false),
+            range(0xFFFF_F000, 0x1000, true, false, false),
+            range(0xFFFF_0000, 0xFFFF, false, true, false),
+        ];
+        let regions = Regions::new(rt.alloc(), &list)?;
+        for (address, len, kind, want) in [
+            (0x1_0000, 4, Kind::Execute, true),
+            (0x1_0020, 4, Kind::Execute, true),
+            (0x1_0021, 4, Kind::Execute, false),
+            (0x1_0024, 4, Kind::Execute, false),
+            // over the border of two ranges
+            (0x1_0022, 4, Kind::Read, true),
+            (0x1_0028, 2, Kind::Read, true),
+            (0x1_0028, 4, Kind::Read, false),
+            (0x0_FFFF, 1, Kind::Read, false),
+            (0x1_0000, 1, Kind::Write, false),
+            // a whole page, a part of the next one, and a second range in that
+            (0x1_1FFC, 4, Kind::Write, true),
+            (0x1_1FFE, 4, Kind::Write, true),
+            (0x1_27FF, 1, Kind::Write, true),
+            (0x1_27FF, 2, Kind::Write, false),
+            (0x1_2900, 4, Kind::Write, true),
+            (0x1_290E, 4, Kind::Write, false),
+            // the end of the addresses
+            (0xFFFF_FFFC, 4, Kind::Read, true),
+            (0xFFFF_FFFE, 4, Kind::Read, false),
+            (0xFFFF_FFFE, 1, Kind::Write, true),
+            (0xFFFF_FFFF, 1, Kind::Write, false),
+            (0x5000_0000, 0, Kind::Read, true),
+        ] {
+            assert_eq!(rt;
+                regions.permits(address, len, kind),
+                want,
+                "{kind:?} {len} at {address:x}"
+            );
+        }
+        Ok(())
+    }
+}

@@ -1,0 +1,106 @@
+//! A thread with the memory of a small guest.
+ghost use Rattle.std.specs.Prelude.{◌<◌, ◌^◌};
+
+use ro_event::CallTable;
+use ro_exec::{Cpu, Step, step};
+use ro_pages::{Memory, Pages};
+use ro_region::{Range, Regions};
+use std::alloc::{AllocError, Global};
+
+const CODE: u32 = 0x1_0000;
+
+const DATA: u32 = 0x1_1000;
+
+const STACK_TOP: u32 = 0x7001_0000;
+
+/// One thread, and all that its instructions need.
+#[derive(Drop)]
+pub struct Machine {
+    cpu: Cpu,
+    pages: Pages,
+    regions: Regions,
+    calls: CallTable,
+}
+
+impl Machine {
+    /// A machine that runs these words for so many turns.
+    pub fn new(alloc: Global, words: &[u32], turns: u32) -> Result<Machine, AllocError> {
+        let mut pages = Pages::new(alloc)?;
+        for page in [CODE / 4096, DATA / 4096, STACK_TOP / 4096 - 1] {
+            pages.reserve(1)?;
+            if page < 0x10_0000 && !pages.backed(page) {
+                pages.back(page);
+            }
+        }
+        let mut place = CODE;
+        for word in words {
+            if place % 4 == 0 && pages.backed(place / 4096) {
+                pages.store(place, 4, *word);
+            }
+            place = place.wrapping_add(4);
+        }
+        let mut cpu = Cpu {
+            registers: [0; 31],
+            pc: CODE,
+        };
+        cpu.set(2, STACK_TOP - 16);
+        cpu.set(5, DATA);
+        cpu.set(6, turns);
+        cpu.set(8, 1);
+        Ok(Machine {
+            cpu,
+            pages,
+            regions: regions(alloc)?,
+            calls: calls(),
+        })
+    }
+
+    /// Runs to the first stop, and counts the instructions before it.
+    #[inline(never)]
+    pub fn run(&mut self) -> u64 {
+        for count in 0..u64::MAX {
+            match step(&mut self.cpu, &mut self.pages, &self.regions, &self.calls) {
+                Step::Did => {}
+                Step::Stopped(_) => return count,
+            }
+        }
+        u64::MAX
+    }
+
+    pub fn register(&self, number: u8) -> u32
+        requires { number < 32 }
+    {
+        self.cpu.get(number)
+    }
+}
+
+/// Small segments that fill no page, a heap of 1 MiB, and the stacks of 16 threads.
+fn regions(alloc: Global) -> Result<Regions, AllocError> {
+    let mut ranges = Vec::new(alloc);
+    ranges.push(range(CODE, 0x420, false, true))?;
+    ranges.push(range(DATA, 0x7A4, true, false))?;
+    ranges.push(range(0x1_2000, 0x10_0000, true, false))?;
+    for thread in 0..16u32 {
+        ranges.push(range(0x7000_0000 + thread * 0x2_0000, 0x1_0000, true, false))?;
+    }
+    Regions::new(alloc, &ranges)
+}
+
+fn range(start: u32, length: u32, write: bool, execute: bool) -> Range {
+    Range {
+        start,
+        length,
+        read: true,
+        write,
+        execute,
+    }
+}
+
+/// Nine short functions of POSIX threads, none of which the loops call.
+fn calls() -> CallTable {
+    let mut addresses = [None; 9];
+    for place in 0..9usize {
+        addresses[place] = Some(CODE + 0x3A8 + place as u32 * 12);
+    }
+    CallTable::new(addresses)
+}

@@ -3,6 +3,7 @@ ghost use Rattle.std.specs.Prelude.{◌≡◌, IfOk};
 ghost use Rattle.ro_pages.specs.Bytes.{bytes_of};
 ghost use Rattle.ro_kernel.specs.Serve.{goes_after, answer_effect, stores_effect};
 
+use crate::outcome::Served;
 use ro_event::{Call, Effect, Goes, Which};
 use std::alloc::{AllocError, Global};
 
@@ -17,17 +18,17 @@ fn goes_after(which: Which) -> Goes
 }
 
 /// The call answers a value and does nothing else.
-pub fn answer(alloc: Global, thread: u32, call: Call, value: u32) -> Effect
-    ensures { result ≡ answer_effect thread call value }
+pub fn answer(alloc: Global, thread: u32, call: Call, value: u32) -> Served
+    ensures { result ≡ Served.Done (answer_effect thread call value) }
 {
     stores(thread, call, value, 0, Vec::new(alloc))
 }
 
 /// The call answers a value and stores bytes at an address.
-pub fn stores(thread: u32, call: Call, value: u32, place: u32, bytes: Vec<u8>) -> Effect
-    ensures { result ≡ stores_effect thread call value place bytes.items }
+pub fn stores(thread: u32, call: Call, value: u32, place: u32, bytes: Vec<u8>) -> Served
+    ensures { result ≡ Served.Done (stores_effect thread call value place bytes.items) }
 {
-    Effect {
+    Served::Done(Effect {
         thread,
         answer: Some(value),
         goes: goes_after(call.which),
@@ -36,7 +37,7 @@ pub fn stores(thread: u32, call: Call, value: u32, place: u32, bytes: Vec<u8>) -
         page: None,
         made: None,
         releases: true,
-    }
+    })
 }
 
 /// The four bytes of a word, the lowest first.

@@ -17,7 +17,7 @@ impl Kernel {
         ensures { let kernel = self.old.kernel in Brings (on_mutex self.old.setup kernel thread call (answers kernel thread call 0)) self.old self.new result }
     {
         let value = if self.fits(call.a0) { 0 } else { EFAULT };
-        Served::Done(answer(self.alloc, thread, call, value))
+        answer(self.alloc, thread, call, value)
     }
 
     /// pthread_mutex_lock(m).
@@ -25,7 +25,7 @@ impl Kernel {
         ensures { let kernel = self.old.kernel in Brings (on_mutex self.old.setup kernel thread call (lock_at kernel thread call (owner_of kernel.owners call.a0))) self.old self.new result }
     {
         if !self.fits(call.a0) {
-            return Served::Done(answer(self.alloc, thread, call, EFAULT));
+            return answer(self.alloc, thread, call, EFAULT);
         }
         let value = match self.mutexes.lock(call.a0, thread) {
             Locked::Got => 0,
@@ -33,7 +33,7 @@ impl Kernel {
             Locked::Deadlock => EDEADLK,
             Locked::Full => EAGAIN,
         };
-        Served::Done(answer(self.alloc, thread, call, value))
+        answer(self.alloc, thread, call, value)
     }
 
     /// pthread_mutex_trylock(m).
@@ -41,14 +41,14 @@ impl Kernel {
         ensures { let kernel = self.old.kernel in Brings (on_mutex self.old.setup kernel thread call (trylock_at kernel thread call (owner_of kernel.owners call.a0))) self.old self.new result }
     {
         if !self.fits(call.a0) {
-            return Served::Done(answer(self.alloc, thread, call, EFAULT));
+            return answer(self.alloc, thread, call, EFAULT);
         }
         let value = match self.mutexes.trylock(call.a0, thread) {
             Tried::Got => 0,
             Tried::Busy => EBUSY,
             Tried::Full => EAGAIN,
         };
-        Served::Done(answer(self.alloc, thread, call, value))
+        answer(self.alloc, thread, call, value)
     }
 
     /// pthread_mutex_unlock(m).
@@ -56,13 +56,13 @@ impl Kernel {
         ensures { let kernel = self.old.kernel in Brings (on_mutex self.old.setup kernel thread call (unlock_at kernel thread call (owner_of kernel.owners call.a0))) self.old self.new result }
     {
         if !self.fits(call.a0) {
-            return Served::Done(answer(self.alloc, thread, call, EFAULT));
+            return answer(self.alloc, thread, call, EFAULT);
         }
         let value = match self.mutexes.unlock(call.a0, thread) {
             Unlocked::Freed => 0,
             Unlocked::NotOwner => EPERM,
         };
-        Served::Done(answer(self.alloc, thread, call, value))
+        answer(self.alloc, thread, call, value)
     }
 
     /// Whether pthread_mutex_lock(m) would block.

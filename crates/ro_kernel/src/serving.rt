@@ -23,7 +23,7 @@ impl Kernel {
             Which::Create => self.create(thread, call),
             Which::Join => self.join(thread, call),
             Which::Exit => Ok(self.exit(thread, call)),
-            Which::ThreadSelf => Ok(Served::Done(answer(self.alloc, thread, call, thread))),
+            Which::ThreadSelf => Ok(answer(self.alloc, thread, call, thread)),
             Which::MutexInit | Which::MutexDestroy => Ok(self.check_mutex(thread, call)),
             Which::Lock => Ok(self.lock(thread, call)),
             Which::TryLock => Ok(self.trylock(thread, call)),

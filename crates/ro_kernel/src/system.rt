@@ -1,5 +1,5 @@
 //! The system calls.
-ghost use Rattle.std.specs.Prelude.{◌≡◌, ◌+◌, ◌≤◌, take, drop, length, IfOk};
+ghost use Rattle.std.specs.Prelude.{◌≡◌, ◌+◌, ◌≤◌, ◌==◌, ◌||◌, take, drop, length, IfOk};
 ghost use Rattle.ro_kernel.specs.Serve.{capped, serve_read, serve_write, serve_brk, serve_system};
 ghost use Rattle.ro_kernel.specs.Served.{Brings, IsServe};
 
@@ -15,7 +15,7 @@ use std::alloc::AllocError;
 /// The numbers of the calls, those of Linux's generic table.
 const READ: u32 = 63;
 
-const WRITE: u32 = 64;
+pub const WRITE: u32 = 64;
 
 const EXIT: u32 = 93;
 
@@ -36,10 +36,18 @@ const MOST_BYTES: u32 = 4096;
 /// How many bytes the heap can have.
 const HEAP_SIZE: u32 = 0x10_0000;
 
-fn capped(len: u32) -> u32
+/// How many bytes a call moves that is asked for so many.
+pub fn capped(len: u32) -> u32
     ensures { result ≡ capped len }
 {
     len.min(MOST_BYTES)
+}
+
+/// Whether a file is one of those that are written to the output.
+pub fn is_output(file: u32) -> bool
+    ensures { result ≡ ((file == 1) || (file == 2)) }
+{
+    file == STDOUT || file == STDERR
 }
 
 impl Kernel {
@@ -57,7 +65,7 @@ impl Kernel {
             WRITE => Ok(self.write(thread, call)),
             EXIT | EXIT_GROUP => Ok(Served::Ends(How::Exit((call.a0 % 256) as u8))),
             BRK => Ok(self.brk(thread, call)),
-            _ => Ok(Served::Done(answer(self.alloc, thread, call, negative(ENOSYS)))),
+            _ => Ok(answer(self.alloc, thread, call, negative(ENOSYS))),
         }
     }
 
@@ -67,17 +75,17 @@ impl Kernel {
     {
         let len = capped(call.a2);
         if call.a0 != STDIN {
-            return Ok(Served::Done(answer(self.alloc, thread, call, negative(EBADF))));
+            return Ok(answer(self.alloc, thread, call, negative(EBADF)));
         }
         if len == 0 {
-            return Ok(Served::Done(answer(self.alloc, thread, call, 0)));
+            return Ok(answer(self.alloc, thread, call, 0));
         }
         if !self.regions.permits(call.a1, len, Kind::Write) {
-            return Ok(Served::Done(answer(self.alloc, thread, call, negative(EFAULT))));
+            return Ok(answer(self.alloc, thread, call, negative(EFAULT)));
         }
         let bytes = self.next_input(len)?;
         self.taken += bytes.len();
-        Ok(Served::Done(stores(thread, call, bytes.len() as u32, call.a1, bytes)))
+        Ok(stores(thread, call, bytes.len() as u32, call.a1, bytes))
     }
 
     /// The next bytes of the input, at most so many.
@@ -95,14 +103,14 @@ impl Kernel {
         ensures { Brings (serve_write self.old.setup self.old.kernel thread call) self.old self.new result }
     {
         let len = capped(call.a2);
-        let value = if call.a0 != STDOUT && call.a0 != STDERR {
+        let value = if !is_output(call.a0) {
             negative(EBADF)
         } else if len > 0 && !self.regions.permits(call.a1, len, Kind::Read) {
             negative(EFAULT)
         } else {
             len
         };
-        Served::Done(answer(self.alloc, thread, call, value))
+        answer(self.alloc, thread, call, value)
     }
 
     /// brk(address): the new end of the heap, or the old one where the address lies outside.
@@ -113,6 +121,6 @@ impl Kernel {
         if self.heap <= call.a0 && u64::from(call.a0) <= end {
             self.heap_end = call.a0;
         }
-        Served::Done(answer(self.alloc, thread, call, self.heap_end))
+        answer(self.alloc, thread, call, self.heap_end)
     }
 }

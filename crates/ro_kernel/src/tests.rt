@@ -28,6 +28,149 @@ enum Want {
     Ends(u8),
 }
 
+/// A call of a thread with its arguments, and what is to come of it.
+type Row = (u32, Which, [u32; 4], Want);
+
+const SYSTEM_CALLS: &[Row] = &[
+    // read: the file, then the length, then the permission
+    (0, Which::System(63), [1, DATA, 4, 0], Want::Fails(9)),
+    (0, Which::System(63), [1, CODE, 0, 0], Want::Fails(9)),
+    (0, Which::System(63), [0, CODE, 0, 0], Want::Answers(0)),
+    (0, Which::System(63), [0, CODE, 4, 0], Want::Fails(14)),
+    (
+        0,
+        Which::System(63),
+        [0, DATA + 0xFFE, 4, 0],
+        Want::Fails(14),
+    ),
+    (
+        0,
+        Which::System(63),
+        [0, 0xFFFF_FFFF, 2, 0],
+        Want::Fails(14),
+    ),
+    (
+        0,
+        Which::System(63),
+        [0, DATA, 3, 0],
+        Want::Stores(3, b"abc"),
+    ),
+    (
+        0,
+        Which::System(63),
+        [0, DATA, 5000, 0],
+        Want::Stores(5, b"defgh"),
+    ),
+    (0, Which::System(63), [0, DATA, 4, 0], Want::Stores(0, b"")),
+    // write
+    (0, Which::System(64), [0, DATA, 4, 0], Want::Fails(9)),
+    (0, Which::System(64), [3, DATA, 0, 0], Want::Fails(9)),
+    (0, Which::System(64), [1, NOWHERE, 0, 0], Want::Answers(0)),
+    (0, Which::System(64), [1, NOWHERE, 1, 0], Want::Fails(14)),
+    (0, Which::System(64), [1, CODE, 4, 0], Want::Answers(4)),
+    (
+        0,
+        Which::System(64),
+        [2, DATA, 5000, 0],
+        Want::Answers(4096),
+    ),
+    // brk
+    (0, Which::System(214), [0, 0, 0, 0], Want::Answers(HEAP)),
+    (
+        0,
+        Which::System(214),
+        [HEAP + 16, 0, 0, 0],
+        Want::Answers(HEAP + 16),
+    ),
+    (
+        0,
+        Which::System(214),
+        [HEAP - 1, 0, 0, 0],
+        Want::Answers(HEAP + 16),
+    ),
+    (
+        0,
+        Which::System(214),
+        [HEAP + 0x10_0001, 0, 0, 0],
+        Want::Answers(HEAP + 16),
+    ),
+    (
+        0,
+        Which::System(214),
+        [HEAP + 0x10_0000, 0, 0, 0],
+        Want::Answers(HEAP + 0x10_0000),
+    ),
+    (0, Which::System(214), [HEAP, 0, 0, 0], Want::Answers(HEAP)),
+    // no such call, and the end
+    (0, Which::System(0), [0, 0, 0, 0], Want::Fails(38)),
+    (0, Which::System(215), [0, 0, 0, 0], Want::Fails(38)),
+    (0, Which::System(93), [0x1FE, 0, 0, 0], Want::Ends(254)),
+    (0, Which::System(94), [3, 0, 0, 0], Want::Ends(3)),
+];
+
+const THREADS_AND_MUTEXES: &[Row] = &[
+    (0, Which::ThreadSelf, [9, 0, 0, 0], Want::Answers(0)),
+    // create: attr, then start, then p
+    (0, Which::Create, [DATA, 1, CODE, 7], Want::Answers(22)),
+    (0, Which::Create, [DATA, 0, CODE + 2, 7], Want::Answers(22)),
+    (0, Which::Create, [0, 0, CODE + 2, 7], Want::Answers(22)),
+    (0, Which::Create, [0, 0, CODE, 7], Want::Answers(14)),
+    (0, Which::Create, [DATA + 2, 0, CODE, 7], Want::Answers(14)),
+    (
+        0,
+        Which::Create,
+        [DATA, 0, CODE, 7],
+        Want::Stores(0, &[1, 0, 0, 0]),
+    ),
+    (1, Which::ThreadSelf, [0, 0, 0, 0], Want::Answers(1)),
+    // join: never made, then oneself, then joined, then p
+    (0, Which::Join, [2, 2, 0, 0], Want::Answers(3)),
+    (0, Which::Join, [0, 2, 0, 0], Want::Answers(35)),
+    (0, Which::Join, [1, 2, 0, 0], Want::Answers(14)),
+    (0, Which::Join, [1, CODE, 0, 0], Want::Answers(14)),
+    (0, Which::Join, [1, DATA, 0, 0], Want::Blocks),
+    (0, Which::Join, [1, 0, 0, 0], Want::Blocks),
+    // mutexes: the address, then the owner
+    (0, Which::MutexInit, [DATA + 2, 9, 0, 0], Want::Answers(14)),
+    (0, Which::MutexInit, [DATA, 9, 0, 0], Want::Answers(0)),
+    (0, Which::MutexDestroy, [CODE, 0, 0, 0], Want::Answers(14)),
+    (0, Which::MutexDestroy, [DATA, 0, 0, 0], Want::Answers(0)),
+    (0, Which::Unlock, [CODE, 0, 0, 0], Want::Answers(14)),
+    (0, Which::Unlock, [DATA, 0, 0, 0], Want::Answers(1)),
+    (0, Which::Lock, [CODE, 0, 0, 0], Want::Answers(14)),
+    (0, Which::Lock, [DATA, 0, 0, 0], Want::Answers(0)),
+    (0, Which::Lock, [DATA, 0, 0, 0], Want::Answers(35)),
+    (0, Which::TryLock, [DATA + 1, 0, 0, 0], Want::Answers(14)),
+    (0, Which::TryLock, [DATA, 0, 0, 0], Want::Answers(16)),
+    (1, Which::Lock, [DATA, 0, 0, 0], Want::Blocks),
+    (1, Which::TryLock, [DATA, 0, 0, 0], Want::Answers(16)),
+    (1, Which::Unlock, [DATA, 0, 0, 0], Want::Answers(1)),
+    (0, Which::Unlock, [DATA, 0, 0, 0], Want::Answers(0)),
+    (0, Which::Unlock, [DATA, 0, 0, 0], Want::Answers(1)),
+    (1, Which::TryLock, [DATA, 0, 0, 0], Want::Answers(0)),
+    // a thread that exits keeps its mutexes, and is joined once
+    (1, Which::Exit, [0x0403_0201, 0, 0, 0], Want::Exits),
+    (0, Which::Lock, [DATA, 0, 0, 0], Want::Blocks),
+    (0, Which::Join, [1, 2, 0, 0], Want::Answers(14)),
+    (
+        0,
+        Which::Join,
+        [1, DATA + 8, 0, 0],
+        Want::Stores(0, &[1, 2, 3, 4]),
+    ),
+    (0, Which::Join, [1, 2, 0, 0], Want::Answers(3)),
+    (
+        0,
+        Which::Create,
+        [DATA, 0, CODE, 7],
+        Want::Stores(0, &[2, 0, 0, 0]),
+    ),
+    (2, Which::Exit, [5, 0, 0, 0], Want::Exits),
+    (0, Which::Join, [2, 0, 0, 0], Want::Stores(0, b"")),
+    // the last thread
+    (0, Which::Exit, [5, 0, 0, 0], Want::Ends(0)),
+];
+
 fn kernel(alloc: Global, input: &[u8]) -> Result<Kernel, AllocError> {
     let range = |start, write| Range {
         start,
@@ -97,11 +240,7 @@ fn serve(
     kernel.serve(thread, call)
 }
 
-fn check(
-    rt: &impl Abort,
-    kernel: &mut Kernel,
-    rows: &[(u32, Which, [u32; 4], Want)],
-) -> Result<(), AllocError> {
+fn check(rt: &impl Abort, kernel: &mut Kernel, rows: &[Row]) -> Result<(), AllocError> {
     for (thread, which, arguments, want) in rows {
         let call = call(*which, *arguments);
         let blocks = kernel.blocks(*thread, call);
@@ -119,158 +258,14 @@ fn check(
 #[test]
 fn serves_system_calls(rt: HostRuntime) -> Result<(), Fail> {
     let mut kernel = kernel(rt.alloc(), b"abcdefgh")?;
-    check(
-        &rt,
-        &mut kernel,
-        &[
-            // read: the file, then the length, then the permission
-            (0, Which::System(63), [1, DATA, 4, 0], Want::Fails(9)),
-            (0, Which::System(63), [1, CODE, 0, 0], Want::Fails(9)),
-            (0, Which::System(63), [0, CODE, 0, 0], Want::Answers(0)),
-            (0, Which::System(63), [0, CODE, 4, 0], Want::Fails(14)),
-            (
-                0,
-                Which::System(63),
-                [0, DATA + 0xFFE, 4, 0],
-                Want::Fails(14),
-            ),
-            (
-                0,
-                Which::System(63),
-                [0, 0xFFFF_FFFF, 2, 0],
-                Want::Fails(14),
-            ),
-            (
-                0,
-                Which::System(63),
-                [0, DATA, 3, 0],
-                Want::Stores(3, b"abc"),
-            ),
-            (
-                0,
-                Which::System(63),
-                [0, DATA, 5000, 0],
-                Want::Stores(5, b"defgh"),
-            ),
-            (0, Which::System(63), [0, DATA, 4, 0], Want::Stores(0, b"")),
-            // write
-            (0, Which::System(64), [0, DATA, 4, 0], Want::Fails(9)),
-            (0, Which::System(64), [3, DATA, 0, 0], Want::Fails(9)),
-            (0, Which::System(64), [1, NOWHERE, 0, 0], Want::Answers(0)),
-            (0, Which::System(64), [1, NOWHERE, 1, 0], Want::Fails(14)),
-            (0, Which::System(64), [1, CODE, 4, 0], Want::Answers(4)),
-            (
-                0,
-                Which::System(64),
-                [2, DATA, 5000, 0],
-                Want::Answers(4096),
-            ),
-            // brk
-            (0, Which::System(214), [0, 0, 0, 0], Want::Answers(HEAP)),
-            (
-                0,
-                Which::System(214),
-                [HEAP + 16, 0, 0, 0],
-                Want::Answers(HEAP + 16),
-            ),
-            (
-                0,
-                Which::System(214),
-                [HEAP - 1, 0, 0, 0],
-                Want::Answers(HEAP + 16),
-            ),
-            (
-                0,
-                Which::System(214),
-                [HEAP + 0x10_0001, 0, 0, 0],
-                Want::Answers(HEAP + 16),
-            ),
-            (
-                0,
-                Which::System(214),
-                [HEAP + 0x10_0000, 0, 0, 0],
-                Want::Answers(HEAP + 0x10_0000),
-            ),
-            (0, Which::System(214), [HEAP, 0, 0, 0], Want::Answers(HEAP)),
-            // no such call, and the end
-            (0, Which::System(0), [0, 0, 0, 0], Want::Fails(38)),
-            (0, Which::System(215), [0, 0, 0, 0], Want::Fails(38)),
-            (0, Which::System(93), [0x1FE, 0, 0, 0], Want::Ends(254)),
-            (0, Which::System(94), [3, 0, 0, 0], Want::Ends(3)),
-        ],
-    )?;
+    check(&rt, &mut kernel, SYSTEM_CALLS)?;
     Ok(())
 }
 
 #[test]
 fn serves_threads_and_mutexes(rt: HostRuntime) -> Result<(), Fail> {
     let mut kernel = kernel(rt.alloc(), b"")?;
-    check(
-        &rt,
-        &mut kernel,
-        &[
-            (0, Which::ThreadSelf, [9, 0, 0, 0], Want::Answers(0)),
-            // create: attr, then start, then p
-            (0, Which::Create, [DATA, 1, CODE, 7], Want::Answers(22)),
-            (0, Which::Create, [DATA, 0, CODE + 2, 7], Want::Answers(22)),
-            (0, Which::Create, [0, 0, CODE + 2, 7], Want::Answers(22)),
-            (0, Which::Create, [0, 0, CODE, 7], Want::Answers(14)),
-            (0, Which::Create, [DATA + 2, 0, CODE, 7], Want::Answers(14)),
-            (
-                0,
-                Which::Create,
-                [DATA, 0, CODE, 7],
-                Want::Stores(0, &[1, 0, 0, 0]),
-            ),
-            (1, Which::ThreadSelf, [0, 0, 0, 0], Want::Answers(1)),
-            // join: never made, then oneself, then joined, then p
-            (0, Which::Join, [2, 2, 0, 0], Want::Answers(3)),
-            (0, Which::Join, [0, 2, 0, 0], Want::Answers(35)),
-            (0, Which::Join, [1, 2, 0, 0], Want::Answers(14)),
-            (0, Which::Join, [1, CODE, 0, 0], Want::Answers(14)),
-            (0, Which::Join, [1, DATA, 0, 0], Want::Blocks),
-            (0, Which::Join, [1, 0, 0, 0], Want::Blocks),
-            // mutexes: the address, then the owner
-            (0, Which::MutexInit, [DATA + 2, 9, 0, 0], Want::Answers(14)),
-            (0, Which::MutexInit, [DATA, 9, 0, 0], Want::Answers(0)),
-            (0, Which::MutexDestroy, [CODE, 0, 0, 0], Want::Answers(14)),
-            (0, Which::MutexDestroy, [DATA, 0, 0, 0], Want::Answers(0)),
-            (0, Which::Unlock, [CODE, 0, 0, 0], Want::Answers(14)),
-            (0, Which::Unlock, [DATA, 0, 0, 0], Want::Answers(1)),
-            (0, Which::Lock, [CODE, 0, 0, 0], Want::Answers(14)),
-            (0, Which::Lock, [DATA, 0, 0, 0], Want::Answers(0)),
-            (0, Which::Lock, [DATA, 0, 0, 0], Want::Answers(35)),
-            (0, Which::TryLock, [DATA + 1, 0, 0, 0], Want::Answers(14)),
-            (0, Which::TryLock, [DATA, 0, 0, 0], Want::Answers(16)),
-            (1, Which::Lock, [DATA, 0, 0, 0], Want::Blocks),
-            (1, Which::TryLock, [DATA, 0, 0, 0], Want::Answers(16)),
-            (1, Which::Unlock, [DATA, 0, 0, 0], Want::Answers(1)),
-            (0, Which::Unlock, [DATA, 0, 0, 0], Want::Answers(0)),
-            (0, Which::Unlock, [DATA, 0, 0, 0], Want::Answers(1)),
-            (1, Which::TryLock, [DATA, 0, 0, 0], Want::Answers(0)),
-            // a thread that exits keeps its mutexes, and is joined once
-            (1, Which::Exit, [0x0403_0201, 0, 0, 0], Want::Exits),
-            (0, Which::Lock, [DATA, 0, 0, 0], Want::Blocks),
-            (0, Which::Join, [1, 2, 0, 0], Want::Answers(14)),
-            (
-                0,
-                Which::Join,
-                [1, DATA + 8, 0, 0],
-                Want::Stores(0, &[1, 2, 3, 4]),
-            ),
-            (0, Which::Join, [1, 2, 0, 0], Want::Answers(3)),
-            (
-                0,
-                Which::Create,
-                [DATA, 0, CODE, 7],
-                Want::Stores(0, &[2, 0, 0, 0]),
-            ),
-            (2, Which::Exit, [5, 0, 0, 0], Want::Exits),
-            (0, Which::Join, [2, 0, 0, 0], Want::Stores(0, b"")),
-            // the last thread
-            (0, Which::Exit, [5, 0, 0, 0], Want::Ends(0)),
-        ],
-    )?;
+    check(&rt, &mut kernel, THREADS_AND_MUTEXES)?;
     Ok(())
 }
 

@@ -23,13 +23,13 @@ impl Kernel {
     {
         let number = self.made();
         if call.a1 != 0 || call.a2 % 4 != 0 {
-            return Ok(Served::Done(answer(self.alloc, thread, call, EINVAL)));
+            return Ok(answer(self.alloc, thread, call, EINVAL));
         }
         if !self.fits(call.a0) {
-            return Ok(Served::Done(answer(self.alloc, thread, call, EFAULT)));
+            return Ok(answer(self.alloc, thread, call, EFAULT));
         }
         if number >= MOST_THREADS {
-            return Ok(Served::Done(answer(self.alloc, thread, call, EAGAIN)));
+            return Ok(answer(self.alloc, thread, call, EAGAIN));
         }
         let bytes = word_bytes(self.alloc, number)?;
         self.lives.push(Life::Live)?;
@@ -55,7 +55,7 @@ impl Kernel {
     {
         match self.lives.get(call.a0 as usize).copied() {
             Some(life) => self.join_made(thread, call, life),
-            None => Ok(Served::Done(answer(self.alloc, thread, call, ESRCH))),
+            None => Ok(answer(self.alloc, thread, call, ESRCH)),
         }
     }
 
@@ -65,12 +65,12 @@ impl Kernel {
         ensures { IsServe (serve_join_at self.old.setup self.old.kernel thread call (Some life)) self.old self.new result }
     {
         if call.a0 == thread {
-            return Ok(Served::Done(answer(self.alloc, thread, call, EDEADLK)));
+            return Ok(answer(self.alloc, thread, call, EDEADLK));
         }
         let refused = call.a1 != 0 && !self.fits(call.a1);
         match life {
-            Life::Joined => Ok(Served::Done(answer(self.alloc, thread, call, ESRCH))),
-            _ if refused => Ok(Served::Done(answer(self.alloc, thread, call, EFAULT))),
+            Life::Joined => Ok(answer(self.alloc, thread, call, ESRCH)),
+            _ if refused => Ok(answer(self.alloc, thread, call, EFAULT)),
             Life::Live => Ok(Served::Blocked),
             Life::Exited(value) => self.end_join(thread, call, value),
         }
@@ -87,7 +87,7 @@ impl Kernel {
             word_bytes(self.alloc, value)?
         };
         self.lives[call.a0 as usize] = Life::Joined;
-        Ok(Served::Done(stores(thread, call, 0, call.a1, bytes)))
+        Ok(stores(thread, call, 0, call.a1, bytes))
     }
 
     /// Whether pthread_join(t, p) would block.

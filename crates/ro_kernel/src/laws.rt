@@ -1,5 +1,7 @@
 //! What holds of every call that is served.
-ghost use Rattle.std.specs.Prelude.{ℕ, ◌≡◌, ◌≢◌, true, false, Some, None};
+ghost use Rattle.std.specs.Prelude.{ℕ, ◌≡◌, ◌≢◌, true, false, Some, None, length};
+ghost use Rattle.ro_region.specs.declared.Kind.TheVariants.{Write};
+ghost use Rattle.ro_region.specs.Permission.{permits_of};
 ghost use Rattle.ro_event.specs.declared.calls.Which.TheVariants.{System, Lock, TryLock, Unlock};
 ghost use Rattle.ro_event.specs.declared.calls.Call.{Call};
 ghost use Rattle.ro_event.specs.Effects.{Effect};
@@ -39,4 +41,10 @@ pub fn locks_and_unlocks_set_the_owner()
 #[tactic(auto, using(crate::proofs::Refused::error_law))]
 pub fn errors_change_nothing()
     ensures { (setup : Setup) (kernel after : Kernel) (thread value : ℕ) (call : Call) (effect : Effect) → serve setup kernel thread call ≡ Done after effect → effect.answer ≡ Some value → is_error call.which value ≡ true → (after ≡ kernel) × (effect ≡ answer_effect thread call value) }
+{}
+
+/// What a served call stores, the guest could have stored itself.
+#[tactic(auto, using(crate::proofs::Stores::stores_law))]
+pub fn effects_store_where_the_guest_may()
+    ensures { (setup : Setup) (kernel after : Kernel) (thread : ℕ) (call : Call) (effect : Effect) → serve setup kernel thread call ≡ Done after effect → permits_of setup.ranges Write effect.place (length effect.bytes) ≡ true }
 {}

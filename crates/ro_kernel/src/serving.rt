@@ -1,8 +1,8 @@
 //! Serving a call, whichever it is.
-ghost use Rattle.std.specs.Prelude.{◌≡◌, not, true};
+ghost use Rattle.std.specs.Prelude.{◌≡◌, not, true, OnErr};
 ghost use Rattle.ro_kernel.specs.Kernel.{lives_on};
 ghost use Rattle.ro_kernel.specs.Serve.{serve, blocks};
-ghost use Rattle.ro_kernel.specs.Served.{IsServe};
+ghost use Rattle.ro_kernel.specs.Served.{IsServe, may_store};
 
 use crate::answers::answer;
 use crate::outcome::Served;
@@ -11,12 +11,13 @@ use ro_event::{Call, Which};
 use std::alloc::AllocError;
 
 impl Kernel {
-    /// Serves a call of a live thread, or says that it blocks or how the program ends. Where memory is wanting, nothing
-    /// changes.
+    /// Serves a call of a live thread, or says that it blocks or how the program ends. Where memory is wanting for
+    /// the bytes that it stores, nothing changes.
     #[tactic(auto, unfolding(crate::specs::Serve::serve))]
     pub fn serve(&mut self, thread: u32, call: Call) -> Result<Served, AllocError>
         requires { lives_on self.old.kernel thread ≡ true }
-        ensures { IsServe (serve self.old.setup self.old.kernel thread call) self.old self.new result }
+        ensures served { IsServe (serve self.old.setup self.old.kernel thread call) self.old self.new result }
+        ensures memory { OnErr result (may_store call.which ≡ true) }
     {
         match call.which {
             Which::System(number) => self.system(thread, call, number),

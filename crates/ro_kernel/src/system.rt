@@ -1,5 +1,5 @@
 //! The system calls.
-ghost use Rattle.std.specs.Prelude.{◌≡◌, ◌+◌, ◌≤◌, ◌==◌, ◌||◌, take, drop, length, IfOk};
+ghost use Rattle.std.specs.Prelude.{◌≡◌, ◌+◌, ◌≤◌, ◌==◌, ◌||◌, take, drop, length, IfOk, OnErr};
 ghost use Rattle.ro_kernel.specs.Serve.{capped, serve_read, serve_write, serve_brk, serve_system};
 ghost use Rattle.ro_kernel.specs.Served.{Brings, IsServe};
 
@@ -58,7 +58,8 @@ impl Kernel {
         call: Call,
         number: u32,
     ) -> Result<Served, AllocError>
-        ensures { IsServe (serve_system self.old.setup self.old.kernel thread call number) self.old self.new result }
+        ensures served { IsServe (serve_system self.old.setup self.old.kernel thread call number) self.old self.new result }
+        ensures memory { OnErr result (number ≡ 63) }
     {
         match number {
             READ => self.read(thread, call),

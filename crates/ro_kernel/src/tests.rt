@@ -1,6 +1,6 @@
 //! What each call comes to, row by row.
 
-use crate::{Kernel, Served};
+use crate::{Kernel, Served, payload_len};
 use ro_event::{Call, Effect, Goes, Made, Which};
 use ro_journal::How;
 use ro_region::{Range, Regions};
@@ -18,6 +18,16 @@ const NOWHERE: u32 = 0x5000_0000;
 
 const HEAP: u32 = 0x2_0000;
 
+const READ: Which = Which::System(63);
+
+const WRITE: Which = Which::System(64);
+
+const EXIT: Which = Which::System(93);
+
+const EXIT_GROUP: Which = Which::System(94);
+
+const BRK: Which = Which::System(214);
+
 #[derive(Clone, Copy, Debug)]
 enum Want {
     Answers(u32),
@@ -33,79 +43,44 @@ type Row = (u32, Which, [u32; 4], Want);
 
 const SYSTEM_CALLS: &[Row] = &[
     // read: the file, then the length, then the permission
-    (0, Which::System(63), [1, DATA, 4, 0], Want::Fails(9)),
-    (0, Which::System(63), [1, CODE, 0, 0], Want::Fails(9)),
-    (0, Which::System(63), [0, CODE, 0, 0], Want::Answers(0)),
-    (0, Which::System(63), [0, CODE, 4, 0], Want::Fails(14)),
-    (
-        0,
-        Which::System(63),
-        [0, DATA + 0xFFE, 4, 0],
-        Want::Fails(14),
-    ),
-    (
-        0,
-        Which::System(63),
-        [0, 0xFFFF_FFFF, 2, 0],
-        Want::Fails(14),
-    ),
-    (
-        0,
-        Which::System(63),
-        [0, DATA, 3, 0],
-        Want::Stores(3, b"abc"),
-    ),
-    (
-        0,
-        Which::System(63),
-        [0, DATA, 5000, 0],
-        Want::Stores(5, b"defgh"),
-    ),
-    (0, Which::System(63), [0, DATA, 4, 0], Want::Stores(0, b"")),
+    (0, READ, [1, DATA, 4, 0], Want::Fails(9)),
+    (0, READ, [1, CODE, 0, 0], Want::Fails(9)),
+    (0, READ, [0, CODE, 0, 0], Want::Answers(0)),
+    (0, READ, [0, CODE, 4, 0], Want::Fails(14)),
+    (0, READ, [0, DATA + 0xFFE, 4, 0], Want::Fails(14)),
+    (0, READ, [0, 0xFFFF_FFFF, 2, 0], Want::Fails(14)),
+    (0, READ, [0, DATA, 3, 0], Want::Stores(3, b"abc")),
+    (0, READ, [0, DATA, 5000, 0], Want::Stores(5, b"defgh")),
+    (0, READ, [0, DATA, 4, 0], Want::Stores(0, b"")),
     // write
-    (0, Which::System(64), [0, DATA, 4, 0], Want::Fails(9)),
-    (0, Which::System(64), [3, DATA, 0, 0], Want::Fails(9)),
-    (0, Which::System(64), [1, NOWHERE, 0, 0], Want::Answers(0)),
-    (0, Which::System(64), [1, NOWHERE, 1, 0], Want::Fails(14)),
-    (0, Which::System(64), [1, CODE, 4, 0], Want::Answers(4)),
-    (
-        0,
-        Which::System(64),
-        [2, DATA, 5000, 0],
-        Want::Answers(4096),
-    ),
+    (0, WRITE, [0, DATA, 4, 0], Want::Fails(9)),
+    (0, WRITE, [3, DATA, 0, 0], Want::Fails(9)),
+    (0, WRITE, [1, NOWHERE, 0, 0], Want::Answers(0)),
+    (0, WRITE, [1, NOWHERE, 1, 0], Want::Fails(14)),
+    (0, WRITE, [1, CODE, 4, 0], Want::Answers(4)),
+    (0, WRITE, [2, DATA, 5000, 0], Want::Answers(4096)),
     // brk
-    (0, Which::System(214), [0, 0, 0, 0], Want::Answers(HEAP)),
+    (0, BRK, [0, 0, 0, 0], Want::Answers(HEAP)),
+    (0, BRK, [HEAP + 16, 0, 0, 0], Want::Answers(HEAP + 16)),
+    (0, BRK, [HEAP - 1, 0, 0, 0], Want::Answers(HEAP + 16)),
     (
         0,
-        Which::System(214),
-        [HEAP + 16, 0, 0, 0],
-        Want::Answers(HEAP + 16),
-    ),
-    (
-        0,
-        Which::System(214),
-        [HEAP - 1, 0, 0, 0],
-        Want::Answers(HEAP + 16),
-    ),
-    (
-        0,
-        Which::System(214),
+        BRK,
         [HEAP + 0x10_0001, 0, 0, 0],
         Want::Answers(HEAP + 16),
     ),
     (
         0,
-        Which::System(214),
+        BRK,
         [HEAP + 0x10_0000, 0, 0, 0],
         Want::Answers(HEAP + 0x10_0000),
     ),
-    (0, Which::System(214), [HEAP, 0, 0, 0], Want::Answers(HEAP)),
+    (0, BRK, [HEAP, 0, 0, 0], Want::Answers(HEAP)),
     // no such call, and the end
     (0, Which::System(0), [0, 0, 0, 0], Want::Fails(38)),
     (0, Which::System(215), [0, 0, 0, 0], Want::Fails(38)),
-    (0, Which::System(93), [0x1FE, 0, 0, 0], Want::Ends(254)),
-    (0, Which::System(94), [3, 0, 0, 0], Want::Ends(3)),
+    (0, EXIT, [0x1FE, 0, 0, 0], Want::Ends(254)),
+    (0, EXIT_GROUP, [3, 0, 0, 0], Want::Ends(3)),
 ];
 
 const THREADS_AND_MUTEXES: &[Row] = &[
@@ -171,7 +146,7 @@ const THREADS_AND_MUTEXES: &[Row] = &[
     (0, Which::Exit, [5, 0, 0, 0], Want::Ends(0)),
 ];
 
-fn kernel(alloc: Global, input: &[u8]) -> Result<Kernel, AllocError> {
+fn regions(alloc: Global) -> Result<Regions, AllocError> {
     let range = |start, write| Range {
         start,
         length: 0x1000,
@@ -179,8 +154,11 @@ fn kernel(alloc: Global, input: &[u8]) -> Result<Kernel, AllocError> {
         write,
         execute: !write,
     };
-    let regions = Regions::new(alloc, &[range(CODE, false), range(DATA, true)])?;
-    Ok(Kernel::new(alloc, HEAP, regions, input)?)
+    Regions::new(alloc, &[range(CODE, false), range(DATA, true)])
+}
+
+fn kernel(alloc: Global, input: &[u8]) -> Result<Kernel, AllocError> {
+    Ok(Kernel::new(alloc, HEAP, regions(alloc)?, input)?)
 }
 
 fn call(which: Which, arguments: [u32; 4]) -> Call {
@@ -328,5 +306,26 @@ fn holds_256_mutexes(rt: HostRuntime) -> Result<(), Fail> {
             (0, Which::Lock, [DATA, 0, 0, 0], Want::Answers(35)),
         ],
     )?;
+    Ok(())
+}
+
+#[test]
+fn puts_out_what_may_be_read(rt: HostRuntime) -> Result<(), Fail> {
+    let regions = regions(rt.alloc())?;
+    for (which, arguments, want) in [
+        (WRITE, [1, CODE, 4, 0], 4),
+        (WRITE, [2, DATA, 5000, 0], 4096),
+        (WRITE, [0, DATA, 4, 0], 0),
+        (WRITE, [1, DATA, 0, 0], 0),
+        (WRITE, [1, NOWHERE, 1, 0], 0),
+        (READ, [1, DATA, 4, 0], 0),
+        (Which::Lock, [1, DATA, 4, 0], 0),
+    ] {
+        assert_eq!(rt;
+            payload_len(&regions, call(which, arguments)),
+            want,
+            "{which:?} {arguments:?}"
+        );
+    }
     Ok(())
 }

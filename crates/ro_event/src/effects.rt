@@ -1,5 +1,7 @@
 //! What a served call changes.
 
+use std::marker::Model;
+
 /// Where a thread goes on after an effect.
 #[derive(Clone, Copy, PartialEq, Eq, Debug)]
 pub enum Goes {
@@ -17,4 +19,31 @@ pub struct Made {
     pub start: u32,
     pub argument: u32,
     pub creator: u32,
+}
+
+/// Everything that a served call, or a page that is backed, changes: the same in every replica.
+#[derive(Drop, Debug)]
+pub struct Effect {
+    /// The thread whose call it is.
+    pub thread: u32,
+    /// The new a0; `None` where it stays.
+    pub answer: Option<u32>,
+    pub goes: Goes,
+    /// The address at which the bytes are stored; their pages are backed.
+    pub place: u32,
+    pub bytes: Vec<u8>,
+    /// The number of a page to back.
+    pub page: Option<u32>,
+    /// A thread that is made.
+    pub made: Option<Made>,
+    /// Whether the thread's stop goes.
+    pub releases: bool,
+}
+
+impl Model for Effect {
+    ghost use Rattle.ro_event.specs.Effects.{Effect as EffectOf};
+
+    ghost Value = { EffectOf };
+
+    ghost view = { λ e. record { thread = e.thread; answer = e.answer; goes = e.goes; place = e.place; bytes = e.bytes.items; page = e.page; made = e.made; releases = e.releases } };
 }

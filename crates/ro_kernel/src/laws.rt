@@ -1,0 +1,50 @@
+//! What holds of every call that is served.
+ghost use Rattle.std.specs.Prelude.{ℕ, ◌≡◌, ◌≢◌, true, false, Some, None, length};
+ghost use Rattle.ro_region.specs.declared.Kind.TheVariants.{Write};
+ghost use Rattle.ro_region.specs.Permission.{permits_of};
+ghost use Rattle.ro_event.specs.declared.calls.Which.TheVariants.{System, Lock, TryLock, Unlock};
+ghost use Rattle.ro_event.specs.declared.calls.Call.{Call};
+ghost use Rattle.ro_event.specs.Effects.{Effect};
+ghost use Rattle.ro_mutex.specs.Owners.{owner_of};
+ghost use Rattle.ro_kernel.specs.Kernel.{Setup, Kernel, lives_on};
+ghost use Rattle.ro_kernel.specs.Serve.{serve, blocks, Done, Blocked, answer_effect};
+ghost use Rattle.ro_kernel.specs.Errors.{is_error};
+
+/// A call that is served leaves every other live thread live.
+#[tactic(auto, using(crate::proofs::Outcomes::outcome_laws))]
+pub fn other_threads_live_on()
+    ensures { (setup : Setup) (kernel after : Kernel) (thread other : ℕ) (call : Call) (effect : Effect) → serve setup kernel thread call ≡ Done after effect → other ≢ thread → lives_on kernel other ≡ true → lives_on after other ≡ true }
+{}
+
+/// A system call never blocks.
+#[tactic(auto, using(crate::proofs::Outcomes::outcome_laws))]
+pub fn system_calls_never_block()
+    ensures { (setup : Setup) (kernel : Kernel) (thread number : ℕ) (call : Call) → call.which ≡ System number → blocks setup kernel thread call ≡ false }
+{}
+
+/// A call blocks exactly where serving it comes to nothing.
+#[tactic(auto, using(crate::proofs::Outcomes::outcome_laws))]
+pub fn blocks_as_serve_says()
+    ensures blocked { (setup : Setup) (kernel : Kernel) (thread : ℕ) (call : Call) → blocks setup kernel thread call ≡ true → serve setup kernel thread call ≡ Blocked }
+    ensures blocks { (setup : Setup) (kernel : Kernel) (thread : ℕ) (call : Call) → serve setup kernel thread call ≡ Blocked → blocks setup kernel thread call ≡ true }
+{}
+
+/// A mutex that was locked has the caller for owner, and one that was unlocked is free.
+#[tactic(auto, using(crate::proofs::Owned::owned_laws))]
+pub fn locks_and_unlocks_set_the_owner()
+    ensures locked { (setup : Setup) (kernel after : Kernel) (thread : ℕ) (call : Call) (effect : Effect) → call.which ≡ Lock → serve setup kernel thread call ≡ Done after effect → effect.answer ≡ Some 0 → owner_of after.owners call.a0 ≡ Some (Some thread) }
+    ensures tried { (setup : Setup) (kernel after : Kernel) (thread : ℕ) (call : Call) (effect : Effect) → call.which ≡ TryLock → serve setup kernel thread call ≡ Done after effect → effect.answer ≡ Some 0 → owner_of after.owners call.a0 ≡ Some (Some thread) }
+    ensures unlocked { (setup : Setup) (kernel after : Kernel) (thread : ℕ) (call : Call) (effect : Effect) → call.which ≡ Unlock → serve setup kernel thread call ≡ Done after effect → effect.answer ≡ Some 0 → owner_of after.owners call.a0 ≡ Some None }
+{}
+
+/// An error answer changes nothing but the caller's a0 and pc.
+#[tactic(auto, using(crate::proofs::Refused::error_law))]
+pub fn errors_change_nothing()
+    ensures { (setup : Setup) (kernel after : Kernel) (thread value : ℕ) (call : Call) (effect : Effect) → serve setup kernel thread call ≡ Done after effect → effect.answer ≡ Some value → is_error call.which value ≡ true → (after ≡ kernel) × (effect ≡ answer_effect thread call value) }
+{}
+
+/// What a served call stores, the guest could have stored itself.
+#[tactic(auto, using(crate::proofs::Stores::stores_law))]
+pub fn effects_store_where_the_guest_may()
+    ensures { (setup : Setup) (kernel after : Kernel) (thread : ℕ) (call : Call) (effect : Effect) → serve setup kernel thread call ≡ Done after effect → permits_of setup.ranges Write effect.place (length effect.bytes) ≡ true }
+{}

@@ -1,0 +1,53 @@
+//! Serving a call, whichever it is.
+ghost use Rattle.std.specs.Prelude.{◌≡◌, not, true, OnErr};
+ghost use Rattle.ro_kernel.specs.Kernel.{lives_on};
+ghost use Rattle.ro_kernel.specs.Serve.{serve, blocks};
+ghost use Rattle.ro_kernel.specs.Served.{IsServe, may_store};
+
+use crate::answers::answer;
+use crate::outcome::Served;
+use crate::state::Kernel;
+use ro_event::{Call, Which};
+use std::alloc::AllocError;
+
+impl Kernel {
+    /// Serves a call of a live thread, or says that it blocks or how the program ends. Where memory is wanting for
+    /// the bytes that it stores, nothing changes.
+    #[tactic(auto, unfolding(crate::specs::Serve::serve))]
+    pub fn serve(&mut self, thread: u32, call: Call) -> Result<Served, AllocError>
+        requires { lives_on self.old.kernel thread ≡ true }
+        ensures served { IsServe (serve self.old.setup self.old.kernel thread call) self.old self.new result }
+        ensures memory { OnErr result (may_store call.which ≡ true) }
+    {
+        match call.which {
+            Which::System(number) => self.system(thread, call, number),
+            Which::Create => self.create(thread, call),
+            Which::Join => self.join(thread, call),
+            Which::Exit => Ok(self.exit(thread, call)),
+            Which::ThreadSelf => Ok(answer(self.alloc, thread, call, thread)),
+            Which::MutexInit | Which::MutexDestroy => Ok(self.check_mutex(thread, call)),
+            Which::Lock => Ok(self.lock(thread, call)),
+            Which::TryLock => Ok(self.trylock(thread, call)),
+            Which::Unlock => Ok(self.unlock(thread, call)),
+        }
+    }
+
+    /// Whether a call of the thread would block now.
+    #[tactic(auto, unfolding(crate::specs::Serve::serve))]
+    pub fn blocks(&self, thread: u32, call: Call) -> bool
+        ensures { result ≡ blocks self.now.setup self.now.kernel thread call }
+    {
+        match call.which {
+            Which::Join => self.join_blocks(thread, call),
+            Which::Lock => self.lock_blocks(thread, call),
+            _ => false,
+        }
+    }
+
+    /// Whether a call that blocked can be served now.
+    pub fn ready(&self, thread: u32, call: Call) -> bool
+        ensures { result ≡ not (blocks self.now.setup self.now.kernel thread call) }
+    {
+        !self.blocks(thread, call)
+    }
+}

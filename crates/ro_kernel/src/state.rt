@@ -1,0 +1,117 @@
+//! The kernel's state.
+ghost use Rattle.std.specs.Prelude.{◌≡◌, ◌∷◌, [], ◌≤◌, length, IfOk, IfErr};
+ghost use Rattle.ro_kernel.specs.Kernel.{is_live, lives_on, any_live, opening_kernel};
+ghost use Rattle.ro_kernel.specs.Serve.{fits};
+
+use crate::Life;
+use ro_mutex::MutexTable;
+use ro_region::{Kind, Regions};
+use std::alloc::{AllocError, AllocFailed, Global};
+use std::marker::Model;
+
+/// What the kernel knows of a guest: its threads' lives, the owners of mutexes, the end of the heap and the input.
+#[derive(Drop)]
+pub struct Kernel {
+    pub(crate) regions: Regions,
+    /// Where the heap starts.
+    pub(crate) heap: u32,
+    /// Where it ends, the program break.
+    pub(crate) heap_end: u32,
+    pub(crate) input: Vec<u8>,
+    /// How many bytes of the input were read.
+    pub(crate) taken: usize,
+    /// One for each thread that was made.
+    pub(crate) lives: Vec<Life>,
+    pub(crate) mutexes: MutexTable,
+    pub(crate) alloc: Global,
+}
+
+impl Model for Kernel {
+    ghost use Rattle.std.specs.Prelude.{◌≤◌, vec_len};
+    ghost use Rattle.ro_kernel.specs.State.{State};
+
+    ghost Value = { State };
+
+    ghost view = { λ k. record { setup = record { ranges = k.regions; heap = k.heap; input = k.input.items }; kernel = record { lives = k.lives.items; owners = k.mutexes; heap_end = k.heap_end; taken = k.taken } } };
+
+    ghost invariant = { λ k. (k.taken ≤ vec_len k.input) × (vec_len k.lives ≤ 16) };
+}
+
+impl Life {
+    fn is_live(&self) -> bool
+        ensures { result ≡ is_live self.now }
+    {
+        matches!(self, Life::Live)
+    }
+}
+
+impl Kernel {
+    /// The kernel of a guest that starts: one live thread, no mutex, an empty heap at `heap`, and nothing read of the
+    /// input. Where memory is wanting, the regions come back.
+    pub fn new(
+        alloc: Global,
+        heap: u32,
+        regions: Regions,
+        input: &[u8],
+    ) -> Result<Kernel, AllocFailed<Regions>>
+        ensures setup { IfOk result (λ k. k.setup ≡ record { ranges = regions; heap = heap; input = input.now }) }
+        ensures kernel { IfOk result (λ k. k.kernel ≡ opening_kernel heap) }
+        ensures err { IfErr result (λ e. e.value ≡ regions) }
+    {
+        let (input, lives, mutexes) = match parts(alloc, input) {
+            Ok(parts) => parts,
+            Err(_) => return Err(AllocFailed { value: regions }),
+        };
+        Ok(Kernel {
+            regions,
+            heap,
+            heap_end: heap,
+            input,
+            taken: 0,
+            lives,
+            mutexes,
+            alloc,
+        })
+    }
+
+    /// The number of threads that were ever made, at most 16.
+    pub fn made(&self) -> u32
+        ensures made { result ≡ length self.now.kernel.lives }
+        ensures most { result ≤ 16 }
+    {
+        self.lives.len() as u32
+    }
+
+    /// Whether a thread was made and has not exited.
+    pub fn lives_on(&self, thread: u32) -> bool
+        ensures { result ≡ lives_on self.now.kernel thread }
+    {
+        match self.lives.get(thread as usize) {
+            Some(life) => life.is_live(),
+            None => false,
+        }
+    }
+
+    pub(crate) fn any_live(&self) -> bool
+        ensures { result ≡ any_live self.now.kernel.lives }
+    {
+        self.lives.iter().any(|life| life.is_live())
+    }
+
+    /// Whether a word can be stored at an address.
+    pub(crate) fn fits(&self, address: u32) -> bool
+        ensures { result ≡ fits self.now.setup.ranges address }
+    {
+        address % 4 == 0 && self.regions.permits(address, 4, Kind::Write)
+    }
+}
+
+/// The input, the lives and the mutexes of a kernel that starts.
+fn parts(alloc: Global, input: &[u8]) -> Result<(Vec<u8>, Vec<Life>, MutexTable), AllocError>
+    ensures input { IfOk result (λ p. p.0.items ≡ input.now) }
+    ensures lives { IfOk result (λ p. p.1.items ≡ Life.Live ∷ []) }
+    ensures mutexes { IfOk result (λ p. p.2 ≡ []) }
+{
+    let lives = [Life::Live].to_vec(alloc)?;
+    Ok((input.to_vec(alloc)?, lives, MutexTable::new(alloc)?))
+}

@@ -25,3 +25,11 @@ pub record IsLoaded (size : ℕ) (segment : Segment) : Type 0 where
   pub in_memory : segment.file_size ≤ segment.memory_size
   pub above : 0x10000 ≤ segment.address
   pub below : segment.address + segment.memory_size ≤ 0x40000000
+
+-- an address is that of one of the segment's bytes
+abbrev pub Holds : Segment → (address : ℕ) → Type 0
+Holds segment address = (segment.address ≤ address) × (address < segment.address + segment.memory_size)
+
+-- no address is that of bytes of both
+abbrev pub SharesNone : Segment → Segment → Type 0
+SharesNone a b = (address : ℕ) → Holds a address → Holds b address → ⊥

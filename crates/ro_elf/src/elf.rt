@@ -1,6 +1,6 @@
 //! Reading the headers of a file.
-ghost use Rattle.std.specs.Prelude.{◌≡◌, IfOk, IfErr, Some, None, All, length};
-ghost use Rattle.ro_elf.specs.Elf.{bad_headers, elf_of, IsLoaded};
+ghost use Rattle.std.specs.Prelude.{◌≡◌, IfOk, IfErr, Some, None, All, AllPairs, length};
+ghost use Rattle.ro_elf.specs.Elf.{bad_headers, elf_of, IsLoaded, SharesNone};
 
 use crate::header::{MOST_PROGRAM_HEADERS, SectionTable, bad_header, section_table};
 use crate::numbers::{half_at, word_at};
@@ -66,8 +66,9 @@ pub fn read_elf(bytes: &[u8]) -> Result<Elf, BadExe>
     ensures read { IfOk result (λ elf. elf ≡ elf_of bytes.now) }
     ensures refused { IfErr result (λ bad. bad_headers bytes.now ≡ Some bad.code) }
 
-    // Each segment has its bytes in the file, and its place in memory.
+    // Each segment has its bytes in the file, and its place in memory, which is its own.
     ensures loaded { IfOk result (λ elf. All (IsLoaded (length bytes.now)) elf.segments) }
+    ensures apart { IfOk result (λ elf. AllPairs SharesNone elf.segments) }
 {
     if let Some(code) = bad_header(bytes) {
         return Err(BadExe { code });

@@ -25,6 +25,10 @@ ends strings symbol = if is_function symbol then is_ended strings symbol.name el
 abbrev pub are_ended : (strings : List ℕ) → List Symbol → Bool
 are_ended strings symbols = list_all (ends strings) symbols
 
+-- the name of a function starts below a place
+abbrev pub is_below : (place : ℕ) → Symbol → Bool
+is_below place symbol = if is_function symbol then nat_lt symbol.name place else true
+
 -- a function with a name, which is given with the zero byte behind it
 abbrev pub is_called : (strings name : List ℕ) → Symbol → Bool
 is_called strings name symbol = is_function symbol && starts_with nat_eq (drop symbol.name strings) name

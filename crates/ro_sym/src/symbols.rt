@@ -1,7 +1,7 @@
 //! Function symbols and their names.
-ghost use Rattle.std.specs.Prelude.{◌≡◌, ◌<◌, length, map, find, drop, nat_eq};
+ghost use Rattle.std.specs.Prelude.{◌≡◌, ℕ, ◌<◌, nat_lt, length, map, find, drop, nat_eq};
 ghost use Rattle.std.specs.List.{list_all, starts_with};
-ghost use Rattle.ro_sym.specs.Symbols.{symbol_in, is_function, is_ended, ends, are_ended, is_called, agrees, place_of};
+ghost use Rattle.ro_sym.specs.Symbols.{symbol_in, is_function, is_ended, is_below, are_ended, is_called, agrees, place_of};
 
 use crate::sections::SYMBOL_SIZE;
 use ro_elf::{half_at, word_at};
@@ -45,11 +45,11 @@ impl Symbol {
         self.info % 16 == 2 && self.section != 0
     }
 
-    // Whether its name is ended, where it is a function.
-    fn ends_in(&self, strings: &[u8]) -> bool
-        ensures { result ≡ ends strings.now self.now }
+    // Whether its name starts below a place, where it is a function.
+    fn starts_below(&self, place: usize) -> bool
+        ensures { result ≡ is_below place self.now }
     {
-        !self.is_defined_function() || is_ended_at(strings, self.name as usize)
+        !self.is_defined_function() || (self.name as usize) < place
     }
 
     // Whether it is a function with a name, which is given with the zero byte behind it.
@@ -69,11 +69,17 @@ impl Symbol {
     }
 }
 
-// Whether the string from a place on is ended by a zero byte.
-fn is_ended_at(strings: &[u8], place: usize) -> bool
-    ensures { result ≡ is_ended strings.now place }
+// How many bytes stand up to the last zero byte, and with it: a string that starts among them is ended.
+fn ended_size(strings: &[u8]) -> usize
+    ensures { (place : ℕ) → is_ended strings.now place ≡ nat_lt place result }
 {
-    place < strings.len() && strings[place..].contains(&0)
+    let mut size = 0;
+    for (i, byte) in strings.iter().enumerate() {
+        if *byte == 0 {
+            size = i + 1;
+        }
+    }
+    size
 }
 
 // Whether a text stands at a place.
@@ -88,10 +94,17 @@ fn stands_at(strings: &[u8], place: usize, text: &[u8]) -> bool
 pub(crate) fn names_end(symbols: &[[u8; SYMBOL_SIZE]], strings: &[u8]) -> bool
     ensures { result ≡ are_ended strings.now (map symbol_in symbols.now) }
 {
+    all_below(symbols, ended_size(strings))
+}
+
+// Whether the names of all functions start below a place.
+fn all_below(symbols: &[[u8; SYMBOL_SIZE]], place: usize) -> bool
+    ensures { result ≡ list_all (is_below place) (map symbol_in symbols.now) }
+{
     symbols
         .iter()
         .map(|entry| Symbol::from_entry(entry))
-        .all(|symbol| symbol.ends_in(strings))
+        .all(|symbol| symbol.starts_below(place))
 }
 
 // The first function with a name.

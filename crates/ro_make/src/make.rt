@@ -1,5 +1,6 @@
 //! The file.
-ghost use Rattle.std.specs.Prelude.{◌≡◌, ◌≤◌, ◌++◌, IfOk, OnOk, All, length, map, flat_map};
+ghost use Rattle.std.specs.Prelude.{◌≡◌, ◌%◌, ◌<◌, ◌≤◌, ◌++◌, IfOk, OnOk, None, All, length, map, flat_map};
+ghost use Rattle.ro_elf.specs.Elf.{bad_headers};
 ghost use Rattle.ro_make.specs.Names.{named, word};
 ghost use Rattle.ro_make.specs.Made.{program_of, file_of};
 
@@ -18,6 +19,24 @@ const NO_SECTIONS: SectionTable = SectionTable {
 /// headers and the words, at the address 0x10000, and may be read (4), written (2) and executed (1) as the flags say. Where
 /// functions are named, a symbol table gives each its address.
 pub fn image_bytes(
+    alloc: Global,
+    words: &[u32],
+    flags: u32,
+    names: &[(&str, u32)],
+) -> Result<Vec<u8>, AllocError>
+    requires words { length words.now ≤ 65536 }
+    requires names { length names.now ≤ 9 }
+    requires short { All (λ name. length name.0.now ≤ 64) names.now }
+    ensures made { IfOk result (λ file. file.items ≡ file_of words.now flags (map (λ name. named name.0.now name.1) names.now)) }
+
+    // Such a file is accepted, where it has words and may be executed.
+    ensures accepted { IfOk result (λ file. 0 < length words.now → flags % 2 ≡ 1 → bad_headers file.items ≡ None) }
+{
+    file_bytes(alloc, words, flags, names)
+}
+
+// The headers and the words, and where functions are named, the symbols, their strings and the section headers.
+fn file_bytes(
     alloc: Global,
     words: &[u32],
     flags: u32,

@@ -49,10 +49,10 @@ impl Executable {
     }
 
     /// The addresses of the functions of POSIX threads.
-    pub fn calls(&self) -> CallTable
-        ensures { result ≡ self.now.calls }
+    pub fn calls(&self) -> &CallTable
+        ensures { result.now ≡ self.now.calls }
     {
-        self.calls
+        &self.calls
     }
 
     /// The address of the first instruction.

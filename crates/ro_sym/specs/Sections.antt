@@ -64,10 +64,14 @@ functions_under bytes headers None = Ok no_functions
 functions_under bytes headers (Some symbols) =
     if holds_symbols bytes (length headers) symbols then functions_with bytes symbols (section_in (slice_index_or headers symbols.link [])) else Err 16
 
+-- the symbols of the first symbol table among section headers
+abbrev pub functions_among : List ℕ → (headers : List (List ℕ)) → Result Functions ℕ
+functions_among bytes headers = functions_under bytes headers (find is_symbol_table (map section_in headers))
+
 -- The symbols of a file: those of its first symbol table. None, where it has no sections or no symbol table; else code 16,
 -- where the section headers, the symbols or their strings aren't as they must be.
 abbrev pub functions_of : List ℕ → SectionTable → Result Functions ℕ
 functions_of bytes table =
     if has_sections table
-    then (if holds_sections bytes table then functions_under bytes (section_headers bytes table) (find is_symbol_table (map section_in (section_headers bytes table))) else Err 16)
+    then (if holds_sections bytes table then functions_among bytes (section_headers bytes table) else Err 16)
     else Ok no_functions

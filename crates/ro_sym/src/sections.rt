@@ -1,6 +1,6 @@
 //! Sections: which holds the symbols, and which their names.
 ghost use Rattle.std.specs.Prelude.{◌≡◌, ◌+◌, ◌*◌, ◌≤◌, IfOk, IfErr, Ok, Err, length, map, find};
-ghost use Rattle.ro_sym.specs.Sections.{section_in, holds_sections as holds_headers, section_headers, is_symbol_table, is_strings, is_held, content_of, holds_symbols as holds_table, functions_with, functions_under, functions_of};
+ghost use Rattle.ro_sym.specs.Sections.{section_in, holds_sections as holds_headers, section_headers, is_symbol_table, is_strings, is_held, content_of, holds_symbols as holds_table, functions_with, functions_among as among, functions_of};
 
 use ro_elf::{BadExe, SectionTable, word_at};
 
@@ -125,8 +125,8 @@ fn functions_among<'a>(
     bytes: &'a [u8],
     headers: &[[u8; HEADER_SIZE]],
 ) -> Result<Functions<'a>, BadExe>
-    ensures found { IfOk result (λ f. functions_under bytes.now headers.now (find is_symbol_table (map section_in headers.now)) ≡ Ok (record { symbols = f.symbols.now; strings = f.strings.now })) }
-    ensures refused { IfErr result (λ bad. functions_under bytes.now headers.now (find is_symbol_table (map section_in headers.now)) ≡ Err bad.code) }
+    ensures found { IfOk result (λ f. among bytes.now headers.now ≡ Ok (record { symbols = f.symbols.now; strings = f.strings.now })) }
+    ensures refused { IfErr result (λ bad. among bytes.now headers.now ≡ Err bad.code) }
 {
     let Some(symbols) = find_symbol_table(headers) else {
         return Ok(Functions {

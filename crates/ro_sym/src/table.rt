@@ -123,17 +123,15 @@ fn call_table(places: &[Place; FUNCTIONS]) -> CallTable
     ensures { result ≡ table_of places.now }
 {
     let [a, b, c, d, e, f, g, h, i] = *places;
-    CallTable {
-        addresses: [
-            a.address(),
-            b.address(),
-            c.address(),
-            d.address(),
-            e.address(),
-            f.address(),
-            g.address(),
-            h.address(),
-            i.address(),
-        ],
-    }
+    CallTable::new([
+        a.address(),
+        b.address(),
+        c.address(),
+        d.address(),
+        e.address(),
+        f.address(),
+        g.address(),
+        h.address(),
+        i.address(),
+    ])
 }

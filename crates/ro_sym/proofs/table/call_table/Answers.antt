@@ -1,5 +1,5 @@
 use Rattle.std.proofs.Common.{◌≡◌, List, map, ap, arith}
-use Rattle.ro_sym.specs.Calls.{address_of}
+use Rattle.ro_sym.specs.Calls.{address_of, table_of}
 use Rattle.ro_sym.specs.declared.symbols.Place.{Place}
 use Rattle.ro_sym.proofs.Rows.{nine_places}
 use Rattle.ro_sym.proofs.table.call_table.Goals as goal
@@ -19,4 +19,6 @@ returns c =
     let a7 = c.address-8.ensures in
     let a8 = c.address-9.ensures in
     let r = ap (map address_of) e in
-    cc
+    let n = c.new.ensures in
+    let same : c.new.result.addresses ≡ (table_of places).addresses = cc in
+    λ k. record { addresses = same k }

@@ -4,6 +4,7 @@ ghost use Rattle.ro_image.specs.Straight.{headers_of, words_of, is_addi as addi,
 ghost use Rattle.ro_image.specs.Reading.{Reads};
 
 use byteorder::{ByteOrder, LittleEndian};
+use ro_elf::BadExe;
 use std::alloc::{AllocError, Global};
 use std::marker::Model;
 
@@ -16,17 +17,33 @@ const MOST_WORDS: usize = 1_024;
 /// The words of an exit: ADDI a7, zero, 93 and ECALL.
 const EXIT: [u32; 2] = [0x05D0_0893, 0x0000_0073];
 
-/// A file is no executable that is accepted: the code of the first check that it fails.
-#[derive(Clone, Copy, Debug, PartialEq, Eq)]
-pub struct BadExe {
-    pub code: u8,
-}
-
 /// Why there is no image of a file.
 #[derive(Clone, Copy, Debug, PartialEq, Eq)]
 pub enum ImageError {
     Bad(BadExe),
     NoMemory,
+}
+
+impl From<BadExe> for ImageError {
+    ghost use Rattle.std.specs.Prelude.{◌≡◌};
+    ghost use Rattle.ro_image.specs.declared.reading.ImageError.TheVariants.{Bad};
+
+    ghost from_gives = { λ exe error. error ≡ Bad exe };
+
+    fn from(exe: BadExe) -> Self {
+        ImageError::Bad(exe)
+    }
+}
+
+impl From<AllocError> for ImageError {
+    ghost use Rattle.std.specs.Prelude.{◌≡◌};
+    ghost use Rattle.ro_image.specs.declared.reading.ImageError.TheVariants.{NoMemory};
+
+    ghost from_gives = { λ _ error. error ≡ NoMemory };
+
+    fn from(_: AllocError) -> Self {
+        ImageError::NoMemory
+    }
 }
 
 /// What an accepted executable says of the machine at its opening.

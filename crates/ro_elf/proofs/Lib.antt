@@ -1,0 +1,4 @@
+pub mod Tails
+pub mod Rows
+pub mod Checking
+pub mod Loading

@@ -1,0 +1,5 @@
+pub mod Numbers
+pub mod Checks
+pub mod Header
+pub mod Segments
+pub mod Elf

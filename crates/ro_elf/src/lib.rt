@@ -1,0 +1,16 @@
+//! The headers of an ELF32 executable for RISC-V: its entry, the segments that it loads and where its sections stand,
+//! or the first check that the file fails. Nothing here takes memory.
+#![tactic(auto)]
+
+mod elf;
+mod header;
+mod numbers;
+mod segments;
+
+pub use elf::{BadExe, Elf, MOST_SEGMENTS, read_elf};
+pub use header::SectionTable;
+pub use numbers::{half_at, word_at};
+pub use segments::Segment;
+
+#[cfg(test)]
+mod tests;

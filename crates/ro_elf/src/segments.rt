@@ -1,0 +1,310 @@
+//! Program headers and the segments that they load.
+ghost use Rattle.std.specs.Prelude.{◌≡◌, ◌+◌, ◌*◌, ◌^◌, ◌≤◌, ◌<◌, length, sum_by};
+ghost use Rattle.std.specs.List.{list_all};
+ghost use Rattle.ro_elf.specs.Checks.{first_failing};
+ghost use Rattle.ro_elf.specs.Segments.{header_in, headers_from, is_static, is_load, has_bytes, loaded_size, is_segment, segment_of, segments_of, end_of, is_within, is_apart, are_apart, lie_among, executes_at, executes, starts_at, fits_memory, segment_checks};
+
+use crate::header::{MOST_PROGRAM_HEADERS, PROGRAM_HEADER_SIZE};
+use crate::numbers::word_at;
+use arrayvec::ArrayVec;
+
+/// The addresses of programs: the first, and the first behind them.
+const LOWEST: u64 = 0x0001_0000;
+
+const HIGHEST: u64 = 0x4000_0000;
+
+/// How many bytes of memory a program's segments may take.
+const MOST_BYTES: u64 = 4_194_304;
+
+/// A program header: its type, where its bytes stand in the file and how many there are, where they go in memory and how
+/// many bytes they take there, and its flags.
+#[derive(Clone, Copy, PartialEq, Eq, Debug, Default)]
+pub(crate) struct ProgramHeader {
+    pub(crate) kind: u32,
+    pub(crate) offset: u32,
+    pub(crate) address: u32,
+    pub(crate) file_size: u32,
+    pub(crate) memory_size: u32,
+    pub(crate) flags: u32,
+}
+
+impl ProgramHeader {
+    // Whether it asks for no dynamic linking, no interpreter and no thread-local data.
+    fn has_static_type(&self) -> bool
+        ensures { result ≡ is_static self.now }
+    {
+        !matches!(self.kind, 2 | 3 | 7)
+    }
+
+    // Whether it loads a segment.
+    fn loads(&self) -> bool
+        ensures { result ≡ is_load self.now }
+    {
+        self.kind == 1
+    }
+
+    // Whether the bytes that it loads lie in a file of so many bytes, and in its memory.
+    fn finds_bytes(&self, size: u64) -> bool
+        ensures { result ≡ has_bytes size self.now }
+    {
+        if self.loads() {
+            u64::from(self.offset) + u64::from(self.file_size) <= size
+                && self.file_size <= self.memory_size
+        } else {
+            true
+        }
+    }
+
+    // How many bytes of memory it takes.
+    fn taken_size(&self) -> u64
+        ensures size { result ≡ loaded_size self.now }
+        ensures fits { result < 2 ^ 32 }
+    {
+        if self.loads() {
+            u64::from(self.memory_size)
+        } else {
+            0
+        }
+    }
+
+    // Whether it gives a segment.
+    fn gives_segment(&self) -> bool
+        ensures { result ≡ is_segment self.now }
+    {
+        self.loads() && self.memory_size > 0
+    }
+
+    // The segment that it gives.
+    fn segment(&self) -> Segment
+        ensures { result ≡ segment_of self.now }
+    {
+        Segment {
+            offset: self.offset,
+            address: self.address,
+            file_size: self.file_size,
+            memory_size: self.memory_size,
+            flags: self.flags,
+        }
+    }
+}
+
+/// A segment of the program: `file_size` bytes from `offset` on of the file go to `address`, and zeros behind them, up to
+/// `memory_size` bytes in all. Of the flags 1 lets its bytes be executed, 2 written and 4 read.
+#[derive(Clone, Copy, PartialEq, Eq, Debug, Default)]
+pub struct Segment {
+    pub offset: u32,
+    pub address: u32,
+    pub file_size: u32,
+    pub memory_size: u32,
+    pub flags: u32,
+}
+
+impl Segment {
+    ghost use Rattle.ro_elf.specs.Segments.{is_readable as readable, is_writable as writable, is_executable as executable};
+
+    /// Whether its bytes may be read.
+    pub fn is_readable(&self) -> bool
+        ensures { result ≡ readable self.now }
+    {
+        (self.flags >> 2) & 1 == 1
+    }
+
+    /// Whether its bytes may be written.
+    pub fn is_writable(&self) -> bool
+        ensures { result ≡ writable self.now }
+    {
+        (self.flags >> 1) & 1 == 1
+    }
+
+    /// Whether its bytes may be executed.
+    pub fn is_executable(&self) -> bool
+        ensures { result ≡ executable self.now }
+    {
+        self.flags & 1 == 1
+    }
+
+    // The first address behind it.
+    fn end(&self) -> u64
+        ensures { result ≡ end_of self.now }
+    {
+        u64::from(self.address) + u64::from(self.memory_size)
+    }
+
+    // Whether it lies among the addresses of programs.
+    fn lies_within(&self) -> bool
+        ensures { result ≡ is_within self.now }
+    {
+        LOWEST <= u64::from(self.address) && self.end() <= HIGHEST
+    }
+
+    // Whether it ends before the other starts, or the other before it.
+    fn lies_apart(&self, other: &Segment) -> bool
+        ensures { result ≡ is_apart self.now other.now }
+    {
+        self.end() <= u64::from(other.address) || other.end() <= u64::from(self.address)
+    }
+
+    // Whether it lies apart from each of the others.
+    fn lies_apart_from(&self, others: &[Segment]) -> bool
+        ensures { result ≡ list_all (is_apart self.now) others.now }
+    {
+        others.iter().all(|other| self.lies_apart(other))
+    }
+
+    // Whether the byte at an address is one of its own and may be executed.
+    fn executes_byte(&self, address: u64) -> bool
+        ensures { result ≡ executes_at address self.now }
+    {
+        u64::from(self.address) <= address && address < self.end() && self.is_executable()
+    }
+}
+
+// The program header at an offset.
+#[tactic(auto, unfolding(crate::specs::Segments::header_in))]
+fn header_at(bytes: &[u8], offset: usize) -> ProgramHeader
+    requires { offset + 32 ≤ length bytes.now }
+    ensures { result ≡ header_in bytes.now offset }
+{
+    ProgramHeader {
+        kind: word_at(bytes, offset),
+        offset: word_at(bytes, offset + 4),
+        address: word_at(bytes, offset + 8),
+        file_size: word_at(bytes, offset + 16),
+        memory_size: word_at(bytes, offset + 20),
+        flags: word_at(bytes, offset + 24),
+    }
+}
+
+// So many program headers from an offset on.
+pub(crate) fn headers_at(
+    bytes: &[u8],
+    offset: usize,
+    count: usize,
+) -> ArrayVec<ProgramHeader, MOST_PROGRAM_HEADERS>
+    requires few { count ≤ 32 }
+    requires within { offset + 32 * count ≤ length bytes.now }
+    ensures { result.items ≡ headers_from bytes.now offset count }
+{
+    let mut headers = ArrayVec::new();
+    for i in 0..count {
+        headers.push(header_at(bytes, offset + PROGRAM_HEADER_SIZE * i));
+    }
+    headers
+}
+
+// The segments that program headers give.
+pub(crate) fn segments_in(headers: &[ProgramHeader]) -> ArrayVec<Segment, MOST_PROGRAM_HEADERS>
+    requires { length headers.now ≤ 32 }
+    ensures { result.items ≡ segments_of headers.now }
+{
+    let mut segments = ArrayVec::new();
+    for header in headers {
+        if header.gives_segment() {
+            segments.push(header.segment());
+        }
+    }
+    segments
+}
+
+// The code of the first check of the program headers that a file of so many bytes fails.
+pub(crate) fn bad_segments(
+    size: u64,
+    entry: u32,
+    headers: &[ProgramHeader],
+    segments: &[Segment],
+) -> Option<u8>
+    requires few { length headers.now ≤ 32 }
+    requires given { segments.now ≡ segments_of headers.now }
+    ensures { result ≡ first_failing (segment_checks size entry headers.now) }
+{
+    if !need_no_linker(headers) {
+        Some(11)
+    } else if !find_bytes(headers, size) {
+        Some(12)
+    } else if !lie_well(segments) {
+        Some(13)
+    } else if !can_start(segments, entry) {
+        Some(14)
+    } else if !fit_memory(headers) {
+        Some(15)
+    } else {
+        None
+    }
+}
+
+// Whether no program header asks for more than to be loaded.
+fn need_no_linker(headers: &[ProgramHeader]) -> bool
+    ensures { result ≡ list_all is_static headers.now }
+{
+    headers.iter().all(|header| header.has_static_type())
+}
+
+// Whether the bytes that program headers load lie in a file of so many bytes, and in their memory.
+fn find_bytes(headers: &[ProgramHeader], size: u64) -> bool
+    ensures { result ≡ list_all (has_bytes size) headers.now }
+{
+    headers.iter().all(|header| header.finds_bytes(size))
+}
+
+// Whether program headers take as much memory as they may.
+fn fit_memory(headers: &[ProgramHeader]) -> bool
+    requires { length headers.now ≤ 32 }
+    ensures { result ≡ fits_memory headers.now }
+{
+    size_of_all(headers) <= MOST_BYTES
+}
+
+// How many bytes of memory program headers take.
+fn size_of_all(headers: &[ProgramHeader]) -> u64
+    requires { length headers.now ≤ 32 }
+    ensures { result ≡ sum_by loaded_size headers.now }
+{
+    headers.iter().map(|header| header.taken_size()).sum()
+}
+
+// Whether segments lie among the addresses of programs and share no byte.
+fn lie_well(segments: &[Segment]) -> bool
+    ensures { result ≡ lie_among segments.now }
+{
+    lie_within(segments) && lie_apart(segments)
+}
+
+// Whether segments lie among the addresses of programs.
+fn lie_within(segments: &[Segment]) -> bool
+    ensures { result ≡ list_all is_within segments.now }
+{
+    segments.iter().all(|segment| segment.lies_within())
+}
+
+// Whether no two segments share a byte.
+fn lie_apart(segments: &[Segment]) -> bool
+    ensures { result ≡ are_apart segments.now }
+{
+    for i in 0..segments.len() {
+        if !segments[i].lies_apart_from(&segments[i + 1..]) {
+            return false;
+        }
+    }
+    true
+}
+
+// Whether the byte at an address may be executed.
+fn executes_byte(segments: &[Segment], address: u64) -> bool
+    ensures { result ≡ executes segments.now address }
+{
+    segments
+        .iter()
+        .any(|segment| segment.executes_byte(address))
+}
+
+// Whether a word may be executed at the entry.
+fn can_start(segments: &[Segment], entry: u32) -> bool
+    ensures { result ≡ starts_at segments.now entry }
+{
+    let entry = u64::from(entry);
+    entry % 4 == 0
+        && executes_byte(segments, entry)
+        && executes_byte(segments, entry + 1)
+        && executes_byte(segments, entry + 2)
+        && executes_byte(segments, entry + 3)
+}

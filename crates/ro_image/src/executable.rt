@@ -1,0 +1,95 @@
+//! Reading an executable file in full.
+ghost use Rattle.std.specs.Prelude.{◌≡◌, IfOk, IfErr, None};
+ghost use Rattle.ro_image.specs.Pieces.{pieces_in};
+ghost use Rattle.ro_image.specs.Executable.{bad_code, image_of, Refuses};
+
+use crate::layout::{heap_start, program_ranges};
+use crate::pieces::{FilePiece, file_pieces};
+use crate::reading::ImageError;
+use ro_elf::read_elf;
+use ro_event::CallTable;
+use ro_region::Range;
+use ro_sym::calls;
+use std::alloc::Global;
+use std::marker::Model;
+
+/// What an executable says of the machine at its opening: the bytes that the file has, the ranges that are permitted, the
+/// addresses of the functions of POSIX threads, the first instruction, and where the heap starts.
+#[derive(Drop)]
+pub struct Executable {
+    pieces: Vec<FilePiece>,
+    ranges: Vec<Range>,
+    calls: CallTable,
+    entry: u32,
+    heap: u32,
+}
+
+impl Model for Executable {
+    ghost use Rattle.ro_image.specs.Image.{Image};
+    ghost use Rattle.ro_image.specs.Pieces.{pieces_in};
+
+    ghost Value = { Image };
+
+    ghost view = { λ e. record { pieces = pieces_in e.pieces.items; ranges = e.ranges.items; calls = e.calls; entry = e.entry; heap = e.heap } };
+}
+
+impl Executable {
+    /// The bytes that the file has of the segments, in the order of their headers.
+    pub fn pieces(&self) -> &[FilePiece]
+        ensures { pieces_in result.now ≡ self.now.pieces }
+    {
+        self.pieces.as_slice()
+    }
+
+    /// The permitted ranges: the segments, the heap and the stacks.
+    pub fn ranges(&self) -> &[Range]
+        ensures { result.now ≡ self.now.ranges }
+    {
+        self.ranges.as_slice()
+    }
+
+    /// The addresses of the functions of POSIX threads.
+    pub fn calls(&self) -> &CallTable
+        ensures { result.now ≡ self.now.calls }
+    {
+        &self.calls
+    }
+
+    /// The address of the first instruction.
+    pub fn entry(&self) -> u32
+        ensures { result ≡ self.now.entry }
+    {
+        self.entry
+    }
+
+    /// The first address of the heap.
+    pub fn heap(&self) -> u32
+        ensures { result ≡ self.now.heap }
+    {
+        self.heap
+    }
+}
+
+/// Reads an ELF32 executable for RISC-V: its image, or the code of the first check that it fails.
+///
+/// # Errors
+/// `Bad` with a code of 1 to 17 exactly where the file isn't accepted, and `NoMemory` where there is no memory for the
+/// image.
+pub fn read_executable(alloc: Global, bytes: &[u8]) -> Result<Executable, ImageError>
+    ensures accepted { IfOk result (λ image. bad_code bytes.now ≡ None) }
+    ensures read { IfOk result (λ image. image ≡ image_of bytes.now) }
+    ensures refused { IfErr result (Refuses bytes.now) }
+{
+    let elf = read_elf(bytes)?;
+    let calls = calls(bytes, &elf)?;
+    let heap = heap_start(elf.segments());
+    let pieces = file_pieces(alloc, bytes, elf.segments())?;
+    let ranges = program_ranges(alloc, elf.segments(), heap)?;
+    Ok(Executable {
+        pieces,
+        ranges,
+        calls,
+        entry: elf.entry(),
+        heap,
+    })
+}

@@ -1,0 +1,11 @@
+//! Executables made of words: ELF32 files for RISC-V with one segment, which begins with the file's own headers.
+#![tactic(auto)]
+
+mod headers;
+mod make;
+mod names;
+
+pub use make::image_bytes;
+
+#[cfg(test)]
+mod tests;

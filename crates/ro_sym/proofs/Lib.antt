@@ -1,0 +1,3 @@
+pub mod Rows
+pub mod Among
+pub mod Ends

@@ -1,0 +1,145 @@
+//! Function symbols and their names.
+ghost use Rattle.std.specs.Prelude.{◌≡◌, ℕ, ◌<◌, nat_lt, length, map, find, drop, nat_eq};
+ghost use Rattle.std.specs.List.{list_all, starts_with};
+ghost use Rattle.ro_sym.specs.Symbols.{symbol_in, is_function, is_ended, is_below, are_ended, is_called, agrees, place_of};
+
+use crate::sections::SYMBOL_SIZE;
+use ro_elf::{half_at, word_at};
+
+/// A symbol: the place of its name among the strings, its value, its type in the low four bits of `info`, and the number of
+/// the section that it is defined in, or 0.
+#[derive(Clone, Copy, PartialEq, Eq, Debug)]
+pub(crate) struct Symbol {
+    pub(crate) name: u32,
+    pub(crate) value: u32,
+    pub(crate) info: u8,
+    pub(crate) section: u16,
+}
+
+/// The values of the functions with one name: none, one, or more than one.
+#[derive(Clone, Copy, PartialEq, Eq, Debug)]
+pub(crate) enum Place {
+    Nowhere,
+    At(u32),
+    Several,
+}
+
+impl Symbol {
+    // The symbol that 16 bytes spell.
+    #[tactic(auto, unfolding(crate::specs::Symbols::symbol_in))]
+    fn from_entry(entry: &[u8; SYMBOL_SIZE]) -> Self
+        ensures { result ≡ symbol_in entry.now }
+    {
+        Symbol {
+            name: word_at(entry, 0),
+            value: word_at(entry, 4),
+            info: entry[12],
+            section: half_at(entry, 14),
+        }
+    }
+
+    // Whether it is a function of the file.
+    fn is_defined_function(&self) -> bool
+        ensures { result ≡ is_function self.now }
+    {
+        self.info % 16 == 2 && self.section != 0
+    }
+
+    // Whether its name starts below a place, where it is a function.
+    fn starts_below(&self, place: usize) -> bool
+        ensures { result ≡ is_below place self.now }
+    {
+        !self.is_defined_function() || (self.name as usize) < place
+    }
+
+    // Whether it is a function with a name, which is given with the zero byte behind it.
+    fn has_name(&self, strings: &[u8], name: &[u8]) -> bool
+        requires { 0 < length name.now }
+        ensures { result ≡ is_called strings.now name.now self.now }
+    {
+        self.is_defined_function() && stands_at(strings, self.name as usize, name)
+    }
+
+    // Whether it has a value, where it is a function with a name.
+    fn has_value(&self, strings: &[u8], name: &[u8], value: u32) -> bool
+        requires { 0 < length name.now }
+        ensures { result ≡ agrees strings.now name.now value self.now }
+    {
+        !self.has_name(strings, name) || self.value == value
+    }
+}
+
+// How many bytes stand up to the last zero byte, and with it: a string that starts among them is ended.
+fn ended_size(strings: &[u8]) -> usize
+    ensures { (place : ℕ) → is_ended strings.now place ≡ nat_lt place result }
+{
+    let mut size = 0;
+    for (i, byte) in strings.iter().enumerate() {
+        if *byte == 0 {
+            size = i + 1;
+        }
+    }
+    size
+}
+
+// Whether a text stands at a place.
+fn stands_at(strings: &[u8], place: usize, text: &[u8]) -> bool
+    requires { 0 < length text.now }
+    ensures { result ≡ starts_with nat_eq (drop place strings.now) text.now }
+{
+    place < strings.len() && strings[place..].starts_with(text)
+}
+
+// Whether the names of all functions are ended.
+pub(crate) fn names_end(symbols: &[[u8; SYMBOL_SIZE]], strings: &[u8]) -> bool
+    ensures { result ≡ are_ended strings.now (map symbol_in symbols.now) }
+{
+    all_below(symbols, ended_size(strings))
+}
+
+// Whether the names of all functions start below a place.
+fn all_below(symbols: &[[u8; SYMBOL_SIZE]], place: usize) -> bool
+    ensures { result ≡ list_all (is_below place) (map symbol_in symbols.now) }
+{
+    symbols
+        .iter()
+        .map(|entry| Symbol::from_entry(entry))
+        .all(|symbol| symbol.starts_below(place))
+}
+
+// The first function with a name.
+fn find_called(symbols: &[[u8; SYMBOL_SIZE]], strings: &[u8], name: &[u8]) -> Option<Symbol>
+    requires { 0 < length name.now }
+    ensures { result ≡ find (is_called strings.now name.now) (map symbol_in symbols.now) }
+{
+    symbols
+        .iter()
+        .map(|entry| Symbol::from_entry(entry))
+        .find(|symbol| symbol.has_name(strings, name))
+}
+
+// Whether each function with a name has a value.
+fn all_at(symbols: &[[u8; SYMBOL_SIZE]], strings: &[u8], name: &[u8], value: u32) -> bool
+    requires { 0 < length name.now }
+    ensures { result ≡ list_all (agrees strings.now name.now value) (map symbol_in symbols.now) }
+{
+    symbols
+        .iter()
+        .map(|entry| Symbol::from_entry(entry))
+        .all(|symbol| symbol.has_value(strings, name, value))
+}
+
+// The value of the functions with a name, which is given with the zero byte behind it.
+pub(crate) fn find_place(symbols: &[[u8; SYMBOL_SIZE]], strings: &[u8], name: &[u8]) -> Place
+    requires { 0 < length name.now }
+    ensures { result ≡ place_of strings.now (map symbol_in symbols.now) name.now }
+{
+    let Some(first) = find_called(symbols, strings, name) else {
+        return Place::Nowhere;
+    };
+    if all_at(symbols, strings, name, first.value) {
+        Place::At(first.value)
+    } else {
+        Place::Several
+    }
+}

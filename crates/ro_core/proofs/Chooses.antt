@@ -1,6 +1,6 @@
 -- The choice of the core while nothing is due, from what its seats show.
-use Rattle.std.proofs.Common.{◌≡◌, ℕ, zero, suc, Bool, true, false, true≢false, cond, not, ◌&&◌, ◌||◌, List, [], ◌∷◌, length, Option, Some, None, refl, sym, ap, ◌∙◌, subst, arith, eqb-true}
-use Rattle.std.specs.Prelude.{◌==◌, if◌then◌else◌, is_some, is_none, slice_get}
+use Rattle.std.proofs.Common.{◌≡◌, ℕ, suc, Bool, true, false, true≢false, not, ◌&&◌, List, [], ◌∷◌, length, Option, Some, None, refl, sym, ap, ◌∙◌, subst, arith, eqb-true}
+use Rattle.std.specs.Prelude.{◌==◌, if◌then◌else◌, is_some, slice_get}
 use Rattle.std.specs.List.{list_all, list_any}
 use Rattle.std.specs.Option.{option_map_or}
 use Rattle.ro_journal.specs.declared.How.{How}
@@ -8,13 +8,13 @@ use Rattle.ro_journal.specs.declared.How.TheVariants.{Deadlock}
 use Rattle.ro_journal.specs.declared.Entry.{Entry}
 use Rattle.ro_replica.specs.Replica.{Replica, stop_of}
 use Rattle.ro_core.specs.declared.actions.Action.{Action}
-use Rattle.ro_core.specs.declared.actions.Action.TheVariants.{Vote as DoVote, Free as DoFree, Lend, End as DoEnd, Wait, Over}
+use Rattle.ro_core.specs.declared.actions.Action.TheVariants.{Vote as DoVote, Free as DoFree, Lend, End as DoEnd, Wait}
 use Rattle.ro_core.specs.declared.actions.Lease.{Lease}
 use Rattle.ro_core.specs.Core.{Job, Core, is_home, is_unstopped, is_lendable}
-use Rattle.ro_core.specs.Action.{or_else, map_action, lend_in, lend_next, action_or, next_action}
+use Rattle.ro_core.specs.Action.{or_else, map_action, lend_in, action_or, next_action}
 use Rattle.ro_core.specs.Legal.{replay}
 use Rattle.ro_core.specs.Line.{line_end}
-use Rattle.ro_core.specs.Replicas.{ReplicaOf, replica_of}
+use Rattle.ro_core.specs.Replicas.{ReplicaOf}
 use Rattle.ro_core.specs.Seen.{Seated, AreSeated, Holds, seat_stopped, seat_free, first_free_from, line_next}
 use Rattle.ro_core.proofs.LineRuns.{some_is}
 use Rattle.ro_core.proofs.LineJournals.{going_core, Phase, going, ending, over}

@@ -1,5 +1,5 @@
 -- The fields of a core, at its opening and behind one entry more.
-use Rattle.std.proofs.Common.{◌≡◌, ℕ, zero, suc, ◌+◌, ◌≤◌, ◌<◌, Bool, true, false, true≢false, cond, List, [], ◌∷◌, ◌++◌, length, Option, Some, None, refl, sym, ap, ◌∙◌, subst, arith, eqb-true}
+use Rattle.std.proofs.Common.{◌≡◌, ℕ, zero, suc, ◌+◌, ◌≤◌, ◌<◌, Bool, true, false, cond, List, [], ◌∷◌, ◌++◌, length, Option, Some, None, refl, sym, ap, ◌∙◌, subst, arith, eqb-true}
 use Rattle.std.specs.Prelude.{◌==◌, slice_get}
 use Rattle.std.proofs.lemmas.Bool.{lt-ltb}
 use Rattle.std.specs.List.{find}
@@ -9,11 +9,10 @@ use Rattle.ro_image.specs.Image.{Image}
 use Rattle.ro_image.specs.Straight.{image_with}
 use Rattle.ro_replica.specs.Replica.{Replica, opening_replica}
 use Rattle.ro_core.specs.declared.actions.Lease.{Lease}
-use Rattle.ro_core.specs.Core.{Job, Core, opening_core}
-use Rattle.ro_core.specs.Legal.{replay}
+use Rattle.ro_core.specs.Core.{Job, opening_core}
 use Rattle.ro_core.specs.Defaults.{default_job}
 use Rattle.ro_core.specs.Line.{IsLine}
-use Rattle.ro_core.specs.Replicas.{ReplicaOf, replica_of}
+use Rattle.ro_core.specs.Replicas.{ReplicaOf}
 use Rattle.ro_core.specs.Seen.{CoreOf, Appends, Seated, AreSeated, Holds, IsFirst, AreFirst, spare_of}
 
 pub appends : (job : Job) (journal new : List Entry) (room room' : ℕ) (held : Option (List ℕ)) (faults : ℕ) (old : CoreOf) (entry : Entry)

@@ -1,12 +1,11 @@
 -- Journals that grow at their end.
-use Rattle.std.proofs.Common.{◌≡◌, ℕ, ◌<◌, List, [], ◌∷◌, ◌++◌, Option, Some, None, refl, sym, ap, ◌∙◌, append_assoc}
-use Rattle.ro_journal.specs.declared.How.{How}
+use Rattle.std.proofs.Common.{◌≡◌, ℕ, List, [], ◌∷◌, ◌++◌, Some, None, refl, sym, ap, ◌∙◌, append_assoc}
 use Rattle.ro_journal.specs.declared.Entry.{Entry}
 use Rattle.ro_journal.specs.declared.Entry.TheVariants.{Take, Put, Vote, Free, End}
 use Rattle.ro_journal.specs.Plan.{entry_plan, plan_of, outcome_of}
 use Rattle.ro_core.specs.Core.{Job, Core}
-use Rattle.ro_core.specs.Legal.{IsAllowed, after, LegalFrom, replay_from}
-use Rattle.ro_core.specs.Action.{IsNext, EachIsNext}
+use Rattle.ro_core.specs.Legal.{after, LegalFrom, replay_from}
+use Rattle.ro_core.specs.Action.{EachIsNext}
 
 pub plan_of-append : (xs ys : List Entry) → plan_of (xs ++ ys) ≡ plan_of xs ++ plan_of ys
 plan_of-append [] ys = refl

@@ -1,14 +1,14 @@
 -- The leases that are out: no two of them are of one replica.
-use Rattle.std.proofs.Common.{◌≡◌, ◌≢◌, ℕ, zero, suc, Bool, true, false, true≢false, not, cond, ◌&&◌, ◌||◌, List, [], ◌∷◌, Option, Some, None, refl, sym, ap, ◌∙◌, subst, eqb-true, eq-eqb}
-use Rattle.std.specs.Prelude.{◌==◌, IsTrue}
-use Rattle.std.specs.List.{filter, list_any, find}
+use Rattle.std.proofs.Common.{◌≡◌, ℕ, Bool, true, false, true≢false, not, cond, ◌&&◌, ◌||◌, List, [], ◌∷◌, Option, Some, None, refl, sym, ap, ◌∙◌, subst, eqb-true}
+use Rattle.std.specs.Prelude.{◌==◌}
+use Rattle.std.specs.List.{filter, list_any}
 use Rattle.std.proofs.lemmas.Bool.{and_parts}
 use Rattle.ro_journal.specs.declared.Entry.{Entry}
 use Rattle.ro_journal.specs.declared.Entry.TheVariants.{Take, Put, Vote, Free, End}
 use Rattle.ro_replica.specs.Replica.{Replica}
 use Rattle.ro_replica.specs.Runs.{Ran}
 use Rattle.ro_core.specs.declared.actions.Lease.{Lease}
-use Rattle.ro_core.specs.Core.{Job, Core, opening_core, is_home, is_out, is_lendable}
+use Rattle.ro_core.specs.Core.{Job, Core, opening_core, is_home}
 use Rattle.ro_kernel.specs.Kernel.{lives_on}
 use Rattle.ro_core.specs.Event.{Event, with_recovered}
 use Rattle.ro_core.specs.Legal.{is_lease, core_after_put, core_after_event, lease_run, event_in, freed_event, after, IsAllowed, LegalFrom, Legal, replay_from, replay}

@@ -1,10 +1,10 @@
 -- The words of a straight-line guest in memory.
-use Rattle.std.proofs.Common.{◌≡◌, ◌≢◌, ℕ, zero, suc, ◌+◌, ◌-◌, ◌*◌, ◌/◌, ◌%◌, ◌^◌, ◌<◌, ◌≤◌, Bool, true, false, cond, List, [], ◌∷◌, ◌++◌, length, take, get_or, Option, Some, None, refl, sym, ap, ◌∙◌, arith, length-append, le-leb, leb-true}
+use Rattle.std.proofs.Common.{◌≡◌, ℕ, zero, suc, ◌+◌, ◌-◌, ◌*◌, ◌/◌, ◌%◌, ◌^◌, ◌<◌, ◌≤◌, Bool, cond, List, [], ◌∷◌, length, get_or, refl, sym, ap, ◌∙◌, arith, le-leb}
 use Rattle.std.specs.List.{flat_map}
 use Rattle.std.specs.Prelude.{slice_index}
-use Rattle.std.proofs.lemmas.Bool.{lt-ltb, ltb-true, and_from, and_parts}
+use Rattle.std.proofs.lemmas.Bool.{lt-ltb, and_from}
 use Rattle.std.proofs.lemmas.List.{get_or-append-add}
-use Rattle.ro_pages.specs.Bytes.{Memory, within, bytes_of, bytes_at, number_of, number_at, stored}
+use Rattle.ro_pages.specs.Bytes.{Memory, bytes_at, number_of, number_at, stored}
 use Rattle.ro_image.specs.Image.{memory_of}
 use Rattle.ro_image.specs.Straight.{word, headers_of, file_of, size_with, load_place, entry_place, image_with}
 use Rattle.ro_core.specs.Line.{AreWords}

@@ -1,13 +1,13 @@
 -- The code of a straight-line guest: which word stands where, and the registers as it runs.
-use Rattle.std.proofs.Common.{◌≡◌, ◌≢◌, ℕ, zero, suc, ◌+◌, ◌-◌, ◌*◌, ◌/◌, ◌%◌, ◌^◌, ◌<◌, ◌≤◌, ◌⊎◌, inl, inr, Bool, true, false, true≢false, cond, ◌&&◌, ◌||◌, List, [], ◌∷◌, length, get_or, Option, Some, None, refl, sym, ap, ◌∙◌, subst, arith, rules, eqb-true}
-use Rattle.std.specs.Prelude.{◌==◌, slice_index, slice_set, slice_get, replicate}
-use Rattle.std.proofs.lemmas.Bool.{and_from, and_parts}
-use Rattle.ro_decode.specs.Fields.{rd_in, rs1_in, i_immediate}
+use Rattle.std.proofs.Common.{◌≡◌, ℕ, zero, suc, ◌+◌, ◌-◌, ◌*◌, ◌<◌, ◌≤◌, ◌⊎◌, inl, inr, Bool, true, false, cond, ◌&&◌, ◌||◌, List, [], ◌∷◌, length, get_or, refl, sym, ap, ◌∙◌, arith, rules, eqb-true}
+use Rattle.std.specs.Prelude.{◌==◌, slice_index, slice_set}
+use Rattle.std.proofs.lemmas.Bool.{and_parts}
+use Rattle.ro_decode.specs.Fields.{rd_in}
 use Rattle.ro_exec.specs.declared.Cpu.{Cpu}
 use Rattle.ro_exec.specs.Registers.{register, with_register}
 use Rattle.ro_exec.specs.Threads.{first_cpu}
 use Rattle.ro_alu.specs.Results.{alu_of}
-use Rattle.ro_image.specs.Straight.{is_addi, is_exit, is_straight, is_guest, entry_place}
+use Rattle.ro_image.specs.Straight.{is_addi, is_exit, is_straight, entry_place}
 use Rattle.ro_core.specs.Line.{after_addi, line_cpu, line_length, exits, last_cpu}
 
 -- what stands at a place of straight-line words

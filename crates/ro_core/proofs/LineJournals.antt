@@ -1,15 +1,13 @@
 -- The legal journals of a straight-line guest's run: three replicas run to one stop, and one vote ends the program.
-use Rattle.std.proofs.Common.{◌≡◌, ◌≢◌, ℕ, zero, suc, ◌+◌, ◌-◌, ◌*◌, ◌%◌, ◌^◌, ◌<◌, ◌≤◌, ◌⊎◌, inl, inr, Bool, true, false, true≢false, cond, not, ◌&&◌, ◌||◌, List, [], ◌∷◌, ◌++◌, length, get_or, Option, Some, None, refl, sym, ap, ◌∙◌, subst, arith, append_assoc, eqb-true, eq-eqb, leb-true}
-use Rattle.std.specs.Prelude.{if◌then◌else◌, ◌==◌, nat_le, nat_lt, slice_get, slice_set, slice_index, IsSome, IsTrue, is_some, is_none, replicate}
+use Rattle.std.proofs.Common.{◌≡◌, ℕ, zero, suc, ◌+◌, ◌%◌, ◌<◌, inl, inr, Bool, true, false, true≢false, cond, not, ◌&&◌, ◌||◌, List, [], ◌∷◌, ◌++◌, length, Option, Some, None, refl, sym, ap, ◌∙◌, subst, arith, append_assoc, eqb-true}
+use Rattle.std.specs.Prelude.{if◌then◌else◌, ◌==◌, IsSome, is_some, is_none, replicate}
 use Rattle.std.specs.List.{filter, list_all, list_any}
-use Rattle.std.specs.Option.{option_map, option_and_then}
 use Rattle.std.proofs.lemmas.List.{append-nil}
-use Rattle.std.proofs.lemmas.Bool.{cases_lt, and_from, and_parts}
+use Rattle.std.proofs.lemmas.Bool.{and_parts}
 use Rattle.ro_event.specs.declared.calls.Which.TheVariants.{System}
-use Rattle.ro_event.specs.declared.calls.Call.{Call}
 use Rattle.ro_event.specs.declared.stops.Stop.{Stop}
-use Rattle.ro_event.specs.declared.stops.Stop.TheVariants.{Calls, Trap}
-use Rattle.ro_event.specs.Views.{View, same_view}
+use Rattle.ro_event.specs.declared.stops.Stop.TheVariants.{Trap}
+use Rattle.ro_event.specs.Views.{View}
 use Rattle.ro_event.proofs.Same.{view-same}
 use Rattle.ro_journal.specs.declared.Did.{Did}
 use Rattle.ro_journal.specs.declared.Did.TheVariants.{Served as WasServed, Trapped}
@@ -18,26 +16,25 @@ use Rattle.ro_journal.specs.declared.How.TheVariants.{Exit, Deadlock, Trap as Tr
 use Rattle.ro_journal.specs.declared.Entry.{Entry}
 use Rattle.ro_journal.specs.declared.Entry.TheVariants.{Take, Put, Vote, Free, End}
 use Rattle.ro_journal.specs.Plan.{event_steps, entry_plan, plan_of, outcome_of}
-use Rattle.ro_kernel.specs.Serve.{serve, payload_of}
-use Rattle.ro_thread.specs.declared.Thread.{Thread}
+use Rattle.ro_kernel.specs.Serve.{serve}
 use Rattle.ro_exec.specs.Next.{call_of}
 use Rattle.ro_exec.specs.Registers.{register}
-use Rattle.ro_replica.specs.Replica.{Replica, opening_replica, changed_at, stop_of}
-use Rattle.ro_replica.specs.Runs.{Ran, struck, execute, run_of, standing_at, with_stop}
+use Rattle.ro_replica.specs.Replica.{Replica, opening_replica, stop_of}
+use Rattle.ro_replica.specs.Runs.{Ran, struck, execute, run_of, standing_at}
 use Rattle.ro_vote.specs.Verdict.{Won, Split, verdict_of}
-use Rattle.ro_plain.specs.Machine.{layout_of, setup_of}
+use Rattle.ro_plain.specs.Machine.{setup_of}
 use Rattle.ro_image.specs.Straight.{image_with}
 use Rattle.ro_core.specs.declared.actions.Lease.{Lease}
 use Rattle.ro_core.specs.Core.{Job, Core, opening_core, is_going, nothing_lent, is_out, is_lendable, may_vote, may_free, payload_at, view_with, views_of}
 use Rattle.ro_core.specs.Event.{Event, event_of, quiet_effect, core_after}
 use Rattle.ro_kernel.specs.Kernel.{lives_on}
-use Rattle.ro_core.specs.Legal.{lease_run, is_lease, arrival, arrived, HasArrived, core_after_put, core_after_event, cut_output, MayTake, MayPut, MayVote, MayFree, MayEnd, due, alone, for_vote, for_free, EndsVote, EndsFree, EndsAlone, PassesLimit, event_in, since_in, is_stuck, any_below, IsAllowed, after, LegalFrom, Legal, replay_from}
+use Rattle.ro_core.specs.Legal.{lease_run, is_lease, arrival, arrived, HasArrived, core_after_put, core_after_event, cut_output, MayPut, MayVote, MayEnd, due, alone, for_vote, for_free, EndsVote, event_in, since_in, is_stuck, any_below, IsAllowed, after, LegalFrom, Legal, replay_from}
 use Rattle.ro_core.specs.Defaults.{default_job}
-use Rattle.ro_core.specs.Line.{IsLine, line_cpu, line_length, exits, last_cpu, line_stop, line_end}
+use Rattle.ro_core.specs.Line.{IsLine, line_length, exits, last_cpu, line_stop, line_end}
 use Rattle.ro_core.specs.Replicas.{line_thread}
 use Rattle.ro_core.proofs.LineBytes.{line_memory}
 use Rattle.ro_core.proofs.LineNext.{line_layout}
-use Rattle.ro_core.proofs.LineRuns.{line_replica, stopped_replica, the_watchdog, opening_is_line, run_is, run_stopped, line_standing_last, some_is, few_steps}
+use Rattle.ro_core.proofs.LineRuns.{line_replica, stopped_replica, the_watchdog, run_is, run_stopped, line_standing_last, some_is, few_steps}
 use Rattle.ro_core.proofs.LineMachine.{line_kernel}
 use Rattle.ro_core.proofs.Journals.{plan_of-append, outcome_of-append}
 

@@ -1,27 +1,23 @@
 -- A straight-line guest on the unreplicated machine.
-use Rattle.std.proofs.Common.{◌≡◌, ◌≢◌, ℕ, zero, suc, ◌+◌, ◌-◌, ◌*◌, ◌%◌, ◌^◌, ◌<◌, ◌≤◌, ◌⊎◌, inl, inr, Bool, true, false, true≢false, cond, not, ◌&&◌, ◌||◌, List, [], ◌∷◌, ◌++◌, length, get_or, Option, Some, None, refl, sym, ap, ◌∙◌, subst, arith, eqb-true, eq-eqb, leb-true}
-use Rattle.std.specs.Prelude.{◌==◌, nat_le, nat_lt, slice_get, slice_index, slice_index_or, IsSome, IsTrue, replicate}
-use Rattle.std.specs.Option.{option_map, option_and_then}
+use Rattle.std.proofs.Common.{◌≡◌, ℕ, zero, suc, ◌+◌, ◌%◌, ◌<◌, ◌≤◌, inl, inr, Bool, true, false, cond, List, [], ◌∷◌, ◌++◌, length, Option, Some, None, refl, sym, ap, ◌∙◌, arith}
+use Rattle.std.specs.Prelude.{slice_get, replicate}
+use Rattle.std.specs.Option.{option_and_then}
 use Rattle.ro_event.specs.declared.calls.Which.TheVariants.{System}
-use Rattle.ro_event.specs.declared.calls.Call.{Call}
-use Rattle.ro_event.specs.declared.stops.Stop.{Stop}
-use Rattle.ro_event.specs.declared.stops.Stop.TheVariants.{Calls, Trap}
+use Rattle.ro_event.specs.declared.stops.Stop.TheVariants.{Trap}
 use Rattle.ro_journal.specs.declared.How.{How}
 use Rattle.ro_journal.specs.declared.How.TheVariants.{Exit, Trap as TrapHow}
 use Rattle.ro_exec.specs.Registers.{register}
-use Rattle.ro_exec.specs.declared.Cpu.{Cpu}
 use Rattle.ro_exec.specs.Meaning.{meaning}
-use Rattle.ro_exec.specs.Next.{Next, Stands as StandsAt, Executes, call_of, all_backed}
+use Rattle.ro_exec.specs.Next.{Stands as StandsAt, call_of, all_backed}
 use Rattle.ro_kernel.specs.Kernel.{Kernel, opening_kernel}
-use Rattle.ro_kernel.specs.Serve.{Served, serve, payload_of}
+use Rattle.ro_kernel.specs.Serve.{serve}
 use Rattle.ro_image.specs.Straight.{image_with}
-use Rattle.ro_plain.specs.Machine.{Program, layout_of, setup_of, Machine, opening, executed, step_by, next_of, steppable, step, run}
+use Rattle.ro_plain.specs.Machine.{Program, Machine, opening, step_by, steppable, step, run}
 use Rattle.ro_plain.specs.Order.{RaceFree}
 use Rattle.ro_plain.proofs.Swap.{run-append}
 use Rattle.std.proofs.lemmas.Bool.{cases_lt}
-use Rattle.ro_core.specs.Line.{IsLine, addi_of, line_cpu, line_length, exits, last_cpu, line_stop, line_end}
+use Rattle.ro_core.specs.Line.{IsLine, line_cpu, line_length, exits, last_cpu, line_end}
 use Rattle.ro_core.proofs.LineBytes.{line_memory}
-use Rattle.ro_core.proofs.LineNext.{line_layout}
 use Rattle.ro_core.proofs.LineRuns.{next_before, next_last}
 
 abbrev pub line_program : List ℕ → Program

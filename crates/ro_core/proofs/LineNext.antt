@@ -1,15 +1,10 @@
 -- What a straight-line guest's thread does next.
-use Rattle.std.proofs.Common.{◌≡◌, ◌≢◌, ℕ, zero, suc, ◌+◌, ◌-◌, ◌*◌, ◌/◌, ◌%◌, ◌^◌, ◌<◌, ◌≤◌, ◌⊎◌, inl, inr, Bool, true, false, true≢false, cond, not, ◌&&◌, ◌||◌, List, [], ◌∷◌, ◌++◌, length, get_or, Option, Some, None, refl, sym, ap, ◌∙◌, subst, arith, rules, eqb-true, eq-eqb, le-leb, leb-true}
-use Rattle.std.specs.Prelude.{◌==◌, nat_le, nat_lt, slice_index}
+use Rattle.std.proofs.Common.{◌≡◌, ℕ, ◌+◌, ◌-◌, ◌*◌, ◌/◌, ◌%◌, ◌^◌, ◌<◌, ◌≤◌, Bool, true, false, not, ◌&&◌, ◌||◌, List, [], ◌∷◌, length, get_or, Option, Some, None, refl, ap, ◌∙◌, arith, eqb-true, eq-eqb, le-leb}
+use Rattle.std.specs.Prelude.{◌==◌, nat_le, nat_lt}
 use Rattle.std.specs.List.{list_any}
-use Rattle.std.specs.Option.{option_map}
 use Rattle.std.proofs.lemmas.Bool.{and_from, and_parts, lt-ltb, ltb-true}
-use Rattle.ro_decode.specs.Fields.{opcode_in, rd_in, funct3_in, rs1_in, rs2_in, funct7_in, i_immediate, field}
-use Rattle.ro_decode.specs.declared.AluOp.TheVariants.{Add}
-use Rattle.ro_decode.specs.declared.Instr.{Instr}
-use Rattle.ro_decode.specs.declared.Instr.TheVariants.{AluImm, Ecall}
+use Rattle.ro_decode.specs.declared.Instr.TheVariants.{Ecall}
 use Rattle.ro_decode.specs.Table.{instruction_of}
-use Rattle.ro_event.specs.declared.calls.Which.{Which}
 use Rattle.ro_event.specs.declared.calls.Which.TheVariants.{System, Exit}
 use Rattle.ro_event.specs.declared.stops.Stop.{Stop}
 use Rattle.ro_event.specs.declared.stops.Stop.TheVariants.{Trap, PageFault}
@@ -17,16 +12,16 @@ use Rattle.ro_event.specs.Table.{call_at}
 use Rattle.ro_region.specs.declared.Range.{Range}
 use Rattle.ro_region.specs.declared.Kind.TheVariants.{Execute}
 use Rattle.ro_region.specs.Permission.{permits_byte, permits_each, permits_of}
-use Rattle.ro_pages.specs.Bytes.{Memory, number_at, page_of, covers_page}
+use Rattle.ro_pages.specs.Bytes.{number_at, page_of}
 use Rattle.ro_exec.specs.declared.Cpu.{Cpu}
 use Rattle.ro_exec.specs.Registers.{register}
 use Rattle.ro_exec.specs.Next.{Layout, Backed, Next, Stands as StandsAt, Executes, exit_place, call_of, first, stop_if, fetch_stop, instruction_stop, unless_stop, next_at, next}
 use Rattle.ro_image.specs.Image.{holds_file_byte, ranges_with}
-use Rattle.ro_image.specs.Straight.{is_addi, is_straight, is_guest, entry_place, load_place, size_with, file_of, no_calls, segment_of, heap_behind, image_with}
+use Rattle.ro_image.specs.Straight.{is_addi, entry_place, load_place, size_with, file_of, no_calls, segment_of, heap_behind, image_with}
 use Rattle.ro_image.proofs.Files.{length-file_of}
-use Rattle.ro_core.specs.Line.{AreWords, addi_of, line_cpu, line_length}
+use Rattle.ro_core.specs.Line.{AreWords, addi_of, line_cpu}
 use Rattle.ro_core.proofs.LineBytes.{line_memory, word_at}
-use Rattle.ro_core.proofs.LineCode.{Stands, an_addi, the_call, the_end, line_pc, line_length-le}
+use Rattle.ro_core.proofs.LineCode.{line_pc}
 
 abbrev pub line_layout : List ℕ → Layout
 line_layout words = record { ranges = (image_with words).ranges; calls = no_calls }

@@ -1,24 +1,18 @@
 -- The run of a straight-line guest, in a replica and on the unreplicated machine.
-use Rattle.std.proofs.Common.{◌≡◌, ◌≢◌, ℕ, zero, suc, ◌+◌, ◌-◌, ◌*◌, ◌%◌, ◌^◌, ◌<◌, ◌≤◌, ◌⊎◌, inl, inr, Bool, true, false, true≢false, cond, not, ◌&&◌, ◌||◌, List, [], ◌∷◌, ◌++◌, length, get_or, Option, Some, None, refl, sym, ap, ◌∙◌, subst, arith, eqb-true, eq-eqb, leb-true}
-use Rattle.std.specs.Prelude.{◌==◌, nat_le, nat_lt, slice_get, slice_index, IsSome, IsTrue, replicate}
+use Rattle.std.proofs.Common.{◌≡◌, ℕ, zero, suc, ◌+◌, ◌<◌, ◌≤◌, ◌⊎◌, inl, inr, Bool, true, false, cond, ◌&&◌, List, [], ◌∷◌, length, get_or, Option, Some, None, refl, sym, ap, ◌∙◌, subst, arith, eqb-true, leb-true}
+use Rattle.std.specs.Prelude.{◌==◌, nat_le, IsSome}
 use Rattle.std.specs.Option.{option_map, option_and_then}
-use Rattle.std.proofs.lemmas.Bool.{cases_lt, and_from, and_parts}
+use Rattle.std.proofs.lemmas.Bool.{cases_lt, and_parts}
 use Rattle.ro_event.specs.declared.calls.Which.TheVariants.{System}
-use Rattle.ro_event.specs.declared.calls.Call.{Call}
 use Rattle.ro_event.specs.declared.stops.Stop.{Stop}
-use Rattle.ro_event.specs.declared.stops.Stop.TheVariants.{Calls, Trap, Watchdog}
-use Rattle.ro_pages.specs.Bytes.{Memory}
-use Rattle.ro_exec.specs.declared.Cpu.{Cpu}
+use Rattle.ro_event.specs.declared.stops.Stop.TheVariants.{Trap, Watchdog}
 use Rattle.ro_exec.specs.Meaning.{meaning}
-use Rattle.ro_exec.specs.Registers.{register}
-use Rattle.ro_exec.specs.Next.{Layout, Backed, all_backed, Next, Stands as StandsAt, Executes, call_of, stop_in, next, change_of}
-use Rattle.ro_thread.specs.declared.Thread.{Thread}
-use Rattle.ro_thread.specs.Stops.{standing}
+use Rattle.ro_exec.specs.Next.{Backed, Stands as StandsAt, Executes, call_of, stop_in, next}
 use Rattle.ro_image.specs.Image.{holds_file_byte}
-use Rattle.ro_image.specs.Straight.{is_addi, is_straight, IsGuest, entry_place, image_with}
+use Rattle.ro_image.specs.Straight.{is_straight, IsGuest, image_with}
 use Rattle.ro_replica.specs.Replica.{Replica, opening_replica}
-use Rattle.ro_replica.specs.Runs.{Ran, struck, execute, execute_at, execute_next, run_of, standing_at, plus_hit}
-use Rattle.ro_core.specs.Line.{AreWords, IsLine, addi_of, after_addi, line_cpu, line_length, exits, last_cpu, line_stop}
+use Rattle.ro_replica.specs.Runs.{Ran, struck, execute, execute_next, run_of, standing_at, plus_hit}
+use Rattle.ro_core.specs.Line.{IsLine, addi_of, line_cpu, line_length, last_cpu, line_stop}
 use Rattle.ro_core.specs.Replicas.{line_thread}
 use Rattle.ro_core.proofs.LineBytes.{line_memory}
 use Rattle.ro_core.proofs.LineCode.{Stands, an_addi, the_call, the_end, stands_at, line_length-le, call_is_exit}

@@ -1,11 +1,11 @@
 -- The run of a replica as its contract says it.
-use Rattle.std.proofs.Common.{◌≡◌, ◌⊎◌, inl, inr, ℕ, zero, suc, ◌+◌, ◌-◌, ◌<◌, ◌≤◌, min, Bool, true, false, true≢false, cond, List, [], ◌∷◌, length, Option, Some, None, refl, sym, ap, ◌∙◌, subst, arith, eqb-true, eq-eqb}
-use Rattle.std.specs.Prelude.{◌==◌, IsSome, is_some, is_none, MatchOption, if◌then◌else◌}
+use Rattle.std.proofs.Common.{◌≡◌, inl, inr, ℕ, zero, suc, ◌+◌, ◌-◌, ◌<◌, ◌≤◌, min, Bool, true, false, true≢false, cond, List, [], ◌∷◌, Option, Some, None, refl, sym, ap, ◌∙◌, subst, arith, eqb-true, eq-eqb}
+use Rattle.std.specs.Prelude.{◌==◌, is_some, is_none, MatchOption, if◌then◌else◌}
 use Rattle.ro_event.specs.declared.stops.Stop.{Stop}
 use Rattle.ro_thread.specs.declared.Thread.{Thread}
 use Rattle.ro_replica.specs.Replica.{Replica, stop_of}
 use Rattle.ro_replica.specs.Runs.{standing_at}
-use Rattle.ro_core.specs.Line.{IsLine, line_cpu, line_length, exits, last_cpu, line_stop}
+use Rattle.ro_core.specs.Line.{IsLine, line_length, exits, last_cpu, line_stop}
 use Rattle.ro_image.specs.Straight.{image_with}
 use Rattle.ro_core.specs.Core.{is_unstopped, payload_at, view_with, view_of}
 use Rattle.ro_event.specs.declared.calls.Which.TheVariants.{System}

@@ -1,8 +1,7 @@
 -- The thread of a straight-line guest as code runs it.
-use Rattle.std.proofs.Common.{◌≡◌, ℕ, zero, suc, ◌+◌, ◌-◌, ◌<◌, ◌≤◌, min, Bool, true, false, true≢false, cond, List, [], ◌∷◌, length, get_or, Option, Some, None, refl, sym, ap, ◌∙◌, subst, arith}
+use Rattle.std.proofs.Common.{◌≡◌, ℕ, suc, ◌+◌, ◌-◌, ◌<◌, ◌≤◌, min, Bool, true, false, true≢false, cond, List, length, get_or, None, refl, sym, ap, ◌∙◌, arith}
 use Rattle.ro_event.specs.declared.calls.Which.TheVariants.{System}
-use Rattle.ro_event.specs.declared.stops.Stop.{Stop}
-use Rattle.ro_event.specs.declared.stops.Stop.TheVariants.{Calls, Trap}
+use Rattle.ro_event.specs.declared.stops.Stop.TheVariants.{Trap}
 use Rattle.ro_exec.specs.declared.Cpu.{Cpu}
 use Rattle.ro_exec.specs.Registers.{register}
 use Rattle.ro_exec.specs.Next.{call_of}
@@ -10,7 +9,7 @@ use Rattle.ro_exec.specs.Threads.{first_cpu}
 use Rattle.ro_thread.specs.declared.Thread.{Thread}
 use Rattle.ro_image.specs.Straight.{entry_place, is_addi}
 use Rattle.ro_replica.specs.Replica.{unstopped}
-use Rattle.ro_core.specs.Line.{IsLine, after_addi, line_cpu, line_length, exits, last_cpu, line_stop}
+use Rattle.ro_core.specs.Line.{IsLine, after_addi, line_cpu, line_length, last_cpu, line_stop}
 use Rattle.ro_core.specs.Replicas.{line_thread, IsRunning}
 use Rattle.ro_core.proofs.LineCode.{Stands, an_addi, the_call, the_end, stands_at, call_is_exit}
 

@@ -1,25 +1,23 @@
 -- The seats of the replicas, and what an entry more does to the fields of a core.
-use Rattle.std.proofs.Common.{◌≡◌, ◌≢◌, ◌⊎◌, inl, inr, ℕ, zero, suc, ◌+◌, ◌-◌, ◌<◌, ◌≤◌, Bool, true, false, true≢false, not, cond, ◌&&◌, ◌||◌, List, [], ◌∷◌, ◌++◌, length, Option, Some, None, refl, sym, ap, ◌∙◌, subst, arith, eqb-true, eq-eqb}
-use Rattle.std.specs.Prelude.{◌==◌, is_none, is_some, slice_get, slice_set}
-use Rattle.std.specs.List.{filter, list_any, find}
+use Rattle.std.proofs.Common.{◌≡◌, ℕ, zero, suc, ◌+◌, ◌<◌, ◌≤◌, Bool, true, false, true≢false, not, cond, ◌&&◌, ◌||◌, List, [], ◌∷◌, ◌++◌, length, Option, Some, None, refl, sym, ap, ◌∙◌, subst, arith, eqb-true, eq-eqb}
+use Rattle.std.specs.Prelude.{◌==◌, is_none, slice_get, slice_set}
+use Rattle.std.specs.List.{filter, list_any}
 use Rattle.std.specs.Option.{option_map_or, option_and_then}
 use Rattle.ro_plain.specs.Machine.{layout_of}
 use Rattle.ro_replica.specs.Runs.{run_of}
-use Rattle.std.proofs.lemmas.Bool.{cases_lt, and_parts}
+use Rattle.std.proofs.lemmas.Bool.{and_parts}
 use Rattle.std.proofs.lemmas.List.Filters.{length-filter_both}
-use Rattle.std.proofs.lemmas.Option.{slice_get_within, slice_get-get_or, slice_get_past}
+use Rattle.std.proofs.lemmas.Option.{slice_get_within, slice_get-get_or}
 use Rattle.ro_journal.specs.declared.How.{How}
 use Rattle.ro_journal.specs.declared.Entry.{Entry}
-use Rattle.ro_journal.specs.declared.Entry.TheVariants.{Take, Put, Vote, Free, End}
-use Rattle.ro_image.specs.Straight.{image_with}
+use Rattle.ro_journal.specs.declared.Entry.TheVariants.{Take, Put, End}
 use Rattle.ro_kernel.specs.Kernel.{lives_on}
 use Rattle.ro_kernel.proofs.Kept.{slice_get-set_other}
 use Rattle.ro_replica.specs.Replica.{Replica}
 use Rattle.ro_replica.specs.Runs.{Ran}
 use Rattle.ro_core.specs.declared.actions.Lease.{Lease}
 use Rattle.ro_core.specs.Core.{Job, Core, opening_core, is_going, is_home, is_out, is_unstopped, is_lendable}
-use Rattle.ro_core.specs.Legal.{is_lease, lease_run, arrived, core_after_put, after, IsAllowed, MayTake, MayPut, LegalFrom, Legal, replay_from, replay}
-use Rattle.ro_core.specs.Line.{IsLine}
+use Rattle.ro_core.specs.Legal.{is_lease, lease_run, arrived, core_after_put, after, IsAllowed, MayPut, Legal, replay}
 use Rattle.ro_core.specs.Replicas.{ReplicaOf, replica_of}
 use Rattle.ro_core.specs.Seen.{Seated, AreSeated, IsSeat, Holds, one_end}
 use Rattle.ro_core.specs.Line.{line_end}

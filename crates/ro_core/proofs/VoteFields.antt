@@ -1,22 +1,16 @@
 -- What the vote on a straight-line guest does to the fields of a core.
-use Rattle.std.proofs.Common.{◌≡◌, ◌≢◌, ◌⊎◌, inl, inr, ℕ, zero, suc, ◌+◌, ◌-◌, ◌<◌, ◌≤◌, Bool, true, false, true≢false, not, cond, ◌&&◌, ◌||◌, List, [], ◌∷◌, ◌++◌, length, Option, Some, None, refl, sym, ap, ◌∙◌, subst, arith, eqb-true, eq-eqb}
-use Rattle.std.specs.Prelude.{◌==◌, is_none, is_some, slice_get, slice_set}
-use Rattle.ro_event.specs.Views.{View}
-use Rattle.ro_event.specs.declared.stops.Stop.{Stop}
+use Rattle.std.proofs.Common.{◌≡◌, ℕ, ◌≤◌, true, true≢false, List, [], ◌∷◌, ◌++◌, length, Option, Some, None, refl, sym, ap, ◌∙◌, subst, arith}
+use Rattle.std.specs.Prelude.{slice_get}
 use Rattle.ro_journal.specs.declared.Did.{Did}
 use Rattle.ro_journal.specs.declared.How.{How}
 use Rattle.ro_journal.specs.declared.Entry.{Entry}
-use Rattle.ro_journal.specs.declared.Entry.TheVariants.{Take, Put, Vote, Free, End}
-use Rattle.ro_journal.specs.Plan.{event_steps}
+use Rattle.ro_journal.specs.declared.Entry.TheVariants.{Vote}
 use Rattle.ro_image.specs.Image.{Image}
 use Rattle.ro_image.specs.Straight.{image_with}
-use Rattle.ro_replica.specs.Replica.{Replica}
-use Rattle.ro_vote.specs.Verdict.{Won, verdict_of}
 use Rattle.ro_core.specs.declared.actions.Lease.{Lease}
-use Rattle.ro_core.specs.Core.{Job, Core, is_going, is_home, may_vote, view_of, views_of}
-use Rattle.ro_core.specs.Event.{Event}
-use Rattle.ro_core.specs.Legal.{MayVote, after, IsAllowed, event_in, since_in, replay}
-use Rattle.ro_core.specs.Line.{IsLine, line_length, line_stop, line_did, line_end}
+use Rattle.ro_core.specs.Core.{Job, Core, is_home, may_vote, view_of}
+use Rattle.ro_core.specs.Legal.{MayVote, after, replay}
+use Rattle.ro_core.specs.Line.{line_length, line_did, line_end}
 use Rattle.ro_core.specs.Replicas.{ReplicaOf, replica_of}
 use Rattle.ro_core.specs.Seen.{Seated, AreSeated, Shows, AreAlike, Holds, one_end}
 use Rattle.ro_core.proofs.LineRuns.{stopped_replica, some_is, few_steps}

@@ -1,5 +1,5 @@
 -- A run that is asked for with nothing but an executable.
-use Rattle.std.specs.Prelude.{ℕ, []}
+use Rattle.std.specs.Prelude.{[]}
 use Rattle.ro_image.specs.Image.{Image}
 use Rattle.ro_core.specs.declared.settings.Settings.{Settings}
 use Rattle.ro_core.specs.Core.{Job}

@@ -1,5 +1,5 @@
 -- The run of a straight-line guest, so far the only kind of program: ADDIs, and then, or not, an exit.
-use Rattle.std.specs.Prelude.{◌≡◌, ◌<◌, ◌≤◌, ◌^◌, ℕ, zero, suc, ◌+◌, ◌-◌, ◌*◌, ◌%◌, Bool, true, false, List, [], ◌∷◌, length, Option, Some, None, ◌==◌, if◌then◌else◌, slice_index}
+use Rattle.std.specs.Prelude.{◌≡◌, ◌<◌, ◌≤◌, ◌^◌, ℕ, zero, suc, ◌%◌, Bool, true, false, List, [], ◌∷◌, length, if◌then◌else◌, slice_index}
 use Rattle.ro_decode.specs.Fields.{rd_in, rs1_in, i_immediate}
 use Rattle.ro_decode.specs.declared.AluOp.TheVariants.{Add}
 use Rattle.ro_decode.specs.declared.Instr.{Instr}

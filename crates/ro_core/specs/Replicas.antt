@@ -1,13 +1,12 @@
 -- A replica as contracts see it, and its runs.
-use Rattle.std.specs.Prelude.{◌≡◌, ◌⊎◌, ℕ, ◌<◌, ◌≤◌, IsTrue, IsSome, ◌==◌, if◌then◌else◌, List, [], ◌∷◌, Option, Some, None, MatchOption}
+use Rattle.std.specs.Prelude.{◌≡◌, ◌⊎◌, ℕ, ◌<◌, ◌≤◌, IsSome, ◌==◌, if◌then◌else◌, List, [], Option, Some, None, MatchOption}
 use Rattle.ro_event.specs.declared.stops.Stop.{Stop}
 use Rattle.ro_exec.specs.Next.{Layout}
 use Rattle.ro_thread.specs.declared.Thread.{Thread}
 use Rattle.ro_image.specs.Image.{Image, memory_of, holds_file_byte}
-use Rattle.ro_image.specs.Straight.{is_guest}
 use Rattle.ro_replica.specs.Replica.{Replica, changed_at}
 use Rattle.ro_replica.specs.Runs.{Ran, run_of, standing_at, with_stop}
-use Rattle.ro_core.specs.Line.{AreWords, IsLine, line_cpu, line_length, line_stop}
+use Rattle.ro_core.specs.Line.{IsLine, line_cpu, line_length, line_stop}
 
 -- the program's image and the threads; nothing is stored, and no fault waits
 pub record ReplicaOf : Type 0 where

@@ -1,5 +1,5 @@
 -- A core as contracts see it.
-use Rattle.std.specs.Prelude.{◌≡◌, ℕ, suc, ◌+◌, ◌-◌, ◌<◌, ◌≤◌, Bool, true, false, ◌&&◌, is_some, List, [], ◌∷◌, ◌++◌, length, Option, Some, None, ◌==◌, nat_lt, if◌then◌else◌, slice_get}
+use Rattle.std.specs.Prelude.{◌≡◌, ℕ, suc, ◌+◌, ◌≤◌, Bool, true, false, ◌&&◌, is_some, List, [], ◌∷◌, ◌++◌, length, Option, Some, None, ◌==◌, nat_lt, if◌then◌else◌, slice_get}
 use Rattle.std.specs.List.{find}
 use Rattle.ro_journal.specs.declared.How.{How}
 use Rattle.ro_journal.specs.declared.Entry.{Entry}
@@ -8,7 +8,7 @@ use Rattle.ro_journal.specs.declared.Entry.TheVariants.{Put, Vote, End}
 use Rattle.ro_image.specs.Image.{Image}
 use Rattle.ro_image.specs.Straight.{image_with}
 use Rattle.ro_event.specs.Views.{View}
-use Rattle.ro_replica.specs.Replica.{Replica, opening_replica, stop_of}
+use Rattle.ro_replica.specs.Replica.{opening_replica, stop_of}
 use Rattle.ro_core.specs.declared.actions.Action.{Action}
 use Rattle.ro_core.specs.declared.actions.Action.TheVariants.{Vote as DoVote, Lend, End as DoEnd, Wait}
 use Rattle.ro_core.specs.declared.actions.Lease.{Lease}

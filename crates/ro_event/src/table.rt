@@ -36,6 +36,13 @@ impl CallTable {
         CallTable { addresses, filter }
     }
 
+    /// The addresses that it was made of.
+    pub fn addresses(&self) -> &[Option<u32>; 9]
+        ensures { result.now ≡ self.now.addresses }
+    {
+        &self.addresses
+    }
+
     /// The function whose address this is, the first where several have it.
     #[inline(always)]
     pub fn find(&self, pc: u32) -> Option<Which>

@@ -151,7 +151,7 @@ fn of_gnu(rt: HostRuntime) {
     check_piece(&rt, &image, 1, 0x1_114C, &GNU[0x14C..0x158]);
     assert_eq!(rt; image.entry(), 0x1_00F0);
     assert_eq!(rt; image.heap(), 0x1_2000);
-    assert_eq!(rt; image.calls().addresses[0], Some(0x1_0148));
+    assert_eq!(rt; image.calls().addresses()[0], Some(0x1_0148));
 }
 
 #[test]
@@ -172,5 +172,5 @@ fn of_llvm(rt: HostRuntime) {
     check_piece(&rt, &image, 2, 0x1_2178, &LLVM[0x178..0x17C]);
     assert_eq!(rt; image.entry(), 0x1_110C);
     assert_eq!(rt; image.heap(), 0x1_3000);
-    assert_eq!(rt; image.calls().addresses[0], Some(0x1_1174));
+    assert_eq!(rt; image.calls().addresses()[0], Some(0x1_1174));
 }

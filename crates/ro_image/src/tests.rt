@@ -131,7 +131,7 @@ fn an_attributes_header(rt: HostRuntime) {
     assert_eq!(rt; image.ranges(), short.ranges());
     assert_eq!(rt; image.entry(), short.entry());
     assert_eq!(rt; image.heap(), short.heap());
-    assert_eq!(rt; image.calls().addresses, short.calls().addresses);
+    assert_eq!(rt; *image.calls().addresses(), *short.calls().addresses());
     assert_eq!(rt; image.pieces().len(), 1);
     assert_eq!(rt; image.pieces()[0].place, 0x1_0000);
     assert_eq!(rt; image.pieces()[0].bytes.as_slice(), &file[..96]);
@@ -178,7 +178,7 @@ fn a_whole_image(rt: HostRuntime) {
     assert_eq!(rt; image.ranges()[0], segment);
     assert_eq!(rt; image.ranges()[1], heap);
     assert_eq!(rt; image.ranges()[17], last);
-    assert_eq!(rt; image.calls().addresses, calls);
+    assert_eq!(rt; *image.calls().addresses(), calls);
     assert_eq!(rt; image.entry(), 0x1_0054);
     assert_eq!(rt; image.heap(), 0x1_1000);
     assert_eq!(rt; image.pieces().len(), 1);

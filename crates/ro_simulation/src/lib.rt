@@ -1,4 +1,4 @@
-// The simulation theorem: a legal journal's replicas simulate the unreplicated machine that its plan names.
+//! The simulation theorem: a legal journal's replicas simulate the unreplicated machine that its plan names.
 #![tactic(auto)]
 
 ghost use Rattle.std.specs.Prelude.{◌≡◌, ℕ, List, [], ◌∷◌, Some};

@@ -60,7 +60,7 @@ fn five_functions(rt: HostRuntime) {
         None,
         Some(0x1_00D8),
     ];
-    assert_eq!(rt; table.addresses, want);
+    assert_eq!(rt; *table.addresses(), want);
 }
 
 #[test]

@@ -1,4 +1,4 @@
-use Rattle.std.proofs.Common.{◌≡◌, ◌∙◌, arith}
+use Rattle.std.proofs.Common.{◌∙◌, arith}
 use Rattle.ro_core.proofs.Alike.{alike_at, alike_verdict, won_is, not_split}
 use Rattle.ro_core.proofs.cores.compare.Goals as goal
 

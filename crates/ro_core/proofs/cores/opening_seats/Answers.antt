@@ -1,4 +1,4 @@
-use Rattle.std.proofs.Common.{◌≡◌, Some, sym, subst, arith}
+use Rattle.std.proofs.Common.{Some, sym, subst, arith}
 use Rattle.ro_image.specs.Straight.{image_with}
 use Rattle.ro_core.specs.Seen.{AreFirst}
 use Rattle.ro_core.proofs.Fields.{AreFirst-push}

@@ -1,4 +1,4 @@
-use Rattle.std.proofs.Common.{◌≡◌, ◌+◌, ◌<◌, ◌≤◌, Bool, true, false, ℕ, suc, length, get_or, sym, ap, ◌∙◌, arith, ltb, ltb-true, Option, None}
+use Rattle.std.proofs.Common.{◌≡◌, ◌+◌, ◌<◌, ◌≤◌, true, false, ℕ, suc, length, get_or, sym, ap, ◌∙◌, arith, ltb, ltb-true}
 use Rattle.std.specs.Prelude.{is_some}
 use Rattle.std.proofs.lemmas.Bool.{ltb-false}
 use Rattle.ro_thread.specs.declared.Thread.{Thread}

@@ -1,4 +1,4 @@
-use Rattle.std.proofs.Common.{◌≡◌, ◌<◌, ◌≤◌, Bool, true, false, Some, None, length, sym, ap, ◌∙◌, arith, ltb-true, subst, ℕ}
+use Rattle.std.proofs.Common.{◌≡◌, ◌<◌, ◌≤◌, length, sym, ap, ◌∙◌, arith, ltb-true}
 use Rattle.ro_core.specs.Line.{line_cpu, line_length}
 use Rattle.ro_core.proofs.LineThreads.{stops_by_call, stops_by_trap}
 use Rattle.ro_core.proofs.replicas.stop_at.Goals as goal

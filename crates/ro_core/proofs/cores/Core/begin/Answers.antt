@@ -1,4 +1,4 @@
-use Rattle.std.proofs.Common.{◌≡◌, ◌-◌, List, [], length, sym, ap, ◌∙◌, subst, arith, vec_capacity, vec_len}
+use Rattle.std.proofs.Common.{◌-◌, List, [], length, sym, ap, ◌∙◌, subst, arith, vec_capacity, vec_len}
 use Rattle.ro_journal.specs.declared.Entry.{Entry}
 use Rattle.ro_core.specs.Defaults.{default_job}
 use Rattle.ro_core.specs.Seen.{AreFirst, Holds}

@@ -1,4 +1,4 @@
-use Rattle.std.proofs.Common.{◌≡◌, ap, ◌∙◌}
+use Rattle.std.proofs.Common.{ap, ◌∙◌}
 use Rattle.ro_journal.specs.Plan.{outcome_of}
 use Rattle.ro_core.specs.Defaults.{default_job}
 use Rattle.ro_core.specs.Seen.{CoreOf}

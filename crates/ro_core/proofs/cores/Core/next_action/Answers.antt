@@ -1,9 +1,9 @@
-use Rattle.std.proofs.Common.{◌≡◌, ◌-◌, ◌<◌, None, Some, vec_len, vec_capacity, length, sym, ap, ◌∙◌, subst, arith}
+use Rattle.std.proofs.Common.{◌≡◌, ◌-◌, vec_len, vec_capacity, length, sym, ap, ◌∙◌, subst, arith}
 use Rattle.std.specs.Prelude.{◌==◌, is_some}
 use Rattle.std.specs.List.{list_all}
 use Rattle.ro_core.specs.declared.actions.Action.TheVariants.{Over, End as DoEnd}
 use Rattle.ro_core.specs.Action.{next_action}
-use Rattle.ro_core.specs.Core.{Job, Core}
+use Rattle.ro_core.specs.Core.{Core}
 use Rattle.ro_core.specs.Legal.{replay}
 use Rattle.ro_core.specs.Defaults.{default_job}
 use Rattle.ro_core.specs.Seen.{CoreOf, state, line_next, seat_stopped, first_free_from}

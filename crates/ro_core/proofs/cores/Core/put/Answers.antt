@@ -1,11 +1,11 @@
-use Rattle.std.proofs.Common.{◌≡◌, ◌-◌, ◌<◌, ◌≤◌, ◌+◌, [], ◌∷◌, ◌++◌, List, None, Some, not, length, vec_len, vec_capacity, sym, ap, ◌∙◌, subst, arith, length-set}
+use Rattle.std.proofs.Common.{◌≡◌, ◌-◌, ◌<◌, [], ◌∷◌, ◌++◌, Some, not, length, vec_len, vec_capacity, sym, ap, ◌∙◌, subst, arith, length-set}
 use Rattle.std.specs.Prelude.{◌==◌, slice_set}
 use Rattle.std.specs.List.{filter, find}
 use Rattle.std.proofs.lemmas.List.{with_items_is}
 use Rattle.ro_journal.specs.declared.Entry.TheVariants.{Put}
 use Rattle.ro_core.specs.declared.actions.Lease.{Lease}
-use Rattle.ro_core.specs.Core.{Job, Core}
-use Rattle.ro_core.specs.Legal.{IsAllowed, is_lease, replay}
+use Rattle.ro_core.specs.Core.{Job}
+use Rattle.ro_core.specs.Legal.{is_lease, replay}
 use Rattle.ro_core.specs.Defaults.{default_job}
 use Rattle.ro_core.specs.Seen.{CoreOf, state, lease_of, MayReturn}
 use Rattle.ro_core.proofs.LineRuns.{some_is}

@@ -1,8 +1,8 @@
-use Rattle.std.proofs.Common.{◌≡◌, [], ◌∷◌, length-set, ◌-◌, ◌<◌, ◌≤◌, ◌+◌, None, Some, length, vec_len, vec_capacity, sym, ap, ◌∙◌, subst, arith}
+use Rattle.std.proofs.Common.{◌∷◌, length-set, ◌-◌, None, length, vec_len, vec_capacity, sym, ap, ◌∙◌, subst, arith}
 use Rattle.std.specs.Prelude.{slice_get, slice_set}
 use Rattle.std.proofs.lemmas.List.{with_items_is}
 use Rattle.ro_journal.specs.declared.Entry.TheVariants.{Take}
-use Rattle.ro_core.specs.Core.{Job, Core}
+use Rattle.ro_core.specs.Core.{Job}
 use Rattle.ro_core.specs.Legal.{IsAllowed, replay}
 use Rattle.ro_core.specs.Defaults.{default_job}
 use Rattle.ro_core.specs.Seen.{CoreOf, state, HasRoom, IsSeat, IsLent}

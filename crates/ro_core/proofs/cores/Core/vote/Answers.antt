@@ -1,8 +1,8 @@
-use Rattle.std.proofs.Common.{◌≡◌, ◌-◌, ◌≤◌, true, List, [], ◌∷◌, ◌++◌, None, Some, length, vec_len, vec_capacity, refl, sym, ap, ◌∙◌, subst, arith}
+use Rattle.std.proofs.Common.{◌≡◌, ◌-◌, true, [], ◌∷◌, ◌++◌, vec_len, vec_capacity, refl, sym, ap, ◌∙◌, subst, arith}
 use Rattle.ro_journal.specs.declared.Entry.TheVariants.{Vote}
 use Rattle.ro_event.specs.Views.{View}
-use Rattle.ro_core.specs.Core.{Job, Core, may_vote}
-use Rattle.ro_core.specs.Legal.{IsAllowed, MayVote, replay}
+use Rattle.ro_core.specs.Core.{Job, may_vote}
+use Rattle.ro_core.specs.Legal.{MayVote, replay}
 use Rattle.ro_core.specs.Defaults.{default_job}
 use Rattle.ro_core.specs.Seen.{CoreOf, state, AreAlike}
 use Rattle.ro_core.proofs.LineJournals.{line_view}

@@ -1,4 +1,4 @@
-use Rattle.std.proofs.Common.{◌≡◌, List, ℕ, [], ◌∷◌, None, sym, ap, ◌∙◌, subst, refl}
+use Rattle.std.proofs.Common.{◌≡◌, List, ℕ, [], ◌∷◌, sym, ap, ◌∙◌, subst}
 use Rattle.ro_exec.specs.Threads.{first_cpu}
 use Rattle.ro_thread.specs.declared.Thread.{Thread}
 use Rattle.ro_image.specs.Image.{Image}

@@ -1,4 +1,4 @@
-use Rattle.std.proofs.Common.{◌≡◌, Some, sym, ap, ◌∙◌}
+use Rattle.std.proofs.Common.{Some, sym, ap, ◌∙◌}
 use Rattle.ro_event.specs.Views.{View}
 use Rattle.ro_core.proofs.LineSeen.{seen_view}
 use Rattle.ro_core.proofs.replicas.Replica.view.Goals as goal

@@ -1,0 +1,48 @@
+-- One driver does what the core does next.
+use Rattle.std.specs.Prelude.{◌≡◌, ◌≢◌, ℕ, zero, suc, [], ◌∷◌, Some}
+use Rattle.std.proofs.Common.{refl, inl}
+use Rattle.ro_journal.specs.declared.How.{How}
+use Rattle.ro_journal.specs.declared.How.TheVariants.{Differ}
+use Rattle.ro_journal.specs.declared.Entry.TheVariants.{End}
+use Rattle.ro_journal.specs.Plan.{outcome_of}
+use Rattle.ro_vote.specs.Verdict.{Verdict, Won, Split, verdict_of}
+use Rattle.ro_core.specs.declared.actions.Action.{Action}
+use Rattle.ro_core.specs.declared.actions.Action.TheVariants.{Vote as DoVote, Free as DoFree, Lend, End as DoEnd, Wait, Over}
+use Rattle.ro_core.specs.Core.{Job, Core, opening_core, views_of}
+use Rattle.ro_core.specs.Legal.{after}
+use Rattle.ro_core.specs.Action.{next_action, EachIsNext}
+use Rattle.ro_simulation.specs.Drives.{vote_entry, entries_for, with_entries, driven_from, driven}
+
+-- after an end nothing comes
+after-end : (fuel : ℕ) (job : Job) (core : Core) (how : How) → EachIsNext job (after job core (End how)) (driven_from fuel job (after job core (End how)))
+unfolding after next_action
+after-end zero job core how = tt
+after-end (suc fuel) job core how = tt
+
+module _ (fuel : ℕ) (job : Job) (rest : (core : Core) → outcome_of (driven_from fuel job core) ≢ Some Differ → EachIsNext job core (driven_from fuel job core)) (core : Core) where
+  -- the entry of a vote
+  vote-next : (thread : ℕ) (verdict : Verdict) → next_action job core ≡ DoVote thread →
+      outcome_of (with_entries (driven_from fuel job) job core (vote_entry job core thread verdict ∷ [])) ≢ Some Differ →
+      EachIsNext job core (with_entries (driven_from fuel job) job core (vote_entry job core thread verdict ∷ []))
+  vote-next thread (Won won lost) e d = (e, rest _ d)
+  vote-next thread Split e d = absurd (d refl)
+
+  -- the entries of an action
+  action-next : (action : Action) → next_action job core ≡ action →
+      outcome_of (with_entries (driven_from fuel job) job core (entries_for job core action)) ≢ Some Differ →
+      EachIsNext job core (with_entries (driven_from fuel job) job core (entries_for job core action))
+  action-next (Lend replica thread) e d = (e, (tt, rest _ d))
+  action-next (DoVote thread) e d = vote-next thread (verdict_of (views_of job core thread)) e d
+  action-next (DoFree thread) e d = (e, rest _ d)
+  action-next (DoEnd how) e d = (inl e, after-end fuel job core how)
+  action-next Wait e d = tt
+  action-next Over e d = tt
+
+-- the entries of so many actions
+from-next : (fuel : ℕ) (job : Job) (core : Core) → outcome_of (driven_from fuel job core) ≢ Some Differ → EachIsNext job core (driven_from fuel job core)
+from-next zero job core d = tt
+from-next (suc fuel) job core d = action-next fuel job (from-next fuel job) core (next_action job core) refl d
+
+-- the journal of one driver
+pub driven-next : (fuel : ℕ) (job : Job) → outcome_of (driven fuel job) ≢ Some Differ → EachIsNext job (opening_core job) (driven fuel job)
+driven-next fuel job d = from-next fuel job (opening_core job) d

@@ -1,0 +1,10 @@
+mod ExitRow
+mod ExitCovered
+mod DrivenNext
+mod PageRow
+mod DeadlockRow
+mod PairRow
+mod SingleRow
+mod WatchedRow
+mod WriteRows
+mod OtherRows

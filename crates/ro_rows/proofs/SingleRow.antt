@@ -1,0 +1,43 @@
+-- Quanta of one instruction.
+use Rattle.std.specs.Prelude.{◌≡◌, true, [], ◌∷◌, length, None}
+use Rattle.std.proofs.Common.{refl}
+use Rattle.ro_decode.specs.Table.{instruction_of}
+use Rattle.ro_event.specs.Table.{call_at}
+use Rattle.ro_region.specs.Permission.{permits_of}
+use Rattle.ro_alu.specs.Results.{alu_of, taken_by}
+use Rattle.ro_exec.specs.Meaning.{meaning}
+use Rattle.ro_exec.specs.Next.{fetch_stop, instruction_stop, next}
+use Rattle.ro_exec.specs.Threads.{first_cpu, made_cpu}
+use Rattle.ro_kernel.specs.Serve.{serve, payload_of}
+use Rattle.ro_journal.specs.declared.Did.TheVariants.{Served}
+use Rattle.ro_journal.specs.declared.How.TheVariants.{Exit}
+use Rattle.ro_journal.specs.declared.Entry.TheVariants.{Vote, End}
+use Rattle.ro_vote.specs.Verdict.{verdict_of}
+use Rattle.ro_replica.specs.Replica.{opening_replica, applied, cancelled, recovered}
+use Rattle.ro_replica.specs.Runs.{struck, execute}
+use Rattle.ro_core.specs.Core.{opening_core}
+use Rattle.ro_core.specs.Event.{event_of}
+use Rattle.ro_core.specs.Legal.{Legal, after}
+use Rattle.ro_core.specs.Action.{next_action}
+use Rattle.ro_simulation.specs.Drives.{driven}
+use Rattle.ro_simulation.proofs.Checks.{test_legal, legal-by-test}
+use Rattle.ro_rows.specs.Rows.{decisions, single_job}
+
+-- it passes the test of legality
+passes : test_legal single_job (opening_core single_job) (driven 20 single_job) ≡ true
+unfolding opening_core opening_replica struck execute applied cancelled recovered verdict_of event_of after next_action first_cpu made_cpu next fetch_stop instruction_stop instruction_of call_at permits_of alu_of taken_by meaning serve payload_of
+passes = refl
+
+-- the journal is legal
+pub single-legal : Legal single_job (driven 20 single_job)
+single-legal = legal-by-test single_job (opening_core single_job) (driven 20 single_job) passes
+
+-- this is what it decides
+pub single-decides : decisions (driven 20 single_job) ≡ Vote 0 2 0 None Served ∷ End (Exit 7) ∷ []
+unfolding opening_core opening_replica struck execute applied cancelled recovered verdict_of event_of after next_action first_cpu made_cpu next fetch_stop instruction_stop instruction_of call_at permits_of alu_of taken_by meaning serve payload_of
+single-decides = refl
+
+-- how many entries there are
+pub single-length : length (driven 20 single_job) ≡ 20
+unfolding opening_core opening_replica struck execute applied cancelled recovered verdict_of event_of after next_action first_cpu made_cpu next fetch_stop instruction_stop instruction_of call_at permits_of alu_of taken_by meaning serve payload_of
+single-length = refl

@@ -1,9 +1,9 @@
 -- The file that is asked for, and what its run comes to.
-use Rattle.std.proofs.Common.{◌≡◌, ◌⊎◌, inl, inr, ℕ, zero, suc, ◌+◌, ◌<◌, ◌≤◌, ◌*◌, ◌%◌, ◌^◌, Bool, true, false, true≢false, List, [], ◌∷◌, ◌++◌, length, take, Option, Some, None, refl, sym, ap, ◌∙◌, subst, arith}
+use Rattle.std.proofs.Common.{◌≡◌, ◌⊎◌, inl, inr, ℕ, zero, suc, ◌+◌, ◌<◌, ◌≤◌, ◌*◌, ◌%◌, Bool, true, false, List, [], ◌∷◌, ◌++◌, length, take, Option, Some, None, refl, sym, ap, ◌∙◌, subst, arith}
 use Rattle.std.specs.Prelude.{IfSome, replicate, fold, if◌then◌else◌}
 use Rattle.std.proofs.lemmas.List.{length-take, take_all}
 use Rattle.std.proofs.lemmas.Bool.{cases_lt}
-use Rattle.ro_io.specs.Outside.{Files, IsFront, more}
+use Rattle.ro_io.specs.Outside.{Files, IsFront}
 use Rattle.ro_journal.specs.declared.How.{How}
 use Rattle.ro_journal.specs.declared.How.TheVariants.{Exit, Trap}
 use Rattle.ro_journal.specs.declared.Entry.{Entry}
@@ -12,14 +12,13 @@ use Rattle.ro_journal.specs.Plan.{plan_of, outcome_of}
 use Rattle.ro_image.specs.Image.{Image}
 use Rattle.ro_image.specs.Straight.{is_accepted, bad_code, image_of, image_with}
 use Rattle.ro_image.proofs.Files.{accepted_only}
-use Rattle.ro_report.specs.Report.{hits_of, struck_in, steps_in}
-use Rattle.ro_plain.specs.Machine.{Program}
+use Rattle.ro_report.specs.Report.{hits_of, struck_in}
 use Rattle.ro_plain.specs.Order.{RaceFree}
 use Rattle.ro_core.specs.Core.{Job, Core}
 use Rattle.ro_core.specs.Legal.{Legal, replay, output_of}
 use Rattle.ro_core.specs.Ideal.{StaysApart}
 use Rattle.ro_core.specs.Defaults.{default_job}
-use Rattle.ro_core.specs.Line.{IsLine, line_length, line_end, exits, last_cpu}
+use Rattle.ro_core.specs.Line.{IsLine, line_length, exits, last_cpu}
 use Rattle.ro_exec.specs.Registers.{register}
 use Rattle.ro_core.proofs.LineRuns.{few_steps}
 use Rattle.ro_core.proofs.LineMachine.{line_race_free}

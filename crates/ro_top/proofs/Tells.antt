@@ -1,9 +1,9 @@
 -- What a sink took of a text.
-use Rattle.std.proofs.Common.{◌≡◌, ℕ, List, [], ◌∷◌, ◌++◌, ◌-◌, ◌≤◌, length, take, drop, Option, Some, None, Result, Ok, Err, OnOk, OnErr, arith, refl, sym, ap, ◌∙◌, append_assoc}
+use Rattle.std.proofs.Common.{◌≡◌, ℕ, List, [], ◌∷◌, ◌++◌, ◌-◌, length, take, drop, Option, Some, None, Result, Ok, Err, OnOk, OnErr, arith, refl, sym, ap, ◌∙◌, append_assoc}
 use Rattle.std.proofs.lemmas.List.{append-nil, take-append-drop, take_all, length-drop}
 use Rattle.ro_io.specs.Outside.{more}
 use Rattle.ro_journal.specs.declared.Entry.{Entry}
-use Rattle.ro_report.specs.Report.{report_text, summary_text, answer_text}
+use Rattle.ro_report.specs.Report.{report_text, answer_text}
 use Rattle.ro_report.specs.declared.answers.Answer.{Answer}
 use Rattle.ro_top.specs.Top.{TakesFront, summary_part}
 

@@ -1,7 +1,7 @@
 -- Turns of the one driver.
-use Rattle.std.proofs.Common.{◌≡◌, ◌⊎◌, inl, inr, ℕ, ◌+◌, ◌-◌, ◌<◌, Bool, true, false, true≢false, not, cond, ◌&&◌, ◌||◌, List, [], ◌∷◌, ◌++◌, Option, Some, None, refl, sym, ap, ◌∙◌, subst, arith, eq-eqb}
-use Rattle.std.specs.Prelude.{◌==◌, IsSome, is_some, is_none, slice_get, slice_set}
-use Rattle.std.specs.List.{filter, list_any, find}
+use Rattle.std.proofs.Common.{◌≡◌, ◌⊎◌, inl, inr, ℕ, ◌<◌, Bool, true, false, not, cond, ◌&&◌, ◌||◌, List, [], ◌∷◌, Option, Some, refl, sym, ap, ◌∙◌, subst, arith, eq-eqb}
+use Rattle.std.specs.Prelude.{◌==◌, IsSome, is_some, slice_get}
+use Rattle.std.specs.List.{filter, list_any}
 use Rattle.std.specs.Option.{option_map_or, option_and_then}
 use Rattle.std.proofs.lemmas.Bool.{and_parts}
 use Rattle.ro_journal.specs.declared.How.{How}
@@ -11,21 +11,21 @@ use Rattle.ro_journal.specs.Plan.{outcome_of}
 use Rattle.ro_event.specs.declared.stops.Stop.{Stop}
 use Rattle.ro_image.specs.Image.{Image}
 use Rattle.ro_kernel.specs.Kernel.{lives_on}
-use Rattle.ro_plain.specs.Machine.{Program, layout_of}
+use Rattle.ro_plain.specs.Machine.{layout_of}
 use Rattle.ro_thread.specs.declared.Thread.{Thread}
 use Rattle.ro_replica.specs.Replica.{Replica, changed_at}
 use Rattle.ro_replica.specs.Runs.{Ran, run_of, with_stop}
-use Rattle.ro_core.specs.declared.actions.Action.TheVariants.{Vote as DoVote, Lend, End as DoEnd, Over}
+use Rattle.ro_core.specs.declared.actions.Action.TheVariants.{Vote as DoVote, Lend, Over}
 use Rattle.ro_core.specs.declared.actions.Lease.{Lease}
-use Rattle.ro_core.specs.Core.{Job, Core, opening_core, is_home, is_idle, is_unstopped, is_lendable, may_vote, nothing_lent}
+use Rattle.ro_core.specs.Core.{Job, Core, opening_core, is_home, is_unstopped, is_lendable}
 use Rattle.ro_core.specs.Event.{with_recovered}
-use Rattle.ro_core.specs.Legal.{Legal, IsAllowed, EndsVote, MayTake, MayPut, arrived, arrival, is_lease, lease_run, core_after_put, event_in, after, replay}
+use Rattle.ro_core.specs.Legal.{Legal, IsAllowed, MayTake, MayPut, arrived, arrival, is_lease, lease_run, core_after_put, event_in, after, replay}
 use Rattle.ro_core.specs.Action.{next_action, IsNext, EachIsNext}
 use Rattle.ro_core.specs.Replicas.{ReplicaOf, replica_of, layout_in, Runs}
 use Rattle.ro_core.specs.Seen.{CoreOf, state, Appends, Stays, IsLent, MayReturn, lease_of, DecidesVote}
 use Rattle.ro_core.proofs.Journals.{EachIsNext-append}
 use Rattle.ro_core.proofs.Leases.{event_leases}
-use Rattle.ro_core.proofs.Nexts.{vote_next, lend_is_next, over_is_next}
+use Rattle.ro_core.proofs.Nexts.{lend_is_next, over_is_next}
 use Rattle.ro_core.proofs.Outcomes.{ended_is_outcome}
 use Rattle.ro_core.proofs.Seats.{replay_more, legal_more, going_parts, set_same}
 use Rattle.ro_top.specs.Driven.{IsDriven, IsHome, Goes}

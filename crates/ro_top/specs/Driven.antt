@@ -8,7 +8,7 @@ use Rattle.ro_report.specs.declared.answers.Answer.{Answer}
 use Rattle.ro_report.specs.declared.answers.Answer.TheVariants.{Exit, Trap, NoMemory}
 use Rattle.ro_image.specs.Image.{Image}
 use Rattle.ro_image.specs.Straight.{image_with}
-use Rattle.ro_core.specs.Core.{Job, opening_core}
+use Rattle.ro_core.specs.Core.{opening_core}
 use Rattle.ro_core.specs.Legal.{Legal}
 use Rattle.ro_core.specs.Action.{EachIsNext}
 use Rattle.ro_core.specs.Defaults.{default_job}

@@ -10,7 +10,8 @@ const EXIT: [u32; 2] = [0x05D0_0893, 0x0000_0073];
 
 /// A row.
 struct Row {
-    words: [&'static str; 3],
+    command: &'static str,
+    exe: &'static str,
     status: u8,
     report: &'static str,
 }
@@ -18,49 +19,57 @@ struct Row {
 const ROWS: [Row; 8] = [
     // ADDI a0, zero, 7, and an exit
     Row {
-        words: ["romain", "run", "seven"],
+        command: "run",
+        exe: "seven",
         status: 7,
         report: "votes 1 copies 0 struck 0 steps 3 bytes 0\nanswer exit 7\n",
     },
     // ADDI a0, zero, 0, and an exit
     Row {
-        words: ["romain", "run", "zero"],
+        command: "run",
+        exe: "zero",
         status: 0,
         report: "votes 1 copies 0 struck 0 steps 3 bytes 0\nanswer exit 0\n",
     },
     // ADDI a0, zero, -1, and an exit: its status is the low eight bits
     Row {
-        words: ["romain", "run", "minus"],
+        command: "run",
+        exe: "minus",
         status: 255,
         report: "votes 1 copies 0 struck 0 steps 3 bytes 0\nanswer exit 255\n",
     },
     // ADDI a0, zero, 7, and then nothing
     Row {
-        words: ["romain", "run", "past"],
+        command: "run",
+        exe: "past",
         status: 241,
         report: "votes 1 copies 0 struck 0 steps 2 bytes 0\nanswer trap 2\n",
     },
     // a file of no bytes
     Row {
-        words: ["romain", "run", "empty"],
+        command: "run",
+        exe: "empty",
         status: 247,
         report: "answer exe 0\n",
     },
     // no such file
     Row {
-        words: ["romain", "run", "nothere"],
+        command: "run",
+        exe: "nothere",
         status: 246,
         report: "answer store\n",
     },
     // an argument may not begin so
     Row {
-        words: ["romain", "run", "-seven"],
+        command: "run",
+        exe: "-seven",
         status: 249,
         report: "answer words\n",
     },
     // and there is no such command
     Row {
-        words: ["romain", "walk", "seven"],
+        command: "walk",
+        exe: "seven",
         status: 249,
         report: "answer words\n",
     },
@@ -72,9 +81,16 @@ fn rows(rt: HostRuntime) -> Result<(), Fail> {
         let mut store = store(rt.alloc())?;
         let mut report = sink(rt.alloc())?;
         let out = sink(rt.alloc())?;
-        let done = romain(&rt, rt.alloc(), &row.words, &mut store, out, &mut report);
-        assert_eq!(rt; done.status(), row.status, "of {:?}", row.words);
-        assert_eq!(rt; report.bytes(), row.report.as_bytes(), "of {:?}", row.words);
+        let words = ["romain", row.command, row.exe];
+        let done = romain(&rt, rt.alloc(), &words, &mut store, out, &mut report);
+        assert_eq!(rt; done.status(), row.status, "of {} {}", row.command, row.exe);
+        assert_eq!(rt;
+            report.bytes(),
+            row.report.as_bytes(),
+            "of {} {}",
+            row.command,
+            row.exe
+        );
         assert!(rt; done.out.bytes().is_empty());
         assert_eq!(rt; done.told, Told::Whole);
     }
@@ -218,7 +234,10 @@ fn store(alloc: Global) -> Result<MemStore, Fail> {
 
 // The executable made of words: headers, and the words behind them.
 fn executable(alloc: Global, words: &[u32]) -> Result<Vec<u8>, Fail> {
-    let size = 84 + 4 * words.len() as u32;
+    let mut size = 84_u32;
+    for _ in words {
+        size = size.wrapping_add(4);
+    }
     let mut bytes = Vec::new(alloc);
     bytes.extend_from_slice(b"\x7FELF\x01\x01\x01\0\0\0\0\0\0\0\0\0")?;
     for half in [2_u16, 243] {

@@ -1,4 +1,3 @@
-use Rattle.std.proofs.Common.{◌≡◌}
 use Rattle.ro_top.specs.Driven.{IsDriven, IsHome, Goes}
 use Rattle.ro_top.proofs.driving.drive.Given as goal
 

@@ -1,4 +1,4 @@
-use Rattle.std.proofs.Common.{◌≡◌, ap, ◌∙◌, inl}
+use Rattle.std.proofs.Common.{ap, ◌∙◌, inl}
 use Rattle.ro_journal.specs.declared.Entry.TheVariants.{End}
 use Rattle.ro_core.specs.Core.{Core}
 use Rattle.ro_core.specs.Seen.{state}

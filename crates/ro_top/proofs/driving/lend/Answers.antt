@@ -1,6 +1,5 @@
-use Rattle.std.proofs.Common.{◌≡◌, refl, ap, ◌∙◌}
+use Rattle.std.proofs.Common.{refl}
 use Rattle.ro_journal.specs.declared.Entry.TheVariants.{Take, Put}
-use Rattle.ro_core.specs.Core.{Core}
 use Rattle.ro_core.specs.Replicas.{replica_of}
 use Rattle.ro_core.specs.Seen.{state}
 use Rattle.ro_top.proofs.Turns.{driven_more, goes_more, goes_on, stays_goes, stays_driven, stays_home, stays_next, may_take, lent_unstopped, may_return, lease_is, put_allowed, home_again}

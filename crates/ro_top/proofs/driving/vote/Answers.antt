@@ -1,4 +1,4 @@
-use Rattle.std.proofs.Common.{◌≡◌, ap, ◌∙◌}
+use Rattle.std.proofs.Common.{ap, ◌∙◌}
 use Rattle.ro_core.specs.Core.{Core}
 use Rattle.ro_core.specs.Seen.{state}
 use Rattle.ro_core.proofs.Nexts.{vote_next}

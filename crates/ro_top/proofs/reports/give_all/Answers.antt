@@ -1,4 +1,4 @@
-use Rattle.std.proofs.Common.{◌≡◌, ◌++◌, take, refl, arith}
+use Rattle.std.proofs.Common.{◌++◌, take, refl, arith}
 use Rattle.ro_top.proofs.Tells.{given_more, told_more}
 use Rattle.ro_top.proofs.reports.give_all.Goals as goal
 

@@ -1,4 +1,4 @@
-use Rattle.std.proofs.Common.{◌≡◌, ◌++◌, sym, ap, ◌∙◌, subst}
+use Rattle.std.proofs.Common.{ap, ◌∙◌, subst}
 use Rattle.ro_report.specs.Report.{answer_text}
 use Rattle.ro_io.specs.Outside.{more}
 use Rattle.ro_top.specs.Top.{TakesFront, summary_part}

@@ -1,10 +1,6 @@
-use Rattle.std.proofs.Common.{◌≡◌, length, sym, ap, ◌∙◌, subst}
+use Rattle.std.proofs.Common.{length, sym, ap, ◌∙◌, subst}
 use Rattle.ro_io.specs.Outside.{more}
 use Rattle.ro_image.specs.Straight.{image_of}
-use Rattle.ro_plain.specs.Order.{RaceFree}
-use Rattle.ro_core.specs.Legal.{output_of}
-use Rattle.ro_core.specs.Ideal.{StaysApart}
-use Rattle.ro_simulation.specs.Theorem.{WritesAsIdeal}
 use Rattle.ro_report.specs.Report.{report_text}
 use Rattle.ro_top.specs.Top.{IsTold}
 use Rattle.ro_top.proofs.Asked.{of_job, run_headline, run_apart, run_race_free, run_output}

@@ -1,6 +1,5 @@
-use Rattle.std.proofs.Common.{◌≡◌, sym, ap, ◌∙◌, subst}
-use Rattle.ro_core.specs.Defaults.{default_job}
-use Rattle.ro_top.specs.Driven.{HasRun, AreCounts, IsProgramEnd}
+use Rattle.std.proofs.Common.{sym, ◌∙◌, subst}
+use Rattle.ro_top.specs.Driven.{AreCounts, IsProgramEnd}
 use Rattle.ro_top.proofs.Asked.{driven_run, opens_home, run_counts, run_outcome}
 use Rattle.ro_top.proofs.top.run.Goals as goal
 

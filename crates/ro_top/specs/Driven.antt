@@ -4,8 +4,6 @@ use Rattle.ro_journal.specs.declared.How.{How}
 use Rattle.ro_journal.specs.declared.How.TheVariants.{Exit as ByExit, Trap as ByTrap}
 use Rattle.ro_journal.specs.declared.Entry.{Entry}
 use Rattle.ro_report.specs.Report.{struck_in, steps_in}
-use Rattle.ro_report.specs.declared.answers.Answer.{Answer}
-use Rattle.ro_report.specs.declared.answers.Answer.TheVariants.{Exit, Trap, NoMemory}
 use Rattle.ro_image.specs.Image.{Image}
 use Rattle.ro_image.specs.Straight.{image_with}
 use Rattle.ro_core.specs.Core.{opening_core}
@@ -51,10 +49,3 @@ IsProgramEnd None = Unit {0}
 IsProgramEnd (Some (ByExit status)) = Unit {0}
 IsProgramEnd (Some (ByTrap cause)) = Unit {0}
 IsProgramEnd (Some how) = ⊥
-
--- the answer of a program that has run, or for which there was no memory
-abbrev pub IsProgramAnswer : Answer → Type 0
-IsProgramAnswer (Exit status) = Unit {0}
-IsProgramAnswer (Trap cause) = Unit {0}
-IsProgramAnswer NoMemory = Unit {0}
-IsProgramAnswer answer = ⊥

@@ -60,6 +60,13 @@ IsOutcome (Exit status) outcome = outcome ≡ Some (ByExit status)
 IsOutcome (Trap cause) outcome = outcome ≡ Some (ByTrap cause)
 IsOutcome answer outcome = outcome ≡ None
 
+-- the command is refused before anything runs
+abbrev pub IsRefusal : Answer → Type 0
+IsRefusal BadWords = Unit {0}
+IsRefusal StoreFailed = Unit {0}
+IsRefusal (BadExe code) = Unit {0}
+IsRefusal answer = ⊥
+
 -- the summary, where anything ran
 abbrev pub summary_part : List Entry → (bytes : ℕ) → List ℕ
 summary_part [] bytes = []

@@ -1,5 +1,5 @@
 //! The call that does it all.
-ghost use Rattle.std.specs.Prelude.{◌≡◌, ◌⊎◌, ◌≢◌, ◌↔◌, ◌+◌, ℕ, List, [], None, Some, IfSome, MatchOption};
+ghost use Rattle.std.specs.Prelude.{◌≡◌, ◌⊎◌, ◌↔◌, ℕ, List, [], None, Some};
 ghost use Rattle.ro_io.specs.Outside.{Rose, more};
 ghost use Rattle.ro_image.specs.Straight.{bad_code};
 ghost use Rattle.ro_journal.specs.Plan.{outcome_of};
@@ -12,8 +12,8 @@ ghost use Rattle.ro_core.specs.Action.{EachIsNext};
 ghost use Rattle.ro_core.specs.Ideal.{StaysApart};
 ghost use Rattle.ro_simulation.specs.Theorem.{WritesAsIdeal};
 ghost use Rattle.ro_top.specs.Commands.{texts_of, command_of as command_in};
-ghost use Rattle.ro_top.specs.Driven.{HasRun, AreCounts, IsProgramEnd, IsProgramAnswer};
-ghost use Rattle.ro_top.specs.Top.{IsAskedFile, HasRunFile, OfItsJob, Wrote, IsOutcome, IsTold};
+ghost use Rattle.ro_top.specs.Driven.{HasRun, AreCounts, IsProgramEnd};
+ghost use Rattle.ro_top.specs.Top.{IsAskedFile, HasRunFile, OfItsJob, Wrote, IsOutcome, IsRefusal, IsTold};
 ghost use Rattle.ro_top.specs.declared.done.Told.TheVariants as t;
 
 use crate::commands::command_of;
@@ -51,6 +51,7 @@ pub fn romain<'a, R: Wait, S: Store, K: Sink, E: Sink>(
     ensures output { OfItsJob (S.told store.old) (texts_of words.now) result.journal.items (λ job. K.held result.out ≡ more (K.held out) (output_of job result.journal.items)) }
     ensures nothing_run { result.journal.items ≡ [] → (K.held result.out ≡ K.held out) × (K.faults result.out ≡ K.faults out) }
     ensures report { (bytes : ℕ) × Wrote (S.told store.old) (texts_of words.now) result.journal.items bytes × IsTold result.told (E.held report.old) (E.held report.new) (report_text result.journal.items bytes result.answer) }
+    ensures refused { IsRefusal result.answer → result.journal.items ≡ [] }
     ensures told { result.told ≡ t.Failed → Rose (E.faults report.old) (E.faults report.new) }
     ensures words { (result.answer ≡ a.BadWords) ↔ (command_in (texts_of words.now) ≡ None) }
     ensures store { result.answer ≡ a.StoreFailed → Rose (S.faults store.old) (S.faults store.new) }
@@ -88,6 +89,7 @@ fn command<R: Wait, S: Store, K: Sink>(
     ensures run { (result.journal.items ≡ []) ⊎ HasRunFile (S.told store.old) (texts_of words.now) result.journal.items }
     ensures counts { AreCounts result.journal.items }
     ensures answer { IsOutcome result.answer (outcome_of result.journal.items) }
+    ensures refused { IsRefusal result.answer → result.journal.items ≡ [] }
     ensures held { K.held result.out ≡ K.held out }
     ensures faults { K.faults result.out ≡ K.faults out }
     ensures words { (result.answer ≡ a.BadWords) ↔ (command_in (texts_of words.now) ≡ None) }
@@ -127,7 +129,7 @@ fn run<R: Wait, K: Sink>(rt: &R, alloc: Global, image: &Image, out: K) -> Ran<K>
     ensures run { HasRun image.now result.journal.items }
     ensures counts { AreCounts result.journal.items }
     ensures answer { IsOutcome result.answer (outcome_of result.journal.items) }
-    ensures program { IsProgramAnswer result.answer }
+    ensures program { IsRefusal result.answer → ⊥ }
     ensures held { K.held result.out ≡ K.held out }
     ensures faults { K.faults result.out ≡ K.faults out }
 {
@@ -149,7 +151,7 @@ fn run<R: Wait, K: Sink>(rt: &R, alloc: Global, image: &Image, out: K) -> Ran<K>
 fn answer_of(how: Option<How>) -> Answer
     requires { IsProgramEnd how }
     ensures answer { IsOutcome result how }
-    ensures program { IsProgramAnswer result }
+    ensures program { IsRefusal result → ⊥ }
 {
     match how {
         Some(How::Exit(status)) => Answer::Exit(status),

@@ -1,5 +1,5 @@
 -- Reading numbers, words and lines.
-use Rattle.std.proofs.Common.{ℕ, Bool, Bor, map, ◌≡◌, ◌+◌, ◌*◌, ◌-◌, ◌≤◌, ◌<◌, List, [], ◌∷◌, ◌++◌, Some, None, Result, Ok, Err, length, get_or, arith, refl, sym, ap, ◌∙◌, drop, take}
+use Rattle.std.proofs.Common.{ℕ, Bool, Bor, map, ◌≡◌, ◌+◌, ◌*◌, ◌-◌, ◌≤◌, ◌<◌, List, [], ◌∷◌, ◌++◌, Result, Ok, Err, length, get_or, arith, refl, sym, ap, ◌∙◌, drop, take}
 use Rattle.std.proofs.lemmas.List.{append_assoc, take_all}
 use Rattle.ro_faults.specs.declared.Fault.{Fault}
 use Rattle.ro_faults.specs.declared.errors.FaultsCode.TheVariants.{Form}

@@ -1,5 +1,6 @@
 //! A thread with the memory of a small guest.
-ghost use Rattle.std.specs.Prelude.{◌<◌, ◌^◌};
+ghost use Rattle.std.specs.Prelude.{◌≡◌, ◌<◌, ◌^◌};
+ghost use Rattle.ro_exec.specs.Registers.{register};
 
 use ro_event::CallTable;
 use ro_exec::{Cpu, Step, step};
@@ -67,8 +68,10 @@ impl Machine {
         u64::MAX
     }
 
+    /// The value of a register.
     pub fn register(&self, number: u8) -> u32
         requires { number < 32 }
+        ensures { result ≡ register self.now.cpu number }
     {
         self.cpu.get(number)
     }

@@ -56,6 +56,7 @@ pub fn romain<'a, R: Wait, S: Store, K: Sink, E: Sink>(
     ensures words { (result.answer ≡ a.BadWords) ↔ (command_in (texts_of words.now) ≡ None) }
     ensures store { result.answer ≡ a.StoreFailed → Rose (S.faults store.old) (S.faults store.new) }
     ensures executable { (code : ℕ) → result.answer ≡ a.BadExe code → (content : List ℕ) × IsAskedFile (S.told store.old) (texts_of words.now) content × (bad_code content ≡ Some code) }
+    ensures files { S.told store.new ≡ S.told store.old }
 {
     let Ran {
         answer,
@@ -95,6 +96,7 @@ fn command<R: Wait, S: Store, K: Sink>(
     ensures words { (result.answer ≡ a.BadWords) ↔ (command_in (texts_of words.now) ≡ None) }
     ensures store { result.answer ≡ a.StoreFailed → Rose (S.faults store.old) (S.faults store.new) }
     ensures executable { (code : ℕ) → result.answer ≡ a.BadExe code → (content : List ℕ) × IsAskedFile (S.told store.old) (texts_of words.now) content × (bad_code content ≡ Some code) }
+    ensures files { S.told store.new ≡ S.told store.old }
 {
     let Some(exe) = command_of(words) else {
         return refused(alloc, Answer::BadWords, out);

@@ -42,6 +42,14 @@ pub record AreFaults (faults : List Fault) : Type 0 where
   pub few : length faults ≤ 256
   pub each : All (λ fault. is_target fault.target ≡ true) faults
 
+-- What holds of every replica with places for so many threads: no thread has run past the watchdog.
+pub record IsReplica (watchdog : ℕ) (threads : List Thread) (places : ℕ) (waiting : List Fault) : Type 0 where
+  pub first : 0 < length threads
+  pub few : length threads ≤ 16
+  pub room : 16 ≤ places
+  pub watched : All (λ t. t.since ≤ watchdog) threads
+  pub faults : AreFaults waiting
+
 -- the count of the thread has room for so many instructions more
 abbrev pub CanCount : (quantum : ℕ) → ReplicaOf → (thread : ℕ) → Type 0
 CanCount quantum value thread = IfSome (slice_get value.threads thread) (λ t. t.done + quantum < 2 ^ 128)

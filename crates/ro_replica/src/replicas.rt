@@ -26,7 +26,8 @@ pub struct Replica {
 
 impl Model for Replica {
     ghost use Rattle.std.specs.Arc.{arc_value};
-    ghost use Rattle.ro_replica.specs.Seen.{ReplicaOf};
+    ghost use Rattle.std.specs.Prelude.{vec_capacity};
+    ghost use Rattle.ro_replica.specs.Seen.{ReplicaOf, IsReplica};
     ghost use Rattle.std.specs.Coded.{codes};
     ghost use Rattle.ro_pages.specs.Held.{coded_held};
 
@@ -35,6 +36,8 @@ impl Model for Replica {
     ghost coded = { Prim.hlevel (codes, coded_held) };
 
     ghost view = { λ r. record { layout = record { ranges = arc_value r.regions; calls = r.calls }; watchdog = r.watchdog; held = r.pages; threads = r.threads.items; waiting = r.waiting.items } };
+
+    ghost invariant = { λ r. IsReplica r.watchdog r.threads.items (vec_capacity r.threads) r.waiting.items };
 }
 
 impl Replica {

@@ -1,5 +1,6 @@
 //! Reading an executable file in full.
-ghost use Rattle.std.specs.Prelude.{◌≡◌, IfOk, IfErr, None};
+ghost use Rattle.std.specs.Prelude.{◌≡◌, IfOk, IfErr, None, All};
+ghost use Rattle.ro_image.specs.Image.{LiesLow};
 ghost use Rattle.ro_image.specs.Pieces.{pieces_in};
 ghost use Rattle.ro_image.specs.Executable.{bad_code, image_of, Refuses};
 
@@ -25,18 +26,22 @@ pub struct Executable {
 }
 
 impl Model for Executable {
-    ghost use Rattle.ro_image.specs.Image.{Image};
+    ghost use Rattle.std.specs.Prelude.{All};
+    ghost use Rattle.ro_image.specs.Image.{Image, LiesLow};
     ghost use Rattle.ro_image.specs.Pieces.{pieces_in};
 
     ghost Value = { Image };
 
     ghost view = { λ e. record { pieces = pieces_in e.pieces.items; ranges = e.ranges.items; calls = e.calls; entry = e.entry; heap = e.heap } };
+
+    ghost invariant = { λ e. All LiesLow (pieces_in e.pieces.items) };
 }
 
 impl Executable {
     /// The bytes that the file has of the segments, in the order of their headers.
     pub fn pieces(&self) -> &[FilePiece]
-        ensures { pieces_in result.now ≡ self.now.pieces }
+        ensures pieces { pieces_in result.now ≡ self.now.pieces }
+        ensures low { All LiesLow self.now.pieces }
     {
         self.pieces.as_slice()
     }

@@ -24,7 +24,7 @@ same_bytes f g a b (suc n) h =
     (same_bytes f g (a + 1) (b + 1) n (λ k l. let e : a + suc k ≡ a + 1 + k = omega arith in let d : b + suc k ≡ b + 1 + k = omega arith in rw (← e, ← d) (h (suc k) (omega arith))))
 
 -- a byte in a page
-byte_in_page : (m : FinMap nat_cmp (List ℕ)) (words : List ℕ) (p b : ℕ) → map.get m p ≡ Some (bytes_in words) → b / 4096 ≡ p → memory_of m b ≡ byte_in_words words (b % 4096)
+pub byte_in_page : (m : FinMap nat_cmp (List ℕ)) (words : List ℕ) (p b : ℕ) → map.get m p ≡ Some (bytes_in words) → b / 4096 ≡ p → memory_of m b ≡ byte_in_words words (b % 4096)
 byte_in_page m words p b e at =
     ap (λ q. byte_in (map.get m q) (b % 4096)) at ∙ ap (λ o. byte_in o (b % 4096)) e ∙ index-bytes_in words (b % 4096)
 
@@ -82,7 +82,7 @@ byte_stored f a n value b s = cond_same (nat_le a b && nat_lt b (a + n)) _ _ (f 
     index-bytes_of n value (b - a) s (omega arith))
 
 -- `stored`, byte by byte
-stored-at : (f : Memory) (a n value b : ℕ) → IsSize n → stored f a (bytes_of n value) b ≡ after_store f a n value b
+pub stored-at : (f : Memory) (a n value b : ℕ) → IsSize n → stored f a (bytes_of n value) b ≡ after_store f a n value b
 stored-at f a n value b s =
     let P : ℕ → Type 0 = λ k. stored f a (bytes_of k value) b ≡ after_store f a k value b in
     elim s [

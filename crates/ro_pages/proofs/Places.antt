@@ -117,7 +117,7 @@ copied_more v xs ys i o l e h j below = elim (cases_eq j i) [
   | inr other ↦ place-set_other v xs i j o other ∙ h j (omega arith)
 ]
 
-place_past : {X : Type 0} (v : X → List ℕ) (xs : List (Option X)) (j : ℕ) → length xs ≤ j → place v xs j ≡ None
+pub place_past : {X : Type 0} (v : X → List ℕ) (xs : List (Option X)) (j : ℕ) → length xs ≤ j → place v xs j ≡ None
 place_past v [] j h = refl
 place_past v (x ∷ xs) zero h = absurd (omega arith)
 place_past v (None ∷ xs) (suc j) h = place_past v xs j (omega arith)

@@ -1,5 +1,6 @@
 -- What a memory of pages holds.
-use Rattle.std.specs.Prelude.{ℕ, ◌+◌, ◌/◌, ◌%◌, List, [], ◌∷◌, Option, Some, None, Bool, slice_index, is_some, replicate, refl}
+use Rattle.std.specs.Prelude.{◌≡◌, ℕ, ◌+◌, ◌/◌, ◌%◌, ◌^◌, ◌<◌, ◌==◌, List, [], ◌∷◌, Option, Some, None, Bool, false, slice_index, is_some, replicate, refl}
+use Rattle.std.specs.List.{All, list_any}
 use Rattle.std.specs.Ordering.{nat_cmp}
 use Rattle.std.specs.FinMap as map
 use Rattle.std.specs.FinMap.{FinMap}
@@ -35,3 +36,11 @@ abbrev pub pages_from : {X : Type 0} → (X → List ℕ) → ℕ → List (Opti
 pages_from v k [] = map.empty
 pages_from v k (None ∷ places) = pages_from v (k + 1) places
 pages_from v k (Some x ∷ places) = map.insert (pages_from v (k + 1) places) k (v x)
+
+abbrev pub is_listed : List ℕ → ℕ → Bool
+is_listed numbers page = list_any (λ n. n == page) numbers
+
+-- a list that has the number of every backed page, and none past the last page
+pub record Lists (numbers : List ℕ) (pages : FinMap nat_cmp (List ℕ)) : Type 0 where
+  pub low : All (λ page. page < 2 ^ 20) numbers
+  pub complete : (page : ℕ) → is_listed numbers page ≡ false → has_page pages page ≡ false

@@ -1,13 +1,14 @@
 //! Pages in a table, found by their numbers.
-ghost use Rattle.std.specs.Prelude.{ℕ, ◌≡◌, ◌+◌, ◌/◌, ◌^◌, ◌<◌, ◌≤◌, OnOk, OnErr, IfOk, MatchOption, Some, None, vec_len, false, ◌==◌, ◌||◌};
+ghost use Rattle.std.specs.Prelude.{ℕ, ◌≡◌, ◌+◌, ◌*◌, ◌/◌, ◌^◌, ◌<◌, ◌≤◌, OnOk, OnErr, IfOk, MatchOption, Some, None, vec_len, vec_capacity, true, false, ◌==◌, ◌||◌, [], ◌∷◌, ◌++◌, length, slice_index};
 ghost use Rattle.std.specs.FinMap as map;
 ghost use Rattle.std.specs.List.{All};
 ghost use Rattle.std.specs.Option.{option_map, is_some};
+ghost use Rattle.ro_pages.specs.Bytes.{bytes_at, stored, covers_page};
 ghost use Rattle.ro_pages.specs.Held.{memory_of, has_page, zeros};
 ghost use Rattle.ro_pages.specs.Words.{bytes_in};
 
 use crate::access::Memory;
-use crate::words::{load_from, store_in};
+use crate::words::{load_from, read_from, store_in, write_to};
 use std::alloc::{AllocError, Global};
 use std::marker::Model;
 
@@ -17,14 +18,16 @@ type Page = Box<[u32; 1024]>;
 #[derive(Drop)]
 pub struct Pages {
     table: Vec<Option<Page>>,
+    /// The numbers of the backed pages, with places for those of the spare ones.
+    numbers: Vec<u32>,
     spare: Vec<Page>,
     alloc: Global,
 }
 
 impl Model for Pages {
-    ghost use Rattle.std.specs.Prelude.{◌≡◌, vec_len};
+    ghost use Rattle.std.specs.Prelude.{◌≡◌, ◌+◌, ◌≤◌, vec_len, vec_capacity};
     ghost use Rattle.std.specs.List.{All};
-    ghost use Rattle.ro_pages.specs.Held.{Held, coded_held, pages_from, zeros};
+    ghost use Rattle.ro_pages.specs.Held.{Held, Lists, coded_held, pages_from, zeros};
     ghost use Rattle.ro_pages.specs.Words.{bytes_in};
 
     ghost Value = { Held };
@@ -33,7 +36,7 @@ impl Model for Pages {
 
     ghost view = { λ s. record { pages = pages_from (λ b. bytes_in b.value) 0 s.table.items; spare = vec_len s.spare } };
 
-    ghost invariant = { λ s. (vec_len s.table ≡ 1048576) × All (λ b. bytes_in b.value ≡ zeros) s.spare.items };
+    ghost invariant = { λ s. (vec_len s.table ≡ 1048576) × All (λ b. bytes_in b.value ≡ zeros) s.spare.items × Lists s.numbers.items (pages_from (λ b. bytes_in b.value) 0 s.table.items) × (vec_len s.numbers + vec_len s.spare ≤ vec_capacity s.numbers) };
 }
 
 impl Pages {
@@ -49,6 +52,7 @@ impl Pages {
         }
         Ok(Pages {
             table,
+            numbers: Vec::new(alloc),
             spare: Vec::new(alloc),
             alloc,
         })
@@ -61,6 +65,7 @@ impl Pages {
         ensures kept { OnOk result (self.old.spare ≤ self.new.spare) }
         ensures err { OnErr result (self.new ≡ self.old) }
     {
+        self.numbers.reserve(count as usize)?;
         let before = self.spare.len();
         for _ in 0..count {
             if self.spare.len() >= count as usize {
@@ -90,7 +95,15 @@ impl Pages {
     {
         if let Some(fresh) = self.spare.pop() {
             self.table[page as usize] = Some(fresh);
+            add_number(&mut self.numbers, page);
         }
+    }
+
+    /// Whether a page is backed; none past the last one is.
+    pub fn has_page(&self, page: u32) -> bool
+        ensures { result ≡ has_page self.now.pages page }
+    {
+        (page as usize) < self.table.len() && self.backed(page)
     }
 
     /// Takes over the bytes of another memory in which the same pages are backed.
@@ -99,9 +112,83 @@ impl Pages {
         ensures pages { self.new.pages ≡ other.now.pages }
         ensures spare { self.new.spare ≡ self.old.spare }
     {
-        for i in 0..1_048_576usize {
-            copy_place(&mut self.table[i], &other.table[i]);
+        for page in &other.numbers {
+            copy_place(
+                &mut self.table[*page as usize],
+                &other.table[*page as usize],
+            );
         }
+    }
+
+    /// Reads the bytes from an address on; those of a page that isn't backed are 0.
+    pub fn read_bytes(&self, address: u32, bytes: &mut [u8])
+        requires { address + length bytes.old ≤ 2 ^ 32 }
+        ensures { bytes.new ≡ bytes_at (memory_of self.now.pages) address (length bytes.old) }
+    {
+        let mut done = 0;
+        while done < bytes.len() {
+            done = self.read_more(address, bytes, done);
+        }
+    }
+
+    /// Reads the bytes of one page more.
+    fn read_more(&self, address: u32, bytes: &mut [u8], done: usize) -> usize
+        requires within { address + length bytes.old ≤ 2 ^ 32 }
+        requires more { done < length bytes.old }
+        requires read { (i : ℕ) → i < done → slice_index bytes.old i ≡ memory_of self.now.pages (address + i) }
+        ensures more { done < result }
+        ensures within { result ≤ length bytes.old }
+        ensures read { (i : ℕ) → i < result → slice_index bytes.new i ≡ memory_of self.now.pages (address + i) }
+    {
+        let place = address as usize + done;
+        let end = bytes.len().min(done + (4096 - place % 4096));
+        self.read_in_page((place / 4096) as u32, place % 4096, &mut bytes[done..end]);
+        end
+    }
+
+    /// Reads bytes of one page.
+    fn read_in_page(&self, page: u32, offset: usize, bytes: &mut [u8])
+        requires page { page < 2 ^ 20 }
+        requires within { offset + length bytes.old ≤ 4096 }
+        ensures { (i : ℕ) → i < length bytes.old → slice_index bytes.new i ≡ memory_of self.now.pages (4096 * page + offset + i) }
+    {
+        match self.page(page) {
+            Some(words) => read_from(words, offset, bytes),
+            None => bytes.fill(0),
+        }
+    }
+
+    /// Stores bytes from an address on, in pages that are backed.
+    pub fn write_bytes(&mut self, address: u32, bytes: &[u8])
+        requires within { address + length bytes.now ≤ 2 ^ 32 }
+        requires backed { (page : ℕ) → covers_page (record { place = address; count = length bytes.now }) page ≡ true → has_page self.old.pages page ≡ true }
+        ensures bytes { memory_of self.new.pages ≡ stored (memory_of self.old.pages) address bytes.now }
+        ensures pages { has_page self.new.pages ≡ has_page self.old.pages }
+        ensures spare { self.new.spare ≡ self.old.spare }
+    {
+        let mut done = 0;
+        while done < bytes.len() {
+            let place = address as usize + done;
+            let end = bytes.len().min(done + (4096 - place % 4096));
+            self.write_in_page((place / 4096) as u32, place % 4096, &bytes[done..end]);
+            done = end;
+        }
+    }
+
+    /// Stores bytes in one page, which is backed.
+    fn write_in_page(&mut self, page: u32, offset: usize, bytes: &[u8])
+        requires page { page < 2 ^ 20 }
+        requires within { offset + length bytes.now ≤ 4096 }
+        requires backed { has_page self.old.pages page ≡ true }
+        ensures bytes { memory_of self.new.pages ≡ stored (memory_of self.old.pages) (4096 * page + offset) bytes.now }
+        ensures pages { has_page self.new.pages ≡ has_page self.old.pages }
+        ensures spare { self.new.spare ≡ self.old.spare }
+    {
+        let Some(page) = &mut self.table[page as usize] else {
+            unreachable!()
+        };
+        let words: &mut [u32; 1024] = page;
+        write_to(words, offset, bytes);
     }
 
     #[inline(always)]
@@ -153,6 +240,18 @@ fn zero_page(alloc: Global) -> Result<Page, AllocError>
     ensures { IfOk result (λ b. bytes_in b.value ≡ zeros) }
 {
     Ok(Box::new(alloc, [0u32; 1024])?)
+}
+
+/// Adds a number for which there is a place.
+fn add_number(numbers: &mut Vec<u32>, number: u32)
+    requires { vec_len numbers.old < vec_capacity numbers.old }
+    ensures items { numbers.new.items ≡ numbers.old.items ++ number ∷ [] }
+    ensures len { vec_len numbers.new ≡ vec_len numbers.old + 1 }
+    ensures capacity { vec_capacity numbers.old ≤ vec_capacity numbers.new }
+{
+    if numbers.push(number).is_err() {
+        unreachable!()
+    }
 }
 
 fn add_spare(alloc: Global, spare: &mut Vec<Page>) -> Result<(), AllocError>

@@ -1,6 +1,6 @@
 //! A page kept as 1,024 words, of which bytes and half-words are parts.
-ghost use Rattle.std.specs.Prelude.{ℕ, ◌≡◌, ◌+◌, ◌*◌, ◌/◌, ◌%◌, ◌^◌, ◌<◌, ◌==◌, if◌then◌else◌};
-ghost use Rattle.ro_pages.specs.Bytes.{IsSize, number_at};
+ghost use Rattle.std.specs.Prelude.{ℕ, ◌≡◌, ◌+◌, ◌-◌, ◌*◌, ◌/◌, ◌%◌, ◌^◌, ◌<◌, ◌≤◌, ◌==◌, ◌&&◌, nat_le, nat_lt, if◌then◌else◌, length, take, drop, slice_index};
+ghost use Rattle.ro_pages.specs.Bytes.{IsSize, number_at, bytes_of, stored};
 ghost use Rattle.ro_pages.specs.Words.{byte_of_word, byte_in_words, after_store};
 
 /// The number of so many bytes at an offset.
@@ -62,4 +62,97 @@ fn with_half(word: u32, place: u32, half: u32) -> u32
     let before = (word >> shift) % 0x1_0000;
     word.wrapping_sub(before << shift)
         .wrapping_add(half << shift)
+}
+
+/// Reads the bytes from an offset on.
+pub fn read_from(words: &[u32; 1024], offset: usize, bytes: &mut [u8])
+    requires { offset + length bytes.old ≤ 4096 }
+    ensures { (i : ℕ) → i < length bytes.old → slice_index bytes.new i ≡ byte_in_words words.now (offset + i) }
+{
+    let mut done = 0;
+    while done < bytes.len() {
+        done = read_more(words, offset, bytes, done);
+    }
+}
+
+/// Reads a word more where one begins and there is room for it, and else a byte.
+#[inline(always)]
+fn read_more(words: &[u32; 1024], offset: usize, bytes: &mut [u8], done: usize) -> usize
+    requires within { offset + length bytes.old ≤ 4096 }
+    requires more { done < length bytes.old }
+    requires read { (i : ℕ) → i < done → slice_index bytes.old i ≡ byte_in_words words.now (offset + i) }
+    ensures more { done < result }
+    ensures within { result ≤ length bytes.old }
+    ensures read { (i : ℕ) → i < result → slice_index bytes.new i ≡ byte_in_words words.now (offset + i) }
+{
+    let place = offset + done;
+    let word = words[place / 4];
+    if place % 4 == 0 && bytes.len() - done >= 4 {
+        put_word(bytes, done, word);
+        done + 4
+    } else {
+        bytes[done] = byte_of(word, place);
+        done + 1
+    }
+}
+
+#[inline(always)]
+fn byte_of(word: u32, place: usize) -> u8
+    ensures { result ≡ byte_of_word word place }
+{
+    ((word >> (8 * (place % 4))) % 0x100) as u8
+}
+
+/// Writes the bytes of a word from a place on.
+#[inline(always)]
+fn put_word(bytes: &mut [u8], place: usize, word: u32)
+    requires { place + 4 ≤ length bytes.old }
+    ensures { (i : ℕ) → slice_index bytes.new i ≡ (if nat_le place i && nat_lt i (place + 4) then byte_of_word word (i - place) else slice_index bytes.old i) }
+{
+    bytes[place] = (word % 0x100) as u8;
+    bytes[place + 1] = ((word >> 8) % 0x100) as u8;
+    bytes[place + 2] = ((word >> 16) % 0x100) as u8;
+    bytes[place + 3] = (word >> 24) as u8;
+}
+
+/// Writes bytes from an offset on.
+pub fn write_to(words: &mut [u32; 1024], offset: usize, bytes: &[u8])
+    requires { offset + length bytes.now ≤ 4096 }
+    ensures { byte_in_words words.new ≡ stored (byte_in_words words.old) offset bytes.now }
+{
+    let mut done = 0;
+    while done < bytes.len() {
+        done = write_more(words, offset, bytes, done);
+    }
+}
+
+/// Writes a word more where one begins and there are bytes enough, and else a byte.
+#[inline(always)]
+fn write_more(words: &mut [u32; 1024], offset: usize, bytes: &[u8], done: usize) -> usize
+    requires within { offset + length bytes.now ≤ 4096 }
+    requires more { done < length bytes.now }
+    ensures more { done < result }
+    ensures within { result ≤ length bytes.now }
+    ensures written { byte_in_words words.new ≡ stored (byte_in_words words.old) (offset + done) (take (result - done) (drop done bytes.now)) }
+{
+    let place = offset + done;
+    if place % 4 == 0 && bytes.len() - done >= 4 {
+        store_in(words, place as u32, 4, word_at(bytes, done));
+        done + 4
+    } else {
+        store_in(words, place as u32, 1, u32::from(bytes[done]));
+        done + 1
+    }
+}
+
+/// The word of the four bytes from a place on.
+#[inline(always)]
+fn word_at(bytes: &[u8], place: usize) -> u32
+    requires { place + 4 ≤ length bytes.now }
+    ensures { bytes_of 4 result ≡ take 4 (drop place bytes.now) }
+{
+    u32::from(bytes[place])
+        + 0x100 * u32::from(bytes[place + 1])
+        + 0x1_0000 * u32::from(bytes[place + 2])
+        + 0x100_0000 * u32::from(bytes[place + 3])
 }

@@ -1,6 +1,6 @@
 //! The ranges and their windows together.
 ghost use Rattle.std.specs.Prelude.{◌≡◌, ◌^◌, ◌<◌, IfOk};
-ghost use Rattle.ro_region.specs.Permission.{permits_byte, permits_each, permits_of};
+ghost use Rattle.ro_region.specs.Permission.{is_mapped, permits_byte, permits_each, permits_of};
 ghost use Rattle.ro_region.specs.Windows.{IsOpen};
 
 use crate::windows::{Window, windows_of};
@@ -57,6 +57,13 @@ impl Regions {
             || self.permits_each_byte(address, len, kind)
     }
 
+    /// Whether a byte lies in a range, whatever that permits.
+    pub fn contains(&self, address: u32) -> bool
+        ensures { result ≡ is_mapped self.now address }
+    {
+        self.ranges.iter().any(|range| range.contains(address))
+    }
+
     /// The window of a page.
     #[inline(always)]
     fn window(&self, page: u32, kind: Kind) -> Window
@@ -90,11 +97,9 @@ impl Regions {
     fn permits_byte(&self, address: u32, kind: Kind) -> bool
         ensures { result ≡ permits_byte self.now kind address }
     {
-        self.ranges.iter().any(|range| {
-            range.start <= address
-                && u64::from(address) < u64::from(range.start) + u64::from(range.length)
-                && range.allows(kind)
-        })
+        self.ranges
+            .iter()
+            .any(|range| { range.contains(address) && range.allows(kind) })
     }
 }
 
@@ -111,6 +116,28 @@ mod tests {
             write,
             execute,
         }
+    }
+
+    #[test]
+    fn contains_what_the_ranges_do(rt: HostRuntime) -> Result<(), Fail> {
+        let list = [
+            range(0x1_0000, 0x24, true, false, true),
+            range(0x1_0024, 6, false, false, false),
+            range(0xFFFF_FFF0, 0x10, false, true, false),
+        ];
+        let regions = Regions::new(rt.alloc(), &list)?;
+        for (address, want) in [
+            (0x0_FFFF, false),
+            (0x1_0000, true),
+            (0x1_0023, true),
+            (0x1_0029, true),
+            (0x1_002A, false),
+            (0xFFFF_FFEF, false),
+            (0xFFFF_FFFF, true),
+        ] {
+            assert_eq!(rt; regions.contains(address), want, "at {address:x}");
+        }
+        Ok(())
     }
 
     #[test]

@@ -2,7 +2,7 @@ use Rattle.std.proofs.Common.{List, ap, ◌∙◌, map}
 use Rattle.ro_elf.specs.declared.segments.Segment.{Segment}
 use Rattle.ro_image.specs.Image.{ranges_with}
 use Rattle.ro_image.specs.Executable.{piece_in, range_of, heap_over}
-use Rattle.ro_image.proofs.Opening.{image_from_is, image_of_is}
+use Rattle.ro_image.proofs.Opening.{image_from_is, image_of_is, low_pieces}
 use Rattle.ro_image.proofs.executable.read_executable.Goals as goal
 
 pub returns-clause-read : goal.returns-clause-read
@@ -15,3 +15,6 @@ returns-clause-read c =
     let heap_is = c.heap_start-heap.ensures.start ∙ ap heap_over c.segments.ensures in
     image_of_is bytes elf c.in_ok-calls.calls _ c.in_ok-elf.ensures.read c.in_ok-calls.ensures.found
     (image_from_is bytes elf c.in_ok-calls.calls _ _ c.entry.result heap pieces_are ranges_are heap_is c.entry.ensures)
+
+pub invariant_of-result : goal.invariant_of-result
+invariant_of-result c = low_pieces c.args.bytes.now c.in_ok-elf.elf.segments _ (c.in_ok-pieces.ensures ∙ ap (map (piece_in c.args.bytes.now)) c.segments-2.ensures) c.in_ok-elf.ensures.loaded

@@ -5,6 +5,7 @@ use Rattle.std.specs.Box.{with_value}
 use Rattle.ro_pages.specs.Held.{memory_of, has_page}
 use Rattle.ro_pages.specs.Words.{bytes_in}
 use Rattle.ro_pages.proofs.PageBytes.{stored_in_page, pages_after}
+use Rattle.ro_pages.proofs.Listed.{kept_pages, lists_same}
 use Rattle.ro_pages.proofs.Places.{get_pages_from_read, pages_from_set}
 use Rattle.ro_pages.proofs.table.PagesMemory.store.Goals as goal
 
@@ -38,3 +39,9 @@ returns-clause-pages c =
     let viewed = ap (λ h. h.pages) c.self.view_is in
     ap has_page (pages_from_set (λ b. bytes_in b.value) c.self.inside.table.items p (with_value c.in-Some.page new) (omega arith) ∙ ap (λ m. map.insert m p (bytes_in new)) viewed)
     ∙ pages_after c.args.self.now.pages p (bytes_in new) c.requires.backed
+
+pub invariant_of-self : goal.invariant_of-self
+invariant_of-self c =
+    let p = c.args.address / 4096 in
+    let same = kept_pages (λ b. bytes_in b.value) c.self.inside.table.items p c.index_mut.result.now c.in-Some.page (with_value c.in-Some.page c.store_in.new.words) (omega arith) c.index_mut.ensures.value c.in-Some.is in
+    (c.self.invariant.0, c.self.invariant.1, lists_same _ _ _ same c.self.invariant.2, c.self.invariant.3)

@@ -67,7 +67,6 @@ impl Replica {
     pub fn stop(&self, thread: u32) -> Option<Stop>
         ensures { result ≡ stop_of (replica_of self.now) thread }
     {
-        let _ = crate::stub::never();
-        unreachable!()
+        self.threads.get(thread as usize)?.stop
     }
 }

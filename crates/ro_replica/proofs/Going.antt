@@ -1,11 +1,15 @@
 -- The rounds of a run.
-use Rattle.std.specs.Prelude.{◌≡◌, ◌⊎◌, ℕ, zero, suc, ◌+◌, ◌-◌, ◌<◌, ◌≤◌, ◌^◌, Bool, true, false, cond, List, [], ◌∷◌, length, Option, Some, None, IsSome, IfSome, ◌==◌, if◌then◌else◌, slice_get, slice_set, slice_index_or}
+use Rattle.std.specs.Prelude.{◌≡◌, ◌⊎◌, ℕ, zero, suc, ◌+◌, ◌-◌, ◌<◌, ◌≤◌, ◌^◌, Bool, true, false, cond, List, [], ◌∷◌, length, Option, Some, None, IsSome, IfSome, is_some, is_none, ◌==◌, if◌then◌else◌, slice_get, slice_set, slice_index_or}
 use Rattle.std.specs.List.{filter}
 use Rattle.std.specs.Option.{option_map, option_and_then}
-use Rattle.std.proofs.Common.{refl, sym, ap, ◌∙◌, subst, arith, inl, inr}
-use Rattle.std.proofs.lemmas.Bool.{eqb-false}
+use Rattle.std.proofs.Common.{refl, sym, ap, ◌∙◌, subst, arith, inl, inr, eq-eqb}
+use Rattle.std.proofs.lemmas.Bool.{eqb-false, ne_eqb}
+use Rattle.std.proofs.lemmas.List.{length-set}
+use Rattle.std.proofs.lemmas.List.Elements.{All-set}
 use Rattle.std.proofs.lemmas.Option.{slice_get_read}
 use Rattle.ro_event.specs.declared.stops.Stop.{Stop}
+use Rattle.ro_event.specs.declared.table.CallTable.{CallTable}
+use Rattle.ro_region.specs.declared.Range.{Range}
 use Rattle.ro_pages.specs.Bytes.{Memory}
 use Rattle.ro_pages.specs.Held.{Held, memory_of, has_page}
 use Rattle.ro_exec.specs.Next.{Layout, Backed, Next, Stands, Executes, next}
@@ -16,7 +20,7 @@ use Rattle.ro_thread.specs.Runs.{Running, IsRun, after_instruction, after_next, 
 use Rattle.ro_replica.specs.Replica.{Replica, changed_at}
 use Rattle.ro_replica.specs.Runs.{Ran, is_due, struck, plus_hit, run_of, standing_in, standing_at, with_stop}
 use Rattle.ro_replica.specs.Rounds.{IsStruck, Leads}
-use Rattle.ro_replica.specs.Seen.{ReplicaOf, replica_of, SameProgram, CanCount, Runs, stop_after}
+use Rattle.ro_replica.specs.Seen.{ReplicaOf, replica_of, SameProgram, CanCount, IsReplica, Runs, stop_after}
 use Rattle.ro_replica.proofs.Elements.{get_set}
 use Rattle.ro_replica.proofs.Strikes.{NoneDue, done_at, strike_at, struck_is, struck_done, struck_none, struck_twice}
 use Rattle.ro_replica.proofs.Segments.{placed, plus_none, plus_both, run_of_struck, one_is_done, run_of_instructions}
@@ -169,3 +173,102 @@ leads_struck layout watchdog thread most old mid new count hit stop leads is =
     by (inr (early, is_some, at, nothing)) =
       let same : mid ≡ new = ap (λ (ran : Ran). ran.replica) (sym nothing ∙ is) in
       inr (early, is_some, at ∙ ap (λ (r : Replica). standing_at layout watchdog r thread) same, subst (λ (r : Replica). IsStruck layout r thread) same nothing)
+
+pub with_ranges : (ranges other : List Range) (calls : CallTable) (watchdog : ℕ) (backed : Backed) (most count : ℕ) (stop : Option Stop) (old new : Running) → ranges ≡ other
+    → IsRun (record { ranges = ranges; calls = calls }) watchdog backed most count stop old new → IsRun (record { ranges = other; calls = calls }) watchdog backed most count stop old new
+with_ranges ranges other calls watchdog backed most count stop old new same run =
+    subst (λ (r : List Range). IsRun (record { ranges = r; calls = calls }) watchdog backed most count stop old new) same run
+
+-- a run keeps what holds of every replica
+pub replica_kept : (layout : Layout) (watchdog : ℕ) (backed : Backed) (most count : ℕ) (stop : Option Stop) (threads : List Thread) (places : ℕ) (waiting : List Fault) (thread : ℕ) (x end : Thread) (before after : Memory)
+    → IsReplica watchdog threads places waiting → thread < length threads → x ≡ slice_index_or threads thread x
+    → IsRun layout watchdog backed most count stop (record { thread = x; memory = before }) (record { thread = end; memory = after })
+    → IsReplica watchdog (slice_set threads thread end) places waiting
+replica_kept layout watchdog backed most count stop threads places waiting thread x end before after is within read run =
+    let same : length (slice_set threads thread end) ≡ length threads = length-set threads thread end in
+    let first : 0 < length threads = is.first in
+    let few : length threads ≤ 16 = is.few in
+    let at : x.since ≤ watchdog = subst (λ (t : Thread). t.since ≤ watchdog) (sym read) (is.watched thread x within) in
+    let now : end.since ≤ watchdog = instructions_watched layout watchdog backed count (record { thread = x; memory = before }) (record { thread = end; memory = after }) at run.runs in
+    record {
+      first = omega arith;
+      few = omega arith;
+      room = is.room;
+      watched = All-set (λ t. t.since ≤ watchdog) threads thread end now is.watched;
+      faults = is.faults;
+    }
+
+pub leads_same : (one two : ReplicaOf) (thread most : ℕ) (old new : Replica) (count hit : ℕ) (stop : Option Stop) → SameProgram one two → Leads one.layout one.watchdog thread most old new count hit stop → Leads two.layout two.watchdog thread most old new count hit stop
+leads_same one two thread most old new count hit stop same leads =
+    subst (λ (w : ℕ). Leads two.layout w thread most old new count hit stop) same.watchdog
+    (subst (λ (l : Layout). Leads l one.watchdog thread most old new count hit stop) same.layout leads)
+
+-- a run that has come so far
+pub record UnderWay (layout : Layout) (watchdog quantum thread : ℕ) (old now : Replica) (count hit : ℕ) (stop : Option Stop) : Type 0 where
+  pub leads : (rest : ℕ) → run_of layout watchdog (count + rest) old thread ≡ option_map (plus_hit hit) (run_of layout watchdog rest now thread)
+  pub arrives : ((stop ≡ None) × (count ≤ quantum)) ⊎ ((count < quantum) × IsSome stop × (stop ≡ standing_at layout watchdog now thread))
+
+pub begins : (layout : Layout) (watchdog quantum thread : ℕ) (old now : Replica) (hit : ℕ) → struck layout.ranges old thread ≡ record { replica = now; hit = hit } → UnderWay layout watchdog quantum thread old now 0 hit None
+begins layout watchdog quantum thread old now hit is = record {
+  leads = λ rest. ap (λ (n : ℕ). run_of layout watchdog n old thread) (let z : 0 + rest ≡ rest = omega arith in z)
+    ∙ run_of_struck layout watchdog rest old thread
+    ∙ ap (λ (ran : Ran). option_map (plus_hit ran.hit) (run_of layout watchdog rest ran.replica thread)) is;
+  arrives = inl (refl, omega arith);
+}
+
+pub goes : (layout : Layout) (watchdog quantum thread : ℕ) (old now after : Replica) (count hit more more_hit : ℕ) (before stop : Option Stop) → UnderWay layout watchdog quantum thread old now count hit before → count < quantum
+    → Leads layout watchdog thread (quantum - count) now after more more_hit stop → UnderWay layout watchdog quantum thread old after (count + more) (hit + more_hit) stop
+goes layout watchdog quantum thread old now after count hit more more_hit before stop so early leads = record {
+  leads = λ rest. ap (λ (n : ℕ). run_of layout watchdog n old thread) (let z : (count + more) + rest ≡ count + (more + rest) = omega arith in z)
+    ∙ so.leads (more + rest) ∙ ap (option_map (plus_hit hit)) (leads.leads rest) ∙ plus_both hit more_hit (run_of layout watchdog rest after thread);
+  arrives = by leads.arrives;
+}
+  where
+    by : ((stop ≡ None) × (0 < more) × (more ≤ quantum - count)) ⊎ ((more < quantum - count) × IsSome stop × (stop ≡ standing_at layout watchdog after thread) × IsStruck layout after thread)
+      → ((stop ≡ None) × (count + more ≤ quantum)) ⊎ ((count + more < quantum) × IsSome stop × (stop ≡ standing_at layout watchdog after thread))
+    by (inl (none, _, most)) = inl (none, omega arith)
+    by (inr (less, is_some, at, _)) = inr (omega arith, is_some, at)
+
+pub ends : (layout : Layout) (watchdog quantum thread : ℕ) (old now new : Replica) (count hit : ℕ) (stop : Option Stop) → UnderWay layout watchdog quantum thread old now count hit stop → IsStruck layout now thread
+    → (count < quantum → stop ≡ None → ⊥) → new ≡ record now { threads = changed_at (with_stop stop) now.threads thread }
+    → Runs layout watchdog quantum thread old new count hit stop
+ends layout watchdog quantum thread old now new count hit stop so is over new_is = record {
+  end = record { replica = now; hit = hit };
+  runs = ap (λ (n : ℕ). run_of layout watchdog n old thread) (let z : count ≡ count + 0 = omega arith in z) ∙ so.leads 0
+    ∙ ap (λ (ran : Ran). Some (plus_hit hit ran)) is
+    ∙ ap (λ (n : ℕ). Some (record { replica = now; hit = n })) (let z : hit + 0 ≡ hit = omega arith in z);
+  hit_is = refl;
+  stop_is = (by so.arrives).0;
+  new_is = new_is;
+  arrives = (by so.arrives).1;
+}
+  where
+    by : ((stop ≡ None) × (count ≤ quantum)) ⊎ ((count < quantum) × IsSome stop × (stop ≡ standing_at layout watchdog now thread))
+      → (stop ≡ stop_after layout watchdog quantum thread count now) × ((count ≡ quantum) ⊎ ((count < quantum) × IsSome stop))
+    by (inl (none, within)) =
+      let not_before : count < quantum → ⊥ = λ early. over early none in
+      let all : count ≡ quantum = omega arith in
+      (none ∙ sym (ap (λ (b : Bool). if b then None else standing_at layout watchdog now thread) (eq-eqb count quantum all)), inl all)
+    by (inr (early, is_some, at)) =
+      let apart : count ≡ quantum → ⊥ = λ e. omega arith in
+      (at ∙ sym (ap (λ (b : Bool). if b then None else standing_at layout watchdog now thread) (ne_eqb count quantum apart)), inr (early, is_some))
+
+-- a round makes what is left smaller, or ends the run
+pub smaller : (layout : Layout) (watchdog thread quantum count more hit : ℕ) (old new : Replica) (before stop : Option Stop) → is_some before ≡ false → count < quantum → Leads layout watchdog thread (quantum - count) old new more hit stop
+    → (quantum - (count + more)) + (if is_none stop then 1 else 0) < (quantum - count) + (if is_none before then 1 else 0)
+smaller layout watchdog thread quantum count more hit old new (Some s) stop none early leads = absurd (cc)
+smaller layout watchdog thread quantum count more hit old new None stop none early leads = by leads.arrives
+  where
+    by-stop : (o : Option Stop) → more < quantum - count → IsSome o → (quantum - (count + more)) + (if is_none o then 1 else 0) < (quantum - count) + 1
+    by-stop None less is = let e : false ≡ true = is in absurd (cc)
+    by-stop (Some s) less is = omega arith
+    by : ((stop ≡ None) × (0 < more) × (more ≤ quantum - count)) ⊎ ((more < quantum - count) × IsSome stop × (stop ≡ standing_at layout watchdog new thread) × IsStruck layout new thread)
+      → (quantum - (count + more)) + (if is_none stop then 1 else 0) < (quantum - count) + 1
+    by (inl (is, some, most)) =
+      subst (λ (o : Option Stop). (quantum - (count + more)) + (if is_none o then 1 else 0) < (quantum - count) + 1) (sym is)
+      (let less : (quantum - (count + more)) + 1 < (quantum - count) + 1 = omega arith in less)
+    by (inr (less, is, _, _)) = by-stop stop less is
+
+pub some_not_none : (stop : Option Stop) → is_some stop ≡ true → stop ≡ None → ⊥
+some_not_none None is none = let e : false ≡ true = is in cc
+some_not_none (Some s) is none = cc

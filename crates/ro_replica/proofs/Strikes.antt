@@ -153,14 +153,19 @@ struck_all ranges replica after thread done hit there is count =
     ∙ ap (λ (n : ℕ). record { replica = after; hit = n }) (sym count)
 
 -- none is found in one place more
-pub none_more : (p : Fault → Bool) (faults : List Fault) (i : ℕ) (fault : Fault) → i < length faults → fault ≡ slice_index_or faults i fault → filter p (take i faults) ≡ [] → p fault ≡ false → filter p (take (i + 1) faults) ≡ []
-none_more p faults i fault within read none fails = filter_skips p faults i fault within read fails ∙ none
+pub none_more : (p : Fault → Bool) (faults : List Fault) (i : ℕ) (d : Fault) → i < length faults → filter p (take i faults) ≡ [] → p (slice_index_or faults i d) ≡ false → filter p (take (i + 1) faults) ≡ []
+none_more p faults i d within none fails =
+    filter_more p faults i d within
+    ∙ ap (λ (b : Bool). filter p (take i faults) ++ cond b (slice_index_or faults i d ∷ []) []) fails
+    ∙ append-nil (filter p (take i faults)) ∙ none
 
-pub none_less : (p : Fault → Bool) (faults : List Fault) (i : ℕ) (fault : Fault) → i < length faults → fault ≡ slice_index_or faults i fault → filter p (take (i + 1) faults) ≡ [] → (filter p (take i faults) ≡ []) × (p fault ≡ false)
-none_less p faults i fault within read none = by (p fault) refl
+pub none_less : (p : Fault → Bool) (faults : List Fault) (i : ℕ) (d : Fault) → i < length faults → filter p (take (i + 1) faults) ≡ [] → (filter p (take i faults) ≡ []) × (p (slice_index_or faults i d) ≡ false)
+none_less p faults i d within none = by (p (slice_index_or faults i d)) refl (sym (filter_more p faults i d within) ∙ none)
   where
-    by : (b : Bool) → p fault ≡ b → (filter p (take i faults) ≡ []) × (p fault ≡ false)
-    by true e = absurd (
-      let n : length (filter p (take i faults)) + 1 ≡ 0 = sym (length-append (filter p (take i faults)) (fault ∷ [])) ∙ ap length (sym (filter_takes p faults i fault within read e) ∙ none) in
+    by : (b : Bool) → p (slice_index_or faults i d) ≡ b → filter p (take i faults) ++ cond (p (slice_index_or faults i d)) (slice_index_or faults i d ∷ []) [] ≡ [] → (filter p (take i faults) ≡ []) × (p (slice_index_or faults i d) ≡ false)
+    by true e h = absurd (
+      let h1 : filter p (take i faults) ++ slice_index_or faults i d ∷ [] ≡ [] = subst (λ (b : Bool). filter p (take i faults) ++ cond b (slice_index_or faults i d ∷ []) [] ≡ []) e h in
+      let n : length (filter p (take i faults)) + 1 ≡ 0 = sym (length-append (filter p (take i faults)) (slice_index_or faults i d ∷ [])) ∙ ap length h1 in
       omega arith)
-    by false e = (sym (filter_skips p faults i fault within read e) ∙ none, e)
+    by false e h =
+      (sym (append-nil (filter p (take i faults))) ∙ subst (λ (b : Bool). filter p (take i faults) ++ cond b (slice_index_or faults i d ∷ []) [] ≡ []) e h, e)

@@ -1,5 +1,5 @@
 //! Striking the faults that are due.
-ghost use Rattle.std.specs.Prelude.{◌≡◌, ◌+◌, ◌<◌, true, not, length, filter, fold};
+ghost use Rattle.std.specs.Prelude.{◌≡◌, ◌+◌, ◌<◌, ◌≤◌, true, not, length, filter, fold};
 ghost use Rattle.ro_faults.specs.Texts.{is_target};
 ghost use Rattle.ro_faults.specs.Flips.{flipped};
 ghost use Rattle.ro_exec.specs.Registers.{register, with_register};
@@ -18,6 +18,7 @@ impl Replica {
         ensures program { SameProgram self.new self.old }
         ensures struck { struck self.old.layout.ranges (replica_of self.old) thread ≡ record { replica = replica_of self.new; hit = result } }
         ensures fewer { result + length self.new.waiting ≡ length self.old.waiting }
+        ensures few { result + length self.new.waiting ≤ 256 }
         ensures threads { length self.new.threads ≡ length self.old.threads }
     {
         let done = self.threads[thread as usize].done;

@@ -1,3 +1,5 @@
+use Rattle.std.proofs.Common.{◌≡◌, ◌≤◌, length, ap, arith}
+use Rattle.ro_replica.specs.Seen.{ReplicaOf}
 use Rattle.ro_replica.proofs.SoFar.{faults_left, strike_is, fewer}
 use Rattle.ro_replica.proofs.replicas.Replica.strike.Goals as goal
 
@@ -13,3 +15,10 @@ returns-clause-struck c =
 pub returns-clause-fewer : goal.returns-clause-fewer
 returns-clause-fewer c =
     fewer c.args.self.now _ _ _ c.args.thread _ _ c.self-2.view_is c.strike_all-hit.ensures.waiting c.strike_all-hit.ensures.hit c.forget.ensures
+
+pub returns-clause-few : goal.returns-clause-few
+returns-clause-few c =
+    let all = fewer c.args.self.now _ _ _ c.args.thread _ _ c.self-2.view_is c.strike_all-hit.ensures.waiting c.strike_all-hit.ensures.hit c.forget.ensures in
+    let first : length c.self.inside.waiting.items ≤ 256 = c.self.invariant.faults.few in
+    let same : length c.self.inside.waiting.items ≡ length c.args.self.now.waiting = ap (λ (v : ReplicaOf). length v.waiting) c.self.view_is in
+    omega (arith, all)

@@ -3,9 +3,10 @@ ghost use Rattle.std.specs.Prelude.{◌≡◌, ◌<◌, ◌^◌};
 ghost use Rattle.ro_exec.specs.Registers.{register};
 
 use ro_event::CallTable;
-use ro_exec::{Cpu, Step, step};
+use ro_exec::{Cpu, Step};
 use ro_pages::{Memory, Pages};
 use ro_region::{Range, Regions};
+use ro_thread::Thread;
 use std::alloc::{AllocError, Global};
 
 const CODE: u32 = 0x1_0000;
@@ -17,7 +18,7 @@ const STACK_TOP: u32 = 0x7001_0000;
 /// One thread, and all that its instructions need.
 #[derive(Drop)]
 pub struct Machine {
-    cpu: Cpu,
+    thread: Thread,
     pages: Pages,
     regions: Regions,
     calls: CallTable,
@@ -49,18 +50,36 @@ impl Machine {
         cpu.set(6, turns);
         cpu.set(8, 1);
         Ok(Machine {
-            cpu,
+            thread: Thread {
+                cpu,
+                since: 0,
+                done: 0,
+                stop: None,
+            },
             pages,
             regions: regions(alloc)?,
             calls: calls(),
         })
     }
 
-    /// Runs to the first stop, and counts the instructions before it.
+    /// Runs to the first stop, by quanta where one is given, and counts the instructions before it.
+    pub fn run(&mut self, quantum: Option<u32>) -> u64 {
+        match quantum {
+            Some(quantum) => self.run_quanta(quantum),
+            None => self.run_steps(),
+        }
+    }
+
+    // Instruction by instruction, with no counts.
     #[inline(never)]
-    pub fn run(&mut self) -> u64 {
+    fn run_steps(&mut self) -> u64 {
         for count in 0..u64::MAX {
-            match step(&mut self.cpu, &mut self.pages, &self.regions, &self.calls) {
+            match ro_exec::step(
+                &mut self.thread.cpu,
+                &mut self.pages,
+                &self.regions,
+                &self.calls,
+            ) {
                 Step::Did => {}
                 Step::Stopped(_) => return count,
             }
@@ -68,12 +87,37 @@ impl Machine {
         u64::MAX
     }
 
+    // By quanta, each after a release.
+    #[inline(never)]
+    fn run_quanta(&mut self, quantum: u32) -> u64 {
+        let mut count: u64 = 0;
+        for _ in 0..u64::MAX {
+            self.thread.since = 0;
+            if self.thread.done > u128::from(u64::MAX) {
+                break;
+            }
+            let ran = ro_thread::run(
+                &mut self.thread,
+                &mut self.pages,
+                &self.regions,
+                &self.calls,
+                quantum,
+                u32::MAX,
+            );
+            count = count.saturating_add(u64::from(ran.count));
+            if ran.stop.is_some() {
+                break;
+            }
+        }
+        count
+    }
+
     /// The value of a register.
     pub fn register(&self, number: u8) -> u32
         requires { number < 32 }
-        ensures { result ≡ register self.now.cpu number }
+        ensures { result ≡ register self.now.thread.cpu number }
     {
-        self.cpu.get(number)
+        self.thread.cpu.get(number)
     }
 }
 

@@ -1,7 +1,8 @@
 //! How fast a guest's instructions run: three loops of instructions, each run for as many turns as is asked.
 //!
-//! `ro_speed LOOP TURNS` prints how many instructions ran, two registers to compare, and the nanoseconds that it took.
-//! With no words each loop runs a few turns, and no time is printed.
+//! `ro_speed LOOP TURNS` prints how many instructions ran, two registers to compare, and the nanoseconds that it took;
+//! `ro_speed LOOP TURNS QUANTUM` does so for runs of so many instructions at a time. With no words each loop runs a few
+//! turns, and no time is printed.
 #![tactic(auto)]
 
 mod guests;
@@ -15,9 +16,15 @@ use std::env;
 use std::rt::Clock;
 use std::time::Instant;
 
-fn ran(rt: &impl Print, alloc: Global, guest: Guest, turns: u32) -> Result<()> {
+fn ran(
+    rt: &impl Print,
+    alloc: Global,
+    guest: Guest,
+    turns: u32,
+    quantum: Option<u32>,
+) -> Result<()> {
     let mut machine = Machine::new(alloc, guest.words(), turns)?;
-    let count = machine.run();
+    let count = machine.run(quantum);
     println!(rt;
         "{} {count} {} {}",
         guest.name(),
@@ -27,10 +34,16 @@ fn ran(rt: &impl Print, alloc: Global, guest: Guest, turns: u32) -> Result<()> {
     Ok(())
 }
 
-fn timed(rt: &(impl Print + Clock), alloc: Global, guest: Guest, turns: u32) -> Result<()> {
+fn timed(
+    rt: &(impl Print + Clock),
+    alloc: Global,
+    guest: Guest,
+    turns: u32,
+    quantum: Option<u32>,
+) -> Result<()> {
     let mut machine = Machine::new(alloc, guest.words(), turns)?;
     let start = Instant::now(rt)?;
-    let count = machine.run();
+    let count = machine.run(quantum);
     let nanoseconds = start.elapsed(rt)?.as_nanos();
     println!(rt;
         "{} {count} {} {} {nanoseconds}",
@@ -46,11 +59,16 @@ fn main(rt: HostRuntime) -> Result<()> {
     let mut words = env::args(&rt)?.skip(1);
     let Some(name) = words.next() else {
         for guest in [Guest::Mix, Guest::Stack, Guest::Bytes] {
-            ran(&rt, alloc, guest, 100)?;
+            ran(&rt, alloc, guest, 100, None)?;
+            ran(&rt, alloc, guest, 100, Some(64))?;
         }
         return Ok(());
     };
     let guest = Guest::named(name.as_str()).context("the loops are mix, stack and bytes")?;
     let turns = words.next().context("how many turns?")?.parse::<u32>()?;
-    timed(&rt, alloc, guest, turns)
+    let quantum = match words.next() {
+        Some(word) => Some(word.parse::<u32>()?),
+        None => None,
+    };
+    timed(&rt, alloc, guest, turns, quantum)
 }

@@ -4,6 +4,7 @@ ghost use Rattle.ro_thread.specs.Runs.{IsRun};
 
 use crate::Thread;
 use ro_event::{CallTable, Stop};
+use ro_exec::{Cpu, Step, step};
 use ro_pages::Memory;
 use ro_region::Regions;
 
@@ -16,13 +17,9 @@ pub struct Ran {
     pub stop: Option<Stop>,
 }
 
-unsafe extern "C" {
-    safe fn never() -> u32
-        ensures { ⊥ };
-}
-
 /// Runs a thread until it stands at a stop, or for `most` instructions. It stands at the watchdog's stop once it has run for
 /// `watchdog` instructions since its last release.
+#[inline(always)]
 pub fn run<M: Memory>(
     thread: &mut Thread,
     memory: &mut M,
@@ -36,6 +33,36 @@ pub fn run<M: Memory>(
     ensures run { IsRun (record { ranges = regions.now; calls = calls.now }) watchdog (M.backing memory.old) most result.count result.stop (record { thread = thread.old; memory = M.memory memory.old }) (record { thread = thread.new; memory = M.memory memory.new }) }
     ensures pages { M.backing memory.new ≡ M.backing memory.old }
 {
-    let _ = never();
-    unreachable!()
+    let bound = most.min(watchdog - thread.since);
+    let mut cpu = thread.cpu;
+    for count in 0..bound {
+        if let Step::Stopped(stop) = step(&mut cpu, memory, regions, calls) {
+            advance(thread, cpu, count);
+            return Ran {
+                count,
+                stop: Some(stop),
+            };
+        }
+    }
+    advance(thread, cpu, bound);
+    Ran {
+        count: bound,
+        stop: if bound < most {
+            Some(Stop::Watchdog)
+        } else {
+            None
+        },
+    }
+}
+
+// Gives a thread what its registers are after so many instructions, and counts them.
+#[inline(always)]
+fn advance(thread: &mut Thread, cpu: Cpu, count: u32)
+    requires since { thread.old.since + count < 2 ^ 32 }
+    requires done { thread.old.done + count < 2 ^ 128 }
+    ensures { thread.new ≡ record thread.old { cpu = cpu; since = thread.old.since + count; done = thread.old.done + count } }
+{
+    thread.cpu = cpu;
+    thread.since += count;
+    thread.done += u128::from(count);
 }

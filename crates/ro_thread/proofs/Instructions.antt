@@ -1,0 +1,55 @@
+-- Instruction after instruction of a thread.
+use Rattle.std.proofs.Common.{◌≡◌, ℕ, zero, suc, ◌+◌, ◌<◌, Option, Some, None, refl, ap, ◌∙◌, subst, arith}
+use Rattle.std.proofs.lemmas.Bool.{ne_eqb}
+use Rattle.std.specs.Option.{option_and_then}
+use Rattle.ro_pages.specs.Bytes.{Memory}
+use Rattle.ro_exec.specs.declared.Cpu.{Cpu}
+use Rattle.ro_exec.specs.declared.outcome.Step.{Step}
+use Rattle.ro_exec.specs.declared.outcome.Step.TheVariants.{Did}
+use Rattle.ro_exec.specs.Next.{Layout, Backed, Next, Stands, Executes, next}
+use Rattle.ro_exec.specs.Steps.{IsStep}
+use Rattle.ro_thread.specs.declared.Thread.{Thread}
+use Rattle.ro_thread.specs.Runs.{Running, after_next, one_instruction, instructions}
+
+-- the thread after so many instructions, whose registers and memory are these
+abbrev pub ran_on : Thread → ℕ → Cpu → Memory → Running
+ran_on thread count cpu memory =
+    record { thread = record thread { cpu = cpu; since = thread.since + count; done = thread.done + count }; memory = memory }
+
+-- one instruction behind others
+pub one_more : (layout : Layout) (watchdog : ℕ) (backed : Backed) (count : ℕ) (running mid : Running) → instructions layout watchdog backed count running ≡ Some mid → instructions layout watchdog backed (suc count) running ≡ one_instruction layout watchdog backed mid
+one_more layout watchdog backed zero running mid e =
+    let same : running ≡ mid = cc in
+    subst (λ (r : Running). instructions layout watchdog backed 1 running ≡ one_instruction layout watchdog backed r) same (alone (one_instruction layout watchdog backed running))
+  where
+    alone : (o : Option Running) → option_and_then (λ (r : Running). Some r) o ≡ o
+    alone None = refl
+    alone (Some r) = refl
+one_more layout watchdog backed (suc n) running mid e = by-first (one_more layout watchdog backed n) (one_instruction layout watchdog backed running) e
+  where
+    by-first : ((r m : Running) → instructions layout watchdog backed n r ≡ Some m → instructions layout watchdog backed (suc n) r ≡ one_instruction layout watchdog backed m) → (o : Option Running) → option_and_then (instructions layout watchdog backed n) o ≡ Some mid → option_and_then (instructions layout watchdog backed (suc n)) o ≡ one_instruction layout watchdog backed mid
+    by-first rest None h = absurd (cc)
+    by-first rest (Some r) h = rest r mid h
+
+-- a step that did something is one instruction
+pub one_step : (layout : Layout) (watchdog : ℕ) (backed : Backed) (thread : Thread) (count : ℕ) (cpu after : Cpu) (memory stored : Memory) → (thread.since + count) < watchdog → IsStep (next layout backed memory cpu) Did cpu after memory stored → one_instruction layout watchdog backed (ran_on thread count cpu memory) ≡ Some (ran_on thread (count + 1) after stored)
+one_step layout watchdog backed thread count cpu after memory stored early did =
+    let apart : (thread.since + count) ≡ watchdog → ⊥ = λ e. omega arith in
+    rw (ne_eqb (thread.since + count) watchdog apart) (by-next (next layout backed memory cpu) did)
+  where
+    by-next : (n : Next) → IsStep n Did cpu after memory stored → after_next (ran_on thread count cpu memory) n ≡ Some (ran_on thread (count + 1) after stored)
+    by-next (Stands stop) (e, _, _) = absurd (cc)
+    by-next (Executes instr) (_, e, f) =
+        let since : (thread.since + count) + 1 ≡ thread.since + (count + 1) = omega arith in
+        let done : (thread.done + count) + 1 ≡ thread.done + (count + 1) = omega arith in
+        cc
+
+-- one step more behind so many instructions
+pub one_step_more : (layout : Layout) (watchdog : ℕ) (backed now : Backed) (thread : Thread) (memory : Memory) (count : ℕ) (cpu after : Cpu) (before stored : Memory) (step : Step) → (thread.since + count) < watchdog → instructions layout watchdog backed count (record { thread = thread; memory = memory }) ≡ Some (ran_on thread count cpu before) → now ≡ backed → step ≡ Did → IsStep (next layout now before cpu) step cpu after before stored → instructions layout watchdog backed (count + 1) (record { thread = thread; memory = memory }) ≡ Some (ran_on thread (count + 1) after stored)
+one_step_more layout watchdog backed now thread memory count cpu after before stored step early ran same did is =
+    let with_did : IsStep (next layout now before cpu) Did cpu after before stored = subst (λ (s : Step). IsStep (next layout now before cpu) s cpu after before stored) did is in
+    let here : IsStep (next layout backed before cpu) Did cpu after before stored = subst (λ (b : Backed). IsStep (next layout b before cpu) Did cpu after before stored) same with_did in
+    let one : count + 1 ≡ suc count = omega arith in
+    ap (λ (n : ℕ). instructions layout watchdog backed n (record { thread = thread; memory = memory })) one
+    ∙ one_more layout watchdog backed count (record { thread = thread; memory = memory }) (ran_on thread count cpu before) ran
+    ∙ one_step layout watchdog backed thread count cpu after before stored early here

@@ -1,0 +1,11 @@
+use Rattle.std.proofs.Common.{◌≡◌, Some}
+use Rattle.ro_thread.specs.Runs.{instructions}
+use Rattle.ro_thread.proofs.Instructions.{ran_on}
+use Rattle.ro_thread.proofs.running.run.Given as goal
+
+abbrev pub invariant-loop-count : goal.invariant-loop-count
+invariant-loop-count g l = record {
+  thread : l.thread ≡ l.fn.thread;
+  same : g.M.Memory.backing l.memory ≡ g.M.Memory.backing l.fn.memory;
+  ran : instructions (record { ranges = l.regions; calls = l.calls }) l.watchdog (g.M.Memory.backing l.fn.memory) l.count (record { thread = l.fn.thread; memory = g.M.Memory.memory l.fn.memory }) ≡ Some (ran_on l.fn.thread l.count l.cpu (g.M.Memory.memory l.memory));
+}

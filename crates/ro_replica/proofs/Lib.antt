@@ -1,3 +1,5 @@
+pub mod Changes
 pub mod Copies
 pub mod Payloads
 pub mod Spans
+pub mod Starts

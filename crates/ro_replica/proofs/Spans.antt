@@ -1,16 +1,18 @@
 -- The pages of a stretch.
 use Rattle.std.specs.Prelude.{◌≡◌, ℕ, ◌+◌, ◌-◌, ◌/◌, ◌<◌, ◌≤◌, ◌==◌, ◌&&◌, ◌||◌, Bool, true, false, nat_le, nat_lt}
-use Rattle.std.proofs.Common.{refl, sym, ap, ◌∙◌, inl, inr, arith}
+use Rattle.std.proofs.Common.{refl, sym, ap, ap₂, ◌∙◌, arith, Option, Some}
+use Rattle.std.proofs.lemmas.Bool.{or_right}
 use Rattle.std.proofs.lemmas.Bool.Decides.{nat_tests}
 use mathlib.Core.Path.{fun_ext}
 use Rattle.ro_pages.specs.Bytes.{covers_page}
+use Rattle.ro_replica.specs.Replica.{is_page}
 
 -- whether a page is one of those from the first to before the end
 abbrev pub is_between : (first end page : ℕ) → Bool
 is_between first end page = nat_le first page && nat_lt page end
 
 -- no page so far
-pub none_between : (old : ℕ → Bool) (first : ℕ) → old ≡ (λ page. old page || is_between first first page)
+none_between : (old : ℕ → Bool) (first : ℕ) → old ≡ (λ page. old page || is_between first first page)
 none_between old first = fun_ext (λ page. grind (arith, nat_tests))
 
 more_at : (b : Bool) (first i page : ℕ) → first ≤ i → ((b || is_between first i page) || (page == i)) ≡ (b || is_between first (i + 1) page)
@@ -38,3 +40,18 @@ no_bytes old place count e = fun_ext (λ page. or_false (old page) ∙ ap (λ b.
   where
     none : (page : ℕ) → false ≡ covers_page (record { place = place; count = count }) page
     none page = grind (arith, nat_tests)
+
+page_test : (b : Bool) (p page : ℕ) → (b || (page == p)) ≡ (b || (p == page))
+page_test true p page = refl
+page_test false p page = grind (arith, nat_tests)
+
+-- a page that an effect backs
+pub backs_page : (old new : ℕ → Bool) (o : Option ℕ) (p : ℕ) → o ≡ Some p → new ≡ (λ page. old page || (page == p)) → new ≡ (λ page. old page || is_page o page)
+backs_page old new o p e f = fun_ext (λ page. ap (λ g. g page) f ∙ page_test (old page) p page ∙ ap (λ q. old page || is_page q page) (sym e))
+
+-- pages that were backed for a stretch
+pub covered : (old new : ℕ → Bool) (place n m page : ℕ) → n ≡ m → new ≡ (λ q. old q || covers_page (record { place = place; count = n }) q) → covers_page (record { place = place; count = m }) page ≡ true → new page ≡ true
+covered old new place n m page e f h = ap (λ g. g page) f ∙ or_right (old page) _ (ap (λ k. covers_page (record { place = place; count = k }) page) e ∙ h)
+
+pub backs_stretch : (first old new : ℕ → Bool) (place n m : ℕ) → n ≡ m → old ≡ first → new ≡ (λ q. old q || covers_page (record { place = place; count = n }) q) → new ≡ (λ q. first q || covers_page (record { place = place; count = m }) q)
+backs_stretch first old new place n m e d f = f ∙ ap₂ (λ (g : ℕ → Bool) (k : ℕ). λ q. g q || covers_page (record { place = place; count = k }) q) d e

@@ -1,4 +1,4 @@
-use Rattle.std.proofs.Common.{arith, sym, ap, ap₂, length, ◌≡◌, ◌∙◌}
+use Rattle.std.proofs.Common.{arith, sym, ap, ap₂, length, ◌∙◌}
 use Rattle.std.proofs.lemmas.List.{with_items_is}
 use Rattle.ro_replica.specs.Replica.{copied_threads}
 use Rattle.ro_replica.proofs.Copies.{copied_holds, recovers}

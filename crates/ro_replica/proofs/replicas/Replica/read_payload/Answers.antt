@@ -1,4 +1,4 @@
-use Rattle.std.proofs.Common.{arith, length, take}
+use Rattle.std.proofs.Common.{arith}
 use Rattle.std.proofs.lemmas.List.{length-take}
 use Rattle.ro_replica.proofs.Payloads.{permitted_ends}
 use Rattle.ro_replica.proofs.replicas.Replica.read_payload.Goals as goal

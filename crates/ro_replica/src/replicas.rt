@@ -66,7 +66,9 @@ impl Replica {
     pub fn stop(&self, thread: u32) -> Option<Stop>
         ensures { result ≡ stop_of (replica_of self.now) thread }
     {
-        let _ = crate::stub::never();
-        unreachable!()
+        match self.threads.get(thread as usize) {
+            Some(thread) => thread.stop,
+            None => None,
+        }
     }
 }

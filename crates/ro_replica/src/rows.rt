@@ -1,10 +1,10 @@
 //! Rows of what effects and recoveries leave, and of what votes see.
-ghost use Rattle.std.specs.Prelude.{◌≡◌, ◌<◌, ◌^◌, true, IsTrue, IfSome, IfOk, length};
-ghost use Rattle.ro_faults.specs.Texts.{is_target};
+ghost use Rattle.std.specs.Prelude.{◌≡◌, ◌<◌, ◌^◌, IsTrue, IfSome, IfOk, length};
 ghost use Rattle.ro_replica.specs.Seen.{AreFaults, IsOpening, SameProgram};
 
 use super::*;
 use ro_event::{Call, Effect, Goes, Made, Stop, View, Which};
+use ro_exec::Cpu;
 use ro_faults::{Fault, Target};
 use ro_image::{Executable, read_executable};
 use ro_recover::recover;
@@ -45,30 +45,48 @@ fn opened(
     Replica::new(alloc, image, regions, number, faults, 1_000)
 }
 
-// A fault of the first thread, of which only the replica and the bit matter.
-fn fault(replica: u32, bit: u8) -> Fault
-    requires { bit < 32 }
-    ensures { is_target result.target ≡ true }
-{
+// A fault of each of two replicas.
+const FAULTS: [Fault; 2] = [
     Fault {
-        replica,
+        replica: 0,
         thread: 0,
         at: 5,
-        target: Target::Pc { bit },
-    }
-}
+        target: Target::Pc { bit: 3 },
+    },
+    Fault {
+        replica: 1,
+        thread: 0,
+        at: 5,
+        target: Target::Pc { bit: 31 },
+    },
+];
 
-// An effect that does nothing but to end the count since a thread's last release.
-fn effect(alloc: Global, thread: u32) -> Effect {
+// An effect of the first thread that stores bytes, and ends the count since its last release.
+fn stores(place: u32, bytes: Vec<u8>) -> Effect {
     Effect {
-        thread,
+        thread: 0,
         answer: None,
         goes: Goes::Stays,
-        place: 0,
-        bytes: Vec::new(alloc),
+        place,
+        bytes,
         page: None,
         made: None,
         releases: false,
+    }
+}
+
+// The first thread makes a second one.
+fn creates(alloc: Global) -> Effect {
+    Effect {
+        answer: Some(0),
+        goes: Goes::Next,
+        made: Some(Made {
+            start: 0x1_0058,
+            argument: 77,
+            creator: 0,
+        }),
+        releases: true,
+        ..stores(0, Vec::new(alloc))
     }
 }
 
@@ -123,25 +141,19 @@ fn thread(rt: &impl Abort, replica: &Replica, number: usize) -> Thread {
 #[test]
 fn opens(rt: HostRuntime) -> Result<(), Fail> {
     let image = image(&rt, rt.alloc());
-    let faults = [fault(1, 3), fault(0, 4), fault(1, 5)];
-    let replica = opened(rt.alloc(), &image, 1, &faults)?;
+    let replica = opened(rt.alloc(), &image, 1, &FAULTS)?;
+    assert_eq!(rt; replica.waiting.as_slice(), &FAULTS[1..2]);
     assert_eq!(rt; replica.threads.len(), 1);
-    let first = thread(&rt, &replica, 0);
-    assert_eq!(rt; first.cpu.pc, 0x1_0054);
-    assert_eq!(rt; first.cpu.registers[1], 0x7000_FFF0);
-    assert_eq!(rt; first.cpu.registers[9], 0);
-    assert_eq!(rt; first.stop, None);
-    assert_eq!(rt;
-        replica.waiting.as_slice(),
-        [fault(1, 3), fault(1, 5)].as_slice()
-    );
-    let mut bytes = [1; 100];
+    let mut registers = [0; 31];
+    registers[1] = 0x7000_FFF0;
+    let cpu = Cpu {
+        registers,
+        pc: 0x1_0054,
+    };
+    assert_eq!(rt; thread(&rt, &replica, 0).cpu, cpu);
+    let mut bytes = [1; 96];
     replica.pages.read_bytes(0x1_0000, &mut bytes);
-    assert_eq!(rt; &bytes[..96], SHORT.as_slice());
-    assert_eq!(rt; &bytes[96..], [0; 4].as_slice());
-    for (page, want) in [(0xF, false), (0x10, true), (0x11, false)] {
-        assert_eq!(rt; replica.pages.has_page(page), want, "page {page}");
-    }
+    assert_eq!(rt; bytes, SHORT);
     Ok(())
 }
 
@@ -150,81 +162,124 @@ fn opens(rt: HostRuntime) -> Result<(), Fail> {
 fn makes_a_thread(rt: HostRuntime) -> Result<(), Fail> {
     let image = image(&rt, rt.alloc());
     let mut replica = opened(rt.alloc(), &image, 0, &[])?;
-    let mut create = effect(rt.alloc(), 0);
-    create.answer = Some(0);
-    create.goes = Goes::Next;
-    create.made = Some(Made {
-        start: 0x1_0058,
-        argument: 77,
-        creator: 0,
-    });
-    create.releases = true;
-    apply(&rt, &mut replica, &create)?;
-    let first = thread(&rt, &replica, 0);
-    assert_eq!(rt; first.cpu.pc, 0x1_0058);
-    let made = thread(&rt, &replica, 1);
-    assert_eq!(rt; made.cpu.pc, 0x1_0058);
-    for (number, want) in [
-        (1, 0x7FFF_FFF0),
-        (2, 0x7002_FFF0),
-        (3, 0),
-        (4, 1),
-        (5, 0),
-        (10, 77),
-        (31, 0),
-    ] {
-        assert_eq!(rt; made.cpu.get(number), want, "x{number}");
-    }
-    assert_eq!(rt; made.since, 0);
-    assert_eq!(rt; made.done, 0);
-    assert_eq!(rt; made.stop, None);
+    apply(&rt, &mut replica, &creates(rt.alloc()))?;
+    assert_eq!(rt; thread(&rt, &replica, 0).cpu.pc, 0x1_0058);
+    let mut registers = [0; 31];
+    registers[0] = 0x7FFF_FFF0;
+    registers[1] = 0x7002_FFF0;
+    registers[3] = 1;
+    registers[9] = 77;
+    let made = Thread {
+        cpu: Cpu {
+            registers,
+            pc: 0x1_0058,
+        },
+        since: 0,
+        done: 0,
+        stop: None,
+    };
+    assert_eq!(rt; thread(&rt, &replica, 1), made);
     Ok(())
 }
 
-// Another thread's page fault goes where its page is backed, and its count since its release stays.
+// What an effect of another thread backs, and the stop of a thread before and after it.
+struct Row {
+    page: Option<u32>,
+    place: u32,
+    bytes: &'static [u8],
+    stop: Stop,
+    after: Option<Stop>,
+}
+
+const ROWS: &[Row] = &[
+    Row {
+        page: None,
+        place: 0x1_1000,
+        bytes: &[],
+        stop: Stop::PageFault(0x11),
+        after: Some(Stop::PageFault(0x11)),
+    },
+    Row {
+        page: Some(0x12),
+        place: 0x1_1000,
+        bytes: &[],
+        stop: Stop::PageFault(0x11),
+        after: Some(Stop::PageFault(0x11)),
+    },
+    Row {
+        page: Some(0x11),
+        place: 0x1_1000,
+        bytes: &[],
+        stop: Stop::PageFault(0x11),
+        after: None,
+    },
+    Row {
+        page: None,
+        place: 0x1_3FFF,
+        bytes: &[1],
+        stop: Stop::PageFault(0x13),
+        after: None,
+    },
+    Row {
+        page: None,
+        place: 0x1_4FFF,
+        bytes: &[1],
+        stop: Stop::PageFault(0x15),
+        after: Some(Stop::PageFault(0x15)),
+    },
+    Row {
+        page: None,
+        place: 0x1_5FFF,
+        bytes: &[1, 2],
+        stop: Stop::PageFault(0x16),
+        after: None,
+    },
+    Row {
+        page: Some(0x17),
+        place: 0x1_1000,
+        bytes: &[1],
+        stop: Stop::Watchdog,
+        after: Some(Stop::Watchdog),
+    },
+    Row {
+        page: None,
+        place: 0,
+        bytes: &[],
+        stop: Stop::PageFault(0x10),
+        after: None,
+    },
+];
+
+fn check_row(
+    rt: &impl Abort,
+    alloc: Global,
+    replica: &mut Replica,
+    row: &Row,
+) -> Result<(), AllocError> {
+    stand(rt, replica, 0, 6, 8, Stop::Watchdog);
+    stand(rt, replica, 1, 7, 9, row.stop);
+    let want = Thread {
+        stop: row.after,
+        ..thread(rt, replica, 1)
+    };
+    let backs = Effect {
+        page: row.page,
+        ..stores(row.place, Vec::from_slice(alloc, row.bytes)?)
+    };
+    apply(rt, replica, &backs)?;
+    assert_eq!(rt; thread(rt, replica, 1), want);
+    assert_eq!(rt; thread(rt, replica, 0).since, 0);
+    Ok(())
+}
+
+// A page fault goes where its page is backed, and the thread's count since its release stays.
 #[test]
 fn cancels_faults(rt: HostRuntime) -> Result<(), Fail> {
     let image = image(&rt, rt.alloc());
     let mut replica = opened(rt.alloc(), &image, 0, &[])?;
-    let mut create = effect(rt.alloc(), 0);
-    create.made = Some(Made {
-        start: 0x1_0054,
-        argument: 0,
-        creator: 0,
-    });
-    apply(&rt, &mut replica, &create)?;
-    for (page, place, count, stop, stays) in [
-        (None, 0x1_1000, 0, Stop::PageFault(0x11), true),
-        (Some(0x12), 0x1_1000, 0, Stop::PageFault(0x11), true),
-        (Some(0x11), 0x1_1000, 0, Stop::PageFault(0x11), false),
-        (None, 0x1_3FFF, 1, Stop::PageFault(0x13), false),
-        (None, 0x1_4000, 4096, Stop::PageFault(0x15), true),
-        (None, 0x1_5FFF, 2, Stop::PageFault(0x16), false),
-        (Some(0x17), 0x1_1000, 1, Stop::Watchdog, true),
-        (None, 0, 0, Stop::PageFault(0x10), false),
-    ] {
-        stand(&rt, &mut replica, 0, 6, 8, Stop::Watchdog);
-        stand(&rt, &mut replica, 1, 7, 9, stop);
-        let mut backs = effect(rt.alloc(), 0);
-        backs.page = page;
-        backs.place = place;
-        for _ in 0..count {
-            backs.bytes.push(1)?;
-        }
-        apply(&rt, &mut replica, &backs)?;
-        let first = thread(&rt, &replica, 0);
-        assert_eq!(rt; first.since, 0);
-        assert_eq!(rt; first.done, 8);
-        assert_eq!(rt; first.stop, Some(Stop::Watchdog));
-        let second = thread(&rt, &replica, 1);
-        let want = if stays { Some(stop) } else { None };
-        assert_eq!(rt; second.since, 7);
-        assert_eq!(rt; second.done, 9);
-        assert_eq!(rt;
-            second.stop,
-            want,
-            "{stop:?} with {page:?} and {count} bytes at {place:x}"
-        );
+    apply(&rt, &mut replica, &creates(rt.alloc()))?;
+    for row in ROWS {
+        check_row(&rt, rt.alloc(), &mut replica, row)?;
     }
     Ok(())
 }
@@ -233,35 +288,43 @@ fn cancels_faults(rt: HostRuntime) -> Result<(), Fail> {
 #[test]
 fn recovers(rt: HostRuntime) -> Result<(), Fail> {
     let image = image(&rt, rt.alloc());
-    let faults = [fault(0, 3), fault(1, 4)];
-    let mut winner = opened(rt.alloc(), &image, 0, &faults)?;
-    let mut loser = opened(rt.alloc(), &image, 1, &faults)?;
+    let mut winner = opened(rt.alloc(), &image, 0, &FAULTS)?;
+    let mut loser = opened(rt.alloc(), &image, 1, &FAULTS)?;
     stand(&rt, &mut winner, 0, 6, 60, Stop::Watchdog);
     stand(&rt, &mut loser, 0, 5, 90, Stop::PageFault(0x11));
     recover(&winner, &mut loser);
-    let recovered = thread(&rt, &loser, 0);
-    assert_eq!(rt; recovered.since, 6);
-    assert_eq!(rt; recovered.done, 90);
-    assert_eq!(rt; recovered.stop, Some(Stop::Watchdog));
-    assert_eq!(rt; loser.waiting.as_slice(), [fault(1, 4)].as_slice());
-    assert_eq!(rt; thread(&rt, &winner, 0).done, 60);
+    let want = Thread {
+        done: 90,
+        ..thread(&rt, &winner, 0)
+    };
+    assert_eq!(rt; thread(&rt, &loser, 0), want);
+    assert_eq!(rt; loser.waiting.as_slice(), &FAULTS[1..2]);
     Ok(())
 }
 
 // A write of five bytes of the heap.
-fn write(address: u32) -> Stop {
-    Stop::Calls(Call {
-        which: Which::System(64),
-        a0: 1,
-        a1: address,
-        a2: 5,
-        a3: 0,
-    })
-}
+const WRITE: Stop = Stop::Calls(Call {
+    which: Which::System(64),
+    a0: 1,
+    a1: HEAP,
+    a2: 5,
+    a3: 0,
+});
 
-fn look(rt: &impl Abort, replica: &Replica, view: &mut View) {
+// The view of a replica that stores bytes and then writes the first five.
+fn writes(
+    rt: &impl Abort,
+    alloc: Global,
+    replica: &mut Replica,
+    bytes: &[u8; 6],
+) -> Result<View, AllocError> {
+    apply(rt, replica, &stores(HEAP, Vec::from_slice(alloc, bytes)?))?;
+    stand(rt, replica, 0, 6, 60, WRITE);
+    let mut view = View::new([0; 31], 0, 0, Stop::Watchdog);
     assert!(rt; replica.stop(0).is_some());
-    replica.view(0, view);
+    replica.view(0, &mut view);
+    assert_eq!(rt; view.payload(), &bytes[..5]);
+    Ok(view)
 }
 
 // One byte of what is written tells two views apart, and a byte that is not written doesn't.
@@ -270,30 +333,10 @@ fn sees_what_is_written(rt: HostRuntime) -> Result<(), Fail> {
     let image = image(&rt, rt.alloc());
     let mut one = opened(rt.alloc(), &image, 0, &[])?;
     let mut other = opened(rt.alloc(), &image, 1, &[])?;
-    let mut stores = effect(rt.alloc(), 0);
-    stores.place = HEAP;
-    stores.bytes.extend_from_slice(b"hello ")?;
-    apply(&rt, &mut one, &stores)?;
-    stand(&rt, &mut one, 0, 6, 60, write(HEAP));
-    let mut first = View::new([0; 31], 0, 0, Stop::Watchdog);
-    look(&rt, &one, &mut first);
-    assert_eq!(rt; first.payload(), b"hello".as_slice());
-    assert_eq!(rt; first.pc(), 0x1_0054);
-    assert_eq!(rt; first.since(), 6);
-    for (bytes, want) in [
-        (b"hello ", true),
-        (b"hello!", true),
-        (b"hellp ", false),
-        (b"Hello ", false),
-    ] {
-        stores.bytes.clear();
-        stores.bytes.extend_from_slice(bytes)?;
-        apply(&rt, &mut other, &stores)?;
-        stand(&rt, &mut other, 0, 6, 61, write(HEAP));
-        let mut second = View::new([0; 31], 0, 0, Stop::Watchdog);
-        look(&rt, &other, &mut second);
-        assert_eq!(rt; second.payload(), &bytes[..5]);
-        assert_eq!(rt; first.same(&second), want);
-    }
+    let first = writes(&rt, rt.alloc(), &mut one, b"hello ")?;
+    let same = writes(&rt, rt.alloc(), &mut other, b"hello!")?;
+    assert!(rt; first.same(&same));
+    let another = writes(&rt, rt.alloc(), &mut other, b"hellp ")?;
+    assert!(rt; !first.same(&another));
     Ok(())
 }

@@ -15,7 +15,7 @@ use Rattle.ro_replica.specs.Replica.{Replica, unstopped, creator_of, changed_at,
 use Rattle.ro_replica.specs.Seen.{IsReplica}
 
 -- one element is changed
-pub changed_at-set : {X : Type 0} (f : X → X) (xs : List X) (i : ℕ) (x y : X) → i < length xs → x ≡ get_or xs i x → y ≡ f x → set xs i y ≡ changed_at f xs i
+changed_at-set : {X : Type 0} (f : X → X) (xs : List X) (i : ℕ) (x y : X) → i < length xs → x ≡ get_or xs i x → y ≡ f x → set xs i y ≡ changed_at f xs i
 changed_at-set f [] i x y l e h = absurd (omega arith)
 changed_at-set f (z ∷ xs) zero x y l e h = ap (λ v. v ∷ xs) (h ∙ ap f e)
 changed_at-set f (z ∷ xs) (suc i) x y l e h = ap (λ vs. z ∷ vs) (changed_at-set f xs i x y (omega arith) e h)
@@ -23,6 +23,13 @@ changed_at-set f (z ∷ xs) (suc i) x y l e h = ap (λ vs. z ∷ vs) (changed_at
 -- the threads after an effect
 abbrev pub threads_after : Effect → (ℕ → Bool) → List Thread → List Thread
 threads_after effect backed threads = map (without_cancelled backed) (with_made effect.made (changed_at (thread_after effect) threads effect.thread))
+
+-- the threads as they are left when each step was done in turn
+pub threads_left : (effect : Effect) (backed : ℕ → Bool) (old made mid new left : List Thread) (i : ℕ) (x y : Thread) (o : Option Made) → i < length old → x ≡ get_or old i x → y ≡ thread_after effect x → i ≡ effect.thread → o ≡ effect.made
+    → made ≡ with_made o (set old i y) → mid ≡ made → new ≡ map (without_cancelled backed) mid → left ≡ new → left ≡ threads_after effect backed old
+threads_left effect backed old made mid new left i x y o l e changed number maker makes is settles stays =
+    stays ∙ settles
+    ∙ ap (map (without_cancelled backed)) (is ∙ makes ∙ ap (with_made o) (changed_at-set (thread_after effect) old i x y l e changed ∙ ap (changed_at (thread_after effect) old) number) ∙ ap (λ m. with_made m (changed_at (thread_after effect) old effect.thread)) maker)
 
 length-changed_at : (f : Thread → Thread) (threads : List Thread) (i : ℕ) → length (changed_at f threads i) ≡ length threads
 length-changed_at f [] i = refl

@@ -20,7 +20,7 @@ use Rattle.ro_image.specs.Image.{Piece, Image, LiesLow, memory_of, holds_file_by
 use Rattle.ro_image.specs.Pieces.{piece_of, pieces_in}
 use Rattle.ro_image.specs.declared.pieces.FilePiece.{FilePiece}
 use Rattle.ro_replica.specs.Replica.{opening_replica, unstopped}
-use Rattle.ro_replica.specs.Seen.{ReplicaOf, AreFaults, IsReplica, IsOpening, layout_in}
+use Rattle.ro_replica.specs.Seen.{ReplicaOf, SameProgram, AreFaults, AreTwins, IsReplica, IsOpening, layout_in}
 
 split : (pieces : List FilePiece) (i : ℕ) (p d : FilePiece) → i < length pieces → p ≡ get_or pieces i d → drop i (pieces_in pieces) ≡ piece_of p ∷ drop (i + 1) (pieces_in pieces)
 split pieces i p d l e =
@@ -87,3 +87,20 @@ pub opens : (image : Image) (number : ℕ) (faults : List Fault) (watchdog : ℕ
 unfolding opening_replica
 opens image number faults watchdog value layout watchdog_is memory backed threads waiting =
     record { layout = layout; watchdog_is = watchdog_is; opening = λ i. record { memory = memory i; backed = backed i; threads = threads i; waiting = waiting i } }
+
+-- two replicas at the opening of one program are twins
+pub twins : (image : Image) (faults : List Fault) (i j watchdog : ℕ) (one other : ReplicaOf) → IsOpening image i faults watchdog one → IsOpening image j faults watchdog other → AreTwins one other
+unfolding opening_replica
+twins image faults i j watchdog one other h k = record {
+  program = record { layout = h.layout ∙ sym k.layout; watchdog = h.watchdog_is ∙ sym k.watchdog_is };
+  pages = λ page. ap (λ r. r.backed page) h.opening ∙ sym (ap (λ r. r.backed page) k.opening);
+  threads = ap (λ r. length r.threads) h.opening ∙ sym (ap (λ r. length r.threads) k.opening);
+}
+
+-- and stay so while neither backs a page or makes a thread
+pub twins_stay : (one other one_too other_too : ReplicaOf) → AreTwins one other → SameProgram one_too one → SameProgram other_too other → one_too.held ≡ one.held → other_too.held ≡ other.held → length one_too.threads ≡ length one.threads → length other_too.threads ≡ length other.threads → AreTwins one_too other_too
+twins_stay one other one_too other_too h p q held held_too long long_too = record {
+  program = record { layout = p.layout ∙ h.program.layout ∙ sym q.layout; watchdog = p.watchdog ∙ h.program.watchdog ∙ sym q.watchdog };
+  pages = λ page. ap (λ v. has_page v.pages page) held ∙ h.pages page ∙ sym (ap (λ v. has_page v.pages page) held_too);
+  threads = long ∙ h.threads ∙ sym long_too;
+}

@@ -1,5 +1,5 @@
 //! The view of a stopped thread.
-ghost use Rattle.std.specs.Prelude.{◌≡◌, ◌↔◌, [], IsTrue};
+ghost use Rattle.std.specs.Prelude.{◌≡◌, ◌↔◌, ◌≤◌, [], length, IsTrue};
 ghost use Rattle.ro_event.specs.Views.{same_view};
 
 use crate::stops::Stop;
@@ -52,6 +52,25 @@ impl View {
             payload: [0; 4096],
             payload_len: 0,
         }
+    }
+
+    /// Shows another thread, with a payload of at most 4,096 bytes.
+    pub fn show(&mut self, registers: &[u32; 31], pc: u32, since: u32, stop: Stop, payload: &[u8])
+        requires { length payload.now ≤ 4096 }
+        ensures { self.new ≡ record {
+          registers = registers.now;
+          pc = pc;
+          since = since;
+          stop = stop;
+          payload = payload.now;
+        } }
+    {
+        self.registers = *registers;
+        self.pc = pc;
+        self.since = since;
+        self.stop = stop;
+        self.payload[..payload.len()].copy_from_slice(payload);
+        self.payload_len = payload.len();
     }
 
     /// The registers x1 to x31.

@@ -34,12 +34,12 @@ instructions_done layout watchdog backed zero running after e =
 instructions_done layout watchdog backed (suc n) running after e = by (one_instruction layout watchdog backed running) refl e (instructions_done layout watchdog backed n)
   where
     by : (o : Option Running) → one_instruction layout watchdog backed running ≡ o → option_and_then (instructions layout watchdog backed n) o ≡ Some after
-      → ((running after : Running) → instructions layout watchdog backed n running ≡ Some after → after.thread.done ≡ running.thread.done + n) → after.thread.done ≡ running.thread.done + suc n
+        → ((running after : Running) → instructions layout watchdog backed n running ≡ Some after → after.thread.done ≡ running.thread.done + n) → after.thread.done ≡ running.thread.done + suc n
     by None one h more = absurd (cc)
     by (Some mid) one h more =
-      let first : mid.thread.done ≡ running.thread.done + 1 = one_is_done layout watchdog backed running mid one in
-      let rest : after.thread.done ≡ mid.thread.done + n = more mid after h in
-      omega arith
+        let first : mid.thread.done ≡ running.thread.done + 1 = one_is_done layout watchdog backed running mid one in
+        let rest : after.thread.done ≡ mid.thread.done + n = more mid after h in
+        omega arith
 
 -- one instruction stays within the watchdog
 one_watched : (layout : Layout) (watchdog : ℕ) (backed : Backed) (running after : Running) → running.thread.since ≤ watchdog → one_instruction layout watchdog backed running ≡ Some after → after.thread.since ≤ watchdog
@@ -49,10 +49,10 @@ one_watched layout watchdog backed running after watched e = by (running.thread.
     by true f n h = absurd (cc)
     by false f (Stands stop) h = absurd (cc)
     by false f (Executes instr) h =
-      let same : after_instruction running instr ≡ after = cc in
-      let since : running.thread.since + 1 ≡ after.thread.since = ap (λ (r : Running). r.thread.since) same in
-      let apart : running.thread.since ≡ watchdog → ⊥ = eqb-false running.thread.since watchdog f in
-      omega arith
+        let same : after_instruction running instr ≡ after = cc in
+        let since : running.thread.since + 1 ≡ after.thread.since = ap (λ (r : Running). r.thread.since) same in
+        let apart : running.thread.since ≡ watchdog → ⊥ = eqb-false running.thread.since watchdog f in
+        omega arith
 
 pub instructions_watched : (layout : Layout) (watchdog : ℕ) (backed : Backed) (count : ℕ) (running after : Running) → running.thread.since ≤ watchdog → instructions layout watchdog backed count running ≡ Some after → after.thread.since ≤ watchdog
 instructions_watched layout watchdog backed zero running after watched e =
@@ -60,7 +60,7 @@ instructions_watched layout watchdog backed zero running after watched e =
 instructions_watched layout watchdog backed (suc n) running after watched e = by (one_instruction layout watchdog backed running) refl e (instructions_watched layout watchdog backed n)
   where
     by : (o : Option Running) → one_instruction layout watchdog backed running ≡ o → option_and_then (instructions layout watchdog backed n) o ≡ Some after
-      → ((running after : Running) → running.thread.since ≤ watchdog → instructions layout watchdog backed n running ≡ Some after → after.thread.since ≤ watchdog) → after.thread.since ≤ watchdog
+        → ((running after : Running) → running.thread.since ≤ watchdog → instructions layout watchdog backed n running ≡ Some after → after.thread.since ≤ watchdog) → after.thread.since ≤ watchdog
     by None one h more = absurd (cc)
     by (Some mid) one h more = more mid after (one_watched layout watchdog backed running mid watched one) h
 
@@ -96,15 +96,20 @@ leads_on layout watchdog thread most until replica x end count stop there is wit
   where
     there_now : slice_get (slice_set replica.threads thread end.thread) thread ≡ Some end.thread
     there_now = get_set replica.threads thread x end.thread there
+
     done_now : end.thread.done ≡ x.done + count
     done_now = instructions_done layout watchdog replica.backed count (record { thread = x; memory = replica.memory }) end run.runs
+
     by : ((count ≡ until) × (stop ≡ None)) ⊎ ((count < until) × IsSome stop × (stop ≡ standing layout watchdog replica.backed end.memory end.thread.cpu end.thread.since))
-      → ((stop ≡ None) × (0 < count) × (count ≤ most)) ⊎ ((count < most) × IsSome stop × (stop ≡ standing_at layout watchdog (placed replica thread end) thread) × IsStruck layout (placed replica thread end) thread)
+        → ((stop ≡ None) × (0 < count) × (count ≤ most)) ⊎ ((count < most) × IsSome stop × (stop ≡ standing_at layout watchdog (placed replica thread end) thread) × IsStruck layout (placed replica thread end) thread)
     by (inl (all, none)) = let p : 0 < until = positive (none_due layout replica thread x there is) some in inl (none, omega arith, omega arith)
-    by (inr (early, is_some, at)) = inr (omega arith, is_some,
+    by (inr (early, is_some, at)) = inr (
+      omega arith,
+      is_some,
       at ∙ sym (ap (option_and_then (standing_in layout watchdog (placed replica thread end))) there_now),
       struck_none layout.ranges (placed replica thread end) thread end.thread.done (ap (option_map (λ (t : Thread). t.done)) there_now)
-      (subst (λ (done : ℕ). NoneDue thread done replica) (sym done_now) (free count early)))
+          (subst (λ (done : ℕ). NoneDue thread done replica) (sym done_now) (free count early)),
+    )
 
 -- what a replica's thread and pages are after a run of the thread
 abbrev pub after_run : ReplicaOf → (thread : ℕ) → Held → Thread → ReplicaOf
@@ -163,16 +168,16 @@ pub leads_struck : (layout : Layout) (watchdog thread most : ℕ) (old mid new :
 leads_struck layout watchdog thread most old mid new count hit stop leads is =
     record {
       leads = λ rest. leads.leads rest ∙ plus_none (run_of layout watchdog rest mid thread) ∙ run_of_struck layout watchdog rest mid thread
-        ∙ ap (λ (ran : Ran). option_map (plus_hit ran.hit) (run_of layout watchdog rest ran.replica thread)) is;
+          ∙ ap (λ (ran : Ran). option_map (plus_hit ran.hit) (run_of layout watchdog rest ran.replica thread)) is;
       arrives = by leads.arrives;
     }
   where
     by : ((stop ≡ None) × (0 < count) × (count ≤ most)) ⊎ ((count < most) × IsSome stop × (stop ≡ standing_at layout watchdog mid thread) × IsStruck layout mid thread)
-      → ((stop ≡ None) × (0 < count) × (count ≤ most)) ⊎ ((count < most) × IsSome stop × (stop ≡ standing_at layout watchdog new thread) × IsStruck layout new thread)
+        → ((stop ≡ None) × (0 < count) × (count ≤ most)) ⊎ ((count < most) × IsSome stop × (stop ≡ standing_at layout watchdog new thread) × IsStruck layout new thread)
     by (inl h) = inl h
     by (inr (early, is_some, at, nothing)) =
-      let same : mid ≡ new = ap (λ (ran : Ran). ran.replica) (sym nothing ∙ is) in
-      inr (early, is_some, at ∙ ap (λ (r : Replica). standing_at layout watchdog r thread) same, subst (λ (r : Replica). IsStruck layout r thread) same nothing)
+        let same : mid ≡ new = ap (λ (ran : Ran). ran.replica) (sym nothing ∙ is) in
+        inr (early, is_some, at ∙ ap (λ (r : Replica). standing_at layout watchdog r thread) same, subst (λ (r : Replica). IsStruck layout r thread) same nothing)
 
 pub with_ranges : (ranges other : List Range) (calls : CallTable) (watchdog : ℕ) (backed : Backed) (most count : ℕ) (stop : Option Stop) (old new : Running) → ranges ≡ other
     → IsRun (record { ranges = ranges; calls = calls }) watchdog backed most count stop old new → IsRun (record { ranges = other; calls = calls }) watchdog backed most count stop old new
@@ -211,8 +216,8 @@ pub record UnderWay (layout : Layout) (watchdog quantum thread : ℕ) (old now :
 pub begins : (layout : Layout) (watchdog quantum thread : ℕ) (old now : Replica) (hit : ℕ) → struck layout.ranges old thread ≡ record { replica = now; hit = hit } → UnderWay layout watchdog quantum thread old now 0 hit None
 begins layout watchdog quantum thread old now hit is = record {
   leads = λ rest. ap (λ (n : ℕ). run_of layout watchdog n old thread) (let z : 0 + rest ≡ rest = omega arith in z)
-    ∙ run_of_struck layout watchdog rest old thread
-    ∙ ap (λ (ran : Ran). option_map (plus_hit ran.hit) (run_of layout watchdog rest ran.replica thread)) is;
+      ∙ run_of_struck layout watchdog rest old thread
+      ∙ ap (λ (ran : Ran). option_map (plus_hit ran.hit) (run_of layout watchdog rest ran.replica thread)) is;
   arrives = inl (refl, omega arith);
 }
 
@@ -220,12 +225,12 @@ pub goes : (layout : Layout) (watchdog quantum thread : ℕ) (old now after : Re
     → Leads layout watchdog thread (quantum - count) now after more more_hit stop → UnderWay layout watchdog quantum thread old after (count + more) (hit + more_hit) stop
 goes layout watchdog quantum thread old now after count hit more more_hit before stop so early leads = record {
   leads = λ rest. ap (λ (n : ℕ). run_of layout watchdog n old thread) (let z : (count + more) + rest ≡ count + (more + rest) = omega arith in z)
-    ∙ so.leads (more + rest) ∙ ap (option_map (plus_hit hit)) (leads.leads rest) ∙ plus_both hit more_hit (run_of layout watchdog rest after thread);
+      ∙ so.leads (more + rest) ∙ ap (option_map (plus_hit hit)) (leads.leads rest) ∙ plus_both hit more_hit (run_of layout watchdog rest after thread);
   arrives = by leads.arrives;
 }
   where
     by : ((stop ≡ None) × (0 < more) × (more ≤ quantum - count)) ⊎ ((more < quantum - count) × IsSome stop × (stop ≡ standing_at layout watchdog after thread) × IsStruck layout after thread)
-      → ((stop ≡ None) × (count + more ≤ quantum)) ⊎ ((count + more < quantum) × IsSome stop × (stop ≡ standing_at layout watchdog after thread))
+        → ((stop ≡ None) × (count + more ≤ quantum)) ⊎ ((count + more < quantum) × IsSome stop × (stop ≡ standing_at layout watchdog after thread))
     by (inl (none, _, most)) = inl (none, omega arith)
     by (inr (less, is_some, at, _)) = inr (omega arith, is_some, at)
 
@@ -235,8 +240,8 @@ pub ends : (layout : Layout) (watchdog quantum thread : ℕ) (old now new : Repl
 ends layout watchdog quantum thread old now new count hit stop so is over new_is = record {
   end = record { replica = now; hit = hit };
   runs = ap (λ (n : ℕ). run_of layout watchdog n old thread) (let z : count ≡ count + 0 = omega arith in z) ∙ so.leads 0
-    ∙ ap (λ (ran : Ran). Some (plus_hit hit ran)) is
-    ∙ ap (λ (n : ℕ). Some (record { replica = now; hit = n })) (let z : hit + 0 ≡ hit = omega arith in z);
+      ∙ ap (λ (ran : Ran). Some (plus_hit hit ran)) is
+      ∙ ap (λ (n : ℕ). Some (record { replica = now; hit = n })) (let z : hit + 0 ≡ hit = omega arith in z);
   hit_is = refl;
   stop_is = (by so.arrives).0;
   new_is = new_is;
@@ -244,14 +249,14 @@ ends layout watchdog quantum thread old now new count hit stop so is over new_is
 }
   where
     by : ((stop ≡ None) × (count ≤ quantum)) ⊎ ((count < quantum) × IsSome stop × (stop ≡ standing_at layout watchdog now thread))
-      → (stop ≡ stop_after layout watchdog quantum thread count now) × ((count ≡ quantum) ⊎ ((count < quantum) × IsSome stop))
+        → (stop ≡ stop_after layout watchdog quantum thread count now) × ((count ≡ quantum) ⊎ ((count < quantum) × IsSome stop))
     by (inl (none, within)) =
-      let not_before : count < quantum → ⊥ = λ early. over early none in
-      let all : count ≡ quantum = omega arith in
-      (none ∙ sym (ap (λ (b : Bool). if b then None else standing_at layout watchdog now thread) (eq-eqb count quantum all)), inl all)
+        let not_before : count < quantum → ⊥ = λ early. over early none in
+        let all : count ≡ quantum = omega arith in
+        (none ∙ sym (ap (λ (b : Bool). if b then None else standing_at layout watchdog now thread) (eq-eqb count quantum all)), inl all)
     by (inr (early, is_some, at)) =
-      let apart : count ≡ quantum → ⊥ = λ e. omega arith in
-      (at ∙ sym (ap (λ (b : Bool). if b then None else standing_at layout watchdog now thread) (ne_eqb count quantum apart)), inr (early, is_some))
+        let apart : count ≡ quantum → ⊥ = λ e. omega arith in
+        (at ∙ sym (ap (λ (b : Bool). if b then None else standing_at layout watchdog now thread) (ne_eqb count quantum apart)), inr (early, is_some))
 
 -- a round makes what is left smaller, or ends the run
 pub smaller : (layout : Layout) (watchdog thread quantum count more hit : ℕ) (old new : Replica) (before stop : Option Stop) → is_some before ≡ false → count < quantum → Leads layout watchdog thread (quantum - count) old new more hit stop
@@ -262,11 +267,12 @@ smaller layout watchdog thread quantum count more hit old new None stop none ear
     by-stop : (o : Option Stop) → more < quantum - count → IsSome o → (quantum - (count + more)) + (if is_none o then 1 else 0) < (quantum - count) + 1
     by-stop None less is = let e : false ≡ true = is in absurd (cc)
     by-stop (Some s) less is = omega arith
+
     by : ((stop ≡ None) × (0 < more) × (more ≤ quantum - count)) ⊎ ((more < quantum - count) × IsSome stop × (stop ≡ standing_at layout watchdog new thread) × IsStruck layout new thread)
-      → (quantum - (count + more)) + (if is_none stop then 1 else 0) < (quantum - count) + 1
+        → (quantum - (count + more)) + (if is_none stop then 1 else 0) < (quantum - count) + 1
     by (inl (is, some, most)) =
-      subst (λ (o : Option Stop). (quantum - (count + more)) + (if is_none o then 1 else 0) < (quantum - count) + 1) (sym is)
-      (let less : (quantum - (count + more)) + 1 < (quantum - count) + 1 = omega arith in less)
+        subst (λ (o : Option Stop). (quantum - (count + more)) + (if is_none o then 1 else 0) < (quantum - count) + 1) (sym is)
+        (let less : (quantum - (count + more)) + 1 < (quantum - count) + 1 = omega arith in less)
     by (inr (less, is, _, _)) = by-stop stop less is
 
 pub some_not_none : (stop : Option Stop) → is_some stop ≡ true → stop ≡ None → ⊥

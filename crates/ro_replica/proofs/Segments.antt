@@ -66,8 +66,8 @@ run_of_instructions layout watchdog (suc n) rest replica number thread end there
     let first : Running = record { thread = thread; memory = replica.memory } in
     let e1 : suc n + rest ≡ suc (n + rest) = omega arith in
     let now : struck layout.ranges replica number ≡ record { replica = replica; hit = 0 } =
-      struck_none layout.ranges replica number thread.done (ap (option_map (λ (x : Thread). x.done)) there)
-      (subst (λ (done : ℕ). NoneDue number done replica) (let z : thread.done + 0 ≡ thread.done = omega arith in z) (none 0 (omega arith))) in
+    struck_none layout.ranges replica number thread.done (ap (option_map (λ (x : Thread). x.done)) there)
+    (subst (λ (done : ℕ). NoneDue number done replica) (let z : thread.done + 0 ≡ thread.done = omega arith in z) (none 0 (omega arith))) in
     let goes : Option Replica → Option Ran = option_and_then (λ after. run_of layout watchdog (n + rest) after number) in
     ap (λ (m : ℕ). run_of layout watchdog m replica number) e1
     ∙ ap (λ (r : Ran). option_map (plus_hit r.hit) (goes (execute layout watchdog r.replica number))) now
@@ -76,13 +76,13 @@ run_of_instructions layout watchdog (suc n) rest replica number thread end there
     ∙ by (one_instruction layout watchdog replica.backed first) refl e (run_of_instructions layout watchdog n rest)
   where
     by : (o : Option Running) → one_instruction layout watchdog replica.backed (record { thread = thread; memory = replica.memory }) ≡ o
-      → option_and_then (instructions layout watchdog replica.backed n) o ≡ Some end
-      → ((replica : Replica) (number : ℕ) (thread : Thread) (end : Running) → slice_get replica.threads number ≡ Some thread → ((k : ℕ) → k < n → NoneDue number (thread.done + k) replica) → instructions layout watchdog replica.backed n (record { thread = thread; memory = replica.memory }) ≡ Some end → run_of layout watchdog (n + rest) replica number ≡ run_of layout watchdog rest (placed replica number end) number)
-      → option_and_then (λ after. run_of layout watchdog (n + rest) after number) (option_map (placed replica number) o) ≡ run_of layout watchdog rest (placed replica number end) number
+        → option_and_then (instructions layout watchdog replica.backed n) o ≡ Some end
+        → ((replica : Replica) (number : ℕ) (thread : Thread) (end : Running) → slice_get replica.threads number ≡ Some thread → ((k : ℕ) → k < n → NoneDue number (thread.done + k) replica) → instructions layout watchdog replica.backed n (record { thread = thread; memory = replica.memory }) ≡ Some end → run_of layout watchdog (n + rest) replica number ≡ run_of layout watchdog rest (placed replica number end) number)
+        → option_and_then (λ after. run_of layout watchdog (n + rest) after number) (option_map (placed replica number) o) ≡ run_of layout watchdog rest (placed replica number end) number
     by None one h more = absurd (cc)
     by (Some after) one h more =
-      let done : after.thread.done ≡ thread.done + 1 = one_is_done layout watchdog replica.backed (record { thread = thread; memory = replica.memory }) after one in
-      more (placed replica number after) number after.thread end (get_set replica.threads number thread after.thread there)
-      (λ k within. subst (λ (d : ℕ). NoneDue number d replica) (let m : thread.done + (k + 1) ≡ after.thread.done + k = omega arith in m) (none (k + 1) (omega arith)))
-      h
-      ∙ ap (λ (threads : List Thread). run_of layout watchdog rest (record replica { memory = end.memory; threads = threads }) number) (set_twice replica.threads number after.thread end.thread)
+        let done : after.thread.done ≡ thread.done + 1 = one_is_done layout watchdog replica.backed (record { thread = thread; memory = replica.memory }) after one in
+        more (placed replica number after) number after.thread end (get_set replica.threads number thread after.thread there)
+        (λ k within. subst (λ (d : ℕ). NoneDue number d replica) (let m : thread.done + (k + 1) ≡ after.thread.done + k = omega arith in m) (none (k + 1) (omega arith)))
+        h
+        ∙ ap (λ (threads : List Thread). run_of layout watchdog rest (record replica { memory = end.memory; threads = threads }) number) (set_twice replica.threads number after.thread end.thread)

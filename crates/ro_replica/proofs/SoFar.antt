@@ -56,8 +56,8 @@ takes thread done old now after i hit fault so within read due program threads s
       few = let f : hit ≤ i = so.few in omega arith;
       hit_is = ap (λ (n : ℕ). n + 1) so.hit_is ∙ sym (ap length (filter_takes p old.waiting i fault within here due) ∙ length-append (filter p (take i old.waiting)) (fault ∷ []));
       struck = struck ∙ ap (λ (ranges : List Range). struck_by ranges thread (replica_of now) fault.target) (ap (λ l. l.ranges) so.program.layout)
-        ∙ ap (λ (r : Replica). struck_by old.layout.ranges thread r fault.target) so.struck
-        ∙ sym (strikes_more old.layout.ranges thread (replica_of old) p old.waiting i fault within here due);
+          ∙ ap (λ (r : Replica). struck_by old.layout.ranges thread r fault.target) so.struck
+          ∙ sym (strikes_more old.layout.ranges thread (replica_of old) p old.waiting i fault within here due);
     }
 
 -- faults that are left

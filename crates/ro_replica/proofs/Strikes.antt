@@ -164,8 +164,8 @@ none_less p faults i d within none = by (p (slice_index_or faults i d)) refl (sy
   where
     by : (b : Bool) → p (slice_index_or faults i d) ≡ b → filter p (take i faults) ++ cond (p (slice_index_or faults i d)) (slice_index_or faults i d ∷ []) [] ≡ [] → (filter p (take i faults) ≡ []) × (p (slice_index_or faults i d) ≡ false)
     by true e h = absurd (
-      let h1 : filter p (take i faults) ++ slice_index_or faults i d ∷ [] ≡ [] = subst (λ (b : Bool). filter p (take i faults) ++ cond b (slice_index_or faults i d ∷ []) [] ≡ []) e h in
-      let n : length (filter p (take i faults)) + 1 ≡ 0 = sym (length-append (filter p (take i faults)) (slice_index_or faults i d ∷ [])) ∙ ap length h1 in
-      omega arith)
+        let h1 : filter p (take i faults) ++ slice_index_or faults i d ∷ [] ≡ [] = subst (λ (b : Bool). filter p (take i faults) ++ cond b (slice_index_or faults i d ∷ []) [] ≡ []) e h in
+        let n : length (filter p (take i faults)) + 1 ≡ 0 = sym (length-append (filter p (take i faults)) (slice_index_or faults i d ∷ [])) ∙ ap length h1 in
+        omega arith)
     by false e h =
-      (sym (append-nil (filter p (take i faults))) ∙ subst (λ (b : Bool). filter p (take i faults) ++ cond b (slice_index_or faults i d ∷ []) [] ≡ []) e h, e)
+        (sym (append-nil (filter p (take i faults))) ∙ subst (λ (b : Bool). filter p (take i faults) ++ cond b (slice_index_or faults i d ∷ []) [] ≡ []) e h, e)

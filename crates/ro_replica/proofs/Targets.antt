@@ -62,7 +62,7 @@ byte_struck value old thread address bit byte flip memory backed target same goo
     let tests : is_target (Byte address bit) ≡ true = subst (λ (t : Target). is_target t ≡ true) at good in
     let seven : bit ≤ 7 = leb-true bit 7 (and_parts (nat_lt address (2 ^ 32)) (nat_le bit 7) tests).1 in
     let value_is : flip % 256 ≡ flipped (bytes address) bit =
-      ap (λ (n : ℕ). n % 256) flips ∙ byte_flips byte bit small seven ∙ ap (λ (n : ℕ). flipped n bit) here in
+    ap (λ (n : ℕ). n % 256) flips ∙ byte_flips byte bit small seven ∙ ap (λ (n : ℕ). flipped n bit) here in
     let stored_is : memory ≡ stored bytes address (flipped (bytes address) bit ∷ []) = stores ∙ ap (λ (n : ℕ). stored bytes address (n ∷ [])) value_is in
     let test : (has_page value.held.pages (page_of address) && is_mapped value.layout.ranges address) ≡ true = and_from (has_page value.held.pages (page_of address)) (is_mapped value.layout.ranges address) has maps in
     ap (λ (m : Memory). record (replica_of value) { memory = m; backed = backed }) stored_is

@@ -1,10 +1,17 @@
 //! What an event does to a replica.
-ghost use Rattle.std.specs.Prelude.{◌≡◌};
-ghost use Rattle.ro_replica.specs.Replica.{applied, cancelled};
+ghost use Rattle.std.specs.Prelude.{◌≡◌, ◌<◌, ◌≤◌, ◌+◌, ◌^◌, ◌||◌, ℕ, true, IfSome, Some, length, map, vec_len, vec_capacity};
+ghost use Rattle.ro_pages.specs.Bytes.{covers_page, stored};
+ghost use Rattle.ro_pages.specs.Held.{memory_of, has_page};
+ghost use Rattle.ro_replica.specs.Replica.{is_page, applied, cancelled, is_cancelled, thread_after, with_made, without_cancelled};
 ghost use Rattle.ro_replica.specs.Seen.{replica_of, SameProgram, CanApply};
 
+use crate::backing::{back, back_stretch};
+use crate::cpus::{change, made_cpu};
+use crate::opening::unstopped;
 use crate::replicas::Replica;
-use ro_event::Effect;
+use ro_event::{Effect, Made, Stop};
+use ro_pages::Pages;
+use ro_thread::Thread;
 
 impl Replica {
     /// Does what an event does to a replica, and forgets the page faults that it settles.
@@ -13,7 +20,92 @@ impl Replica {
         ensures program { SameProgram self.new self.old }
         ensures applied { replica_of self.new ≡ cancelled (applied effect.now (replica_of self.old)) }
     {
-        let _ = crate::stub::never();
+        store(&mut self.pages, effect);
+        change_thread(&mut self.threads[effect.thread as usize], effect);
+        make(&mut self.threads, effect.made);
+        forget_faults(self.threads.as_mut_slice(), &self.pages);
+    }
+}
+
+/// Backs the pages that an effect backs, and stores its bytes.
+fn store(pages: &mut Pages, effect: &Effect)
+    requires few { length effect.now.bytes ≤ 4096 }
+    requires within { effect.now.place + length effect.now.bytes ≤ 2 ^ 32 }
+    requires page { IfSome effect.now.page (λ page. page < 2 ^ 20) }
+    requires spare { 3 ≤ pages.old.spare }
+    ensures bytes { memory_of pages.new.pages ≡ stored (memory_of pages.old.pages) effect.now.place effect.now.bytes }
+    ensures backed { has_page pages.new.pages ≡ (λ page. has_page pages.old.pages page || is_page effect.now.page page || covers_page (record { place = effect.now.place; count = length effect.now.bytes }) page) }
+{
+    back_page(pages, effect.page);
+    back_stretch(pages, effect.place, effect.bytes.len() as u32);
+    pages.write_bytes(effect.place, effect.bytes.as_slice());
+}
+
+/// Backs a page, if there is one to back.
+fn back_page(pages: &mut Pages, page: Option<u32>)
+    requires page { IfSome page (λ page. page < 2 ^ 20) }
+    requires spare { 0 < pages.old.spare }
+    ensures bytes { memory_of pages.new.pages ≡ memory_of pages.old.pages }
+    ensures backed { has_page pages.new.pages ≡ (λ other. has_page pages.old.pages other || is_page page other) }
+    ensures spare { pages.old.spare ≤ pages.new.spare + 1 }
+{
+    if let Some(page) = page {
+        back(pages, page);
+    }
+}
+
+/// What an effect does to its thread.
+fn change_thread(thread: &mut Thread, effect: &Effect)
+    ensures { thread.new ≡ thread_after effect.now thread.old }
+{
+    change(&mut thread.cpu, effect);
+    thread.since = 0;
+    if effect.releases {
+        thread.stop = None;
+    }
+}
+
+/// Makes a thread, if one is to be made; there is a place for it.
+fn make(threads: &mut Vec<Thread>, made: Option<Made>)
+    requires creator { IfSome made (λ made. (made.creator < vec_len threads.old) × (vec_len threads.old < 16)) }
+    requires places { 16 ≤ vec_capacity threads.old }
+    ensures items { threads.new.items ≡ with_made made threads.old.items }
+    ensures places { vec_capacity threads.old ≤ vec_capacity threads.new }
+{
+    let Some(made) = made else {
+        return;
+    };
+    let creator = &threads[made.creator as usize].cpu;
+    let cpu = made_cpu(&made, creator, threads.len() as u32);
+    if threads.push(unstopped(cpu)).is_err() {
         unreachable!()
+    }
+}
+
+/// Forgets the page faults of threads on pages that are backed.
+fn forget_faults(threads: &mut [Thread], pages: &Pages)
+    ensures { threads.new ≡ map (without_cancelled (has_page pages.now.pages)) threads.old }
+{
+    for thread in threads.iter_mut() {
+        forget_fault(thread, pages);
+    }
+}
+
+/// Forgets a thread's page fault on a page that is backed.
+fn forget_fault(thread: &mut Thread, pages: &Pages)
+    ensures { thread.new ≡ without_cancelled (has_page pages.now.pages) thread.old }
+{
+    if is_settled(thread.stop, pages) {
+        thread.stop = None;
+    }
+}
+
+/// Whether a stop is a page fault on a page that is backed.
+fn is_settled(stop: Option<Stop>, pages: &Pages) -> bool
+    ensures { result ≡ is_cancelled (has_page pages.now.pages) stop }
+{
+    match stop {
+        Some(Stop::PageFault(page)) => pages.has_page(page),
+        _ => false,
     }
 }

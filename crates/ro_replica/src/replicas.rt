@@ -49,8 +49,7 @@ impl Replica {
         ensures keeps { Keeps self.old self.new }
         ensures spare { OnOk result (count ≤ self.new.held.spare) }
     {
-        let _ = crate::stub::never();
-        unreachable!()
+        self.pages.reserve(count)
     }
 
     /// Whether a thread was made and is not stopped.

@@ -14,6 +14,6 @@ loop-fault-preserved c =
       within = omega arith;
       free = λ k h. none_more (is_due c.args.thread (c.args.done + k)) faults i d c.loop-fault-test.true (c.loop-fault.invariant.free k (omega arith)) (c.until_moment-until.ensures.free k h);
       some = λ none more.
-        c.until_moment-until.ensures.some (none_less (is_due c.args.thread c.args.done) faults i d c.loop-fault-test.true none).1
-        (c.loop-fault.invariant.some (none_less (is_due c.args.thread c.args.done) faults i d c.loop-fault-test.true none).0 more);
+          c.until_moment-until.ensures.some (none_less (is_due c.args.thread c.args.done) faults i d c.loop-fault-test.true none).1
+          (c.loop-fault.invariant.some (none_less (is_due c.args.thread c.args.done) faults i d c.loop-fault-test.true none).0 more);
     }

@@ -42,10 +42,10 @@ pub returns-clause-runs : goal.returns-clause-runs
 returns-clause-runs c =
     let stop = c.loop-ran.ran.stop in
     let over : c.loop-ran.ran.count < c.args.quantum → stop ≡ None → ⊥ =
-      elim c.loop-ran-test.branch [
-        then-loop-ran-test+else-is_none w ↦ λ early none. some_not_none stop (w.is_none.ensures ∙ ap not w.if-is_none.false) none
+    elim c.loop-ran-test.branch [
+      | then-loop-ran-test+else-is_none w ↦ λ early none. some_not_none stop (w.is_none.ensures ∙ ap not w.if-is_none.false) none
       | else-loop-ran-test w ↦ λ early none. omega arith
-      ] in
+    ] in
     let struck : IsStruck c.args.self.now.layout (replica_of c.loop-ran.self) c.args.thread =
-      subst (λ (l : Layout). IsStruck l (replica_of c.loop-ran.self) c.args.thread) c.loop-ran.invariant.program.layout c.loop-ran.invariant.struck in
+    subst (λ (l : Layout). IsStruck l (replica_of c.loop-ran.self) c.args.thread) c.loop-ran.invariant.program.layout c.loop-ran.invariant.struck in
     ends _ _ _ _ _ _ _ _ _ _ c.loop-ran.invariant.way struck over c.set_stop.ensures.stop

@@ -18,5 +18,5 @@ pub returns-then-contains-clause-struck : goal.returns-then-contains-clause-stru
 returns-then-contains-clause-struck c =
     let has : has_page c.self.inside.pages.pages (c.in-Byte.address / 4096) ≡ true = sym c.if-backed.ensures in
     let maps : is_mapped (arc_value c.self.inside.regions) c.in-Byte.address ≡ true =
-      subst (λ (ranges : List Range). is_mapped ranges c.in-Byte.address ≡ true) c.deref.ensures (sym c.contains.ensures ∙ c.if-contains.true) in
+    subst (λ (ranges : List Range). is_mapped ranges c.in-Byte.address ≡ true) c.deref.ensures (sym c.contains.ensures ∙ c.if-contains.true) in
     byte_struck _ _ c.args.thread _ _ _ _ _ _ _ c.self.view_is c.requires.target c.in-Byte.is has maps c.load-byte.ensures.value c.load-byte.ensures.below c.flip.ensures c.store.ensures.bytes c.store.ensures.pages

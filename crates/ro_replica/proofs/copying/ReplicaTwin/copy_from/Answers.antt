@@ -1,0 +1,18 @@
+use Rattle.std.proofs.Common.{arith, sym, ap, ap₂, length, ◌∙◌}
+use Rattle.std.proofs.lemmas.List.{with_items_is}
+use Rattle.ro_replica.specs.Replica.{copied_threads}
+use Rattle.ro_replica.proofs.Copies.{copied_holds, recovers}
+use Rattle.ro_replica.proofs.copying.ReplicaTwin.copy_from.Goals as goal
+
+pub invariant_of-self : goal.invariant_of-self
+invariant_of-self c =
+    let threads = with_items_is c.self.inside.threads c.copy_threads.new.losers (omega arith) ∙ (c.copy_threads.ensures ∙ ap₂ copied_threads c.as_slice.ensures.value c.as_mut_slice.ensures.value) in
+    let watchdog = ap (λ v. v.watchdog) c.other.view_is ∙ (c.requires.program.watchdog ∙ sym (ap (λ v. v.watchdog) c.self.view_is)) in
+    let long = ap (λ v. length v.threads) c.other.view_is ∙ (c.requires.threads ∙ sym (ap (λ v. length v.threads) c.self.view_is)) in
+    copied_holds c.self.inside.watchdog c.other.inside.watchdog c.self.inside.threads.cap c.other.inside.threads.cap c.self.inside.waiting.items c.other.inside.waiting.items c.other.inside.threads.items c.self.inside.threads.items _ threads watchdog long c.other.invariant c.self.invariant
+
+pub returns : goal.returns
+returns c =
+    let threads = with_items_is c.self.inside.threads c.copy_threads.new.losers (omega arith) ∙ (c.copy_threads.ensures ∙ ap₂ copied_threads c.as_slice.ensures.value c.as_mut_slice.ensures.value) in
+    recovers _ _ _ (record { layout = ap (λ v. v.layout) c.self.view_is; watchdog = ap (λ v. v.watchdog) c.self.view_is }) (c.copy_from.ensures.pages ∙ ap (λ v. v.held.pages) c.other.view_is) (c.copy_from.ensures.spare ∙ ap (λ v. v.held.spare) c.self.view_is)
+    (threads ∙ ap₂ copied_threads (ap (λ v. v.threads) c.other.view_is) (ap (λ v. v.threads) c.self.view_is)) (ap (λ v. v.waiting) c.self.view_is)

@@ -1,0 +1,73 @@
+//! Registers and pc of threads as they begin, and after an effect.
+ghost use Rattle.std.specs.Prelude.{◌≡◌, ◌<◌};
+ghost use Rattle.ro_exec.specs.Registers.{register};
+ghost use Rattle.ro_exec.specs.Threads.{with_stack, first_cpu as first, made_cpu as made_of, goes_on, cpu_after};
+
+use ro_event::{Effect, Goes, Made};
+use ro_exec::Cpu;
+
+/// A jump to this place ends the thread.
+const EXIT_PLACE: u32 = 0x7FFF_FFF0;
+
+/// Where the first stack ends, and how far the next is from it.
+const FIRST_STACK_END: u32 = 0x7001_0000;
+
+const STACK_STEP: u32 = 0x2_0000;
+
+/// A thread's registers with its stack alone.
+fn with_stack(thread: u32, pc: u32) -> Cpu
+    requires { thread < 16 }
+    ensures registers { result.registers ≡ with_stack thread }
+    ensures pc { result.pc ≡ pc }
+{
+    let mut cpu = Cpu {
+        registers: [0; 31],
+        pc,
+    };
+    cpu.set(2, FIRST_STACK_END + thread * STACK_STEP - 16);
+    cpu
+}
+
+/// The first thread at the opening.
+#[tactic(auto, unfolding(ro_exec::specs::Threads::first_cpu))]
+pub(crate) fn first_cpu(entry: u32) -> Cpu
+    ensures { result ≡ first entry }
+{
+    with_stack(0, entry)
+}
+
+/// A thread of this number that another one makes.
+#[tactic(auto, unfolding(ro_exec::specs::Threads::made_cpu))]
+pub(crate) fn made_cpu(made: &Made, creator: &Cpu, thread: u32) -> Cpu
+    requires { thread < 16 }
+    ensures { result ≡ made_of made.now creator.now thread }
+{
+    let mut cpu = with_stack(thread, made.start);
+    cpu.set(3, creator.get(3));
+    cpu.set(4, thread);
+    cpu.set(10, made.argument);
+    cpu.set(1, EXIT_PLACE);
+    cpu
+}
+
+/// Where a thread goes on.
+fn next_pc(goes: Goes, cpu: &Cpu) -> u32
+    ensures { result ≡ goes_on goes cpu.now }
+{
+    match goes {
+        Goes::Stays => cpu.pc,
+        Goes::Next => cpu.pc.wrapping_add(4),
+        Goes::Returns => cpu.get(1),
+    }
+}
+
+/// Does what an effect does to a thread's registers and pc.
+pub(crate) fn change(cpu: &mut Cpu, effect: &Effect)
+    ensures { cpu.new ≡ cpu_after effect.now cpu.old }
+{
+    let pc = next_pc(effect.goes, cpu);
+    if let Some(answer) = effect.answer {
+        cpu.set(10, answer);
+    }
+    cpu.pc = pc;
+}

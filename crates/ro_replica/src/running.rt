@@ -30,9 +30,10 @@ impl Replica {
         ensures program { SameProgram self.new self.old }
         ensures runs { Runs self.old.layout self.old.watchdog quantum thread (replica_of self.old) (replica_of self.new) result.count result.hit result.stop }
     {
+        let hit = self.strike(thread);
         let mut ran = Ran {
             count: 0,
-            hit: self.strike(thread),
+            hit,
             stop: None,
         };
         while ran.count < quantum && ran.stop.is_none() {

@@ -11,13 +11,13 @@ pub loop-ran-init : goal.loop-ran-init
 loop-ran-init c =
     let all : c.args.quantum ≡ c.args.quantum - 0 = omega arith in
     record {
-      program = c.strike.ensures.program;
-      threads = c.strike.ensures.threads;
-      struck = struck_now c.args.self.now c.strike.new.self c.args.thread _ c.strike.ensures.program.layout c.strike.ensures.struck;
-      countable = subst (λ (n : ℕ). CanCount n c.strike.new.self c.args.thread) all (countable_struck c.args.self.now c.strike.new.self c.args.thread _ _ c.strike.ensures.struck c.requires.countable);
-      few = c.strike.ensures.few;
+      program = c.strike-hit.ensures.program;
+      threads = c.strike-hit.ensures.threads;
+      struck = struck_now c.args.self.now c.strike-hit.new.self c.args.thread _ c.strike-hit.ensures.program.layout c.strike-hit.ensures.struck;
+      countable = subst (λ (n : ℕ). CanCount n c.strike-hit.new.self c.args.thread) all (countable_struck c.args.self.now c.strike-hit.new.self c.args.thread _ _ c.strike-hit.ensures.struck c.requires.countable);
+      few = c.strike-hit.ensures.few;
       within = omega arith;
-      way = begins _ _ _ _ _ _ _ c.strike.ensures.struck;
+      way = begins _ _ _ _ _ _ _ c.strike-hit.ensures.struck;
     }
 
 pub loop-ran-preserved : goal.loop-ran-preserved

@@ -1,15 +1,14 @@
 -- Parts of a run: a strike, and instructions with no strike between them.
-use Rattle.std.specs.Prelude.{◌≡◌, ℕ, zero, suc, ◌+◌, ◌<◌, Bool, true, false, not, cond, ◌&&◌, if◌then◌else◌, List, [], ◌∷◌, length, Option, Some, None, ◌==◌, slice_get, slice_set}
+use Rattle.std.specs.Prelude.{◌≡◌, ℕ, zero, suc, ◌+◌, ◌<◌, Bool, true, false, cond, List, Option, Some, None, ◌==◌, slice_get, slice_set}
 use Rattle.std.specs.Option.{option_map, option_and_then}
 use Rattle.std.proofs.Common.{refl, sym, ap, ◌∙◌, arith, subst}
-use Rattle.ro_pages.specs.Bytes.{Memory}
 use Rattle.ro_exec.specs.Next.{Layout, Backed, Next, Stands, Executes, next}
 use Rattle.ro_thread.specs.declared.Thread.{Thread}
 use Rattle.ro_thread.specs.Runs.{Running, after_instruction, after_next, one_instruction, instructions}
 use Rattle.ro_replica.specs.Replica.{Replica}
 use Rattle.ro_replica.specs.Runs.{Ran, struck, execute_next, execute_at, execute, plus_hit, run_of}
 use Rattle.ro_replica.proofs.Elements.{get_set, set_twice, set_itself}
-use Rattle.ro_replica.proofs.Strikes.{NoneDue, done_at, struck_twice, struck_none}
+use Rattle.ro_replica.proofs.Strikes.{NoneDue, struck_twice, struck_none}
 
 pub plus_none : (o : Option Ran) → option_map (plus_hit 0) o ≡ o
 plus_none None = refl

@@ -1,20 +1,17 @@
 -- Faults that are struck.
-use Rattle.std.specs.Prelude.{◌≡◌, ℕ, zero, suc, ◌+◌, Bool, true, false, not, cond, ◌&&◌, if◌then◌else◌, List, [], ◌∷◌, length, Option, Some, None, slice_get, slice_set}
+use Rattle.std.specs.Prelude.{◌≡◌, ℕ, ◌+◌, Bool, true, false, not, cond, List, [], ◌∷◌, length, Option, Some, None, slice_get}
 use Rattle.std.specs.List.{filter, fold}
-use Rattle.std.specs.Option.{option_map, option_and_then}
-use Rattle.std.specs.Prelude.{◌<◌, ◌≤◌, ◌++◌, slice_index_or}
+use Rattle.std.specs.Option.{option_map}
+use Rattle.std.specs.Prelude.{◌<◌, ◌++◌, slice_index_or}
 use Rattle.std.proofs.Common.{refl, sym, ap, ◌∙◌, arith, subst, take, append-nil, length-append}
 use Rattle.std.proofs.lemmas.List.Elements.{filter_more}
-use Rattle.std.proofs.lemmas.List.Filters.{length-filter_both, length-filter_more}
 use Rattle.ro_region.specs.declared.Range.{Range}
-use Rattle.ro_pages.specs.Bytes.{stored, page_of}
-use Rattle.ro_exec.specs.Next.{Layout}
 use Rattle.ro_thread.specs.declared.Thread.{Thread}
 use Rattle.ro_faults.specs.declared.Fault.{Fault}
 use Rattle.ro_faults.specs.declared.Target.{Target}
 use Rattle.ro_faults.specs.declared.Target.TheVariants.{Register, Pc, Byte}
-use Rattle.ro_replica.specs.Replica.{Replica, changed_at}
-use Rattle.ro_replica.specs.Runs.{Ran, is_due, with_cpu, struck_by, strike, strike_in, struck, execute, plus_hit, run_of}
+use Rattle.ro_replica.specs.Replica.{Replica}
+use Rattle.ro_replica.specs.Runs.{Ran, is_due, with_cpu, struck_by, strike, strike_in, struck}
 use Rattle.ro_replica.proofs.Elements.{get_changed, filter_other, filter_none}
 
 -- no fault of the thread waits for this moment

@@ -1,5 +1,5 @@
 -- A strike at each kind of target.
-use Rattle.std.specs.Prelude.{◌≡◌, ℕ, ◌+◌, ◌<◌, ◌≤◌, ◌^◌, ◌%◌, ◌/◌, Bool, true, ◌&&◌, List, [], ◌∷◌, length, nat_le, nat_lt, if◌then◌else◌, slice_get, slice_set, slice_index_or, Option, Some, bit_xor}
+use Rattle.std.specs.Prelude.{◌≡◌, ℕ, ◌+◌, ◌<◌, ◌≤◌, ◌^◌, ◌%◌, ◌/◌, Bool, true, ◌&&◌, List, [], ◌∷◌, length, nat_le, nat_lt, if◌then◌else◌, slice_set, slice_index_or, Option, bit_xor}
 use Rattle.ro_event.specs.declared.stops.Stop.{Stop}
 use Rattle.std.proofs.Common.{refl, sym, ap, ◌∙◌, subst, arith}
 use Rattle.std.proofs.lemmas.Bool.{and_parts, and_from, leb-true}
@@ -16,7 +16,7 @@ use Rattle.ro_faults.specs.declared.Target.{Target}
 use Rattle.ro_faults.specs.declared.Target.TheVariants.{Register, Pc, Byte}
 use Rattle.ro_faults.specs.Flips.{flipped}
 use Rattle.ro_faults.specs.Texts.{is_target}
-use Rattle.ro_replica.specs.Replica.{Replica, changed_at}
+use Rattle.ro_replica.specs.Replica.{changed_at}
 use Rattle.ro_replica.specs.Runs.{with_cpu, with_stop, struck_by}
 use Rattle.ro_replica.specs.Seen.{ReplicaOf, replica_of}
 use Rattle.ro_replica.proofs.Elements.{changed_is_set}

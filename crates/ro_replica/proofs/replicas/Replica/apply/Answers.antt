@@ -1,11 +1,10 @@
-use Rattle.std.proofs.Common.{arith, sym, ap, subst, ◌≡◌, ◌<◌, ◌∙◌, ℕ, map, length}
+use Rattle.std.proofs.Common.{arith, sym, ap, subst, ◌<◌, ◌∙◌, ℕ, length}
 use Rattle.std.specs.Option.{IfSome}
-use Rattle.std.specs.Vec.{with_items}
 use Rattle.std.proofs.lemmas.List.{with_items_is}
 use Rattle.std.specs.Prelude.{◌||◌}
 use Rattle.ro_pages.specs.Bytes.{stored, covers_page}
 use Rattle.ro_pages.specs.Held.{memory_of, has_page}
-use Rattle.ro_replica.specs.Replica.{changed_at, is_page, thread_after, with_made, without_cancelled}
+use Rattle.ro_replica.specs.Replica.{is_page}
 use Rattle.ro_replica.specs.Seen.{replica_of}
 use Rattle.ro_replica.proofs.Changes.{threads_left, threads_after, holds_after, applies}
 use Rattle.ro_replica.proofs.replicas.Replica.apply.Goals as goal

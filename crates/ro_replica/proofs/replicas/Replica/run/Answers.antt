@@ -1,4 +1,4 @@
-use Rattle.std.proofs.Common.{◌≡◌, ◌+◌, ◌-◌, ◌<◌, ℕ, true, not, None, ◌∙◌, sym, ap, subst, arith}
+use Rattle.std.proofs.Common.{◌≡◌, ◌+◌, ◌-◌, ◌<◌, ℕ, not, None, ◌∙◌, ap, subst, arith}
 use Rattle.ro_exec.specs.Next.{Layout}
 use Rattle.ro_replica.specs.Rounds.{IsStruck}
 use Rattle.ro_replica.specs.Seen.{replica_of, CanCount}

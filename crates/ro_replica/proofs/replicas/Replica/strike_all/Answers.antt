@@ -1,7 +1,6 @@
-use Rattle.std.proofs.Common.{◌≡◌, ◌<◌, ◌∙◌, true, false, sym, ap, subst, List, length, arith}
+use Rattle.std.proofs.Common.{◌≡◌, ◌<◌, ◌∙◌, sym, ap, subst, List, length, arith}
 use Rattle.std.specs.Prelude.{slice_index_or}
 use Rattle.ro_faults.specs.declared.Fault.{Fault}
-use Rattle.ro_replica.specs.Runs.{is_due}
 use Rattle.ro_replica.specs.Seen.{ReplicaOf}
 use Rattle.ro_replica.proofs.SoFar.{takes, skips}
 use Rattle.ro_replica.proofs.replicas.Replica.strike_all.Goals as goal

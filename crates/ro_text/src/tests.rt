@@ -1,0 +1,2 @@
+//! Words, numbers and lines.
+use super::*;

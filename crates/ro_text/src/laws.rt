@@ -1,5 +1,5 @@
 //! What is written is read back.
-ghost use Rattle.std.specs.Prelude.{ℕ, List, ◌∷◌, ◌++◌, ◌≡◌, ◌^◌, ◌<◌, decimal, length, true};
+ghost use Rattle.std.specs.Prelude.{ℕ, List, ◌∷◌, ◌++◌, ◌≡◌, ◌^◌, ◌<◌, ◌≤◌, decimal, length, true};
 ghost use Rattle.std.specs.List.{list_all};
 ghost use Rattle.ro_text.specs.Numbers.{is_number, value_of};
 ghost use Rattle.ro_text.specs.Lines.{spaced, line_text, is_plain, words_of, parts_of};

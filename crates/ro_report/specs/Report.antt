@@ -1,8 +1,9 @@
--- The report of a run: a summary of its journal, and the answer.
+-- The report of a run: its journal, where that is to be shown, a summary of it, and the answer.
 use Rattle.std.specs.Prelude.{ℕ, Bool, true, false, List, [], ◌∷◌, ◌++◌, Some, length, count_by, sum_by, codes, decimal}
 use Rattle.ro_journal.specs.declared.Entry.{Entry}
 use Rattle.ro_journal.specs.declared.Entry.TheVariants.{Put, Vote}
 use Rattle.ro_journal.specs.Plan.{plan_of}
+use Rattle.ro_journal_text.specs.Texts.{journal_text}
 use Rattle.ro_report.specs.declared.answers.Answer.{Answer}
 use Rattle.ro_report.specs.declared.answers.Answer.TheVariants.{Exit, Trap, BadWords, StoreFailed, BadExe, NoMemory}
 
@@ -55,3 +56,13 @@ answer_text NoMemory = codes "answer no-memory\n"
 abbrev pub report_text : List Entry → (bytes : ℕ) → Answer → List ℕ
 report_text [] bytes answer = answer_text answer
 report_text (entry ∷ journal) bytes answer = summary_text (entry ∷ journal) bytes ++ answer_text answer
+
+-- the journal, where it is to be shown and has an entry
+abbrev pub journal_part : (shown : Bool) → List Entry → List ℕ
+journal_part false journal = []
+journal_part true [] = []
+journal_part true (entry ∷ journal) = journal_text (entry ∷ journal)
+
+-- the report of a run, with its journal before it where that is to be shown
+abbrev pub report_of : (shown : Bool) → List Entry → (bytes : ℕ) → Answer → List ℕ
+report_of shown journal bytes answer = journal_part shown journal ++ report_text journal bytes answer

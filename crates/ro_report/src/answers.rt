@@ -1,8 +1,8 @@
 //! The answer of a command.
-ghost use Rattle.std.specs.Prelude.{◌≡◌, ◌<◌, ◌≤◌, ◌++◌, length, codes, decimal};
+ghost use Rattle.std.specs.Prelude.{◌≡◌, ◌≤◌, ◌++◌, length, codes, decimal};
 ghost use Rattle.ro_report.specs.Report.{answer_text};
 
-use crate::lines::{Line, Text, push_number};
+use ro_text::{Line, Text};
 
 /// How a command ended.
 #[derive(Clone, Copy, Debug, PartialEq, Eq)]
@@ -28,22 +28,21 @@ pub fn answer_line(answer: &Answer) -> Line
     match *answer {
         Answer::Exit(status) => numbered("answer exit ", status),
         Answer::Trap(cause) => numbered("answer trap ", cause),
-        Answer::BadWords => fixed("answer words\n"),
-        Answer::StoreFailed => fixed("answer store\n"),
+        Answer::BadWords => fixed("answer words"),
+        Answer::StoreFailed => fixed("answer store"),
         Answer::BadExe(code) => numbered("answer exe ", code),
-        Answer::NoMemory => fixed("answer no-memory\n"),
+        Answer::NoMemory => fixed("answer no-memory"),
     }
 }
 
 // The line of these words.
 fn fixed(words: &str) -> Line
-    requires filled { 0 < length words.now }
-    requires short { length words.now ≤ 100 }
-    ensures { result ≡ words.now }
+    requires { length words.now ≤ 100 }
+    ensures { result ≡ words.now ++ codes "\n" }
 {
     let mut text = Text::new();
-    text.push_str(words);
-    Line::of(text)
+    text.push(words);
+    text.end()
 }
 
 // The line of these words and a number.
@@ -52,8 +51,7 @@ fn numbered(words: &str, number: u8) -> Line
     ensures { result ≡ words.now ++ decimal number ++ codes "\n" }
 {
     let mut text = Text::new();
-    text.push_str(words);
-    push_number(&mut text, u64::from(number));
-    text.push_str("\n");
-    Line::of(text)
+    text.push(words);
+    text.push_number(u64::from(number));
+    text.end()
 }

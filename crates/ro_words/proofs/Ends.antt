@@ -54,7 +54,7 @@ one_passes : (xs : List Row) (a : Rule) (rest : List Rule) → default_fault xs 
 unfolding defaults_fault
 one_passes xs a rest here after = rw (here, after (with_default xs a)) refl
 
-no_defaults : (xs : List Row) → defaults_fault xs [] ≡ []
+pub no_defaults : (xs : List Row) → defaults_fault xs [] ≡ []
 unfolding defaults_fault
 no_defaults xs = refl
 

@@ -4,5 +4,6 @@ pub mod Names
 pub mod Once
 pub mod Rows
 pub mod Rules
+pub mod Spelled
 pub mod Steps
 pub mod Walks

@@ -30,7 +30,7 @@ or_false false = refl
 same_twice : (a b : Text) → bytes_eq a b ≡ true → bytes_eq b a ≡ true
 same_twice a b same = (bytes_eq-Decides b a).1 (sym ((bytes_eq-Decides a b).0 same))
 
-differ_twice : (a b : Text) → bytes_eq a b ≡ false → bytes_eq b a ≡ false
+pub differ_twice : (a b : Text) → bytes_eq a b ≡ false → bytes_eq b a ≡ false
 differ_twice a b differ = elim (cases_Bool (bytes_eq b a)) [
   | inl same ↦ let bad : true ≡ false = sym (same_twice b a same) ∙ differ in cc
   | inr other ↦ other

@@ -49,7 +49,7 @@ tail_end w = refl
 
 -- ---- a word that begins with no `-`
 
-short_none : (x : ℕ) (xs : Text) → (x == 45) ≡ false → short_of (x ∷ xs) ≡ None
+pub short_none : (x : ℕ) (xs : Text) → (x == 45) ≡ false → short_of (x ∷ xs) ≡ None
 short_none x xs plain = rw plain refl
 
 pub exe_turn : (h : Held) (x : ℕ) (xs : Text) → (x == 45) ≡ false

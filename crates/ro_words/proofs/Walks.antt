@@ -53,14 +53,14 @@ first_empty : (a b : Kinds) → or_else a b ≡ [] → a ≡ []
 first_empty [] b e = refl
 first_empty (k ∷ ks) b e = cc
 
-not_empty : (a b : Kinds) → (a ≡ [] → ⊥) → or_else a b ≡ [] → ⊥
+pub not_empty : (a b : Kinds) → (a ≡ [] → ⊥) → or_else a b ≡ [] → ⊥
 not_empty a b refuses e = refuses (first_empty a b e)
 
 some_kinds : (a k ks : Kinds) → a ≡ or_else k ks → (k ≡ [] → ⊥) → a ≡ [] → ⊥
 some_kinds a k ks is refuses e = not_empty k ks refuses (sym is ∙ e)
 
 -- a kind, and no kind
-one_kind : (a : Kinds) (k : ErrorKind) → a ≡ k ∷ [] → a ≡ [] → ⊥
+pub one_kind : (a : Kinds) (k : ErrorKind) → a ≡ k ∷ [] → a ≡ [] → ⊥
 one_kind a k is none = let bad : k ∷ [] ≡ [] = sym is ∙ none in cc
 
 -- ---- what is said of the walk

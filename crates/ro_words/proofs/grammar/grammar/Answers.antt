@@ -7,6 +7,7 @@ use Rattle.ro_words.proofs.Ends.{ends_with}
 use Rattle.ro_words.proofs.Once.{twice}
 use Rattle.ro_words.proofs.Steps.{level_is}
 use Rattle.ro_words.proofs.Walks.{walk_answers}
+use Rattle.ro_words.proofs.Spelled.{spells}
 use Rattle.ro_words.proofs.grammar.grammar.Goals as goal
 
 pub returns : goal.returns

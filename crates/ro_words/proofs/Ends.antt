@@ -21,7 +21,7 @@ use Rattle.ro_words.proofs.Rows.{row, rows, used-row, with_first}
 abbrev pub final_rows : List Use → List Row
 final_rows uses = with_default (rows uses) journal_built
 
-abbrev default_row : Row
+abbrev pub default_row : Row
 default_row = record {
   id = codes "journal";
   values = codes "false" ∷ [];

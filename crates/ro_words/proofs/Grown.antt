@@ -29,5 +29,5 @@ is_top a b d e app reads flag subcommand required =
       disable_help_subcommand = true;
       subcommand_required = true;
     } = required ∙ ap (λ (f : Command-F Command). record f { subcommand_required = true }) (subcommand
-        ∙ ap (λ (f : Command-F Command). record f { disable_help_subcommand = true }) flag) in
+    ∙ ap (λ (f : Command-F Command). record f { disable_help_subcommand = true }) flag) in
     (ap app_of_fields all ∙ ap (on_top romain_top) reads.0, ap (λ (f : Command-F Command). f.has_globals) all ∙ reads.1)

@@ -1,7 +1,11 @@
 pub mod Ends
+pub mod Found
 pub mod Grown
+pub mod Looks
 pub mod Names
+pub mod Numbers
 pub mod Once
+pub mod Refused
 pub mod Rows
 pub mod Rules
 pub mod Spelled

@@ -19,7 +19,7 @@ or_true : (b : Bool) → (b || true) ≡ true
 or_true true = refl
 or_true false = refl
 
-and_false : (b : Bool) → (b && false) ≡ false
+pub and_false : (b : Bool) → (b && false) ≡ false
 and_false true = refl
 and_false false = refl
 
@@ -66,7 +66,7 @@ once_more (w ∷ ws) u once unused =
     let parts = and_parts (not (is_used w.0 ws)) (is_once ws) once in
     let others = or_parts (bytes_eq w.0 u.0) (is_used u.0 ws) unused in
     let here : is_used w.0 (ws ++ u ∷ []) ≡ false =
-        used-append w.0 ws (u ∷ []) ∙ rw (not_true (is_used w.0 ws) parts.0, differ_twice w.0 u.0 others.0) refl in
+    used-append w.0 ws (u ∷ []) ∙ rw (not_true (is_used w.0 ws) parts.0, differ_twice w.0 u.0 others.0) refl in
     rw (here, once_more ws u parts.1 others.1) refl
 
 pub flags_more : (us : List Use) (u : Use) → list_all flag_text us ≡ true → flag_text u ≡ true → list_all flag_text (us ++ u ∷ []) ≡ true

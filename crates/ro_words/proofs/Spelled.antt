@@ -125,7 +125,7 @@ stray_top : (x : ℕ) (xs : Text) → (x == 45) ≡ false → bytes_eq (codes "r
     → turn_fault top names (walk_from nothing_held) (x ∷ xs) ≡ [] → ⊥
 stray_top x xs plain other =
     let fails : turn_fault top names (walk_from nothing_held) (x ∷ xs) ≡ kind.UnknownArgument ∷ kind.InvalidSubcommand ∷ [] =
-        rw (other, plain, short_none x xs plain) refl in
+    rw (other, plain, short_none x xs plain) refl in
     λ none. let bad : kind.UnknownArgument ∷ kind.InvalidSubcommand ∷ [] ≡ [] = sym fails ∙ none in cc
 
 -- another command's name, or none
@@ -154,7 +154,7 @@ other_spells : (program command : Text) (words : List Text) → is_word command 
     → SpellsBy (fault_of romain_app (program ∷ command ∷ words)) (subcommand_of romain_app (program ∷ command ∷ words)) (command_of (program ∷ command ∷ words))
 other_spells program command words is other = inl (
   (λ e. other_fault command words is (differ_twice command (codes "run") other)
-  (sym (ap (λ (a : App). built_fault a nothing_held (command ∷ words)) whole_is) ∙ e)),
+      (sym (ap (λ (a : App). built_fault a nothing_held (command ∷ words)) whole_is) ∙ e)),
   rw other refl,
 )
 

@@ -158,7 +158,7 @@ goes_on : (us : List Use) (w next : Walk) (word : Text) (words : List Text) (r q
 goes_on us w next word words r q passes moves read h =
     answers_as us _ (tail_fault next words) _ (end_rows next words) r q
     (tail_more w word words ∙ ap (λ (k : Kinds). or_else k (tail_fault (walked built_rules [] w word) words)) passes
-        ∙ ap (λ (n : Walk). tail_fault n words) moves)
+    ∙ ap (λ (n : Walk). tail_fault n words) moves)
     (ap (λ (n : Walk). end_rows n words) moves) read h
 
 -- a word that fails by something
@@ -183,7 +183,7 @@ second_exe : (words : List Text) (us : List Use) (h : Held) (x : ℕ) (xs : Text
     → Answers us (tail_fault (at idle 2 h) ((x ∷ xs) ∷ words)) (end_rows (at idle 2 h) ((x ∷ xs) ∷ words)) (uses_from ((x ∷ xs) ∷ words) None)
 second_exe words us h x xs plain used =
     let refuses : tail_fault (at idle 2 h) ((x ∷ xs) ∷ words) ≡ [] → ⊥ =
-        stops (at idle 2 h) (x ∷ xs) words (one_kind _ kind.UnknownArgument (stray_turn h x xs plain)) in
+    stops (at idle 2 h) (x ∷ xs) words (one_kind _ kind.UnknownArgument (stray_turn h x xs plain)) in
     answers_as us _ _ _ _ _ (with_use (codes "exe", x ∷ xs) (uses_from words None)) refl refl (rw plain refl)
     (answers_twice us (codes "exe", x ∷ xs) _ _ (uses_from words None) used refuses)
 
@@ -303,7 +303,7 @@ idle_option words after waits us p h y ys is stands =
     let value = (name_and_value (y ∷ ys)).1 in
     answers_as us _ _ _ _ _ (option_uses name value (λ next. uses_from words next))
     (tail_more (at idle p h) (45 ∷ 45 ∷ y ∷ ys) words
-        ∙ ap (λ (n : Walk). or_else (turn_fault leaf [] (at idle p h) (45 ∷ 45 ∷ y ∷ ys)) (tail_fault n words)) (option_walked p h y ys))
+    ∙ ap (λ (n : Walk). or_else (turn_fault leaf [] (at idle p h) (45 ∷ 45 ∷ y ∷ ys)) (tail_fault n words)) (option_walked p h y ys))
     (ap (λ (n : Walk). end_rows n words) (option_walked p h y ys)) refl
     (option_word us p (45 ∷ 45 ∷ y ∷ ys) name value h words is stands after waits)
 

@@ -10,6 +10,10 @@ use Rattle.ro_words.specs.Uses.{Text, Use, is_once, is_used, text_of, uses_from}
 use Rattle.ro_words.specs.declared.commands.Command.{Command}
 use Rattle.ro_words.specs.declared.commands.Command.TheVariants.{Run}
 use Rattle.ro_words.specs.declared.commands.RunCommand.{RunCommand}
+use Rattle.ro_words.specs.declared.commands.WordsError.{WordsError}
+use Rattle.ro_words.specs.declared.commands.WordsError.TheVariants.{Bad, NoMemory}
+use Rattle.clap.specs.declared.error.kind.ErrorKind.{ErrorKind}
+use Rattle.clap.specs.declared.error.kind.ErrorKind.TheVariants as kind
 
 -- ---- numbers
 
@@ -62,10 +66,13 @@ asked_from (Some executable) (Some settings) given journal = Some (record {
 })
 asked_from _ _ given journal = None
 
+-- the run, from the texts that are given under the names
+abbrev pub asked_given : (Text → Option Text) → Bool → Option Asked
+asked_given given journal = asked_from (given (codes "exe")) (settings_of given) given journal
+
 -- the run that the uses ask for
 abbrev pub asked_of : List Use → Option Asked
-asked_of uses =
-    asked_from (text_of uses (codes "exe")) (settings_of (text_of uses)) (text_of uses) (is_used (codes "journal") uses)
+asked_of uses = asked_given (text_of uses) (is_used (codes "journal") uses)
 
 abbrev pub run_of : List Use → Option Asked
 run_of uses = if is_once uses then asked_of uses else None
@@ -91,3 +98,8 @@ asked_in (Run run) = asked_by run
 
 abbrev pub settings_in : Command → Settings
 settings_in (Run run) = run.settings
+
+-- what a parse that failed says of the words
+abbrev pub refusal_of : ErrorKind → WordsError
+refusal_of kind.OutOfMemory = NoMemory
+refusal_of _ = Bad

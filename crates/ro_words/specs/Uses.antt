@@ -4,7 +4,7 @@ use Rattle.std.specs.Prelude.{if◌then◌else◌, option_map, option_and_then}
 use Rattle.std.specs.List.{list_any}
 use Rattle.std.specs.Option.{option_map_or}
 use Rattle.std.specs.Str.{bytes_eq}
-use Rattle.clap.specs.Lexer.{long_of}
+use Rattle.clap.specs.Lexer.{long_of, strip_byte}
 use denote.Bor.{Bor}
 
 abbrev pub Text : Type 0
@@ -18,6 +18,10 @@ texts_of words = map (λ word. word.now) words
 abbrev pub is_argument : Text → Bool
 is_argument [] = false
 is_argument (code ∷ codes) = not (code == 45)
+
+-- what follows `--`
+abbrev pub after_dashes : Text → Option Text
+after_dashes word = option_and_then (strip_byte 45) (strip_byte 45 word)
 
 -- an argument, `--name`, or `--name=V` with an argument V
 abbrev pub is_word : Text → Bool

@@ -1,6 +1,6 @@
 //! The settings that options give.
 ghost use Rattle.clap.specs.Matches.{first_value, found_of};
-ghost use Rattle.ro_words.specs.Commands.{number_or, settings_of as settings_in};
+ghost use Rattle.ro_words.specs.Commands.{number_in as number_of, number_or, settings_of as settings_in};
 ghost use Rattle.ro_settings.specs.Ranges.{InRange};
 ghost use Rattle.std.specs.Prelude.{◌≡◌, ◌≤◌, IfSome, option_map};
 
@@ -22,20 +22,25 @@ pub(crate) fn settings_of(matches: &ArgMatches<'_>) -> Option<Settings>
     })
 }
 
-// The number that the text writes, where it lies between the two, or the usual one where there is no text.
+// The number that the text writes, where it lies between the two.
+fn number_in(text: &str, least: u64, most: u64) -> Option<u64>
+    ensures { result ≡ number_of least most text.now }
+{
+    match text.parse::<u64>() {
+        Ok(number) if least <= number && number <= most => Some(number),
+        _ => None,
+    }
+}
+
+// The same, or the usual number where there is no text.
 fn number(text: Option<&str>, least: u64, most: u64, usual: u64) -> Option<u64>
     requires { (least ≤ usual) × (usual ≤ most) }
     ensures given { result ≡ number_or usual least most (option_map (λ t. t.now) text.entry) }
     ensures in_range { IfSome result (λ n. (least ≤ n) × (n ≤ most)) }
 {
-    let Some(text) = text else {
-        return Some(usual);
-    };
-    let number = text.parse::<u64>().ok()?;
-    if least <= number && number <= most {
-        Some(number)
-    } else {
-        None
+    match text {
+        Some(text) => number_in(text, least, most),
+        None => Some(usual),
     }
 }
 

@@ -1,20 +1,18 @@
 -- What `clap` makes of the rows at the end of a walk.
-use Rattle.std.proofs.Common.{◌≡◌, ◌∙◌, ℕ, Bool, true, false, not, ◌&&◌, ◌||◌, List, [], ◌∷◌, ◌++◌, map, Option, Some, None, refl, ap, sym, codes, inl, inr}
+use Rattle.std.proofs.Common.{◌≡◌, ◌∙◌, ℕ, Bool, true, false, List, [], ◌∷◌, ◌++◌, Option, Some, None, refl, ap, sym, codes, inl, inr}
 use Rattle.std.specs.Prelude.{fold, find, option_map, option_and_then, slice_get, is_some, if◌then◌else◌, ◌⊎◌}
 use Rattle.std.specs.Option.{option_map_or}
 use Rattle.std.specs.Str.{bytes_eq}
-use Rattle.std.specs.List.{list_all}
 use Rattle.std.proofs.lemmas.Bool.{cases_Bool}
-use Rattle.clap.specs.Walk.{Row, Rule, Text, first_of, has_row, one_of, with_default}
+use Rattle.clap.specs.Walk.{Row, Rule, Text, first_of, has_row, with_default}
 use Rattle.clap.specs.Faults.{check_fault, default_fault, defaults_fault}
 use Rattle.clap.specs.Facts.{explicit_source}
 use Rattle.clap.specs.Takes.{is_given}
-use Rattle.clap.specs.Kinds.{Kinds}
 use Rattle.clap.specs.declared.parser.matches.ValueSource.TheVariants.{DefaultValue}
 use Rattle.clap.specs.declared.builder.value_parser.Reading.TheVariants as reading
 use Rattle.clap.specs.declared.error.kind.ErrorKind.TheVariants as kind
 use Rattle.ro_words.specs.Uses.{Use, is_used, text_of}
-use Rattle.ro_words.proofs.Rules.{built_rules, exe_built, journal_built, leaf, option_built, value_rule}
+use Rattle.ro_words.proofs.Rules.{built_rules, journal_built, leaf, value_rule}
 use Rattle.ro_words.proofs.Rows.{row, rows, used-row, with_first}
 
 -- the rows at the end, where the flag that was not used has its default

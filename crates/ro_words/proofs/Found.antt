@@ -1,5 +1,5 @@
 -- What is read of the matches, and the command that words spell.
-use Rattle.std.proofs.Common.{◌≡◌, ◌∙◌, ◌⊎◌, ℕ, Bool, true, false, not, ◌||◌, List, [], ◌∷◌, ◌++◌, Option, Some, None, refl, ap, sym, subst, codes, inl, inr}
+use Rattle.std.proofs.Common.{◌≡◌, ◌∙◌, ◌⊎◌, Bool, true, false, List, [], ◌∷◌, ◌++◌, Option, Some, None, refl, ap, sym, codes, inl, inr}
 use Rattle.std.specs.Prelude.{option_map, Result, Ok, Err, IfErr, IfOk}
 use Rattle.std.specs.Result.{result_ok}
 use Rattle.std.specs.List.{list_all}
@@ -7,20 +7,20 @@ use Rattle.std.specs.Str.{bytes_eq}
 use Rattle.std.proofs.lemmas.Bool.{cases_Bool, or_parts}
 use Rattle.std.proofs.lemmas.Slice.Eq.{bytes_eq-Decides}
 use Rattle.clap.specs.Kinds.{Kinds}
-use Rattle.clap.specs.Matches.{first_value, found_of, one_text}
+use Rattle.clap.specs.Matches.{first_value, one_text}
 use Rattle.clap.specs.Values.{bool_text}
-use Rattle.clap.specs.Walk.{Row, first_of, one_of, row_text, rows_of}
+use Rattle.clap.specs.Walk.{Row, first_of, one_of, rows_of}
 use Rattle.clap.specs.declared.parser.matches.Found.{Found}
 use Rattle.clap.proofs.WalkLemmas.{first_value-rows, one_text-rows}
 use Rattle.ro_settings.specs.declared.Settings.{Settings}
-use Rattle.ro_words.specs.Commands.{Asked, asked_from, asked_given, settings_of, asked_in, asked_of, command_of}
+use Rattle.ro_words.specs.Commands.{Asked, asked_from, asked_given, settings_of, asked_in}
 use Rattle.ro_words.specs.Uses.{Text, Use, is_used, text_of}
 use Rattle.ro_words.specs.declared.commands.Command.{Command}
 use Rattle.ro_words.specs.declared.commands.WordsError.{WordsError}
 use Rattle.ro_words.specs.declared.commands.WordsError.TheVariants.{NoMemory}
 use Rattle.ro_words.proofs.Ends.{default_row, final_is, final_rows, first-final}
 use Rattle.ro_words.proofs.Once.{and_parts, flag_text}
-use Rattle.ro_words.proofs.Rows.{row, rows}
+use Rattle.ro_words.proofs.Rows.{rows}
 use Rattle.ro_words.proofs.Spelled.{SpellsBy}
 
 -- the matches of `run`, read by their rows

@@ -1,8 +1,8 @@
 -- A command as arguments are added to it.
-use Rattle.std.proofs.Common.{◌≡◌, ◌∙◌, false, true, ◌||◌, refl, ap, ap₂}
+use Rattle.std.proofs.Common.{◌≡◌, ◌∙◌, false, true, ◌||◌, ap, ap₂}
 use Rattle.clap.specs.Built.{AddsArg, AddsSubcommand}
 use Rattle.clap.specs.Walk.{Rule, rule_of}
-use Rattle.clap.specs.Simple.{App, app_of_fields, app_of, on_top, with_rule, with_subcommand}
+use Rattle.clap.specs.Simple.{App, app_of_fields, on_top, with_rule, with_subcommand}
 use Rattle.clap.specs.declared.builder.arg.Arg.{Arg}
 use Rattle.clap.specs.declared.builder.command.Command.{Command}
 use Rattle.clap.specs.declared.builder.command.Command.TheOpen.{Command-F}

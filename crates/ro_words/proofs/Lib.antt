@@ -1,7 +1,10 @@
 pub mod Ends
+pub mod Failing
+pub mod Forms
 pub mod Found
 pub mod Grown
 pub mod Looks
+pub mod Moves
 pub mod Names
 pub mod Numbers
 pub mod Once
@@ -9,5 +12,6 @@ pub mod Refused
 pub mod Rows
 pub mod Rules
 pub mod Spelled
+pub mod Standing
 pub mod Steps
 pub mod Walks

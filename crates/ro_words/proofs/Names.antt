@@ -1,11 +1,11 @@
 -- Which argument of `run` a name belongs to.
-use Rattle.std.proofs.Common.{◌≡◌, ℕ, Bool, true, false, List, [], ◌∷◌, Option, Some, None, refl, subst, codes, inl, inr}
+use Rattle.std.proofs.Common.{◌≡◌, true, false, Some, None, refl, subst, codes, inl, inr}
 use Rattle.std.specs.Str.{bytes_eq}
 use Rattle.std.proofs.lemmas.Slice.Eq.{bytes_eq-Decides}
 use Rattle.std.proofs.lemmas.Bool.{cases_Bool}
 use Rattle.clap.specs.Walk.{Text, arg_by_id, arg_by_long}
 use Rattle.ro_words.specs.Uses.{is_flag, takes_value}
-use Rattle.ro_words.proofs.Rules.{built_rules, journal_built, option_built}
+use Rattle.ro_words.proofs.Rules.{built_rules, option_built}
 
 -- an option that takes a value
 pub record IsValued (name : Text) : Type 0 where

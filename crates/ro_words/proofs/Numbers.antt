@@ -1,7 +1,7 @@
 -- What `parse` reads, as a number between two.
-use Rattle.std.proofs.Common.{◌≡◌, ◌∙◌, ◌<◌, ◌≤◌, ℕ, List, Option, Some, None, Ok, Err, refl, ap, sym, true, false, inl, inr, subst}
-use Rattle.std.specs.Prelude.{Result, ◌^◌}
-use Rattle.std.specs.Str.Parse.{IsNumeral, ParsesUnsigned, digits_value, without_leading_plus}
+use Rattle.std.proofs.Common.{◌≡◌, ◌≤◌, ℕ, Some, None, Ok, Err, refl, ap, true, false, inl, inr, subst}
+use Rattle.std.specs.Prelude.{Result}
+use Rattle.std.specs.Str.Parse.{ParsesUnsigned, digits_value, without_leading_plus}
 use Rattle.std.proofs.lemmas.Bool.{cases_Bool}
 use Rattle.std.proofs.lemmas.Result.{OkIff-at_err, OkIff-at_ok}
 use Rattle.clap.specs.Values.{IsUnsignedIn}

@@ -1,5 +1,5 @@
 -- Words that have not the look of a command's words spell none.
-use Rattle.std.proofs.Common.{◌≡◌, ◌∙◌, ◌⊎◌, ℕ, Bool, true, false, ◌&&◌, ◌==◌, List, [], ◌∷◌, Option, Some, None, refl, ap, sym, subst, codes, drop, inl, inr}
+use Rattle.std.proofs.Common.{◌≡◌, ◌∙◌, ◌⊎◌, Bool, true, false, ◌&&◌, ◌==◌, List, [], ◌∷◌, Option, Some, None, refl, ap, sym, subst, codes, drop, inl, inr}
 use Rattle.std.specs.Prelude.{option_and_then, Result, Ok, Err, IfErr, IsErrAnd}
 use Rattle.std.specs.Option.{option_map_or}
 use Rattle.std.specs.List.{list_all}
@@ -11,7 +11,7 @@ use Rattle.clap.specs.Values.{kind_of}
 use Rattle.clap.specs.Kinds.{HasKind, IsAmong, Kinds}
 use Rattle.clap.specs.declared.error.Error.{Error}
 use Rattle.ro_words.specs.Commands.{command_of, refusal_of, run_of}
-use Rattle.ro_words.specs.Uses.{Text, Use, is_argument, is_flag, is_word, option_uses, takes_value, uses_from, with_use, word_uses}
+use Rattle.ro_words.specs.Uses.{Text, Use, is_argument, is_flag, is_word, option_uses, takes_value, uses_from, word_uses}
 use Rattle.ro_words.specs.declared.commands.WordsError.{WordsError}
 use Rattle.ro_words.specs.declared.commands.WordsError.TheVariants.{NoMemory}
 use Rattle.ro_words.proofs.Once.{and_false}

@@ -1,19 +1,16 @@
 -- The rows of `clap` that uses stand for.
-use Rattle.std.proofs.Common.{◌≡◌, ◌∙◌, ℕ, Bool, true, false, not, ◌&&◌, ◌||◌, List, [], ◌∷◌, ◌++◌, map, Option, Some, None, refl, ap, codes}
-use Rattle.std.specs.List.{list_any, list_all}
+use Rattle.std.proofs.Common.{◌≡◌, ◌∙◌, ℕ, Bool, true, false, ◌||◌, List, [], ◌∷◌, ◌++◌, map, Option, Some, None, refl, ap, codes}
 use Rattle.std.specs.Str.{bytes_eq}
 use Rattle.std.proofs.lemmas.Bool.{or_parts}
 use Rattle.std.proofs.lemmas.List.{append-nil}
-use Rattle.clap.specs.Walk.{Row, Rule, Text, at_row, has_row, more_values, used, with_values, without}
+use Rattle.clap.specs.Walk.{Row, Text, at_row, has_row, more_values, used, with_values, without}
 use Rattle.clap.specs.Faults.{use_fault}
-use Rattle.clap.specs.Takes.{is_given}
-use Rattle.clap.specs.Kinds.{Kinds}
 use Rattle.clap.specs.declared.parser.matches.ValueSource.{ValueSource}
 use Rattle.clap.specs.declared.parser.matches.ValueSource.TheVariants.{CommandLine}
 use Rattle.clap.specs.declared.builder.value_parser.Reading.TheVariants as reading
 use Rattle.clap.specs.declared.error.kind.ErrorKind.TheVariants as kind
-use Rattle.ro_words.specs.Uses.{Use, is_used, text_of}
-use Rattle.ro_words.proofs.Rules.{built_rules, journal_built, value_rule}
+use Rattle.ro_words.specs.Uses.{Use, is_used}
+use Rattle.ro_words.proofs.Rules.{journal_built, value_rule}
 
 abbrev pub row : Use → Row
 row u = record {

@@ -1,7 +1,7 @@
 -- The arguments of `run` as `clap` builds them, and how it finds each.
 use Rattle.std.proofs.Common.{◌≡◌, ℕ, Bool, true, false, List, [], ◌∷◌, Option, Some, None, refl, codes}
 use Rattle.clap.specs.Walk.{Rule, Text, arg_by_id, arg_by_index, arg_by_long}
-use Rattle.clap.specs.Simple.{Shape, app_of, built, filled_from, is_simple, new_rule, new_shape}
+use Rattle.clap.specs.Simple.{Shape, built, filled_from, is_simple, new_rule}
 use Rattle.clap.specs.Faults.{is_simple_and_free}
 use Rattle.clap.specs.declared.builder.action.ArgAction.TheVariants.{Set, SetTrue}
 use Rattle.clap.specs.declared.builder.value_parser.ValueParser.TheVariants as vp

@@ -1,25 +1,27 @@
 -- A parse by `clap` comes to the command that the words spell.
-use Rattle.std.proofs.Common.{◌≡◌, ◌∙◌, ◌⊎◌, ℕ, Bool, true, false, not, ◌&&◌, ◌==◌, List, [], ◌∷◌, ◌++◌, Option, Some, None, refl, ap, sym, subst, codes, drop, inl, inr}
+use Rattle.std.proofs.Common.{◌≡◌, ◌∙◌, ◌⊎◌, ℕ, true, false, ◌==◌, List, [], ◌∷◌, Option, Some, None, refl, ap, sym, subst, codes, drop, inl, inr}
 use Rattle.std.specs.Prelude.{find, fold, is_some, option_and_then}
 use Rattle.std.specs.List.{list_all}
 use Rattle.std.specs.Str.{bytes_eq}
 use Rattle.std.proofs.lemmas.Bool.{cases_Bool}
 use Rattle.std.proofs.lemmas.Slice.Eq.{bytes_eq-Decides}
 use Rattle.clap.specs.Walk.{Names, Row, Text, Walk, finished, idle, nothing_held, settled, stop_after, walk_from, walked}
-use Rattle.clap.specs.Simple.{App, Shape, argument_words, built, entered, names_of, subcommand_of}
+use Rattle.clap.specs.Simple.{App, Shape, built, entered, names_of, subcommand_of}
 use Rattle.clap.specs.Faults.{built_fault, check_fault, defaults_fault, entered_fault, fault_of, settle_fault, turn_fault, walk_fault}
 use Rattle.clap.specs.Kinds.{Kinds, or_else}
 use Rattle.clap.specs.declared.error.kind.ErrorKind.TheVariants as kind
 use Rattle.clap.proofs.WalkLemmas.{walk_stopped}
 use Rattle.clap.proofs.FaultLemmas.{stopped_fault}
 use Rattle.ro_words.specs.Commands.{Asked, asked_of, command_of, run_of}
-use Rattle.ro_words.specs.Grammar.{romain_app, run_rules, run_shape}
+use Rattle.ro_words.specs.Grammar.{romain_app, run_shape}
 use Rattle.ro_words.specs.Uses.{Use, is_once, is_used, is_word, uses_from}
 use Rattle.ro_words.proofs.Ends.{final_rows, no_defaults, used-find}
 use Rattle.ro_words.proofs.Once.{and_parts, differ_twice, flag_text, is_whole}
 use Rattle.ro_words.proofs.Rules.{built_rules, leaf}
 use Rattle.ro_words.proofs.Steps.{at, end_rows, short_none, or_else-nil, tail_fault}
-use Rattle.ro_words.proofs.Walks.{Answers, Form, argument, form, not_empty, one_kind, optional, walk_answers}
+use Rattle.ro_words.proofs.Forms.{argument, form, optional}
+use Rattle.ro_words.proofs.Standing.{Answers, not_empty, one_kind}
+use Rattle.ro_words.proofs.Walks.{walk_answers}
 
 -- the whole command line as it is built
 abbrev top : Shape

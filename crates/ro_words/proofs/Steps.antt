@@ -1,15 +1,15 @@
 -- One word of the walk that `clap` makes over the words behind `run`.
-use Rattle.std.proofs.Common.{◌≡◌, ◌∙◌, ℕ, Bool, true, false, not, ◌&&◌, ◌==◌, List, [], ◌∷◌, ◌++◌, Option, Some, None, refl, ap, sym, codes, inl, inr}
+use Rattle.std.proofs.Common.{◌≡◌, ℕ, false, ◌==◌, List, [], ◌∷◌, Option, Some, None, refl, codes, inl, inr}
 use Rattle.std.specs.Prelude.{fold}
 use Rattle.std.proofs.lemmas.Bool.{cases_Bool}
 use Rattle.std.proofs.lemmas.Slice.Eq.{bytes_eq-Decides}
 use Rattle.clap.specs.Lexer.{name_and_value, short_of}
-use Rattle.clap.specs.Walk.{Held, Row, Rule, Step, Text, Waiting, Walk, after_step, arg_by_id, arg_by_long, finished, idle, is_pending, long_word, nothing_held, option, plain_word, pushed, reacted, settled, used, walked}
+use Rattle.clap.specs.Walk.{Held, Row, Text, Waiting, Walk, after_step, arg_by_long, finished, idle, is_pending, long_word, nothing_held, option, pushed, reacted, settled, walked}
 use Rattle.clap.specs.Faults.{check_fault, defaults_fault, level_fault, long_fault, settle_fault, step_fault, turn_fault, use_fault, walk_fault}
 use Rattle.clap.specs.Kinds.{Kinds, or_else}
 use Rattle.clap.specs.declared.error.kind.ErrorKind.TheVariants as kind
 use Rattle.ro_words.proofs.Names.{IsValued}
-use Rattle.ro_words.proofs.Rules.{built_rules, exe_at, exe_built, exe_by_id, journal_built, journal_by_long, leaf, none_at, option_built}
+use Rattle.ro_words.proofs.Rules.{built_rules, exe_at, exe_built, journal_built, journal_by_long, leaf, none_at, option_built}
 
 abbrev pub at : Waiting → ℕ → Held → Walk
 at waiting position h = record { held = h; waiting = waiting; position = position; is_trailing = false; stopped = None }

@@ -14,10 +14,10 @@ pub(crate) fn settings_of(matches: &ArgMatches<'_>) -> Option<Settings>
 {
     let usual = Settings::DEFAULT;
     Some(Settings {
-        replicas: small(matches.get_str("replicas"), 2, 3, usual.replicas)?,
-        drivers: small(matches.get_str("drivers"), 1, 8, usual.drivers)?,
-        watchdog: small(matches.get_str("watchdog"), 100, 1_000_000, usual.watchdog)?,
-        quantum: small(matches.get_str("quantum"), 1, 65_536, usual.quantum)?,
+        replicas: small_number(matches.get_str("replicas"), 2, 3, usual.replicas)?,
+        drivers: small_number(matches.get_str("drivers"), 1, 8, usual.drivers)?,
+        watchdog: small_number(matches.get_str("watchdog"), 100, 1_000_000, usual.watchdog)?,
+        quantum: small_number(matches.get_str("quantum"), 1, 65_536, usual.quantum)?,
         limit: number(matches.get_str("limit"), 1, 1_000_000_000_000, usual.limit)?,
     })
 }
@@ -26,9 +26,13 @@ pub(crate) fn settings_of(matches: &ArgMatches<'_>) -> Option<Settings>
 fn number_in(text: &str, least: u64, most: u64) -> Option<u64>
     ensures { result ≡ number_of least most text.now }
 {
-    match text.parse::<u64>() {
-        Ok(number) if least <= number && number <= most => Some(number),
-        _ => None,
+    let Ok(number) = text.parse::<u64>() else {
+        return None;
+    };
+    if least <= number && number <= most {
+        Some(number)
+    } else {
+        None
     }
 }
 
@@ -45,7 +49,7 @@ fn number(text: Option<&str>, least: u64, most: u64, usual: u64) -> Option<u64>
 }
 
 // The same of a number of 32 bits.
-fn small(text: Option<&str>, least: u32, most: u32, usual: u32) -> Option<u32>
+fn small_number(text: Option<&str>, least: u32, most: u32, usual: u32) -> Option<u32>
     requires { (least ≤ usual) × (usual ≤ most) }
     ensures given { result ≡ number_or usual least most (option_map (λ t. t.now) text.entry) }
     ensures in_range { IfSome result (λ n. (least ≤ n) × (n ≤ most)) }

@@ -1,4 +1,4 @@
-use Rattle.std.proofs.Common.{◌≡◌, option_map}
+use Rattle.std.proofs.Common.{option_map}
 use Rattle.clap.specs.Matches.{found_of}
 use Rattle.clap.specs.Walk.{rows_of}
 use Rattle.ro_words.specs.Commands.{asked_in}

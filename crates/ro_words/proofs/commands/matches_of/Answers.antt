@@ -1,11 +1,10 @@
-use Rattle.std.proofs.Common.{◌≡◌, ap, ap₂, sym, subst, true, List, Result, ◌⊎◌, ◌≢◌, [], ◌∙◌}
+use Rattle.std.proofs.Common.{ap, sym, subst, ◌∙◌}
 use Rattle.clap.specs.Faults.{fault_of, is_simple_and_free}
-use Rattle.clap.specs.Kinds.{FailsBy, HasKind}
-use Rattle.clap.specs.Simple.{App, is_simple, subcommand_of, subcommand_rows_of}
+use Rattle.clap.specs.Kinds.{HasKind}
+use Rattle.clap.specs.Simple.{App, is_simple, subcommand_of}
 use Rattle.ro_words.specs.Uses.{texts_of}
 use Rattle.ro_words.proofs.Refused.{by_kind, failed}
 use Rattle.ro_words.proofs.Rules.{is_plain, is_plain_and_free}
-use Rattle.ro_words.specs.Grammar.{romain_app}
 use Rattle.ro_words.proofs.commands.matches_of.Goals as goal
 
 pub returns-in_err-try_get_matches_from-clause-refused : goal.returns-in_err-try_get_matches_from-clause-refused

@@ -1,13 +1,10 @@
-use Rattle.std.proofs.Common.{◌≡◌, ◌≢◌, ◌⊎◌, ◌∙◌, sym, inl, inr, List, option_map, None, Some, Option, true}
-use Rattle.std.specs.List.{list_all}
-use Rattle.clap.specs.Faults.{fault_of}
-use Rattle.clap.specs.Simple.{subcommand_of, subcommand_rows_of}
+use Rattle.std.proofs.Common.{◌≡◌, ◌∙◌, sym, inr, option_map}
+use Rattle.clap.specs.Simple.{subcommand_rows_of}
 use Rattle.clap.proofs.TakesLemmas.{passed_up}
-use Rattle.ro_words.specs.Commands.{Asked, asked_in, command_of}
-use Rattle.ro_words.specs.Grammar.{romain_app}
-use Rattle.ro_words.specs.Uses.{is_word, texts_of}
+use Rattle.ro_words.specs.Commands.{asked_in, command_of}
+use Rattle.ro_words.specs.Uses.{texts_of}
 use Rattle.ro_words.proofs.Found.{given_ok, given_refused, read_as_spelled, refused_error}
-use Rattle.ro_words.proofs.Refused.{failed, refused}
+use Rattle.ro_words.proofs.Refused.{refused}
 use Rattle.ro_words.proofs.Spelled.{spells}
 use Rattle.ro_words.proofs.commands.parse_words.Goals as goal
 

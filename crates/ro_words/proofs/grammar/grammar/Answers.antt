@@ -1,13 +1,5 @@
 use Rattle.std.proofs.lemmas.Result.{IfOk-weaker}
 use Rattle.ro_words.proofs.Grown.{adds_subcommand, is_top}
-use Rattle.ro_words.proofs.Rules.{leaf_is, is_plain, is_plain_and_free}
-use Rattle.ro_words.proofs.Names.{none_known}
-use Rattle.ro_words.proofs.Rows.{used-row}
-use Rattle.ro_words.proofs.Ends.{ends_with}
-use Rattle.ro_words.proofs.Once.{twice}
-use Rattle.ro_words.proofs.Steps.{level_is}
-use Rattle.ro_words.proofs.Walks.{walk_answers}
-use Rattle.ro_words.proofs.Spelled.{spells}
 use Rattle.ro_words.proofs.grammar.grammar.Goals as goal
 
 pub returns : goal.returns

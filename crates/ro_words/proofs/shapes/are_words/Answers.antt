@@ -2,7 +2,6 @@ use Rattle.std.proofs.Common.{◌≡◌, ◌∙◌, ap, sym, drop, List, ℕ, Bo
 use Rattle.std.specs.List.{list_all}
 use Rattle.std.proofs.lemmas.List.Folds.{list_all-map}
 use Rattle.ro_words.specs.Uses.{is_word, texts_of}
-use Rattle.ro_words.proofs.Refused.{refused}
 use Rattle.ro_words.proofs.shapes.are_words.Goals as goal
 
 pub returns-in-Some : goal.returns-in-Some

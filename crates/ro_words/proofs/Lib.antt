@@ -3,6 +3,7 @@ pub mod Failing
 pub mod Forms
 pub mod Found
 pub mod Grown
+pub mod Lawful
 pub mod Looks
 pub mod Moves
 pub mod Names

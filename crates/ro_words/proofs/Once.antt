@@ -15,7 +15,7 @@ flag_text u = not (bytes_eq u.0 (codes "journal")) || bytes_eq u.1 (codes "true"
 abbrev pub is_whole : List Use → Bool
 is_whole uses = is_once uses && is_used (codes "exe") uses
 
-or_true : (b : Bool) → (b || true) ≡ true
+pub or_true : (b : Bool) → (b || true) ≡ true
 or_true true = refl
 or_true false = refl
 
@@ -27,7 +27,7 @@ or_false : (b : Bool) → (b || false) ≡ b
 or_false true = refl
 or_false false = refl
 
-same_twice : (a b : Text) → bytes_eq a b ≡ true → bytes_eq b a ≡ true
+pub same_twice : (a b : Text) → bytes_eq a b ≡ true → bytes_eq b a ≡ true
 same_twice a b same = (bytes_eq-Decides b a).1 (sym ((bytes_eq-Decides a b).0 same))
 
 pub differ_twice : (a b : Text) → bytes_eq a b ≡ false → bytes_eq b a ≡ false

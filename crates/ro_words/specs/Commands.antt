@@ -1,5 +1,5 @@
 -- The command that words spell: `run EXE` with its options anywhere behind `run`, each at most once.
-use Rattle.std.specs.Prelude.{ℕ, Bool, List, ◌∷◌, Option, Some, None, codes}
+use Rattle.std.specs.Prelude.{ℕ, Bool, false, List, ◌∷◌, Option, Some, None, codes}
 use Rattle.std.specs.Prelude.{if◌then◌else◌, option_and_then, option_map}
 use Rattle.std.specs.Str.{bytes_eq}
 use Rattle.std.specs.Str.Parse.{digits_value, without_leading_plus}
@@ -55,6 +55,16 @@ pub record Asked : Type 0 where
   pub faults : Option Text
   pub settings : Settings
   pub journal : Bool
+
+-- the run of an executable for which nothing else is asked
+abbrev pub usual_run : Text → Asked
+usual_run executable = record {
+  executable = executable;
+  input = None;
+  faults = None;
+  settings = default_settings;
+  journal = false;
+}
 
 abbrev pub asked_from : Option Text → Option Settings → (Text → Option Text) → Bool → Option Asked
 asked_from (Some executable) (Some settings) given journal = Some (record {

@@ -5,10 +5,12 @@
 
 mod commands;
 mod grammar;
+mod laws;
 mod settings;
 mod shapes;
 
 pub use commands::{Command, RunCommand, WordsError, parse_words};
+pub use laws::{numbers_lie_in_range, order_is_free, run_alone_is_usual};
 
 #[cfg(test)]
 mod tests;

@@ -12,7 +12,8 @@ use Rattle.clap.proofs.ValueTestLemmas.{accepts-Accepts}
 use Rattle.ro_settings.specs.declared.Settings.{Settings}
 use Rattle.ro_settings.specs.Ranges.{InRange, IsFrom}
 use Rattle.ro_words.specs.Commands.{Asked, asked_from, asked_given, asked_of, command_of, number_or, run_of, settings_from, settings_of, usual_run}
-use Rattle.ro_words.specs.Uses.{Text, Use, is_argument, is_once, is_used, text_of, uses_from}
+use Rattle.ro_words.specs.Uses.{Text, Use, is_argument, is_once, is_used, option_uses, takes_value, text_of, uses_from, with_use}
+use Rattle.ro_words.proofs.Names.{IsValued, flagged, known, takes_one, unmet}
 use Rattle.ro_words.proofs.Once.{differ_twice, or_true, same_twice, twice, used-append}
 
 some_same : {X : Type 0} (x y : X) → ◌≡◌ {A = Option X} (Some x) (Some y) → x ≡ y
@@ -40,9 +41,13 @@ from_number usual least most n (Some text) fits is = elim (cases_Bool (is_unsign
 made_of : (a b c d e : Option ℕ) (s : Settings) → settings_from a b c d e ≡ Some s
     → (a ≡ Some s.replicas) × (b ≡ Some s.drivers) × (c ≡ Some s.watchdog) × (d ≡ Some s.quantum) × (e ≡ Some s.limit)
 made_of (Some a) (Some b) (Some c) (Some d) (Some e) s is =
-    let same : record { replicas = a; drivers = b; watchdog = c; quantum = d; limit = e } ≡ s = some_same _ s is in
-    (ap (λ (x : Settings). Some x.replicas) same, ap (λ (x : Settings). Some x.drivers) same, ap (λ (x : Settings). Some x.watchdog) same,
-    ap (λ (x : Settings). Some x.quantum) same, ap (λ (x : Settings). Some x.limit) same)
+    let same : record { replicas = a; drivers = b; watchdog = c; quantum = d; limit = e } ≡ s = some_same _ s is in (
+      ap (λ (x : Settings). Some x.replicas) same,
+      ap (λ (x : Settings). Some x.drivers) same,
+      ap (λ (x : Settings). Some x.watchdog) same,
+      ap (λ (x : Settings). Some x.quantum) same,
+      ap (λ (x : Settings). Some x.limit) same,
+    )
 made_of None b c d e s is = cc
 made_of (Some a) None c d e s is = cc
 made_of (Some a) (Some b) None d e s is = cc
@@ -85,8 +90,6 @@ words_fit (program ∷ command ∷ words) asked is = elim (cases_Bool (bytes_eq 
   | inl same ↦ read_fits (uses_from words None) asked (rw same at is)
   | inr other ↦ let bad : None ≡ Some asked = rw other at is in cc
 ]
-
-pub ruleset range_law = (words_fit)
 
 -- ---- order
 
@@ -137,7 +140,7 @@ asked_swap : (before : List Use) (u v : Use) (behind : List Use) → bytes_eq u.
     → asked_of (before ++ u ∷ v ∷ behind) ≡ asked_of (before ++ v ∷ u ∷ behind)
 asked_swap before u v behind differ =
     let texts : (name : Text) → text_of (before ++ u ∷ v ∷ behind) name ≡ text_of (before ++ v ∷ u ∷ behind) name =
-        λ name. ap (option_map (λ (w : Use). w.1)) (find_swap name before u v behind differ) in
+    λ name. ap (option_map (λ (w : Use). w.1)) (find_swap name before u v behind differ) in
     let given : text_of (before ++ u ∷ v ∷ behind) ≡ text_of (before ++ v ∷ u ∷ behind) = λ i name. texts name i in
     ap₂ asked_given given (used_swap (codes "journal") before u v behind)
 
@@ -154,3 +157,34 @@ swapped before u v behind = elim (cases_Bool (bytes_eq u.0 v.0)) [
 ]
 
 pub ruleset order_law = (swapped)
+
+-- ---- spelling
+
+together : (name value : Text) (words : List Text) → IsValued name → is_argument value ≡ true
+    → option_uses name (Some value) (λ next. uses_from words next) ≡ with_use (name, value) (uses_from words None)
+together name value words valued fits = rw (valued.takes, fits) refl
+
+apart : (name value : Text) (words : List Text) → IsValued name → is_argument value ≡ true
+    → option_uses name None (λ next. uses_from (value ∷ words) next) ≡ with_use (name, value) (uses_from words None)
+apart name value words valued fits = rw (valued.takes, fits) refl
+
+agree : (name value : Text) (words : List Text) → IsValued name → is_argument value ≡ true
+    → uses_from ((45 ∷ 45 ∷ (name ++ 61 ∷ value)) ∷ words) None ≡ uses_from ((45 ∷ 45 ∷ name) ∷ value ∷ words) None
+agree name value words valued fits =
+    let one : uses_from ((45 ∷ 45 ∷ (name ++ 61 ∷ value)) ∷ words) None ≡ with_use (name, value) (uses_from words None) =
+    ap (option_and_then (λ (p : Text × Option Text). option_uses p.0 p.1 (λ next. uses_from words next))) (valued.cut value)
+    ∙ together name value words valued fits in
+    let two : uses_from ((45 ∷ 45 ∷ name) ∷ value ∷ words) None ≡ with_use (name, value) (uses_from words None) =
+    ap (option_and_then (λ (p : Text × Option Text). option_uses p.0 p.1 (λ next. uses_from (value ∷ words) next))) valued.alone
+    ∙ apart name value words valued fits in
+    one ∙ sym two
+
+pub spelled_alike : (name value : Text) (words : List Text) → takes_value name ≡ true → is_argument value ≡ true
+    → uses_from ((45 ∷ 45 ∷ (name ++ 61 ∷ value)) ∷ words) None ≡ uses_from ((45 ∷ 45 ∷ name) ∷ value ∷ words) None
+spelled_alike name value words takes fits = elim (known name) [
+  | takes_one valued ↦ agree name value words valued fits
+  | flagged is ↦ let bad : false ≡ true = subst (λ (n : Text). takes_value n ≡ true) (sym is) takes in cc
+  | unmet none flag unknown ↦ let bad : false ≡ true = sym none ∙ takes in cc
+]
+
+pub ruleset spelling_law = (spelled_alike)

@@ -1,8 +1,9 @@
 -- Which argument of `run` a name belongs to.
-use Rattle.std.proofs.Common.{◌≡◌, true, false, Some, None, refl, subst, codes, inl, inr}
+use Rattle.std.proofs.Common.{◌≡◌, ◌∷◌, ◌++◌, true, false, Some, None, refl, subst, codes, inl, inr}
 use Rattle.std.specs.Str.{bytes_eq}
 use Rattle.std.proofs.lemmas.Slice.Eq.{bytes_eq-Decides}
 use Rattle.std.proofs.lemmas.Bool.{cases_Bool}
+use Rattle.clap.specs.Lexer.{long_of}
 use Rattle.clap.specs.Walk.{Text, arg_by_id, arg_by_long}
 use Rattle.ro_words.specs.Uses.{is_flag, takes_value}
 use Rattle.ro_words.proofs.Rules.{built_rules, option_built}
@@ -13,6 +14,8 @@ pub record IsValued (name : Text) : Type 0 where
   pub flag : is_flag name ≡ false
   pub journal : bytes_eq name (codes "journal") ≡ false
   pub exe : bytes_eq name (codes "exe") ≡ false
+  pub alone : long_of (45 ∷ 45 ∷ name) ≡ Some (name, None)
+  pub cut : (value : Text) → long_of (45 ∷ 45 ∷ (name ++ 61 ∷ value)) ≡ Some (name, Some value)
   pub by_long : arg_by_long built_rules name ≡ Some (option_built name)
   pub by_id : arg_by_id built_rules name ≡ Some (option_built name)
 
@@ -23,31 +26,31 @@ pub data Known (name : Text) : Type 0 where
 
 pub valued_input : IsValued (codes "input")
 unfolding built_rules
-valued_input = record { takes = refl; flag = refl; journal = refl; exe = refl; by_long = refl; by_id = refl }
+valued_input = record { takes = refl; flag = refl; journal = refl; exe = refl; alone = refl; cut = λ value. refl; by_long = refl; by_id = refl }
 
 pub valued_faults : IsValued (codes "faults")
 unfolding built_rules
-valued_faults = record { takes = refl; flag = refl; journal = refl; exe = refl; by_long = refl; by_id = refl }
+valued_faults = record { takes = refl; flag = refl; journal = refl; exe = refl; alone = refl; cut = λ value. refl; by_long = refl; by_id = refl }
 
 pub valued_replicas : IsValued (codes "replicas")
 unfolding built_rules
-valued_replicas = record { takes = refl; flag = refl; journal = refl; exe = refl; by_long = refl; by_id = refl }
+valued_replicas = record { takes = refl; flag = refl; journal = refl; exe = refl; alone = refl; cut = λ value. refl; by_long = refl; by_id = refl }
 
 pub valued_drivers : IsValued (codes "drivers")
 unfolding built_rules
-valued_drivers = record { takes = refl; flag = refl; journal = refl; exe = refl; by_long = refl; by_id = refl }
+valued_drivers = record { takes = refl; flag = refl; journal = refl; exe = refl; alone = refl; cut = λ value. refl; by_long = refl; by_id = refl }
 
 pub valued_watchdog : IsValued (codes "watchdog")
 unfolding built_rules
-valued_watchdog = record { takes = refl; flag = refl; journal = refl; exe = refl; by_long = refl; by_id = refl }
+valued_watchdog = record { takes = refl; flag = refl; journal = refl; exe = refl; alone = refl; cut = λ value. refl; by_long = refl; by_id = refl }
 
 pub valued_quantum : IsValued (codes "quantum")
 unfolding built_rules
-valued_quantum = record { takes = refl; flag = refl; journal = refl; exe = refl; by_long = refl; by_id = refl }
+valued_quantum = record { takes = refl; flag = refl; journal = refl; exe = refl; alone = refl; cut = λ value. refl; by_long = refl; by_id = refl }
 
 pub valued_limit : IsValued (codes "limit")
 unfolding built_rules
-valued_limit = record { takes = refl; flag = refl; journal = refl; exe = refl; by_long = refl; by_id = refl }
+valued_limit = record { takes = refl; flag = refl; journal = refl; exe = refl; alone = refl; cut = λ value. refl; by_long = refl; by_id = refl }
 
 pub none_known : (name : Text) → bytes_eq (codes "input") name ≡ false → bytes_eq (codes "faults") name ≡ false
     → bytes_eq (codes "replicas") name ≡ false → bytes_eq (codes "drivers") name ≡ false

@@ -12,7 +12,6 @@ use Rattle.ro_replica.specs.Views.{is_unstopped}
 use Rattle.ro_replica.specs.Seen.{ReplicaOf, replica_of, CanCount}
 use Rattle.ro_plain.specs.Machine.{layout_of}
 use Rattle.ro_core.specs.declared.actions.Lease.{Lease}
-use Rattle.ro_core.specs.declared.settings.Settings.{Settings}
 use Rattle.ro_core.specs.Core.{Job, Core, may_vote, views_of}
 use Rattle.ro_core.specs.Legal.{IsAllowed, EndsVote, EndsFree, after, replay, replay_with, cut_output, output_of}
 
@@ -38,18 +37,6 @@ sent_of job journal (Some bytes) = cut_output (replay job journal) (Sink bytes)
 
 abbrev pub sent : CoreOf → List ℕ
 sent core = sent_of core.job core.journal core.failed
-
--- the settings that a run may have
-pub record InRange (settings : Settings) : Type 0 where
-  pub replicas : (settings.replicas ≡ 2) ⊎ (settings.replicas ≡ 3)
-  pub some_driver : 1 ≤ settings.drivers
-  pub few_drivers : settings.drivers ≤ 8
-  pub low_watchdog : 100 ≤ settings.watchdog
-  pub high_watchdog : settings.watchdog ≤ 1000000
-  pub some_quantum : 1 ≤ settings.quantum
-  pub high_quantum : settings.quantum ≤ 65536
-  pub some_limit : 1 ≤ settings.limit
-  pub high_limit : settings.limit ≤ 1000000000000
 
 -- a core that was just opened
 pub record Opens (job : Job) (held : Option (List ℕ)) (faults : ℕ) (core : CoreOf) : Type 0 where

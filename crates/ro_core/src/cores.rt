@@ -8,10 +8,10 @@ ghost use Rattle.ro_core.specs.declared.actions.Action.TheVariants as act;
 ghost use Rattle.ro_core.specs.Core.{may_vote, may_free, views_of};
 ghost use Rattle.ro_core.specs.Legal.{IsAllowed, Legal, replay};
 ghost use Rattle.ro_core.specs.Action.{next_action as next, IsNext};
-ghost use Rattle.ro_core.specs.Seen.{state, InRange, Opens, Appends, Quiet, Sends, IsOfMajority, Stays, HasRoom, IsLent, MayReturn, ReturnIs, DecidesVote, DecidesFree, KeepsViews};
+ghost use Rattle.ro_settings.specs.Ranges.{InRange};
+ghost use Rattle.ro_core.specs.Seen.{state, Opens, Appends, Quiet, Sends, IsOfMajority, Stays, HasRoom, IsLent, MayReturn, ReturnIs, DecidesVote, DecidesFree, KeepsViews};
 
 use crate::actions::{Action, Lease};
-use crate::settings::Settings;
 use ro_event::{Call, View};
 use ro_faults::Fault;
 use ro_image::Executable;
@@ -19,6 +19,7 @@ use ro_io::Sink;
 use ro_journal::{Entry, How};
 use ro_kernel::Kernel;
 use ro_replica::{Ran, Replica};
+use ro_settings::Settings;
 use std::alloc::{AllocError, Global};
 use std::marker::Model;
 

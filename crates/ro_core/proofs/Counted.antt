@@ -154,10 +154,10 @@ counted-after most job core (Put driver replica thread count hit) may h =
     (counted-put most job core driver replica thread count may.ran (counts-more (most + count) (most + job.settings.quantum) may.ran.replica (omega arith) came) h)
 counted-after most job core (Vote thread count won lost did) may h =
     let e = event-parts job core thread won may.event may.comes in
-    more-counted most (most + job.settings.quantum) _ (omega arith)
+    more-counted most (most + job.settings.quantum) (core_after_event core thread count (with_recovered won lost core.replicas) (event_in job core thread won)) (omega arith)
     (counted-event most core thread count (with_recovered won lost core.replicas) (event_in job core thread won) (each-copied most won e.winner lost core.replicas e.there h) h)
 counted-after most job core (Free thread) may h =
-    more-counted most (most + job.settings.quantum) _ (omega arith) (counted-event most core thread 0 core.replicas (freed_event job core thread) h h)
+    more-counted most (most + job.settings.quantum) (core_after_event core thread 0 core.replicas (freed_event job core thread)) (omega arith) (counted-event most core thread 0 core.replicas (freed_event job core thread) h h)
 counted-after most job core (End how) may h = more-counted most (most + job.settings.quantum) (after job core (End how)) (omega arith) h
 
 counted-from : (most : ℕ) (job : Job) (core : Core) (journal : List Entry) → LegalFrom job core journal → AreCounted most core → AreCounted (most + job.settings.quantum * length journal) (replay_from job core journal)

@@ -164,7 +164,7 @@ counted-from : (most : ℕ) (job : Job) (core : Core) (journal : List Entry) →
 counted-from most job core [] legal h = more-counted most (most + job.settings.quantum * 0) core (omega arith) h
 counted-from most job core (entry ∷ journal) legal h =
     let rest = counted-from (most + job.settings.quantum) job (after job core entry) journal legal.1 (counted-after most job core entry legal.0 h) in
-    more-counted (most + job.settings.quantum + job.settings.quantum * length journal) (most + job.settings.quantum * suc (length journal)) _ (grind arith) rest
+    more-counted (most + job.settings.quantum + job.settings.quantum * length journal) (most + job.settings.quantum * suc (length journal)) (replay_from job (after job core entry) journal) (grind arith) rest
 
 opening-counts : (job : Job) (number : ℕ) → Counts 0 (opening_replica job.program.image job.faults number)
 unfolding opening_replica
@@ -175,4 +175,4 @@ pub counted : (job : Job) (journal : List Entry) → Legal job journal → AreCo
 unfolding opening_core
 counted job journal legal =
     let all : AreCounted 0 (opening_core job) = λ number r e. subst (Counts 0) (get-opening job job.settings.replicas number r e) (opening-counts job number) in
-    more-counted (0 + job.settings.quantum * length journal) (job.settings.quantum * length journal) _ (omega arith) (counted-from 0 job (opening_core job) journal legal all)
+    more-counted (0 + job.settings.quantum * length journal) (job.settings.quantum * length journal) (replay job journal) (omega arith) (counted-from 0 job (opening_core job) journal legal all)

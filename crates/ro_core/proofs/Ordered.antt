@@ -58,6 +58,7 @@ ordered-take job core driver replica thread may h = record {
   within_limit = h.within_limit;
   blocked_live = h.blocked_live;
   due_alone = λ how e. absurd (let none : core.due ≡ None = is-none-from core.due (and_parts _ _ may.going).0 in let f : None ≡ Some how = sym none ∙ e in cc);
+  due_over = h.due_over;
   wrote_alone = λ (some : 0 < 0). absurd (omega arith);
 }
 
@@ -86,6 +87,7 @@ ordered-ran job core driver replica thread count hit may h = record {
   within_limit = h.within_limit;
   blocked_live = h.blocked_live;
   due_alone = λ how e. none-left _ core.leases (h.due_alone how e);
+  due_over = h.due_over;
   wrote_alone = λ (some : 0 < 0). absurd (omega arith);
 }
   where
@@ -139,6 +141,7 @@ module _ (job : Job) (core : Core) (h : IsOrdered job core) (thread count : ℕ)
     within_limit = fits;
     blocked_live = λ on ended u call e. blocked-after u call on (u == thread) refl e;
     due_alone = λ how e. alone;
+    due_over = happens.ends_well;
     wrote_alone = λ some. alone;
   }
 
@@ -278,6 +281,7 @@ ordered-end job core how may h = record {
   within_limit = h.within_limit;
   blocked_live = λ e (f : Some how ≡ None) thread call g. absurd cc;
   due_alone = λ other e. absurd (let f : None ≡ Some other = e in cc);
+  due_over = λ other e. absurd (let f : None ≡ Some other = e in cc);
   wrote_alone = λ (some : 0 < 0). absurd (omega arith);
 }
 
@@ -319,6 +323,7 @@ ordered-opening job = record {
   within_limit = omega arith;
   blocked_live = λ on still thread call e. absurd (let f : None ≡ Some call = e in cc);
   due_alone = λ how e. absurd (let f : None ≡ Some how = e in cc);
+  due_over = λ how e. absurd (let f : None ≡ Some how = e in cc);
   wrote_alone = λ (some : 0 < 0). absurd (omega arith);
 }
 

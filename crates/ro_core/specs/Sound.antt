@@ -35,6 +35,7 @@ pub record IsOrdered (job : Job) (core : Core) : Type 0 where
   pub within_limit : core.steps ≤ job.settings.limit
   pub blocked_live : core.due ≡ None → core.ended ≡ None → (thread : ℕ) (call : Call) → core.blocked thread ≡ Some call → lives_on core.kernel thread ≡ true
   pub due_alone : (how : How) → core.due ≡ Some how → core.leases ≡ []
+  pub due_over : (how : How) → core.due ≡ Some how → IsOver how
   pub wrote_alone : 0 < core.wrote → core.leases ≡ []
 
 -- no thread of a replica has retired more than so many instructions

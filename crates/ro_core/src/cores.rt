@@ -1,51 +1,51 @@
 //! The core: a sequential machine whose journal only grows.
 ghost use Rattle.std.specs.Prelude.{◌≡◌, ◌⊎◌, ℕ, List, [], IfOk, IfErr, OnErr, OnOk, IsTrue};
 ghost use Rattle.ro_journal.specs.declared.How.{How as HowOf};
-ghost use Rattle.ro_journal.specs.declared.Entry.TheVariants.{Take, End};
+ghost use Rattle.ro_journal.specs.declared.Entry.TheVariants.{End};
 ghost use Rattle.ro_journal.specs.Plan.{outcome_of};
-ghost use Rattle.ro_replica.specs.Seen.{AreFaults};
 ghost use Rattle.ro_core.specs.declared.actions.Action.TheVariants as act;
 ghost use Rattle.ro_core.specs.Core.{may_vote, may_free, views_of};
 ghost use Rattle.ro_core.specs.Legal.{IsAllowed, Legal, replay};
 ghost use Rattle.ro_core.specs.Action.{next_action as next, IsNext};
-ghost use Rattle.ro_settings.specs.Ranges.{InRange};
-ghost use Rattle.ro_core.specs.Seen.{state, Opens, Appends, Quiet, Sends, IsOfMajority, Stays, HasRoom, IsLent, MayReturn, ReturnIs, DecidesVote, DecidesFree, KeepsViews};
+ghost use Rattle.ro_core.specs.Seen.{state, Appends, Quiet, Sends, IsOfMajority, Stays, DecidesVote, DecidesFree, KeepsViews};
 
-use crate::actions::{Action, Lease};
+use crate::actions::Lease;
 use ro_event::{Call, View};
 use ro_faults::Fault;
 use ro_image::Executable;
 use ro_io::Sink;
 use ro_journal::{Entry, How};
 use ro_kernel::Kernel;
-use ro_replica::{Ran, Replica};
+use ro_replica::Replica;
 use ro_settings::Settings;
-use std::alloc::{AllocError, Global};
+use std::alloc::AllocError;
 use std::marker::Model;
 
 /// The core of a run. It keeps what it was opened with beside its journal.
 pub struct Core<K: Sink> {
-    image: Executable,
-    faults: Vec<Fault>,
-    settings: Settings,
-    journal: Vec<Entry>,
-    seats: Vec<Option<Replica>>,
-    leases: Vec<Lease>,
-    kernel: Kernel,
+    pub(crate) image: Executable,
+    pub(crate) faults: Vec<Fault>,
+    pub(crate) settings: Settings,
+    pub(crate) journal: Vec<Entry>,
+    /// The replicas, where they are not lent.
+    pub(crate) seats: Vec<Option<Replica>>,
+    pub(crate) leases: Vec<Lease>,
+    pub(crate) kernel: Kernel,
     /// Of each thread the voted call on which it is blocked.
-    blocked: [Option<Call>; 16],
+    pub(crate) blocked: [Option<Call>; 16],
     /// The length of the plan so far.
-    steps: u64,
-    due: Option<How>,
-    ended: Option<How>,
-    views: Vec<View>,
-    out: K,
+    pub(crate) steps: u64,
+    pub(crate) due: Option<How>,
+    pub(crate) ended: Option<How>,
+    /// Room for the views of a vote, one for each replica.
+    pub(crate) views: Vec<View>,
+    pub(crate) out: K,
 }
 
 impl<K: Sink> Model for Core<K> {
     ghost use Rattle.std.specs.Prelude.{◌-◌, vec_len, vec_capacity};
     ghost use Rattle.ro_core.specs.Seen.{CoreOf};
-    ghost use Rattle.ro_core.specs.Fields.{spare_of, failed_of};
+    ghost use Rattle.ro_core.specs.Fields.{Holds, spare_of, failed_of};
 
     ghost Value = { CoreOf };
 
@@ -58,6 +58,20 @@ impl<K: Sink> Model for Core<K> {
       held = K.held c.out;
       faults = K.faults c.out;
     } };
+
+    ghost invariant = { λ c. Holds (record {
+      job = record { program = record { image = c.image; input = c.kernel.setup.input }; faults = c.faults.items; settings = c.settings };
+      journal = c.journal.items;
+      seats = c.seats.items;
+      leases = c.leases.items;
+      kernel = c.kernel;
+      blocked = c.blocked;
+      steps = c.steps;
+      due = c.due;
+      ended = c.ended;
+      views = c.views.items;
+      places = vec_capacity c.journal - vec_len c.journal;
+    }) };
 }
 
 /// What a core leaves behind.
@@ -71,69 +85,6 @@ pub struct Finished<K> {
 }
 
 impl<K: Sink> Core<K> {
-    /// Opens a core for the program of an image, an input and faults to be struck.
-    ///
-    /// # Errors
-    /// Where there is no memory; the sink comes back.
-    pub fn begin(
-        alloc: Global,
-        image: Executable,
-        input: &[u8],
-        faults: &[Fault],
-        settings: Settings,
-        out: K,
-    ) -> Result<Core<K>, K>
-        requires settings { InRange settings }
-        requires faults { AreFaults faults.now }
-        ensures opens { IfOk result (λ c. Opens (record { program = record { image = image; input = input.now }; faults = faults.now; settings = settings }) (K.held out) (K.faults out) c) }
-        ensures back { IfErr result (λ k. k ≡ out) }
-    {
-        let _ = crate::stub::never();
-        unreachable!()
-    }
-
-    /// What comes next.
-    pub fn next_action(&self) -> Action
-        ensures next { result ≡ next self.now.job (state self.now) }
-    {
-        let _ = crate::stub::never();
-        unreachable!()
-    }
-
-    /// Makes room for a take, its put, the puts of the leases that are out, and the end.
-    ///
-    /// # Errors
-    /// Where there is no memory.
-    pub fn room(&mut self) -> Result<(), AllocError>
-        ensures stays { Stays self.old self.new }
-        ensures room { OnOk result (HasRoom self.new) }
-    {
-        let _ = crate::stub::never();
-        unreachable!()
-    }
-
-    /// Lends a replica's thread to a driver.
-    pub fn take(&mut self, driver: u32, replica: u32, thread: u32) -> Replica
-        requires allowed { IsAllowed self.old.job (state self.old) (Take driver replica thread) }
-        requires room { HasRoom self.old }
-        ensures entry { Appends self.old self.new (Take driver replica thread) }
-        ensures quiet { Quiet self.old self.new }
-        ensures lent { IsLent self.old replica thread result }
-    {
-        let _ = crate::stub::never();
-        unreachable!()
-    }
-
-    /// Puts a replica back that a driver has run.
-    pub fn put(&mut self, driver: u32, lent: Replica, ran: Ran)
-        requires { MayReturn self.old driver lent ran.count ran.hit }
-        ensures entry { ReturnIs self.old self.new driver ran.count ran.hit }
-        ensures quiet { Quiet self.old self.new }
-    {
-        let _ = crate::stub::never();
-        unreachable!()
-    }
-
     /// Votes on a thread that stands still in every replica: its event is done once, and the entry that was
     /// appended is answered. Where the views have no majority, or the limit of steps would be passed, that is an end.
     ///
@@ -170,8 +121,10 @@ impl<K: Sink> Core<K> {
         ensures entry { (how : HowOf) → next self.old.job (state self.old) ≡ act.End how → IsAllowed self.old.job (replay self.old.job self.old.journal) (End how) × IsNext self.old.job (replay self.old.job self.old.journal) (End how) × Appends self.old self.new (End how) }
         ensures quiet { Quiet self.old self.new }
     {
-        let _ = crate::stub::never();
-        unreachable!()
+        let how = self.due.unwrap_or(How::Deadlock);
+        self.journal.push_reserved(Entry::End { how });
+        self.due = None;
+        self.ended = Some(how);
     }
 
     /// Hands out how the run ended, if it did, the views of a vote that came to nothing, the journal and the sink.
@@ -182,7 +135,26 @@ impl<K: Sink> Core<K> {
         ensures legal { Legal self.job self.journal }
         ensures sink { (K.held result.out ≡ self.held) × (K.faults result.out ≡ self.faults) }
     {
-        let _ = crate::stub::never();
-        unreachable!()
+        let Core {
+            image: _,
+            faults: _,
+            settings: _,
+            journal,
+            seats: _,
+            leases: _,
+            kernel: _,
+            blocked: _,
+            steps: _,
+            due: _,
+            ended,
+            views,
+            out,
+        } = self;
+        Finished {
+            how: ended,
+            views,
+            journal,
+            out,
+        }
     }
 }

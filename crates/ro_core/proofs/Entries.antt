@@ -232,7 +232,7 @@ appends-of {inside} {old} {new} {entry} is job more = subst (λ (v : CoreOf). Ap
 
 -- ---- an end
 
-end-seated : (job : Job) (core : Core) (seats : List (Option ReplicaOf)) (how : How) → AreSeated job core seats → AreSeated job (after job core (End how)) seats
+pub end-seated : (job : Job) (core : Core) (seats : List (Option ReplicaOf)) (how : How) → AreSeated job core seats → AreSeated job (after job core (End how)) seats
 unfolding after
 end-seated job core seats how h = record { count = h.count; each = λ number. by number (slice_get seats number) (h.each number) }
   where

@@ -1,5 +1,5 @@
 -- What each entry of a legal journal keeps of the core.
-use Rattle.std.specs.Prelude.{◌≡◌, ◌≢◌, ℕ, zero, suc, ◌+◌, ◌≤◌, ◌<◌, ◌⊎◌, Bool, true, false, cond, not, ◌&&◌, ◌==◌, is_none, List, [], ◌∷◌, ◌++◌, length, map, Option, Some, None, slice_get, slice_set}
+use Rattle.std.specs.Prelude.{◌≡◌, ◌≢◌, ℕ, zero, suc, ◌+◌, ◌≤◌, ◌<◌, ◌⊎◌, Bool, true, false, cond, not, ◌&&◌, ◌==◌, is_none, IfSome, List, [], ◌∷◌, ◌++◌, length, map, Option, Some, None, slice_get, slice_set}
 use Rattle.std.specs.List.{filter, list_any}
 use Rattle.std.specs.Option.{option_map, option_and_then, option_map_or}
 use Rattle.std.proofs.Common.{refl, sym, ap, ◌∙◌, subst, arith, inl, inr, length-append}
@@ -7,6 +7,7 @@ use Rattle.std.proofs.lemmas.Bool.{true≢false, false≢true, eqb-true, eq-eqb,
 use Rattle.std.proofs.lemmas.List.{length-set, nil_from_length}
 use Rattle.std.proofs.lemmas.Option.{option_and_then_some}
 use Rattle.ro_event.specs.declared.calls.Call.{Call}
+use Rattle.ro_event.specs.declared.effects.Made.{Made}
 use Rattle.ro_event.specs.declared.stops.Stop.{Stop}
 use Rattle.ro_image.specs.Image.{holds_file_byte}
 use Rattle.ro_journal.specs.declared.Did.{Did}
@@ -55,6 +56,7 @@ ordered-take job core driver replica thread may h = record {
   backed = h.backed;
   sound = λ number r e. sound-with job core (after job core (Take driver replica thread)) h.backed number r refl (h.sound number r e);
   some_life = h.some_life;
+  few_lives = h.few_lives;
   within_limit = h.within_limit;
   blocked_live = h.blocked_live;
   due_alone = λ how e. absurd (let none : core.due ≡ None = is-none-from core.due (and_parts _ _ may.going).0 in let f : None ≡ Some how = sym none ∙ e in cc);
@@ -84,6 +86,7 @@ ordered-ran job core driver replica thread count hit may h = record {
   backed = h.backed;
   sound = λ number r e. by number r (get-set-cases core.replicas replica number (arrived job thread count may.ran.replica) r e);
   some_life = h.some_life;
+  few_lives = h.few_lives;
   within_limit = h.within_limit;
   blocked_live = h.blocked_live;
   due_alone = λ how e. none-left _ core.leases (h.due_alone how e);
@@ -131,6 +134,10 @@ module _ (job : Job) (core : Core) (h : IsOrdered job core) (thread count : ℕ)
       ap (λ (n : ℕ). lives_on event.kernel n) (eqb-true u thread e) ∙ ap (λ (k : Kernel). lives_on k thread) (happens.blocks_live call f) ∙ live
   blocked-after u call on false e f = happens.others_live on u (λ (same : u ≡ thread). true≢false (sym (eq-eqb u thread same) ∙ e)) (h.blocked_live going still u call f)
 
+  few-after : (made : Option Made) → length event.kernel.lives ≡ length core.kernel.lives + made_count made → IfSome made (λ m. length core.kernel.lives < 16) → length event.kernel.lives ≤ 16
+  few-after None e left = let few = h.few_lives in omega arith
+  few-after (Some made) e left = omega arith
+
   pub ordered-event : IsOrdered job (core_after core thread count replicas event)
   unfolding new
   ordered-event = record {
@@ -138,6 +145,7 @@ module _ (job : Job) (core : Core) (h : IsOrdered job core) (thread count : ℕ)
     backed = backed_after event.effect h.backed;
     sound = λ number r e. sound-after number r (get-map _ replicas number r e);
     some_life = let more : length event.kernel.lives ≡ length core.kernel.lives + made_count event.effect.made = happens.lives_are in let some = h.some_life in omega arith;
+    few_lives = few-after event.effect.made happens.lives_are happens.place_left;
     within_limit = fits;
     blocked_live = λ on ended u call e. blocked-after u call on (u == thread) refl e;
     due_alone = λ how e. alone;
@@ -278,6 +286,7 @@ ordered-end job core how may h = record {
   backed = h.backed;
   sound = λ number r e. sound-with job core (after job core (End how)) h.backed number r refl (h.sound number r e);
   some_life = h.some_life;
+  few_lives = h.few_lives;
   within_limit = h.within_limit;
   blocked_live = λ e (f : Some how ≡ None) thread call g. absurd cc;
   due_alone = λ other e. absurd (let f : None ≡ Some other = e in cc);
@@ -320,6 +329,7 @@ ordered-opening job = record {
   backed = holds_file_byte job.program.image.pieces;
   sound = λ number r e. subst (IsSound job (opening_core job) (holds_file_byte job.program.image.pieces) number) (get-opening job job.settings.replicas number r e) (opening-sound job (opening_core job) number refl);
   some_life = omega arith;
+  few_lives = omega arith;
   within_limit = omega arith;
   blocked_live = λ on still thread call e. absurd (let f : None ≡ Some call = e in cc);
   due_alone = λ how e. absurd (let f : None ≡ Some how = e in cc);

@@ -137,7 +137,7 @@ module _ (f : Fields) (h : Holds f) where
   pub blocked-is : (thread : ℕ) → (state_in f).blocked thread ≡ blocked_at f.blocked thread
   blocked-is thread = with-blocked (failed_of f.due) thread ∙ sym (h.blocked_are thread)
 
-  replicas-are : (state_in f).replicas ≡ (core_in f).replicas
+  pub replicas-are : (state_in f).replicas ≡ (core_in f).replicas
   replicas-are = with-replicas f.job f.journal (failed_of f.due)
 
   none-lent : (length f.leases == 0) ≡ true → (core_in f).leases ≡ []

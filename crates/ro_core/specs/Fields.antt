@@ -1,18 +1,26 @@
 -- The fields of a core against its journal.
-use Rattle.std.specs.Prelude.{◌≡◌, ◌<◌, ◌≤◌, ◌+◌, ℕ, Bool, true, false, is_some, List, [], ◌∷◌, length, Option, Some, None, nat_lt, if◌then◌else◌, slice_get, slice_index_or}
+use Rattle.std.specs.Prelude.{◌≡◌, ◌<◌, ◌≤◌, ◌+◌, ℕ, Bool, true, false, is_some, List, [], ◌∷◌, length, Option, Some, None, nat_lt, ◌==◌, if◌then◌else◌, slice_get, slice_index_or}
+use Rattle.ro_journal.specs.declared.Did.{Did}
 use Rattle.ro_journal.specs.declared.How.{How}
-use Rattle.ro_journal.specs.declared.How.TheVariants.{Sink}
+use Rattle.ro_journal.specs.declared.How.TheVariants.{Differ, NoMajority, Sink}
 use Rattle.ro_journal.specs.declared.Entry.{Entry}
 use Rattle.ro_event.specs.declared.calls.Call.{Call}
 use Rattle.ro_event.specs.Views.{View}
+use Rattle.ro_event.specs.declared.stops.Stop.{Stop}
+use Rattle.ro_event.specs.Effects.{Effect}
+use Rattle.ro_kernel.specs.Kernel.{Setup, Kernel}
 use Rattle.ro_kernel.specs.State.{State}
+use Rattle.ro_kernel.specs.declared.outcome.Served.{Served}
+use Rattle.ro_kernel.specs.declared.outcome.Served.TheVariants.{Done, Blocked, Ends}
+use Rattle.ro_kernel.specs.Serve.{Served as Outcome, Done as DoneWith, Blocked as BlockedAtAll, Ends as EndsWith, serve}
 use Rattle.ro_settings.specs.Ranges.{InRange}
 use Rattle.ro_replica.specs.Replica.{Replica, stop_of}
 use Rattle.ro_replica.specs.Views.{is_unstopped}
-use Rattle.ro_replica.specs.Seen.{ReplicaOf, replica_of}
+use Rattle.ro_replica.specs.Seen.{ReplicaOf, replica_of, CanApply, AreTwins, Keeps}
 use Rattle.ro_plain.specs.Machine.{setup_of}
 use Rattle.ro_core.specs.declared.actions.Lease.{Lease}
 use Rattle.ro_core.specs.Core.{Job, Core, is_going, is_home}
+use Rattle.ro_core.specs.Event.{Event, call_event, event_of}
 use Rattle.ro_core.specs.Legal.{Legal, replay, replay_with}
 use Rattle.ro_core.specs.Seen.{IsOfJob, KeepsViews}
 
@@ -103,3 +111,50 @@ abbrev pub AreHome : Job → List (Option ReplicaOf) → List Replica → Type 0
 AreHome job [] [] = Unit {0}
 AreHome job (Some value ∷ seats) (replica ∷ replicas) = IsOfJob job value × (replica_of value ≡ replica) × AreHome job seats replicas
 AreHome job _ _ = ⊥
+
+-- each replica that is at home has pages to spare
+abbrev pub AreSpared : List (Option ReplicaOf) → Type 0
+AreSpared [] = Unit {0}
+AreSpared (None ∷ seats) = AreSpared seats
+AreSpared (Some value ∷ seats) = (3 ≤ value.held.spare) × AreSpared seats
+
+-- each replica is at home and can be given the effect
+abbrev pub CanTake : Effect → List (Option ReplicaOf) → Type 0
+CanTake effect [] = Unit {0}
+CanTake effect (None ∷ seats) = ⊥
+CanTake effect (Some value ∷ seats) = CanApply effect value × CanTake effect seats
+
+-- a seat keeps its replica, with no fewer pages to spare
+abbrev pub KeepsSeat : (old new : Option ReplicaOf) → Type 0
+KeepsSeat None new = new ≡ None
+KeepsSeat (Some value) None = ⊥
+KeepsSeat (Some value) (Some other) = Keeps value other
+
+-- the loser can become as the winner
+abbrev pub CanRecover : List (Option ReplicaOf) → (won lost : ℕ) → Type 0
+CanRecover seats won lost = (winner loser : ReplicaOf) → slice_get seats won ≡ Some (Some winner) → slice_get seats lost ≡ Some (Some loser) → AreTwins winner loser
+
+-- what a code's event is, over the kernels before and after it: the definition's, whatever the payload
+abbrev pub IsEvent : Setup → (old new : Kernel) → (thread : ℕ) → Stop → (did : Did) → Effect → (blocked : Option Call) → (due : Option How) → (writes : Bool) → Type 0
+IsEvent setup old new thread stop did effect blocked due writes =
+    (payload : List ℕ) → event_of setup old thread stop payload ≡ record { did = did; kernel = new; effect = effect; payload = if writes then payload else []; blocked = blocked; due = due }
+
+-- the end that is due behind a write
+abbrev pub due_behind : (due : Option How) → (failed : Option ℕ) → Option How
+due_behind due None = due
+due_behind due (Some bytes) = Some (Sink bytes)
+
+-- the same of a call
+abbrev pub IsCallEvent : Setup → (old new : Kernel) → (thread : ℕ) → Call → (did : Did) → Effect → (blocked : Option Call) → (due : Option How) → (writes : Bool) → Type 0
+IsCallEvent setup old new thread call did effect blocked due writes =
+    (payload : List ℕ) → call_event old thread call payload (serve setup old thread call) ≡ record { did = did; kernel = new; effect = effect; payload = if writes then payload else []; blocked = blocked; due = due }
+
+-- what comes of a call, by the code's answer and the kernel after it
+abbrev pub outcome_with : (after : Kernel) → Served → Outcome
+outcome_with after (Done effect) = DoneWith after effect
+outcome_with after Blocked = BlockedAtAll
+outcome_with after (Ends how) = EndsWith after how
+
+-- how a run of so many replicas ends where their views have no majority
+abbrev pub split_end : (replicas : ℕ) → How
+split_end replicas = if replicas == 2 then Differ else NoMajority

@@ -1,5 +1,7 @@
 -- What legal journals keep, struck or not.
-use Rattle.std.specs.Prelude.{◌≡◌, ◌≤◌, ◌<◌, ℕ, true, List, [], length, Some, None, slice_get}
+use Rattle.std.specs.Prelude.{◌≡◌, ◌≤◌, ◌<◌, ◌^◌, ℕ, true, List, [], length, Option, Some, None, slice_get}
+use Rattle.ro_event.specs.declared.stops.Stop.{Stop}
+use Rattle.ro_event.specs.declared.stops.Stop.TheVariants.{PageFault}
 use Rattle.ro_event.specs.declared.calls.Call.{Call}
 use Rattle.ro_journal.specs.declared.How.{How}
 use Rattle.ro_journal.specs.declared.How.TheVariants.{Exit, Trap}
@@ -32,6 +34,7 @@ pub record IsOrdered (job : Job) (core : Core) : Type 0 where
   pub backed : Backed
   pub sound : (number : ℕ) (replica : Replica) → slice_get core.replicas number ≡ Some replica → IsSound job core backed number replica
   pub some_life : 0 < length core.kernel.lives
+  pub few_lives : length core.kernel.lives ≤ 16
   pub within_limit : core.steps ≤ job.settings.limit
   pub blocked_live : core.due ≡ None → core.ended ≡ None → (thread : ℕ) (call : Call) → core.blocked thread ≡ Some call → lives_on core.kernel thread ≡ true
   pub due_alone : (how : How) → core.due ≡ Some how → core.leases ≡ []
@@ -45,3 +48,14 @@ Counts most replica = (place : ℕ) (thread : Thread) → slice_get replica.thre
 -- nor has one of any replica
 abbrev pub AreCounted : (most : ℕ) → Core → Type 0
 AreCounted most core = (number : ℕ) (replica : Replica) → slice_get core.replicas number ≡ Some replica → Counts most replica
+
+-- a stop for a page is for one of the 2^20 pages
+abbrev pub IsLow : Option Stop → Type 0
+IsLow o = (page : ℕ) → o ≡ Some (PageFault page) → page < 2 ^ 20
+
+-- and so is each stop of a replica, and of all
+abbrev pub HasLowStops : Replica → Type 0
+HasLowStops replica = (place : ℕ) (thread : Thread) → slice_get replica.threads place ≡ Some thread → IsLow thread.stop
+
+abbrev pub HaveLowStops : Core → Type 0
+HaveLowStops core = (number : ℕ) (replica : Replica) → slice_get core.replicas number ≡ Some replica → HasLowStops replica

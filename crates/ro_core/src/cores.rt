@@ -1,13 +1,12 @@
 //! The core: a sequential machine whose journal only grows.
-ghost use Rattle.std.specs.Prelude.{◌≡◌, ◌⊎◌, ℕ, List, [], IfOk, IfErr, OnErr, OnOk, IsTrue};
+ghost use Rattle.std.specs.Prelude.{◌≡◌};
 ghost use Rattle.ro_journal.specs.declared.How.{How as HowOf};
 ghost use Rattle.ro_journal.specs.declared.Entry.TheVariants.{End};
 ghost use Rattle.ro_journal.specs.Plan.{outcome_of};
 ghost use Rattle.ro_core.specs.declared.actions.Action.TheVariants as act;
-ghost use Rattle.ro_core.specs.Core.{may_vote, may_free, views_of};
 ghost use Rattle.ro_core.specs.Legal.{IsAllowed, Legal, replay};
 ghost use Rattle.ro_core.specs.Action.{next_action as next, IsNext};
-ghost use Rattle.ro_core.specs.Seen.{state, Appends, Quiet, Sends, IsOfMajority, Stays, DecidesVote, DecidesFree, KeepsViews};
+ghost use Rattle.ro_core.specs.Seen.{state, Appends, Quiet, KeepsViews};
 
 use crate::actions::Lease;
 use ro_event::{Call, View};
@@ -18,7 +17,7 @@ use ro_journal::{Entry, How};
 use ro_kernel::Kernel;
 use ro_replica::Replica;
 use ro_settings::Settings;
-use std::alloc::AllocError;
+use std::alloc::Global;
 use std::marker::Model;
 
 /// The core of a run. It keeps what it was opened with beside its journal.
@@ -40,6 +39,7 @@ pub struct Core<K: Sink> {
     /// Room for the views of a vote, one for each replica.
     pub(crate) views: Vec<View>,
     pub(crate) out: K,
+    pub(crate) alloc: Global,
 }
 
 impl<K: Sink> Model for Core<K> {
@@ -85,36 +85,6 @@ pub struct Finished<K> {
 }
 
 impl<K: Sink> Core<K> {
-    /// Votes on a thread that stands still in every replica: its event is done once, and the entry that was
-    /// appended is answered. Where the views have no majority, or the limit of steps would be passed, that is an end.
-    ///
-    /// # Errors
-    /// Where there is no memory; nothing has changed then.
-    pub fn vote(&mut self, thread: u32) -> Result<Entry, AllocError>
-        requires { IsTrue (may_vote (state self.old) thread) }
-        ensures entry { IfOk result (λ entry. IsAllowed self.old.job (state self.old) entry × DecidesVote self.old.job (state self.old) thread entry × Appends self.old self.new entry) }
-        ensures sends { OnOk result ((bytes : List ℕ) × Sends self.old self.new bytes × ((bytes ≡ []) ⊎ IsOfMajority (views_of self.old.job (state self.old) thread) bytes)) }
-        ensures err { OnErr result (Stays self.old self.new) }
-    {
-        let _ = crate::stub::never();
-        unreachable!()
-    }
-
-    /// Serves the call on which a thread is blocked, and answers the entry that was appended. Where the limit of steps would
-    /// be passed, that is an end.
-    ///
-    /// # Errors
-    /// Where there is no memory; nothing has changed then.
-    pub fn free(&mut self, thread: u32) -> Result<Entry, AllocError>
-        requires { IsTrue (may_free self.old.job (state self.old) thread) }
-        ensures entry { IfOk result (λ entry. IsAllowed self.old.job (state self.old) entry × DecidesFree self.old.job (state self.old) thread entry × Appends self.old self.new entry) }
-        ensures quiet { OnOk result (Quiet self.old self.new) }
-        ensures err { OnErr result (Stays self.old self.new) }
-    {
-        let _ = crate::stub::never();
-        unreachable!()
-    }
-
     /// Ends the run, where an end is due or nothing can be done any more.
     pub fn end(&mut self)
         requires { (how : HowOf) × (next self.old.job (state self.old) ≡ act.End how) }
@@ -149,6 +119,7 @@ impl<K: Sink> Core<K> {
             ended,
             views,
             out,
+            alloc: _,
         } = self;
         Finished {
             how: ended,

@@ -62,6 +62,7 @@ impl<K: Sink> Core<K> {
             ended: None,
             views,
             out,
+            alloc,
         })
     }
 }

@@ -58,7 +58,7 @@ fronted None payload = ([], sym (append-nil payload))
 fronted (Some n) payload = (drop n payload, sym (take-append-drop n payload))
 
 -- a live thread was made
-lives-within : (kernel : Kernel) (thread : ℕ) → lives_on kernel thread ≡ true → thread < length kernel.lives
+pub lives-within : (kernel : Kernel) (thread : ℕ) → lives_on kernel thread ≡ true → thread < length kernel.lives
 lives-within kernel thread e = by (slice_get kernel.lives thread) refl e
   where
     by : (o : Option Life) → slice_get kernel.lives thread ≡ o → live_option o ≡ true → thread < length kernel.lives
@@ -77,7 +77,7 @@ home-seat job (Some value ∷ seats) (r ∷ replicas) h (suc n) less = home-seat
 -- ---- the page that an event backs
 
 module _ (setup : Setup) (kernel : Kernel) (thread : ℕ) where
-  no-page : (call : Call) (payload : List ℕ) (served : Served) → Tidy kernel thread served → (call_event kernel thread call payload served).effect.page ≡ None
+  pub no-page : (call : Call) (payload : List ℕ) (served : Served) → Tidy kernel thread served → (call_event kernel thread call payload served).effect.page ≡ None
   no-page call payload (Done after effect) (tidy_done t) = t.backs_none
   no-page call payload Blocked t = refl
   no-page call payload (Ends after how) t = refl

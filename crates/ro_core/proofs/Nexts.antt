@@ -268,3 +268,8 @@ over_is_next job core e = by (is_some core.ended) refl e
     by : (b : Bool) → is_some core.ended ≡ b → (if b then Over else action_unless_due job core core.due) ≡ Over → is_some core.ended ≡ true
     by true f h = f
     by false f h = absurd (by_due core.due h)
+
+-- while nothing is due the first of what can be done comes next
+pub next_first : (job : Job) (core : Core) → is_some core.ended ≡ false → core.due ≡ None → next_action job core ≡ action_or (if nothing_lent core then DoEnd Deadlock else Wait) (first_action job core)
+unfolding next_action
+next_first job core over none = ap (λ (b : Bool). if b then Over else action_unless_due job core core.due) over ∙ ap (action_unless_due job core) none

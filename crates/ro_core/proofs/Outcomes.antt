@@ -1,15 +1,15 @@
 -- How a legal journal ends.
-use Rattle.std.proofs.Common.{◌≡◌, ℕ, List, [], ◌∷◌, Option, Some, None, refl, sym, ap, ◌∙◌}
+use Rattle.std.proofs.Common.{◌≡◌, ℕ, true, List, [], ◌∷◌, Option, Some, None, refl, sym, ap, ◌∙◌}
 use Rattle.ro_journal.specs.declared.How.{How}
 use Rattle.ro_journal.specs.declared.Entry.{Entry}
 use Rattle.ro_journal.specs.declared.Entry.TheVariants.{Take, Put, Vote, Free, End}
 use Rattle.ro_journal.specs.Plan.{outcome_of}
 use Rattle.ro_replica.specs.Replica.{Replica}
 use Rattle.ro_replica.specs.Runs.{Ran}
-use Rattle.ro_core.specs.Core.{Job, Core, opening_core}
+use Rattle.ro_core.specs.Core.{Job, Core, opening_core, is_going}
 use Rattle.ro_core.specs.Event.{Event, with_recovered}
 use Rattle.ro_core.specs.Legal.{core_after_put, core_after_event, lease_run, event_in, freed_event, after, IsAllowed, LegalFrom, Legal, replay_from, replay}
-use Rattle.ro_core.proofs.LineJournals.{not_going_over, voting_goes, freeing_goes}
+use Rattle.ro_core.proofs.Ordered.{going-parts, vote-parts, free-parts}
 
 event_ended : (core : Core) (thread count : ℕ) (replicas : List Replica) (event : Option Event) → (core_after_event core thread count replicas event).ended ≡ core.ended
 event_ended core thread count replicas None = refl
@@ -19,12 +19,15 @@ put_ended : (job : Job) (core : Core) (driver replica thread count : ℕ) (ran :
 put_ended job core driver replica thread count None = refl
 put_ended job core driver replica thread count (Some ran) = refl
 
+not_going_over : (core : Core) (how : How) → core.ended ≡ Some how → is_going core ≡ true → ⊥
+not_going_over core how e going = let f : None ≡ Some how = sym (going-parts core going).1 ∙ e in cc
+
 -- nothing is allowed behind the end
 nothing_behind : (job : Job) (core : Core) (how : How) (entry : Entry) → core.ended ≡ Some how → IsAllowed job core entry → ⊥
 nothing_behind job core how (Take driver replica thread) e m = not_going_over core how e m.going
 nothing_behind job core how (Put driver replica thread count hit) e m = let f : None ≡ Some how = sym m.not_ended ∙ e in cc
-nothing_behind job core how (Vote thread count won lost did) e m = not_going_over core how e (voting_goes core thread m.may)
-nothing_behind job core how (Free thread) e m = not_going_over core how e (freeing_goes job core thread m.may)
+nothing_behind job core how (Vote thread count won lost did) e m = not_going_over core how e (vote-parts core thread m.may).going
+nothing_behind job core how (Free thread) e m = not_going_over core how e (free-parts job core thread m.may).going
 nothing_behind job core how (End other) e m = let f : None ≡ Some how = sym m.0 ∙ e in cc
 
 over_from : (job : Job) (core : Core) (how : How) (journal : List Entry) → core.ended ≡ Some how → LegalFrom job core journal → journal ≡ []

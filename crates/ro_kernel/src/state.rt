@@ -1,18 +1,20 @@
 //! The kernel's state.
-ghost use Rattle.std.specs.Prelude.{◌≡◌, ◌∷◌, [], ◌≤◌, length, IfOk, IfErr};
+ghost use Rattle.std.specs.Prelude.{◌≡◌, ◌∷◌, [], ◌≤◌, length, IfOk};
+ghost use Rattle.std.specs.Arc.{arc_value};
 ghost use Rattle.ro_kernel.specs.Kernel.{is_live, lives_on, any_live, opening_kernel};
 ghost use Rattle.ro_kernel.specs.Serve.{fits};
 
 use crate::Life;
 use ro_mutex::MutexTable;
 use ro_region::{Kind, Regions};
-use std::alloc::{AllocError, AllocFailed, Global};
+use std::alloc::{AllocError, Global};
 use std::marker::Model;
+use std::sync::Arc;
 
 /// What the kernel knows of a guest: its threads' lives, the owners of mutexes, the end of the heap and the input.
 #[derive(Drop)]
 pub struct Kernel {
-    pub(crate) regions: Regions,
+    pub(crate) regions: Arc<Regions>,
     /// Where the heap starts.
     pub(crate) heap: u32,
     /// Where it ends, the program break.
@@ -28,11 +30,12 @@ pub struct Kernel {
 
 impl Model for Kernel {
     ghost use Rattle.std.specs.Prelude.{◌≤◌, vec_len};
+    ghost use Rattle.std.specs.Arc.{arc_value};
     ghost use Rattle.ro_kernel.specs.State.{State};
 
     ghost Value = { State };
 
-    ghost view = { λ k. record { setup = record { ranges = k.regions; heap = k.heap; input = k.input.items }; kernel = record { lives = k.lives.items; owners = k.mutexes; heap_end = k.heap_end; taken = k.taken } } };
+    ghost view = { λ k. record { setup = record { ranges = arc_value k.regions; heap = k.heap; input = k.input.items }; kernel = record { lives = k.lives.items; owners = k.mutexes; heap_end = k.heap_end; taken = k.taken } } };
 
     ghost invariant = { λ k. (k.taken ≤ vec_len k.input) × (vec_len k.lives ≤ 16) };
 }
@@ -47,29 +50,24 @@ impl Life {
 
 impl Kernel {
     /// The kernel of a guest that starts: one live thread, no mutex, an empty heap at `heap`, and nothing read of the
-    /// input. Where memory is wanting, the regions come back.
+    /// input. The regions are shared with whoever else judges addresses.
     pub fn new(
         alloc: Global,
         heap: u32,
-        regions: Regions,
+        regions: Arc<Regions>,
         input: &[u8],
-    ) -> Result<Kernel, AllocFailed<Regions>>
-        ensures setup { IfOk result (λ k. k.setup ≡ record { ranges = regions; heap = heap; input = input.now }) }
+    ) -> Result<Kernel, AllocError>
+        ensures setup { IfOk result (λ k. k.setup ≡ record { ranges = arc_value regions; heap = heap; input = input.now }) }
         ensures kernel { IfOk result (λ k. k.kernel ≡ opening_kernel heap) }
-        ensures err { IfErr result (λ e. e.value ≡ regions) }
     {
-        let (input, lives, mutexes) = match parts(alloc, input) {
-            Ok(parts) => parts,
-            Err(_) => return Err(AllocFailed { value: regions }),
-        };
         Ok(Kernel {
             regions,
             heap,
             heap_end: heap,
-            input,
+            input: input.to_vec(alloc)?,
             taken: 0,
-            lives,
-            mutexes,
+            lives: [Life::Live].to_vec(alloc)?,
+            mutexes: MutexTable::new(alloc)?,
             alloc,
         })
     }
@@ -104,14 +102,4 @@ impl Kernel {
     {
         address % 4 == 0 && self.regions.permits(address, 4, Kind::Write)
     }
-}
-
-/// The input, the lives and the mutexes of a kernel that starts.
-fn parts(alloc: Global, input: &[u8]) -> Result<(Vec<u8>, Vec<Life>, MutexTable), AllocError>
-    ensures input { IfOk result (λ p. p.0.items ≡ input.now) }
-    ensures lives { IfOk result (λ p. p.1.items ≡ Life.Live ∷ []) }
-    ensures mutexes { IfOk result (λ p. p.2 ≡ []) }
-{
-    let lives = [Life::Live].to_vec(alloc)?;
-    Ok((input.to_vec(alloc)?, lives, MutexTable::new(alloc)?))
 }

@@ -158,7 +158,12 @@ fn regions(alloc: Global) -> Result<Regions, AllocError> {
 }
 
 fn kernel(alloc: Global, input: &[u8]) -> Result<Kernel, AllocError> {
-    Ok(Kernel::new(alloc, HEAP, regions(alloc)?, input)?)
+    Ok(Kernel::new(
+        alloc,
+        HEAP,
+        Arc::new(alloc, regions(alloc)?)?,
+        input,
+    )?)
 }
 
 fn call(which: Which, arguments: [u32; 4]) -> Call {

@@ -19,7 +19,8 @@ use Rattle.ro_plain.specs.Machine.{Program, setup_of, Machine, called, step_by, 
 use Rattle.ro_plain.specs.Order.{RaceFree}
 use Rattle.ro_plain.proofs.Calls.{steppable-parts, step-at}
 use Rattle.ro_core.specs.declared.actions.Lease.{Lease}
-use Rattle.ro_core.specs.Core.{Job, Core, is_going, nothing_lent, is_home, is_unstopped, is_lendable, may_vote, may_free, views_of}
+use Rattle.ro_core.specs.Core.{Job, Core, is_going, nothing_lent, is_home, is_lendable, may_vote, may_free, views_of}
+use Rattle.ro_replica.specs.Views.{is_unstopped}
 use Rattle.ro_core.specs.Legal.{any_below, is_stuck, MayEnd, due, alone, for_vote, for_free}
 use Rattle.ro_simulation.specs.Invariant.{IsOver, exits, traps, Holds}
 use Rattle.ro_simulation.specs.Theorem.{EndsAs, TwoOrThree}

@@ -28,7 +28,8 @@ use Rattle.ro_plain.specs.Machine.{layout_of, setup_of, Machine, opening, with_m
 use Rattle.ro_plain.specs.Order.{RaceFree}
 use Rattle.ro_plain.proofs.Stays.{no-payload}
 use Rattle.ro_plain.proofs.Calls.{some-injective, step-at}
-use Rattle.ro_core.specs.Core.{Job, payload_at}
+use Rattle.ro_core.specs.Core.{Job}
+use Rattle.ro_replica.specs.Views.{payload_at}
 use Rattle.ro_core.specs.Event.{Event, quiet_effect, call_event, event_of}
 use Rattle.ro_simulation.specs.Invariant.{StopStands, Agrees, StandsAtCall, IsOver, traps}
 use Rattle.ro_simulation.proofs.Stays.{Stays, stays}

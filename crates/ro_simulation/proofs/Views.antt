@@ -23,7 +23,8 @@ use Rattle.ro_plain.proofs.Backed.{backed-is-plain}
 use Rattle.ro_plain.proofs.Calls.{some-injective, steppable-from}
 use Rattle.ro_plain.proofs.Stays.{steppable-along, payload-stays}
 use Rattle.ro_plain.proofs.Ahead.{Without}
-use Rattle.ro_core.specs.Core.{Job, payload_at, view_with, view_of}
+use Rattle.ro_core.specs.Core.{Job}
+use Rattle.ro_replica.specs.Views.{payload_at, view_with, view_of}
 use Rattle.ro_core.specs.Ideal.{ahead_from, ahead}
 use Rattle.ro_simulation.specs.Invariant.{RunsAhead, StopStands}
 use Rattle.ro_simulation.proofs.Stays.{Stays}

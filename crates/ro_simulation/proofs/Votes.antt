@@ -23,7 +23,8 @@ use Rattle.ro_vote.specs.Verdict.{Won, verdict_of}
 use Rattle.ro_plain.specs.Order.{RaceFree}
 use Rattle.ro_plain.proofs.Swap.{run-append}
 use Rattle.ro_plain.proofs.Calls.{some-injective}
-use Rattle.ro_core.specs.Core.{Job, Core, may_vote, payload_at, view_with, view_of, views_of}
+use Rattle.ro_core.specs.Core.{Job, Core, may_vote, views_of}
+use Rattle.ro_replica.specs.Views.{payload_at, view_with, view_of}
 use Rattle.ro_core.specs.Event.{Event, event_of, with_recovered, core_after}
 use Rattle.ro_core.specs.Legal.{event_with, event_in, core_after_event, after, since_in, MayVote}
 use Rattle.ro_simulation.specs.Invariant.{IsSound, Agrees, Holds}

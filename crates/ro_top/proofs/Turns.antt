@@ -17,7 +17,8 @@ use Rattle.ro_replica.specs.Replica.{Replica, changed_at}
 use Rattle.ro_replica.specs.Runs.{Ran, run_of, with_stop}
 use Rattle.ro_core.specs.declared.actions.Action.TheVariants.{Vote as DoVote, Lend, Over}
 use Rattle.ro_core.specs.declared.actions.Lease.{Lease}
-use Rattle.ro_core.specs.Core.{Job, Core, opening_core, is_home, is_unstopped, is_lendable}
+use Rattle.ro_core.specs.Core.{Job, Core, opening_core, is_home, is_lendable}
+use Rattle.ro_replica.specs.Views.{is_unstopped}
 use Rattle.ro_core.specs.Event.{with_recovered}
 use Rattle.ro_core.specs.Legal.{Legal, IsAllowed, MayTake, MayPut, arrived, arrival, is_lease, lease_run, core_after_put, event_in, after, replay}
 use Rattle.ro_core.specs.Action.{next_action, IsNext, EachIsNext}

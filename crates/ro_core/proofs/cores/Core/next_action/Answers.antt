@@ -1,40 +1,116 @@
-use Rattle.std.proofs.Common.{◌≡◌, ◌-◌, vec_len, vec_capacity, length, sym, ap, ◌∙◌, subst, arith}
-use Rattle.std.specs.Prelude.{◌==◌, is_some}
-use Rattle.std.specs.List.{list_all}
-use Rattle.ro_core.specs.declared.actions.Action.TheVariants.{Over, End as DoEnd}
-use Rattle.ro_core.specs.Action.{next_action}
-use Rattle.ro_core.specs.Core.{Core}
-use Rattle.ro_core.specs.Legal.{replay}
-use Rattle.ro_core.specs.Defaults.{default_job}
-use Rattle.ro_core.specs.Seen.{CoreOf, state, line_next, seat_stopped, first_free_from}
-use Rattle.ro_core.proofs.Nexts.{next_over, next_due, none_of}
-use Rattle.ro_core.proofs.Chooses.{next_going, seats_three}
+use Rattle.std.proofs.Common.{◌≡◌, ◌-◌, Bool, true, false, Option, Some, None, refl, length, vec_len, vec_capacity, sym, ap, ◌∙◌, subst, arith}
+use Rattle.std.specs.Prelude.{is_some, ◌==◌, if◌then◌else◌}
+use Rattle.ro_journal.specs.declared.How.TheVariants.{Deadlock}
+use Rattle.ro_core.specs.declared.actions.Action.{Action}
+use Rattle.ro_core.specs.declared.actions.Action.TheVariants.{Over, End as DoEnd, Wait}
+use Rattle.ro_core.specs.Core.{Job, nothing_lent}
+use Rattle.ro_core.specs.Action.{first_action, action_or, next_action}
+use Rattle.ro_core.specs.Seen.{CoreOf, state}
+use Rattle.ro_core.specs.Fields.{Fields, failed_of, state_in}
+use Rattle.ro_core.proofs.Held.{with-ended, with-leases}
+use Rattle.ro_core.proofs.Nexts.{next_over, next_due, next_first}
+use Rattle.ro_core.proofs.Tests.{leases-are}
 use Rattle.ro_core.proofs.cores.Core.next_action.Goals as goal
 
-pub returns-then-is_some-clause-next : goal.returns-then-is_some-clause-next
-returns-then-is_some-clause-next g c =
+pub returns-then-is_some : goal.returns-then-is_some
+returns-then-is_some g c =
     let s = c.self.inside in
-    let core : Core = replay (default_job s.image) s.journal.items in
-    let over = next_over (default_job s.image) core (ap is_some (sym c.self.invariant.ended_is) ∙ sym c.if-is_some.ensures) in
-    subst (λ (v : CoreOf). Over ≡ next_action v.job (state v)) c.self.view_is (sym over)
+    let f : Fields = record {
+      job = record { program = record { image = s.image; input = s.kernel.setup.input }; faults = s.faults.items; settings = s.settings };
+      journal = s.journal.items;
+      seats = s.seats.items;
+      leases = s.leases.items;
+      kernel = s.kernel;
+      blocked = s.blocked;
+      steps = s.steps;
+      due = s.due;
+      ended = s.ended;
+      views = s.views.items;
+      places = vec_capacity s.journal - vec_len s.journal;
+    } in
+    let over : is_some (state c.args.self.now).ended ≡ true = ap (λ (v : CoreOf). is_some (state v).ended) (sym c.self.view_is) ∙ ap is_some (with-ended f.job f.journal (failed_of f.due) ∙ sym c.self.invariant.ended_is) ∙ sym c.if-is_some.ensures in
+    record { next = sym (next_over c.args.self.now.job (state c.args.self.now) over) }
 
-pub returns-in-Some-clause-next : goal.returns-in-Some-clause-next
-returns-in-Some-clause-next g c =
+pub returns-in-Some : goal.returns-in-Some
+returns-in-Some g c =
     let s = c.self.inside in
-    let core : Core = replay (default_job s.image) s.journal.items in
-    let is = next_due (default_job s.image) core c.in-Some.how (ap is_some (sym c.self.invariant.ended_is) ∙ sym c.if-is_some.ensures) (sym c.self.invariant.due_is ∙ c.in-Some.is) in
-    subst (λ (v : CoreOf). DoEnd c.in-Some.how ≡ next_action v.job (state v)) c.self.view_is (sym is)
+    let f : Fields = record {
+      job = record { program = record { image = s.image; input = s.kernel.setup.input }; faults = s.faults.items; settings = s.settings };
+      journal = s.journal.items;
+      seats = s.seats.items;
+      leases = s.leases.items;
+      kernel = s.kernel;
+      blocked = s.blocked;
+      steps = s.steps;
+      due = s.due;
+      ended = s.ended;
+      views = s.views.items;
+      places = vec_capacity s.journal - vec_len s.journal;
+    } in
+    let over : is_some (state c.args.self.now).ended ≡ false = ap (λ (v : CoreOf). is_some (state v).ended) (sym c.self.view_is) ∙ ap is_some (with-ended f.job f.journal (failed_of f.due) ∙ sym c.self.invariant.ended_is) ∙ sym c.if-is_some.ensures in
+    let due : (state c.args.self.now).due ≡ Some c.in-Some.how = ap (λ (v : CoreOf). (state v).due) (sym c.self.view_is) ∙ sym c.self.invariant.due_is ∙ c.in-Some.is in
+    record { next = sym (next_due c.args.self.now.job (state c.args.self.now) c.in-Some.how over due) }
 
-pub first_free-requires : goal.first_free-requires
-first_free-requires g c =
+pub returns-in-Some-first_action : goal.returns-in-Some-first_action
+returns-in-Some-first_action g c =
     let s = c.self.inside in
-    let three = seats_three (default_job s.image) s.journal.items s.seats.items s.leases.items s.due s.ended (vec_capacity s.journal - vec_len s.journal) c.self.invariant c.in_default.is (none_of s.ended (sym c.if-is_some.ensures)) in
-    omega (arith, three, ap (λ xs. length xs) c.as_slice-2.ensures.value)
+    let f : Fields = record {
+      job = record { program = record { image = s.image; input = s.kernel.setup.input }; faults = s.faults.items; settings = s.settings };
+      journal = s.journal.items;
+      seats = s.seats.items;
+      leases = s.leases.items;
+      kernel = s.kernel;
+      blocked = s.blocked;
+      steps = s.steps;
+      due = s.due;
+      ended = s.ended;
+      views = s.views.items;
+      places = vec_capacity s.journal - vec_len s.journal;
+    } in
+    let over : is_some (state c.args.self.now).ended ≡ false = ap (λ (v : CoreOf). is_some (state v).ended) (sym c.self.view_is) ∙ ap is_some (with-ended f.job f.journal (failed_of f.due) ∙ sym c.self.invariant.ended_is) ∙ sym c.if-is_some.ensures in
+    let none : (state c.args.self.now).due ≡ None = ap (λ (v : CoreOf). (state v).due) (sym c.self.view_is) ∙ sym c.self.invariant.due_is ∙ c.in_default.is in
+    record { next = sym (next_first c.args.self.now.job (state c.args.self.now) over none ∙ ap (action_or (if nothing_lent (state c.args.self.now) then DoEnd Deadlock else Wait)) (sym c.first_action.ensures ∙ c.in-Some-first_action.is)) }
 
-pub returns-clause-next : goal.returns-clause-next
-returns-clause-next g c =
+pub returns-then-is_empty : goal.returns-then-is_empty
+returns-then-is_empty g c =
     let s = c.self.inside in
-    let is = next_going (default_job s.image) s.journal.items s.seats.items s.leases.items s.due s.ended (vec_capacity s.journal - vec_len s.journal) c.self.invariant c.in_default.is (none_of s.ended (sym c.if-is_some.ensures)) in
-    subst (λ (v : CoreOf). c.choose.result ≡ next_action v.job (state v)) c.self.view_is (c.choose.ensures.next ∙ ap (λ b. line_next b c.all_stopped.result c.first_free.result) (c.is_empty.ensures ∙ ap (λ n. n == 0) s.leases.ok.0)
-    ∙ ap (λ b. line_next (length s.leases.items == 0) b c.first_free.result) (c.all_stopped.ensures ∙ ap (list_all seat_stopped) c.as_slice.ensures.value)
-    ∙ ap (λ o. line_next (length s.leases.items == 0) (list_all seat_stopped s.seats.items) o) (c.first_free.ensures ∙ ap (first_free_from 0) c.as_slice-2.ensures.value) ∙ sym is)
+    let f : Fields = record {
+      job = record { program = record { image = s.image; input = s.kernel.setup.input }; faults = s.faults.items; settings = s.settings };
+      journal = s.journal.items;
+      seats = s.seats.items;
+      leases = s.leases.items;
+      kernel = s.kernel;
+      blocked = s.blocked;
+      steps = s.steps;
+      due = s.due;
+      ended = s.ended;
+      views = s.views.items;
+      places = vec_capacity s.journal - vec_len s.journal;
+    } in
+    let over : is_some (state c.args.self.now).ended ≡ false = ap (λ (v : CoreOf). is_some (state v).ended) (sym c.self.view_is) ∙ ap is_some (with-ended f.job f.journal (failed_of f.due) ∙ sym c.self.invariant.ended_is) ∙ sym c.if-is_some.ensures in
+    let none : (state c.args.self.now).due ≡ None = ap (λ (v : CoreOf). (state v).due) (sym c.self.view_is) ∙ sym c.self.invariant.due_is ∙ c.in_default.is in
+    let empty : nothing_lent (state c.args.self.now) ≡ true = ap (λ (v : CoreOf). nothing_lent (state v)) (sym c.self.view_is) ∙ ap (λ ls. length ls == 0) (leases-are f c.self.invariant) ∙ ap (λ n. n == 0) (sym s.leases.ok.0) ∙ sym c.if-is_empty.ensures in
+    record { next = sym (next_first c.args.self.now.job (state c.args.self.now) over none ∙ ap (action_or (if nothing_lent (state c.args.self.now) then DoEnd Deadlock else Wait)) (sym c.first_action.ensures ∙ c.in-None.is)
+    ∙ ap (λ (b : Bool). if b then DoEnd Deadlock else Wait) empty) }
+
+pub returns-else-is_empty : goal.returns-else-is_empty
+returns-else-is_empty g c =
+    let s = c.self.inside in
+    let f : Fields = record {
+      job = record { program = record { image = s.image; input = s.kernel.setup.input }; faults = s.faults.items; settings = s.settings };
+      journal = s.journal.items;
+      seats = s.seats.items;
+      leases = s.leases.items;
+      kernel = s.kernel;
+      blocked = s.blocked;
+      steps = s.steps;
+      due = s.due;
+      ended = s.ended;
+      views = s.views.items;
+      places = vec_capacity s.journal - vec_len s.journal;
+    } in
+    let over : is_some (state c.args.self.now).ended ≡ false = ap (λ (v : CoreOf). is_some (state v).ended) (sym c.self.view_is) ∙ ap is_some (with-ended f.job f.journal (failed_of f.due) ∙ sym c.self.invariant.ended_is) ∙ sym c.if-is_some.ensures in
+    let none : (state c.args.self.now).due ≡ None = ap (λ (v : CoreOf). (state v).due) (sym c.self.view_is) ∙ sym c.self.invariant.due_is ∙ c.in_default.is in
+    let empty : nothing_lent (state c.args.self.now) ≡ false = ap (λ (v : CoreOf). nothing_lent (state v)) (sym c.self.view_is) ∙ ap (λ ls. length ls == 0) (leases-are f c.self.invariant) ∙ ap (λ n. n == 0) (sym s.leases.ok.0) ∙ sym c.if-is_empty.ensures in
+    record { next = sym (next_first c.args.self.now.job (state c.args.self.now) over none ∙ ap (action_or (if nothing_lent (state c.args.self.now) then DoEnd Deadlock else Wait)) (sym c.first_action.ensures ∙ c.in-None.is)
+    ∙ ap (λ (b : Bool). if b then DoEnd Deadlock else Wait) empty) }

@@ -1,0 +1,95 @@
+-- The fields of a core at its opening.
+use Rattle.std.proofs.Common.{◌≡◌, ◌⊎◌, inl, inr, ℕ, zero, suc, ◌+◌, ◌<◌, ◌≤◌, true, List, [], ◌∷◌, ◌++◌, length, Option, Some, None, refl, sym, ap, ◌∙◌, subst, arith}
+use Rattle.std.specs.Prelude.{slice_get}
+use Rattle.std.proofs.lemmas.Option.{slice_get_within}
+use Rattle.ro_journal.specs.declared.How.{How}
+use Rattle.ro_journal.specs.declared.How.TheVariants.{Sink}
+use Rattle.ro_journal.specs.declared.Entry.{Entry}
+use Rattle.ro_journal.specs.Plan.{outcome_of}
+use Rattle.ro_event.specs.declared.calls.Call.{Call}
+use Rattle.ro_faults.specs.declared.Fault.{Fault}
+use Rattle.ro_image.specs.Image.{Image}
+use Rattle.ro_kernel.specs.Kernel.{opening_kernel}
+use Rattle.ro_plain.specs.Machine.{setup_of}
+use Rattle.ro_replica.specs.Replica.{Replica, opening_replica}
+use Rattle.ro_replica.specs.Seen.{ReplicaOf, replica_of, IsOpening}
+use Rattle.ro_settings.specs.Ranges.{InRange}
+use Rattle.ro_core.specs.Core.{Job, Core, opening_replicas, opening_core}
+use Rattle.ro_core.specs.Legal.{Legal, replay}
+use Rattle.ro_core.specs.Fields.{failed_of, Seated, AreSeated, one_end, Fields, blocked_at, Holds}
+use Rattle.ro_core.specs.Opening.{IsFirst, AreFirst}
+use Rattle.ro_core.proofs.Lists.{get-within, get-append-cases}
+use Rattle.ro_core.proofs.Ordered.{length-opening, get-opening}
+use Rattle.ro_core.proofs.Held.{due-same, no-views}
+
+pub first-push : (image : Image) (faults : List Fault) (watchdog : ℕ) (seats : List (Option ReplicaOf)) (seat : Option ReplicaOf) → AreFirst image faults watchdog seats → IsFirst image faults watchdog (length seats) seat → AreFirst image faults watchdog (seats ++ seat ∷ [])
+first-push image faults watchdog seats seat h first number other e = by (get-append-cases seats seat number other e)
+  where
+    by : (slice_get seats number ≡ Some other) ⊎ ((number ≡ length seats) × (seat ≡ other)) → IsFirst image faults watchdog number other
+    by (inl f) = h number other f
+    by (inr f) = subst (λ (n : ℕ). IsFirst image faults watchdog n other) (sym f.0) (subst (IsFirst image faults watchdog (length seats)) f.1 first)
+
+-- the replica of each number below n
+opening-there : (job : Job) (n number : ℕ) → number < n → slice_get (opening_replicas job n) number ≡ Some (opening_replica job.program.image job.faults number)
+opening-there job n number less =
+    let w = get-within (opening_replicas job n) number (let e = length-opening job n in omega arith) in
+    w.1 ∙ ap (λ (r : Replica). Some r) (sym (get-opening job n number w.0 w.1))
+
+first-seated : (job : Job) (seats : List (Option ReplicaOf)) → AreFirst job.program.image job.faults job.settings.watchdog seats → length seats ≡ job.settings.replicas → AreSeated job (opening_core job) seats
+unfolding opening_core
+first-seated job seats first count = record { count = count ∙ sym (length-opening job job.settings.replicas); each = λ number. by number (slice_get seats number) refl }
+  where
+    by : (number : ℕ) (o : Option (Option ReplicaOf)) → slice_get seats number ≡ o → Seated job (opening_core job) number o
+    by number None e = tt
+    by number (Some None) e = absurd (first number None e)
+    by number (Some (Some value)) e =
+        let f : IsOpening job.program.image number job.faults job.settings.watchdog value = first number (Some value) e in
+        let less : number < length seats = slice_get_within seats number (Some value) e in
+        (refl, record { layout = f.layout; watchdog = f.watchdog_is }, opening-there job job.settings.replicas number (omega arith) ∙ ap (λ (r : Replica). Some r) (sym f.opening))
+
+nothing-blocked : (blocked : List (Option Call)) → blocked ≡ None ∷ None ∷ None ∷ None ∷ None ∷ None ∷ None ∷ None ∷ None ∷ None ∷ None ∷ None ∷ None ∷ None ∷ None ∷ None ∷ [] → (thread : ℕ) → blocked_at blocked thread ≡ None
+nothing-blocked blocked e thread = ap (λ (bs : List (Option Call)). blocked_at bs thread) e ∙ all thread
+  where
+    all : (t : ℕ) → blocked_at (None ∷ None ∷ None ∷ None ∷ None ∷ None ∷ None ∷ None ∷ None ∷ None ∷ None ∷ None ∷ None ∷ None ∷ None ∷ None ∷ []) t ≡ None
+    all zero = refl
+    all (suc zero) = refl
+    all (suc (suc zero)) = refl
+    all (suc (suc (suc zero))) = refl
+    all (suc (suc (suc (suc zero)))) = refl
+    all (suc (suc (suc (suc (suc zero))))) = refl
+    all (suc (suc (suc (suc (suc (suc zero)))))) = refl
+    all (suc (suc (suc (suc (suc (suc (suc zero))))))) = refl
+    all (suc (suc (suc (suc (suc (suc (suc (suc zero)))))))) = refl
+    all (suc (suc (suc (suc (suc (suc (suc (suc (suc zero))))))))) = refl
+    all (suc (suc (suc (suc (suc (suc (suc (suc (suc (suc zero)))))))))) = refl
+    all (suc (suc (suc (suc (suc (suc (suc (suc (suc (suc (suc zero))))))))))) = refl
+    all (suc (suc (suc (suc (suc (suc (suc (suc (suc (suc (suc (suc zero)))))))))))) = refl
+    all (suc (suc (suc (suc (suc (suc (suc (suc (suc (suc (suc (suc (suc zero))))))))))))) = refl
+    all (suc (suc (suc (suc (suc (suc (suc (suc (suc (suc (suc (suc (suc (suc zero)))))))))))))) = refl
+    all (suc (suc (suc (suc (suc (suc (suc (suc (suc (suc (suc (suc (suc (suc (suc zero))))))))))))))) = refl
+    all (suc (suc (suc (suc (suc (suc (suc (suc (suc (suc (suc (suc (suc (suc (suc (suc t)))))))))))))))) = refl
+
+pub opening-holds : (f : Fields) → InRange f.job.settings → f.journal ≡ [] → AreFirst f.job.program.image f.job.faults f.job.settings.watchdog f.seats → length f.seats ≡ f.job.settings.replicas
+    → f.leases ≡ [] → f.kernel.setup ≡ setup_of f.job.program → f.kernel.kernel ≡ opening_kernel f.job.program.image.heap
+    → f.blocked ≡ None ∷ None ∷ None ∷ None ∷ None ∷ None ∷ None ∷ None ∷ None ∷ None ∷ None ∷ None ∷ None ∷ None ∷ None ∷ None ∷ [] → f.steps ≡ 0 → f.due ≡ None → f.ended ≡ None
+    → length f.views ≡ f.job.settings.replicas → 1 ≤ f.places → Holds f
+unfolding opening_core
+opening-holds f in_range journal first count leases setup kernel blocked steps due ended views room =
+    let core : replay f.job f.journal ≡ opening_core f.job = ap (replay f.job) journal in
+    record {
+      in_range = in_range;
+      legal = subst (Legal f.job) (sym journal) tt;
+      leases_are = leases ∙ sym (ap (λ (x : Core). x.leases) core);
+      setup_is = setup;
+      kernel_is = kernel ∙ sym (ap (λ (x : Core). x.kernel) core);
+      blocked_count = ap length blocked;
+      blocked_are = λ t. nothing-blocked f.blocked blocked t ∙ sym (ap (λ (x : Core). x.blocked t) core);
+      steps_are = steps ∙ sym (ap (λ (x : Core). x.steps) core);
+      due_is = due-same f.job f.journal f.due (ap failed_of due) (due ∙ sym (ap (λ (x : Core). x.due) core));
+      ended_is = ended ∙ sym (ap (λ (x : Core). x.ended) core);
+      seats_are = subst (λ (x : Core). AreSeated f.job x f.seats) (sym core) (first-seated f.job f.seats first count);
+      views_count = views ∙ sym count;
+      views_kept = no-views f.job f.journal f.views (ap outcome_of journal);
+      failed_well = λ bytes g. absurd (let z : None ≡ Some (Sink bytes) = sym due ∙ g in cc);
+      room = let one : one_end f.ended ≡ 1 = ap one_end ended in let none : length f.leases ≡ 0 = ap length leases in omega arith;
+    }

@@ -1,0 +1,68 @@
+-- An end in the place of a vote or a free, in the fields of a core.
+use Rattle.std.proofs.Common.{◌≡◌, ◌≢◌, ◌⊎◌, inl, inr, ℕ, ◌+◌, ◌<◌, ◌≤◌, Bool, true, false, List, [], ◌∷◌, ◌++◌, length, Option, Some, None, refl, sym, ap, ◌∙◌, subst, arith}
+use Rattle.ro_journal.specs.declared.How.{How}
+use Rattle.ro_journal.specs.declared.How.TheVariants.{Exit, Deadlock, Trap, Limit, Differ, NoMajority, Sink}
+use Rattle.ro_journal.specs.declared.Entry.{Entry}
+use Rattle.ro_journal.specs.declared.Entry.TheVariants.{End}
+use Rattle.ro_event.specs.declared.calls.Call.{Call}
+use Rattle.ro_kernel.specs.State.{State}
+use Rattle.ro_core.specs.Core.{Job, Core, is_going}
+use Rattle.ro_core.specs.Legal.{after, MayEnd, cut_output, output_of, replay}
+use Rattle.ro_core.specs.Seen.{sent_of, KeepsViews}
+use Rattle.ro_core.specs.Fields.{failed_of, AreSeated, one_end, Fields, core_in, state_in, blocked_at, Holds}
+use Rattle.ro_core.proofs.Homes.{replay_more}
+use Rattle.ro_core.proofs.Held.{Goes, goes, Becomes, holds-step}
+use Rattle.ro_core.proofs.Entries.{end-seated}
+use Rattle.ro_core.proofs.Ordered.{going-parts}
+
+-- an end that is not the sink's cuts nothing
+pub cut-none : (core : Core) (how : How) → ((bytes : ℕ) → how ≢ Sink bytes) → cut_output core how ≡ core.output
+cut-none core (Sink bytes) not_sink = absurd (not_sink bytes refl)
+cut-none core (Exit status) not_sink = refl
+cut-none core (Trap code) not_sink = refl
+cut-none core (Limit steps next) not_sink = refl
+cut-none core Deadlock not_sink = refl
+cut-none core Differ not_sink = refl
+cut-none core NoMajority not_sink = refl
+
+module _ (f : Fields) (h : Holds f) (how : How) (going : is_going (state_in f) ≡ true) (allowed : MayEnd f.job (state_in f) how) where
+  pub concluding : Goes f
+  concluding = goes f h going
+
+  conclude-allowed : MayEnd f.job (core_in f) how
+  conclude-allowed = subst (λ (c : Core). MayEnd f.job c how) concluding.same allowed
+
+  conclude-not-over : (core_in f).ended ≡ None
+  conclude-not-over = sym h.ended_is ∙ concluding.not_ended
+
+  pub conclude-room : 0 < f.places
+  conclude-room = let e : one_end f.ended ≡ 1 = ap one_end concluding.not_ended in let k = h.room in omega arith
+
+  pub conclude-holds : (f' : Fields) → f'.job ≡ f.job → f'.kernel ≡ f.kernel → f'.blocked ≡ f.blocked → f'.steps ≡ f.steps → f'.views ≡ f.views → f'.seats ≡ f.seats → f'.leases ≡ f.leases → f'.due ≡ f.due → f'.ended ≡ Some how
+      → f'.journal ≡ f.journal ++ End how ∷ [] → f.places ≡ f'.places + 1 → KeepsViews f.job (f.journal ++ End how ∷ []) f.views → Holds f'
+  unfolding after
+  conclude-holds f' job kernel blocked steps views seats leases due ended journal less kept = holds-step f f' (End how) h (conclude-not-over, conclude-allowed) (record {
+    job = job;
+    journal = journal;
+    leases = leases ∙ h.leases_are;
+    setup = ap (λ (k : State). k.setup) kernel;
+    kernel = ap (λ (k : State). k.kernel) kernel ∙ h.kernel_is;
+    blocked_count = ap length blocked ∙ h.blocked_count;
+    blocked = λ t. ap (λ (bs : List (Option Call)). blocked_at bs t) blocked ∙ h.blocked_are t;
+    steps = steps ∙ h.steps_are;
+    due = inl (due ∙ concluding.not_due);
+    not_sink = λ bytes e. absurd (let g : None ≡ Some (Sink bytes) = sym concluding.not_due ∙ sym due ∙ e in cc);
+    ended = ended;
+    seats = subst (AreSeated f.job (after f.job (core_in f) (End how))) (sym seats) (end-seated f.job (core_in f) f.seats how h.seats_are);
+    views_count = ap length views ∙ h.views_count ∙ sym (ap length seats);
+    views_kept = subst (KeepsViews f.job (f.journal ++ End how ∷ [])) (sym views) kept;
+    room = let k = h.room in let one : one_end f.ended ≡ 1 = ap one_end concluding.not_ended in let none : one_end f'.ended ≡ 0 = ap one_end ended in let n : length f'.leases ≡ length f.leases = ap length leases in omega arith;
+  })
+
+  pub conclude-sent : ((bytes : ℕ) → how ≢ Sink bytes) → sent_of f.job (f.journal ++ End how ∷ []) (failed_of f.due) ≡ sent_of f.job f.journal (failed_of f.due)
+  unfolding after
+  conclude-sent not_sink =
+      ap (sent_of f.job (f.journal ++ End how ∷ [])) concluding.not_failed
+      ∙ ap (λ (c : Core). c.output) (replay_more f.job f.journal (End how))
+      ∙ cut-none (core_in f) how not_sink
+      ∙ sym (ap (sent_of f.job f.journal) concluding.not_failed)

@@ -1,0 +1,120 @@
+-- A blocked call that is served, in the fields of a core.
+use Rattle.std.proofs.Common.{◌≡◌, ◌≢◌, ◌⊎◌, inl, inr, ℕ, zero, suc, ◌+◌, ◌<◌, ◌≤◌, Bool, true, false, true≢false, List, [], ◌∷◌, ◌++◌, length, Option, Some, None, refl, sym, ap, ◌∙◌, subst, arith, append-nil}
+use Rattle.std.specs.Prelude.{◌^◌, if◌then◌else◌, IfSome, slice_get}
+use Rattle.ro_journal.specs.declared.How.{How}
+use Rattle.ro_journal.specs.declared.How.TheVariants.{Limit}
+use Rattle.ro_journal.specs.declared.Did.TheVariants.{Served as WasServed}
+use Rattle.ro_journal.specs.declared.Entry.{Entry}
+use Rattle.ro_journal.specs.declared.Entry.TheVariants.{Free}
+use Rattle.ro_journal.specs.Plan.{event_steps}
+use Rattle.ro_event.specs.declared.calls.Call.{Call}
+use Rattle.ro_kernel.specs.Kernel.{Setup, Kernel, lives_on}
+use Rattle.ro_kernel.specs.Serve.{Served, Done, Blocked, Ends, serve}
+use Rattle.ro_plain.specs.Machine.{setup_of}
+use Rattle.ro_replica.specs.Replica.{Replica}
+use Rattle.ro_core.specs.Core.{Job, Core, may_free, is_going}
+use Rattle.ro_core.specs.Event.{Event, call_event, core_after}
+use Rattle.ro_core.specs.Legal.{freed_event, core_after_event, after, output_of, MayFree, MayEnd, for_free, EndsFree, replay}
+use Rattle.ro_core.specs.Seen.{sent_of}
+use Rattle.ro_core.specs.Fields.{failed_of, due_behind, AreHome, Fields, blocked_at, core_in, state_in, Holds}
+use Rattle.ro_core.proofs.Homes.{replay_more}
+use Rattle.ro_core.proofs.Held.{Goes, goes}
+use Rattle.ro_core.proofs.Happens.{Happens, call-happens}
+use Rattle.ro_core.proofs.Ordered.{FreeParts, free-parts, freed-is, freed-steps, ordered}
+use Rattle.ro_core.proofs.Behind.{SinkWell}
+use Rattle.ro_core.proofs.Holding.{lives-within, no-page, over-unfailed}
+use Rattle.ro_core.proofs.Served.{serve-tidy}
+use Rattle.ro_core.proofs.Tests.{all-home}
+
+payload-none : (kernel : Kernel) (thread : ℕ) (call : Call) (served : Served) → (call_event kernel thread call [] served).payload ≡ []
+payload-none kernel thread call (Done after effect) = refl
+payload-none kernel thread call Blocked = refl
+payload-none kernel thread call (Ends after how) = refl
+
+module _ (f : Fields) (h : Holds f) (thread : ℕ) (may : may_free f.job (state_in f) thread ≡ true) where
+  state-parts : FreeParts f.job (state_in f) thread
+  state-parts = free-parts f.job (state_in f) thread may
+
+  pub free-goes : Goes f
+  free-goes = goes f h state-parts.going
+
+  pub free-may : may_free f.job (core_in f) thread ≡ true
+  free-may = ap (λ (c : Core). may_free f.job c thread) (sym free-goes.same) ∙ may
+
+  pub parts : FreeParts f.job (core_in f) thread
+  parts = free-parts f.job (core_in f) thread free-may
+
+  pub free-alone : f.leases ≡ []
+  free-alone = h.leases_are ∙ parts.alone
+
+  -- the call that the code has for it
+  pub free-call : (call : Call) → blocked_at f.blocked thread ≡ Some call → (core_in f).blocked thread ≡ Some call
+  free-call call e = sym (h.blocked_are thread) ∙ e
+
+  pub free-there : blocked_at f.blocked thread ≡ Some parts.call
+  free-there = h.blocked_are thread ∙ parts.blocked_on
+
+  pub free-live : lives_on f.kernel.kernel thread ≡ true
+  free-live = ap (λ (k : Kernel). lives_on k thread) h.kernel_is ∙ (ordered f.job f.journal h.legal).blocked_live parts.not_due parts.not_ended thread parts.call parts.blocked_on
+
+  pub free-made : thread < length (core_in f).kernel.lives
+  free-made = lives-within (core_in f).kernel thread ((ordered f.job f.journal h.legal).blocked_live parts.not_due parts.not_ended thread parts.call parts.blocked_on)
+
+  pub free-few : thread < 16
+  free-few = let few = (ordered f.job f.journal h.legal).few_lives in let m = free-made in omega arith
+
+  pub free-steps : f.steps ≤ f.job.settings.limit
+  free-steps = let e = h.steps_are in let l = (ordered f.job f.journal h.legal).within_limit in omega arith
+
+  pub free-home : AreHome f.job f.seats (core_in f).replicas
+  free-home = all-home f.job (core_in f) f.seats h.seats_are parts.alone
+
+  pub free-threads : (number : ℕ) (replica : Replica) → slice_get (core_in f).replicas number ≡ Some replica → length replica.threads ≡ length (core_in f).kernel.lives
+  free-threads number replica e = ((ordered f.job f.journal h.legal).sound number replica e).all_made
+
+  -- the end in its place
+  pub free-ends : f.steps ≡ f.job.settings.limit → EndsFree f.job (state_in f) (Limit f.steps 1)
+  free-ends e = (h.steps_are ∙ ap (λ (c : Core). c.steps) (sym free-goes.same), refl, omega arith)
+
+  pub free-may-end : f.steps ≡ f.job.settings.limit → MayEnd f.job (state_in f) (Limit f.steps 1)
+  free-may-end e = for_free thread may (free-ends e)
+
+  module _ (call : Call) (there : blocked_at f.blocked thread ≡ Some call) where
+    abbrev pub the-event : Event
+    the-event = call_event f.kernel.kernel thread call [] (serve f.kernel.setup f.kernel.kernel thread call)
+
+    same-call : parts.call ≡ call
+    same-call = let e : Some parts.call ≡ Some call = sym parts.blocked_on ∙ free-call call there in cc
+
+    pub free-happens : Happens (core_in f).kernel thread the-event
+    free-happens = subst (λ (k : Kernel). Happens k thread the-event) h.kernel_is (call-happens f.kernel.setup f.kernel.kernel thread call [])
+
+    pub free-low : IfSome the-event.effect.page (λ page. page < 2 ^ 20)
+    free-low = subst (λ (o : Option ℕ). IfSome o (λ page. page < 2 ^ 20)) (sym (no-page f.kernel.setup f.kernel.kernel thread call [] (serve f.kernel.setup f.kernel.kernel thread call) (serve-tidy f.kernel.setup f.kernel.kernel thread call))) tt
+
+    pub free-came : after f.job (core_in f) (Free thread) ≡ core_after (core_in f) thread 0 (core_in f).replicas the-event
+    unfolding after
+    free-came =
+        ap (core_after_event (core_in f) thread 0 (core_in f).replicas) (freed-is f.job (core_in f) thread call (free-call call there)
+        ∙ ap (λ (s : Setup). Some (call_event (core_in f).kernel thread call [] (serve s (core_in f).kernel thread call))) (sym h.setup_is)
+        ∙ ap (λ (k : Kernel). Some (call_event k thread call [] (serve f.kernel.setup k thread call))) (sym h.kernel_is))
+
+    pub free-did : the-event.did ≡ WasServed
+    free-did =
+        ap (λ (k : Kernel). (call_event k thread call [] (serve f.kernel.setup k thread call)).did) h.kernel_is
+        ∙ ap (λ (s : Setup). (call_event (core_in f).kernel thread call [] (serve s (core_in f).kernel thread call)).did) h.setup_is
+        ∙ ap (λ (x : Call). (call_event (core_in f).kernel thread x [] (serve (setup_of f.job.program) (core_in f).kernel thread x)).did) (sym same-call)
+        ∙ freed-steps f.job (core_in f).kernel thread parts.call parts.goes_on
+
+    pub free-allowed : f.steps + 1 ≤ f.job.settings.limit → MayFree f.job (core_in f) thread
+    free-allowed fits = record { may = free-may; fits = let e = h.steps_are in omega arith }
+
+    pub free-well : SinkWell the-event None
+    free-well = record { part = λ bytes e. absurd (let g : None ≡ Some bytes = e in cc) }
+
+    pub free-sent : sent_of f.job (f.journal ++ Free thread ∷ []) (failed_of the-event.due) ≡ sent_of f.job f.journal (failed_of f.due)
+    free-sent =
+        ap (sent_of f.job (f.journal ++ Free thread ∷ [])) (over-unfailed the-event.due free-happens.ends_well)
+        ∙ ap (λ (c : Core). c.output) (replay_more f.job f.journal (Free thread) ∙ free-came)
+        ∙ ap (λ (xs : List ℕ). (core_in f).output ++ xs) (payload-none f.kernel.kernel thread call (serve f.kernel.setup f.kernel.kernel thread call)) ∙ append-nil (core_in f).output
+        ∙ sym (ap (sent_of f.job f.journal) free-goes.not_failed)

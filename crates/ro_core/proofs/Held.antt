@@ -1,0 +1,147 @@
+-- The fields of a core behind one entry more.
+use Rattle.std.proofs.Common.{◌≡◌, ◌⊎◌, inl, inr, ℕ, ◌+◌, ◌<◌, ◌≤◌, Bool, true, false, true≢false, ◌&&◌, List, [], ◌∷◌, ◌++◌, length, Option, Some, None, refl, sym, ap, ◌∙◌, subst, arith}
+use Rattle.std.specs.Prelude.{is_none, slice_get}
+use Rattle.ro_journal.specs.declared.How.{How}
+use Rattle.ro_journal.specs.declared.How.TheVariants.{Exit, Deadlock, Trap, Limit, Differ, NoMajority, Sink}
+use Rattle.ro_journal.specs.declared.Entry.{Entry}
+use Rattle.ro_journal.specs.Plan.{outcome_of}
+use Rattle.ro_event.specs.declared.calls.Call.{Call}
+use Rattle.ro_event.specs.Views.{View}
+use Rattle.ro_kernel.specs.Kernel.{Kernel, Setup}
+use Rattle.ro_settings.specs.Ranges.{InRange}
+use Rattle.ro_plain.specs.Machine.{setup_of}
+use Rattle.ro_replica.specs.Replica.{Replica}
+use Rattle.ro_core.specs.declared.actions.Lease.{Lease}
+use Rattle.ro_core.specs.Core.{Job, Core, is_going}
+use Rattle.ro_core.specs.Legal.{after, IsAllowed, Legal, replay, replay_with}
+use Rattle.ro_core.specs.Seen.{KeepsViews}
+use Rattle.ro_core.specs.Fields.{failed_of, AreSeated, one_end, Fields, core_in, state_in, blocked_at, Holds}
+use Rattle.ro_core.proofs.Homes.{replay_more, legal_more}
+use Rattle.ro_core.proofs.Ordered.{going-parts}
+use Rattle.ro_core.proofs.Outcomes.{ended_is_outcome}
+
+-- ---- a failing sink makes an end due and changes nothing else
+
+module _ (job : Job) (journal : List Entry) where
+  pub with-leases : (o : Option ℕ) → (replay_with job journal o).leases ≡ (replay job journal).leases
+  with-leases None = refl
+  with-leases (Some n) = refl
+
+  pub with-kernel : (o : Option ℕ) → (replay_with job journal o).kernel ≡ (replay job journal).kernel
+  with-kernel None = refl
+  with-kernel (Some n) = refl
+
+  pub with-replicas : (o : Option ℕ) → (replay_with job journal o).replicas ≡ (replay job journal).replicas
+  with-replicas None = refl
+  with-replicas (Some n) = refl
+
+  pub with-ended : (o : Option ℕ) → (replay_with job journal o).ended ≡ (replay job journal).ended
+  with-ended None = refl
+  with-ended (Some n) = refl
+
+  -- the end that is due by a failing sink
+  pub due-failed : (o : Option How) (bytes : ℕ) → o ≡ Some (Sink bytes) → o ≡ (replay_with job journal (failed_of o)).due
+  due-failed o bytes e = e ∙ sym (ap (λ (x : Option How). (replay_with job journal (failed_of x)).due) e)
+
+  -- and where the sink did not fail
+  pub due-same : (o : Option How) → failed_of o ≡ None → o ≡ (replay job journal).due → o ≡ (replay_with job journal (failed_of o)).due
+  due-same o none e = e ∙ sym (ap (λ (x : Option ℕ). (replay_with job journal x).due) none)
+
+-- no end is due where the core goes on
+pub record Goes (f : Fields) : Type 0 where
+  pub not_due : f.due ≡ None
+  pub not_ended : f.ended ≡ None
+  pub same : state_in f ≡ core_in f
+  pub not_failed : failed_of f.due ≡ None
+
+pub goes : (f : Fields) → Holds f → is_going (state_in f) ≡ true → Goes f
+goes f h e =
+    let p = going-parts (state_in f) e in
+    let not_due : f.due ≡ None = h.due_is ∙ p.0 in
+    record {
+      not_due = not_due;
+      not_ended = h.ended_is ∙ sym (with-ended f.job f.journal (failed_of f.due)) ∙ p.1;
+      same = ap (λ (o : Option How). replay_with f.job f.journal (failed_of o)) not_due;
+      not_failed = ap failed_of not_due;
+    }
+
+-- ---- the views that are kept
+
+pub no-views : (job : Job) (journal : List Entry) (views : List View) → outcome_of journal ≡ None → KeepsViews job journal views
+no-views job journal views none = λ e. absurd (by e)
+  where
+    by : (outcome_of journal ≡ Some Differ) ⊎ (outcome_of journal ≡ Some NoMajority) → ⊥
+    by (inl e) = let f : None ≡ Some Differ = sym none ∙ e in cc
+    by (inr e) = let f : None ≡ Some NoMajority = sym none ∙ e in cc
+
+-- a journal that did not end with a split
+pub not-split : (job : Job) (journal : List Entry) (views : List View) (how : How) → outcome_of journal ≡ Some how → (how ≡ Differ → ⊥) → (how ≡ NoMajority → ⊥) → KeepsViews job journal views
+not-split job journal views how is a b = λ e. absurd (by e)
+  where
+    by : (outcome_of journal ≡ Some Differ) ⊎ (outcome_of journal ≡ Some NoMajority) → ⊥
+    by (inl e) = a (let f : Some how ≡ Some Differ = sym is ∙ e in cc)
+    by (inr e) = b (let f : Some how ≡ Some NoMajority = sym is ∙ e in cc)
+
+-- ---- one entry more
+
+-- what the fields are behind an entry
+pub record Becomes (f f' : Fields) (entry : Entry) : Type 0 where
+  pub job : f'.job ≡ f.job
+  pub journal : f'.journal ≡ f.journal ++ entry ∷ []
+  pub leases : f'.leases ≡ (after f.job (core_in f) entry).leases
+  pub setup : f'.kernel.setup ≡ f.kernel.setup
+  pub kernel : f'.kernel.kernel ≡ (after f.job (core_in f) entry).kernel
+  pub blocked_count : length f'.blocked ≡ 16
+  pub blocked : (thread : ℕ) → blocked_at f'.blocked thread ≡ (after f.job (core_in f) entry).blocked thread
+  pub steps : f'.steps ≡ (after f.job (core_in f) entry).steps
+  pub due : (f'.due ≡ (after f.job (core_in f) entry).due) ⊎ ((bytes : ℕ) × (f'.due ≡ Some (Sink bytes)))
+  pub not_sink : (bytes : ℕ) → f'.due ≡ Some (Sink bytes) → (bytes < (after f.job (core_in f) entry).wrote) × (is_going (after f.job (core_in f) entry) ≡ true)
+  pub ended : f'.ended ≡ (after f.job (core_in f) entry).ended
+  pub seats : AreSeated f.job (after f.job (core_in f) entry) f'.seats
+  pub views_count : length f'.views ≡ length f'.seats
+  pub views_kept : KeepsViews f.job (f.journal ++ entry ∷ []) f'.views
+  pub room : length f'.leases + one_end f'.ended ≤ f'.places
+
+module _ (f f' : Fields) (entry : Entry) (h : Holds f) (allowed : IsAllowed f.job (core_in f) entry) (b : Becomes f f' entry) where
+  core_is : core_in f' ≡ after f.job (core_in f) entry
+  core_is = ap (λ (j : Job). replay j f'.journal) b.job ∙ ap (replay f.job) b.journal ∙ replay_more f.job f.journal entry
+
+  -- where the due end is that of a failing sink, or of the entry
+  due_is : (o : Option ℕ) → failed_of f'.due ≡ o → (f'.due ≡ (after f.job (core_in f) entry).due) ⊎ ((bytes : ℕ) × (f'.due ≡ Some (Sink bytes))) → f'.due ≡ (state_in f').due
+  due_is None e (inl d) = due-same f'.job f'.journal f'.due e (d ∙ sym (ap (λ (c : Core). c.due) core_is))
+  due_is None e (inr d) = due-failed f'.job f'.journal f'.due d.0 d.1
+  due_is (Some bytes) e d = due-failed f'.job f'.journal f'.due bytes (failed-sink f'.due bytes e)
+    where
+      failed-sink : (o : Option How) (n : ℕ) → failed_of o ≡ Some n → o ≡ Some (Sink n)
+      failed-sink None n g = absurd (let k : None ≡ Some n = g in cc)
+      failed-sink (Some (Sink m)) n g = ap (λ (x : ℕ). Some (Sink x)) (let k : Some m ≡ Some n = g in cc)
+      failed-sink (Some (Exit status)) n g = absurd (let k : None ≡ Some n = g in cc)
+      failed-sink (Some (Trap code)) n g = absurd (let k : None ≡ Some n = g in cc)
+      failed-sink (Some (Limit steps next)) n g = absurd (let k : None ≡ Some n = g in cc)
+      failed-sink (Some Deadlock) n g = absurd (let k : None ≡ Some n = g in cc)
+      failed-sink (Some Differ) n g = absurd (let k : None ≡ Some n = g in cc)
+      failed-sink (Some NoMajority) n g = absurd (let k : None ≡ Some n = g in cc)
+
+  pub holds-step : Holds f'
+  holds-step = record {
+    in_range = subst (λ (j : Job). InRange j.settings) (sym b.job) h.in_range;
+    legal = subst (λ (j : Job). Legal j f'.journal) (sym b.job) (subst (Legal f.job) (sym b.journal) (legal_more f.job f.journal entry h.legal allowed));
+    leases_are = b.leases ∙ sym (ap (λ (c : Core). c.leases) core_is);
+    setup_is = b.setup ∙ h.setup_is ∙ ap (λ (j : Job). setup_of j.program) (sym b.job);
+    kernel_is = b.kernel ∙ sym (ap (λ (c : Core). c.kernel) core_is);
+    blocked_count = b.blocked_count;
+    blocked_are = λ t. b.blocked t ∙ sym (ap (λ (c : Core). c.blocked t) core_is);
+    steps_are = b.steps ∙ sym (ap (λ (c : Core). c.steps) core_is);
+    due_is = due_is (failed_of f'.due) refl b.due;
+    ended_is = b.ended ∙ sym (ap (λ (c : Core). c.ended) core_is);
+    seats_are = subst (λ (j : Job). AreSeated j (core_in f') f'.seats) (sym b.job) (subst (λ (c : Core). AreSeated f.job c f'.seats) (sym core_is) b.seats);
+    views_count = b.views_count;
+    views_kept = subst (λ (j : Job). KeepsViews j f'.journal f'.views) (sym b.job) (subst (λ (js : List Entry). KeepsViews f.job js f'.views) (sym b.journal) b.views_kept);
+    failed_well = λ bytes e. let n = b.not_sink bytes e in
+        (subst (λ (c : Core). bytes < c.wrote) (sym core_is) n.0, ap is_going core_is ∙ n.1);
+    room = b.room;
+  }
+
+-- the journal goes on where the core has not ended
+pub no-outcome : (f : Fields) → Holds f → f.ended ≡ None → outcome_of f.journal ≡ None
+no-outcome f h e = sym (ended_is_outcome f.job f.journal h.legal) ∙ sym h.ended_is ∙ e

@@ -1,0 +1,151 @@
+-- The seats of the replicas, and what an entry more does to them.
+use Rattle.std.proofs.Common.{◌≡◌, ℕ, zero, suc, ◌+◌, ◌<◌, ◌≤◌, Bool, true, false, true≢false, not, cond, ◌&&◌, ◌||◌, List, [], ◌∷◌, ◌++◌, length, Option, Some, None, refl, sym, ap, ◌∙◌, subst, arith, eqb-true, eq-eqb}
+use Rattle.std.specs.Prelude.{◌==◌, slice_get, slice_set}
+use Rattle.std.specs.List.{filter, list_any}
+use Rattle.std.specs.Option.{option_map_or, option_and_then}
+use Rattle.std.proofs.lemmas.Bool.{and_parts}
+use Rattle.std.proofs.lemmas.List.{length-set}
+use Rattle.std.proofs.lemmas.List.Filters.{length-filter_both}
+use Rattle.std.proofs.lemmas.Option.{slice_get_within, slice_get-get_or}
+use Rattle.ro_journal.specs.declared.Entry.{Entry}
+use Rattle.ro_journal.specs.declared.Entry.TheVariants.{Take, Put, End}
+use Rattle.ro_kernel.specs.Kernel.{lives_on}
+use Rattle.ro_kernel.proofs.Kept.{slice_get-set_other}
+use Rattle.ro_plain.specs.Machine.{layout_of}
+use Rattle.ro_replica.specs.Replica.{Replica}
+use Rattle.ro_replica.specs.Runs.{Ran, run_of}
+use Rattle.ro_replica.specs.Seen.{ReplicaOf, replica_of}
+use Rattle.ro_replica.specs.Views.{is_unstopped}
+use Rattle.ro_core.specs.declared.actions.Lease.{Lease}
+use Rattle.ro_core.specs.Core.{Job, Core, opening_core, is_home, is_lendable}
+use Rattle.ro_core.specs.Legal.{is_lease, lease_run, arrived, core_after_put, after, IsAllowed, MayPut, Legal, replay}
+use Rattle.ro_core.specs.Seen.{IsOfJob}
+use Rattle.ro_core.specs.Fields.{Seated, AreSeated, IsSeat}
+use Rattle.ro_core.proofs.Journals.{replay_from-append, LegalFrom-append}
+use Rattle.ro_core.proofs.Leases.{Apart, has_replica, gone, others_stay}
+use Rattle.ro_core.proofs.Lists.{get-set-same}
+
+pub replay_more : (job : Job) (journal : List Entry) (entry : Entry) → replay job (journal ++ entry ∷ []) ≡ after job (replay job journal) entry
+replay_more job journal entry = replay_from-append job (opening_core job) journal (entry ∷ [])
+
+pub legal_more : (job : Job) (journal : List Entry) (entry : Entry) → Legal job journal → IsAllowed job (replay job journal) entry → Legal job (journal ++ entry ∷ [])
+legal_more job journal entry legal allowed = LegalFrom-append job (opening_core job) journal (entry ∷ []) legal (allowed, tt)
+
+-- what may be lent is at home
+pub record AtHome (core : Core) (replica : ℕ) : Type 0 where
+  pub home : is_home core replica ≡ true
+  pub value : Replica
+  pub there : slice_get core.replicas replica ≡ Some value
+
+pub lendable_there : (core : Core) (replica thread : ℕ) → is_lendable core replica thread ≡ true → AtHome core replica
+lendable_there core replica thread e =
+    let p = and_parts (is_home core replica && lives_on core.kernel thread) (option_map_or (is_unstopped thread) (slice_get core.replicas replica) false) e in
+    let q = and_parts (is_home core replica) (lives_on core.kernel thread) p.0 in
+    some q.0 (slice_get core.replicas replica) refl p.1
+  where
+    some : is_home core replica ≡ true → (o : Option Replica) → slice_get core.replicas replica ≡ o → option_map_or (is_unstopped thread) o false ≡ true → AtHome core replica
+    some home None f g = absurd (true≢false (sym g))
+    some home (Some r) f g = record { home = home; value = r; there = f }
+
+pub seat_there : (job : Job) (core : Core) (seats : List (Option ReplicaOf)) (replica : ℕ) (r : Replica) → AreSeated job core seats → is_home core replica ≡ true → slice_get core.replicas replica ≡ Some r
+    → (value : ReplicaOf) × (slice_get seats replica ≡ Some (Some value))
+seat_there job core seats replica r seated home there = by (slice_get seats replica) refl (seated.each replica)
+  where
+    within : replica < length seats
+    within = let h : replica < length core.replicas = slice_get_within core.replicas replica r there in let c : length seats ≡ length core.replicas = seated.count in omega arith
+
+    by : (o : Option (Option ReplicaOf)) → slice_get seats replica ≡ o → Seated job core replica o → (value : ReplicaOf) × (slice_get seats replica ≡ Some (Some value))
+    by None f s = absurd (let g : None ≡ Some _ = sym f ∙ slice_get-get_or seats replica None within in cc)
+    by (Some None) f s = absurd (true≢false (sym home ∙ s))
+    by (Some (Some value)) f s = (value, f)
+
+differ_by : (m n : ℕ) → (m == n) ≡ false → m ≡ n → ⊥
+differ_by m n e f = true≢false (sym (eq-eqb m n f) ∙ e)
+
+-- a seat that the entry leaves alone
+same_seat : (job : Job) (old new : Core) (number : ℕ) (seat : Option (Option ReplicaOf)) → is_home new number ≡ is_home old number → slice_get new.replicas number ≡ slice_get old.replicas number
+    → Seated job old number seat → Seated job new number seat
+same_seat job old new number None h r s = tt
+same_seat job old new number (Some None) h r s = h ∙ s
+same_seat job old new number (Some (Some value)) h r s = (h ∙ s.0, s.1, r ∙ s.2)
+
+-- a replica leaves its seat
+pub take_seated : (job : Job) (core : Core) (seats : List (Option ReplicaOf)) (driver replica thread : ℕ) (value : ReplicaOf) → AreSeated job core seats → slice_get seats replica ≡ Some (Some value)
+    → AreSeated job (after job core (Take driver replica thread)) (slice_set seats replica None)
+unfolding after
+take_seated job core seats driver replica thread value seated there = record {
+  count = length-set seats replica None ∙ seated.count;
+  each = λ number. by number (replica == number) refl;
+}
+  where
+    by : (number : ℕ) (b : Bool) → (replica == number) ≡ b → Seated job (after job core (Take driver replica thread)) number (slice_get (slice_set seats replica None) number)
+    by number true e =
+        let same : replica ≡ number = eqb-true replica number e in
+        let empty : slice_get (slice_set seats replica None) number ≡ Some None = ap (slice_get (slice_set seats replica None)) (sym same) ∙ get-set-same seats replica (Some value) None there in
+        let away : not ((replica == number) || has_replica number core.leases) ≡ false = ap (λ (b : Bool). not (b || has_replica number core.leases)) e in
+        subst (λ (o : Option (Option ReplicaOf)). Seated job (after job core (Take driver replica thread)) number o) (sym empty) away
+    by number false e =
+        let kept : slice_get (slice_set seats replica None) number ≡ slice_get seats number = slice_get-set_other seats replica number None (differ_by replica number e) in
+        let home : not ((replica == number) || has_replica number core.leases) ≡ not (has_replica number core.leases) = ap (λ (b : Bool). not (b || has_replica number core.leases)) e in
+        subst (λ (o : Option (Option ReplicaOf)). Seated job (after job core (Take driver replica thread)) number o) (sym kept)
+        (same_seat job core (after job core (Take driver replica thread)) number (slice_get seats number) home refl (seated.each number))
+
+-- a run is of a replica that is there
+run_there : (job : Job) (core : Core) (replica thread count : ℕ) (ran : Ran) → lease_run job core replica thread count ≡ Some ran → (r : Replica) × (slice_get core.replicas replica ≡ Some r)
+run_there job core replica thread count ran e = by (slice_get core.replicas replica) refl e
+  where
+    by : (o : Option Replica) → slice_get core.replicas replica ≡ o → option_and_then (λ r. run_of (layout_of job.program) job.settings.watchdog count r thread) o ≡ Some ran → (r : Replica) × (slice_get core.replicas replica ≡ Some r)
+    by None f g = absurd (let h : None ≡ Some ran = g in cc)
+    by (Some r) f g = (r, f)
+
+pub seat_within : (job : Job) (core : Core) (seats : List (Option ReplicaOf)) (replica thread count : ℕ) (ran : Ran) → AreSeated job core seats → lease_run job core replica thread count ≡ Some ran → replica < length seats
+seat_within job core seats replica thread count ran seated e =
+    let t = run_there job core replica thread count ran e in
+    let h : replica < length core.replicas = slice_get_within core.replicas replica t.0 t.1 in
+    let c : length seats ≡ length core.replicas = seated.count in
+    omega arith
+
+-- a replica comes back to its seat
+pub put_seated : (job : Job) (core : Core) (seats : List (Option ReplicaOf)) (driver replica thread count hit : ℕ) (value : ReplicaOf) → Apart core.leases → AreSeated job core seats
+    → MayPut job core driver replica thread count hit → IsOfJob job value
+    → slice_get (after job core (Put driver replica thread count hit)).replicas replica ≡ Some (replica_of value)
+    → AreSeated job (after job core (Put driver replica thread count hit)) (slice_set seats replica (Some value))
+unfolding after
+put_seated job core seats driver replica thread count hit value apart seated m program became =
+    let new : Core = core_after_put job core driver replica thread count (Some m.ran) in
+    let is : core_after_put job core driver replica thread count (lease_run job core replica thread count) ≡ new = ap (core_after_put job core driver replica thread count) m.runs in
+    subst (λ (c : Core). AreSeated job c (slice_set seats replica (Some value))) (sym is) (record {
+      count = length-set seats replica (Some value) ∙ seated.count ∙ sym (length-set core.replicas replica (arrived job thread count m.ran.replica));
+      each = λ number. by number (sym (ap (λ (c : Core). slice_get c.replicas replica) is) ∙ became) (replica == number) refl;
+    })
+  where
+    left : List Lease
+    left = filter (λ l. not (is_lease driver replica thread l)) core.leases
+
+    within : replica < length seats
+    within = seat_within job core seats replica thread count m.ran seated m.runs
+
+    by : (number : ℕ) → slice_get (core_after_put job core driver replica thread count (Some m.ran)).replicas replica ≡ Some (replica_of value) → (b : Bool) → (replica == number) ≡ b
+        → Seated job (core_after_put job core driver replica thread count (Some m.ran)) number (slice_get (slice_set seats replica (Some value)) number)
+    by number there true e =
+        let same : replica ≡ number = eqb-true replica number e in
+        let in_seat : slice_get (slice_set seats replica (Some value)) replica ≡ Some (Some value) = get-set-same seats replica _ (Some value) (slice_get-get_or seats replica None within) in
+        let home : not (has_replica replica (filter (λ l. not (is_lease driver replica thread l)) core.leases)) ≡ true = ap not (gone driver replica thread core.leases apart m.out) in
+        subst (λ (n : ℕ). Seated job (core_after_put job core driver replica thread count (Some m.ran)) n (slice_get (slice_set seats replica (Some value)) n)) same
+        (subst (λ (o : Option (Option ReplicaOf)). Seated job (core_after_put job core driver replica thread count (Some m.ran)) replica o) (sym in_seat) (home, program, there))
+    by number there false e =
+        let ne : replica ≡ number → ⊥ = differ_by replica number e in
+        let kept : slice_get (slice_set seats replica (Some value)) number ≡ slice_get seats number = slice_get-set_other seats replica number (Some value) ne in
+        subst (λ (o : Option (Option ReplicaOf)). Seated job (core_after_put job core driver replica thread count (Some m.ran)) number o) (sym kept)
+        (same_seat job core (core_after_put job core driver replica thread count (Some m.ran)) number (slice_get seats number)
+        (ap not (others_stay driver replica thread number core.leases (λ f. ne (sym f))))
+        (slice_get-set_other core.replicas replica number _ ne)
+        (seated.each number))
+
+pub fewer : {X : Type 0} (p : X → Bool) (xs : List X) → list_any p xs ≡ true → length (filter (λ x. not (p x)) xs) + 1 ≤ length xs
+fewer p [] e = absurd (true≢false (sym e))
+fewer p (x ∷ xs) e = by (p x) refl (λ later. fewer p xs later)
+  where
+    by : (b : Bool) → p x ≡ b → (list_any p xs ≡ true → length (filter (λ x. not (p x)) xs) + 1 ≤ length xs) → length (cond (not b) (x ∷ filter (λ x. not (p x)) xs) (filter (λ x. not (p x)) xs)) + 1 ≤ length (x ∷ xs)
+    by true is rest = omega (arith, length-filter_both p (λ x. not (p x)) (λ x. refl) xs)
+    by false is rest = let h : length (filter (λ x. not (p x)) xs) + 1 ≤ length xs = rest (sym (ap (λ (b : Bool). b || list_any p xs) is) ∙ e) in omega arith

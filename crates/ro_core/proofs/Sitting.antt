@@ -1,0 +1,100 @@
+-- Replicas in their seats that are changed one at a time.
+use Rattle.std.proofs.Common.{◌≡◌, ◌≢◌, ℕ, zero, suc, ◌<◌, ◌≤◌, List, [], ◌∷◌, length, Option, Some, None, get_or, refl, sym, ap, ap₂, ◌∙◌, subst, arith}
+use Rattle.std.specs.Prelude.{slice_get, slice_set}
+use Rattle.std.specs.Option.{option_map_or}
+use Rattle.std.proofs.lemmas.Option.{get_or_from_slice_get, slice_get_within}
+use Rattle.ro_kernel.proofs.Kept.{slice_get-set_other}
+use Rattle.ro_plain.proofs.Calls.{some-injective}
+use Rattle.ro_replica.specs.Replica.{Replica, recovered}
+use Rattle.ro_replica.specs.Seen.{ReplicaOf, replica_of, AreTwins, Recovers}
+use Rattle.ro_core.specs.Core.{Job}
+use Rattle.ro_event.specs.Effects.{Effect}
+use Rattle.ro_core.specs.Event.{all_applied, with_recovered}
+use Rattle.ro_core.specs.Seen.{IsOfJob}
+use Rattle.ro_core.specs.Fields.{AreHome, AreSpared}
+
+-- a seat at home has its replica
+pub home-get : (job : Job) (seats : List (Option ReplicaOf)) (replicas : List Replica) (i : ℕ) (value : ReplicaOf) → AreHome job seats replicas → slice_get seats i ≡ Some (Some value) → IsOfJob job value × (slice_get replicas i ≡ Some (replica_of value))
+home-get job [] replicas i value h e = absurd (let f : None ≡ Some (Some value) = e in cc)
+home-get job (None ∷ seats) replicas i value h e = absurd h
+home-get job (Some v ∷ seats) [] i value h e = absurd h
+home-get job (Some v ∷ seats) (r ∷ replicas) zero value h e =
+    let same : v ≡ value = some-injective (some-injective e) in
+    (subst (IsOfJob job) same h.0, ap (λ (x : Replica). Some x) (sym h.1 ∙ ap replica_of same))
+home-get job (Some v ∷ seats) (r ∷ replicas) (suc i) value h e = home-get job seats replicas i value h.2 e
+
+-- one replica changes
+pub home-set : (job : Job) (seats : List (Option ReplicaOf)) (replicas : List Replica) (i : ℕ) (value : ReplicaOf) (replica : Replica) → AreHome job seats replicas → IsOfJob job value → replica_of value ≡ replica → AreHome job (slice_set seats i (Some value)) (slice_set replicas i replica)
+home-set job [] [] i value replica h own same = tt
+home-set job [] (r ∷ replicas) i value replica h own same = absurd h
+home-set job (None ∷ seats) replicas i value replica h own same = absurd h
+home-set job (Some v ∷ seats) [] i value replica h own same = absurd h
+home-set job (Some v ∷ seats) (r ∷ replicas) zero value replica h own same = (own, same, h.2)
+home-set job (Some v ∷ seats) (r ∷ replicas) (suc i) value replica h own same = (h.0, h.1, home-set job seats replicas i value replica h.2 own same)
+
+pub spared-get : (seats : List (Option ReplicaOf)) (i : ℕ) (value : ReplicaOf) → AreSpared seats → slice_get seats i ≡ Some (Some value) → 3 ≤ value.held.spare
+spared-get [] i value h e = absurd (let f : None ≡ Some (Some value) = e in cc)
+spared-get (None ∷ seats) zero value h e = absurd (let f : Some None ≡ Some (Some value) = e in cc)
+spared-get (None ∷ seats) (suc i) value h e = spared-get seats i value h e
+spared-get (Some v ∷ seats) zero value h e = subst (λ (x : ReplicaOf). 3 ≤ x.held.spare) (some-injective (some-injective e)) h.0
+spared-get (Some v ∷ seats) (suc i) value h e = spared-get seats i value h.1 e
+
+pub spared-set : (seats : List (Option ReplicaOf)) (i : ℕ) (value : ReplicaOf) → AreSpared seats → 3 ≤ value.held.spare → AreSpared (slice_set seats i (Some value))
+spared-set [] i value h few = tt
+spared-set (None ∷ seats) zero value h few = (few, h)
+spared-set (None ∷ seats) (suc i) value h few = spared-set seats i value h few
+spared-set (Some v ∷ seats) zero value h few = (few, h.1)
+spared-set (Some v ∷ seats) (suc i) value h few = (h.0, spared-set seats i value h.1 few)
+
+-- one that left and came back
+pub set-back : {X : Type 0} (xs : List X) (i j : ℕ) (x y z : X) → i ≢ j → slice_get xs i ≡ Some x → slice_set (slice_set (slice_set xs i y) j z) i x ≡ slice_set xs j z
+set-back [] i j x y z differ e = refl
+set-back (w ∷ xs) zero zero x y z differ e = absurd (differ refl)
+set-back (w ∷ xs) zero (suc j) x y z differ e = ap {B = List _} (λ v. v ∷ slice_set xs j z) (some-injective (sym e))
+set-back {X = X} (w ∷ xs) (suc i) zero x y z differ e = ap {B = List _} (λ r. z ∷ r) (back xs i e)
+  where
+    back : (xs : List X) (i : ℕ) → slice_get xs i ≡ Some x → slice_set (slice_set xs i y) i x ≡ xs
+    back [] i f = refl
+    back (v ∷ xs) zero f = ap {B = List _} (λ u. u ∷ xs) (some-injective (sym f))
+    back (v ∷ xs) (suc i) f = ap {B = List _} (λ r. v ∷ r) (back xs i f)
+set-back (w ∷ xs) (suc i) (suc j) x y z differ e = ap {B = List _} (λ r. w ∷ r) (set-back xs i j x y z (λ f. differ (ap suc f)) e)
+
+-- ---- a recovery
+
+-- the loser's seat while the winner is away
+pub loser-there : (seats : List (Option ReplicaOf)) (won lost : ℕ) (loser : ReplicaOf) (d : Option ReplicaOf) → won ≢ lost → slice_get seats lost ≡ Some (Some loser) → get_or (slice_set seats won None) lost d ≡ Some loser
+loser-there seats won lost loser d differ e = get_or_from_slice_get (slice_set seats won None) lost (Some loser) d (slice_get-set_other seats won lost None differ ∙ e)
+
+recovered-is : (won lost : ℕ) (replicas : List Replica) (winner loser : Replica) → slice_get replicas won ≡ Some winner → slice_get replicas lost ≡ Some loser → with_recovered won (Some lost) replicas ≡ slice_set replicas lost (recovered winner loser)
+recovered-is won lost replicas winner loser a b =
+    ap (λ (o : Option Replica). option_map_or (λ w. option_map_or (λ l. slice_set replicas lost (recovered w l)) (slice_get replicas lost) replicas) o replicas) a
+    ∙ ap (λ (o : Option Replica). option_map_or (λ l. slice_set replicas lost (recovered winner l)) o replicas) b
+
+pub recovery-home : (job : Job) (seats : List (Option ReplicaOf)) (replicas : List Replica) (won lost : ℕ) (winner loser other : ReplicaOf) → won ≢ lost → slice_get seats won ≡ Some (Some winner) → slice_get seats lost ≡ Some (Some loser)
+    → Recovers winner loser other → AreHome job seats replicas → AreHome job (slice_set (slice_set (slice_set seats won None) lost (Some other)) won (Some winner)) (with_recovered won (Some lost) replicas)
+recovery-home job seats replicas won lost winner loser other differ a b r home =
+    let w = home-get job seats replicas won winner home a in
+    let l = home-get job seats replicas lost loser home b in
+    let own : IsOfJob job other = record { layout = r.program.layout ∙ l.0.layout; watchdog = r.program.watchdog ∙ l.0.watchdog } in
+    subst (λ (xs : List (Option ReplicaOf)). AreHome job xs (with_recovered won (Some lost) replicas)) (sym (set-back seats won lost (Some winner) None (Some other) differ a))
+    (subst (AreHome job (slice_set seats lost (Some other))) (sym (recovered-is won lost replicas (replica_of winner) (replica_of loser) w.1 l.1))
+    (home-set job seats replicas lost other (recovered (replica_of winner) (replica_of loser)) home own r.recovered))
+
+pub recovery-spared : (seats : List (Option ReplicaOf)) (won lost : ℕ) (winner loser other : ReplicaOf) → won ≢ lost → slice_get seats won ≡ Some (Some winner) → slice_get seats lost ≡ Some (Some loser)
+    → Recovers winner loser other → AreSpared seats → AreSpared (slice_set (slice_set (slice_set seats won None) lost (Some other)) won (Some winner))
+recovery-spared seats won lost winner loser other differ a b r spared =
+    subst AreSpared (sym (set-back seats won lost (Some winner) None (Some other) differ a))
+    (spared-set seats lost other spared (subst (λ (n : ℕ). 3 ≤ n) (sym r.spare) (spared-get seats lost loser spared b)))
+
+-- one replica more that an event has reached
+pub applied-cons : (job : Job) (effect : Effect) (seats : List (Option ReplicaOf)) (replicas : List Replica) (seat seat' : Option ReplicaOf) (others others' : List (Option ReplicaOf)) → seats ≡ seat ∷ others → AreHome job seats replicas
+    → ((replica : Replica) → AreHome job (seat ∷ []) (replica ∷ []) → AreHome job (seat' ∷ []) (all_applied effect (replica ∷ [])))
+    → ((rest : List Replica) → AreHome job others rest → AreHome job others' (all_applied effect rest))
+    → AreHome job (seat' ∷ others') (all_applied effect replicas)
+applied-cons job effect seats replicas seat seat' others others' is home first rest = by seat seat' replicas (subst (λ (xs : List (Option ReplicaOf)). AreHome job xs replicas) is home) first
+  where
+    by : (seat seat' : Option ReplicaOf) (replicas : List Replica) → AreHome job (seat ∷ others) replicas → ((replica : Replica) → AreHome job (seat ∷ []) (replica ∷ []) → AreHome job (seat' ∷ []) (all_applied effect (replica ∷ []))) → AreHome job (seat' ∷ others') (all_applied effect replicas)
+    by None seat' replicas h f = absurd h
+    by (Some value) seat' [] h f = absurd h
+    by (Some value) None (r ∷ replicas) h f = absurd (f r (h.0, h.1, tt))
+    by (Some value) (Some value') (r ∷ replicas) h f = let one = f r (h.0, h.1, tt) in (one.0, one.1, rest replicas h.2)

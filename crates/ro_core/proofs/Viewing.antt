@@ -1,0 +1,62 @@
+-- The views of a vote, in the fields of a core.
+use Rattle.std.proofs.Common.{◌≡◌, ◌⊎◌, inl, inr, ℕ, ◌+◌, ◌≤◌, true, List, [], length, None, Result, Ok, Err, refl, sym, ap, ◌∙◌, arith}
+use Rattle.std.specs.Prelude.{OnOk, is_some}
+use Rattle.std.specs.List.{list_all, filter_map}
+use Rattle.std.proofs.lemmas.Bool.{and_parts, cases_eq}
+use Rattle.ro_event.specs.Views.{View}
+use Rattle.ro_replica.specs.Replica.{Replica, stop_of}
+use Rattle.ro_replica.specs.Views.{view_of}
+use Rattle.ro_core.specs.Core.{Job, Core, may_vote, views_of}
+use Rattle.ro_core.specs.Fields.{AreHome, seat_stopped, Fields, core_in, state_in, Holds}
+use Rattle.ro_core.proofs.Held.{goes, no-outcome, no-views}
+use Rattle.ro_core.proofs.Ordered.{vote-parts, ordered}
+use Rattle.ro_core.proofs.Tests.{all-home, stopped-home}
+
+pub viewed-holds : (f : Fields) (views : List View) → Holds f → f.ended ≡ None → length views ≡ length f.views → Holds (record f { views = views })
+viewed-holds f views h still same = record {
+  in_range = h.in_range;
+  legal = h.legal;
+  leases_are = h.leases_are;
+  setup_is = h.setup_is;
+  kernel_is = h.kernel_is;
+  blocked_count = h.blocked_count;
+  blocked_are = h.blocked_are;
+  steps_are = h.steps_are;
+  due_is = h.due_is;
+  ended_is = h.ended_is;
+  seats_are = h.seats_are;
+  views_count = same ∙ h.views_count;
+  views_kept = no-views f.job f.journal views (no-outcome f h still);
+  failed_well = h.failed_well;
+  room = h.room;
+}
+
+pub on-ok : {X E : Type 0} {A B : Type 0} (r : Result X E) → (A → B) → OnOk r A → OnOk r B
+on-ok (Ok x) f h = f h
+on-ok (Err e) f h = tt
+
+module _ (f : Fields) (h : Holds f) (thread : ℕ) (may : may_vote (state_in f) thread ≡ true) where
+  pub view-may : may_vote (core_in f) thread ≡ true
+  view-may = ap (λ (c : Core). may_vote c thread) (sym (goes f h (vote-parts (state_in f) thread may).going).same) ∙ may
+
+  pub view-still : f.ended ≡ None
+  view-still = (goes f h (vote-parts (state_in f) thread may).going).not_ended
+
+  pub view-home : AreHome f.job f.seats (core_in f).replicas
+  view-home = all-home f.job (core_in f) f.seats h.seats_are (vote-parts (core_in f) thread view-may).alone
+
+  pub view-stopped : list_all (seat_stopped thread) f.seats ≡ true
+  view-stopped = stopped-home f.job thread f.seats (core_in f).replicas view-home ∙ (and_parts _ _ view-may).1
+
+  as-many : length f.views ≡ f.job.settings.replicas
+  as-many = h.views_count ∙ h.seats_are.count ∙ (ordered f.job f.journal h.legal).replica_count
+
+  pub view-count : (length f.views ≡ 2) ⊎ (length f.views ≡ 3)
+  view-count = elim (cases_eq (length f.views) 2) [
+    | inl e ↦ inl e
+    | inr e ↦ inr (let range = h.in_range.replicas in let many = as-many in omega arith)
+  ]
+
+  -- what is shown are the views of the vote
+  pub view-views : (views : List View) → views ≡ filter_map (view_of f.job.program.image.ranges thread) (core_in f).replicas → views ≡ views_of f.job (state_in f) thread
+  view-views views e = e ∙ ap (λ (c : Core). views_of f.job c thread) (sym (goes f h (vote-parts (state_in f) thread may).going).same)

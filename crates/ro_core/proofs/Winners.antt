@@ -1,0 +1,175 @@
+-- What a verdict says of the views, and of the replicas that showed them.
+use Rattle.std.proofs.Common.{◌≡◌, ◌≢◌, ◌⊎◌, inl, inr, ℕ, zero, suc, ◌+◌, ◌*◌, ◌<◌, ◌≤◌, Bool, true, false, true≢false, not, cond, ◌&&◌, List, [], ◌∷◌, ◌++◌, length, Option, Some, None, get_or, refl, sym, ap, ◌∙◌, subst, arith, lit<}
+use Rattle.std.specs.Prelude.{IfSome, is_some, slice_get, count_by, position, nat_le, min}
+use Rattle.std.specs.List.{list_all, filter_map}
+use Rattle.std.specs.Option.{option_map, option_and_then}
+use Rattle.std.proofs.lemmas.Bool.{and_parts, and_from}
+use Rattle.std.proofs.lemmas.List.Quantifiers.{position-Some}
+use Rattle.std.proofs.lemmas.Option.{slice_get-get_or}
+use Rattle.ro_event.specs.declared.calls.Call.{Call}
+use Rattle.ro_event.specs.declared.stops.Stop.{Stop}
+use Rattle.ro_event.specs.declared.stops.Stop.TheVariants.{Calls, Trap, PageFault, Watchdog}
+use Rattle.ro_event.specs.Views.{View, same_view}
+use Rattle.ro_event.proofs.Same.{view-same, view-true}
+use Rattle.ro_region.specs.declared.Range.{Range}
+use Rattle.ro_pages.specs.Bytes.{Memory, bytes_at}
+use Rattle.ro_kernel.specs.Serve.{capped, is_write, is_good_write, payload_of}
+use Rattle.ro_thread.specs.declared.Thread.{Thread}
+use Rattle.ro_vote.specs.Verdict.{Verdict, verdict_of, Won, Split}
+use Rattle.ro_vote.specs.Votes.{IsWonBy}
+use Rattle.ro_vote.proofs.Majority.{all_alike, third_differs, second_differs, first_differs}
+use Rattle.ro_replica.specs.Replica.{Replica, stop_of}
+use Rattle.ro_replica.specs.Views.{payload_at, view_with, view_of}
+use Rattle.ro_plain.specs.Machine.{setup_of}
+use Rattle.ro_plain.proofs.Calls.{some-injective}
+use Rattle.ro_core.specs.Core.{Job, Core, views_of}
+use Rattle.ro_core.specs.Event.{Event, event_of}
+use Rattle.ro_core.specs.Legal.{event_with, event_in, since_in}
+use Rattle.ro_core.proofs.Lists.{get-within, get-filter-map, length-filter-map}
+
+-- ---- the verdict
+
+same-won : (views : List View) (won won' : ℕ) (lost lost' : Option ℕ) → Won won lost ≡ Won won' lost' → IsWonBy views won lost → IsWonBy views won' lost'
+same-won views won won' lost lost' e h =
+    let w : won ≡ won' = (let f : Won won lost ≡ Won won' lost' = e in cc) in
+    let l : lost ≡ lost' = (let f : Won won lost ≡ Won won' lost' = e in cc) in
+    subst (λ (n : ℕ). IsWonBy views n lost') w (subst (IsWonBy views won) l h)
+
+by-two : (a b : View) (ab : Bool) → same_view a b ≡ ab → (won : ℕ) (lost : Option ℕ) → cond ab (Won 0 None) Split ≡ Won won lost → IsWonBy (a ∷ b ∷ []) won lost
+by-two a b false e won lost is = absurd (let f : Split ≡ Won won lost = is in cc)
+by-two a b true e won lost is = same-won (a ∷ b ∷ []) 0 won None lost is (record { view = a; most = rw (view-same a, e) (lit< tt); lowest = rw (view-same a) refl; loser = rw (view-same a, e) refl })
+
+by-three : (a b c : View) (ab ac bc : Bool) → same_view a b ≡ ab → same_view a c ≡ ac → same_view b c ≡ bc → (won : ℕ) (lost : Option ℕ)
+    → cond ab (cond ac (Won 0 None) (Won 0 (Some 2))) (cond ac (Won 0 (Some 1)) (cond bc (Won 1 (Some 0)) Split)) ≡ Won won lost → IsWonBy (a ∷ b ∷ c ∷ []) won lost
+by-three a b c true true bc e f g won lost is = same-won _ 0 won None lost is (all_alike a b c e f)
+by-three a b c true false bc e f g won lost is = same-won _ 0 won (Some 2) lost is (third_differs a b c e f)
+by-three a b c false true bc e f g won lost is = same-won _ 0 won (Some 1) lost is (second_differs a b c e f)
+by-three a b c false false true e f g won lost is = same-won _ 1 won (Some 0) lost is (first_differs a b c e g)
+by-three a b c false false false e f g won lost is = absurd (let k : Split ≡ Won won lost = is in cc)
+
+pub won-by : (views : List View) (won : ℕ) (lost : Option ℕ) → verdict_of views ≡ Won won lost → IsWonBy views won lost
+unfolding verdict_of
+won-by [] won lost is = absurd (let f : Split ≡ Won won lost = is in cc)
+won-by (a ∷ []) won lost is = absurd (let f : Split ≡ Won won lost = is in cc)
+won-by (a ∷ b ∷ []) won lost is = by-two a b (same_view a b) refl won lost is
+won-by (a ∷ b ∷ c ∷ []) won lost is = by-three a b c (same_view a b) (same_view a c) (same_view b c) refl refl refl won lost is
+won-by (a ∷ b ∷ c ∷ d ∷ views) won lost is = absurd (let f : Split ≡ Won won lost = is in cc)
+
+-- the winner and the loser are two of the views
+pub record WonIn (views : List View) (won : ℕ) (lost : Option ℕ) : Type 0 where
+  pub within : won < length views
+  pub lost_within : (l : ℕ) → lost ≡ Some l → (l < length views) × (won ≢ l)
+
+pub won-in : (views : List View) (won : ℕ) (lost : Option ℕ) → IsWonBy views won lost → WonIn views won lost
+won-in views won lost w =
+    let p = position-Some (same_view w.view) views won w.view w.lowest in
+    record {
+      within = p.0;
+      lost_within = λ l e.
+          let q = position-Some (λ v. not (same_view w.view v)) views l w.view (w.loser ∙ e) in
+          (q.0, λ (same : won ≡ l). true≢false (sym q.1 ∙ ap not (ap (λ (n : ℕ). same_view w.view (get_or views n w.view)) (sym same) ∙ p.1)));
+    }
+
+-- the winner's view is that of the majority
+pub won-view : (views : List View) (won : ℕ) (lost : Option ℕ) (view : View) (w : IsWonBy views won lost) → slice_get views won ≡ Some view → w.view ≡ view
+won-view views won lost view w e =
+    let p = position-Some (same_view w.view) views won w.view w.lowest in
+    let at : get_or views won w.view ≡ view = some-injective (sym (slice_get-get_or views won w.view p.0) ∙ e) in
+    view-true w.view view (ap (same_view w.view) (sym at) ∙ p.1)
+
+-- ---- views and replicas
+
+-- a replica whose thread stands still, and its view
+pub record ShownBy (ranges : List Range) (thread : ℕ) (replica : Replica) (view : View) : Type 0 where
+  pub its : Thread
+  pub at : slice_get replica.threads thread ≡ Some its
+  pub stop_is : its.stop ≡ Some view.stop
+  pub since_is : its.since ≡ view.since
+  pub payload_is : payload_at ranges replica.memory view.stop ≡ view.payload
+
+shown-by : (ranges : List Range) (thread : ℕ) (replica : Replica) (view : View) → view_of ranges thread replica ≡ Some view → ShownBy ranges thread replica view
+shown-by ranges thread replica view e = by (slice_get replica.threads thread) refl e
+  where
+    stopped : (its : Thread) → slice_get replica.threads thread ≡ Some its → (o : Option Stop) → its.stop ≡ o → option_map (view_with ranges replica its) o ≡ Some view → ShownBy ranges thread replica view
+    stopped its f None g k = absurd (let x : None ≡ Some view = k in cc)
+    stopped its f (Some stop) g k =
+        let same : view_with ranges replica its stop ≡ view = some-injective k in
+        record {
+          its = its;
+          at = f;
+          stop_is = g ∙ ap (λ (v : View). Some v.stop) same;
+          since_is = ap (λ (v : View). v.since) same;
+          payload_is = ap (payload_at ranges replica.memory) (sym (ap (λ (v : View). v.stop) same)) ∙ ap (λ (v : View). v.payload) same;
+        }
+
+    by : (o : Option Thread) → slice_get replica.threads thread ≡ o → option_and_then (λ t. option_map (view_with ranges replica t) t.stop) o ≡ Some view → ShownBy ranges thread replica view
+    by None f g = absurd (let x : None ≡ Some view = g in cc)
+    by (Some its) f g = stopped its f its.stop refl g
+
+-- a view is there where a stop is
+same-some : (ranges : List Range) (thread : ℕ) (replica : Replica) → is_some (stop_of replica thread) ≡ is_some (view_of ranges thread replica)
+same-some ranges thread replica = by (slice_get replica.threads thread)
+  where
+    stopped : (its : Thread) (o : Option Stop) → is_some o ≡ is_some (option_map (view_with ranges replica its) o)
+    stopped its None = refl
+    stopped its (Some stop) = refl
+
+    by : (o : Option Thread) → is_some (option_and_then (λ (t : Thread). t.stop) o) ≡ is_some (option_and_then (λ (t : Thread). option_map (view_with ranges replica t) t.stop) o)
+    by None = refl
+    by (Some its) = stopped its its.stop
+
+all-viewed : (ranges : List Range) (thread : ℕ) (replicas : List Replica) → list_all (λ replica. is_some (stop_of replica thread)) replicas ≡ true → list_all (λ replica. is_some (view_of ranges thread replica)) replicas ≡ true
+all-viewed ranges thread [] e = refl
+all-viewed ranges thread (r ∷ replicas) e =
+    let p = and_parts _ _ e in and_from _ _ (sym (same-some ranges thread r) ∙ p.0) (all-viewed ranges thread replicas p.1)
+
+-- the views of all, one for each replica
+pub views-count : (job : Job) (core : Core) (thread : ℕ) → list_all (λ replica. is_some (stop_of replica thread)) core.replicas ≡ true → length (views_of job core thread) ≡ length core.replicas
+views-count job core thread all = length-filter-map (view_of job.program.image.ranges thread) core.replicas (all-viewed job.program.image.ranges thread core.replicas all)
+
+-- the replica of a view
+pub record Showing (job : Job) (core : Core) (thread number : ℕ) (view : View) : Type 0 where
+  pub replica : Replica
+  pub there : slice_get core.replicas number ≡ Some replica
+  pub shown : ShownBy job.program.image.ranges thread replica view
+
+pub showing : (job : Job) (core : Core) (thread number : ℕ) (view : View) → list_all (λ replica. is_some (stop_of replica thread)) core.replicas ≡ true → number < length core.replicas → slice_get (views_of job core thread) number ≡ Some view → Showing job core thread number view
+showing job core thread number view all less e =
+    let r = get-within core.replicas number less in
+    let v = get-filter-map (view_of job.program.image.ranges thread) core.replicas (all-viewed job.program.image.ranges thread core.replicas all) number r.0 r.1 in
+    record { replica = r.0; there = r.1; shown = shown-by job.program.image.ranges thread r.0 view (sym v ∙ e) }
+
+-- the event that it comes to, and its count
+pub showing-event : (job : Job) (core : Core) (thread won : ℕ) (view : View) → Showing job core thread won view → event_in job core thread won ≡ Some (event_of (setup_of job.program) core.kernel thread view.stop view.payload)
+showing-event job core thread won view s =
+    ap (option_and_then (λ winner. option_map (event_with job core thread winner) (stop_of winner thread))) s.there
+    ∙ ap (option_map (event_with job core thread s.replica)) (ap (option_and_then (λ (t : Thread). t.stop)) s.shown.at ∙ s.shown.stop_is)
+    ∙ ap (λ (payload : List ℕ). Some (event_of (setup_of job.program) core.kernel thread view.stop payload)) s.shown.payload_is
+
+pub showing-since : (job : Job) (core : Core) (thread won : ℕ) (view : View) → Showing job core thread won view → since_in core thread won ≡ Some view.since
+showing-since job core thread won view s =
+    ap (option_and_then (λ (replica : Replica). option_map (λ (t : Thread). t.since) (slice_get replica.threads thread))) s.there
+    ∙ ap (option_map (λ (t : Thread). t.since)) s.shown.at ∙ ap (λ (n : ℕ). Some n) s.shown.since_is
+
+-- ---- payloads are short
+
+length-bytes : (memory : Memory) (place count : ℕ) → length (bytes_at memory place count) ≡ count
+length-bytes memory place zero = refl
+length-bytes memory place (suc n) = ap suc (length-bytes memory (place + 1) n)
+
+short-payload : (ranges : List Range) (memory : Memory) (call : Call) → length (payload_of ranges memory call) ≤ 4096
+unfolding payload_of
+short-payload ranges memory call = by (is_write call.which && is_good_write ranges call)
+  where
+    by : (b : Bool) → length (cond b (bytes_at memory call.a1 (capped call.a2)) []) ≤ 4096
+    by true = let e = length-bytes memory call.a1 (capped call.a2) in omega arith
+    by false = omega arith
+
+short-at : (ranges : List Range) (memory : Memory) (stop : Stop) → length (payload_at ranges memory stop) ≤ 4096
+short-at ranges memory (Calls call) = short-payload ranges memory call
+short-at ranges memory (Trap code) = omega arith
+short-at ranges memory (PageFault page) = omega arith
+short-at ranges memory Watchdog = omega arith
+
+pub showing-short : (job : Job) (core : Core) (thread won : ℕ) (view : View) → Showing job core thread won view → length view.payload ≤ 4096
+showing-short job core thread won view s = subst (λ (xs : List ℕ). length xs ≤ 4096) s.shown.payload_is (short-at job.program.image.ranges s.replica.memory view.stop)

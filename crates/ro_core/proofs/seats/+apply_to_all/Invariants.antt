@@ -1,0 +1,5 @@
+use Rattle.std.proofs.Common.{length, ℕ}
+use Rattle.ro_core.proofs.seats.+apply_to_all.Given as goal
+
+abbrev pub decreases-apply_to_all : goal.decreases-apply_to_all
+decreases-apply_to_all c = length c.seats.now

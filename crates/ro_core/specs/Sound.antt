@@ -1,0 +1,61 @@
+-- What legal journals keep, struck or not.
+use Rattle.std.specs.Prelude.{◌≡◌, ◌≤◌, ◌<◌, ◌^◌, ℕ, true, List, [], length, Option, Some, None, slice_get}
+use Rattle.ro_event.specs.declared.stops.Stop.{Stop}
+use Rattle.ro_event.specs.declared.stops.Stop.TheVariants.{PageFault}
+use Rattle.ro_event.specs.declared.calls.Call.{Call}
+use Rattle.ro_journal.specs.declared.How.{How}
+use Rattle.ro_journal.specs.declared.How.TheVariants.{Exit, Trap}
+use Rattle.ro_faults.specs.declared.Fault.{Fault}
+use Rattle.ro_kernel.specs.Kernel.{lives_on}
+use Rattle.ro_exec.specs.Next.{Backed}
+use Rattle.ro_thread.specs.declared.Thread.{Thread}
+use Rattle.ro_replica.specs.Replica.{Replica}
+use Rattle.ro_core.specs.Core.{Job, Core}
+
+-- The element stands somewhere in the list.
+abbrev pub Listed : {X : Type 0} → List X → X → Type 0
+Listed xs x = (place : ℕ) × (slice_get xs place ≡ Some x)
+
+-- What holds of every replica, struck or not.
+pub record IsSound (job : Job) (core : Core) (backed : Backed) (number : ℕ) (replica : Replica) : Type 0 where
+  pub same_backed : replica.backed ≡ backed
+  pub all_made : length replica.threads ≡ length core.kernel.lives
+  pub within_watch : (place : ℕ) (thread : Thread) → slice_get replica.threads place ≡ Some thread → thread.since ≤ job.settings.watchdog
+  pub own_faults : (fault : Fault) → Listed replica.waiting fault → (fault.replica ≡ number) × Listed job.faults fault
+
+-- The program ended by an exit or a trap.
+pub data IsOver : How → Type 0 where
+  exits : {status : ℕ} → IsOver (Exit status)
+  traps : {code : ℕ} → IsOver (Trap code)
+
+-- What every legal journal keeps of its core.
+pub record IsOrdered (job : Job) (core : Core) : Type 0 where
+  pub replica_count : length core.replicas ≡ job.settings.replicas
+  pub backed : Backed
+  pub sound : (number : ℕ) (replica : Replica) → slice_get core.replicas number ≡ Some replica → IsSound job core backed number replica
+  pub some_life : 0 < length core.kernel.lives
+  pub few_lives : length core.kernel.lives ≤ 16
+  pub within_limit : core.steps ≤ job.settings.limit
+  pub blocked_live : core.due ≡ None → core.ended ≡ None → (thread : ℕ) (call : Call) → core.blocked thread ≡ Some call → lives_on core.kernel thread ≡ true
+  pub due_alone : (how : How) → core.due ≡ Some how → core.leases ≡ []
+  pub due_over : (how : How) → core.due ≡ Some how → IsOver how
+  pub wrote_alone : 0 < core.wrote → core.leases ≡ []
+
+-- no thread of a replica has retired more than so many instructions
+abbrev pub Counts : (most : ℕ) → Replica → Type 0
+Counts most replica = (place : ℕ) (thread : Thread) → slice_get replica.threads place ≡ Some thread → thread.done ≤ most
+
+-- nor has one of any replica
+abbrev pub AreCounted : (most : ℕ) → Core → Type 0
+AreCounted most core = (number : ℕ) (replica : Replica) → slice_get core.replicas number ≡ Some replica → Counts most replica
+
+-- a stop for a page is for one of the 2^20 pages
+abbrev pub IsLow : Option Stop → Type 0
+IsLow o = (page : ℕ) → o ≡ Some (PageFault page) → page < 2 ^ 20
+
+-- and so is each stop of a replica, and of all
+abbrev pub HasLowStops : Replica → Type 0
+HasLowStops replica = (place : ℕ) (thread : Thread) → slice_get replica.threads place ≡ Some thread → IsLow thread.stop
+
+abbrev pub HaveLowStops : Core → Type 0
+HaveLowStops core = (number : ℕ) (replica : Replica) → slice_get core.replicas number ≡ Some replica → HasLowStops replica

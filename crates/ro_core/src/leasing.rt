@@ -1,0 +1,105 @@
+//! Leases: a replica's thread goes out to a driver, and comes back.
+ghost use Rattle.std.specs.Prelude.{◌≡◌, ◌<◌, ◌==◌, ◌∷◌, OnOk, vec_len, vec_capacity, not};
+ghost use Rattle.std.specs.List.{filter, find};
+ghost use Rattle.ro_journal.specs.declared.Entry.TheVariants.{Take};
+ghost use Rattle.ro_core.specs.Legal.{IsAllowed, is_lease};
+ghost use Rattle.ro_core.specs.Seen.{state, Appends, Quiet, Stays, HasRoom, IsLent, MayReturn, ReturnIs};
+
+use crate::actions::Lease;
+use crate::cores::Core;
+use crate::seats::{come_home, leave};
+use ro_io::Sink;
+use ro_journal::Entry;
+use ro_replica::{Ran, Replica};
+use std::alloc::AllocError;
+
+impl<K: Sink> Core<K> {
+    /// Makes room for a take, its put, the puts of the leases that are out, and the end.
+    ///
+    /// # Errors
+    /// Where there is no memory.
+    pub fn room(&mut self) -> Result<(), AllocError>
+        ensures stays { Stays self.old self.new }
+        ensures room { OnOk result (HasRoom self.new) }
+    {
+        self.leases.reserve(1)?;
+        self.journal.reserve(self.leases.len() + 3)
+    }
+
+    /// Lends a replica's thread to a driver.
+    pub fn take(&mut self, driver: u32, replica: u32, thread: u32) -> Replica
+        requires allowed { IsAllowed self.old.job (state self.old) (Take driver replica thread) }
+        requires room { HasRoom self.old }
+        ensures entry { Appends self.old self.new (Take driver replica thread) }
+        ensures quiet { Quiet self.old self.new }
+        ensures lent { IsLent self.old replica thread result }
+    {
+        self.journal.push_reserved(Entry::Take {
+            driver,
+            replica,
+            thread,
+        });
+        lend(
+            &mut self.leases,
+            Lease {
+                driver,
+                replica,
+                thread,
+            },
+        );
+        leave(self.seats.as_mut_slice(), replica as usize)
+    }
+
+    /// Puts a replica back that a driver has run.
+    pub fn put(&mut self, driver: u32, lent: Replica, ran: Ran)
+        requires { MayReturn self.old driver lent ran.count ran.hit }
+        ensures entry { ReturnIs self.old self.new driver ran.count ran.hit }
+        ensures quiet { Quiet self.old self.new }
+    {
+        let Some(lease) = lease_of(self.leases.as_slice(), driver) else {
+            unreachable!()
+        };
+        self.journal.push_reserved(Entry::Put {
+            driver,
+            replica: lease.replica,
+            thread: lease.thread,
+            count: ran.count,
+            hit: ran.hit,
+        });
+        give_back(&mut self.leases, lease);
+        come_home(self.seats.as_mut_slice(), lease.replica as usize, lent);
+    }
+}
+
+// Notes a lease; there is room for it.
+fn lend(leases: &mut Vec<Lease>, lease: Lease)
+    requires { vec_len leases.old < vec_capacity leases.old }
+    ensures items { leases.new.items ≡ lease ∷ leases.old.items }
+{
+    leases.insert(0, lease).unwrap();
+}
+
+// The lease that a driver holds.
+fn lease_of(leases: &[Lease], driver: u32) -> Option<Lease>
+    ensures { result ≡ find (λ lease. lease.driver == driver) leases.now }
+{
+    for lease in leases {
+        if lease.driver == driver {
+            return Some(*lease);
+        }
+    }
+    None
+}
+
+// Forgets a lease.
+fn give_back(leases: &mut Vec<Lease>, lease: Lease)
+    ensures items { leases.new.items ≡ filter (λ other. not (is_lease lease.driver lease.replica lease.thread other)) leases.old.items }
+{
+    leases.retain(|other| is_another(other, &lease));
+}
+
+fn is_another(lease: &Lease, gone: &Lease) -> bool
+    ensures { result ≡ not (is_lease gone.now.driver gone.now.replica gone.now.thread lease.now) }
+{
+    !(lease.driver == gone.driver && lease.replica == gone.replica && lease.thread == gone.thread)
+}

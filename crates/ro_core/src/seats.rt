@@ -1,0 +1,188 @@
+//! The seats of the replicas, each empty while its replica is lent.
+ghost use Rattle.std.specs.Prelude.{ℕ, ◌≡◌, ◌≢◌, ◌≤◌, ◌⊎◌, ◌<◌, ◌∷◌, [], List, Some, None, true, OnOk, length, slice_get, slice_set};
+ghost use Rattle.std.specs.List.{list_all, filter_map};
+ghost use Rattle.ro_replica.specs.Replica.{Replica as ReplicaSeen};
+ghost use Rattle.ro_replica.specs.Views.{view_of};
+ghost use Rattle.ro_replica.specs.Seen.{ReplicaOf, replica_of, CanApply, AreTwins, Recovers};
+ghost use Rattle.ro_vote.specs.Verdict.{verdict_of};
+ghost use Rattle.ro_vote.specs.Votes.{verdict_of_three};
+ghost use Rattle.ro_core.specs.Core.{Job};
+ghost use Rattle.ro_core.specs.Event.{all_applied, with_recovered};
+ghost use Rattle.ro_core.specs.Fields.{IsSeat, AreHome, AreSpared, CanTake, KeepsSeat, CanRecover, seat_stopped, seat_unstopped};
+
+use ro_event::{Effect, View};
+use ro_recover::recover;
+use ro_replica::Replica;
+use ro_vote::{Pair, Won, vote2, vote3};
+use std::alloc::AllocError;
+
+/// How many pages an event backs in a replica at most.
+const MOST_PAGES: u32 = 3;
+
+/// Takes a replica out of its seat.
+pub(crate) fn leave(seats: &mut [Option<Replica>], place: usize) -> Replica
+    requires { IsSeat seats.old place }
+    ensures replica { slice_get seats.old place ≡ Some (Some result) }
+    ensures seats { seats.new ≡ slice_set seats.old place None }
+{
+    let Some(replica) = seats[place].take() else {
+        unreachable!()
+    };
+    replica
+}
+
+/// Puts a replica into its seat.
+pub(crate) fn come_home(seats: &mut [Option<Replica>], place: usize, replica: Replica)
+    requires { place < length seats.old }
+    ensures { seats.new ≡ slice_set seats.old place (Some replica) }
+{
+    seats[place] = Some(replica);
+}
+
+/// Whether a thread stands still in every replica, each of which is at home.
+pub(crate) fn all_stopped(seats: &[Option<Replica>], thread: u32) -> bool
+    ensures { result ≡ list_all (seat_stopped thread) seats.now }
+{
+    seats.iter().all(|seat| is_stopped(seat, thread))
+}
+
+fn is_stopped(seat: &Option<Replica>, thread: u32) -> bool
+    ensures { result ≡ seat_stopped thread seat.now }
+{
+    match seat {
+        Some(replica) => replica.stop(thread).is_some(),
+        None => false,
+    }
+}
+
+/// Whether a replica is at home, and a thread of it not stopped.
+pub(crate) fn is_unstopped(seat: &Option<Replica>, thread: u32) -> bool
+    ensures { result ≡ seat_unstopped thread seat.now }
+{
+    match seat {
+        Some(replica) => replica.is_unstopped(thread),
+        None => false,
+    }
+}
+
+/// Shows a thread that stands still in every replica, each of which is at home.
+pub(crate) fn show_all(seats: &[Option<Replica>], thread: u32, views: &mut [View])
+    requires stopped { list_all (seat_stopped thread) seats.now ≡ true }
+    requires count { length views.old ≡ length seats.now }
+    ensures views { (job : Job) (replicas : List ReplicaSeen) → AreHome job seats.now replicas → views.new ≡ filter_map (view_of job.program.image.ranges thread) replicas }
+    ensures count { length views.new ≡ length views.old }
+{
+    let Some((seat, other_seats)) = seats.split_first() else {
+        return;
+    };
+    let Some((view, other_views)) = views.split_first_mut() else {
+        return;
+    };
+    show(seat, thread, view);
+    show_all(other_seats, thread, other_views);
+}
+
+fn show(seat: &Option<Replica>, thread: u32, view: &mut View)
+    requires { seat_stopped thread seat.now ≡ true }
+    ensures { (value : ReplicaOf) → seat.now ≡ Some value → view_of value.layout.ranges thread (replica_of value) ≡ Some view.new }
+{
+    if let Some(replica) = seat {
+        replica.view(thread, view);
+    }
+}
+
+/// The verdict on the views of two or three replicas.
+pub(crate) fn verdict(views: &[View]) -> Option<Won>
+    requires { (length views.now ≡ 2) ⊎ (length views.now ≡ 3) }
+    ensures { verdict_of_three result ≡ verdict_of views.now }
+{
+    if views.len() == 2 {
+        match vote2(&views[0], &views[1]) {
+            Pair::Same => Some(Won { won: 0, lost: None }),
+            Pair::Differ => None,
+        }
+    } else {
+        vote3(&views[0], &views[1], &views[2])
+    }
+}
+
+/// Makes sure that each replica can be given an event with no more memory.
+///
+/// # Errors
+/// Where there is no memory; the replicas are as they were.
+pub(crate) fn reserve_pages(seats: &mut [Option<Replica>]) -> Result<(), AllocError>
+    ensures kept { (job : Job) (replicas : List ReplicaSeen) → AreHome job seats.old replicas → AreHome job seats.new replicas }
+    ensures spared { OnOk result (AreSpared seats.new) }
+{
+    let Some((seat, others)) = seats.split_first_mut() else {
+        return Ok(());
+    };
+    reserve_in(seat)?;
+    reserve_pages(others)
+}
+
+fn reserve_in(seat: &mut Option<Replica>) -> Result<(), AllocError>
+    ensures kept { KeepsSeat seat.old seat.new }
+    ensures spared { OnOk result ((value : ReplicaOf) → seat.new ≡ Some value → MOST_PAGES ≤ value.held.spare) }
+{
+    match seat {
+        Some(replica) => replica.reserve(MOST_PAGES),
+        None => Ok(()),
+    }
+}
+
+/// Overwrites the loser, if there is one, with the winner.
+pub(crate) fn recover_loser(seats: &mut [Option<Replica>], won: &Won)
+    requires { (lost : ℕ) → won.now.lost ≡ Some lost → IsSeat seats.old won.now.won × IsSeat seats.old lost × (won.now.won ≢ lost) × CanRecover seats.old won.now.won lost }
+    ensures recovered { (job : Job) (replicas : List ReplicaSeen) → AreHome job seats.old replicas → AreHome job seats.new (with_recovered won.now.won won.now.lost replicas) }
+    ensures spared { AreSpared seats.old → AreSpared seats.new }
+{
+    if let Some(lost) = won.lost {
+        overwrite(seats, won.won as usize, lost as usize);
+    }
+}
+
+// Overwrites one replica with another.
+fn overwrite(seats: &mut [Option<Replica>], won: usize, lost: usize)
+    requires winner { IsSeat seats.old won }
+    requires loser { IsSeat seats.old lost }
+    requires differ { won ≢ lost }
+    requires twins { CanRecover seats.old won lost }
+    ensures recovered { (job : Job) (replicas : List ReplicaSeen) → AreHome job seats.old replicas → AreHome job seats.new (with_recovered won (Some lost) replicas) }
+    ensures spared { AreSpared seats.old → AreSpared seats.new }
+{
+    let winner = leave(seats, won);
+    recover_in(&winner, &mut seats[lost]);
+    come_home(seats, won, winner);
+}
+
+fn recover_in(winner: &Replica, seat: &mut Option<Replica>)
+    requires there { (value : ReplicaOf) × (seat.old ≡ Some value) }
+    requires twins { (value : ReplicaOf) → seat.old ≡ Some value → AreTwins winner.now value }
+    ensures { (value : ReplicaOf) → seat.old ≡ Some value → (other : ReplicaOf) × (seat.new ≡ Some other) × Recovers winner.now value other }
+{
+    if let Some(loser) = seat {
+        recover(winner, loser);
+    }
+}
+
+/// Does what an event does to every replica.
+pub(crate) fn apply_to_all(seats: &mut [Option<Replica>], effect: &Effect)
+    requires { CanTake effect.now seats.old }
+    ensures { (job : Job) (replicas : List ReplicaSeen) → AreHome job seats.old replicas → AreHome job seats.new (all_applied effect.now replicas) }
+{
+    let Some((seat, others)) = seats.split_first_mut() else {
+        return;
+    };
+    apply_in(seat, effect);
+    apply_to_all(others, effect);
+}
+
+fn apply_in(seat: &mut Option<Replica>, effect: &Effect)
+    requires { CanTake effect.now (seat.old ∷ []) }
+    ensures { (job : Job) (replica : ReplicaSeen) → AreHome job (seat.old ∷ []) (replica ∷ []) → AreHome job (seat.new ∷ []) (all_applied effect.now (replica ∷ [])) }
+{
+    if let Some(replica) = seat {
+        replica.apply(effect);
+    }
+}

@@ -1,22 +1,49 @@
 //! The answer of a command.
-ghost use Rattle.std.specs.Prelude.{◌≡◌, ◌<◌, ◌≤◌, ◌++◌, length, codes, decimal};
+ghost use Rattle.std.specs.Prelude.{◌≡◌, ◌+◌, ◌<◌, ◌≤◌, ◌++◌, length, codes, decimal};
+ghost use Rattle.arrayvec.specs.ArrayString.{array_string_len};
 ghost use Rattle.ro_report.specs.Report.{answer_text};
 
-use crate::lines::{Line, Text, push_number};
+use crate::lines::{Line, ROOM, Text, push_number};
+use ro_faults::FaultsCode;
+
+/// A file that a command names.
+#[derive(Clone, Copy, Debug, PartialEq, Eq)]
+pub enum FileKind {
+    /// The executable.
+    Exe,
+    /// The input.
+    Input,
+    /// The list of faults.
+    Faults,
+}
 
 /// How a command ended.
 #[derive(Clone, Copy, Debug, PartialEq, Eq)]
 pub enum Answer {
     /// The program ended with this status.
     Exit(u8),
+    /// No thread of the program could go on.
+    Deadlock,
     /// The program could not go on, for the cause of this number.
     Trap(u8),
-    /// The words are of no command.
-    BadWords,
+    /// Two replicas differed.
+    Differ,
+    /// No view of three had a majority.
+    NoMajority,
+    /// The run had so many steps, and those that would have come next would have passed the limit.
+    Limit { steps: u64, next: u64 },
+    /// The output's sink failed, and took so many bytes of the last write.
+    SinkFailed { taken: u32 },
     /// A file could not be fetched.
     StoreFailed,
     /// The file is not an executable; the code says why.
     BadExe(u8),
+    /// The list of faults is bad in this line.
+    BadFaults { line: u32, code: FaultsCode },
+    /// The words are of no command.
+    BadWords,
+    /// A file has more bytes than are read.
+    TooLong(FileKind),
     /// There was no memory.
     NoMemory,
 }
@@ -26,11 +53,20 @@ pub fn answer_line(answer: &Answer) -> Line
     ensures { result ≡ answer_text answer.now }
 {
     match *answer {
-        Answer::Exit(status) => numbered("answer exit ", status),
-        Answer::Trap(cause) => numbered("answer trap ", cause),
-        Answer::BadWords => fixed("answer words\n"),
+        Answer::Exit(status) => numbered("answer exit ", u64::from(status)),
+        Answer::Deadlock => fixed("answer deadlock\n"),
+        Answer::Trap(cause) => numbered("answer trap ", u64::from(cause)),
+        Answer::Differ => fixed("answer differ\n"),
+        Answer::NoMajority => fixed("answer no-majority\n"),
+        Answer::Limit { steps, next } => twice_numbered("answer limit ", steps, next),
+        Answer::SinkFailed { taken } => numbered("answer sink ", u64::from(taken)),
         Answer::StoreFailed => fixed("answer store\n"),
-        Answer::BadExe(code) => numbered("answer exe ", code),
+        Answer::BadExe(code) => numbered("answer exe ", u64::from(code)),
+        Answer::BadFaults { line, code } => {
+            twice_numbered("answer faults ", u64::from(line), u64::from(code.code()))
+        }
+        Answer::BadWords => fixed("answer words\n"),
+        Answer::TooLong(_) => fixed("answer too-long\n"),
         Answer::NoMemory => fixed("answer no-memory\n"),
     }
 }
@@ -47,13 +83,34 @@ fn fixed(words: &str) -> Line
 }
 
 // The line of these words and a number.
-fn numbered(words: &str, number: u8) -> Line
+fn numbered(words: &str, number: u64) -> Line
     requires { length words.now ≤ 100 }
     ensures { result ≡ words.now ++ decimal number ++ codes "\n" }
 {
     let mut text = Text::new();
-    text.push_str(words);
-    push_number(&mut text, u64::from(number));
+    push_part(&mut text, words, number);
     text.push_str("\n");
     Line::of(text)
+}
+
+// The line of these words and two numbers.
+fn twice_numbered(words: &str, one: u64, other: u64) -> Line
+    requires { length words.now ≤ 100 }
+    ensures { result ≡ words.now ++ decimal one ++ codes " " ++ decimal other ++ codes "\n" }
+{
+    let mut text = Text::new();
+    push_part(&mut text, words, one);
+    push_part(&mut text, " ", other);
+    text.push_str("\n");
+    Line::of(text)
+}
+
+// Appends words and a number.
+fn push_part(text: &mut Text, words: &str, number: u64)
+    requires { array_string_len text.old + length words.now + 20 ≤ ROOM }
+    ensures bytes { text.new.bytes ≡ text.old.bytes ++ words.now ++ decimal number }
+    ensures len { array_string_len text.new ≤ array_string_len text.old + length words.now + 20 }
+{
+    text.push_str(words);
+    push_number(text, number);
 }

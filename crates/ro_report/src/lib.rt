@@ -6,7 +6,7 @@ mod answers;
 mod lines;
 mod summaries;
 
-pub use answers::{Answer, answer_line};
+pub use answers::{Answer, FileKind, answer_line};
 pub use lines::Line;
 pub use summaries::summary;
 

@@ -1,38 +1,67 @@
--- Reading numbers, words and lines.
-use Rattle.std.proofs.Common.{ℕ, Bool, Bor, map, ◌≡◌, ◌+◌, ◌*◌, ◌-◌, ◌≤◌, ◌<◌, List, [], ◌∷◌, ◌++◌, Result, Ok, Err, length, get_or, arith, refl, sym, ap, ◌∙◌, drop, take}
-use Rattle.std.proofs.lemmas.List.{append_assoc, take_all}
+-- Reading words and lines.
+use Rattle.std.proofs.Common.{ℕ, Bool, true, false, Bor, map, ◌≡◌, ◌+◌, ◌<◌, List, [], ◌∷◌, ◌++◌, None, Result, Ok, Err, length, cond, ◌==◌, arith, refl, sym, ap, ◌∙◌, ◌&&◌}
+use Rattle.std.proofs.lemmas.List.{append_assoc}
+use Rattle.std.proofs.lemmas.List.Splits.{length-slice_split}
+use Rattle.ro_text.specs.Numbers.{is_number}
+use Rattle.ro_text.specs.Lines.{parts_of}
 use Rattle.ro_faults.specs.declared.Fault.{Fault}
+use Rattle.ro_faults.specs.declared.errors.FaultsCode.{FaultsCode}
 use Rattle.ro_faults.specs.declared.errors.FaultsCode.TheVariants.{Form}
-use Rattle.ro_faults.specs.Texts.{value_from, fault_of, ranged, before, behind, numbered, line_fault, lines_faults}
+use Rattle.ro_faults.specs.declared.errors.FaultsError.TheVariants.{Bad}
+use Rattle.ro_faults.specs.Texts.{fault_of, ranged, before, behind, in_line, counted, line_fault, lines_faults}
 
-value_grows : (number : ℕ) (digits : List ℕ) → number ≤ value_from number digits
-value_grows number [] = omega arith
-value_grows number (digit ∷ digits) = omega (arith, value_grows (10 * number + (digit - 48)) digits)
+pub few_words : (test : Fault → Bool) (words : List (Bor (List ℕ))) → length words < 3 → Err Form ≡ ranged test (fault_of (map (λ word. word.now) words))
+few_words test [] h = refl
+few_words test (a ∷ []) h = refl
+few_words test (a ∷ b ∷ []) h = refl
+few_words test (a ∷ b ∷ c ∷ words) h = absurd (omega (arith, h))
 
--- a number is no less than what its first digit makes it
-pub value_more : (limit number : ℕ) (word : List ℕ) → 0 < length word → limit ≤ 10 * number + (get_or word 0 0 - 48) → limit ≤ value_from number word
-value_more limit number [] some h = absurd (omega (arith, some))
-value_more limit number (digit ∷ digits) some h = omega (arith, h, value_grows (10 * number + (digit - 48)) digits)
+alike : {A : Type 0} (b : Bool) (x : A) → cond b x x ≡ x
+alike true x = refl
+alike false x = refl
 
-pub few_read : (test : Fault → Bool) (words : List (Bor (List ℕ))) → length words < 3 → Err Form ≡ ranged test (fault_of (map (λ word. word.now) words))
-few_read test [] h = refl
-few_read test (a ∷ []) h = refl
-few_read test (a ∷ b ∷ []) h = refl
-few_read test (a ∷ b ∷ c ∷ words) h = absurd (omega (arith, h))
+pub many_words : (test : Fault → Bool) (words : List (List ℕ)) → 6 < length words → Err Form ≡ ranged test (fault_of words)
+many_words test [] h = absurd (omega (arith, h))
+many_words test (a ∷ []) h = absurd (omega (arith, h))
+many_words test (a ∷ b ∷ []) h = absurd (omega (arith, h))
+many_words test (a ∷ b ∷ c ∷ []) h = absurd (omega (arith, h))
+many_words test (a ∷ b ∷ c ∷ d ∷ []) h = absurd (omega (arith, h))
+many_words test (a ∷ b ∷ c ∷ d ∷ e ∷ []) h = absurd (omega (arith, h))
+many_words test (a ∷ b ∷ c ∷ d ∷ e ∷ f ∷ []) h = absurd (omega (arith, h))
+many_words test (a ∷ b ∷ c ∷ d ∷ e ∷ f ∷ g ∷ words) h = sym (ap (ranged test) (alike (is_number a && is_number b && is_number c) None))
 
-pub behind_before : {A E : Type 0} (xs : List A) (x : A) (read : Result (List A) E) → behind xs (before (Ok x) read) ≡ behind (xs ++ x ∷ []) read
+behind_before : {A E : Type 0} (xs : List A) (x : A) (read : Result (List A) E) → behind xs (before (Ok x) read) ≡ behind (xs ++ x ∷ []) read
 behind_before xs x (Ok ys) = ap Ok (sym (append_assoc xs (x ∷ []) ys))
 behind_before xs x (Err error) = refl
 
--- the line before others
-pub read_more :
-    (replicas line : ℕ) (xs : List Fault) (x : Fault) (parts : List (Bor (List ℕ))) (default : Bor (List ℕ))
-    → 2 ≤ length parts
-    → numbered line (line_fault replicas (get_or parts 0 default).now) ≡ Ok x
-    → behind xs (lines_faults replicas line (map (λ part. part.now) parts)) ≡ behind (xs ++ x ∷ []) (lines_faults replicas (line + 1) (map (λ part. part.now) (take (length parts - 1) (drop 1 parts))))
-read_more replicas line xs x [] default some h = absurd (omega (arith, some))
-read_more replicas line xs x (a ∷ []) default some h = absurd (omega (arith, some))
-read_more replicas line xs x (a ∷ b ∷ parts) default some h =
-    ap (λ read. behind xs (before read (lines_faults replicas (line + 1) (map (λ part. part.now) (b ∷ parts))))) h
-    ∙ behind_before xs x (lines_faults replicas (line + 1) (map (λ part. part.now) (b ∷ parts)))
-    ∙ ap (λ rest. behind (xs ++ x ∷ []) (lines_faults replicas (line + 1) (map (λ part. part.now) rest))) (sym (take_all (length (a ∷ b ∷ parts) - 1) (b ∷ parts) (omega arith)))
+-- a line before others
+line_before : (replicas line : ℕ) (part : List ℕ) (parts : List (List ℕ)) → 0 < length parts → lines_faults replicas line (part ∷ parts) ≡ before (in_line line (counted line (line_fault replicas part))) (lines_faults replicas (line + 1) parts)
+line_before replicas line part [] some = absurd (omega (arith, some))
+line_before replicas line part (next ∷ parts) some = refl
+
+pub cut_before : (replicas line : ℕ) (rest text after : List ℕ) → parts_of rest ≡ text ∷ parts_of after → lines_faults replicas line (parts_of rest) ≡ before (in_line line (counted line (line_fault replicas text))) (lines_faults replicas (line + 1) (parts_of after))
+cut_before replicas line rest text after cut =
+    ap (lines_faults replicas line) cut ∙ line_before replicas line text (parts_of after) (omega (arith, length-slice_split (λ b. b == 10) after))
+
+-- a line that gives a fault
+pub line_read :
+    (replicas line : ℕ) (faults : List Fault) (fault : Fault) (rest text after : List ℕ)
+    → parts_of rest ≡ text ∷ parts_of after
+    → Ok fault ≡ counted line (line_fault replicas text)
+    → behind faults (lines_faults replicas line (parts_of rest)) ≡ behind (faults ++ fault ∷ []) (lines_faults replicas (line + 1) (parts_of after))
+line_read replicas line faults fault rest text after cut read =
+    let others = lines_faults replicas (line + 1) (parts_of after) in
+    ap (behind faults) (cut_before replicas line rest text after cut)
+    ∙ ap (λ r. behind faults (before (in_line line r) others)) (sym read)
+    ∙ behind_before faults fault others
+
+-- a line that is bad
+pub line_refused :
+    (replicas line : ℕ) (faults : List Fault) (code : FaultsCode) (rest text after : List ℕ)
+    → parts_of rest ≡ text ∷ parts_of after
+    → Err code ≡ counted line (line_fault replicas text)
+    → behind faults (lines_faults replicas line (parts_of rest)) ≡ Err (Bad line code)
+line_refused replicas line faults code rest text after cut read =
+    let others = lines_faults replicas (line + 1) (parts_of after) in
+    ap (behind faults) (cut_before replicas line rest text after cut)
+    ∙ ap (λ r. behind faults (before (in_line line r) others)) (sym read)

@@ -1,9 +1,9 @@
--- The texts of faults: a line each, of words between single spaces.
-use Rattle.std.specs.Prelude.{◌≡◌, ⊤, ℕ, ◌+◌, ◌*◌, ◌-◌, ◌^◌, Bool, false, ◌&&◌, ◌||◌, List, [], ◌∷◌, ◌++◌, Option, Some, None, Result, Ok, Err, nat_le, nat_lt, not, ◌==◌, if◌then◌else◌, codes, decimal, length}
-use Rattle.std.specs.List.{list_all, slice_split}
+-- The texts of faults: a line for each, of words between single spaces.
+use Rattle.std.specs.Prelude.{◌≡◌, ⊤, ℕ, ◌+◌, ◌-◌, ◌^◌, Bool, ◌&&◌, List, [], ◌∷◌, ◌++◌, Option, Some, None, Result, Ok, Err, nat_le, nat_lt, if◌then◌else◌, codes, decimal}
 use Rattle.std.specs.Option.{option_map}
 use Rattle.std.specs.Str.{bytes_eq}
-use Rattle.std.specs.Char.{is_ascii_digit}
+use Rattle.ro_text.specs.Numbers.{is_number, value_of, within}
+use Rattle.ro_text.specs.Lines.{line_text, words_of, parts_of}
 use Rattle.ro_faults.specs.declared.Fault.{Fault}
 use Rattle.ro_faults.specs.declared.Target.{Target}
 use Rattle.ro_faults.specs.declared.Target.TheVariants.{Register, Pc, Byte}
@@ -12,39 +12,21 @@ use Rattle.ro_faults.specs.declared.errors.FaultsCode.TheVariants.{Form, Range, 
 use Rattle.ro_faults.specs.declared.errors.FaultsError.{FaultsError}
 use Rattle.ro_faults.specs.declared.errors.FaultsError.TheVariants.{Bad, NoMemory}
 
--- the end of a fault's line, from the kind of its target on
-abbrev pub target_text : Target → List ℕ
-target_text (Register number bit) = codes " reg " ++ (decimal number ++ (codes " " ++ (decimal bit ++ codes "\n")))
-target_text (Pc bit) = codes " pc " ++ (decimal bit ++ codes "\n")
-target_text (Byte address bit) = codes " mem " ++ (decimal address ++ (codes " " ++ (decimal bit ++ codes "\n")))
+abbrev pub target_words : Target → List (List ℕ)
+target_words (Register number bit) = codes "reg" ∷ decimal number ∷ decimal bit ∷ []
+target_words (Pc bit) = codes "pc" ∷ decimal bit ∷ []
+target_words (Byte address bit) = codes "mem" ∷ decimal address ∷ decimal bit ∷ []
 
--- the front of a fault's line, its three numbers
-abbrev pub head_text : (replica thread at : ℕ) → List ℕ
-head_text replica thread at = decimal replica ++ (codes " " ++ (decimal thread ++ (codes " " ++ decimal at)))
+abbrev pub fault_words : Fault → List (List ℕ)
+fault_words fault = decimal fault.replica ∷ decimal fault.thread ∷ decimal fault.at ∷ target_words fault.target
 
--- the line of a fault, with its line feed
-abbrev pub line_text : Fault → List ℕ
-line_text fault = head_text fault.replica fault.thread fault.at ++ target_text fault.target
+-- the line of a fault
+abbrev pub fault_text : Fault → List ℕ
+fault_text fault = line_text (fault_words fault)
 
 abbrev pub faults_text : List Fault → List ℕ
 faults_text [] = []
-faults_text (fault ∷ faults) = line_text fault ++ faults_text faults
-
-abbrev pub are_digits : List ℕ → Bool
-are_digits word = list_all is_ascii_digit word
-
--- the one spelling of a number in decimal: no leading zero
-abbrev pub is_number : List ℕ → Bool
-is_number [] = false
-is_number (digit ∷ digits) = are_digits (digit ∷ digits) && (not (digit == 48) || (length digits == 0))
-
--- the number that digits give behind those of another
-abbrev pub value_from : ℕ → List ℕ → ℕ
-value_from number [] = number
-value_from number (digit ∷ digits) = value_from (10 * number + (digit - 48)) digits
-
-abbrev pub value_of : List ℕ → ℕ
-value_of digits = value_from 0 digits
+faults_text (fault ∷ faults) = fault_text fault ++ faults_text faults
 
 -- the target that words give, whatever their numbers
 abbrev pub target_of : List (List ℕ) → Option Target
@@ -65,14 +47,14 @@ fault_of (replica ∷ thread ∷ at ∷ target) =
 fault_of _ = None
 
 abbrev pub is_target : Target → Bool
-is_target (Register number bit) = nat_le 1 number && nat_le number 31 && nat_le bit 31
-is_target (Pc bit) = nat_le bit 31
-is_target (Byte address bit) = nat_lt address (2 ^ 32) && nat_le bit 7
+is_target (Register number bit) = within 1 31 number && within 0 31 bit
+is_target (Pc bit) = within 0 31 bit
+is_target (Byte address bit) = within 0 (2 ^ 32 - 1) address && within 0 7 bit
 
--- the fault is one of a run of so many replicas
+-- the numbers of the fault are those of a run of so many replicas
 abbrev pub is_fault : (replicas : ℕ) → Fault → Bool
 is_fault replicas fault =
-    is_target fault.target && nat_lt fault.replica replicas && nat_le fault.thread 15 && nat_lt fault.at (2 ^ 64)
+    is_target fault.target && nat_lt fault.replica replicas && within 0 15 fault.thread && within 0 (10 ^ 12) fault.at
 
 -- what has the right form, and whose numbers are in their ranges
 abbrev pub ranged : {A : Type 0} → (A → Bool) → Option A → Result A FaultsCode
@@ -81,15 +63,16 @@ ranged test (Some x) = if test x then Ok x else Err Range
 
 -- the fault of a line without its line feed, or the code by which it is refused
 abbrev pub line_fault : (replicas : ℕ) → List ℕ → Result Fault FaultsCode
-line_fault replicas line = ranged (is_fault replicas) (fault_of (slice_split (λ b. b == 32) line))
+line_fault replicas line = ranged (is_fault replicas) (fault_of (words_of line))
 
+-- what a line gives: behind the last that may be there, its number alone is bad
+abbrev pub counted : {A : Type 0} → (line : ℕ) → Result A FaultsCode → Result A FaultsCode
+counted line read = if nat_le line 256 then read else Err Count
+
+-- what the line of this number gives, or its number and the code
 abbrev pub in_line : {A : Type 0} → (line : ℕ) → Result A FaultsCode → Result A FaultsError
 in_line line (Ok x) = Ok x
 in_line line (Err code) = Err (Bad line code)
-
--- the fault of a line of so high a number
-abbrev pub numbered : {A : Type 0} → (line : ℕ) → Result A FaultsCode → Result A FaultsError
-numbered line read = if nat_le line 256 then in_line line read else Err (Bad line Count)
 
 -- what is read before others, unless it is bad
 abbrev pub before : {A E : Type 0} → Result A E → Result (List A) E → Result (List A) E
@@ -100,18 +83,18 @@ before (Ok x) (Ok xs) = Ok (x ∷ xs)
 -- what stands behind the last line feed is to be empty
 abbrev pub end_faults : (line : ℕ) → List ℕ → Result (List Fault) FaultsError
 end_faults line [] = Ok []
-end_faults line (byte ∷ bytes) = numbered line (Err Form)
+end_faults line (byte ∷ bytes) = in_line line (counted line (Err Form))
 
 -- the faults of lines from a number on
 abbrev pub lines_faults : (replicas line : ℕ) → List (List ℕ) → Result (List Fault) FaultsError
 lines_faults replicas line [] = Ok []
 lines_faults replicas line (part ∷ []) = end_faults line part
 lines_faults replicas line (part ∷ next ∷ parts) =
-    before (numbered line (line_fault replicas part)) (lines_faults replicas (line + 1) (next ∷ parts))
+    before (in_line line (counted line (line_fault replicas part))) (lines_faults replicas (line + 1) (next ∷ parts))
 
 -- the faults of a file, or its first bad line
 abbrev pub file_faults : (replicas : ℕ) → List ℕ → Result (List Fault) FaultsError
-file_faults replicas bytes = lines_faults replicas 1 (slice_split (λ b. b == 10) bytes)
+file_faults replicas bytes = lines_faults replicas 1 (parts_of bytes)
 
 abbrev pub code_of : FaultsCode → ℕ
 code_of Form = 1

@@ -1,5 +1,5 @@
 use Rattle.std.proofs.Common.{length}
-use Rattle.ro_faults.proofs.numbers.+value_from.Given as goal
+use Rattle.ro_text.proofs.numbers.+value_from.Given as goal
 
 abbrev pub decreases-value_from : goal.decreases-value_from
 decreases-value_from l = length l.word.now

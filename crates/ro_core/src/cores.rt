@@ -1,5 +1,5 @@
 //! The core: a sequential machine whose journal only grows.
-ghost use Rattle.std.specs.Prelude.{◌≡◌, ◌⊎◌, ℕ, List, [], IfOk, IfErr, OnErr, OnOk, IsTrue};
+ghost use Rattle.std.specs.Prelude.{◌≡◌, ◌⊎◌, ℕ, List, [], length, IfOk, IfErr, OnErr, OnOk, IsTrue};
 ghost use Rattle.ro_journal.specs.declared.How.{How as HowOf};
 ghost use Rattle.ro_journal.specs.declared.Entry.TheVariants.{Take, End};
 ghost use Rattle.ro_journal.specs.Plan.{outcome_of};
@@ -9,7 +9,7 @@ ghost use Rattle.ro_core.specs.Core.{may_vote, may_free, views_of};
 ghost use Rattle.ro_core.specs.Legal.{IsAllowed, Legal, replay};
 ghost use Rattle.ro_core.specs.Action.{next_action as next, IsNext};
 ghost use Rattle.ro_settings.specs.Ranges.{InRange};
-ghost use Rattle.ro_core.specs.Seen.{state, Opens, Appends, Quiet, Sends, IsOfMajority, Stays, HasRoom, IsLent, MayReturn, ReturnIs, DecidesVote, DecidesFree, KeepsViews};
+ghost use Rattle.ro_core.specs.Seen.{state, sent, Opens, Appends, Quiet, Sends, IsOfMajority, Stays, HasRoom, IsLent, MayReturn, ReturnIs, DecidesVote, DecidesFree, KeepsViews};
 
 use crate::actions::{Action, Lease};
 use ro_event::{Call, View};
@@ -67,6 +67,8 @@ pub struct Finished<K> {
     /// Where it ended by a vote of views that had no majority, those views in the order of the replicas.
     pub views: Vec<View>,
     pub journal: Vec<Entry>,
+    /// How many bytes the run wrote.
+    pub bytes: u64,
     pub out: K,
 }
 
@@ -179,6 +181,7 @@ impl<K: Sink> Core<K> {
         ensures how { result.how ≡ outcome_of self.journal }
         ensures views { KeepsViews self.job self.journal result.views.items }
         ensures journal { result.journal.items ≡ self.journal }
+        ensures bytes { result.bytes ≡ length (sent self) }
         ensures legal { Legal self.job self.journal }
         ensures sink { (K.held result.out ≡ self.held) × (K.faults result.out ≡ self.faults) }
     {

@@ -3,6 +3,7 @@ use Rattle.std.specs.Prelude.{ℕ, Bool, true, false, List, [], ◌∷◌, ◌++
 use Rattle.ro_journal.specs.declared.Entry.{Entry}
 use Rattle.ro_journal.specs.declared.Entry.TheVariants.{Put, Vote}
 use Rattle.ro_journal.specs.Plan.{plan_of}
+use Rattle.ro_journal_text.specs.Texts.{journal_text}
 use Rattle.ro_faults.specs.Texts.{code_of}
 use Rattle.ro_report.specs.declared.answers.Answer.{Answer}
 use Rattle.ro_report.specs.declared.answers.Answer.TheVariants.{Exit, Deadlock, Trap, Differ, NoMajority, Limit, SinkFailed, StoreFailed, BadExe, BadFaults, BadWords, TooLong, NoMemory}
@@ -63,3 +64,13 @@ answer_text NoMemory = codes "answer no-memory\n"
 abbrev pub report_text : List Entry → (bytes : ℕ) → Answer → List ℕ
 report_text [] bytes answer = answer_text answer
 report_text (entry ∷ journal) bytes answer = summary_text (entry ∷ journal) bytes ++ answer_text answer
+
+-- the journal, where it is to be shown and has an entry
+abbrev pub journal_part : (shown : Bool) → List Entry → List ℕ
+journal_part false journal = []
+journal_part true [] = []
+journal_part true (entry ∷ journal) = journal_text (entry ∷ journal)
+
+-- the report of a run, with its journal before it where that is to be shown
+abbrev pub report_of : (shown : Bool) → List Entry → (bytes : ℕ) → Answer → List ℕ
+report_of shown journal bytes answer = journal_part shown journal ++ report_text journal bytes answer

@@ -1,0 +1,98 @@
+//! The texts of journals.
+ghost use Rattle.std.specs.Prelude.{◌≡◌, Ok, Err, Result, List, IfOk, IfErr, codes};
+ghost use Rattle.std.specs.Str.{bytes_eq};
+ghost use Rattle.ro_journal.specs.declared.Entry.{Entry};
+ghost use Rattle.ro_journal_text.specs.declared.errors.JournalError.{JournalError};
+ghost use Rattle.ro_journal_text.specs.declared.errors.JournalError.TheVariants.{Bad};
+ghost use Rattle.ro_text.specs.Lines.{parts_of};
+ghost use Rattle.ro_journal_text.specs.Texts.{journal_text};
+ghost use Rattle.ro_journal_text.specs.Reading.{refuses, file_journal, lines_entries, is_end};
+
+use crate::entries::read_entry;
+use crate::errors::{JournalCode, JournalError};
+use crate::lines::{entry_text, header};
+use ro_journal::Entry;
+use ro_text::first_line;
+use std::alloc::{AllocError, Global};
+
+/// The text of a journal.
+///
+/// # Errors
+/// Memory can run out.
+pub fn journal_text(alloc: Global, entries: &[Entry]) -> Result<Vec<u8>, AllocError>
+    ensures { IfOk result (λ bytes. bytes.items ≡ journal_text entries.now) }
+{
+    let mut bytes = Vec::from_slice(alloc, header())?;
+    for entry in entries {
+        bytes.extend_from_slice(entry_text(entry).as_bytes())?;
+    }
+    Ok(bytes)
+}
+
+/// Reads the text of a journal, up to its first bad line, to the line of the entry that ends the run, or to its end.
+///
+/// # Errors
+/// The number of the first bad line and what is bad in it, or `NoMemory`.
+pub fn read_journal(alloc: Global, bytes: &[u8]) -> Result<Vec<Entry>, JournalError>
+    ensures read { IfOk result (λ entries. file_journal bytes.now ≡ Ok entries.items) }
+    ensures refused { IfErr result (λ error. refuses error (file_journal bytes.now)) }
+{
+    match first_line(bytes) {
+        Some((first, rest)) if is_header(first) => read_entries(alloc, rest),
+        _ => Err(JournalError::Bad {
+            line: 1,
+            code: JournalCode::Form,
+        }),
+    }
+}
+
+// Whether the line, without its line feed, is the first of a journal's text.
+fn is_header(line: &[u8]) -> bool
+    ensures { result ≡ bytes_eq line.now (codes "romain 1") }
+{
+    line == b"romain 1".as_slice()
+}
+
+// The entries of the lines behind the first.
+fn read_entries(alloc: Global, bytes: &[u8]) -> Result<Vec<Entry>, JournalError>
+    ensures read { IfOk result (λ entries. lines_entries 2 (parts_of bytes.now) ≡ Ok entries.items) }
+    ensures refused { IfErr result (λ error. refuses error (lines_entries 2 (parts_of bytes.now))) }
+{
+    let mut entries = Vec::new(alloc);
+    let mut rest = bytes;
+    let mut line = 2u64;
+    while let Some((text, behind)) = first_line(rest) {
+        match read_entry(text) {
+            Ok(entry) => {
+                entries.push(entry).map_err(AllocError::from)?;
+                if is_end(&entry) {
+                    return Ok(entries);
+                }
+            }
+            Err(code) => return Err(refusal(line, code)),
+        }
+        rest = behind;
+        line += 1;
+    }
+    if rest.is_empty() {
+        Ok(entries)
+    } else {
+        Err(refusal(line, JournalCode::Form))
+    }
+}
+
+fn is_end(entry: &Entry) -> bool
+    ensures { result ≡ is_end entry.now }
+{
+    matches!(entry, Entry::End { .. })
+}
+
+// The error of a bad line of this number.
+fn refusal(line: u64, code: JournalCode) -> JournalError
+    ensures { (read : Result (List Entry) JournalError) → read ≡ Err (Bad line code) → refuses result read }
+{
+    match u32::try_from(line) {
+        Ok(line) => JournalError::Bad { line, code },
+        Err(_) => JournalError::NoMemory,
+    }
+}

@@ -1,0 +1,21 @@
+//! The text of a journal: a line `romain 1`, and then a line for each entry.
+//!
+//! An entry's line has its words between single spaces, its numbers in decimal, and a line feed at its end:
+//! `take D R T`, `put D R T N H`, `vote T N W L X`, `free T` or `end HOW`. A text is written line by line, without memory,
+//! or whole; it is read up to its first bad line, or to the line of the entry that ends the run.
+#![tactic(auto)]
+
+mod entries;
+mod errors;
+mod files;
+mod laws;
+mod lines;
+mod words;
+
+pub use errors::{JournalCode, JournalError};
+pub use files::{journal_text, read_journal};
+pub use laws::texts_read_back;
+pub use lines::{entry_text, header};
+
+#[cfg(test)]
+mod tests;

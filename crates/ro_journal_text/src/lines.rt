@@ -1,0 +1,154 @@
+//! The lines of a journal's text.
+ghost use Rattle.std.specs.Prelude.{◌≡◌, ◌+◌, ◌<◌, ◌≤◌, [], ◌++◌, ◌∷◌, length, decimal};
+ghost use Rattle.ro_text.specs.Lines.{spaced};
+ghost use Rattle.ro_journal_text.specs.Texts.{did_word, lost_word, how_words, entry_text, header_text};
+
+use ro_journal::{Did, Entry, How};
+use ro_text::{Line, Text};
+
+/// The first line of every journal's text.
+pub fn header() -> &'static [u8]
+    ensures { result.now ≡ header_text }
+{
+    b"romain 1\n"
+}
+
+/// The line of an entry.
+pub fn entry_text(entry: &Entry) -> Line
+    ensures { result ≡ entry_text entry.now }
+{
+    match *entry {
+        Entry::Take {
+            driver,
+            replica,
+            thread,
+        } => take_text(driver, replica, thread),
+        Entry::Put {
+            driver,
+            replica,
+            thread,
+            count,
+            hit,
+        } => put_text(driver, replica, thread, count, hit),
+        Entry::Vote {
+            thread,
+            count,
+            won,
+            lost,
+            did,
+        } => vote_text(thread, count, won, lost, did),
+        Entry::Free { thread } => free_text(thread),
+        Entry::End { how } => end_text(how),
+    }
+}
+
+fn take_text(driver: u32, replica: u32, thread: u32) -> Line
+    ensures { result ≡ entry_text (Entry.Take driver replica thread) }
+{
+    let mut text = Text::new();
+    text.push("take");
+    text.add_number(u64::from(driver));
+    text.add_number(u64::from(replica));
+    text.add_number(u64::from(thread));
+    text.end()
+}
+
+fn put_text(driver: u32, replica: u32, thread: u32, count: u32, hit: u32) -> Line
+    ensures { result ≡ entry_text (Entry.Put driver replica thread count hit) }
+{
+    let mut text = Text::new();
+    text.push("put");
+    text.add_number(u64::from(driver));
+    text.add_number(u64::from(replica));
+    text.add_number(u64::from(thread));
+    text.add_number(u64::from(count));
+    text.add_number(u64::from(hit));
+    text.end()
+}
+
+fn vote_text(thread: u32, count: u32, won: u32, lost: Option<u32>, did: Did) -> Line
+    ensures { result ≡ entry_text (Entry.Vote thread count won lost did) }
+{
+    let mut text = Text::new();
+    text.push("vote");
+    text.add_number(u64::from(thread));
+    text.add_number(u64::from(count));
+    text.add_number(u64::from(won));
+    add_lost(&mut text, lost);
+    text.add_word(did_word(did));
+    text.end()
+}
+
+// Appends a space and the replica that lost, or a dash.
+fn add_lost(text: &mut Text, lost: Option<u32>)
+    requires { length text.old ≤ 100 }
+    ensures bytes { text.new ≡ text.old ++ 32 ∷ lost_word lost }
+    ensures len { length text.new ≤ length text.old + 21 }
+{
+    match lost {
+        Some(replica) => text.add_number(u64::from(replica)),
+        None => text.add_word("-"),
+    }
+}
+
+fn did_word(did: Did) -> &'static str
+    ensures word { result.now ≡ did_word did }
+    ensures short { length result.now ≤ 7 }
+{
+    match did {
+        Did::Served => "served",
+        Did::Blocked => "blocked",
+        Did::Mapped => "mapped",
+        Did::Watch => "watch",
+        Did::Trapped => "trapped",
+    }
+}
+
+fn free_text(thread: u32) -> Line
+    ensures { result ≡ entry_text (Entry.Free thread) }
+{
+    let mut text = Text::new();
+    text.push("free");
+    text.add_number(u64::from(thread));
+    text.end()
+}
+
+fn end_text(how: How) -> Line
+    ensures { result ≡ entry_text (Entry.End how) }
+{
+    let mut text = Text::new();
+    text.push("end");
+    add_how(&mut text, how);
+    text.end()
+}
+
+// Appends the words that say how a run ended, each behind a space.
+fn add_how(text: &mut Text, how: How)
+    requires { length text.old ≤ 100 }
+    ensures bytes { text.new ≡ text.old ++ 32 ∷ spaced (how_words how) }
+    ensures len { length text.new ≤ length text.old + 48 }
+{
+    match how {
+        How::Exit(status) => add_numbered(text, "exit", u64::from(status)),
+        How::Deadlock => text.add_word("deadlock"),
+        How::Trap(cause) => add_numbered(text, "trap", u64::from(cause)),
+        How::Limit { steps, next } => {
+            add_numbered(text, "limit", steps);
+            text.add_number(next);
+        }
+        How::Differ => text.add_word("differ"),
+        How::NoMajority => text.add_word("no-majority"),
+        How::Sink(taken) => add_numbered(text, "sink", u64::from(taken)),
+    }
+}
+
+// Appends the word and the number, each behind a space.
+fn add_numbered(text: &mut Text, word: &str, number: u64)
+    requires room { length text.old ≤ 100 }
+    requires short { length word.now ≤ 5 }
+    ensures bytes { text.new ≡ text.old ++ 32 ∷ spaced (word.now ∷ decimal number ∷ []) }
+    ensures len { length text.new ≤ length text.old + 27 }
+{
+    text.add_word(word);
+    text.add_number(number);
+}

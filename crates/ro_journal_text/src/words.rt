@@ -1,0 +1,119 @@
+//! The words of an entry's line, read.
+ghost use Rattle.std.specs.Prelude.{◌≡◌, [], ◌∷◌, Some, true, map, IfOk};
+ghost use Rattle.ro_journal_text.specs.Reading.{did_of, lost_of, how_of, is_lost, is_how, ranged};
+
+use crate::errors::JournalCode;
+use ro_journal::{Did, How};
+use ro_text::{is_number, value_within};
+
+// The highest numbers of steps that a limit tells.
+const MOST_STEPS: u64 = 1_000_000_000_000;
+
+pub(crate) fn read_did(word: &[u8]) -> Option<Did>
+    ensures { result ≡ did_of word.now }
+{
+    if word == b"served".as_slice() {
+        Some(Did::Served)
+    } else if word == b"blocked".as_slice() {
+        Some(Did::Blocked)
+    } else if word == b"mapped".as_slice() {
+        Some(Did::Mapped)
+    } else if word == b"watch".as_slice() {
+        Some(Did::Watch)
+    } else if word == b"trapped".as_slice() {
+        Some(Did::Trapped)
+    } else {
+        None
+    }
+}
+
+pub(crate) fn read_lost(word: &[u8]) -> Result<Option<u32>, JournalCode>
+    ensures read { result ≡ ranged is_lost (lost_of word.now) }
+    ensures given { IfOk result (λ lost. lost_of word.now ≡ Some lost) }
+    ensures inside { IfOk result (λ lost. is_lost lost ≡ true) }
+{
+    if is_number(word) {
+        match value_within(word, 0, 2) {
+            Some(replica) => Ok(Some(replica as u32)),
+            None => Err(JournalCode::Range),
+        }
+    } else if word == b"-".as_slice() {
+        Ok(None)
+    } else {
+        Err(JournalCode::Form)
+    }
+}
+
+pub(crate) fn read_how(words: &[&[u8]]) -> Result<How, JournalCode>
+    ensures read { result ≡ ranged is_how (how_of (map (λ word. word.now) words.now)) }
+    ensures given { IfOk result (λ how. how_of (map (λ word. word.now) words.now) ≡ Some how) }
+    ensures inside { IfOk result (λ how. is_how how ≡ true) }
+{
+    match words {
+        [kind] => read_bare(kind),
+        [kind, number] => read_numbered(kind, number),
+        [kind, steps, next] => read_limit(kind, steps, next),
+        _ => Err(JournalCode::Form),
+    }
+}
+
+fn read_bare(kind: &[u8]) -> Result<How, JournalCode>
+    ensures read { result ≡ ranged is_how (how_of (kind.now ∷ [])) }
+    ensures given { IfOk result (λ how. how_of (kind.now ∷ []) ≡ Some how) }
+    ensures inside { IfOk result (λ how. is_how how ≡ true) }
+{
+    if kind == b"deadlock".as_slice() {
+        Ok(How::Deadlock)
+    } else if kind == b"differ".as_slice() {
+        Ok(How::Differ)
+    } else if kind == b"no-majority".as_slice() {
+        Ok(How::NoMajority)
+    } else {
+        Err(JournalCode::Form)
+    }
+}
+
+fn read_numbered(kind: &[u8], number: &[u8]) -> Result<How, JournalCode>
+    ensures read { result ≡ ranged is_how (how_of (kind.now ∷ number.now ∷ [])) }
+    ensures given { IfOk result (λ how. how_of (kind.now ∷ number.now ∷ []) ≡ Some how) }
+    ensures inside { IfOk result (λ how. is_how how ≡ true) }
+{
+    if !is_number(number) {
+        return Err(JournalCode::Form);
+    }
+    if kind == b"exit".as_slice() {
+        match value_within(number, 0, 255) {
+            Some(status) => Ok(How::Exit(status as u8)),
+            None => Err(JournalCode::Range),
+        }
+    } else if kind == b"trap".as_slice() {
+        match value_within(number, 1, 9) {
+            Some(cause) => Ok(How::Trap(cause as u8)),
+            None => Err(JournalCode::Range),
+        }
+    } else if kind == b"sink".as_slice() {
+        match value_within(number, 0, 4095) {
+            Some(taken) => Ok(How::Sink(taken as u32)),
+            None => Err(JournalCode::Range),
+        }
+    } else {
+        Err(JournalCode::Form)
+    }
+}
+
+fn read_limit(kind: &[u8], steps: &[u8], next: &[u8]) -> Result<How, JournalCode>
+    ensures read { result ≡ ranged is_how (how_of (kind.now ∷ steps.now ∷ next.now ∷ [])) }
+    ensures given { IfOk result (λ how. how_of (kind.now ∷ steps.now ∷ next.now ∷ []) ≡ Some how) }
+    ensures inside { IfOk result (λ how. is_how how ≡ true) }
+{
+    if kind != b"limit".as_slice() || !is_number(steps) || !is_number(next) {
+        return Err(JournalCode::Form);
+    }
+    match (
+        value_within(steps, 0, MOST_STEPS),
+        value_within(next, 0, MOST_STEPS),
+    ) {
+        (Some(steps), Some(next)) => Ok(How::Limit { steps, next }),
+        _ => Err(JournalCode::Range),
+    }
+}

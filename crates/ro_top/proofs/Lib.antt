@@ -1,3 +1,2 @@
-mod Asked
 mod Tells
-mod Turns
+mod Asked

@@ -1,5 +1,5 @@
 -- Why each answer comes.
-use Rattle.std.specs.Prelude.{◌≡◌, ◌≢◌, ◌⊎◌, ⊤, ⊥, ℕ, ◌+◌, ◌<◌, ◌≤◌, IsTrue, List, [], ◌∷◌, ◌++◌, length, Option, Some, None, Err}
+use Rattle.std.specs.Prelude.{◌≡◌, ◌≢◌, ◌⊎◌, ⊤, ℕ, ◌+◌, ◌<◌, ◌≤◌, IsTrue, List, [], ◌∷◌, ◌++◌, length, Option, Some, None, Err}
 use Rattle.ro_io.specs.Outside.{Files, Rose}
 use Rattle.ro_event.specs.Views.{View}
 use Rattle.ro_image.specs.Executable.{bad_code}

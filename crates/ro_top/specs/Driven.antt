@@ -35,9 +35,13 @@ IsHome core = (state core).leases ≡ []
 abbrev pub HasFailed : CoreOf → Type 0
 HasFailed core = IsSome core.failed ⊎ ((taken : ℕ) × (outcome_of core.journal ≡ Some (Sink taken)))
 
--- The core goes on: what it was opened with stays, what leaves is in the sink, and where the sink fails its count rises.
+-- The core goes on: what it was opened with stays, its journal grows, what leaves is in the sink, and where the sink fails its
+-- count rises.
 pub record Goes (old new : CoreOf) : Type 0 where
   pub job : new.job ≡ old.job
+  pub entries : List Entry
+  pub journal : new.journal ≡ old.journal ++ entries
+  pub still : entries ≡ [] → new.faults ≡ old.faults
   pub bytes : List ℕ
   pub sent : sent new ≡ sent old ++ bytes
   pub held : new.held ≡ more old.held bytes

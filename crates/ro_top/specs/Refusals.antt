@@ -1,5 +1,5 @@
 -- Why words, or one file of a command, are refused.
-use Rattle.std.specs.Prelude.{◌≡◌, ⊤, ⊥, ℕ, ◌<◌, List, length, Option, Some, None, Err}
+use Rattle.std.specs.Prelude.{◌≡◌, ⊤, ℕ, ◌<◌, List, length, Option, Some, None, Err}
 use Rattle.ro_io.specs.Outside.{Files, Rose}
 use Rattle.ro_image.specs.Executable.{bad_code}
 use Rattle.ro_faults.specs.declared.errors.FaultsError.TheVariants.{Bad}

@@ -1,5 +1,5 @@
 -- What a command does, and what it answers.
-use Rattle.std.specs.Prelude.{◌≡◌, ◌⊎◌, ⊥, ℕ, Bool, List, [], ◌∷◌, ◌++◌, length, Option, Some}
+use Rattle.std.specs.Prelude.{◌≡◌, ◌⊎◌, ℕ, Bool, List, [], ◌∷◌, ◌++◌, length, Option, Some}
 use Rattle.ro_io.specs.Outside.{Files, Rose, more}
 use Rattle.ro_journal.specs.declared.How.{How}
 use Rattle.ro_journal.specs.declared.Entry.{Entry}
@@ -12,6 +12,7 @@ use Rattle.ro_core.specs.Legal.{Legal, output_of}
 use Rattle.ro_simulation.specs.Theorem.{IsComplete}
 use Rattle.ro_top.specs.declared.done.Told.{Told}
 use Rattle.ro_top.specs.declared.done.Told.TheVariants.{Whole, Failed}
+use Rattle.ro_top.specs.Driven.{HasRun}
 use Rattle.ro_top.specs.Files.{IsAskedJob}
 
 -- the status with which the process ends
@@ -34,6 +35,10 @@ status_of Whole (TooLong kind) = 252
 -- Nothing was run, or the journal is a legal one of the job that is asked for, and of that job this holds.
 abbrev pub OfItsJob : Option Files → List (List ℕ) → List Entry → (Job → Type 0) → Type 0
 OfItsJob files words journal P = (journal ≡ []) ⊎ ((job : Job) × IsAskedJob files words job × Legal job journal × P job)
+
+-- nothing was run, or the journal came of running the job that is asked for
+abbrev pub HasRunJob : Option Files → List (List ℕ) → List Entry → Type 0
+HasRunJob files words journal = (journal ≡ []) ⊎ ((job : Job) × IsAskedJob files words job × HasRun job journal)
 
 -- how many bytes the run wrote
 abbrev pub Wrote : Option Files → List (List ℕ) → List Entry → ℕ → Type 0

@@ -1,5 +1,5 @@
 //! The files that a command names.
-ghost use Rattle.std.specs.Prelude.{◌≡◌, ◌≤◌, IfOk, IfErr, IfSome, length, None, Ok};
+ghost use Rattle.std.specs.Prelude.{◌≡◌, ◌<◌, ◌≤◌, IfOk, IfErr, length, Ok};
 ghost use Rattle.std.specs.Option.{option_map};
 ghost use Rattle.ro_image.specs.Executable.{bad_code, image_of};
 ghost use Rattle.ro_faults.specs.Texts.{file_faults};
@@ -52,8 +52,8 @@ pub(crate) fn fetch_named<S: Store>(
     kind: FileKind,
     name: Option<&str>,
 ) -> Result<Vec<u8>, Answer>
-    ensures content { IfOk result (λ bytes. IsContent (S.told store.old) kind (option_map (λ n. n.now) name) bytes.items) }
-    ensures refused { IfErr result (RefusesContent (S.told store.old) kind (option_map (λ n. n.now) name) (S.faults store.old) (S.faults store.new)) }
+    ensures content { IfOk result (λ bytes. IsContent (S.told store.old) kind (option_map (λ n. n.now) name.entry) bytes.items) }
+    ensures refused { IfErr result (RefusesContent (S.told store.old) kind (option_map (λ n. n.now) name.entry) (S.faults store.old) (S.faults store.new)) }
     ensures told { S.told store.new ≡ S.told store.old }
     ensures faults { S.faults store.old ≤ S.faults store.new }
 {

@@ -1,5 +1,5 @@
 //! The run of a job.
-ghost use Rattle.std.specs.Prelude.{◌≡◌, ◌≤◌, [], length};
+ghost use Rattle.std.specs.Prelude.{◌≡◌, [], length};
 ghost use Rattle.ro_io.specs.Outside.{more};
 ghost use Rattle.ro_journal.specs.Plan.{outcome_of};
 ghost use Rattle.ro_core.specs.Legal.{output_of};
@@ -53,15 +53,14 @@ pub(crate) fn run<R: Wait, K: Sink>(rt: &R, alloc: Global, job: Job, out: K) -> 
     ensures program { IsRefusal result.answer → ⊥ }
     ensures bytes { result.bytes ≡ length (output_of (job_of job.image job.input.items job.faults.items job.settings) result.journal.items) }
     ensures held { K.held result.out ≡ more (K.held out) (output_of (job_of job.image job.input.items job.faults.items job.settings) result.journal.items) }
-    ensures nothing_run { result.journal.items ≡ [] → (K.held result.out ≡ K.held out) }
-    ensures faults { K.faults out ≤ K.faults result.out }
+    ensures nothing_run { result.journal.items ≡ [] → (K.held result.out ≡ K.held out) × (K.faults result.out ≡ K.faults out) }
 {
     let Job {
         image,
         input,
         faults,
         settings,
-        ..
+        journal: _journal,
     } = job;
     let mut core = match Core::begin(
         alloc,

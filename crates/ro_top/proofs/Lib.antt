@@ -1,2 +1,6 @@
 mod Tells
 mod Asked
+mod Turns
+mod Lending
+mod Lasts
+mod Deciding

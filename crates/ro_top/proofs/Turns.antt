@@ -160,6 +160,20 @@ goes_sending old new entry bytes a s sinks = record {
     by (inr (inl was)) = inl was
     by (inr (inr is)) = absurd (sinks is.0 is.1)
 
+-- nothing happened
+pub goes_none : (core : CoreOf) → Goes core core
+goes_none core = record {
+  job = refl;
+  entries = [];
+  journal = sym (append-nil core.journal);
+  still = λ e. refl;
+  bytes = [];
+  sent = none_sent (sent core) (sent core) refl;
+  held = none_held core.held core.held refl;
+  faults = omega arith;
+  blames = λ failed. inl failed;
+}
+
 both_empty : (xs ys : List Entry) → xs ++ ys ≡ [] → (xs ≡ []) × (ys ≡ [])
 both_empty [] ys e = (refl, e)
 both_empty (x ∷ xs) ys e = absurd (let f : x ∷ (xs ++ ys) ≡ [] = e in cc)

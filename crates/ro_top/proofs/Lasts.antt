@@ -104,24 +104,26 @@ due_over job journal = over_from job (opening_core job) journal none_over
 pub record LastEntry (job : Job) (core : Core) (journal : List Entry) (how : How) : Type 0 where
   pub before : List Entry
   pub journal_is : journal ≡ before ++ End how ∷ []
+  pub legal : LegalFrom job core before
   pub may : MayEnd job (replay_from job core before) how
 
-later_last : (job : Job) (core : Core) (entry : Entry) (journal : List Entry) (how : How) → LastEntry job (after job core entry) journal how → LastEntry job core (entry ∷ journal) how
-later_last job core entry journal how l = record { before = entry ∷ l.before; journal_is = ap (λ (js : List Entry). entry ∷ js) l.journal_is; may = l.may }
+later_last : (job : Job) (core : Core) (entry : Entry) (journal : List Entry) (how : How) → IsAllowed job core entry → LastEntry job (after job core entry) journal how → LastEntry job core (entry ∷ journal) how
+later_last job core entry journal how m l = record { before = entry ∷ l.before; journal_is = ap (λ (js : List Entry). entry ∷ js) l.journal_is; legal = (m, l.legal); may = l.may }
 
 -- a legal journal that ends has an end as its last entry, which was allowed
 pub last_from : (job : Job) (core : Core) (journal : List Entry) (how : How) → LegalFrom job core journal → outcome_of journal ≡ Some how → LastEntry job core journal how
 last_from job core [] how legal e = absurd (let f : None ≡ Some how = e in cc)
-last_from job core (Take d r t ∷ journal) how legal e = later_last job core (Take d r t) journal how (last_from job (after job core (Take d r t)) journal how legal.1 e)
-last_from job core (Put d r t n h ∷ journal) how legal e = later_last job core (Put d r t n h) journal how (last_from job (after job core (Put d r t n h)) journal how legal.1 e)
-last_from job core (Vote t n w l d ∷ journal) how legal e = later_last job core (Vote t n w l d) journal how (last_from job (after job core (Vote t n w l d)) journal how legal.1 e)
-last_from job core (Free t ∷ journal) how legal e = later_last job core (Free t) journal how (last_from job (after job core (Free t)) journal how legal.1 e)
+last_from job core (Take d r t ∷ journal) how legal e = later_last job core (Take d r t) journal how legal.0 (last_from job (after job core (Take d r t)) journal how legal.1 e)
+last_from job core (Put d r t n h ∷ journal) how legal e = later_last job core (Put d r t n h) journal how legal.0 (last_from job (after job core (Put d r t n h)) journal how legal.1 e)
+last_from job core (Vote t n w l d ∷ journal) how legal e = later_last job core (Vote t n w l d) journal how legal.0 (last_from job (after job core (Vote t n w l d)) journal how legal.1 e)
+last_from job core (Free t ∷ journal) how legal e = later_last job core (Free t) journal how legal.0 (last_from job (after job core (Free t)) journal how legal.1 e)
 last_from job core (End other ∷ journal) how legal e =
     let same : other ≡ how = (let f : Some other ≡ Some how = e in cc) in
     let rest : journal ≡ [] = nothing-after job (after job core (End other)) other journal (after-end-ended job core other) legal.1 in
     record {
       before = [];
       journal_is = ap (λ (h : How). End h ∷ journal) same ∙ ap (λ (js : List Entry). End how ∷ js) rest;
+      legal = tt;
       may = subst (MayEnd job core) same legal.0.1;
     }
 

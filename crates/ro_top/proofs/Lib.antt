@@ -4,3 +4,7 @@ mod Turns
 mod Lending
 mod Lasts
 mod Deciding
+mod Summed
+mod Shown
+mod Reasons
+mod Finishing

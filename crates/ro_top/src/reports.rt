@@ -70,7 +70,7 @@ fn give_entries<E: Sink>(report: &mut E, journal: &[Entry]) -> Result<(), Failed
     ensures faults { E.faults report.old ≤ E.faults report.new }
 {
     let mut rest = journal;
-    while let [entry, behind @ ..] = rest {
+    while let Some((entry, behind)) = rest.split_first() {
         give_all(report, entry_text(entry).as_bytes())?;
         rest = behind;
     }

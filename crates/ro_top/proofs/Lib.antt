@@ -8,3 +8,4 @@ mod Summed
 mod Shown
 mod Reasons
 mod Finishing
+mod Claims

@@ -12,7 +12,7 @@ use Rattle.ro_faults.specs.declared.Target.TheVariants.{Register, Pc, Byte}
 use Rattle.ro_faults.specs.Texts.{target_words, fault_words, faults_text, target_of, fault_of, is_target, is_fault, ranged, line_fault, lines_faults, file_faults}
 use Rattle.ro_faults.proofs.Reading.{cut_before}
 
-inside : (least most value : ℕ) → within least most value ≡ true → value ≤ most
+pub inside : (least most value : ℕ) → within least most value ≡ true → value ≤ most
 inside least most value h = leb-true value most (and_parts (nat_le least value) (nat_le value most) h).1
 
 target_back : (target : Target) → is_target target ≡ true → (list_all is_plain (target_words target) ≡ true) × (target_of (target_words target) ≡ Some target)

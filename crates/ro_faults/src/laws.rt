@@ -8,3 +8,9 @@ ghost use Rattle.ro_faults.specs.Texts.{is_fault, faults_text, file_faults};
 pub fn texts_read_back()
     ensures { (replicas : ℕ) (faults : List Fault) → replicas < 2 ^ 32 → length faults ≤ 256 → list_all (is_fault replicas) faults ≡ true → file_faults replicas (faults_text faults) ≡ Ok faults }
 {}
+
+/// A text that is read is the text of the faults that are read, so that each list has one text; the faults are not too
+/// many, and their numbers are in their ranges.
+pub fn texts_spelled_once()
+    ensures { (replicas : ℕ) (bytes : List ℕ) (faults : List Fault) → replicas < 2 ^ 32 → file_faults replicas bytes ≡ Ok faults → (faults_text faults ≡ bytes) × (length faults ≤ 256) × (list_all (is_fault replicas) faults ≡ true) }
+{}

@@ -1,3 +1,6 @@
 pub mod Many
 pub mod Steps
 pub mod Back
+pub mod Once
+pub mod Whole
+pub mod Wording

@@ -1,5 +1,6 @@
 -- The journal of a text.
 use Rattle.std.specs.Prelude.{◌≡◌, ⊤, ℕ, ◌+◌, ◌^◌, Bool, true, false, ◌&&◌, not, List, [], ◌∷◌, ◌++◌, Option, Some, None, Result, Ok, Err, if◌then◌else◌, codes}
+use Rattle.std.specs.List.{list_any}
 use Rattle.std.specs.Option.{option_map}
 use Rattle.std.specs.Str.{bytes_eq}
 use Rattle.ro_text.specs.Numbers.{is_number, value_of, within}
@@ -10,6 +11,7 @@ use Rattle.ro_journal.specs.declared.How.{How}
 use Rattle.ro_journal.specs.declared.How.TheVariants.{Exit, Deadlock, Trap, Limit, Differ, NoMajority, Sink}
 use Rattle.ro_journal.specs.declared.Entry.{Entry}
 use Rattle.ro_journal.specs.declared.Entry.TheVariants.{Take, Put, Vote, Free, End}
+use Rattle.ro_journal_text.specs.Texts.{journal_text}
 use Rattle.ro_journal_text.specs.declared.errors.JournalCode.{JournalCode}
 use Rattle.ro_journal_text.specs.declared.errors.JournalCode.TheVariants.{Form, Range}
 use Rattle.ro_journal_text.specs.declared.errors.JournalError.{JournalError}
@@ -161,6 +163,12 @@ abbrev pub ends_last : List Entry → Bool
 ends_last [] = true
 ends_last (entry ∷ []) = true
 ends_last (entry ∷ next ∷ entries) = not (is_end entry) && ends_last (next ∷ entries)
+
+-- the text is that of the journal, and behind it, where the journal ends the run, what is not read
+pub record BeginsWith (bytes : List ℕ) (entries : List Entry) : Type 0 where
+  pub unread : List ℕ
+  pub text : bytes ≡ journal_text entries ++ unread
+  pub whole : list_any is_end entries ≡ false → unread ≡ []
 
 abbrev pub code_of : JournalCode → ℕ
 code_of Form = 1

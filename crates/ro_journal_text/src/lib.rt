@@ -14,7 +14,7 @@ mod words;
 
 pub use errors::{JournalCode, JournalError};
 pub use files::{journal_text, read_journal};
-pub use laws::texts_read_back;
+pub use laws::{texts_read_back, texts_spelled_once};
 pub use lines::{entry_text, header};
 
 #[cfg(test)]

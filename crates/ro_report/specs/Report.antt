@@ -1,4 +1,4 @@
--- The report of a run: a summary of its journal, and the answer.
+-- The report of a run: its journal, where that is to be shown, a summary of it, and the answer.
 use Rattle.std.specs.Prelude.{ℕ, Bool, true, false, List, [], ◌∷◌, ◌++◌, Some, length, count_by, sum_by, codes, decimal}
 use Rattle.ro_journal.specs.declared.Entry.{Entry}
 use Rattle.ro_journal.specs.declared.Entry.TheVariants.{Put, Vote}

@@ -1,10 +1,9 @@
 //! The answer of a command.
-ghost use Rattle.std.specs.Prelude.{◌≡◌, ◌+◌, ◌<◌, ◌≤◌, ◌++◌, length, codes, decimal};
-ghost use Rattle.arrayvec.specs.ArrayString.{array_string_len};
+ghost use Rattle.std.specs.Prelude.{◌≡◌, ◌≤◌, ◌++◌, length, codes, decimal};
 ghost use Rattle.ro_report.specs.Report.{answer_text};
 
-use crate::lines::{Line, ROOM, Text, push_number};
 use ro_faults::FaultsCode;
+use ro_text::{Line, Text};
 
 /// A file that a command names.
 #[derive(Clone, Copy, Debug, PartialEq, Eq)]
@@ -54,32 +53,31 @@ pub fn answer_line(answer: &Answer) -> Line
 {
     match *answer {
         Answer::Exit(status) => numbered("answer exit ", u64::from(status)),
-        Answer::Deadlock => fixed("answer deadlock\n"),
+        Answer::Deadlock => fixed("answer deadlock"),
         Answer::Trap(cause) => numbered("answer trap ", u64::from(cause)),
-        Answer::Differ => fixed("answer differ\n"),
-        Answer::NoMajority => fixed("answer no-majority\n"),
+        Answer::Differ => fixed("answer differ"),
+        Answer::NoMajority => fixed("answer no-majority"),
         Answer::Limit { steps, next } => twice_numbered("answer limit ", steps, next),
         Answer::SinkFailed { taken } => numbered("answer sink ", u64::from(taken)),
-        Answer::StoreFailed => fixed("answer store\n"),
+        Answer::StoreFailed => fixed("answer store"),
         Answer::BadExe(code) => numbered("answer exe ", u64::from(code)),
         Answer::BadFaults { line, code } => {
             twice_numbered("answer faults ", u64::from(line), u64::from(code.code()))
         }
-        Answer::BadWords => fixed("answer words\n"),
-        Answer::TooLong(_) => fixed("answer too-long\n"),
-        Answer::NoMemory => fixed("answer no-memory\n"),
+        Answer::BadWords => fixed("answer words"),
+        Answer::TooLong(_) => fixed("answer too-long"),
+        Answer::NoMemory => fixed("answer no-memory"),
     }
 }
 
 // The line of these words.
 fn fixed(words: &str) -> Line
-    requires filled { 0 < length words.now }
-    requires short { length words.now ≤ 100 }
-    ensures { result ≡ words.now }
+    requires { length words.now ≤ 100 }
+    ensures { result ≡ words.now ++ codes "\n" }
 {
     let mut text = Text::new();
-    text.push_str(words);
-    Line::of(text)
+    text.push(words);
+    text.end()
 }
 
 // The line of these words and a number.
@@ -88,9 +86,9 @@ fn numbered(words: &str, number: u64) -> Line
     ensures { result ≡ words.now ++ decimal number ++ codes "\n" }
 {
     let mut text = Text::new();
-    push_part(&mut text, words, number);
-    text.push_str("\n");
-    Line::of(text)
+    text.push(words);
+    text.push_number(number);
+    text.end()
 }
 
 // The line of these words and two numbers.
@@ -99,18 +97,8 @@ fn twice_numbered(words: &str, one: u64, other: u64) -> Line
     ensures { result ≡ words.now ++ decimal one ++ codes " " ++ decimal other ++ codes "\n" }
 {
     let mut text = Text::new();
-    push_part(&mut text, words, one);
-    push_part(&mut text, " ", other);
-    text.push_str("\n");
-    Line::of(text)
-}
-
-// Appends words and a number.
-fn push_part(text: &mut Text, words: &str, number: u64)
-    requires { array_string_len text.old + length words.now + 20 ≤ ROOM }
-    ensures bytes { text.new.bytes ≡ text.old.bytes ++ words.now ++ decimal number }
-    ensures len { array_string_len text.new ≤ array_string_len text.old + length words.now + 20 }
-{
-    text.push_str(words);
-    push_number(text, number);
+    text.push(words);
+    text.push_number(one);
+    text.add_number(other);
+    text.end()
 }

@@ -1,13 +1,15 @@
-//! The report of a run: the summary of its journal and the answer, each a line of a fixed size, so that a report
-//! takes no memory.
+//! The report of a run: its journal, where that is to be shown, then the summary of it and the answer. Each line has a
+//! fixed size, so that a report takes no memory.
 #![tactic(auto)]
 
 mod answers;
-mod lines;
+mod laws;
 mod summaries;
 
 pub use answers::{Answer, FileKind, answer_line};
-pub use lines::Line;
+pub use laws::shown_line_by_line;
+pub use ro_journal_text::{entry_text, header};
+pub use ro_text::Line;
 pub use summaries::summary;
 
 #[cfg(test)]

@@ -1,11 +1,10 @@
 //! The summary of a run's journal.
 ghost use Rattle.std.specs.Prelude.{◌≡◌, ◌+◌, ◌^◌, ◌<◌, ◌≤◌, ◌++◌, length, decimal};
-ghost use Rattle.arrayvec.specs.ArrayString.{array_string_len};
 ghost use Rattle.ro_journal.specs.Plan.{entry_plan, event_steps};
 ghost use Rattle.ro_report.specs.Report.{is_vote, is_copy, hits_of, votes_in, copies_in, struck_in, steps_in, summary_text};
 
-use crate::lines::{Line, ROOM, Text, push_number};
 use ro_journal::{Did, Entry};
+use ro_text::{Line, ROOM, Text};
 
 /// The line that sums a journal up: its votes, the copies that followed them, the faults that were struck, the
 /// steps of its plan, and the bytes that the run wrote.
@@ -20,17 +19,16 @@ pub fn summary(journal: &[Entry], bytes: u64) -> Line
     push_field(&mut text, " struck ", struck(journal));
     push_field(&mut text, " steps ", steps(journal));
     push_field(&mut text, " bytes ", bytes);
-    text.push_str("\n");
-    Line::of(text)
+    text.end()
 }
 
 fn push_field(text: &mut Text, name: &str, number: u64)
-    requires { array_string_len text.old + length name.now + 20 ≤ ROOM }
-    ensures bytes { text.new.bytes ≡ text.old.bytes ++ name.now ++ decimal number }
-    ensures len { array_string_len text.new ≤ array_string_len text.old + length name.now + 20 }
+    requires { length text.old + length name.now + 20 ≤ ROOM }
+    ensures bytes { text.new ≡ text.old ++ name.now ++ decimal number }
+    ensures len { length text.new ≤ length text.old + length name.now + 20 }
 {
-    text.push_str(name);
-    push_number(text, number);
+    text.push(name);
+    text.push_number(number);
 }
 
 fn votes(journal: &[Entry]) -> u64

@@ -4,6 +4,7 @@ ghost use Rattle.std.specs.Prelude.{◌≡◌};
 use super::*;
 use ro_faults::FaultsCode;
 use ro_journal::{Did, Entry, How};
+use std::alloc::AllocError;
 
 #[test]
 fn answers(rt: HostRuntime) {
@@ -41,8 +42,22 @@ fn answers(rt: HostRuntime) {
     }
 }
 
+const EXIT_ALIKE: &str = "romain 1
+take 0 0 0
+put 0 0 0 2 0
+take 0 1 0
+put 0 1 0 2 0
+take 0 2 0
+put 0 2 0 2 0
+vote 0 2 0 - served
+end exit 7
+votes 1 copies 0 struck 0 steps 3 bytes 0
+answer exit 7
+";
+
+// The report of a run that exits alike, line by line.
 #[test]
-fn exit_alike(rt: HostRuntime) {
+fn exit_alike(rt: HostRuntime) -> Result<(), AllocError> {
     let journal = [
         take(0),
         put(0, 0),
@@ -53,9 +68,14 @@ fn exit_alike(rt: HostRuntime) {
         vote(2, None, Did::Served),
         Entry::End { how: How::Exit(7) },
     ];
-    let line = summary(&journal, 0);
-    let want = "votes 1 copies 0 struck 0 steps 3 bytes 0\n";
-    assert_eq!(rt; line.as_bytes(), want.as_bytes());
+    let mut report = Vec::from_slice(rt.alloc(), header())?;
+    for entry in journal {
+        report.extend_from_slice(entry_text(&entry).as_bytes())?;
+    }
+    report.extend_from_slice(summary(&journal, 0).as_bytes())?;
+    report.extend_from_slice(answer_line(&Answer::Exit(7)).as_bytes())?;
+    assert!(rt; report.as_slice() == EXIT_ALIKE.as_bytes());
+    Ok(())
 }
 
 #[test]

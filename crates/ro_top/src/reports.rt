@@ -9,8 +9,7 @@ ghost use Rattle.ro_top.specs.declared.done.Told.TheVariants as told;
 use crate::done::Told;
 use ro_io::{Failed, Sink};
 use ro_journal::Entry;
-use ro_journal_text::{entry_text, header};
-use ro_report::{Answer, answer_line, summary};
+use ro_report::{Answer, answer_line, entry_text, header, summary};
 
 // Tells the report of a run that wrote so many bytes.
 pub(crate) fn tell<E: Sink>(

@@ -1,0 +1,95 @@
+-- Words that are read are the words of what is read.
+use Rattle.std.proofs.Common.{ℕ, Bool, true, false, ◌≡◌, ◌^◌, ◌<◌, ◌&&◌, ◌⊎◌, inl, inr, nat_le, List, [], ◌∷◌, Option, Some, None, decimal, codes, cond, arith, refl, sym, ap, ◌∙◌}
+use Rattle.std.specs.Str.{bytes_eq}
+use Rattle.std.proofs.lemmas.Bool.{and_parts, leb-true}
+use Rattle.std.proofs.lemmas.Slice.Eq.{bytes_eq-Decides}
+use Rattle.ro_text.specs.Numbers.{is_number, value_of, within}
+use Rattle.ro_text.proofs.Spellings.{number_once}
+use Rattle.ro_journal.specs.declared.Did.{Did}
+use Rattle.ro_journal.specs.declared.Did.TheVariants.{Served, Blocked, Mapped, Watch, Trapped}
+use Rattle.ro_journal.specs.declared.How.{How}
+use Rattle.ro_journal.specs.declared.How.TheVariants.{Exit, Deadlock, Trap, Limit, Differ, NoMajority, Sink}
+use Rattle.ro_journal_text.specs.Texts.{did_word, lost_word, how_words}
+use Rattle.ro_journal_text.specs.Reading.{did_of, lost_of, how_of, is_lost, is_how}
+
+pub same : (word text : List ℕ) → bytes_eq word text ≡ true → word ≡ text
+same word text e = (bytes_eq-Decides word text).0 e
+
+-- which side of a choice gave a value
+pub pick : {A : Type 0} (b : Bool) (first other : Option A) (x : A) → cond b first other ≡ Some x → ((b ≡ true) × (first ≡ Some x)) ⊎ ((b ≡ false) × (other ≡ Some x))
+pick true first other x h = inl (refl, h)
+pick false first other x h = inr (refl, h)
+
+pub chosen : {A : Type 0} (b : Bool) (first : Option A) (x : A) → cond b first None ≡ Some x → (b ≡ true) × (first ≡ Some x)
+chosen true first x h = (refl, h)
+chosen false first x h = absurd (cc)
+
+pub inner : {A : Type 0} (x y : A) → Some x ≡ Some y → x ≡ y
+inner x y h = cc
+
+pub once : (least most : ℕ) (word : List ℕ) → most < 2 ^ 64 → is_number word ≡ true → within least most (value_of word) ≡ true → decimal (value_of word) ≡ word
+once least most word fits n h = number_once word n (omega (arith, leb-true (value_of word) most (and_parts (nat_le least (value_of word)) (nat_le (value_of word) most) h).1))
+
+pub did_once : (word : List ℕ) (did : Did) → did_of word ≡ Some did → did_word did ≡ word
+did_once word did h = elim (pick (bytes_eq word (codes "served")) (Some Served) _ did h) [
+  | inl p ↦ ap did_word (sym (inner Served did p.1)) ∙ sym (same word (codes "served") p.0)
+  | inr q ↦ elim (pick (bytes_eq word (codes "blocked")) (Some Blocked) _ did q.1) [
+    | inl p ↦ ap did_word (sym (inner Blocked did p.1)) ∙ sym (same word (codes "blocked") p.0)
+    | inr q ↦ elim (pick (bytes_eq word (codes "mapped")) (Some Mapped) _ did q.1) [
+      | inl p ↦ ap did_word (sym (inner Mapped did p.1)) ∙ sym (same word (codes "mapped") p.0)
+      | inr q ↦ elim (pick (bytes_eq word (codes "watch")) (Some Watch) _ did q.1) [
+        | inl p ↦ ap did_word (sym (inner Watch did p.1)) ∙ sym (same word (codes "watch") p.0)
+        | inr q ↦ let p = chosen (bytes_eq word (codes "trapped")) (Some Trapped) did q.1 in
+            ap did_word (sym (inner Trapped did p.1)) ∙ sym (same word (codes "trapped") p.0)
+      ]
+    ]
+  ]
+]
+
+pub lost_once : (word : List ℕ) (lost : Option ℕ) → lost_of word ≡ Some lost → is_lost lost ≡ true → lost_word lost ≡ word
+lost_once word lost h fits = elim (pick (is_number word) (Some (Some (value_of word))) _ lost h) [
+  | inl p ↦ let e = inner (Some (value_of word)) lost p.1 in ap lost_word (sym e) ∙ once 0 2 word (omega arith) p.0 (ap is_lost e ∙ fits)
+  | inr q ↦ let p = chosen (bytes_eq word (codes "-")) (Some None) lost q.1 in
+      ap lost_word (sym (inner None lost p.1)) ∙ sym (same word (codes "-") p.0)
+]
+
+bare_once : (kind : List ℕ) (how : How) → how_of (kind ∷ []) ≡ Some how → how_words how ≡ kind ∷ []
+bare_once kind how h = elim (pick (bytes_eq kind (codes "deadlock")) (Some Deadlock) _ how h) [
+  | inl p ↦ ap how_words (sym (inner Deadlock how p.1)) ∙ ap (λ k. k ∷ []) (sym (same kind (codes "deadlock") p.0))
+  | inr q ↦ elim (pick (bytes_eq kind (codes "differ")) (Some Differ) _ how q.1) [
+    | inl p ↦ ap how_words (sym (inner Differ how p.1)) ∙ ap (λ k. k ∷ []) (sym (same kind (codes "differ") p.0))
+    | inr q ↦ let p = chosen (bytes_eq kind (codes "no-majority")) (Some NoMajority) how q.1 in
+        ap how_words (sym (inner NoMajority how p.1)) ∙ ap (λ k. k ∷ []) (sym (same kind (codes "no-majority") p.0))
+  ]
+]
+
+numbered_once : (kind number : List ℕ) (how : How) → how_of (kind ∷ number ∷ []) ≡ Some how → is_how how ≡ true → how_words how ≡ kind ∷ number ∷ []
+numbered_once kind number how h fits =
+    let n = chosen (is_number number) _ how h in
+    elim (pick (bytes_eq kind (codes "exit")) (Some (Exit (value_of number))) _ how n.1) [
+      | inl p ↦ let e = inner (Exit (value_of number)) how p.1 in
+          ap how_words (sym e) ∙ rw (same kind (codes "exit") p.0, once 0 255 number (omega arith) n.0 (ap is_how e ∙ fits)) refl
+      | inr q ↦ elim (pick (bytes_eq kind (codes "trap")) (Some (Trap (value_of number))) _ how q.1) [
+        | inl p ↦ let e = inner (Trap (value_of number)) how p.1 in
+            ap how_words (sym e) ∙ rw (same kind (codes "trap") p.0, once 1 9 number (omega arith) n.0 (ap is_how e ∙ fits)) refl
+        | inr q ↦ let p = chosen (bytes_eq kind (codes "sink")) (Some (Sink (value_of number))) how q.1 in
+            let e = inner (Sink (value_of number)) how p.1 in
+            ap how_words (sym e) ∙ rw (same kind (codes "sink") p.0, once 0 4095 number (omega arith) n.0 (ap is_how e ∙ fits)) refl
+      ]
+    ]
+
+limit_once : (kind steps next : List ℕ) (how : How) → how_of (kind ∷ steps ∷ next ∷ []) ≡ Some how → is_how how ≡ true → how_words how ≡ kind ∷ steps ∷ next ∷ []
+limit_once kind steps next how h fits =
+    let p = chosen (bytes_eq kind (codes "limit") && is_number steps && is_number next) (Some (Limit (value_of steps) (value_of next))) how h in
+    let two = and_parts (bytes_eq kind (codes "limit") && is_number steps) (is_number next) p.0 in
+    let one = and_parts (bytes_eq kind (codes "limit")) (is_number steps) two.0 in
+    let e = inner (Limit (value_of steps) (value_of next)) how p.1 in
+    let f = and_parts (within 0 (10 ^ 12) (value_of steps)) (within 0 (10 ^ 12) (value_of next)) (ap is_how e ∙ fits) in
+    ap how_words (sym e) ∙ rw (same kind (codes "limit") one.0, once 0 (10 ^ 12) steps (omega arith) one.1 f.0, once 0 (10 ^ 12) next (omega arith) two.1 f.1) refl
+
+pub how_once : (words : List (List ℕ)) (how : How) → how_of words ≡ Some how → is_how how ≡ true → how_words how ≡ words
+how_once [] how h fits = absurd (cc)
+how_once (kind ∷ []) how h fits = bare_once kind how h
+how_once (kind ∷ number ∷ []) how h fits = numbered_once kind number how h fits
+how_once (kind ∷ steps ∷ next ∷ []) how h fits = limit_once kind steps next how h fits
+how_once (a ∷ b ∷ c ∷ d ∷ words) how h fits = absurd (cc)

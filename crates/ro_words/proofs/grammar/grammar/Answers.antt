@@ -1,0 +1,8 @@
+use Rattle.std.proofs.lemmas.Result.{IfOk-weaker}
+use Rattle.ro_words.proofs.Grown.{adds_subcommand, is_top}
+use Rattle.ro_words.proofs.grammar.grammar.Goals as goal
+
+pub returns : goal.returns
+returns c =
+    let top = is_top _ _ _ _ _ (c.new.ensures.app, c.new.ensures.local) c.disable_help_flag.ensures c.disable_help_subcommand.ensures c.subcommand_required.ensures in
+    IfOk-weaker c.subcommand.result _ _ (λ command added. adds_subcommand _ command _ _ _ added top c.in_ok-run_grammar.ensures) c.subcommand.ensures

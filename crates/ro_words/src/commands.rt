@@ -1,0 +1,119 @@
+//! Commands, and the words that spell them.
+ghost use Rattle.clap.specs.Faults.{fault_of};
+ghost use Rattle.clap.specs.Matches.{first_value, found_of, one_text};
+ghost use Rattle.clap.specs.Simple.{subcommand_of, subcommand_rows_of};
+ghost use Rattle.clap.specs.Values.{bool_text, kind_of};
+ghost use Rattle.clap.specs.Walk.{Row, first_of, one_of};
+ghost use Rattle.ro_settings.specs.Ranges.{InRange};
+ghost use Rattle.ro_words.specs.Commands.{asked_given, asked_in, command_of, refusal_of, settings_in};
+ghost use Rattle.ro_words.specs.Grammar.{romain_app};
+ghost use Rattle.ro_words.specs.Uses.{texts_of};
+ghost use Rattle.std.specs.Prelude.{◌≡◌, ◌≢◌, ◌⊎◌, Bool, List, IfErr, IfOk, IfSome, None, Some, [], codes, option_map};
+
+use crate::grammar::grammar;
+use crate::settings::settings_of;
+use crate::shapes::are_words;
+use clap::ArgMatches;
+use clap::error::ErrorKind;
+use ro_settings::Settings;
+use std::alloc::{AllocError, Global};
+
+/// What a command line asks for.
+#[derive(Clone, Copy, PartialEq, Eq, Debug)]
+pub enum Command<'a> {
+    /// To run an executable as replicas.
+    Run(RunCommand<'a>),
+}
+
+/// A run that is asked for.
+#[derive(Clone, Copy, PartialEq, Eq, Debug)]
+pub struct RunCommand<'a> {
+    /// The name of the executable.
+    pub executable: &'a str,
+    /// The name of the file with the input, if there is any.
+    pub input: Option<&'a str>,
+    /// The name of the file with the faults, if there are any.
+    pub faults: Option<&'a str>,
+    pub settings: Settings,
+    /// Whether the journal is to be reported.
+    pub journal: bool,
+}
+
+/// Why words give no command.
+#[derive(Clone, Copy, PartialEq, Eq, Debug, Drop)]
+pub enum WordsError {
+    /// They spell none.
+    Bad,
+    /// There is no memory to read them.
+    NoMemory,
+}
+
+impl From<AllocError> for WordsError {
+    ghost use Rattle.ro_words.specs.declared.commands.WordsError.TheVariants.{NoMemory};
+
+    ghost from_gives = { λ _ refusal. refusal ≡ NoMemory };
+
+    fn from(_error: AllocError) -> WordsError {
+        WordsError::NoMemory
+    }
+}
+
+impl From<clap::Error> for WordsError {
+    ghost from_gives = { λ error refusal. refusal ≡ refusal_of (kind_of error) };
+
+    fn from(error: clap::Error) -> WordsError {
+        match error.kind() {
+            ErrorKind::OutOfMemory => WordsError::NoMemory,
+            _ => WordsError::Bad,
+        }
+    }
+}
+
+/// The command that the words spell, of which the first is the program's name.
+pub fn parse_words<'a>(alloc: Global, words: &'a [&'a str]) -> Result<Command<'a>, WordsError>
+    ensures spelled { IfOk result (λ command. command_of (texts_of words.entry.now) ≡ Some (asked_in command)) }
+    ensures refused { IfErr result (λ error. (error ≡ WordsError.NoMemory) ⊎ (command_of (texts_of words.entry.now) ≡ None)) }
+    ensures in_range { IfOk result (λ command. InRange (settings_in command)) }
+{
+    if !are_words(words) {
+        return Err(WordsError::Bad);
+    }
+    let matches = matches_of(alloc, words)?;
+    command_in(&matches).ok_or(WordsError::Bad)
+}
+
+// What `clap` finds in the words.
+fn matches_of<'a>(alloc: Global, words: &'a [&'a str]) -> Result<ArgMatches<'a>, WordsError>
+    ensures parsed { IfOk result (λ matches. fault_of romain_app (texts_of words.entry.now) ≡ []) }
+    ensures rows { IfOk result (λ matches.
+        subcommand_rows_of matches ≡ subcommand_of romain_app (texts_of words.entry.now)) }
+    ensures refused { IfErr result (λ error.
+        (error ≡ WordsError.NoMemory) ⊎ (fault_of romain_app (texts_of words.entry.now) ≢ [])) }
+{
+    Ok(grammar(alloc)?.try_get_matches_from(words)?)
+}
+
+// The command that the matches ask for.
+fn command_in<'a>(matches: &ArgMatches<'a>) -> Option<Command<'a>>
+    ensures asked { (rows : List Row) (journal : Bool) → subcommand_rows_of matches.now ≡ Some (codes "run", rows)
+        → one_of (codes "journal") rows ≡ Some (bool_text journal)
+        → option_map asked_in result ≡ asked_given (λ name. first_of name rows) journal }
+    ensures in_range { IfSome result (λ command. InRange (settings_in command)) }
+{
+    run_command(matches.subcommand_matches("run")?)
+}
+
+// The run that the matches ask for.
+fn run_command<'a>(matches: &ArgMatches<'a>) -> Option<Command<'a>>
+    ensures asked { (journal : Bool) → one_text (found_of matches.now) (codes "journal") ≡ Some (bool_text journal)
+        → option_map asked_in result ≡ asked_given (first_value (found_of matches.now)) journal }
+    ensures in_range { IfSome result (λ command. InRange (settings_in command)) }
+{
+    Some(Command::Run(RunCommand {
+        executable: matches.get_str("exe")?,
+        input: matches.get_str("input"),
+        faults: matches.get_str("faults"),
+        settings: settings_of(matches)?,
+        journal: matches.get_flag("journal"),
+    }))
+}

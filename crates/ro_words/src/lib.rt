@@ -1,0 +1,16 @@
+//! The command that the words of a command line spell.
+//!
+//! `clap` says which words form a command; what it takes beyond that is refused before, and numbers are read here.
+#![tactic(auto)]
+
+mod commands;
+mod grammar;
+mod laws;
+mod settings;
+mod shapes;
+
+pub use commands::{Command, RunCommand, WordsError, parse_words};
+pub use laws::{numbers_lie_in_range, order_is_free, run_alone_is_usual, spellings_agree};
+
+#[cfg(test)]
+mod tests;

@@ -1,0 +1,246 @@
+//! Rows of words.
+use super::*;
+use ro_settings::Settings;
+
+// What the row's words spell.
+struct Row {
+    words: &'static [&'static str],
+    run: RunCommand<'static>,
+}
+
+const USUAL: RunCommand<'static> = RunCommand {
+    executable: "p0",
+    input: None,
+    faults: None,
+    settings: Settings::DEFAULT,
+    journal: false,
+};
+
+const SETTINGS: Settings = Settings::DEFAULT;
+
+const COMMANDS: &[Row] = &[
+    Row {
+        words: &["romain", "run", "p0"],
+        run: USUAL,
+    },
+    Row {
+        words: &["", "run", "p0"],
+        run: USUAL,
+    },
+    Row {
+        words: &["romain", "run", "run"],
+        run: RunCommand {
+            executable: "run",
+            ..USUAL
+        },
+    },
+    Row {
+        words: &["romain", "run", "--input", "f", "p0"],
+        run: RunCommand {
+            input: Some("f"),
+            ..USUAL
+        },
+    },
+    Row {
+        words: &["romain", "run", "p0", "--input=f"],
+        run: RunCommand {
+            input: Some("f"),
+            ..USUAL
+        },
+    },
+    Row {
+        words: &["romain", "run", "p0", "--input=a=b"],
+        run: RunCommand {
+            input: Some("a=b"),
+            ..USUAL
+        },
+    },
+    Row {
+        words: &["romain", "run", "p0", "--faults", "g"],
+        run: RunCommand {
+            faults: Some("g"),
+            ..USUAL
+        },
+    },
+    Row {
+        words: &["romain", "run", "--journal", "p0"],
+        run: RunCommand {
+            journal: true,
+            ..USUAL
+        },
+    },
+    Row {
+        words: &[
+            "romain",
+            "run",
+            "--faults=g",
+            "--journal",
+            "p0",
+            "--input",
+            "f",
+        ],
+        run: RunCommand {
+            input: Some("f"),
+            faults: Some("g"),
+            journal: true,
+            ..USUAL
+        },
+    },
+    Row {
+        words: &["romain", "run", "p0", "--replicas", "2"],
+        run: RunCommand {
+            settings: Settings {
+                replicas: 2,
+                ..SETTINGS
+            },
+            ..USUAL
+        },
+    },
+    Row {
+        words: &["romain", "run", "p0", "--drivers=8"],
+        run: RunCommand {
+            settings: Settings {
+                drivers: 8,
+                ..SETTINGS
+            },
+            ..USUAL
+        },
+    },
+    Row {
+        words: &["romain", "run", "p0", "--watchdog", "100"],
+        run: RunCommand {
+            settings: Settings {
+                watchdog: 100,
+                ..SETTINGS
+            },
+            ..USUAL
+        },
+    },
+    Row {
+        words: &["romain", "run", "p0", "--watchdog", "1000000"],
+        run: RunCommand {
+            settings: Settings {
+                watchdog: 1_000_000,
+                ..SETTINGS
+            },
+            ..USUAL
+        },
+    },
+    Row {
+        words: &["romain", "run", "p0", "--quantum", "65536"],
+        run: RunCommand {
+            settings: Settings {
+                quantum: 65_536,
+                ..SETTINGS
+            },
+            ..USUAL
+        },
+    },
+    Row {
+        words: &["romain", "run", "p0", "--quantum", "+5"],
+        run: RunCommand {
+            settings: Settings {
+                quantum: 5,
+                ..SETTINGS
+            },
+            ..USUAL
+        },
+    },
+    Row {
+        words: &["romain", "run", "p0", "--quantum", "05"],
+        run: RunCommand {
+            settings: Settings {
+                quantum: 5,
+                ..SETTINGS
+            },
+            ..USUAL
+        },
+    },
+    Row {
+        words: &["romain", "run", "p0", "--limit", "1000000000000"],
+        run: RunCommand {
+            settings: Settings {
+                limit: 1_000_000_000_000,
+                ..SETTINGS
+            },
+            ..USUAL
+        },
+    },
+];
+
+#[test]
+fn spells(rt: HostRuntime) {
+    for row in COMMANDS {
+        let words = row.words;
+        assert_eq!(rt;
+            parse_words(rt.alloc(), words),
+            Ok(Command::Run(row.run)),
+            "of {words:?}"
+        );
+    }
+}
+
+const NOT_COMMANDS: &[&[&str]] = &[
+    &[],
+    &["romain"],
+    &["romain", "help"],
+    &["romain", "--help"],
+    &["romain", "-h"],
+    &["romain", "--version"],
+    &["romain", "run"],
+    &["romain", "run", "--help"],
+    &["romain", "run", "p0", "--help"],
+    &["romain", "run", "p0", "-h"],
+    &["romain", "run", ""],
+    &["romain", "run", "-p0"],
+    &["romain", "run", "p0", "q0"],
+    &["romain", "run", "p0", "--"],
+    &["romain", "run", "--", "p0"],
+    &["romain", "run", "p0", "-"],
+    &["romain", "run", "p0", "--unknown"],
+    &["romain", "run", "p0", "--exe=q0"],
+    &["romain", "--input", "f", "run", "p0"],
+    &["romain", "walk", "p0"],
+    &["romain", "run", "p0", "--input"],
+    &["romain", "run", "p0", "--input="],
+    &["romain", "run", "p0", "--input", ""],
+    &["romain", "run", "p0", "--input", "-x"],
+    &["romain", "run", "p0", "--input=-x"],
+    &["romain", "run", "p0", "--input", "--faults", "f"],
+    &["romain", "run", "p0", "--input", "f", "--input", "g"],
+    &["romain", "run", "p0", "--input", "f", "--input=f"],
+    &["romain", "run", "p0", "--journal", "--journal"],
+    &["romain", "run", "p0", "--journal=x"],
+    &["romain", "run", "p0", "--journal", "x"],
+    &["romain", "run", "p0", "--replicas", "1"],
+    &["romain", "run", "p0", "--replicas", "4"],
+    &["romain", "run", "p0", "--drivers", "0"],
+    &["romain", "run", "p0", "--drivers", "9"],
+    &["romain", "run", "p0", "--watchdog", "99"],
+    &["romain", "run", "p0", "--watchdog", "1000001"],
+    &["romain", "run", "p0", "--quantum", "0"],
+    &["romain", "run", "p0", "--quantum", "65537"],
+    &["romain", "run", "p0", "--limit", "0"],
+    &["romain", "run", "p0", "--limit", "1000000000001"],
+    &[
+        "romain",
+        "run",
+        "p0",
+        "--limit",
+        "1234567890123456789012345678901234567890",
+    ],
+    &["romain", "run", "p0", "--limit", "many"],
+    &["romain", "run", "p0", "--limit", "0x10"],
+    &["romain", "run", "p0", "--limit", "1 "],
+];
+
+#[test]
+fn refuses(rt: HostRuntime) {
+    for words in NOT_COMMANDS {
+        assert_eq!(rt;
+            parse_words(rt.alloc(), words),
+            Err(WordsError::Bad),
+            "of {words:?}"
+        );
+    }
+}

@@ -23,7 +23,7 @@ use Rattle.ro_report.specs.declared.answers.Answer.TheVariants.{Exit, Deadlock, 
 use Rattle.ro_words.specs.Commands.{Asked}
 use Rattle.ro_top.specs.Files.{most_of, name_in, IsFile, IsContent, job_of}
 use Rattle.ro_top.specs.Refusals.{RefusesFile, RefusesContent, RefusesList}
-use Rattle.ro_top.specs.Causes.{IsNamedFile, IsTooLong, IsBadList, JobCause}
+use Rattle.ro_top.specs.Causes.{IsNamedFile, IsAccepted, HasInput, ComesAt, IsTooLong, IsBadList, JobCause}
 use Rattle.ro_top.specs.Driven.{CanRun}
 
 -- a count that rose later rose
@@ -38,41 +38,44 @@ rose_before first mid last (inr full) le = inr (omega arith)
 
 module _ (files : Option Files) (asked : Asked) (first mid last : ℕ) (le : first ≤ mid) where
   -- a named file that is refused
-  file_cause : (kind : FileKind) (name : List ℕ) → name_in asked kind ≡ Some name → (answer : Answer) → RefusesFile files kind name mid last answer → JobCause files asked first last answer
-  file_cause kind name is StoreFailed h = rose_later first mid last le h
-  file_cause kind name is (TooLong which) h = subst (λ (k : FileKind). IsTooLong files asked k) (sym h.0) (record { content = h.1.0; file = record { name = name; name_is = is; content_is = h.1.1 }; long = h.1.2 })
-  file_cause kind name is NoMemory h = tt
-  file_cause kind name is (Exit status) h = absurd h
-  file_cause kind name is Deadlock h = absurd h
-  file_cause kind name is (Trap cause) h = absurd h
-  file_cause kind name is Differ h = absurd h
-  file_cause kind name is NoMajority h = absurd h
-  file_cause kind name is (Limit steps next) h = absurd h
-  file_cause kind name is (SinkFailed taken) h = absurd h
-  file_cause kind name is (BadExe code) h = absurd h
-  file_cause kind name is (BadFaults line code) h = absurd h
-  file_cause kind name is BadWords h = absurd h
+  file_cause : (kind : FileKind) → ComesAt files asked kind → (name : List ℕ) → name_in asked kind ≡ Some name → (answer : Answer) → RefusesFile files kind name mid last answer → JobCause files asked first last answer
+  file_cause kind earlier name is StoreFailed h = rose_later first mid last le h
+  file_cause kind earlier name is (TooLong which) h = subst (λ (k : FileKind). IsTooLong files asked k) (sym h.0) (record { earlier = earlier; content = h.1.0; file = record { name = name; name_is = is; content_is = h.1.1 }; long = h.1.2 })
+  file_cause kind earlier name is NoMemory h = tt
+  file_cause kind earlier name is (Exit status) h = absurd h
+  file_cause kind earlier name is Deadlock h = absurd h
+  file_cause kind earlier name is (Trap cause) h = absurd h
+  file_cause kind earlier name is Differ h = absurd h
+  file_cause kind earlier name is NoMajority h = absurd h
+  file_cause kind earlier name is (Limit steps next) h = absurd h
+  file_cause kind earlier name is (SinkFailed taken) h = absurd h
+  file_cause kind earlier name is (BadExe code) h = absurd h
+  file_cause kind earlier name is (BadFaults line code) h = absurd h
+  file_cause kind earlier name is BadWords h = absurd h
 
   -- a file that need not be named
-  content_cause : (kind : FileKind) (answer : Answer) → RefusesContent files kind (name_in asked kind) mid last answer → JobCause files asked first last answer
-  content_cause kind answer h = by (name_in asked kind) refl h
+  content_cause : (kind : FileKind) → ComesAt files asked kind → (answer : Answer) → RefusesContent files kind (name_in asked kind) mid last answer → JobCause files asked first last answer
+  content_cause kind earlier answer h = by (name_in asked kind) refl h
     where
       by : (o : Option (List ℕ)) → name_in asked kind ≡ o → RefusesContent files kind o mid last answer → JobCause files asked first last answer
       by None e h = absurd h
-      by (Some name) e h = file_cause kind name e answer h
+      by (Some name) e h = file_cause kind earlier name e answer h
 
-  pub input_cause : (answer : Answer) → RefusesContent files Input asked.input mid last answer → JobCause files asked first last answer
-  input_cause answer h = content_cause Input answer h
+  pub exe_cause : (answer : Answer) → RefusesFile files Exe asked.executable mid last answer → JobCause files asked first last answer
+  exe_cause answer h = file_cause Exe tt asked.executable refl answer h
 
-  pub list_cause : (answer : Answer) → RefusesContent files Faults asked.faults mid last answer → JobCause files asked first last answer
-  list_cause answer h = content_cause Faults answer h
+  pub input_cause : IsAccepted files asked → (answer : Answer) → RefusesContent files Input asked.input mid last answer → JobCause files asked first last answer
+  input_cause earlier answer h = content_cause Input earlier answer h
+
+  pub list_cause : IsAccepted files asked → HasInput files asked → (answer : Answer) → RefusesContent files Faults asked.faults mid last answer → JobCause files asked first last answer
+  list_cause accepted input answer h = content_cause Faults (accepted, input) answer h
 
 -- a list that is refused
-module _ (files : Option Files) (asked : Asked) (first last : ℕ) (content : List ℕ) where
+module _ (files : Option Files) (asked : Asked) (first last : ℕ) (content : List ℕ) (accepted : IsAccepted files asked) (input : HasInput files asked) where
   named_list : (o : Option (List ℕ)) → asked.faults ≡ o → IsContent files Faults o content → (line : ℕ) (code : FaultsCode) → file_faults asked.settings.replicas content ≡ Err (Bad line code) → IsBadList files asked line code
   named_list None e is line code h =
       let f : Ok [] ≡ Err (Bad line code) = ap (file_faults asked.settings.replicas) (sym is) ∙ h in absurd (cc)
-  named_list (Some name) e is line code h = record { content = content; file = record { name = name; name_is = e; content_is = is.0 }; short = is.1; bad = h }
+  named_list (Some name) e is line code h = record { earlier = (accepted, input); content = content; file = record { name = name; name_is = e; content_is = is.0 }; short = is.1; bad = h }
 
   pub faults_cause : IsContent files Faults asked.faults content → (answer : Answer) → RefusesList asked.settings.replicas content answer → JobCause files asked first last answer
   faults_cause is (BadFaults line code) h = named_list asked.faults refl is line code h

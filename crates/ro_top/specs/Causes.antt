@@ -12,14 +12,14 @@ use Rattle.ro_journal.specs.declared.Entry.{Entry}
 use Rattle.ro_journal.specs.declared.Entry.TheVariants.{End}
 use Rattle.ro_journal.specs.Plan.{plan_of}
 use Rattle.ro_report.specs.declared.answers.FileKind.{FileKind}
-use Rattle.ro_report.specs.declared.answers.FileKind.TheVariants.{Exe, Faults}
+use Rattle.ro_report.specs.declared.answers.FileKind.TheVariants.{Exe, Input, Faults}
 use Rattle.ro_report.specs.declared.answers.Answer.{Answer}
 use Rattle.ro_report.specs.declared.answers.Answer.TheVariants.{Exit, Deadlock, Trap, Differ, NoMajority, Limit, SinkFailed, StoreFailed, BadExe, BadFaults, BadWords, TooLong, NoMemory}
 use Rattle.ro_core.specs.Core.{Job, may_vote, may_free}
 use Rattle.ro_core.specs.Legal.{is_stuck, EndsVote, EndsFree, replay}
 use Rattle.ro_core.specs.Seen.{ShowsViews}
 use Rattle.ro_words.specs.Commands.{Asked, command_of}
-use Rattle.ro_top.specs.Files.{most_of, name_in, IsFile}
+use Rattle.ro_top.specs.Files.{most_of, name_in, IsFile, IsContent}
 
 -- ---- refusals
 
@@ -38,8 +38,26 @@ pub record IsNamedFile (files : Option Files) (asked : Asked) (kind : FileKind) 
   pub name_is : name_in asked kind ≡ Some name
   pub content_is : IsFile files name content
 
+-- the executable may be read, and is accepted
+pub record IsAccepted (files : Option Files) (asked : Asked) : Type 0 where
+  pub executable : List ℕ
+  pub executable_is : IsContent files Exe (Some asked.executable) executable
+  pub accepted : bad_code executable ≡ None
+
+-- the input, if there is one, may be read
+pub record HasInput (files : Option Files) (asked : Asked) : Type 0 where
+  pub input : List ℕ
+  pub input_is : IsContent files Input asked.input input
+
+-- The executable is read first, then the input, then the faults: those before a file of this kind are not refused.
+abbrev pub ComesAt : Option Files → Asked → FileKind → Type 0
+ComesAt files asked Exe = ⊤
+ComesAt files asked Input = IsAccepted files asked
+ComesAt files asked Faults = IsAccepted files asked × HasInput files asked
+
 -- it has more bytes than it may have
 pub record IsTooLong (files : Option Files) (asked : Asked) (kind : FileKind) : Type 0 where
+  pub earlier : ComesAt files asked kind
   pub content : List ℕ
   pub file : IsNamedFile files asked kind content
   pub long : most_of kind < length content
@@ -53,6 +71,7 @@ pub record IsBadExe (files : Option Files) (asked : Asked) (code : ℕ) : Type 0
 
 -- it may be read, and its first bad line is this one
 pub record IsBadList (files : Option Files) (asked : Asked) (line : ℕ) (code : FaultsCode) : Type 0 where
+  pub earlier : ComesAt files asked Faults
   pub content : List ℕ
   pub file : IsNamedFile files asked Faults content
   pub short : length content ≤ most_of Faults

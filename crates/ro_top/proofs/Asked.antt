@@ -1,6 +1,6 @@
 -- Why a file of a command is refused, and what a list of faults is.
-use Rattle.std.proofs.Common.{◌≡◌, ◌⊎◌, inl, inr, ℕ, zero, suc, ◌+◌, ◌<◌, ◌≤◌, Bool, true, false, true≢false, List, [], ◌∷◌, length, Option, Some, None, Result, Ok, Err, refl, sym, ap, ◌∙◌, subst, arith}
-use Rattle.std.specs.Prelude.{nat_le, nat_lt, ◌&&◌, ◌^◌, if◌then◌else◌, slice_index_or}
+use Rattle.std.proofs.Common.{◌≡◌, inl, inr, ℕ, zero, suc, ◌+◌, ◌≤◌, Bool, true, false, List, [], ◌∷◌, length, Option, Some, None, Result, Ok, Err, refl, sym, ap, ◌∙◌, subst, arith}
+use Rattle.std.specs.Prelude.{nat_le, nat_lt, ◌&&◌, ◌^◌, if◌then◌else◌}
 use Rattle.std.specs.List.{All}
 use Rattle.std.proofs.lemmas.Bool.{and_parts, leb-true}
 use Rattle.ro_io.specs.Outside.{Files, Rose}
@@ -21,9 +21,9 @@ use Rattle.ro_report.specs.declared.answers.FileKind.TheVariants.{Exe, Input, Fa
 use Rattle.ro_report.specs.declared.answers.Answer.{Answer}
 use Rattle.ro_report.specs.declared.answers.Answer.TheVariants.{Exit, Deadlock, Trap, Differ, NoMajority, Limit, SinkFailed, StoreFailed, BadExe, BadFaults, BadWords, TooLong, NoMemory}
 use Rattle.ro_words.specs.Commands.{Asked}
-use Rattle.ro_top.specs.Files.{most_of, name_in, IsFile, IsContent, job_of}
+use Rattle.ro_top.specs.Files.{name_in, IsContent, job_of}
 use Rattle.ro_top.specs.Refusals.{RefusesFile, RefusesContent, RefusesList}
-use Rattle.ro_top.specs.Causes.{IsNamedFile, IsAccepted, HasInput, ComesAt, IsTooLong, IsBadList, JobCause}
+use Rattle.ro_top.specs.Causes.{IsAccepted, HasInput, ComesAt, IsTooLong, IsBadList, JobCause}
 use Rattle.ro_top.specs.Driven.{CanRun}
 
 -- a count that rose later rose

@@ -1,5 +1,5 @@
 -- What the simulation theorem says of a command's run.
-use Rattle.std.proofs.Common.{◌≡◌, ◌⊎◌, inl, inr, ℕ, List, [], ◌∷◌, Option, Some, None, refl, sym, ap, ◌∙◌, subst}
+use Rattle.std.proofs.Common.{◌≡◌, inl, inr, ℕ, List, Option, Some, None, sym, ap, ◌∙◌, subst}
 use Rattle.std.specs.Prelude.{◌≢◌}
 use Rattle.ro_io.specs.Outside.{Files, Rose}
 use Rattle.ro_event.specs.Views.{View}

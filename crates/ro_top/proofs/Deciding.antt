@@ -1,14 +1,14 @@
 -- Votes, frees and ends of the one driver.
-use Rattle.std.proofs.Common.{◌≡◌, ◌⊎◌, inl, inr, ℕ, true, List, [], ◌∷◌, Option, Some, None, refl, sym, ap, ◌∙◌, subst}
-use Rattle.std.specs.Prelude.{IsSome, IsTrue, unwrap_or}
+use Rattle.std.proofs.Common.{◌≡◌, inl, inr, ℕ, List, [], ◌∷◌, Option, Some, None, refl, sym, ap, ◌∙◌, subst}
+use Rattle.std.specs.Prelude.{IsSome, unwrap_or}
 use Rattle.std.proofs.lemmas.Bool.{and_parts}
 use Rattle.ro_journal.specs.declared.How.{How}
-use Rattle.ro_journal.specs.declared.How.TheVariants.{Exit, Deadlock, Trap, Limit, Differ, NoMajority, Sink}
+use Rattle.ro_journal.specs.declared.How.TheVariants.{Deadlock, Sink}
 use Rattle.ro_journal.specs.declared.Entry.{Entry}
 use Rattle.ro_journal.specs.declared.Entry.TheVariants.{Take, Put, Vote, Free, End}
 use Rattle.ro_journal.specs.Plan.{outcome_of}
 use Rattle.ro_core.specs.declared.actions.Action.TheVariants.{Vote as DoVote, Free as DoFree, End as DoEnd, Over}
-use Rattle.ro_core.specs.Core.{Job, Core, is_going, may_vote, may_free}
+use Rattle.ro_core.specs.Core.{Job, Core}
 use Rattle.ro_core.specs.Event.{with_recovered}
 use Rattle.ro_core.specs.Legal.{IsAllowed, EndsVote, EndsFree, event_in, freed_event, after, replay, replay_with, output_of}
 use Rattle.ro_core.specs.Action.{next_action, IsNext}

@@ -1,10 +1,9 @@
 -- A run from its opening to its end.
-use Rattle.std.proofs.Common.{◌≡◌, ◌⊎◌, inl, inr, ℕ, List, [], ◌∷◌, ◌++◌, length, Option, Some, None, refl, sym, ap, ◌∙◌, subst}
+use Rattle.std.proofs.Common.{◌≡◌, ◌⊎◌, inl, inr, ℕ, List, [], ◌++◌, length, Option, Some, None, refl, sym, ap, ◌∙◌, subst}
 use Rattle.std.specs.Prelude.{IsSome}
 use Rattle.std.proofs.lemmas.Bool.{false≢true}
 use Rattle.ro_io.specs.Outside.{Rose, more}
 use Rattle.ro_event.specs.Views.{View}
-use Rattle.ro_journal.specs.declared.How.{How}
 use Rattle.ro_journal.specs.declared.How.TheVariants.{Sink}
 use Rattle.ro_journal.specs.declared.Entry.{Entry}
 use Rattle.ro_journal.specs.Plan.{outcome_of}
@@ -12,10 +11,10 @@ use Rattle.ro_report.specs.declared.answers.Answer.{Answer}
 use Rattle.ro_image.specs.Image.{Image}
 use Rattle.ro_faults.specs.declared.Fault.{Fault}
 use Rattle.ro_settings.specs.declared.Settings.{Settings}
-use Rattle.ro_core.specs.Core.{Job, Core, opening_core}
+use Rattle.ro_core.specs.Core.{Job, opening_core}
 use Rattle.ro_core.specs.Legal.{output_of, replay_with}
-use Rattle.ro_core.specs.Seen.{CoreOf, state, sent, sent_of, Opens, KeepsViews}
-use Rattle.ro_top.specs.Driven.{CanRun, HasRun, IsDriven, IsHome, HasFailed, Goes, AreCounts}
+use Rattle.ro_core.specs.Seen.{CoreOf, sent, sent_of, Opens, KeepsViews}
+use Rattle.ro_top.specs.Driven.{HasRun, IsDriven, IsHome, HasFailed, Goes, AreCounts}
 use Rattle.ro_top.specs.Files.{job_of}
 use Rattle.ro_top.specs.Causes.{IsOutcome, EndCause}
 use Rattle.ro_top.proofs.Tells.{more_none}

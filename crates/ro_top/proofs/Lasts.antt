@@ -1,6 +1,6 @@
 -- How a legal journal ends.
-use Rattle.std.proofs.Common.{◌≡◌, ◌⊎◌, inl, inr, ℕ, zero, suc, ◌+◌, ◌-◌, ◌<◌, List, [], ◌∷◌, ◌++◌, length, take, Option, Some, None, refl, sym, ap, ◌∙◌, subst, arith}
-use Rattle.std.specs.Prelude.{IsSome, Bool, true, false, slice_get}
+use Rattle.std.proofs.Common.{◌≡◌, ℕ, ◌+◌, ◌-◌, List, [], ◌∷◌, ◌++◌, length, take, Option, Some, None, refl, sym, ap, ◌∙◌, subst, arith}
+use Rattle.std.specs.Prelude.{IsSome, true, false, slice_get}
 use Rattle.std.specs.Option.{option_map, option_and_then}
 use Rattle.std.proofs.lemmas.Bool.{false≢true}
 use Rattle.std.proofs.lemmas.List.{take_all}
@@ -8,7 +8,7 @@ use Rattle.ro_event.specs.declared.stops.Stop.{Stop}
 use Rattle.ro_event.specs.declared.stops.Stop.TheVariants.{Calls, Trap, PageFault, Watchdog}
 use Rattle.ro_event.specs.declared.calls.Call.{Call}
 use Rattle.ro_journal.specs.declared.How.{How}
-use Rattle.ro_journal.specs.declared.How.TheVariants.{Exit, Deadlock, Limit, Differ, NoMajority, Sink}
+use Rattle.ro_journal.specs.declared.How.TheVariants.{Sink}
 use Rattle.ro_journal.specs.declared.Entry.{Entry}
 use Rattle.ro_journal.specs.declared.Entry.TheVariants.{Take, Put, Vote, Free, End}
 use Rattle.ro_journal.specs.Plan.{outcome_of}
@@ -23,7 +23,7 @@ use Rattle.ro_core.specs.Event.{Event, event_of, call_event, with_recovered}
 use Rattle.ro_core.specs.Legal.{MayEnd, IsAllowed, LegalFrom, Legal, lease_run, core_after_put, core_after_event, event_with, event_in, freed_event, after, replay_from, replay, cut_output, output_of}
 use Rattle.ro_core.proofs.Journals.{replay_from-append}
 use Rattle.ro_simulation.specs.Invariant.{IsOver, traps}
-use Rattle.ro_simulation.proofs.Served.{Tidy, tidy_done, tidy_blocked, tidy_end, serve-tidy}
+use Rattle.ro_simulation.proofs.Served.{Tidy, tidy_end, serve-tidy}
 use Rattle.ro_simulation.proofs.Journals.{nothing-after, after-end-ended, ended-outcome}
 
 -- ---- an end that is due is an exit or a trap

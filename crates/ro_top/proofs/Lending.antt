@@ -1,9 +1,8 @@
 -- A lease of the one driver: a take, a run, and a put.
 use Rattle.std.proofs.Common.{◌≡◌, ◌⊎◌, inl, inr, ℕ, ◌<◌, Bool, true, not, cond, ◌&&◌, ◌||◌, List, [], ◌∷◌, Option, Some, None, refl, sym, ap, ◌∙◌, subst, arith, eq-eqb}
-use Rattle.std.specs.Prelude.{◌==◌, IsSome, is_none, slice_get}
+use Rattle.std.specs.Prelude.{◌==◌, IsSome, slice_get}
 use Rattle.std.specs.List.{filter, list_any}
 use Rattle.std.specs.Option.{option_and_then}
-use Rattle.std.proofs.lemmas.Bool.{and_parts}
 use Rattle.ro_journal.specs.declared.Entry.TheVariants.{Take, Put}
 use Rattle.ro_event.specs.declared.stops.Stop.{Stop}
 use Rattle.ro_plain.specs.Machine.{layout_of}
@@ -17,7 +16,7 @@ use Rattle.ro_core.specs.declared.actions.Lease.{Lease}
 use Rattle.ro_core.specs.Core.{Job, Core}
 use Rattle.ro_core.specs.Legal.{IsAllowed, MayTake, MayPut, arrived, arrival, is_lease, lease_run, core_after_put, after, replay}
 use Rattle.ro_core.specs.Action.{next_action}
-use Rattle.ro_core.specs.Seen.{CoreOf, state, Appends, Quiet, IsOfJob, IsLent, MayReturn, lease_of}
+use Rattle.ro_core.specs.Seen.{CoreOf, state, Appends, Quiet, IsLent, MayReturn, lease_of}
 use Rattle.ro_core.proofs.Nexts.{lend_is_next}
 use Rattle.ro_simulation.proofs.Kept.{going-from}
 use Rattle.ro_simulation.proofs.Lists.{get-set-same}

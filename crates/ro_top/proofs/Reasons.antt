@@ -1,9 +1,9 @@
 -- Why a run ends as it does.
-use Rattle.std.proofs.Common.{◌≡◌, ◌⊎◌, inl, inr, ℕ, List, [], ◌∷◌, ◌++◌, length, Option, Some, None, refl, sym, ap, ◌∙◌, subst, append-nil}
+use Rattle.std.proofs.Common.{◌≡◌, inl, inr, ℕ, List, [], ◌∷◌, ◌++◌, length, Some, sym, ap, ◌∙◌, append-nil}
 use Rattle.ro_io.specs.Outside.{Rose}
 use Rattle.ro_event.specs.Views.{View}
 use Rattle.ro_journal.specs.declared.How.{How}
-use Rattle.ro_journal.specs.declared.How.TheVariants.{Deadlock as ByDeadlock, Limit as ByLimit, Differ as ByDiffer, NoMajority as ByNoMajority, Sink as BySink}
+use Rattle.ro_journal.specs.declared.How.TheVariants.{Deadlock as ByDeadlock, Limit as ByLimit, Sink as BySink}
 use Rattle.ro_journal.specs.declared.Entry.{Entry}
 use Rattle.ro_journal.specs.declared.Entry.TheVariants.{End}
 use Rattle.ro_journal.specs.Plan.{plan_of, outcome_of}

@@ -1,12 +1,11 @@
 -- The views that are kept where they have no majority.
-use Rattle.std.proofs.Common.{◌≡◌, ◌⊎◌, inl, inr, ℕ, zero, suc, ◌≤◌, Bool, true, false, List, [], ◌∷◌, ◌++◌, length, map, Option, Some, None, refl, sym, ap, ◌∙◌, subst, arith, length-append}
+use Rattle.std.proofs.Common.{◌≡◌, ◌⊎◌, inl, inr, ℕ, zero, suc, ◌≤◌, Bool, true, false, List, [], ◌∷◌, length, Option, Some, None, refl, sym, ap, ◌∙◌, subst, arith, length-append}
 use Rattle.std.specs.Prelude.{◌≢◌, ◌&&◌, is_some, if◌then◌else◌, slice_get, slice_set}
-use Rattle.std.specs.List.{list_all, filter_map}
+use Rattle.std.specs.List.{list_all}
 use Rattle.std.specs.Option.{option_map, option_map_or, option_and_then}
 use Rattle.std.proofs.lemmas.Bool.{true≢false}
 use Rattle.std.proofs.lemmas.List.{length-set}
 use Rattle.ro_event.specs.declared.stops.Stop.{Stop}
-use Rattle.ro_event.specs.Effects.{Effect}
 use Rattle.ro_event.specs.Views.{View, same_view}
 use Rattle.ro_event.proofs.Same.{view-same}
 use Rattle.ro_region.specs.declared.Range.{Range}
@@ -21,7 +20,7 @@ use Rattle.ro_replica.specs.Replica.{Replica, opening_replica, stop_of, recovere
 use Rattle.ro_replica.specs.Runs.{Ran}
 use Rattle.ro_replica.specs.Views.{view_with, view_of}
 use Rattle.ro_core.specs.Core.{Job, Core, opening_replicas, opening_core, may_vote, views_of}
-use Rattle.ro_core.specs.Event.{Event, with_recovered, all_applied}
+use Rattle.ro_core.specs.Event.{Event, with_recovered}
 use Rattle.ro_core.specs.Legal.{Legal, LegalFrom, EndsVote, arrived, lease_run, core_after_put, core_after_event, event_in, freed_event, after, replay_from, replay}
 use Rattle.ro_core.specs.Seen.{ShowsViews}
 use Rattle.ro_simulation.proofs.Lists.{length-mapped, length-filter-map}

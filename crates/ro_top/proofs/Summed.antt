@@ -1,6 +1,6 @@
 -- What a report sums up of a legal journal: each fault is struck once at most, and the plan keeps to the limit.
-use Rattle.std.proofs.Common.{◌≡◌, ◌⊎◌, inl, inr, ℕ, zero, suc, ◌+◌, ◌<◌, ◌≤◌, not, List, [], ◌∷◌, ◌++◌, length, map, Option, Some, None, refl, sym, ap, ◌∙◌, subst, arith, length-append, true≢false}
-use Rattle.std.specs.Prelude.{◌*◌, ◌==◌, ◌^◌, Bool, true, false, cond, fold, replicate, slice_get, slice_set}
+use Rattle.std.proofs.Common.{◌≡◌, ◌⊎◌, inl, inr, ℕ, zero, suc, ◌+◌, ◌≤◌, not, List, [], ◌∷◌, ◌++◌, length, Option, Some, None, refl, sym, ap, ◌∙◌, subst, arith, length-append, true≢false}
+use Rattle.std.specs.Prelude.{◌*◌, ◌==◌, true, false, fold, replicate, slice_get, slice_set}
 use Rattle.std.specs.List.{filter}
 use Rattle.std.specs.Option.{option_map, option_map_or, option_and_then}
 use Rattle.std.proofs.lemmas.List.Filters.{length-filter_both}
@@ -24,7 +24,7 @@ use Rattle.ro_replica.specs.Runs.{is_due, struck_by, Ran, strike, strike_in, str
 use Rattle.ro_core.specs.Core.{Job, Core, opening_replicas, opening_core, may_free}
 use Rattle.ro_core.specs.Event.{Event, call_event, with_recovered, all_applied}
 use Rattle.ro_core.specs.Legal.{arrived, lease_run, core_after_put, core_after_event, event_in, freed_event, after, IsAllowed, LegalFrom, Legal, replay_from, replay}
-use Rattle.ro_report.specs.Report.{hits_of, struck_in, steps_in}
+use Rattle.ro_report.specs.Report.{hits_of, struck_in}
 use Rattle.ro_simulation.proofs.Frees.{free-parts}
 use Rattle.ro_simulation.proofs.Sound.{instructs, run-parts}
 use Rattle.ro_top.specs.Driven.{CanRun, AreCounts}

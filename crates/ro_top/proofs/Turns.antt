@@ -1,36 +1,21 @@
 -- Turns of the one driver.
-use Rattle.std.proofs.Common.{◌≡◌, ◌⊎◌, inl, inr, ℕ, ◌<◌, ◌≤◌, Bool, true, false, true≢false, not, cond, ◌&&◌, ◌||◌, List, [], ◌∷◌, ◌++◌, length, Option, Some, None, refl, sym, ap, ◌∙◌, subst, arith, eq-eqb, append_assoc, append-nil}
-use Rattle.std.specs.Prelude.{◌==◌, IsSome, IfSome, is_some, is_none, slice_get, slice_set}
-use Rattle.std.specs.List.{filter, list_any}
-use Rattle.std.specs.Option.{option_map_or, option_and_then}
-use Rattle.std.proofs.lemmas.Bool.{and_parts, false≢true}
+use Rattle.std.proofs.Common.{◌≡◌, ◌⊎◌, inl, inr, ℕ, true, true≢false, List, [], ◌∷◌, ◌++◌, Option, Some, None, refl, sym, ap, ◌∙◌, subst, arith, append_assoc, append-nil}
+use Rattle.std.specs.Prelude.{IsSome, IfSome}
+use Rattle.std.proofs.lemmas.Bool.{false≢true}
 use Rattle.ro_io.specs.Outside.{Rose, more}
 use Rattle.ro_journal.specs.declared.How.{How}
 use Rattle.ro_journal.specs.declared.How.TheVariants.{Sink}
 use Rattle.ro_journal.specs.declared.Entry.{Entry}
 use Rattle.ro_journal.specs.declared.Entry.TheVariants.{Take, Put, Vote, Free, End}
 use Rattle.ro_journal.specs.Plan.{outcome_of}
-use Rattle.ro_event.specs.declared.stops.Stop.{Stop}
-use Rattle.ro_kernel.specs.Kernel.{lives_on}
-use Rattle.ro_plain.specs.Machine.{layout_of}
-use Rattle.ro_exec.specs.Next.{Layout}
-use Rattle.ro_thread.specs.declared.Thread.{Thread}
-use Rattle.ro_replica.specs.Replica.{Replica, changed_at}
-use Rattle.ro_replica.specs.Runs.{Ran, run_of, with_stop}
-use Rattle.ro_replica.specs.Seen.{ReplicaOf, replica_of, SameProgram, Runs}
-use Rattle.ro_replica.specs.Views.{is_unstopped}
-use Rattle.ro_core.specs.declared.actions.Action.TheVariants.{Vote as DoVote, Free as DoFree, Lend, End as DoEnd, Over}
-use Rattle.ro_core.specs.declared.actions.Lease.{Lease}
-use Rattle.ro_core.specs.Core.{Job, Core, opening_core, is_home, is_going, is_lendable}
-use Rattle.ro_core.specs.Event.{with_recovered}
-use Rattle.ro_core.specs.Legal.{Legal, LegalFrom, IsAllowed, MayTake, MayPut, EndsVote, EndsFree, arrived, arrival, is_lease, lease_run, core_after_put, event_in, freed_event, after, replay, replay_with, replay_from, output_of}
-use Rattle.ro_core.specs.Action.{next_action, IsNext, EachIsNext}
-use Rattle.ro_core.specs.Seen.{CoreOf, state, sent, Appends, Quiet, Sends, Stays, IsOfJob, IsLent, MayReturn, lease_of, DecidesVote, DecidesFree}
-use Rattle.ro_core.proofs.Journals.{replay_from-append, LegalFrom-append, EachIsNext-append, outcome_of-append}
-use Rattle.ro_core.proofs.Leases.{event_leases}
-use Rattle.ro_core.proofs.Nexts.{lend_is_next, vote_next, end_is}
-use Rattle.ro_simulation.proofs.Lists.{get-set-same}
-use Rattle.ro_top.specs.Driven.{CanRun, HasRun, IsDriven, IsHome, HasFailed, Goes}
+use Rattle.ro_core.specs.declared.actions.Action.TheVariants.{Lend}
+use Rattle.ro_core.specs.Core.{Job, Core, opening_core, is_going}
+use Rattle.ro_core.specs.Legal.{IsAllowed, after, replay, replay_with}
+use Rattle.ro_core.specs.Action.{next_action, IsNext}
+use Rattle.ro_core.specs.Seen.{CoreOf, state, sent, Appends, Quiet, Sends, Stays}
+use Rattle.ro_core.proofs.Journals.{replay_from-append, LegalFrom-append, EachIsNext-append}
+use Rattle.ro_core.proofs.Nexts.{lend_is_next}
+use Rattle.ro_top.specs.Driven.{HasRun, IsDriven, IsHome, HasFailed, Goes}
 use Rattle.ro_top.proofs.Asked.{rose_later, rose_before}
 use Rattle.ro_top.proofs.Tells.{more_more, more_none}
 

@@ -57,11 +57,7 @@ fn spelled_command<'a>(alloc: Global, words: &'a [&'a str]) -> Result<RunCommand
 }
 
 // The job of a command: its executable first, then its input, then its faults.
-fn job_from<S: Store>(
-    alloc: Global,
-    command: &RunCommand<'_>,
-    store: &mut S,
-) -> Result<Job, Answer>
+fn job_from<S: Store>(alloc: Global, command: &RunCommand<'_>, store: &mut S) -> Result<Job, Answer>
     requires { InRange command.now.settings }
     ensures job { IfOk result (λ job. IsJobOf (S.told store.old) (asked_by command.now) (job_of job.image job.input.items job.faults.items job.settings)) }
     ensures journal { IfOk result (λ job. job.journal ≡ command.now.journal) }

@@ -14,6 +14,5 @@ pub use done::{Done, Told};
 pub use ro_report::{Answer, FileKind};
 pub use top::romain;
 
-
 #[cfg(test)]
 mod tests;

@@ -160,7 +160,14 @@ fn rows(rt: HostRuntime) -> Result<(), Fail> {
         let mut store = store(rt.alloc())?;
         let mut report = sink(rt.alloc(), &[])?;
         let out = sink(rt.alloc(), &[])?;
-        let done = romain(&rt, rt.alloc(), words.as_slice(), &mut store, out, &mut report);
+        let done = romain(
+            &rt,
+            rt.alloc(),
+            words.as_slice(),
+            &mut store,
+            out,
+            &mut report,
+        );
         assert_eq!(rt; done.status(), row.status, "of {:?}", row.words);
         assert_eq!(rt; report.bytes(), row.report.as_bytes(), "of {:?}", row.words);
         assert_eq!(rt; done.out.bytes(), row.out.as_bytes(), "of {:?}", row.words);
@@ -182,7 +189,14 @@ fn kept_views(rt: HostRuntime) -> Result<(), Fail> {
         let mut store = store(rt.alloc())?;
         let mut report = sink(rt.alloc(), &[])?;
         let out = sink(rt.alloc(), &[])?;
-        let done = romain(&rt, rt.alloc(), words.as_slice(), &mut store, out, &mut report);
+        let done = romain(
+            &rt,
+            rt.alloc(),
+            words.as_slice(),
+            &mut store,
+            out,
+            &mut report,
+        );
         assert_eq!(rt; done.views.len(), count, "of {command:?}");
     }
     Ok(())
@@ -240,7 +254,14 @@ fn failing_sinks(rt: HostRuntime) -> Result<(), Fail> {
         let mut store = store(rt.alloc())?;
         let mut report = sink(rt.alloc(), row.report)?;
         let out = sink(rt.alloc(), row.out)?;
-        let done = romain(&rt, rt.alloc(), words.as_slice(), &mut store, out, &mut report);
+        let done = romain(
+            &rt,
+            rt.alloc(),
+            words.as_slice(),
+            &mut store,
+            out,
+            &mut report,
+        );
         assert_eq!(rt; done.status(), row.status);
         assert_eq!(rt; done.told, row.told);
         assert_eq!(rt; done.out.bytes(), row.held.as_bytes());
@@ -253,7 +274,11 @@ fn failing_sinks(rt: HostRuntime) -> Result<(), Fail> {
 #[test]
 fn long_files(rt: HostRuntime) -> Result<(), Fail> {
     let cases: [(&[&str], usize, Answer); 4] = [
-        (&["run", "read", "--input", "long"], 1024 * 1024, Answer::Exit(4)),
+        (
+            &["run", "read", "--input", "long"],
+            1024 * 1024,
+            Answer::Exit(4),
+        ),
         (
             &["run", "read", "--input", "long"],
             1024 * 1024 + 1,
@@ -264,7 +289,11 @@ fn long_files(rt: HostRuntime) -> Result<(), Fail> {
             64 * 1024 + 1,
             Answer::TooLong(FileKind::Faults),
         ),
-        (&["run", "long"], 8 * 1024 * 1024 + 1, Answer::TooLong(FileKind::Exe)),
+        (
+            &["run", "long"],
+            8 * 1024 * 1024 + 1,
+            Answer::TooLong(FileKind::Exe),
+        ),
     ];
     for (command, size, answer) in cases {
         let words = words_of(rt.alloc(), command)?;
@@ -273,7 +302,14 @@ fn long_files(rt: HostRuntime) -> Result<(), Fail> {
         store.put("long", long.as_slice())?;
         let mut report = sink(rt.alloc(), &[])?;
         let out = sink(rt.alloc(), &[])?;
-        let done = romain(&rt, rt.alloc(), words.as_slice(), &mut store, out, &mut report);
+        let done = romain(
+            &rt,
+            rt.alloc(),
+            words.as_slice(),
+            &mut store,
+            out,
+            &mut report,
+        );
         assert_eq!(rt; done.answer, answer, "of {command:?}");
     }
     Ok(())

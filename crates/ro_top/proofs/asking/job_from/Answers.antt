@@ -1,4 +1,4 @@
-use Rattle.std.proofs.Common.{rules, List, sym, ◌∙◌, ap, subst, arith}
+use Rattle.std.proofs.Common.{rules, sym, ◌∙◌, ap, subst, arith}
 use Rattle.std.specs.Prelude.{option_map}
 use Rattle.ro_image.specs.Executable.{bad_code}
 use Rattle.ro_report.specs.declared.answers.FileKind.TheVariants.{Input, Faults}
@@ -6,7 +6,7 @@ use Rattle.ro_words.specs.Commands.{asked_by}
 use Rattle.ro_top.specs.Files.{IsContent}
 use Rattle.ro_top.specs.Refusals.{RefusesContent}
 use Rattle.ro_top.specs.Causes.{IsAccepted, HasInput}
-use Rattle.ro_top.proofs.Asked.{exe_cause, input_cause, list_cause, faults_cause, can_run}
+use Rattle.ro_top.proofs.Asked.{input_cause, list_cause, faults_cause, can_run}
 use Rattle.ro_top.proofs.asking.job_from.Goals as goal
 
 pub returns-in_err-input-clause-refused : goal.returns-in_err-input-clause-refused

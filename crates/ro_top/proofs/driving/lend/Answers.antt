@@ -1,6 +1,5 @@
-use Rattle.std.proofs.Common.{◌∙◌, ap, sym, refl}
+use Rattle.std.proofs.Common.{◌∙◌, ap, sym}
 use Rattle.ro_core.specs.Core.{Job}
-use Rattle.ro_core.specs.Seen.{state}
 use Rattle.ro_top.proofs.Tells.{always_on_err}
 use Rattle.ro_top.proofs.Turns.{lend_calm, stays_goes, stays_driven, stays_home, stays_next, goes_on}
 use Rattle.ro_top.proofs.Lending.{may_take, may_return, lease_is, put_driven, put_home, put_goes}

@@ -1,4 +1,4 @@
-use Rattle.std.proofs.Common.{◌≡◌, ◌++◌, ◌∷◌, rules, List, ap, ◌∙◌, sym, subst, arith}
+use Rattle.std.proofs.Common.{◌≡◌, ◌++◌, ◌∷◌, rules, ap, ◌∙◌, subst, arith}
 use Rattle.ro_io.specs.Outside.{more}
 use Rattle.ro_journal_text.specs.Texts.{entry_text}
 use Rattle.ro_top.specs.Top.{TakesFront}

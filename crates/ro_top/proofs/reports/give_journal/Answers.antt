@@ -1,4 +1,4 @@
-use Rattle.std.proofs.Common.{◌≡◌, rules, sym, ap, ◌∙◌, subst}
+use Rattle.std.proofs.Common.{◌≡◌, rules, ap, ◌∙◌, subst}
 use Rattle.ro_io.specs.Outside.{more}
 use Rattle.ro_journal_text.specs.Texts.{header_text, entries_text, journal_text}
 use Rattle.ro_report.specs.Report.{journal_part}

@@ -1,7 +1,6 @@
-use Rattle.std.proofs.Common.{ap, ◌∙◌, subst}
+use Rattle.std.proofs.Common.{ap, ◌∙◌}
 use Rattle.ro_io.specs.Outside.{more}
 use Rattle.ro_report.specs.Report.{journal_part, report_text}
-use Rattle.ro_top.specs.Top.{TakesFront}
 use Rattle.ro_top.proofs.Tells.{more_more, front_longer, front_behind, on_ok, on_err, always_on_err}
 use Rattle.ro_top.proofs.reports.give_report.Goals as goal
 

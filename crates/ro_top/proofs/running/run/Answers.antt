@@ -1,8 +1,5 @@
-use Rattle.std.proofs.Common.{List, length, sym, ap, ◌∙◌, subst}
-use Rattle.ro_io.specs.Outside.{more}
-use Rattle.ro_top.specs.Files.{job_of}
+use Rattle.std.proofs.Common.{length, ap, ◌∙◌, subst}
 use Rattle.ro_top.specs.Causes.{IsOutcome}
-use Rattle.ro_top.proofs.Tells.{more_none}
 use Rattle.ro_top.proofs.Finishing.{none_bytes, none_given, opens_same, opens_home, ran_counts, ran_sent, ran_held, nothing_ran, ran_cause}
 use Rattle.ro_top.proofs.running.run.Goals as goal
 
@@ -20,12 +17,10 @@ returns-clause-counts g c =
     let opens = opens_same c.args.job.image c.args.job.settings c.as_slice.result.now c.args.job.input.items c.as_slice-2.result.now c.args.job.faults.items _ _ c.in-Ok.core c.in-Ok.ensures.opens c.as_slice.ensures.value c.as_slice-2.ensures.value in
     ran_counts _ _ _ _ opens _ c.drive.ensures.goes c.drive.ensures.driven c.drive.ensures.all_sent _ c.finish-how.ensures.journal
 
-
 pub returns-clause-bytes : goal.returns-clause-bytes
 returns-clause-bytes g c =
     let opens = opens_same c.args.job.image c.args.job.settings c.as_slice.result.now c.args.job.input.items c.as_slice-2.result.now c.args.job.faults.items _ _ c.in-Ok.core c.in-Ok.ensures.opens c.as_slice.ensures.value c.as_slice-2.ensures.value in
     c.finish-how.ensures.bytes ∙ ap length (ran_sent _ _ _ _ opens _ c.drive.ensures.goes c.drive.ensures.driven c.drive.ensures.all_sent _ c.finish-how.ensures.journal)
-
 
 pub returns-clause-cause : goal.returns-clause-cause
 returns-clause-cause g c =
@@ -33,12 +28,10 @@ returns-clause-cause g c =
     ran_cause _ _ _ _ opens _ c.drive.ensures.goes c.drive.ensures.driven c.drive.ensures.all_sent _ c.finish-how.ensures.journal _ c.finish-how.ensures.views _ c.finish-how.ensures.sink.1
     c.answer_of.result (subst (IsOutcome c.answer_of.result) c.finish-how.ensures.how c.answer_of.ensures.answer)
 
-
 pub returns-clause-held : goal.returns-clause-held
 returns-clause-held g c =
     let opens = opens_same c.args.job.image c.args.job.settings c.as_slice.result.now c.args.job.input.items c.as_slice-2.result.now c.args.job.faults.items _ _ c.in-Ok.core c.in-Ok.ensures.opens c.as_slice.ensures.value c.as_slice-2.ensures.value in
     c.finish-how.ensures.sink.0 ∙ ran_held _ _ _ _ opens _ c.drive.ensures.goes c.drive.ensures.driven c.drive.ensures.all_sent _ c.finish-how.ensures.journal
-
 
 pub returns-clause-nothing_run : goal.returns-clause-nothing_run
 returns-clause-nothing_run g c none =

@@ -210,6 +210,20 @@ vote_next job core thread e = by (acts job core (DoVote thread) e (λ (f : DoVot
       ]
     ]
 
+-- a call that is to be served next may be served
+pub free_next : (job : Job) (core : Core) (thread : ℕ) → next_action job core ≡ DoFree thread → may_free job core thread ≡ true
+free_next job core thread e = by (acts job core (DoFree thread) e (λ (f : DoFree thread ≡ Over). cc) (λ how (f : DoFree thread ≡ DoEnd how). cc))
+  where
+    by : Acts job core (DoFree thread) → may_free job core thread ≡ true
+    by (waits goes f g h) = absurd (let x : DoFree thread ≡ Wait = h in cc)
+    by (first goes f) = elim (some_or_else (map_action DoFree (lowest_below (threads_made core) (may_free job core))) _ _ f) [
+      | inl g ↦ let m = some_mapped DoFree _ _ g in let same : m.0 ≡ thread = (let x : DoFree m.0 ≡ DoFree thread = m.2 in cc) in ap (may_free job core) (sym same) ∙ found_below (threads_made core) (may_free job core) m.0 m.1
+      | inr g ↦ elim (some_or_else (map_action DoVote (lowest_below (threads_made core) (may_vote core))) (lend_next core) _ g) [
+        | inl h ↦ let m = some_mapped DoVote _ _ h in absurd (let x : DoVote m.0 ≡ DoFree thread = m.2 in cc)
+        | inr h ↦ let p = lend_parts job core (DoFree thread) h in absurd (let x : DoFree thread ≡ Lend p.0 p.1 = p.2 in cc)
+      ]
+    ]
+
 -- what is to be lent may be lent
 pub lend_is_next : (job : Job) (core : Core) (replica thread : ℕ) → next_action job core ≡ Lend replica thread → (is_going core ≡ true) × (is_lendable core replica thread ≡ true)
 lend_is_next job core replica thread e = by (acts job core (Lend replica thread) e (λ (f : Lend replica thread ≡ Over). cc) (λ how (f : Lend replica thread ≡ DoEnd how). cc))

@@ -1,5 +1,5 @@
 -- The image of an executable file, or the code by which it is refused.
-use Rattle.std.specs.Prelude.{◌≡◌, ◌≤◌, ℕ, ◌+◌, true, false, max, List, Option, Some, None, Result, Ok, Err, fold, map, slice_range}
+use Rattle.std.specs.Prelude.{◌≡◌, ◌≤◌, ℕ, ◌+◌, ◌*◌, ◌/◌, true, false, max, List, [], ◌∷◌, Option, Some, None, Result, Ok, Err, fold, map, slice_range}
 use Rattle.ro_elf.specs.Header.{section_table_of}
 use Rattle.ro_elf.specs.Segments.{end_of, is_readable, is_writable, is_executable}
 use Rattle.ro_elf.specs.Elf.{Elf, elf_of, bad_headers}
@@ -8,14 +8,17 @@ use Rattle.ro_event.specs.declared.table.CallTable.{CallTable}
 use Rattle.ro_region.specs.declared.Range.{Range}
 use Rattle.ro_sym.specs.Calls.{calls_of}
 use Rattle.ro_image.specs.Image.{Piece, Image, ranges_with}
-use Rattle.ro_image.specs.Straight.{page_start, no_calls}
-use Rattle.ro_image.specs.declared.reading.ImageError.{ImageError}
-use Rattle.ro_image.specs.declared.reading.ImageError.TheVariants.{Bad, NoMemory}
+use Rattle.ro_image.specs.declared.errors.ImageError.{ImageError}
+use Rattle.ro_image.specs.declared.errors.ImageError.TheVariants.{Bad, NoMemory}
 
 -- the code by which the symbols of a file with that table are refused, if they are
 abbrev pub refusal_of : Result CallTable ℕ → Option ℕ
 refusal_of (Ok calls) = None
 refusal_of (Err code) = Some code
+
+-- no function of POSIX threads is called
+abbrev pub no_calls : CallTable
+no_calls = record { addresses = None ∷ None ∷ None ∷ None ∷ None ∷ None ∷ None ∷ None ∷ None ∷ [] }
 
 abbrev pub table_of : Result CallTable ℕ → CallTable
 table_of (Ok calls) = calls
@@ -55,6 +58,10 @@ EndsLow segment = end_of segment ≤ 0x40000000
 -- the first address behind all segments
 abbrev pub top_of : List Segment → ℕ
 top_of segments = fold (λ top segment. max top (end_of segment)) 0 segments
+
+-- rounded up to the start of a page
+abbrev pub page_start : ℕ → ℕ
+page_start a = (a + 4095) / 4096 * 4096
 
 -- where the heap starts behind segments
 abbrev pub heap_over : List Segment → ℕ

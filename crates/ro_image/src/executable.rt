@@ -4,9 +4,9 @@ ghost use Rattle.ro_image.specs.Image.{LiesLow};
 ghost use Rattle.ro_image.specs.Pieces.{pieces_in};
 ghost use Rattle.ro_image.specs.Executable.{bad_code, image_of, Refuses};
 
+use crate::errors::ImageError;
 use crate::layout::{heap_start, program_ranges};
 use crate::pieces::{FilePiece, file_pieces};
-use crate::reading::ImageError;
 use ro_elf::read_elf;
 use ro_event::CallTable;
 use ro_region::Range;

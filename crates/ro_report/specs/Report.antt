@@ -4,8 +4,9 @@ use Rattle.ro_journal.specs.declared.Entry.{Entry}
 use Rattle.ro_journal.specs.declared.Entry.TheVariants.{Put, Vote}
 use Rattle.ro_journal.specs.Plan.{plan_of}
 use Rattle.ro_journal_text.specs.Texts.{journal_text}
+use Rattle.ro_faults.specs.Texts.{code_of}
 use Rattle.ro_report.specs.declared.answers.Answer.{Answer}
-use Rattle.ro_report.specs.declared.answers.Answer.TheVariants.{Exit, Trap, BadWords, StoreFailed, BadExe, NoMemory}
+use Rattle.ro_report.specs.declared.answers.Answer.TheVariants.{Exit, Deadlock, Trap, Differ, NoMajority, Limit, SinkFailed, StoreFailed, BadExe, BadFaults, BadWords, TooLong, NoMemory}
 
 abbrev pub is_vote : Entry → Bool
 is_vote (Vote thread count won lost did) = true
@@ -46,10 +47,17 @@ summary_text journal bytes =
 -- the answer line
 abbrev pub answer_text : Answer → List ℕ
 answer_text (Exit status) = codes "answer exit " ++ decimal status ++ codes "\n"
+answer_text Deadlock = codes "answer deadlock\n"
 answer_text (Trap cause) = codes "answer trap " ++ decimal cause ++ codes "\n"
-answer_text BadWords = codes "answer words\n"
+answer_text Differ = codes "answer differ\n"
+answer_text NoMajority = codes "answer no-majority\n"
+answer_text (Limit steps next) = codes "answer limit " ++ decimal steps ++ codes " " ++ decimal next ++ codes "\n"
+answer_text (SinkFailed taken) = codes "answer sink " ++ decimal taken ++ codes "\n"
 answer_text StoreFailed = codes "answer store\n"
 answer_text (BadExe code) = codes "answer exe " ++ decimal code ++ codes "\n"
+answer_text (BadFaults line code) = codes "answer faults " ++ decimal line ++ codes " " ++ decimal (code_of code) ++ codes "\n"
+answer_text BadWords = codes "answer words\n"
+answer_text (TooLong kind) = codes "answer too-long\n"
 answer_text NoMemory = codes "answer no-memory\n"
 
 -- the report of a run that wrote so many bytes: of one whose journal has no entry, the answer line alone

@@ -2,21 +2,47 @@
 ghost use Rattle.std.specs.Prelude.{◌≡◌, ◌≤◌, ◌++◌, length, codes, decimal};
 ghost use Rattle.ro_report.specs.Report.{answer_text};
 
+use ro_faults::FaultsCode;
 use ro_text::{Line, Text};
+
+/// A file that a command names.
+#[derive(Clone, Copy, Debug, PartialEq, Eq)]
+pub enum FileKind {
+    /// The executable.
+    Exe,
+    /// The input.
+    Input,
+    /// The list of faults.
+    Faults,
+}
 
 /// How a command ended.
 #[derive(Clone, Copy, Debug, PartialEq, Eq)]
 pub enum Answer {
     /// The program ended with this status.
     Exit(u8),
+    /// No thread of the program could go on.
+    Deadlock,
     /// The program could not go on, for the cause of this number.
     Trap(u8),
-    /// The words are of no command.
-    BadWords,
+    /// Two replicas differed.
+    Differ,
+    /// No view of three had a majority.
+    NoMajority,
+    /// The run had so many steps, and those that would have come next would have passed the limit.
+    Limit { steps: u64, next: u64 },
+    /// The output's sink failed, and took so many bytes of the last write.
+    SinkFailed { taken: u32 },
     /// A file could not be fetched.
     StoreFailed,
     /// The file is not an executable; the code says why.
     BadExe(u8),
+    /// The list of faults is bad in this line.
+    BadFaults { line: u32, code: FaultsCode },
+    /// The words are of no command.
+    BadWords,
+    /// A file has more bytes than are read.
+    TooLong(FileKind),
     /// There was no memory.
     NoMemory,
 }
@@ -26,11 +52,20 @@ pub fn answer_line(answer: &Answer) -> Line
     ensures { result ≡ answer_text answer.now }
 {
     match *answer {
-        Answer::Exit(status) => numbered("answer exit ", status),
-        Answer::Trap(cause) => numbered("answer trap ", cause),
-        Answer::BadWords => fixed("answer words"),
+        Answer::Exit(status) => numbered("answer exit ", u64::from(status)),
+        Answer::Deadlock => fixed("answer deadlock"),
+        Answer::Trap(cause) => numbered("answer trap ", u64::from(cause)),
+        Answer::Differ => fixed("answer differ"),
+        Answer::NoMajority => fixed("answer no-majority"),
+        Answer::Limit { steps, next } => twice_numbered("answer limit ", steps, next),
+        Answer::SinkFailed { taken } => numbered("answer sink ", u64::from(taken)),
         Answer::StoreFailed => fixed("answer store"),
-        Answer::BadExe(code) => numbered("answer exe ", code),
+        Answer::BadExe(code) => numbered("answer exe ", u64::from(code)),
+        Answer::BadFaults { line, code } => {
+            twice_numbered("answer faults ", u64::from(line), u64::from(code.code()))
+        }
+        Answer::BadWords => fixed("answer words"),
+        Answer::TooLong(_) => fixed("answer too-long"),
         Answer::NoMemory => fixed("answer no-memory"),
     }
 }
@@ -46,12 +81,24 @@ fn fixed(words: &str) -> Line
 }
 
 // The line of these words and a number.
-fn numbered(words: &str, number: u8) -> Line
+fn numbered(words: &str, number: u64) -> Line
     requires { length words.now ≤ 100 }
     ensures { result ≡ words.now ++ decimal number ++ codes "\n" }
 {
     let mut text = Text::new();
     text.push(words);
-    text.push_number(u64::from(number));
+    text.push_number(number);
+    text.end()
+}
+
+// The line of these words and two numbers.
+fn twice_numbered(words: &str, one: u64, other: u64) -> Line
+    requires { length words.now ≤ 100 }
+    ensures { result ≡ words.now ++ decimal one ++ codes " " ++ decimal other ++ codes "\n" }
+{
+    let mut text = Text::new();
+    text.push(words);
+    text.push_number(one);
+    text.add_number(other);
     text.end()
 }

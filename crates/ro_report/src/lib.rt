@@ -6,7 +6,7 @@ mod answers;
 mod laws;
 mod summaries;
 
-pub use answers::{Answer, answer_line};
+pub use answers::{Answer, FileKind, answer_line};
 pub use laws::shown_line_by_line;
 pub use ro_journal_text::{entry_text, header};
 pub use ro_text::Line;

@@ -2,6 +2,7 @@
 ghost use Rattle.std.specs.Prelude.{◌≡◌};
 
 use super::*;
+use ro_faults::FaultsCode;
 use ro_journal::{Did, Entry, How};
 use std::alloc::AllocError;
 
@@ -10,10 +11,29 @@ fn answers(rt: HostRuntime) {
     let cases = [
         (Answer::Exit(7), "answer exit 7\n"),
         (Answer::Exit(255), "answer exit 255\n"),
+        (Answer::Deadlock, "answer deadlock\n"),
         (Answer::Trap(2), "answer trap 2\n"),
-        (Answer::BadWords, "answer words\n"),
+        (Answer::Differ, "answer differ\n"),
+        (Answer::NoMajority, "answer no-majority\n"),
+        (
+            Answer::Limit {
+                steps: 999_999_999,
+                next: u64::MAX,
+            },
+            "answer limit 999999999 18446744073709551615\n",
+        ),
+        (Answer::SinkFailed { taken: 2 }, "answer sink 2\n"),
         (Answer::StoreFailed, "answer store\n"),
-        (Answer::BadExe(0), "answer exe 0\n"),
+        (Answer::BadExe(17), "answer exe 17\n"),
+        (
+            Answer::BadFaults {
+                line: 257,
+                code: FaultsCode::Count,
+            },
+            "answer faults 257 3\n",
+        ),
+        (Answer::BadWords, "answer words\n"),
+        (Answer::TooLong(FileKind::Input), "answer too-long\n"),
         (Answer::NoMemory, "answer no-memory\n"),
     ];
     for (answer, want) in cases {

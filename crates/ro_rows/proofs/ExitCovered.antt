@@ -5,7 +5,6 @@ use Rattle.ro_decode.specs.Table.{instruction_of}
 use Rattle.ro_event.specs.Table.{call_at}
 use Rattle.ro_region.specs.Permission.{permits_of}
 use Rattle.ro_alu.specs.Results.{alu_of}
-use Rattle.ro_image.specs.Straight.{headers_of}
 use Rattle.ro_exec.specs.Meaning.{meaning}
 use Rattle.ro_exec.specs.Next.{fetch_stop, instruction_stop, next}
 use Rattle.ro_exec.specs.Threads.{first_cpu}
@@ -26,7 +25,7 @@ use Rattle.ro_rows.proofs.ExitRow.{exit-legal, exit-output}
 
 -- no execution of the program makes a thread
 alone : StaysAlone exit_job.program
-unfolding headers_of opening first_cpu steppable step next fetch_stop instruction_stop instruction_of call_at permits_of alu_of meaning serve payload_of
+unfolding opening first_cpu steppable step next fetch_stop instruction_stop instruction_of call_at permits_of alu_of meaning serve payload_of
 alone [] machine e = one-life machine _ e refl
 alone (zero ∷ []) machine e = one-life machine _ e refl
 alone (zero ∷ zero ∷ []) machine e = one-life machine _ e refl

@@ -3,7 +3,7 @@
 
 ghost use Rattle.std.specs.Prelude.{◌≡◌, ◌≢◌, ℕ, List, [], ◌∷◌, length, replicate, Some, None};
 ghost use Rattle.std.specs.Option.{option_map};
-ghost use Rattle.ro_image.specs.Straight.{file_of};
+ghost use Rattle.ro_image.specs.Executable.{bad_code, image_of};
 ghost use Rattle.ro_journal.specs.declared.Did.TheVariants.{Served, Mapped, Blocked};
 ghost use Rattle.ro_journal.specs.declared.How.TheVariants.{Exit, Deadlock, Differ, Sink};
 ghost use Rattle.ro_journal.specs.declared.Entry.TheVariants.{Vote, Free, End};
@@ -16,7 +16,7 @@ ghost use Rattle.ro_core.specs.Action.{EachIsNext};
 ghost use Rattle.ro_simulation.specs.Guests.{exit_guest, usual_job};
 ghost use Rattle.ro_simulation.specs.Rows.{flip_a0, IsCovered};
 ghost use Rattle.ro_simulation.specs.Drives.{driven};
-ghost use Rattle.ro_rows.specs.Exit.{exit_words, exit_job, exit_journal};
+ghost use Rattle.ro_rows.specs.Exit.{exit_file, exit_image, exit_job, exit_journal};
 ghost use Rattle.ro_rows.specs.Guests.{loop_guest};
 ghost use Rattle.ro_rows.specs.Rows.{IdealEnds, decisions, page_job, deadlock_job, deadlock_journal, pair_job, pair_journal, single_job, watched_job, hello_job, failing_journal, healed_job, before_vote};
 
@@ -24,7 +24,9 @@ ghost use Rattle.ro_rows.specs.Rows.{IdealEnds, decisions, page_job, deadlock_jo
 /// driver makes, each entry is what the core does next, and the plan is three steps of thread 0, after which the
 /// unreplicated machine has ended by the same exit and has written nothing, as the journal has.
 pub fn exit_row()
-    ensures size { length (file_of exit_words) ≡ 96 }
+    ensures size { length exit_file ≡ 96 }
+    ensures accepted { bad_code exit_file ≡ None }
+    ensures image { image_of exit_file ≡ exit_image }
     ensures driven_is { driven 8 exit_job ≡ exit_journal }
     ensures legal { Legal exit_job exit_journal }
     ensures next { EachIsNext exit_job (opening_core exit_job) exit_journal }

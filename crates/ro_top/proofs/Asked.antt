@@ -1,194 +1,166 @@
--- The file that is asked for, and what its run comes to.
-use Rattle.std.proofs.Common.{◌≡◌, ◌⊎◌, inl, inr, ℕ, zero, suc, ◌+◌, ◌<◌, ◌≤◌, ◌*◌, ◌%◌, Bool, true, false, List, [], ◌∷◌, ◌++◌, length, take, Option, Some, None, refl, sym, ap, ◌∙◌, subst, arith}
-use Rattle.std.specs.Prelude.{IfSome, replicate, fold, if◌then◌else◌}
-use Rattle.std.proofs.lemmas.List.{length-take, take_all}
-use Rattle.std.proofs.lemmas.Bool.{cases_lt}
-use Rattle.ro_io.specs.Outside.{Files, IsFront}
-use Rattle.ro_journal.specs.declared.How.{How}
-use Rattle.ro_journal.specs.declared.How.TheVariants.{Exit, Trap}
-use Rattle.ro_journal.specs.declared.Entry.{Entry}
-use Rattle.ro_journal.specs.declared.Entry.TheVariants.{Take, Put, Vote, Free, End}
-use Rattle.ro_journal.specs.Plan.{plan_of, outcome_of}
+-- Why a file of a command is refused, and what a list of faults is.
+use Rattle.std.proofs.Common.{◌≡◌, inl, inr, ℕ, zero, suc, ◌+◌, ◌≤◌, Bool, true, false, List, [], ◌∷◌, length, Option, Some, None, Result, Ok, Err, refl, sym, ap, ◌∙◌, subst, arith}
+use Rattle.std.specs.Prelude.{nat_le, nat_lt, ◌&&◌, ◌^◌, if◌then◌else◌}
+use Rattle.std.specs.List.{All}
+use Rattle.std.proofs.lemmas.Bool.{and_parts, leb-true}
+use Rattle.ro_io.specs.Outside.{Files, Rose}
+use Rattle.ro_text.specs.Numbers.{within}
+use Rattle.ro_text.specs.Lines.{words_of, parts_of}
+use Rattle.ro_faults.specs.declared.Fault.{Fault}
+use Rattle.ro_faults.specs.declared.errors.FaultsCode.{FaultsCode}
+use Rattle.ro_faults.specs.declared.errors.FaultsCode.TheVariants.{Form, Range, Count}
+use Rattle.ro_faults.specs.declared.errors.FaultsError.{FaultsError}
+use Rattle.ro_faults.specs.declared.errors.FaultsError.TheVariants.{Bad}
+use Rattle.ro_faults.specs.Texts.{is_target, is_fault, ranged, fault_of, line_fault, counted, in_line, before, end_faults, lines_faults, file_faults}
+use Rattle.ro_settings.specs.Ranges.{InRange}
+use Rattle.ro_settings.specs.declared.Settings.{Settings}
 use Rattle.ro_image.specs.Image.{Image}
-use Rattle.ro_image.specs.Straight.{is_accepted, bad_code, image_of, image_with}
-use Rattle.ro_image.proofs.Files.{accepted_only}
-use Rattle.ro_report.specs.Report.{hits_of, struck_in}
-use Rattle.ro_plain.specs.Order.{RaceFree}
-use Rattle.ro_core.specs.Core.{Job, Core}
-use Rattle.ro_core.specs.Legal.{Legal, replay, output_of}
-use Rattle.ro_core.specs.Ideal.{StaysApart}
-use Rattle.ro_core.specs.Defaults.{default_job}
-use Rattle.ro_core.specs.Line.{IsLine, line_length, exits, last_cpu}
-use Rattle.ro_exec.specs.Registers.{register}
-use Rattle.ro_core.proofs.LineRuns.{few_steps}
-use Rattle.ro_core.proofs.LineMachine.{line_race_free}
-use Rattle.ro_core.proofs.LineJournals.{line_job, NoHit, line_plan, Phase, going, ending, over, line_journal}
-use Rattle.ro_core.specs.Core.{opening_core}
-use Rattle.ro_core.specs.Action.{EachIsNext}
-use Rattle.ro_core.specs.Seen.{CoreOf, Opens}
-use Rattle.ro_simulation.specs.Theorem.{WritesAsIdeal}
-use Rattle.ro_simulation.proofs.Simulates.{simulates}
-use Rattle.ro_simulation.proofs.Laws.{writes-as-ideal}
-use Rattle.ro_top.specs.Driven.{IsDriven, IsHome, HasRun, AreCounts, IsProgramEnd}
-use Rattle.ro_top.specs.Top.{HasRunFile, OfItsJob}
+use Rattle.ro_replica.specs.Seen.{AreFaults}
+use Rattle.ro_report.specs.declared.answers.FileKind.{FileKind}
+use Rattle.ro_report.specs.declared.answers.FileKind.TheVariants.{Exe, Input, Faults}
+use Rattle.ro_report.specs.declared.answers.Answer.{Answer}
+use Rattle.ro_report.specs.declared.answers.Answer.TheVariants.{Exit, Deadlock, Trap, Differ, NoMajority, Limit, SinkFailed, StoreFailed, BadExe, BadFaults, BadWords, TooLong, NoMemory}
+use Rattle.ro_words.specs.Commands.{Asked}
+use Rattle.ro_top.specs.Files.{name_in, IsContent, job_of}
+use Rattle.ro_top.specs.Refusals.{RefusesFile, RefusesContent, RefusesList}
+use Rattle.ro_top.specs.Causes.{IsAccepted, HasInput, ComesAt, IsTooLong, IsBadList, JobCause}
+use Rattle.ro_top.specs.Driven.{CanRun}
 
--- an accepted file is short
-accepted_few : (bytes : List ℕ) → is_accepted bytes ≡ true → length bytes ≤ 4180
-accepted_few bytes e = let few : length bytes ≤ 84 + 4 * 1024 = (accepted_only bytes e).0.few in omega arith
+-- a count that rose later rose
+pub rose_later : (first mid last : ℕ) → first ≤ mid → Rose mid last → Rose first last
+rose_later first mid last le (inl less) = inl (omega arith)
+rose_later first mid last le (inr full) = inr full
 
--- the code of a file that is accepted or not
-abbrev code_if : Bool → Option ℕ
-code_if b = if b then None else Some 0
+-- and it stays so
+pub rose_before : (first mid last : ℕ) → Rose first mid → mid ≤ last → Rose first last
+rose_before first mid last (inl less) le = inl (omega arith)
+rose_before first mid last (inr full) le = inr (omega arith)
 
-none_accepted : (bytes : List ℕ) → bad_code bytes ≡ None → is_accepted bytes ≡ true
-none_accepted bytes e = by (is_accepted bytes) refl e
+module _ (files : Option Files) (asked : Asked) (first mid last : ℕ) (le : first ≤ mid) where
+  -- a named file that is refused
+  file_cause : (kind : FileKind) → ComesAt files asked kind → (name : List ℕ) → name_in asked kind ≡ Some name → (answer : Answer) → RefusesFile files kind name mid last answer → JobCause files asked first last answer
+  file_cause kind earlier name is StoreFailed h = rose_later first mid last le h
+  file_cause kind earlier name is (TooLong which) h = subst (λ (k : FileKind). IsTooLong files asked k) (sym h.0) (record { earlier = earlier; content = h.1.0; file = record { name = name; name_is = is; content_is = h.1.1 }; long = h.1.2 })
+  file_cause kind earlier name is NoMemory h = tt
+  file_cause kind earlier name is (Exit status) h = absurd h
+  file_cause kind earlier name is Deadlock h = absurd h
+  file_cause kind earlier name is (Trap cause) h = absurd h
+  file_cause kind earlier name is Differ h = absurd h
+  file_cause kind earlier name is NoMajority h = absurd h
+  file_cause kind earlier name is (Limit steps next) h = absurd h
+  file_cause kind earlier name is (SinkFailed taken) h = absurd h
+  file_cause kind earlier name is (BadExe code) h = absurd h
+  file_cause kind earlier name is (BadFaults line code) h = absurd h
+  file_cause kind earlier name is BadWords h = absurd h
+
+  -- a file that need not be named
+  content_cause : (kind : FileKind) → ComesAt files asked kind → (answer : Answer) → RefusesContent files kind (name_in asked kind) mid last answer → JobCause files asked first last answer
+  content_cause kind earlier answer h = by (name_in asked kind) refl h
+    where
+      by : (o : Option (List ℕ)) → name_in asked kind ≡ o → RefusesContent files kind o mid last answer → JobCause files asked first last answer
+      by None e h = absurd h
+      by (Some name) e h = file_cause kind earlier name e answer h
+
+  pub exe_cause : (answer : Answer) → RefusesFile files Exe asked.executable mid last answer → JobCause files asked first last answer
+  exe_cause answer h = file_cause Exe tt asked.executable refl answer h
+
+  pub input_cause : IsAccepted files asked → (answer : Answer) → RefusesContent files Input asked.input mid last answer → JobCause files asked first last answer
+  input_cause earlier answer h = content_cause Input earlier answer h
+
+  pub list_cause : IsAccepted files asked → HasInput files asked → (answer : Answer) → RefusesContent files Faults asked.faults mid last answer → JobCause files asked first last answer
+  list_cause accepted input answer h = content_cause Faults (accepted, input) answer h
+
+-- a list that is refused
+module _ (files : Option Files) (asked : Asked) (first last : ℕ) (content : List ℕ) (accepted : IsAccepted files asked) (input : HasInput files asked) where
+  named_list : (o : Option (List ℕ)) → asked.faults ≡ o → IsContent files Faults o content → (line : ℕ) (code : FaultsCode) → file_faults asked.settings.replicas content ≡ Err (Bad line code) → IsBadList files asked line code
+  named_list None e is line code h =
+      let f : Ok [] ≡ Err (Bad line code) = ap (file_faults asked.settings.replicas) (sym is) ∙ h in absurd (cc)
+  named_list (Some name) e is line code h = record { earlier = (accepted, input); content = content; file = record { name = name; name_is = e; content_is = is.0 }; short = is.1; bad = h }
+
+  pub faults_cause : IsContent files Faults asked.faults content → (answer : Answer) → RefusesList asked.settings.replicas content answer → JobCause files asked first last answer
+  faults_cause is (BadFaults line code) h = named_list asked.faults refl is line code h
+  faults_cause is NoMemory h = tt
+  faults_cause is StoreFailed h = absurd h
+  faults_cause is (TooLong which) h = absurd h
+  faults_cause is (Exit status) h = absurd h
+  faults_cause is Deadlock h = absurd h
+  faults_cause is (Trap cause) h = absurd h
+  faults_cause is Differ h = absurd h
+  faults_cause is NoMajority h = absurd h
+  faults_cause is (Limit steps next) h = absurd h
+  faults_cause is (SinkFailed taken) h = absurd h
+  faults_cause is (BadExe code) h = absurd h
+  faults_cause is BadWords h = absurd h
+
+-- ---- the faults of a list
+
+-- few, and each flips a bit that is there
+abbrev FewFrom : ℕ → List Fault → Type 0
+FewFrom line faults = (length faults + line ≤ 257) × All (λ fault. is_target fault.target ≡ true) faults
+
+none_few : (line : ℕ) (faults : List Fault) → line ≤ 257 → [] ≡ faults → FewFrom line faults
+none_few line [] low e = (omega arith, λ k d h. absurd (omega arith))
+none_few line (fault ∷ faults) low e = absurd (let f : [] ≡ fault ∷ faults = e in cc)
+
+one_more : (line : ℕ) (fault : Fault) (faults : List Fault) → is_target fault.target ≡ true → FewFrom (line + 1) faults → FewFrom line (fault ∷ faults)
+one_more line fault faults good rest = (let a = rest.0 in omega arith, all)
   where
-    by : (b : Bool) → is_accepted bytes ≡ b → code_if b ≡ None → b ≡ true
-    by true f g = refl
-    by false f g = absurd (let h : code_if false ≡ None = g in cc)
+    all : All (λ f. is_target f.target ≡ true) (fault ∷ faults)
+    all zero d h = good
+    all (suc k) d h = rest.1 k d (omega arith)
 
--- the front of a file, where it is accepted, is the file
-front_is : (content bytes : List ℕ) (most : ℕ) → 4180 < most → bytes ≡ take most content → is_accepted bytes ≡ true → content ≡ bytes
-front_is content bytes most long is e = elim (cases_lt (length content) most) [
-  | inl less ↦ sym (is ∙ take_all most content (omega arith))
-  | inr past ↦
-      let few : length bytes ≤ 4180 = accepted_few bytes e in
-      let full : length (take most content) ≡ most = (let m = length-take most content in omega (arith, m)) in
-      let same : length bytes ≡ length (take most content) = ap (λ (x : List ℕ). length x) is in
-      absurd (omega arith)
-]
-
-pub asked_content : (files : Option Files) (exe bytes : List ℕ) (most : ℕ) → 4180 < most → IfSome files (λ all. IsFront all exe most bytes) → bad_code bytes ≡ None → IfSome files (λ all. all exe ≡ Some bytes)
-asked_content None exe bytes most long front good = tt
-asked_content (Some all) exe bytes most long front good = front.1 ∙ ap (λ (x : List ℕ). Some x) (front_is front.0 bytes most long front.2 (none_accepted bytes good))
-
--- a front that is refused is of a file that is refused
-pub asked_bad : (files : Option Files) (exe bytes : List ℕ) (most code : ℕ) → 4180 < most → IfSome files (λ all. IsFront all exe most bytes) → bad_code bytes ≡ Some code
-    → (content : List ℕ) × IfSome files (λ all. all exe ≡ Some content) × (bad_code content ≡ Some code)
-asked_bad None exe bytes most code long front bad = (bytes, tt, bad)
-asked_bad (Some all) exe bytes most code long front bad = (front.0, front.1, by (is_accepted front.0) refl)
+-- a line that is read is one of the first, and gives a fault of a run
+read_good : (replicas line : ℕ) (o : Option Fault) (fault : Fault) → in_line line (counted line (ranged (is_fault replicas) o)) ≡ Ok fault → (line ≤ 256) × (is_fault replicas fault ≡ true)
+read_good replicas line o fault e = by (nat_le line 256) refl e
   where
-    by : (b : Bool) → is_accepted front.0 ≡ b → bad_code front.0 ≡ Some code
-    by true e =
-        let few : length front.0 ≤ 4180 = accepted_few front.0 e in
-        let same : bytes ≡ front.0 = front.2 ∙ take_all most front.0 (omega arith) in
-        ap bad_code (sym same) ∙ bad
-    by false e = zero_code (is_accepted bytes) refl bad e
-      where
-        zero_code : (b : Bool) → is_accepted bytes ≡ b → code_if b ≡ Some code → is_accepted front.0 ≡ false → bad_code front.0 ≡ Some code
-        zero_code true f g h = absurd (let x : None ≡ Some code = g in cc)
-        zero_code false f g h = ap code_if h ∙ g
+    tested : (x : Fault) (b : Bool) → is_fault replicas x ≡ b → in_line line (if b then Ok x else Err Range) ≡ Ok fault → is_fault replicas fault ≡ true
+    tested x true f h = let same : x ≡ fault = (let g : Ok x ≡ Ok fault = h in cc) in ap (is_fault replicas) (sym same) ∙ f
+    tested x false f h = absurd (let g : Err (Bad line Range) ≡ Ok fault = h in cc)
 
--- no run of the journal struck a fault
-none_more : (count : ℕ) (journal : List Entry) → NoHit journal → fold (λ a entry. a + hits_of entry) count journal ≡ count
-none_more count [] h = refl
-none_more count (Take d r t ∷ journal) h = none_more (count + 0) journal h ∙ (let e : count + 0 ≡ count = omega arith in e)
-none_more count (Put d r t n hit ∷ journal) h = none_more (count + hit) journal h.1 ∙ (let z : hit ≡ 0 = h.0 in let e : count + hit ≡ count = omega arith in e)
-none_more count (Vote t n w l d ∷ journal) h = none_more (count + 0) journal h ∙ (let e : count + 0 ≡ count = omega arith in e)
-none_more count (Free t ∷ journal) h = none_more (count + 0) journal h ∙ (let e : count + 0 ≡ count = omega arith in e)
-none_more count (End how ∷ journal) h = none_more (count + 0) journal h ∙ (let e : count + 0 ≡ count = omega arith in e)
+    of : (o : Option Fault) → in_line line (ranged (is_fault replicas) o) ≡ Ok fault → is_fault replicas fault ≡ true
+    of None h = absurd (let g : Err (Bad line Form) ≡ Ok fault = h in cc)
+    of (Some x) h = tested x (is_fault replicas x) refl h
 
-no_struck : (journal : List Entry) → NoHit journal → struck_in journal ≡ 0
-no_struck journal h = none_more 0 journal h
+    by : (b : Bool) → nat_le line 256 ≡ b → in_line line (if b then ranged (is_fault replicas) o else Err Count) ≡ Ok fault → (line ≤ 256) × (is_fault replicas fault ≡ true)
+    by true f h = (leb-true line 256 f, of o h)
+    by false f h = absurd (let g : Err (Bad line Count) ≡ Ok fault = h in cc)
 
-no_hit_at : (before rest : List Entry) (driver replica thread count hit : ℕ) → NoHit (before ++ Put driver replica thread count hit ∷ rest) → hit ≡ 0
-no_hit_at [] rest driver replica thread count hit h = h.0
-no_hit_at (Take d r t ∷ before) rest driver replica thread count hit h = no_hit_at before rest driver replica thread count hit h
-no_hit_at (Put d r t n k ∷ before) rest driver replica thread count hit h = no_hit_at before rest driver replica thread count hit h.1
-no_hit_at (Vote t n w l d ∷ before) rest driver replica thread count hit h = no_hit_at before rest driver replica thread count hit h
-no_hit_at (Free t ∷ before) rest driver replica thread count hit h = no_hit_at before rest driver replica thread count hit h
-no_hit_at (End how ∷ before) rest driver replica thread count hit h = no_hit_at before rest driver replica thread count hit h
+target_good : (replicas : ℕ) (fault : Fault) → is_fault replicas fault ≡ true → is_target fault.target ≡ true
+target_good replicas fault e =
+    let a = and_parts (is_target fault.target && nat_lt fault.replica replicas && within 0 15 fault.thread) (within 0 (10 ^ 12) fault.at) e in
+    let b = and_parts (is_target fault.target && nat_lt fault.replica replicas) (within 0 15 fault.thread) a.0 in
+    (and_parts (is_target fault.target) (nat_lt fault.replica replicas) b.0).0
 
-length-replicate : (n : ℕ) (x : ℕ) → length (replicate n x ++ 0 ∷ []) ≡ n + 1
-length-replicate zero x = refl
-length-replicate (suc n) x = omega (arith, length-replicate n x)
+end_few : (line : ℕ) (part : List ℕ) (faults : List Fault) → line ≤ 257 → end_faults line part ≡ Ok faults → FewFrom line faults
+end_few line [] faults low e = none_few line faults low (let f : Ok [] ≡ Ok faults = e in cc)
+end_few line (byte ∷ bytes) faults low e = absurd (by (nat_le line 256) e)
+  where
+    by : (b : Bool) → in_line line (if b then Err Form else Err Count) ≡ Ok faults → ⊥
+    by true h = let g : Err (Bad line Form) ≡ Ok faults = h in cc
+    by false h = let g : Err (Bad line Count) ≡ Ok faults = h in cc
 
-module _ (words : List ℕ) (line : IsLine words) (journal : List Entry) (legal : Legal (line_job words) journal) where
-  phase_of : Phase words journal (replay (line_job words) journal)
-  phase_of = (line_journal words line journal legal).phase
+-- a first line and the others
+both : (replicas line : ℕ) (part : List ℕ) (faults : List Fault) (first : Result Fault FaultsError) → in_line line (counted line (line_fault replicas part)) ≡ first → (rest more : Result (List Fault) FaultsError) → more ≡ rest → before first more ≡ Ok faults
+    → (line + 1 ≤ 257 → (fs : List Fault) → more ≡ Ok fs → FewFrom (line + 1) fs) → FewFrom line faults
+both replicas line part faults (Err error) f rest more g h later = absurd (let k : Err error ≡ Ok faults = h in cc)
+both replicas line part faults (Ok x) f (Err error) more g h later = absurd (let k : Err error ≡ Ok faults = ap (before (Ok x)) (sym g) ∙ h in cc)
+both replicas line part faults (Ok x) f (Ok xs) more g h later =
+    let good = read_good replicas line (fault_of (words_of part)) x f in
+    let low : line ≤ 256 = good.0 in
+    let same : x ∷ xs ≡ faults = (let k : Ok (x ∷ xs) ≡ Ok faults = ap (before (Ok x)) (sym g) ∙ h in cc) in
+    subst (FewFrom line) same (one_more line x xs (target_good replicas x good.1) (later (omega arith) xs g))
 
-  no_hit : NoHit journal
-  no_hit = (line_journal words line journal legal).no_hit
+lines_few : (replicas line : ℕ) (parts : List (List ℕ)) (faults : List Fault) → line ≤ 257 → lines_faults replicas line parts ≡ Ok faults → FewFrom line faults
+lines_few replicas line [] faults low e = none_few line faults low (let f : Ok [] ≡ Ok faults = e in cc)
+lines_few replicas line (part ∷ []) faults low e = end_few line part faults low e
+lines_few replicas line (part ∷ next ∷ parts) faults low e =
+    both replicas line part faults (in_line line (counted line (line_fault replicas part))) refl (lines_faults replicas (line + 1) (next ∷ parts)) (lines_faults replicas (line + 1) (next ∷ parts)) refl e
+    (λ low' rest f. lines_few replicas (line + 1) (next ∷ parts) rest low' f)
 
-  plan_few : length (plan_of journal) ≤ 1025
-  plan_few = by phase_of
-    where
-      long : plan_of journal ≡ line_plan words → length (plan_of journal) ≤ 1025
-      long e = let n : length (plan_of journal) ≡ line_length words + 1 = ap (λ (x : List ℕ). length x) e ∙ length-replicate (line_length words) 0 in omega (arith, few_steps words line, n)
+pub are_faults : (replicas : ℕ) (bytes : List ℕ) (faults : List Fault) → file_faults replicas bytes ≡ Ok faults → AreFaults faults
+are_faults replicas bytes faults e =
+    let few = lines_few replicas 1 (parts_of bytes) faults (omega arith) e in
+    record { few = (let a = few.0 in omega arith); each = few.1 }
 
-      by : Phase words journal (replay (line_job words) journal) → length (plan_of journal) ≤ 1025
-      by (going a b c ls at bt ct core_is plan none) = omega (arith, ap (λ (x : List ℕ). length x) plan)
-      by (ending home due_is e nothing plan none) = long plan
-      by (over e nothing plan outcome) = long plan
-
-  line_counts : AreCounts journal
-  line_counts = (omega (arith, no_struck journal no_hit), omega (arith, plan_few))
-
-  line_outcome : IsProgramEnd (outcome_of journal)
-  line_outcome = by phase_of
-    where
-      ends : (b : Bool) (status : ℕ) → IsProgramEnd (Some (if b then Exit status else Trap 2))
-      ends true status = tt
-      ends false status = tt
-
-      by : Phase words journal (replay (line_job words) journal) → IsProgramEnd (outcome_of journal)
-      by (going a b c ls at bt ct core_is plan none) = subst (λ (o : Option How). IsProgramEnd o) (sym none) tt
-      by (ending home due_is e nothing plan none) = subst (λ (o : Option How). IsProgramEnd o) (sym none) tt
-      by (over e nothing plan outcome) = subst (λ (o : Option How). IsProgramEnd o) (sym outcome) (ends (exits words) (register (last_cpu words) 10 % 256))
-
-  line_output : output_of (line_job words) journal ≡ []
-  line_output = by phase_of
-    where
-      by : Phase words journal (replay (line_job words) journal) → output_of (line_job words) journal ≡ []
-      by (going a b c ls at bt ct core_is plan none) = ap (λ (x : Core). x.output) core_is
-      by (ending home due_is e nothing plan none) = nothing
-      by (over e nothing plan outcome) = nothing
-
-  line_apart : StaysApart (line_job words) journal
-  line_apart before rest driver replica thread count hit is struck other r differ there =
-      let none : hit ≡ 0 = no_hit_at before rest driver replica thread count hit (subst (λ (js : List Entry). NoHit js) is no_hit) in absurd (omega arith)
-
--- the same of a run
-module _ (image : Image) (journal : List Entry) (r : HasRun image journal) where
-  its_legal : Legal (line_job r.words) journal
-  its_legal = subst (λ (i : Image). Legal (default_job i) journal) r.image_is r.legal
-
-  pub run_counts : AreCounts journal
-  run_counts = line_counts r.words r.line journal its_legal
-
-  pub run_outcome : IsProgramEnd (outcome_of journal)
-  run_outcome = line_outcome r.words r.line journal its_legal
-
-  pub run_output : output_of (default_job image) journal ≡ []
-  run_output = ap (λ (i : Image). output_of (default_job i) journal) r.image_is ∙ line_output r.words r.line journal its_legal
-
-  pub run_apart : StaysApart (default_job image) journal
-  run_apart = subst (λ (i : Image). StaysApart (default_job i) journal) (sym r.image_is) (line_apart r.words r.line journal its_legal)
-
-  pub run_race_free : RaceFree (default_job image).program
-  run_race_free = subst (λ (i : Image). RaceFree (default_job i).program) (sym r.image_is) (line_race_free r.words r.line)
-
--- the run that a core's journal tells
-pub driven_run : (image : Image) (core : CoreOf) (words : List ℕ) → IsLine words → image ≡ image_with words → core.job ≡ default_job image → IsDriven core → HasRun image core.journal
-driven_run image core words line is job h = record {
-  words = words;
-  line = line;
-  image_is = is;
-  legal = subst (λ (j : Job). Legal j core.journal) job h.legal;
-  next = subst (λ (j : Job). EachIsNext j (opening_core j) core.journal) job h.next;
-}
-
--- a core that was just opened lends nothing
-pub opens_home : (job : Job) (held : Option (List ℕ)) (faults : ℕ) (core : CoreOf) → Opens job held faults core → IsHome core
-unfolding opening_core
-opens_home job held faults core o = ap (λ (j : Job). (replay j core.journal).leases) o.job_is ∙ ap (λ (js : List Entry). (replay job js).leases) o.journal_is
-
--- what holds of each run holds of its job
-pub of_job : (files : Option Files) (words : List (List ℕ)) (journal : List Entry) (P : Job → Type 0) → (journal ≡ []) ⊎ HasRunFile files words journal
-    → ((r : HasRunFile files words journal) → P (default_job (image_of r.content))) → OfItsJob files words journal P
-of_job files words journal P (inl none) h = inl none
-of_job files words journal P (inr r) h = inr (default_job (image_of r.content), record { content = r.content; file = r.file; accepted = r.accepted; job_is = refl }, r.run.legal, h r)
-
--- the headline of the run: the simulation theorem's
-pub run_headline : (image : Image) (journal : List Entry) → HasRun image journal → RaceFree (default_job image).program → StaysApart (default_job image) journal → WritesAsIdeal (default_job image) journal
-run_headline image journal r free apart = writes-as-ideal (default_job image) journal (simulates (default_job image) journal free (inr refl) r.legal apart)
+pub can_run : (image : Image) (input bytes : List ℕ) (faults : List Fault) (settings : Settings) → InRange settings → file_faults settings.replicas bytes ≡ Ok faults → CanRun (job_of image input faults settings)
+can_run image input bytes faults settings range e = record { settings = range; faults = are_faults settings.replicas bytes faults e }

@@ -1,3 +1,11 @@
-mod Asked
 mod Tells
+mod Asked
 mod Turns
+mod Lending
+mod Lasts
+mod Deciding
+mod Summed
+mod Shown
+mod Reasons
+mod Finishing
+mod Claims

@@ -1,9 +1,10 @@
 -- What a sink took of a text.
-use Rattle.std.proofs.Common.{◌≡◌, ℕ, List, [], ◌∷◌, ◌++◌, ◌-◌, length, take, drop, Option, Some, None, Result, Ok, Err, OnOk, OnErr, arith, refl, sym, ap, ◌∙◌, append_assoc}
+use Rattle.std.proofs.Common.{◌≡◌, ℕ, Bool, true, false, true≢false, List, [], ◌∷◌, ◌++◌, ◌-◌, length, take, drop, Option, Some, None, Result, Ok, Err, OnOk, OnErr, arith, refl, sym, ap, ◌∙◌, subst, append_assoc}
 use Rattle.std.proofs.lemmas.List.{append-nil, take-append-drop, take_all, length-drop}
 use Rattle.ro_io.specs.Outside.{more}
 use Rattle.ro_journal.specs.declared.Entry.{Entry}
-use Rattle.ro_report.specs.Report.{report_text, answer_text}
+use Rattle.ro_journal_text.specs.Texts.{entry_text, entries_text, journal_text}
+use Rattle.ro_report.specs.Report.{journal_part, report_text, answer_text}
 use Rattle.ro_report.specs.declared.answers.Answer.{Answer}
 use Rattle.ro_top.specs.Top.{TakesFront, summary_part}
 
@@ -58,3 +59,18 @@ given_more bytes given rest n m e is =
 
 pub told_more : (old held new : Option (List ℕ)) (given piece : List ℕ) → held ≡ more old given → new ≡ more held piece → new ≡ more old (given ++ piece)
 told_more old held new given piece e f = f ∙ ap (λ (h : Option (List ℕ)). more h piece) e ∙ more_more old given piece
+
+-- one entry more of a journal was told
+pub entry_more : (journal rest behind : List Entry) (given : List ℕ) (entry : Entry) → rest ≡ entry ∷ behind → entries_text journal ≡ given ++ entries_text rest → entries_text journal ≡ (given ++ entry_text entry) ++ entries_text behind
+entry_more journal rest behind given entry is e = e ∙ ap (λ (es : List Entry). given ++ entries_text es) is ∙ sym (append_assoc given (entry_text entry) (entries_text behind))
+
+-- a front of an entry's line is one of the journal's lines
+pub entry_front : (old held new : Option (List ℕ)) (journal rest behind : List Entry) (given : List ℕ) (entry : Entry) → rest ≡ entry ∷ behind → entries_text journal ≡ given ++ entries_text rest → held ≡ more old given → TakesFront held new (entry_text entry) → TakesFront old new (entries_text journal)
+entry_front old held new journal rest behind given entry is e told t =
+    subst (TakesFront old new) (sym (entry_more journal rest behind given entry is e)) (front_longer old new (given ++ entry_text entry) (entries_text behind) (front_behind old held new given (entry_text entry) told t))
+
+-- a journal that is shown
+pub shown_journal : (shown : Bool) (journal : List Entry) → shown ≡ true → (journal ≡ [] → ⊥) → journal_text journal ≡ journal_part shown journal
+shown_journal false journal is some = absurd (true≢false (sym is))
+shown_journal true [] is some = absurd (some refl)
+shown_journal true (entry ∷ journal) is some = refl

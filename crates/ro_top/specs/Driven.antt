@@ -1,51 +1,52 @@
 -- The core of a run that one driver drives.
-use Rattle.std.specs.Prelude.{◌≡◌, ◌<◌, ◌^◌, ℕ, List, [], Option, Some, None}
-use Rattle.ro_journal.specs.declared.How.{How}
-use Rattle.ro_journal.specs.declared.How.TheVariants.{Exit as ByExit, Trap as ByTrap}
+use Rattle.std.specs.Prelude.{◌≡◌, ◌⊎◌, ℕ, ◌<◌, ◌≤◌, ◌^◌, List, [], ◌++◌, Some, IsSome}
+use Rattle.ro_io.specs.Outside.{Rose, more}
+use Rattle.ro_journal.specs.declared.How.TheVariants.{Sink}
 use Rattle.ro_journal.specs.declared.Entry.{Entry}
+use Rattle.ro_journal.specs.Plan.{outcome_of}
+use Rattle.ro_settings.specs.Ranges.{InRange}
 use Rattle.ro_report.specs.Report.{struck_in, steps_in}
-use Rattle.ro_image.specs.Image.{Image}
-use Rattle.ro_image.specs.Straight.{image_with}
-use Rattle.ro_core.specs.Core.{opening_core}
+use Rattle.ro_replica.specs.Seen.{AreFaults}
+use Rattle.ro_core.specs.Core.{Job, opening_core}
 use Rattle.ro_core.specs.Legal.{Legal}
 use Rattle.ro_core.specs.Action.{EachIsNext}
-use Rattle.ro_core.specs.Defaults.{default_job}
-use Rattle.ro_core.specs.Line.{IsLine}
-use Rattle.ro_core.specs.Seen.{CoreOf, state}
+use Rattle.ro_core.specs.Seen.{CoreOf, state, sent}
 
--- The journal of a straight-line guest's run is legal, and each entry of it came next.
-pub record IsDriven (core : CoreOf) : Type 0 where
-  pub words : List ℕ
-  pub line : IsLine words
-  pub job_is : core.job ≡ default_job (image_with words)
-  pub legal : Legal core.job core.journal
-  pub next : EachIsNext core.job (opening_core core.job) core.journal
+-- what a core can be opened with
+pub record CanRun (job : Job) : Type 0 where
+  pub settings : InRange job.settings
+  pub faults : AreFaults job.faults
+
+-- the journal is legal, and each entry of it came next
+pub record HasRun (job : Job) (journal : List Entry) : Type 0 where
+  pub can_run : CanRun job
+  pub legal : Legal job journal
+  pub next : EachIsNext job (opening_core job) journal
+
+abbrev pub IsDriven : CoreOf → Type 0
+IsDriven core = HasRun core.job core.journal
 
 -- no lease is out
 abbrev pub IsHome : CoreOf → Type 0
 IsHome core = (state core).leases ≡ []
 
--- the core goes on: what it was opened with stays, and its sink
+-- the sink failed
+abbrev pub HasFailed : CoreOf → Type 0
+HasFailed core = IsSome core.failed ⊎ ((taken : ℕ) × (outcome_of core.journal ≡ Some (Sink taken)))
+
+-- The core goes on: what it was opened with stays, its journal grows, what leaves is in the sink, and where the sink fails its
+-- count rises.
 pub record Goes (old new : CoreOf) : Type 0 where
   pub job : new.job ≡ old.job
-  pub held : new.held ≡ old.held
-  pub faults : new.faults ≡ old.faults
-
--- the journal that came of running the image
-pub record HasRun (image : Image) (journal : List Entry) : Type 0 where
-  pub words : List ℕ
-  pub line : IsLine words
-  pub image_is : image ≡ image_with words
-  pub legal : Legal (default_job image) journal
-  pub next : EachIsNext (default_job image) (opening_core (default_job image)) journal
+  pub entries : List Entry
+  pub journal : new.journal ≡ old.journal ++ entries
+  pub still : entries ≡ [] → new.faults ≡ old.faults
+  pub bytes : List ℕ
+  pub sent : sent new ≡ sent old ++ bytes
+  pub held : new.held ≡ more old.held bytes
+  pub faults : old.faults ≤ new.faults
+  pub blames : HasFailed new → HasFailed old ⊎ Rose old.faults new.faults
 
 -- what a summary counts are numbers of 64 bits
 abbrev pub AreCounts : List Entry → Type 0
 AreCounts journal = (struck_in journal < 2 ^ 64) × (steps_in journal < 2 ^ 64)
-
--- so far a program ends by an exit or a trap, if it has ended
-abbrev pub IsProgramEnd : Option How → Type 0
-IsProgramEnd None = Unit {0}
-IsProgramEnd (Some (ByExit status)) = Unit {0}
-IsProgramEnd (Some (ByTrap cause)) = Unit {0}
-IsProgramEnd (Some how) = ⊥

@@ -1,3 +1,5 @@
-pub mod Commands
+pub mod Files
+pub mod Refusals
 pub mod Driven
+pub mod Causes
 pub mod Top

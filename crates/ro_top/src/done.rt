@@ -2,6 +2,7 @@
 ghost use Rattle.std.specs.Prelude.{◌≡◌};
 ghost use Rattle.ro_top.specs.Top.{status_of};
 
+use ro_event::View;
 use ro_journal::Entry;
 use ro_report::Answer;
 
@@ -12,17 +13,23 @@ pub enum Told {
     Failed,
 }
 
-/// What a command came to: its answer, whether it was told, the journal of the run, and the sink of the output.
+/// What a command came to.
 #[derive(Drop)]
 pub struct Done<K> {
+    /// How it ended.
     pub answer: Answer,
+    /// Whether that was reported.
     pub told: Told,
+    /// The journal of the run.
     pub journal: Vec<Entry>,
+    /// Where it ended by a vote of views that had no majority, those views in the order of the replicas.
+    pub views: Vec<View>,
+    /// The sink of the output.
     pub out: K,
 }
 
 impl<K> Done<K> {
-    /// The status with which a process ends: that of the program where it ended by an exit, else one from 241 on.
+    /// The status with which a process ends: that of the program where it ended by an exit, else one from 240 on.
     pub fn status(&self) -> u8
         ensures { result ≡ status_of self.now.told self.now.answer }
     {
@@ -31,11 +38,18 @@ impl<K> Done<K> {
         }
         match self.answer {
             Answer::Exit(status) => status,
+            Answer::Deadlock => 240,
             Answer::Trap(_) => 241,
+            Answer::Differ => 242,
+            Answer::NoMajority => 243,
+            Answer::Limit { .. } => 244,
+            Answer::SinkFailed { .. } => 245,
             Answer::StoreFailed => 246,
             Answer::BadExe(_) => 247,
+            Answer::BadFaults { .. } => 248,
             Answer::BadWords => 249,
             Answer::NoMemory => 250,
+            Answer::TooLong(_) => 252,
         }
     }
 }

@@ -1,15 +1,17 @@
-//! A command from its words to its answer: the file is fetched and read, its program runs on three replicas, and what
+//! A command from its words to its answer: the files are fetched and read, the program runs on its replicas, and what
 //! came of it is reported.
 #![tactic(auto)]
 
-mod commands;
+mod asking;
 mod done;
 mod driving;
+mod files;
 mod reports;
+mod running;
 mod top;
 
 pub use done::{Done, Told};
-pub use ro_report::Answer;
+pub use ro_report::{Answer, FileKind};
 pub use top::romain;
 
 #[cfg(test)]

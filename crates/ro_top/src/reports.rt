@@ -1,52 +1,111 @@
-//! The report: a line that sums the journal up, where there is one, and the answer's line.
+//! The report: the journal, where it is to be shown, a line that sums it up, where there is one, and the answer's line.
 ghost use Rattle.std.specs.Prelude.{◌≡◌, ◌<◌, ◌≤◌, ◌^◌, OnOk, OnErr};
 ghost use Rattle.ro_io.specs.Outside.{Rose, more};
-ghost use Rattle.ro_report.specs.Report.{struck_in, steps_in, report_text};
+ghost use Rattle.ro_journal_text.specs.Texts.{entries_text};
+ghost use Rattle.ro_report.specs.Report.{struck_in, steps_in, journal_part, report_text, report_of};
 ghost use Rattle.ro_top.specs.Top.{TakesFront, IsTold, summary_part};
 ghost use Rattle.ro_top.specs.declared.done.Told.TheVariants as told;
 
 use crate::done::Told;
 use ro_io::{Failed, Sink};
 use ro_journal::Entry;
-use ro_report::{Answer, answer_line, summary};
+use ro_report::{Answer, answer_line, entry_text, header, summary};
 
-// Tells the report of a run that wrote nothing.
-pub(crate) fn tell<E: Sink>(report: &mut E, journal: &[Entry], answer: &Answer) -> Told
+// Tells the report of a run that wrote so many bytes.
+pub(crate) fn tell<E: Sink>(
+    report: &mut E,
+    shown: bool,
+    journal: &[Entry],
+    bytes: u64,
+    answer: &Answer,
+) -> Told
     requires struck { struck_in journal.now < 2 ^ 64 }
     requires steps { steps_in journal.now < 2 ^ 64 }
-    ensures told { IsTold result (E.held report.old) (E.held report.new) (report_text journal.now 0 answer.now) }
+    ensures told { IsTold result (E.held report.old) (E.held report.new) (report_of shown journal.now bytes answer.now) }
     ensures cause { result ≡ told.Failed → Rose (E.faults report.old) (E.faults report.new) }
 {
-    match give_report(report, journal, answer) {
+    match give_report(report, shown, journal, bytes, answer) {
         Ok(()) => Told::Whole,
         Err(Failed) => Told::Failed,
     }
 }
 
-fn give_report<E: Sink>(report: &mut E, journal: &[Entry], answer: &Answer) -> Result<(), Failed>
+fn give_report<E: Sink>(
+    report: &mut E,
+    shown: bool,
+    journal: &[Entry],
+    bytes: u64,
+    answer: &Answer,
+) -> Result<(), Failed>
     requires struck { struck_in journal.now < 2 ^ 64 }
     requires steps { steps_in journal.now < 2 ^ 64 }
-    ensures ok { OnOk result (E.held report.new ≡ more (E.held report.old) (report_text journal.now 0 answer.now)) }
-    ensures err { OnErr result (TakesFront (E.held report.old) (E.held report.new) (report_text journal.now 0 answer.now)) }
+    ensures ok { OnOk result (E.held report.new ≡ more (E.held report.old) (report_of shown journal.now bytes answer.now)) }
+    ensures err { OnErr result (TakesFront (E.held report.old) (E.held report.new) (report_of shown journal.now bytes answer.now)) }
     ensures cause { OnErr result (Rose (E.faults report.old) (E.faults report.new)) }
 {
-    give_summary(report, journal)?;
+    give_journal(report, shown, journal)?;
+    give_lines(report, journal, bytes, answer)
+}
+
+// The journal, where it is to be shown and anything ran.
+fn give_journal<E: Sink>(report: &mut E, shown: bool, journal: &[Entry]) -> Result<(), Failed>
+    ensures ok { OnOk result (E.held report.new ≡ more (E.held report.old) (journal_part shown journal.now)) }
+    ensures err { OnErr result (TakesFront (E.held report.old) (E.held report.new) (journal_part shown journal.now)) }
+    ensures cause { OnErr result (Rose (E.faults report.old) (E.faults report.new)) }
+    ensures faults { E.faults report.old ≤ E.faults report.new }
+{
+    if !shown || journal.is_empty() {
+        return Ok(());
+    }
+    give_all(report, header())?;
+    give_entries(report, journal)
+}
+
+// A line for each entry.
+fn give_entries<E: Sink>(report: &mut E, journal: &[Entry]) -> Result<(), Failed>
+    ensures ok { OnOk result (E.held report.new ≡ more (E.held report.old) (entries_text journal.now)) }
+    ensures err { OnErr result (TakesFront (E.held report.old) (E.held report.new) (entries_text journal.now)) }
+    ensures cause { OnErr result (Rose (E.faults report.old) (E.faults report.new)) }
+    ensures faults { E.faults report.old ≤ E.faults report.new }
+{
+    let mut rest = journal;
+    while let Some((entry, behind)) = rest.split_first() {
+        give_all(report, entry_text(entry).as_bytes())?;
+        rest = behind;
+    }
+    Ok(())
+}
+
+// The summary and the answer.
+fn give_lines<E: Sink>(
+    report: &mut E,
+    journal: &[Entry],
+    bytes: u64,
+    answer: &Answer,
+) -> Result<(), Failed>
+    requires struck { struck_in journal.now < 2 ^ 64 }
+    requires steps { steps_in journal.now < 2 ^ 64 }
+    ensures ok { OnOk result (E.held report.new ≡ more (E.held report.old) (report_text journal.now bytes answer.now)) }
+    ensures err { OnErr result (TakesFront (E.held report.old) (E.held report.new) (report_text journal.now bytes answer.now)) }
+    ensures cause { OnErr result (Rose (E.faults report.old) (E.faults report.new)) }
+{
+    give_summary(report, journal, bytes)?;
     give_all(report, answer_line(answer).as_bytes())
 }
 
 // The summary, where anything ran.
-fn give_summary<E: Sink>(report: &mut E, journal: &[Entry]) -> Result<(), Failed>
+fn give_summary<E: Sink>(report: &mut E, journal: &[Entry], bytes: u64) -> Result<(), Failed>
     requires struck { struck_in journal.now < 2 ^ 64 }
     requires steps { steps_in journal.now < 2 ^ 64 }
-    ensures ok { OnOk result (E.held report.new ≡ more (E.held report.old) (summary_part journal.now 0)) }
-    ensures err { OnErr result (TakesFront (E.held report.old) (E.held report.new) (summary_part journal.now 0)) }
+    ensures ok { OnOk result (E.held report.new ≡ more (E.held report.old) (summary_part journal.now bytes)) }
+    ensures err { OnErr result (TakesFront (E.held report.old) (E.held report.new) (summary_part journal.now bytes)) }
     ensures cause { OnErr result (Rose (E.faults report.old) (E.faults report.new)) }
     ensures faults { E.faults report.old ≤ E.faults report.new }
 {
     if journal.is_empty() {
         return Ok(());
     }
-    give_all(report, summary(journal, 0).as_bytes())
+    give_all(report, summary(journal, bytes).as_bytes())
 }
 
 // Gives all of the bytes, a piece at a time.

@@ -1,259 +1,397 @@
 //! Rows: a command over a store and sinks in memory, and what it comes to.
 use super::*;
 use ro_io::{Act, MemSink, MemStore};
-use ro_journal::{Did, Entry, How};
+use ro_make::image_bytes;
 use std::alloc::Global;
 use std::test::Fail;
 
-/// The words of an exit: ADDI a7, zero, 93 and ECALL.
-const EXIT: [u32; 2] = [0x05D0_0893, 0x0000_0073];
-
-/// A row.
+/// A command behind the program's name, and what it comes to.
 struct Row {
-    command: &'static str,
-    exe: &'static str,
+    words: &'static [&'static str],
     status: u8,
+    out: &'static str,
     report: &'static str,
 }
 
-const ROWS: [Row; 8] = [
-    // ADDI a0, zero, 7, and an exit
+const ROWS: &[Row] = &[
     Row {
-        command: "run",
-        exe: "seven",
+        words: &["run", "seven"],
         status: 7,
+        out: "",
         report: "votes 1 copies 0 struck 0 steps 3 bytes 0\nanswer exit 7\n",
     },
-    // ADDI a0, zero, 0, and an exit
     Row {
-        command: "run",
-        exe: "zero",
+        words: &["run", "hello"],
         status: 0,
-        report: "votes 1 copies 0 struck 0 steps 3 bytes 0\nanswer exit 0\n",
+        out: "hello",
+        report: "votes 2 copies 0 struck 0 steps 9 bytes 5\nanswer exit 0\n",
     },
-    // ADDI a0, zero, -1, and an exit: its status is the low eight bits
     Row {
-        command: "run",
-        exe: "minus",
-        status: 255,
-        report: "votes 1 copies 0 struck 0 steps 3 bytes 0\nanswer exit 255\n",
+        words: &["run", "seven", "--journal", "--drivers", "1"],
+        status: 7,
+        out: "",
+        report: "romain 1\ntake 0 0 0\nput 0 0 0 2 0\ntake 0 1 0\nput 0 1 0 2 0\ntake 0 2 0\nput 0 2 0 2 0\nvote 0 2 0 - served\nend exit 7\nvotes 1 copies 0 struck 0 steps 3 bytes 0\nanswer exit 7\n",
     },
-    // ADDI a0, zero, 7, and then nothing
+    // One struck register of replica 1 loses the vote.
     Row {
-        command: "run",
-        exe: "past",
+        words: &["run", "seven", "--faults", "one"],
+        status: 7,
+        out: "",
+        report: "votes 1 copies 1 struck 1 steps 3 bytes 0\nanswer exit 7\n",
+    },
+    Row {
+        words: &["run", "seven", "--faults", "one", "--replicas", "2"],
+        status: 242,
+        out: "",
+        report: "votes 0 copies 0 struck 1 steps 0 bytes 0\nanswer differ\n",
+    },
+    // Two replicas that are struck alike win, and two that are struck otherwise leave no majority.
+    Row {
+        words: &["run", "seven", "--faults", "alike"],
+        status: 6,
+        out: "",
+        report: "votes 1 copies 1 struck 2 steps 3 bytes 0\nanswer exit 6\n",
+    },
+    Row {
+        words: &["run", "seven", "--faults", "unlike"],
+        status: 243,
+        out: "",
+        report: "votes 0 copies 0 struck 2 steps 0 bytes 0\nanswer no-majority\n",
+    },
+    // A register that is written after it was struck.
+    Row {
+        words: &["run", "seven", "--faults=vanishes"],
+        status: 7,
+        out: "",
+        report: "votes 1 copies 0 struck 1 steps 3 bytes 0\nanswer exit 7\n",
+    },
+    Row {
+        words: &["run", "seven", "--limit", "3"],
+        status: 7,
+        out: "",
+        report: "votes 1 copies 0 struck 0 steps 3 bytes 0\nanswer exit 7\n",
+    },
+    Row {
+        words: &["run", "seven", "--limit", "2"],
+        status: 244,
+        out: "",
+        report: "votes 0 copies 0 struck 0 steps 0 bytes 0\nanswer limit 0 3\n",
+    },
+    // A jump to itself: a vote after 100 instructions each.
+    Row {
+        words: &["run", "loop", "--limit", "250", "--watchdog", "100"],
+        status: 244,
+        out: "",
+        report: "votes 2 copies 0 struck 0 steps 200 bytes 0\nanswer limit 200 100\n",
+    },
+    Row {
+        words: &["run", "wild"],
         status: 241,
+        out: "",
         report: "votes 1 copies 0 struck 0 steps 2 bytes 0\nanswer trap 2\n",
     },
-    // a file of no bytes
+    // It exits with the number of bytes that it reads.
     Row {
-        command: "run",
-        exe: "empty",
-        status: 247,
-        report: "answer exe 0\n",
+        words: &["run", "read", "--input", "abc"],
+        status: 3,
+        out: "",
+        report: "votes 2 copies 0 struck 0 steps 7 bytes 0\nanswer exit 3\n",
     },
-    // no such file
     Row {
-        command: "run",
-        exe: "nothere",
+        words: &["run", "read"],
+        status: 0,
+        out: "",
+        report: "votes 2 copies 0 struck 0 steps 7 bytes 0\nanswer exit 0\n",
+    },
+    Row {
+        words: &["run", "empty"],
+        status: 247,
+        out: "",
+        report: "answer exe 1\n",
+    },
+    Row {
+        words: &["run", "nothere"],
         status: 246,
+        out: "",
         report: "answer store\n",
     },
-    // an argument may not begin so
     Row {
-        command: "run",
-        exe: "-seven",
+        words: &["run", "seven", "--input", "nothere"],
+        status: 246,
+        out: "",
+        report: "answer store\n",
+    },
+    Row {
+        words: &["run", "seven", "--faults", "range"],
+        status: 248,
+        out: "",
+        report: "answer faults 1 2\n",
+    },
+    Row {
+        words: &["run", "seven", "--faults", "form"],
+        status: 248,
+        out: "",
+        report: "answer faults 2 1\n",
+    },
+    Row {
+        words: &["run"],
         status: 249,
+        out: "",
         report: "answer words\n",
     },
-    // and there is no such command
     Row {
-        command: "walk",
-        exe: "seven",
+        words: &["run", "seven", "--replicas", "4"],
         status: 249,
+        out: "",
+        report: "answer words\n",
+    },
+    Row {
+        words: &["walk", "seven"],
+        status: 249,
+        out: "",
         report: "answer words\n",
     },
 ];
 
 #[test]
 fn rows(rt: HostRuntime) -> Result<(), Fail> {
-    for row in &ROWS {
+    for row in ROWS {
+        let words = words_of(rt.alloc(), row.words)?;
         let mut store = store(rt.alloc())?;
-        let mut report = sink(rt.alloc())?;
-        let out = sink(rt.alloc())?;
-        let words = ["romain", row.command, row.exe];
-        let done = romain(&rt, rt.alloc(), &words, &mut store, out, &mut report);
-        assert_eq!(rt; done.status(), row.status, "of {} {}", row.command, row.exe);
-        assert_eq!(rt;
-            report.bytes(),
-            row.report.as_bytes(),
-            "of {} {}",
-            row.command,
-            row.exe
+        let mut report = sink(rt.alloc(), &[])?;
+        let out = sink(rt.alloc(), &[])?;
+        let done = romain(
+            &rt,
+            rt.alloc(),
+            words.as_slice(),
+            &mut store,
+            out,
+            &mut report,
         );
-        assert!(rt; done.out.bytes().is_empty());
+        assert_eq!(rt; done.status(), row.status, "of {:?}", row.words);
+        assert_eq!(rt; report.bytes(), row.report.as_bytes(), "of {:?}", row.words);
+        assert_eq!(rt; done.out.bytes(), row.out.as_bytes(), "of {:?}", row.words);
         assert_eq!(rt; done.told, Told::Whole);
     }
     Ok(())
 }
 
+// How many views are kept.
 #[test]
-fn journal(rt: HostRuntime) -> Result<(), Fail> {
-    let mut store = store(rt.alloc())?;
-    let mut report = sink(rt.alloc())?;
-    let out = sink(rt.alloc())?;
-    let words = ["romain", "run", "seven"];
-    let done = romain(&rt, rt.alloc(), &words, &mut store, out, &mut report);
-    assert_eq!(rt;
-        done.journal.as_slice(),
-        [
-            take(0),
-            put(0, 2),
-            take(1),
-            put(1, 2),
-            take(2),
-            put(2, 2),
-            Entry::Vote {
-                thread: 0,
-                count: 2,
-                won: 0,
-                lost: None,
-                did: Did::Served,
-            },
-            Entry::End { how: How::Exit(7) },
-        ]
-        .as_slice()
-    );
-    assert_eq!(rt; done.answer, Answer::Exit(7));
-    Ok(())
-}
-
-#[test]
-fn longest(rt: HostRuntime) -> Result<(), Fail> {
-    // 1,024 words are run, and 1,025 are none that are accepted.
-    for (count, status) in [(1_024, 241), (1_025, 247)] {
-        let mut store = MemStore::new(rt.alloc());
-        let nothing = vec![in rt.alloc(); 0x0000_0013_u32; count]?;
-        store.put(
-            "long",
-            executable(rt.alloc(), nothing.as_slice())?.as_slice(),
-        )?;
-        let mut report = sink(rt.alloc())?;
-        let out = sink(rt.alloc())?;
-        let words = ["romain", "run", "long"];
-        let done = romain(&rt, rt.alloc(), &words, &mut store, out, &mut report);
-        assert_eq!(rt; done.status(), status, "of {count} words");
-    }
-    Ok(())
-}
-
-#[test]
-fn few_words(rt: HostRuntime) -> Result<(), Fail> {
-    let cases: [&[&str]; 4] = [&[], &["romain"], &["romain", "run"], &["romain", "run", ""]];
-    for words in cases {
+fn kept_views(rt: HostRuntime) -> Result<(), Fail> {
+    let cases: [(&[&str], usize); 3] = [
+        (&["run", "seven"], 0),
+        (&["run", "seven", "--faults", "one", "--replicas", "2"], 2),
+        (&["run", "seven", "--faults", "unlike"], 3),
+    ];
+    for (command, count) in cases {
+        let words = words_of(rt.alloc(), command)?;
         let mut store = store(rt.alloc())?;
-        let mut report = sink(rt.alloc())?;
-        let out = sink(rt.alloc())?;
-        let done = romain(&rt, rt.alloc(), words, &mut store, out, &mut report);
-        assert_eq!(rt; done.answer, Answer::BadWords);
-        assert_eq!(rt; done.status(), 249);
-        assert!(rt; done.journal.is_empty());
+        let mut report = sink(rt.alloc(), &[])?;
+        let out = sink(rt.alloc(), &[])?;
+        let done = romain(
+            &rt,
+            rt.alloc(),
+            words.as_slice(),
+            &mut store,
+            out,
+            &mut report,
+        );
+        assert_eq!(rt; done.views.len(), count, "of {command:?}");
     }
     Ok(())
 }
 
+/// The acts of a sink, and what the command comes to.
+struct Failing {
+    out: &'static [Act],
+    report: &'static [Act],
+    status: u8,
+    told: Told,
+    held: &'static str,
+    reported: &'static str,
+}
+
+const FAILING: &[Failing] = &[
+    Failing {
+        out: &[Act::Take(2), Act::Fail],
+        report: &[],
+        status: 245,
+        told: Told::Whole,
+        held: "he",
+        reported: "votes 1 copies 0 struck 0 steps 6 bytes 2\nanswer sink 2\n",
+    },
+    Failing {
+        out: &[Act::Fail],
+        report: &[],
+        status: 245,
+        told: Told::Whole,
+        held: "",
+        reported: "votes 1 copies 0 struck 0 steps 6 bytes 0\nanswer sink 0\n",
+    },
+    Failing {
+        out: &[Act::Take(2)],
+        report: &[Act::Fail],
+        status: 251,
+        told: Told::Failed,
+        held: "hello",
+        reported: "",
+    },
+    Failing {
+        out: &[],
+        report: &[Act::Take(5), Act::Fail],
+        status: 251,
+        told: Told::Failed,
+        held: "hello",
+        reported: "votes",
+    },
+];
+
 #[test]
-fn failing_report(rt: HostRuntime) -> Result<(), Fail> {
-    // The acts of the report's sink, and what it holds then.
-    for (act, held) in [(Act::Fail, ""), (Act::Take(5), "votes")] {
+fn failing_sinks(rt: HostRuntime) -> Result<(), Fail> {
+    for row in FAILING {
+        let words = words_of(rt.alloc(), &["run", "hello"])?;
         let mut store = store(rt.alloc())?;
-        let acts = vec![in rt.alloc(); act, Act::Fail]?;
-        let mut report = MemSink::new(rt.alloc(), 1_000, acts)?;
-        let out = sink(rt.alloc())?;
-        let words = ["romain", "run", "seven"];
-        let done = romain(&rt, rt.alloc(), &words, &mut store, out, &mut report);
-        assert_eq!(rt; done.answer, Answer::Exit(7));
-        assert_eq!(rt; done.told, Told::Failed);
-        assert_eq!(rt; done.status(), 251);
-        assert_eq!(rt; report.bytes(), held.as_bytes());
+        let mut report = sink(rt.alloc(), row.report)?;
+        let out = sink(rt.alloc(), row.out)?;
+        let done = romain(
+            &rt,
+            rt.alloc(),
+            words.as_slice(),
+            &mut store,
+            out,
+            &mut report,
+        );
+        assert_eq!(rt; done.status(), row.status);
+        assert_eq!(rt; done.told, row.told);
+        assert_eq!(rt; done.out.bytes(), row.held.as_bytes());
+        assert_eq!(rt; report.bytes(), row.reported.as_bytes());
     }
     Ok(())
 }
 
+// Files of as many bytes as they may have, and of one more; and which call of the store fails.
 #[test]
-fn failing_store(rt: HostRuntime) -> Result<(), Fail> {
-    let mut store = store(rt.alloc())?;
-    store.fail_at(1)?;
-    let mut report = sink(rt.alloc())?;
-    let out = sink(rt.alloc())?;
-    let words = ["romain", "run", "seven"];
-    let done = romain(&rt, rt.alloc(), &words, &mut store, out, &mut report);
-    assert_eq!(rt; done.answer, Answer::StoreFailed);
-    assert_eq!(rt; done.status(), 246);
+fn long_files(rt: HostRuntime) -> Result<(), Fail> {
+    let cases: [(&[&str], usize, Answer); 4] = [
+        (
+            &["run", "read", "--input", "long"],
+            1024 * 1024,
+            Answer::Exit(4),
+        ),
+        (
+            &["run", "read", "--input", "long"],
+            1024 * 1024 + 1,
+            Answer::TooLong(FileKind::Input),
+        ),
+        (
+            &["run", "seven", "--faults", "long"],
+            64 * 1024 + 1,
+            Answer::TooLong(FileKind::Faults),
+        ),
+        (
+            &["run", "long"],
+            8 * 1024 * 1024 + 1,
+            Answer::TooLong(FileKind::Exe),
+        ),
+    ];
+    for (command, size, answer) in cases {
+        let words = words_of(rt.alloc(), command)?;
+        let mut store = store(rt.alloc())?;
+        let long = vec![in rt.alloc(); 0_u8; size]?;
+        store.put("long", long.as_slice())?;
+        let mut report = sink(rt.alloc(), &[])?;
+        let out = sink(rt.alloc(), &[])?;
+        let done = romain(
+            &rt,
+            rt.alloc(),
+            words.as_slice(),
+            &mut store,
+            out,
+            &mut report,
+        );
+        assert_eq!(rt; done.answer, answer, "of {command:?}");
+    }
     Ok(())
 }
 
-fn take(replica: u32) -> Entry {
-    Entry::Take {
-        driver: 0,
-        replica,
-        thread: 0,
+// The words behind the program's name.
+fn words_of<'a>(alloc: Global, command: &[&'a str]) -> Result<Vec<&'a str>, Fail> {
+    let mut words = Vec::new(alloc);
+    words.push("romain")?;
+    for word in command {
+        words.push(*word)?;
     }
+    Ok(words)
 }
 
-fn put(replica: u32, count: u32) -> Entry {
-    Entry::Put {
-        driver: 0,
-        replica,
-        thread: 0,
-        count,
-        hit: 0,
-    }
+fn sink(alloc: Global, acts: &[Act]) -> Result<MemSink, Fail> {
+    Ok(MemSink::new(alloc, 1_000, Vec::from_slice(alloc, acts)?)?)
 }
 
-fn sink(alloc: Global) -> Result<MemSink, Fail> {
-    Ok(MemSink::new(alloc, 1_000, Vec::new(alloc))?)
-}
+/// Executables, by their words.
+const GUESTS: &[(&str, &[u32])] = &[
+    // ADDI a0, zero, 7, and an exit
+    ("seven", &[0x0070_0513, 0x05D0_0893, 0x0000_0073]),
+    // ADDI a0, zero, 7, and nothing behind it
+    ("wild", &[0x0070_0513]),
+    // a jump to itself
+    ("loop", &[0x0000_006F]),
+    // it writes `hello` and exits with 0
+    (
+        "hello",
+        &[
+            0x0010_0513,
+            0x0001_05B7,
+            0x0785_8593,
+            0x0050_0613,
+            0x0400_0893,
+            0x0000_0073,
+            0x0000_0513,
+            0x05D0_0893,
+            0x0000_0073,
+            0x6C6C_6568,
+            0x0000_006F,
+        ],
+    ),
+    // it reads four bytes into the heap and exits with how many came
+    (
+        "read",
+        &[
+            0x0000_0513,
+            0x0001_15B7,
+            0x0040_0613,
+            0x03F0_0893,
+            0x0000_0073,
+            0x05D0_0893,
+            0x0000_0073,
+        ],
+    ),
+];
+
+/// Other files.
+const FILES: &[(&str, &str)] = &[
+    ("empty", ""),
+    ("abc", "abc"),
+    ("one", "1 0 1 reg 10 0\n"),
+    ("alike", "0 0 1 reg 10 0\n1 0 1 reg 10 0\n"),
+    ("unlike", "0 0 1 reg 10 0\n1 0 1 reg 10 1\n"),
+    ("vanishes", "2 0 0 reg 10 3\n"),
+    ("range", "3 0 1 reg 10 0\n"),
+    ("form", "1 0 1 reg 10 0\n1 0 01 reg 10 0\n"),
+];
 
 // The store of the rows.
 fn store(alloc: Global) -> Result<MemStore, Fail> {
     let mut store = MemStore::new(alloc);
-    let [number, call] = EXIT;
-    for (name, word) in [
-        ("seven", 0x0070_0513),
-        ("zero", 0x0000_0513),
-        ("minus", 0xFFF0_0513),
-    ] {
-        let bytes = executable(alloc, &[word, number, call])?;
-        store.put(name, bytes.as_slice())?;
+    for (name, words) in GUESTS {
+        if words.len() <= 65_536 {
+            let file = image_bytes(alloc, words, 5, &[])?;
+            store.put(name, file.as_slice())?;
+        }
     }
-    store.put("past", executable(alloc, &[0x0070_0513])?.as_slice())?;
-    store.put("empty", b"")?;
+    for (name, text) in FILES {
+        store.put(name, text.as_bytes())?;
+    }
     Ok(store)
-}
-
-// The executable made of words: headers, and the words behind them.
-fn executable(alloc: Global, words: &[u32]) -> Result<Vec<u8>, Fail> {
-    let mut size = 84_u32;
-    for _ in words {
-        size = size.wrapping_add(4);
-    }
-    let mut bytes = Vec::new(alloc);
-    bytes.extend_from_slice(b"\x7FELF\x01\x01\x01\0\0\0\0\0\0\0\0\0")?;
-    for half in [2_u16, 243] {
-        bytes.extend_from_slice(&half.to_le_bytes())?;
-    }
-    for word in [1_u32, 0x0001_0054, 52, 0, 0] {
-        bytes.extend_from_slice(&word.to_le_bytes())?;
-    }
-    for half in [52_u16, 32, 1, 0, 0, 0] {
-        bytes.extend_from_slice(&half.to_le_bytes())?;
-    }
-    for word in [1_u32, 0, 0x0001_0000, 0x0001_0000, size, size, 5, 4_096] {
-        bytes.extend_from_slice(&word.to_le_bytes())?;
-    }
-    for word in words {
-        bytes.extend_from_slice(&word.to_le_bytes())?;
-    }
-    Ok(bytes)
 }

@@ -1,4 +1,4 @@
-//! Runs an executable as three replicas that are compared: `romain run EXE`.
+//! Runs an executable as replicas that are compared: `romain run EXE`, and options.
 //!
 //! What the program writes goes to standard output, and the report to standard error. The process ends with the
 //! program's status, or with one of Romain's own.

@@ -1,10 +1,16 @@
 -- The parts are lemmas.
 use Rattle.std.proofs.Common.{refl}
-use Rattle.ro_rows.proofs.ExitRow.{exit-size, exit-driven, exit-legal, exit-next, exit-ideal, exit-output}
+use Rattle.ro_rows.proofs.ExitRow.{exit-size, exit-accepted, exit-image, exit-driven, exit-legal, exit-next, exit-ideal, exit-output}
 use Rattle.ro_rows.proofs.exit_row.Goals as goal
 
 pub returns-clause-size : goal.returns-clause-size
 returns-clause-size c = exit-size
+
+pub returns-clause-accepted : goal.returns-clause-accepted
+returns-clause-accepted c = exit-accepted
+
+pub returns-clause-image : goal.returns-clause-image
+returns-clause-image c = exit-image
 
 pub returns-clause-driven_is : goal.returns-clause-driven_is
 returns-clause-driven_is c = exit-driven

@@ -1,0 +1,90 @@
+//! The files that a command names.
+ghost use Rattle.std.specs.Prelude.{◌≡◌, ◌<◌, ◌≤◌, IfOk, IfErr, length, Ok};
+ghost use Rattle.std.specs.Option.{option_map};
+ghost use Rattle.ro_image.specs.Executable.{bad_code, image_of};
+ghost use Rattle.ro_faults.specs.Texts.{file_faults};
+ghost use Rattle.ro_top.specs.Files.{most_of, IsFile, IsContent};
+ghost use Rattle.ro_top.specs.Refusals.{RefusesFile, RefusesContent, RefusesExe, RefusesList};
+
+use ro_faults::{Fault, FaultsError, read_faults};
+use ro_image::{Executable, ImageError, read_executable};
+use ro_io::{FetchError, Store};
+use ro_report::{Answer, FileKind};
+use std::alloc::Global;
+
+// How many bytes a file may have.
+fn most_bytes(kind: FileKind) -> usize
+    ensures { result ≡ most_of kind }
+{
+    match kind {
+        FileKind::Exe => 8 * 1024 * 1024,
+        FileKind::Input => 1024 * 1024,
+        FileKind::Faults => 64 * 1024,
+    }
+}
+
+// The content of a file, of which one byte more is fetched than it may have.
+pub(crate) fn fetch<S: Store>(
+    store: &mut S,
+    alloc: Global,
+    kind: FileKind,
+    name: &str,
+) -> Result<Vec<u8>, Answer>
+    ensures content { IfOk result (λ bytes. IsFile (S.told store.old) name.now bytes.items) }
+    ensures short { IfOk result (λ bytes. length bytes.items ≤ most_of kind) }
+    ensures refused { IfErr result (RefusesFile (S.told store.old) kind name.now (S.faults store.old) (S.faults store.new)) }
+    ensures told { S.told store.new ≡ S.told store.old }
+    ensures faults { S.faults store.old ≤ S.faults store.new }
+{
+    let most = most_bytes(kind);
+    match store.fetch(alloc, name, most + 1) {
+        Ok(bytes) if bytes.len() <= most => Ok(bytes),
+        Ok(_) => Err(Answer::TooLong(kind)),
+        Err(FetchError::Failed) => Err(Answer::StoreFailed),
+        Err(FetchError::NoMemory) => Err(Answer::NoMemory),
+    }
+}
+
+// The same of a file that need not be named.
+pub(crate) fn fetch_named<S: Store>(
+    store: &mut S,
+    alloc: Global,
+    kind: FileKind,
+    name: Option<&str>,
+) -> Result<Vec<u8>, Answer>
+    ensures content { IfOk result (λ bytes. IsContent (S.told store.old) kind (option_map (λ n. n.now) name.entry) bytes.items) }
+    ensures refused { IfErr result (RefusesContent (S.told store.old) kind (option_map (λ n. n.now) name.entry) (S.faults store.old) (S.faults store.new)) }
+    ensures told { S.told store.new ≡ S.told store.old }
+    ensures faults { S.faults store.old ≤ S.faults store.new }
+{
+    match name {
+        Some(name) => fetch(store, alloc, kind, name),
+        None => Ok(Vec::new(alloc)),
+    }
+}
+
+// The image of an executable.
+pub(crate) fn image(alloc: Global, bytes: &[u8]) -> Result<Executable, Answer>
+    ensures accepted { IfOk result (λ image. bad_code bytes.now ≡ None) }
+    ensures image { IfOk result (λ image. image ≡ image_of bytes.now) }
+    ensures refused { IfErr result (RefusesExe bytes.now) }
+{
+    match read_executable(alloc, bytes) {
+        Ok(image) => Ok(image),
+        Err(ImageError::Bad(bad)) => Err(Answer::BadExe(bad.code)),
+        Err(ImageError::NoMemory) => Err(Answer::NoMemory),
+    }
+}
+
+// The faults of a list for so many replicas.
+pub(crate) fn faults(alloc: Global, bytes: &[u8], replicas: u32) -> Result<Vec<Fault>, Answer>
+    requires { 0 < replicas }
+    ensures faults { IfOk result (λ faults. file_faults replicas bytes.now ≡ Ok faults.items) }
+    ensures refused { IfErr result (RefusesList replicas bytes.now) }
+{
+    match read_faults(alloc, bytes, replicas) {
+        Ok(faults) => Ok(faults),
+        Err(FaultsError::Bad { line, code }) => Err(Answer::BadFaults { line, code }),
+        Err(FaultsError::NoMemory) => Err(Answer::NoMemory),
+    }
+}

@@ -1,0 +1,109 @@
+//! The run of a job.
+ghost use Rattle.std.specs.Prelude.{◌≡◌, [], length};
+ghost use Rattle.ro_io.specs.Outside.{more};
+ghost use Rattle.ro_journal.specs.Plan.{outcome_of};
+ghost use Rattle.ro_core.specs.Legal.{output_of};
+ghost use Rattle.ro_top.specs.Files.{job_of};
+ghost use Rattle.ro_top.specs.Driven.{CanRun, HasRun, AreCounts};
+ghost use Rattle.ro_top.specs.Causes.{IsRefusal, IsOutcome, EndCause};
+
+use crate::asking::Job;
+use crate::driving::drive;
+use ro_core::{Core, Finished};
+use ro_event::View;
+use ro_io::Sink;
+use ro_journal::{Entry, How};
+use ro_report::Answer;
+use std::alloc::Global;
+use std::sync::Wait;
+
+// What a command came to, before it is told.
+pub(crate) struct Ran<K> {
+    pub(crate) answer: Answer,
+    pub(crate) journal: Vec<Entry>,
+    pub(crate) views: Vec<View>,
+    // How many bytes were written.
+    pub(crate) bytes: u64,
+    pub(crate) out: K,
+}
+
+// Nothing was run.
+pub(crate) fn nothing<K>(alloc: Global, answer: Answer, out: K) -> Ran<K>
+    ensures answer { result.answer ≡ answer }
+    ensures journal { result.journal.items ≡ [] }
+    ensures bytes { result.bytes ≡ 0 }
+    ensures out { result.out ≡ out }
+{
+    Ran {
+        answer,
+        journal: Vec::new(alloc),
+        views: Vec::new(alloc),
+        bytes: 0,
+        out,
+    }
+}
+
+// Runs a job.
+pub(crate) fn run<R: Wait, K: Sink>(rt: &R, alloc: Global, job: Job, out: K) -> Ran<K>
+    requires { CanRun (job_of job.image job.input.items job.faults.items job.settings) }
+    ensures run { HasRun (job_of job.image job.input.items job.faults.items job.settings) result.journal.items }
+    ensures counts { AreCounts result.journal.items }
+    ensures answer { IsOutcome result.answer (outcome_of result.journal.items) }
+    ensures cause { EndCause (job_of job.image job.input.items job.faults.items job.settings) result.journal.items result.views.items (K.faults out) (K.faults result.out) result.answer }
+    ensures program { IsRefusal result.answer → ⊥ }
+    ensures bytes { result.bytes ≡ length (output_of (job_of job.image job.input.items job.faults.items job.settings) result.journal.items) }
+    ensures held { K.held result.out ≡ more (K.held out) (output_of (job_of job.image job.input.items job.faults.items job.settings) result.journal.items) }
+    ensures nothing_run { result.journal.items ≡ [] → (K.held result.out ≡ K.held out) × (K.faults result.out ≡ K.faults out) }
+{
+    let Job {
+        image,
+        input,
+        faults,
+        settings,
+        journal: _journal,
+    } = job;
+    let mut core = match Core::begin(
+        alloc,
+        image,
+        input.as_slice(),
+        faults.as_slice(),
+        settings,
+        out,
+    ) {
+        Ok(core) => core,
+        Err(out) => return nothing(alloc, Answer::NoMemory, out),
+    };
+    // Where there was no memory the journal has no end, and that is the answer.
+    let _ = drive(rt, &mut core, settings.quantum);
+    let Finished {
+        how,
+        views,
+        journal,
+        bytes,
+        out,
+    } = core.finish();
+    Ran {
+        answer: answer_of(how),
+        journal,
+        views,
+        bytes,
+        out,
+    }
+}
+
+// The answer of a run that ended so, or for which there was no memory.
+fn answer_of(how: Option<How>) -> Answer
+    ensures answer { IsOutcome result how }
+    ensures program { IsRefusal result → ⊥ }
+{
+    match how {
+        Some(How::Exit(status)) => Answer::Exit(status),
+        Some(How::Deadlock) => Answer::Deadlock,
+        Some(How::Trap(cause)) => Answer::Trap(cause),
+        Some(How::Limit { steps, next }) => Answer::Limit { steps, next },
+        Some(How::Differ) => Answer::Differ,
+        Some(How::NoMajority) => Answer::NoMajority,
+        Some(How::Sink(taken)) => Answer::SinkFailed { taken },
+        None => Answer::NoMemory,
+    }
+}

@@ -111,6 +111,11 @@ def areas_of(exe):
     return dict(areas)
 
 
+def build(arguments):
+    """Words that are no command are answered at once, and the program is built then if it wasn't."""
+    subprocess.run([arguments.romain, "run"], stdin=subprocess.DEVNULL, capture_output=True)
+
+
 def call(arguments, words):
     """Runs Romain: its status, output and report, or None where it doesn't come to its end."""
     try:
@@ -309,6 +314,7 @@ def read_arguments():
 
 def main():
     arguments = read_arguments()
+    build(arguments)
     names = [name for name in arguments.guests.split(",") if name]
     names = names or sorted(file.stem for file in (ROOT / "guests/expected").glob("*.status"))
     guests = [open_guest(arguments, name) for name in names]
@@ -317,7 +323,10 @@ def main():
     troubled = sum(1 for runs in results for run in runs if run.trouble)
     if arguments.check is None:
         text = table(arguments, guests, results)
-        arguments.table.write_text(text) if arguments.table else print(text)
+        if arguments.table:
+            arguments.table.write_text(text)
+        else:
+            print(text)
     if arguments.plot:
         arguments.plot.write_text(plot(guests, results))
     counts = count_fates(run for runs in results for run in runs)

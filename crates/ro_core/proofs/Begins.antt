@@ -16,6 +16,7 @@ use Rattle.ro_replica.specs.Seen.{ReplicaOf, replica_of, IsOpening}
 use Rattle.ro_settings.specs.Ranges.{InRange}
 use Rattle.ro_core.specs.Core.{Job, Core, opening_replicas, opening_core}
 use Rattle.ro_core.specs.Legal.{Legal, replay}
+use Rattle.ro_core.specs.Seen.{sent_of}
 use Rattle.ro_core.specs.Fields.{failed_of, Seated, AreSeated, one_end, Fields, blocked_at, Holds}
 use Rattle.ro_core.specs.Opening.{IsFirst, AreFirst}
 use Rattle.ro_core.proofs.Lists.{get-within, get-append-cases}
@@ -71,10 +72,10 @@ nothing-blocked blocked e thread = ap (λ (bs : List (Option Call)). blocked_at 
 
 pub opening-holds : (f : Fields) → InRange f.job.settings → f.journal ≡ [] → AreFirst f.job.program.image f.job.faults f.job.settings.watchdog f.seats → length f.seats ≡ f.job.settings.replicas
     → f.leases ≡ [] → f.kernel.setup ≡ setup_of f.job.program → f.kernel.kernel ≡ opening_kernel f.job.program.image.heap
-    → f.blocked ≡ None ∷ None ∷ None ∷ None ∷ None ∷ None ∷ None ∷ None ∷ None ∷ None ∷ None ∷ None ∷ None ∷ None ∷ None ∷ None ∷ [] → f.steps ≡ 0 → f.due ≡ None → f.ended ≡ None
+    → f.blocked ≡ None ∷ None ∷ None ∷ None ∷ None ∷ None ∷ None ∷ None ∷ None ∷ None ∷ None ∷ None ∷ None ∷ None ∷ None ∷ None ∷ [] → f.steps ≡ 0 → f.due ≡ None → f.ended ≡ None → f.sent ≡ 0
     → length f.views ≡ f.job.settings.replicas → 1 ≤ f.places → Holds f
 unfolding opening_core
-opening-holds f in_range journal first count leases setup kernel blocked steps due ended views room =
+opening-holds f in_range journal first count leases setup kernel blocked steps due ended sent views room =
     let core : replay f.job f.journal ≡ opening_core f.job = ap (replay f.job) journal in
     record {
       in_range = in_range;
@@ -85,6 +86,10 @@ opening-holds f in_range journal first count leases setup kernel blocked steps d
       blocked_count = ap length blocked;
       blocked_are = λ t. nothing-blocked f.blocked blocked t ∙ sym (ap (λ (x : Core). x.blocked t) core);
       steps_are = steps ∙ sym (ap (λ (x : Core). x.steps) core);
+      counts = record {
+        sent_are = sent ∙ ap (λ (x : Core). length x.output) (sym core) ∙ ap (λ (o : Option ℕ). length (sent_of f.job f.journal o)) (sym (ap failed_of due));
+        few = omega arith;
+      };
       due_is = due-same f.job f.journal f.due (ap failed_of due) (due ∙ sym (ap (λ (x : Core). x.due) core));
       ended_is = ended ∙ sym (ap (λ (x : Core). x.ended) core);
       seats_are = subst (λ (x : Core). AreSeated f.job x f.seats) (sym core) (first-seated f.job f.seats first count);

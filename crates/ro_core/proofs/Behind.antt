@@ -1,6 +1,6 @@
 -- The fields of a core behind an event: a vote or a free.
-use Rattle.std.proofs.Common.{◌≡◌, ◌≢◌, ◌⊎◌, inl, inr, ℕ, zero, suc, ◌+◌, ◌<◌, ◌≤◌, Bool, true, false, true≢false, cond, ◌&&◌, List, [], ◌∷◌, ◌++◌, length, Option, Some, None, refl, sym, ap, ◌∙◌, subst, arith, eqb-true}
-use Rattle.std.specs.Prelude.{◌==◌, ◌^◌, if◌then◌else◌, is_none, IfSome, slice_get, slice_set, slice_index_or}
+use Rattle.std.proofs.Common.{◌≡◌, ◌≢◌, ◌⊎◌, inl, inr, ℕ, zero, suc, ◌+◌, ◌*◌, ◌<◌, ◌≤◌, Bool, true, false, true≢false, cond, ◌&&◌, List, [], ◌∷◌, ◌++◌, length, take, length-take, length-append, Option, Some, None, refl, sym, ap, ◌∙◌, subst, arith, eqb-true}
+use Rattle.std.specs.Prelude.{◌==◌, ◌^◌, if◌then◌else◌, is_none, IfSome, slice_get, slice_set, slice_index_or, unwrap_or}
 use Rattle.std.proofs.lemmas.Bool.{eq-eqb, and_from}
 use Rattle.std.proofs.lemmas.List.{length-set}
 use Rattle.ro_journal.specs.declared.How.{How}
@@ -17,7 +17,8 @@ use Rattle.ro_core.specs.Core.{Job, Core, is_going}
 use Rattle.ro_core.specs.Event.{Event, all_applied, core_after}
 use Rattle.ro_core.specs.Legal.{after, IsAllowed, replay}
 use Rattle.ro_core.specs.Sound.{IsOver, exits, traps, IsSound, IsOrdered}
-use Rattle.ro_core.specs.Fields.{failed_of, AreSeated, AreHome, AreSpared, CanTake, one_end, due_behind, Fields, core_in, blocked_at, Holds}
+use Rattle.ro_core.specs.Seen.{sent_of}
+use Rattle.ro_core.specs.Fields.{failed_of, AreSeated, AreHome, AreSpared, CanTake, one_end, due_behind, Fields, core_in, blocked_at, Counts, Holds}
 use Rattle.ro_core.proofs.Happens.{Happens}
 use Rattle.ro_core.proofs.Journals.{outcome_of-append}
 use Rattle.ro_core.proofs.Ordered.{ordered}
@@ -57,6 +58,19 @@ blocked-set (b ∷ blocked) (suc thread) (suc t) call less = blocked-set blocked
             not-by false g = refl
             not-by true g = absurd (true≢false (sym (eq-eqb m n (let k : suc m ≡ suc n = eqb-true (suc m) (suc n) g in omega arith)) ∙ e))
 
+-- the bytes that left of a payload
+abbrev pub bytes-by : Option ℕ → List ℕ → List ℕ
+bytes-by None payload = payload
+bytes-by (Some n) payload = take n payload
+
+pub bytes-count : (o : Option ℕ) (payload : List ℕ) → ((n : ℕ) → o ≡ Some n → n < length payload) → length (bytes-by o payload) ≡ unwrap_or o (length payload)
+bytes-count None payload part = refl
+bytes-count (Some n) payload part = let less : n < length payload = part n refl in let k = length-take n payload in omega arith
+
+pub bytes-fewer : (o : Option ℕ) (payload : List ℕ) → length (bytes-by o payload) ≤ length payload
+bytes-fewer None payload = omega arith
+bytes-fewer (Some n) payload = let k = length-take n payload in omega arith
+
 -- an end by a failing sink, or the event's
 pub record SinkWell (event : Event) (failed : Option ℕ) : Type 0 where
   pub part : (bytes : ℕ) → failed ≡ Some bytes → (bytes < length event.payload) × (event.due ≡ None)
@@ -69,6 +83,12 @@ over-not-sink (Limit steps next) bytes h e = elim h [ ]
 over-not-sink Differ bytes h e = elim h [ ]
 over-not-sink NoMajority bytes h e = elim h [ ]
 over-not-sink (Sink other) bytes h e = elim h [ ]
+
+-- the bytes that an event makes leave
+pub record Sent (f f' : Fields) (count : ℕ) (event : Event) (failed : Option ℕ) : Type 0 where
+  pub few : length event.payload ≤ 4096 * event_steps event.did
+  pub sent : f'.sent ≡ f.sent + length (bytes-by failed event.payload)
+  pub bytes : sent_of f.job f'.journal (failed_of f'.due) ≡ sent_of f.job f.journal (failed_of f.due) ++ bytes-by failed event.payload
 
 module _ (f f' : Fields) (h : Holds f) (entry : Entry) (allowed : IsAllowed f.job (core_in f) entry) (thread count : ℕ) (replicas : List Replica) (event : Event) (failed : Option ℕ) (came : after f.job (core_in f) entry ≡ core_after (core_in f) thread count replicas event)
     (still : f.ended ≡ None) (alone : f.leases ≡ []) (happens : Happens (core_in f).kernel thread event) (well : SinkWell event failed) (few : thread < 16) where
@@ -89,11 +109,17 @@ module _ (f f' : Fields) (h : Holds f) (entry : Entry) (allowed : IsAllowed f.jo
       let same : n ≡ bytes = (let k : Some (Sink n) ≡ Some (Sink bytes) = sym (ap (due_behind event.due) e) ∙ g in cc) in
       (subst (λ (m : ℕ). m < length event.payload) same p.0, going-after p.1)
 
+  sent-counts : Sent f f' count event failed → f'.steps ≡ f.steps + count + event_steps event.did → Counts f'.sent f'.steps (sent_of f.job f'.journal (failed_of f'.due))
+  sent-counts s steps = record {
+    sent_are = s.sent ∙ ap (λ (n : ℕ). n + length (bytes-by failed event.payload)) h.counts.sent_are ∙ sym (length-append (sent_of f.job f.journal (failed_of f.due)) (bytes-by failed event.payload)) ∙ ap length (sym s.bytes);
+    few = let a = s.few in let b = s.sent in let d = h.counts.few in let e = bytes-fewer failed event.payload in omega arith;
+  }
+
   -- the fields behind the event
   pub happened-holds : f'.job ≡ f.job → f'.journal ≡ f.journal ++ entry ∷ [] → AreHome f.job f'.seats (all_applied event.effect replicas) → f'.leases ≡ f.leases → f'.kernel.setup ≡ f.kernel.setup → f'.kernel.kernel ≡ event.kernel
-      → f'.blocked ≡ slice_set f.blocked thread event.blocked → f'.steps ≡ f.steps + count + event_steps event.did → f'.due ≡ due_behind event.due failed → f'.ended ≡ f.ended → length f'.views ≡ length f'.seats
+      → f'.blocked ≡ slice_set f.blocked thread event.blocked → f'.steps ≡ f.steps + count + event_steps event.did → f'.due ≡ due_behind event.due failed → f'.ended ≡ f.ended → length f'.views ≡ length f'.seats → Sent f f' count event failed
       → outcome_of (entry ∷ []) ≡ None → 1 ≤ f'.places → Holds f'
-  happened-holds job journal home leases setup kernel blocked steps due ended views no_end room = holds-step f f' entry h allowed (record {
+  happened-holds job journal home leases setup kernel blocked steps due ended views sent no_end room = holds-step f f' entry h allowed (record {
     job = job;
     journal = journal;
     leases = leases ∙ h.leases_are ∙ sym (ap (λ (c : Core). c.leases) came);
@@ -103,6 +129,7 @@ module _ (f f' : Fields) (h : Holds f) (entry : Entry) (allowed : IsAllowed f.jo
     blocked = λ t. ap (λ (bs : List (Option Call)). blocked_at bs t) blocked ∙ blocked-set f.blocked thread t event.blocked (let n = h.blocked_count in omega arith)
         ∙ ap (λ (o : Option Call). if t == thread then event.blocked else o) (h.blocked_are t) ∙ sym (ap (λ (c : Core). c.blocked t) came);
     steps = steps ∙ ap (λ (n : ℕ). n + count + event_steps event.did) h.steps_are ∙ sym (ap (λ (c : Core). c.steps) came);
+    counts = sent-counts sent steps;
     due = due-final (due-by failed refl);
     not_sink = λ bytes e. let n = not-sink bytes failed refl (sym due ∙ e) in
         (subst (λ (c : Core). bytes < c.wrote) (sym came) n.0, ap is_going came ∙ n.1);

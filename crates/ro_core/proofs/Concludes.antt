@@ -11,7 +11,7 @@ use Rattle.ro_core.specs.Legal.{after, MayEnd, cut_output, output_of, replay}
 use Rattle.ro_core.specs.Seen.{sent_of, KeepsViews}
 use Rattle.ro_core.specs.Fields.{failed_of, AreSeated, one_end, Fields, core_in, state_in, blocked_at, Holds}
 use Rattle.ro_core.proofs.Homes.{replay_more}
-use Rattle.ro_core.proofs.Held.{Goes, goes, Becomes, holds-step}
+use Rattle.ro_core.proofs.Held.{Goes, goes, Becomes, same-counts, holds-step}
 use Rattle.ro_core.proofs.Entries.{end-seated}
 use Rattle.ro_core.proofs.Ordered.{going-parts}
 
@@ -38,10 +38,18 @@ module _ (f : Fields) (h : Holds f) (how : How) (going : is_going (state_in f) �
   pub conclude-room : 0 < f.places
   conclude-room = let e : one_end f.ended ≡ 1 = ap one_end concluding.not_ended in let k = h.room in omega arith
 
-  pub conclude-holds : (f' : Fields) → f'.job ≡ f.job → f'.kernel ≡ f.kernel → f'.blocked ≡ f.blocked → f'.steps ≡ f.steps → f'.views ≡ f.views → f'.seats ≡ f.seats → f'.leases ≡ f.leases → f'.due ≡ f.due → f'.ended ≡ Some how
+  pub conclude-sent : ((bytes : ℕ) → how ≢ Sink bytes) → sent_of f.job (f.journal ++ End how ∷ []) (failed_of f.due) ≡ sent_of f.job f.journal (failed_of f.due)
+  unfolding after
+  conclude-sent not_sink =
+      ap (sent_of f.job (f.journal ++ End how ∷ [])) concluding.not_failed
+      ∙ ap (λ (c : Core). c.output) (replay_more f.job f.journal (End how))
+      ∙ cut-none (core_in f) how not_sink
+      ∙ sym (ap (sent_of f.job f.journal) concluding.not_failed)
+
+  pub conclude-holds : (f' : Fields) → f'.job ≡ f.job → f'.kernel ≡ f.kernel → f'.blocked ≡ f.blocked → f'.steps ≡ f.steps → f'.views ≡ f.views → f'.seats ≡ f.seats → f'.leases ≡ f.leases → f'.due ≡ f.due → f'.ended ≡ Some how → f'.sent ≡ f.sent → ((bytes : ℕ) → how ≢ Sink bytes)
       → f'.journal ≡ f.journal ++ End how ∷ [] → f.places ≡ f'.places + 1 → KeepsViews f.job (f.journal ++ End how ∷ []) f.views → Holds f'
   unfolding after
-  conclude-holds f' job kernel blocked steps views seats leases due ended journal less kept = holds-step f f' (End how) h (conclude-not-over, conclude-allowed) (record {
+  conclude-holds f' job kernel blocked steps views seats leases due ended sent not_sink journal less kept = holds-step f f' (End how) h (conclude-not-over, conclude-allowed) (record {
     job = job;
     journal = journal;
     leases = leases ∙ h.leases_are;
@@ -50,6 +58,7 @@ module _ (f : Fields) (h : Holds f) (how : How) (going : is_going (state_in f) �
     blocked_count = ap length blocked ∙ h.blocked_count;
     blocked = λ t. ap (λ (bs : List (Option Call)). blocked_at bs t) blocked ∙ h.blocked_are t;
     steps = steps ∙ h.steps_are;
+    counts = same-counts f f' h sent steps (ap (λ (js : List Entry). sent_of f.job js (failed_of f'.due)) journal ∙ ap (λ (o : Option How). sent_of f.job (f.journal ++ End how ∷ []) (failed_of o)) due ∙ conclude-sent not_sink);
     due = inl (due ∙ concluding.not_due);
     not_sink = λ bytes e. absurd (let g : None ≡ Some (Sink bytes) = sym concluding.not_due ∙ sym due ∙ e in cc);
     ended = ended;
@@ -58,11 +67,3 @@ module _ (f : Fields) (h : Holds f) (how : How) (going : is_going (state_in f) �
     views_kept = subst (KeepsViews f.job (f.journal ++ End how ∷ [])) (sym views) kept;
     room = let k = h.room in let one : one_end f.ended ≡ 1 = ap one_end concluding.not_ended in let none : one_end f'.ended ≡ 0 = ap one_end ended in let n : length f'.leases ≡ length f.leases = ap length leases in omega arith;
   })
-
-  pub conclude-sent : ((bytes : ℕ) → how ≢ Sink bytes) → sent_of f.job (f.journal ++ End how ∷ []) (failed_of f.due) ≡ sent_of f.job f.journal (failed_of f.due)
-  unfolding after
-  conclude-sent not_sink =
-      ap (sent_of f.job (f.journal ++ End how ∷ [])) concluding.not_failed
-      ∙ ap (λ (c : Core). c.output) (replay_more f.job f.journal (End how))
-      ∙ cut-none (core_in f) how not_sink
-      ∙ sym (ap (sent_of f.job f.journal) concluding.not_failed)

@@ -31,7 +31,7 @@ use Rattle.ro_core.proofs.Ordered.{going-parts, ordered}
 use Rattle.ro_core.proofs.Nexts.{end_next, end_is}
 use Rattle.ro_core.proofs.Counted.{counted}
 use Rattle.ro_core.proofs.Journals.{outcome_of-append}
-use Rattle.ro_core.proofs.Held.{with-leases, with-replicas, with-ended, Goes, goes, no-views, not-split, no-outcome, Becomes, holds-step}
+use Rattle.ro_core.proofs.Held.{with-leases, with-replicas, with-ended, Goes, goes, no-views, not-split, no-outcome, Becomes, same-counts, holds-step}
 
 one-end-le : (o : Option How) → one_end o ≤ 1
 one-end-le None = omega arith
@@ -56,12 +56,27 @@ pub record Rest (f f' : Fields) : Type 0 where
   pub kernel : f'.kernel ≡ f.kernel
   pub blocked : f'.blocked ≡ f.blocked
   pub steps : f'.steps ≡ f.steps
+  pub sent : f'.sent ≡ f.sent
   pub due : f'.due ≡ f.due
   pub ended : f'.ended ≡ f.ended
   pub views : f'.views ≡ f.views
 
 times-le : (a b n : ℕ) → a ≤ b → a * n ≤ b * n
 times-le a b n h = grind arith
+
+put-sends : (job : Job) (core : Core) (driver replica thread count : ℕ) (ran : Option Ran) → (core_after_put job core driver replica thread count ran).output ≡ core.output
+put-sends job core driver replica thread count None = refl
+put-sends job core driver replica thread count (Some ran) = refl
+
+-- a take and a put send nothing
+pub take-output : (job : Job) (journal : List Entry) (driver replica thread : ℕ) → output_of job (journal ++ Take driver replica thread ∷ []) ≡ output_of job journal
+unfolding after
+take-output job journal driver replica thread = ap (λ (c : Core). c.output) (replay_more job journal (Take driver replica thread))
+
+pub put-output : (job : Job) (journal : List Entry) (driver replica thread count hit : ℕ) → output_of job (journal ++ Put driver replica thread count hit ∷ []) ≡ output_of job journal
+unfolding after
+put-output job journal driver replica thread count hit =
+    ap (λ (c : Core). c.output) (replay_more job journal (Put driver replica thread count hit)) ∙ put-sends job (replay job journal) driver replica thread count (lease_run job (replay job journal) replica thread count)
 
 -- ---- a take
 
@@ -79,6 +94,12 @@ module _ (f : Fields) (h : Holds f) (driver replica thread : ℕ) (allowed : May
   take-seat = seat_there f.job (core_in f) f.seats replica at-home.value h.seats_are at-home.home at-home.there
 
   -- the fields after the take
+  by-take : (f' : Fields) → f'.journal ≡ f.journal ++ Take driver replica thread ∷ [] → f'.due ≡ f.due → sent_of f.job f'.journal (failed_of f'.due) ≡ sent_of f.job f.journal (failed_of f.due)
+  by-take f' journal due =
+      let none : failed_of f.due ≡ None = ap failed_of take-goes.not_due in
+      ap (λ (js : List Entry). sent_of f.job js (failed_of f'.due)) journal ∙ ap (sent_of f.job (f.journal ++ Take driver replica thread ∷ [])) (ap failed_of due ∙ none)
+      ∙ take-output f.job f.journal driver replica thread ∙ sym (ap (sent_of f.job f.journal) none)
+
   pub take-holds : (f' : Fields) → Rest f f' → f'.journal ≡ f.journal ++ Take driver replica thread ∷ [] → f'.leases ≡ record { driver = driver; replica = replica; thread = thread } ∷ f.leases
       → f'.seats ≡ slice_set f.seats replica None → length f.leases + 3 ≤ f'.places + 1 → Holds f'
   unfolding after
@@ -91,6 +112,7 @@ module _ (f : Fields) (h : Holds f) (driver replica thread : ℕ) (allowed : May
     blocked_count = ap length r.blocked ∙ h.blocked_count;
     blocked = λ t. ap (λ (bs : List (Option Call)). blocked_at bs t) r.blocked ∙ h.blocked_are t;
     steps = r.steps ∙ h.steps_are;
+    counts = same-counts f f' h r.sent r.steps (by-take f' journal r.due);
     due = inl (r.due ∙ take-goes.not_due ∙ sym (going-parts (core_in f) take-allowed.going).0);
     not_sink = λ bytes e. absurd (let g : None ≡ Some (Sink bytes) = sym take-goes.not_due ∙ sym r.due ∙ e in cc);
     ended = r.ended ∙ h.ended_is;
@@ -182,6 +204,12 @@ module _ (f : Fields) (h : Holds f) (driver replica thread count hit : ℕ) (all
   pub put-outcome : outcome_of f.journal ≡ None
   put-outcome = no-outcome f h still
 
+  by-put : (f' : Fields) → f'.journal ≡ f.journal ++ Put driver replica thread count hit ∷ [] → f'.due ≡ f.due → sent_of f.job f'.journal (failed_of f'.due) ≡ sent_of f.job f.journal (failed_of f.due)
+  by-put f' journal due =
+      let none : failed_of f.due ≡ None = ap failed_of put-not-due in
+      ap (λ (js : List Entry). sent_of f.job js (failed_of f'.due)) journal ∙ ap (sent_of f.job (f.journal ++ Put driver replica thread count hit ∷ [])) (ap failed_of due ∙ none)
+      ∙ put-output f.job f.journal driver replica thread count hit ∙ sym (ap (sent_of f.job f.journal) none)
+
   pub put-holds : (f' : Fields) (value : ReplicaOf) → IsOfJob f.job value → slice_get (after f.job (core_in f) (Put driver replica thread count hit)).replicas replica ≡ Some (replica_of value)
       → Rest f f' → f'.journal ≡ f.journal ++ Put driver replica thread count hit ∷ [] → f'.leases ≡ filter (λ l. not (is_lease driver replica thread l)) f.leases
       → f'.seats ≡ slice_set f.seats replica (Some value) → f.places ≡ f'.places + 1 → Holds f'
@@ -198,6 +226,7 @@ module _ (f : Fields) (h : Holds f) (driver replica thread count hit : ℕ) (all
         blocked_count = ap length r.blocked ∙ h.blocked_count;
         blocked = λ t. ap (λ (bs : List (Option Call)). blocked_at bs t) r.blocked ∙ h.blocked_are t ∙ sym (ap (λ (c : Core). c.blocked t) is);
         steps = r.steps ∙ h.steps_are ∙ sym (ap (λ (c : Core). c.steps) is);
+        counts = same-counts f f' h r.sent r.steps (by-put f' journal r.due);
         due = inl (r.due ∙ h.due_is ∙ ap (λ (c : Core). c.due) put-same ∙ sym (ap (λ (c : Core). c.due) is));
         not_sink = λ bytes e. absurd (let g : None ≡ Some (Sink bytes) = sym put-not-due ∙ sym r.due ∙ e in cc);
         ended = r.ended ∙ h.ended_is ∙ sym (ap (λ (c : Core). c.ended) is);
@@ -208,20 +237,6 @@ module _ (f : Fields) (h : Holds f) (driver replica thread count hit : ℕ) (all
       })
 
 -- ---- what has left
-
--- a take and a put send nothing
-pub take-output : (job : Job) (journal : List Entry) (driver replica thread : ℕ) → output_of job (journal ++ Take driver replica thread ∷ []) ≡ output_of job journal
-unfolding after
-take-output job journal driver replica thread = ap (λ (c : Core). c.output) (replay_more job journal (Take driver replica thread))
-
-put-sends : (job : Job) (core : Core) (driver replica thread count : ℕ) (ran : Option Ran) → (core_after_put job core driver replica thread count ran).output ≡ core.output
-put-sends job core driver replica thread count None = refl
-put-sends job core driver replica thread count (Some ran) = refl
-
-pub put-output : (job : Job) (journal : List Entry) (driver replica thread count hit : ℕ) → output_of job (journal ++ Put driver replica thread count hit ∷ []) ≡ output_of job journal
-unfolding after
-put-output job journal driver replica thread count hit =
-    ap (λ (c : Core). c.output) (replay_more job journal (Put driver replica thread count hit)) ∙ put-sends job (replay job journal) driver replica thread count (lease_run job (replay job journal) replica thread count)
 
 pub quiet-of : {inside old new : CoreOf} → inside ≡ old → new.failed ≡ None → sent new ≡ sent inside → new.held ≡ inside.held → new.faults ≡ inside.faults → Quiet old new
 quiet-of {inside} {old} {new} is failed same held faults =
@@ -343,10 +358,10 @@ module _ (f : Fields) (h : Holds f) (how : How) (is_next : next_action f.job (st
   pub end-room : 0 < f.places
   end-room = let e : one_end f.ended ≡ 1 = ap one_end ended-none in let k = h.room in omega arith
 
-  pub end-holds : (f' : Fields) → f'.job ≡ f.job → f'.kernel ≡ f.kernel → f'.blocked ≡ f.blocked → f'.steps ≡ f.steps → f'.views ≡ f.views → f'.seats ≡ f.seats → f'.leases ≡ f.leases → f'.due ≡ None → f'.ended ≡ Some how
+  pub end-holds : (f' : Fields) → f'.job ≡ f.job → f'.kernel ≡ f.kernel → f'.blocked ≡ f.blocked → f'.steps ≡ f.steps → f'.views ≡ f.views → f'.seats ≡ f.seats → f'.leases ≡ f.leases → f'.due ≡ None → f'.ended ≡ Some how → f'.sent ≡ f.sent
       → f'.journal ≡ f.journal ++ End how ∷ [] → f.places ≡ f'.places + 1 → Holds f'
   unfolding after
-  end-holds f' job kernel blocked steps views seats leases due ended journal less = holds-step f f' (End how) h (end-not-over, end-allowed.0) (record {
+  end-holds f' job kernel blocked steps views seats leases due ended sent journal less = holds-step f f' (End how) h (end-not-over, end-allowed.0) (record {
     job = job;
     journal = journal;
     leases = leases ∙ h.leases_are;
@@ -355,6 +370,7 @@ module _ (f : Fields) (h : Holds f) (how : How) (is_next : next_action f.job (st
     blocked_count = ap length blocked ∙ h.blocked_count;
     blocked = λ t. ap (λ (bs : List (Option Call)). blocked_at bs t) blocked ∙ h.blocked_are t;
     steps = steps ∙ h.steps_are;
+    counts = same-counts f f' h sent steps (ap (λ (js : List Entry). sent_of f.job js (failed_of f'.due)) journal ∙ ap (λ (o : Option How). sent_of f.job (f.journal ++ End how ∷ []) (failed_of o)) due ∙ end-sent);
     due = inl due;
     not_sink = λ bytes e. absurd (let g : None ≡ Some (Sink bytes) = sym due ∙ e in cc);
     ended = ended;

@@ -26,7 +26,7 @@ use Rattle.ro_core.proofs.Holding.{lives-within, no-page, over-unfailed}
 use Rattle.ro_core.proofs.Served.{serve-tidy}
 use Rattle.ro_core.proofs.Tests.{all-home}
 
-payload-none : (kernel : Kernel) (thread : ℕ) (call : Call) (served : Served) → (call_event kernel thread call [] served).payload ≡ []
+pub payload-none : (kernel : Kernel) (thread : ℕ) (call : Call) (served : Served) → (call_event kernel thread call [] served).payload ≡ []
 payload-none kernel thread call (Done after effect) = refl
 payload-none kernel thread call Blocked = refl
 payload-none kernel thread call (Ends after how) = refl

@@ -34,24 +34,19 @@ use Rattle.ro_core.specs.Event.{Event, call_event, event_of, with_recovered, all
 use Rattle.ro_core.specs.Legal.{event_in, since_in, core_after_event, after, cut_output, output_of, MayVote, PassesLimit, MayEnd, for_vote, Legal, replay, replay_with}
 use Rattle.ro_core.specs.Seen.{CoreOf, sent, sent_of, Sends, IsOfMajority, KeepsViews}
 use Rattle.ro_core.specs.Sound.{IsOver, exits, traps, IsLow, IsSound, IsOrdered}
-use Rattle.ro_core.specs.Fields.{failed_of, due_behind, one_end, blocked_at, AreSeated, AreHome, IsSeat, CanRecover, Fields, core_in, state_in, Holds}
+use Rattle.ro_core.specs.Fields.{failed_of, due_behind, one_end, blocked_at, AreSeated, AreHome, IsSeat, CanRecover, Fields, core_in, state_in, Counts, Holds}
 use Rattle.ro_core.proofs.Homes.{replay_more}
-use Rattle.ro_core.proofs.Held.{Goes, goes}
+use Rattle.ro_core.proofs.Held.{Goes, goes, same-counts}
 use Rattle.ro_core.proofs.Happens.{Happens, event-happens}
 use Rattle.ro_core.proofs.Served.{IsTidy, Tidy, tidy_done, serve-tidy}
 use Rattle.ro_core.proofs.Ordered.{VoteParts, vote-parts, copied-sound, ordered}
 use Rattle.ro_core.proofs.LowStops.{low-stops}
-use Rattle.ro_core.proofs.Behind.{SinkWell}
+use Rattle.ro_core.proofs.Behind.{SinkWell, bytes-by}
 use Rattle.ro_core.proofs.Sitting.{home-get}
 use Rattle.ro_core.proofs.Winners.{won-by, WonIn, won-in, won-view, Showing, showing, showing-event, showing-since, showing-short, views-count}
 use Rattle.ro_plain.proofs.Calls.{some-injective}
 use Rattle.ro_core.proofs.Tests.{all-home, seated-home}
 use Rattle.ro_core.proofs.Lists.{get-within, length-mapped}
-
--- the bytes that left of a payload
-abbrev pub bytes-by : Option ℕ → List ℕ → List ℕ
-bytes-by None payload = payload
-bytes-by (Some n) payload = take n payload
 
 fronted : (o : Option ℕ) (payload : List ℕ) → (rest : List ℕ) × (payload ≡ bytes-by o payload ++ rest)
 fronted None payload = ([], sym (append-nil payload))
@@ -314,6 +309,20 @@ payload-due setup kernel thread (PageFault page) payload n less = refl
 payload-due setup kernel thread Watchdog payload n less = refl
 payload-due setup kernel thread (TrapStop code) payload n less = absurd (omega arith)
 
+-- what is written fits the steps of its event
+pub writes-step-call : (kernel : Kernel) (thread : ℕ) (call : Call) (payload : List ℕ) (served : Served) → length payload ≤ 4096 → length (call_event kernel thread call payload served).payload ≤ 4096 * event_steps (call_event kernel thread call payload served).did
+writes-step-call kernel thread call payload (Done after effect) few = few
+writes-step-call kernel thread call payload Blocked few = omega arith
+writes-step-call kernel thread call payload (Ends after how) few = omega arith
+
+pub writes-step : (setup : Setup) (kernel : Kernel) (thread : ℕ) (stop : Stop) (payload : List ℕ) → length payload ≤ 4096
+    → length (event_of setup kernel thread stop payload).payload ≤ 4096 * event_steps (event_of setup kernel thread stop payload).did
+unfolding event_of
+writes-step setup kernel thread (Calls call) payload few = writes-step-call kernel thread call payload (serve setup kernel thread call) few
+writes-step setup kernel thread (PageFault page) payload few = omega arith
+writes-step setup kernel thread Watchdog payload few = omega arith
+writes-step setup kernel thread (TrapStop code) payload few = omega arith
+
 pub short-if : (b : Bool) (payload : List ℕ) → length payload ≤ 4096 → length (if b then payload else []) ≤ 4096
 short-if true payload h = h
 short-if false payload h = omega arith
@@ -365,9 +374,9 @@ home-count job (None ∷ seats) replicas h = absurd h
 home-count job (Some value ∷ seats) [] h = absurd h
 home-count job (Some value ∷ seats) (r ∷ replicas) h = ap suc (home-count job seats replicas h.2)
 
-pub kept-holds : (f f' : Fields) → Holds f → f.leases ≡ [] → f'.job ≡ f.job → f'.journal ≡ f.journal → AreHome f.job f'.seats (core_in f).replicas → f'.leases ≡ f.leases → f'.kernel ≡ f.kernel → f'.blocked ≡ f.blocked → f'.steps ≡ f.steps → f'.due ≡ f.due → f'.ended ≡ f.ended → f'.views ≡ f.views
+pub kept-holds : (f f' : Fields) → Holds f → f.leases ≡ [] → f'.job ≡ f.job → f'.journal ≡ f.journal → AreHome f.job f'.seats (core_in f).replicas → f'.leases ≡ f.leases → f'.kernel ≡ f.kernel → f'.blocked ≡ f.blocked → f'.steps ≡ f.steps → f'.due ≡ f.due → f'.ended ≡ f.ended → f'.views ≡ f.views → f'.sent ≡ f.sent
     → f.places ≤ f'.places → Holds f'
-kept-holds f f' h alone job journal home leases kernel blocked steps due ended views room =
+kept-holds f f' h alone job journal home leases kernel blocked steps due ended views count room =
     let core : core_in f' ≡ core_in f = ap (λ (j : Job). replay j f'.journal) job ∙ ap (replay f.job) journal in
     let state : state_in f' ≡ state_in f = ap (λ (j : Job). replay_with j f'.journal (failed_of f'.due)) job ∙ ap (λ (js : List Entry). replay_with f.job js (failed_of f'.due)) journal ∙ ap (λ (o : Option How). replay_with f.job f.journal (failed_of o)) due in
     record {
@@ -379,6 +388,8 @@ kept-holds f f' h alone job journal home leases kernel blocked steps due ended v
       blocked_count = ap length blocked ∙ h.blocked_count;
       blocked_are = λ t. ap (λ (bs : List (Option Call)). blocked_at bs t) blocked ∙ h.blocked_are t ∙ sym (ap (λ (c : Core). c.blocked t) core);
       steps_are = steps ∙ h.steps_are ∙ sym (ap (λ (c : Core). c.steps) core);
+      counts = subst (λ (j : Job). Counts f'.sent f'.steps (sent_of j f'.journal (failed_of f'.due))) (sym job)
+          (same-counts f f' h count steps (ap (λ (js : List Entry). sent_of f.job js (failed_of f'.due)) journal ∙ ap (λ (o : Option How). sent_of f.job f.journal (failed_of o)) due));
       due_is = due ∙ h.due_is ∙ sym (ap (λ (c : Core). c.due) state);
       ended_is = ended ∙ h.ended_is ∙ sym (ap (λ (c : Core). c.ended) core);
       seats_are = subst (λ (j : Job). AreSeated j (core_in f') f'.seats) (sym job) (subst (λ (c : Core). AreSeated f.job c f'.seats) (sym core) (seated-home f.job (core_in f) f'.seats home (sym h.leases_are ∙ alone)));

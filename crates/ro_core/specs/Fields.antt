@@ -1,5 +1,5 @@
 -- The fields of a core against its journal.
-use Rattle.std.specs.Prelude.{◌≡◌, ◌<◌, ◌≤◌, ◌+◌, ℕ, Bool, true, false, is_some, List, [], ◌∷◌, length, Option, Some, None, nat_lt, ◌==◌, if◌then◌else◌, slice_get, slice_index_or}
+use Rattle.std.specs.Prelude.{◌≡◌, ◌<◌, ◌≤◌, ◌+◌, ◌*◌, ℕ, Bool, true, false, is_some, List, [], ◌∷◌, length, Option, Some, None, nat_lt, ◌==◌, if◌then◌else◌, slice_get, slice_index_or}
 use Rattle.ro_journal.specs.declared.Did.{Did}
 use Rattle.ro_journal.specs.declared.How.{How}
 use Rattle.ro_journal.specs.declared.How.TheVariants.{Differ, NoMajority, Sink}
@@ -22,7 +22,7 @@ use Rattle.ro_core.specs.declared.actions.Lease.{Lease}
 use Rattle.ro_core.specs.Core.{Job, Core, is_going, is_home}
 use Rattle.ro_core.specs.Event.{Event, call_event, event_of}
 use Rattle.ro_core.specs.Legal.{Legal, replay, replay_with}
-use Rattle.ro_core.specs.Seen.{IsOfJob, KeepsViews}
+use Rattle.ro_core.specs.Seen.{IsOfJob, KeepsViews, sent_of}
 
 -- how many bytes of the last write a failing sink took, by the end that is due
 abbrev pub failed_of : Option How → Option ℕ
@@ -63,6 +63,7 @@ pub record Fields : Type 0 where
   pub kernel : State
   pub blocked : List (Option Call)
   pub steps : ℕ
+  pub sent : ℕ
   pub due : Option How
   pub ended : Option How
   pub views : List View
@@ -79,6 +80,11 @@ state_in f = replay_with f.job f.journal (failed_of f.due)
 abbrev pub blocked_at : List (Option Call) → (thread : ℕ) → Option Call
 blocked_at blocked thread = slice_index_or blocked thread None
 
+-- so many bytes left, at most 4,096 a step
+pub record Counts (sent steps : ℕ) (bytes : List ℕ) : Type 0 where
+  pub sent_are : sent ≡ length bytes
+  pub few : sent ≤ 4096 * steps
+
 -- the fields are what the journal says
 pub record Holds (f : Fields) : Type 0 where
   pub in_range : InRange f.job.settings
@@ -89,6 +95,7 @@ pub record Holds (f : Fields) : Type 0 where
   pub blocked_count : length f.blocked ≡ 16
   pub blocked_are : (thread : ℕ) → blocked_at f.blocked thread ≡ (core_in f).blocked thread
   pub steps_are : f.steps ≡ (core_in f).steps
+  pub counts : Counts f.sent f.steps (sent_of f.job f.journal (failed_of f.due))
   pub due_is : f.due ≡ (state_in f).due
   pub ended_is : f.ended ≡ (core_in f).ended
   pub seats_are : AreSeated f.job (core_in f) f.seats

@@ -1,12 +1,12 @@
 //! The core: a sequential machine whose journal only grows.
-ghost use Rattle.std.specs.Prelude.{◌≡◌};
+ghost use Rattle.std.specs.Prelude.{◌≡◌, length};
 ghost use Rattle.ro_journal.specs.declared.How.{How as HowOf};
 ghost use Rattle.ro_journal.specs.declared.Entry.TheVariants.{End};
 ghost use Rattle.ro_journal.specs.Plan.{outcome_of};
 ghost use Rattle.ro_core.specs.declared.actions.Action.TheVariants as act;
 ghost use Rattle.ro_core.specs.Legal.{IsAllowed, Legal, replay};
 ghost use Rattle.ro_core.specs.Action.{next_action as next, IsNext};
-ghost use Rattle.ro_core.specs.Seen.{state, Appends, Quiet, KeepsViews};
+ghost use Rattle.ro_core.specs.Seen.{state, sent, Appends, Quiet, KeepsViews};
 
 use crate::actions::Lease;
 use ro_event::{Call, View};
@@ -34,6 +34,8 @@ pub struct Core<K: Sink> {
     pub(crate) blocked: [Option<Call>; 16],
     /// The length of the plan so far.
     pub(crate) steps: u64,
+    /// How many bytes left.
+    pub(crate) sent: u64,
     pub(crate) due: Option<How>,
     pub(crate) ended: Option<How>,
     /// Room for the views of a vote, one for each replica.
@@ -67,6 +69,7 @@ impl<K: Sink> Model for Core<K> {
       kernel = c.kernel;
       blocked = c.blocked;
       steps = c.steps;
+      sent = c.sent;
       due = c.due;
       ended = c.ended;
       views = c.views.items;
@@ -81,6 +84,8 @@ pub struct Finished<K> {
     /// Where it ended by a vote of views that had no majority, those views in the order of the replicas.
     pub views: Vec<View>,
     pub journal: Vec<Entry>,
+    /// How many bytes the run wrote.
+    pub bytes: u64,
     pub out: K,
 }
 
@@ -102,6 +107,7 @@ impl<K: Sink> Core<K> {
         ensures how { result.how ≡ outcome_of self.journal }
         ensures views { KeepsViews self.job self.journal result.views.items }
         ensures journal { result.journal.items ≡ self.journal }
+        ensures bytes { result.bytes ≡ length (sent self) }
         ensures legal { Legal self.job self.journal }
         ensures sink { (K.held result.out ≡ self.held) × (K.faults result.out ≡ self.faults) }
     {
@@ -115,6 +121,7 @@ impl<K: Sink> Core<K> {
             kernel: _,
             blocked: _,
             steps: _,
+            sent,
             due: _,
             ended,
             views,
@@ -125,6 +132,7 @@ impl<K: Sink> Core<K> {
             how: ended,
             views,
             journal,
+            bytes: sent,
             out,
         }
     }

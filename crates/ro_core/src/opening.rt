@@ -58,6 +58,7 @@ impl<K: Sink> Core<K> {
             kernel,
             blocked: [None; 16],
             steps: 0,
+            sent: 0,
             due: None,
             ended: None,
             views,

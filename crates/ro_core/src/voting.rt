@@ -1,5 +1,5 @@
 //! Votes, and the calls that are served after one.
-ghost use Rattle.std.specs.Prelude.{◌≡◌, ◌≢◌, ◌⊎◌, ◌∷◌, ◌++◌, ℕ, List, [], Some, None, true, IfOk, OnErr, OnOk, IsTrue, if◌then◌else◌};
+ghost use Rattle.std.specs.Prelude.{◌≡◌, ◌≢◌, ◌⊎◌, ◌∷◌, ◌++◌, ℕ, List, [], Some, None, true, IfOk, OnErr, OnOk, IsTrue, if◌then◌else◌, unwrap_or};
 ghost use Rattle.ro_journal.specs.declared.How.{How as HowOf};
 ghost use Rattle.ro_journal.specs.declared.How.TheVariants.{Sink as BySink};
 ghost use Rattle.ro_journal.specs.declared.Entry.TheVariants.{End};
@@ -88,6 +88,7 @@ impl<K: Sink> Core<K> {
         apply_to_all(self.seats.as_mut_slice(), &event.effect);
         let payload = written(event.writes, &self.views[won.won as usize]);
         let failed = send(&mut self.out, payload);
+        let taken = taken_of(failed, payload.len());
         let entry = Entry::Vote {
             thread,
             count,
@@ -98,6 +99,7 @@ impl<K: Sink> Core<K> {
         self.journal.push_reserved(entry);
         self.blocked[thread as usize] = event.blocked;
         self.steps += next;
+        self.sent += taken;
         self.due = due_behind(event.due, failed);
         Ok(entry)
     }
@@ -149,6 +151,16 @@ fn written(writes: bool, view: &View) -> &[u8]
     ensures { result.now ≡ (if writes then view.now.payload else []) }
 {
     if writes { view.payload() } else { &[] }
+}
+
+// How many bytes of a payload left: all of them, or those that a failing sink took.
+fn taken_of(failed: Option<u32>, all: usize) -> u64
+    ensures { result ≡ unwrap_or failed all }
+{
+    match failed {
+        Some(bytes) => u64::from(bytes),
+        None => all as u64,
+    }
 }
 
 // The end that is due behind a write: a failing sink's comes first.

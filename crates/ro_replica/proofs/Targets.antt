@@ -1,5 +1,5 @@
 -- A strike at each kind of target.
-use Rattle.std.specs.Prelude.{◌≡◌, ℕ, ◌+◌, ◌<◌, ◌≤◌, ◌^◌, ◌%◌, ◌/◌, Bool, true, ◌&&◌, List, [], ◌∷◌, length, nat_le, nat_lt, if◌then◌else◌, slice_set, slice_index_or, Option, bit_xor}
+use Rattle.std.specs.Prelude.{◌≡◌, ℕ, ◌+◌, ◌<◌, ◌≤◌, ◌^◌, ◌%◌, ◌-◌, ◌/◌, Bool, true, ◌&&◌, List, [], ◌∷◌, length, nat_le, nat_lt, if◌then◌else◌, slice_set, slice_index_or, Option, bit_xor}
 use Rattle.ro_event.specs.declared.stops.Stop.{Stop}
 use Rattle.std.proofs.Common.{refl, sym, ap, ◌∙◌, subst, arith}
 use Rattle.std.proofs.lemmas.Bool.{and_parts, and_from, leb-true}
@@ -14,6 +14,7 @@ use Rattle.ro_exec.specs.Next.{Backed}
 use Rattle.ro_thread.specs.declared.Thread.{Thread}
 use Rattle.ro_faults.specs.declared.Target.{Target}
 use Rattle.ro_faults.specs.declared.Target.TheVariants.{Register, Pc, Byte}
+use Rattle.ro_text.specs.Numbers.{within}
 use Rattle.ro_faults.specs.Flips.{flipped}
 use Rattle.ro_faults.specs.Texts.{is_target}
 use Rattle.ro_replica.specs.Replica.{changed_at}
@@ -60,7 +61,7 @@ byte_struck value old thread address bit byte flip memory backed target same goo
     let bytes : Memory = memory_of value.held.pages in
     let here : byte ≡ bytes address = omega arith in
     let tests : is_target (Byte address bit) ≡ true = subst (λ (t : Target). is_target t ≡ true) at good in
-    let seven : bit ≤ 7 = leb-true bit 7 (and_parts (nat_lt address (2 ^ 32)) (nat_le bit 7) tests).1 in
+    let seven : bit ≤ 7 = leb-true bit 7 (and_parts (nat_le 0 bit) (nat_le bit 7) (and_parts (within 0 (2 ^ 32 - 1) address) (within 0 7 bit) tests).1).1 in
     let value_is : flip % 256 ≡ flipped (bytes address) bit =
     ap (λ (n : ℕ). n % 256) flips ∙ byte_flips byte bit small seven ∙ ap (λ (n : ℕ). flipped n bit) here in
     let stored_is : memory ≡ stored bytes address (flipped (bytes address) bit ∷ []) = stores ∙ ap (λ (n : ℕ). stored bytes address (n ∷ [])) value_is in

@@ -19,6 +19,7 @@ push_reserved-requires g c =
       kernel = s.kernel;
       blocked = s.blocked;
       steps = s.steps;
+      sent = s.sent;
       due = s.due;
       ended = s.ended;
       views = s.views.items;
@@ -40,6 +41,7 @@ invariant_of-self g c =
       kernel = s.kernel;
       blocked = s.blocked;
       steps = s.steps;
+      sent = s.sent;
       due = s.due;
       ended = s.ended;
       views = s.views.items;
@@ -49,7 +51,7 @@ invariant_of-self g c =
     let allowed = subst (λ (v : CoreOf). MayEnd v.job (state v) c.args.how) (sym c.self.view_is) c.requires.allowed in
     let room : 0 < f.places = conclude-room f c.self.invariant c.args.how going allowed in
     let kept = subst (λ (v : CoreOf). KeepsViews v.job (v.journal ++ End c.args.how ∷ []) v.views) (sym c.self.view_is) c.requires.views in
-    conclude-holds f c.self.invariant c.args.how going allowed _ refl refl refl refl refl refl refl refl refl c.push_reserved.ensures.items
+    conclude-holds f c.self.invariant c.args.how going allowed _ refl refl refl refl refl refl refl refl refl refl c.requires.not_sink c.push_reserved.ensures.items
     (omega (arith, room, c.push_reserved.ensures.len, c.push_reserved.ensures.capacity)) kept
 
 pub returns-clause-quiet : goal.returns-clause-quiet
@@ -63,6 +65,7 @@ returns-clause-quiet g c =
       kernel = s.kernel;
       blocked = s.blocked;
       steps = s.steps;
+      sent = s.sent;
       due = s.due;
       ended = s.ended;
       views = s.views.items;

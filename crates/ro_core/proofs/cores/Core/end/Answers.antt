@@ -21,6 +21,7 @@ push_reserved-requires g c =
       kernel = s.kernel;
       blocked = s.blocked;
       steps = s.steps;
+      sent = s.sent;
       due = s.due;
       ended = s.ended;
       views = s.views.items;
@@ -41,6 +42,7 @@ invariant_of-self g c =
       kernel = s.kernel;
       blocked = s.blocked;
       steps = s.steps;
+      sent = s.sent;
       due = s.due;
       ended = s.ended;
       views = s.views.items;
@@ -49,7 +51,7 @@ invariant_of-self g c =
     let n = subst (λ (v : CoreOf). (how : How) × (next_action v.job (state v) ≡ DoEnd how)) (sym c.self.view_is) c.requires in
     let how : c.unwrap_or-how.result ≡ n.0 = c.unwrap_or-how.ensures ∙ end-how f c.self.invariant n.0 n.1 in
     let room : 0 < f.places = end-room f c.self.invariant n.0 n.1 in
-    end-holds f c.self.invariant n.0 n.1 _ refl refl refl refl refl refl refl refl (ap (λ (x : How). Some x) how)
+    end-holds f c.self.invariant n.0 n.1 _ refl refl refl refl refl refl refl refl (ap (λ (x : How). Some x) how) refl
     (c.push_reserved.ensures.items ∙ ap (λ (x : How). s.journal.items ++ End x ∷ []) how) (omega (arith, room, c.push_reserved.ensures.len, c.push_reserved.ensures.capacity))
 
 pub returns-clause-entry : goal.returns-clause-entry
@@ -63,6 +65,7 @@ returns-clause-entry g c how is_next =
       kernel = s.kernel;
       blocked = s.blocked;
       steps = s.steps;
+      sent = s.sent;
       due = s.due;
       ended = s.ended;
       views = s.views.items;
@@ -86,6 +89,7 @@ returns-clause-quiet g c =
       kernel = s.kernel;
       blocked = s.blocked;
       steps = s.steps;
+      sent = s.sent;
       due = s.due;
       ended = s.ended;
       views = s.views.items;

@@ -16,6 +16,7 @@ returns-clause-how g c =
       kernel = s.kernel;
       blocked = s.blocked;
       steps = s.steps;
+      sent = s.sent;
       due = s.due;
       ended = s.ended;
       views = s.views.items;

@@ -26,10 +26,10 @@ use Rattle.ro_core.proofs.Copies.{length-with-copy}
 use Rattle.ro_core.proofs.Held.{Goes, no-outcome, not-split}
 use Rattle.ro_core.proofs.Happens.{Happens}
 use Rattle.ro_core.proofs.Entries.{appends-of, quiet-of}
-use Rattle.ro_core.proofs.Freeing.{free-goes, free-alone, free-there, free-live, free-made, free-few, free-steps, free-home, free-threads, free-ends, free-may-end, free-happens, free-low, free-came, free-did, free-allowed, free-well, free-sent, parts}
+use Rattle.ro_core.proofs.Freeing.{free-goes, free-alone, free-there, free-live, free-made, free-few, free-steps, free-home, free-threads, free-ends, free-may-end, free-happens, free-low, free-came, free-did, free-allowed, free-well, free-sent, payload-none, parts}
 use Rattle.ro_core.proofs.Ordered.{copied-sound}
 use Rattle.ro_core.proofs.Behind.{SinkWell, happened-holds, all-can-take}
-use Rattle.ro_core.proofs.Holding.{bytes-by, length-applied, hold-within, hold-steps, hold-goes, hold-alone, hold-home, hold-live, hold-few, hold-made, hold-recovers, hold-healed, hold-happens, hold-short, hold-low, hold-allowed, hold-limit, hold-may-end, hold-came, hold-sent, hold-majority, payload-due, short-if, held-by, rose-by, part-of, over-unfailed, sends-of, home-count, kept-holds}
+use Rattle.ro_core.proofs.Holding.{writes-step-call, length-applied, hold-within, hold-steps, hold-goes, hold-alone, hold-home, hold-live, hold-few, hold-made, hold-recovers, hold-healed, hold-happens, hold-short, hold-low, hold-allowed, hold-limit, hold-may-end, hold-came, hold-sent, hold-majority, payload-due, short-if, held-by, rose-by, part-of, over-unfailed, sends-of, home-count, kept-holds}
 use Rattle.ro_core.proofs.cores.Core.free.Goals as goal
 
 pub bounds-self-inside-thread : goal.bounds-self-inside-thread
@@ -43,6 +43,7 @@ bounds-self-inside-thread g c =
       kernel = s.kernel;
       blocked = s.blocked;
       steps = s.steps;
+      sent = s.sent;
       due = s.due;
       ended = s.ended;
       views = s.views.items;
@@ -63,6 +64,7 @@ unreachable-requires g c =
       kernel = s.kernel;
       blocked = s.blocked;
       steps = s.steps;
+      sent = s.sent;
       due = s.due;
       ended = s.ended;
       views = s.views.items;
@@ -83,6 +85,7 @@ conclude-requires-clause-allowed g c =
       kernel = s.kernel;
       blocked = s.blocked;
       steps = s.steps;
+      sent = s.sent;
       due = s.due;
       ended = s.ended;
       views = s.views.items;
@@ -103,6 +106,7 @@ conclude-requires-clause-views g c =
       kernel = s.kernel;
       blocked = s.blocked;
       steps = s.steps;
+      sent = s.sent;
       due = s.due;
       ended = s.ended;
       views = s.views.items;
@@ -126,6 +130,7 @@ returns-then-self-clause-entry g c =
       kernel = s.kernel;
       blocked = s.blocked;
       steps = s.steps;
+      sent = s.sent;
       due = s.due;
       ended = s.ended;
       views = s.views.items;
@@ -151,6 +156,7 @@ invariant_of-self-in_err-reserve_pages g c =
       kernel = s.kernel;
       blocked = s.blocked;
       steps = s.steps;
+      sent = s.sent;
       due = s.due;
       ended = s.ended;
       views = s.views.items;
@@ -166,7 +172,7 @@ invariant_of-self-in_err-reserve_pages g c =
     let home1 : AreHome f.job c.reserve_pages.new.seats replicas = c.reserve_pages.ensures.kept f.job replicas home0 in
     let count : length replicas ≡ vec_len s.seats = sym (home-count f.job f.seats replicas (free-home f h c.args.thread may)) ∙ sym s.seats.ok.0 in
     let items1 = with_items_is s.seats c.reserve_pages.new.seats (home-count f.job c.reserve_pages.new.seats replicas home1 ∙ count) in
-    (kept-holds f _ h alone refl c.in_ok-reserve.ensures.items (subst (λ xs. AreHome f.job xs replicas) (sym items1) home1) refl refl refl refl refl refl refl
+    (kept-holds f _ h alone refl c.in_ok-reserve.ensures.items (subst (λ xs. AreHome f.job xs replicas) (sym items1) home1) refl refl refl refl refl refl refl refl
     (omega (arith, c.in_ok-reserve.ensures.capacity, c.in_ok-reserve.ensures.len)))
 
 pub serve-requires : goal.serve-requires
@@ -180,6 +186,7 @@ serve-requires g c =
       kernel = s.kernel;
       blocked = s.blocked;
       steps = s.steps;
+      sent = s.sent;
       due = s.due;
       ended = s.ended;
       views = s.views.items;
@@ -200,6 +207,7 @@ invariant_of-self-in_err-event g c =
       kernel = s.kernel;
       blocked = s.blocked;
       steps = s.steps;
+      sent = s.sent;
       due = s.due;
       ended = s.ended;
       views = s.views.items;
@@ -224,12 +232,13 @@ invariant_of-self-in_err-event g c =
       kernel = k;
       blocked = s.blocked;
       steps = s.steps;
+      sent = s.sent;
       due = s.due;
       ended = s.ended;
       views = s.views.items;
       places = vec_capacity c.reserve.new.self - vec_len c.reserve.new.self;
     })) (sym same)
-    (kept-holds f _ h alone refl c.in_ok-reserve.ensures.items (subst (λ xs. AreHome f.job xs replicas) (sym items1) home1) refl refl refl refl refl refl refl
+    (kept-holds f _ h alone refl c.in_ok-reserve.ensures.items (subst (λ xs. AreHome f.job xs replicas) (sym items1) home1) refl refl refl refl refl refl refl refl
     (omega (arith, c.in_ok-reserve.ensures.capacity, c.in_ok-reserve.ensures.len)))
 
 pub apply_to_all-requires : goal.apply_to_all-requires
@@ -243,6 +252,7 @@ apply_to_all-requires g c =
       kernel = s.kernel;
       blocked = s.blocked;
       steps = s.steps;
+      sent = s.sent;
       due = s.due;
       ended = s.ended;
       views = s.views.items;
@@ -276,6 +286,7 @@ overflow_add-self g c =
       kernel = s.kernel;
       blocked = s.blocked;
       steps = s.steps;
+      sent = s.sent;
       due = s.due;
       ended = s.ended;
       views = s.views.items;
@@ -298,6 +309,7 @@ invariant_of-self-2 g c =
       kernel = s.kernel;
       blocked = s.blocked;
       steps = s.steps;
+      sent = s.sent;
       due = s.due;
       ended = s.ended;
       views = s.views.items;
@@ -326,6 +338,11 @@ invariant_of-self-2 g c =
     let home5 : AreHome f.job c.apply_to_all.new.seats (all_applied event.effect replicas) = subst (λ (x : Effect). AreHome f.job c.apply_to_all.new.seats (all_applied x replicas)) (sym (ap (λ (e : Event). e.effect) its)) (c.apply_to_all.ensures f.job replicas home2) in
     let items5 = with_items_is (with_items s.seats c.reserve_pages.new.seats) c.apply_to_all.new.seats (home-count f.job c.apply_to_all.new.seats (all_applied event.effect replicas) home5 ∙ length-applied event.effect replicas ∙ count) in
     let one : event_steps event.did ≡ 1 = ap event_steps (free-did f h c.args.thread may c.in-Some.call there) in
+    let empty : event.payload ≡ [] = payload-none f.kernel.kernel c.args.thread c.in-Some.call (serve f.kernel.setup f.kernel.kernel c.args.thread c.in-Some.call) in
+    let left : sent_of f.job c.push_reserved.new.self.items (failed_of c.in_ok-event.event.due) ≡ sent_of f.job f.journal (failed_of f.due) =
+        ap (λ (js : List Entry). sent_of f.job js (failed_of c.in_ok-event.event.due)) journal
+        ∙ ap (λ (e : Event). sent_of f.job (f.journal ++ Free c.args.thread ∷ []) (failed_of e.due)) (sym its) ∙ free-sent f h c.args.thread may c.in-Some.call there
+    in
     happened-holds f _ h (Free c.args.thread) allowed c.args.thread 0 replicas event None (free-came f h c.args.thread may c.in-Some.call there)
     goes.not_ended alone happens (free-well f h c.args.thread may c.in-Some.call there) (free-few f h c.args.thread may)
     (ap (λ (x : Setup). record { program = record { image = s.image; input = x.input }; faults = s.faults.items; settings = s.settings }) setup)
@@ -334,6 +351,11 @@ invariant_of-self-2 g c =
     (omega (arith, one))
     (ap (λ (e : Event). e.due) (sym its)) refl
     (h.views_count ∙ h.seats_are.count ∙ sym (ap length items5 ∙ home-count f.job c.apply_to_all.new.seats (all_applied event.effect replicas) home5 ∙ length-applied event.effect replicas))
+    (record {
+      few = writes-step-call f.kernel.kernel c.args.thread c.in-Some.call [] (serve f.kernel.setup f.kernel.kernel c.args.thread c.in-Some.call) (omega arith);
+      sent = let z = ap (λ (xs : List ℕ). length xs) empty in omega arith;
+      bytes = left ∙ sym (append-nil (sent_of f.job f.journal (failed_of f.due))) ∙ ap (λ (xs : List ℕ). sent_of f.job f.journal (failed_of f.due) ++ xs) (sym empty);
+    })
     refl (omega (arith, c.in_ok-reserve.ensures.ok, c.in_ok-reserve.ensures.len, c.push_reserved.ensures.len, c.push_reserved.ensures.capacity))
 
 pub returns-clause-entry : goal.returns-clause-entry
@@ -347,6 +369,7 @@ returns-clause-entry g c =
       kernel = s.kernel;
       blocked = s.blocked;
       steps = s.steps;
+      sent = s.sent;
       due = s.due;
       ended = s.ended;
       views = s.views.items;
@@ -381,6 +404,7 @@ returns-clause-quiet g c =
       kernel = s.kernel;
       blocked = s.blocked;
       steps = s.steps;
+      sent = s.sent;
       due = s.due;
       ended = s.ended;
       views = s.views.items;

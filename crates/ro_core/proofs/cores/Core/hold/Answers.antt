@@ -1,5 +1,5 @@
 use Rattle.std.proofs.Common.{◌≡◌, ◌-◌, ◌+◌, ◌<◌, ◌≤◌, ◌++◌, ◌∷◌, [], ℕ, Bool, true, false, List, Option, Some, None, length, refl, vec_len, vec_capacity, sym, ap, ◌∙◌, subst, arith}
-use Rattle.std.specs.Prelude.{◌⊎◌, if◌then◌else◌, IfSome, take, slice_get, slice_set}
+use Rattle.std.specs.Prelude.{unwrap_or, ◌⊎◌, if◌then◌else◌, IfSome, take, slice_get, slice_set}
 use Rattle.std.specs.Vec.{with_items}
 use Rattle.std.proofs.lemmas.List.{with_items_is}
 use Rattle.ro_io.specs.Outside.{Rose, more}
@@ -26,8 +26,8 @@ use Rattle.ro_core.proofs.Held.{Goes, no-outcome, not-split}
 use Rattle.ro_core.proofs.Happens.{Happens}
 use Rattle.ro_core.proofs.Entries.{appends-of}
 use Rattle.ro_core.proofs.Ordered.{copied-sound}
-use Rattle.ro_core.proofs.Behind.{SinkWell, happened-holds, all-can-take}
-use Rattle.ro_core.proofs.Holding.{bytes-by, length-applied, hold-within, hold-steps, hold-goes, hold-alone, hold-home, hold-live, hold-few, hold-made, hold-recovers, hold-healed, hold-happens, hold-short, hold-low, hold-allowed, hold-limit, hold-may-end, hold-came, hold-sent, hold-majority, payload-due, short-if, held-by, rose-by, part-of, over-unfailed, sends-of, home-count, kept-holds}
+use Rattle.ro_core.proofs.Behind.{bytes-by, bytes-count, bytes-fewer, SinkWell, happened-holds, all-can-take}
+use Rattle.ro_core.proofs.Holding.{writes-step, length-applied, hold-within, hold-steps, hold-goes, hold-alone, hold-home, hold-live, hold-few, hold-made, hold-recovers, hold-healed, hold-happens, hold-short, hold-low, hold-allowed, hold-limit, hold-may-end, hold-came, hold-sent, hold-majority, payload-due, short-if, held-by, rose-by, part-of, over-unfailed, sends-of, home-count, kept-holds}
 use Rattle.ro_core.proofs.cores.Core.hold.Goals as goal
 
 pub index-view-requires : goal.index-view-requires
@@ -41,6 +41,7 @@ index-view-requires g c =
       kernel = s.kernel;
       blocked = s.blocked;
       steps = s.steps;
+      sent = s.sent;
       due = s.due;
       ended = s.ended;
       views = s.views.items;
@@ -64,6 +65,7 @@ overflow_sub-self-inside g c =
       kernel = s.kernel;
       blocked = s.blocked;
       steps = s.steps;
+      sent = s.sent;
       due = s.due;
       ended = s.ended;
       views = s.views.items;
@@ -87,6 +89,7 @@ conclude-requires-clause-allowed g c =
       kernel = s.kernel;
       blocked = s.blocked;
       steps = s.steps;
+      sent = s.sent;
       due = s.due;
       ended = s.ended;
       views = s.views.items;
@@ -118,6 +121,7 @@ conclude-requires-clause-views g c =
       kernel = s.kernel;
       blocked = s.blocked;
       steps = s.steps;
+      sent = s.sent;
       due = s.due;
       ended = s.ended;
       views = s.views.items;
@@ -150,6 +154,7 @@ returns-then-next-self-clause-entry g c =
       kernel = s.kernel;
       blocked = s.blocked;
       steps = s.steps;
+      sent = s.sent;
       due = s.due;
       ended = s.ended;
       views = s.views.items;
@@ -189,6 +194,7 @@ invariant_of-self-in_err-reserve_pages g c =
       kernel = s.kernel;
       blocked = s.blocked;
       steps = s.steps;
+      sent = s.sent;
       due = s.due;
       ended = s.ended;
       views = s.views.items;
@@ -205,7 +211,7 @@ invariant_of-self-in_err-reserve_pages g c =
     let home1 : AreHome f.job c.reserve_pages.new.seats replicas = c.reserve_pages.ensures.kept f.job replicas home0 in
     let count : length replicas ≡ vec_len s.seats = sym (home-count f.job f.seats replicas (hold-home f h c.args.thread c.args.won.won c.args.won.lost may views verdict)) ∙ sym s.seats.ok.0 in
     let items1 = with_items_is s.seats c.reserve_pages.new.seats (home-count f.job c.reserve_pages.new.seats replicas home1 ∙ count) in
-    kept-holds f _ h alone refl c.in_ok-reserve.ensures.items (subst (λ xs. AreHome f.job xs replicas) (sym items1) home1) refl refl refl refl refl refl refl
+    kept-holds f _ h alone refl c.in_ok-reserve.ensures.items (subst (λ xs. AreHome f.job xs replicas) (sym items1) home1) refl refl refl refl refl refl refl refl
     (omega (arith, c.in_ok-reserve.ensures.capacity, c.in_ok-reserve.ensures.len))
 
 pub invariant_of-self-in_err-event : goal.invariant_of-self-in_err-event
@@ -219,6 +225,7 @@ invariant_of-self-in_err-event g c =
       kernel = s.kernel;
       blocked = s.blocked;
       steps = s.steps;
+      sent = s.sent;
       due = s.due;
       ended = s.ended;
       views = s.views.items;
@@ -244,12 +251,13 @@ invariant_of-self-in_err-event g c =
       kernel = k;
       blocked = s.blocked;
       steps = s.steps;
+      sent = s.sent;
       due = s.due;
       ended = s.ended;
       views = s.views.items;
       places = vec_capacity c.reserve.new.self - vec_len c.reserve.new.self;
     })) (sym same)
-    (kept-holds f _ h alone refl c.in_ok-reserve.ensures.items (subst (λ xs. AreHome f.job xs replicas) (sym items1) home1) refl refl refl refl refl refl refl
+    (kept-holds f _ h alone refl c.in_ok-reserve.ensures.items (subst (λ xs. AreHome f.job xs replicas) (sym items1) home1) refl refl refl refl refl refl refl refl
     (omega (arith, c.in_ok-reserve.ensures.capacity, c.in_ok-reserve.ensures.len)))
 
 pub recover_loser-requires : goal.recover_loser-requires
@@ -263,6 +271,7 @@ recover_loser-requires g c lost e =
       kernel = s.kernel;
       blocked = s.blocked;
       steps = s.steps;
+      sent = s.sent;
       due = s.due;
       ended = s.ended;
       views = s.views.items;
@@ -294,6 +303,7 @@ apply_to_all-requires g c =
       kernel = s.kernel;
       blocked = s.blocked;
       steps = s.steps;
+      sent = s.sent;
       due = s.due;
       ended = s.ended;
       views = s.views.items;
@@ -342,6 +352,7 @@ index-requires g c =
       kernel = s.kernel;
       blocked = s.blocked;
       steps = s.steps;
+      sent = s.sent;
       due = s.due;
       ended = s.ended;
       views = s.views.items;
@@ -365,6 +376,7 @@ send-failed-requires g c =
       kernel = s.kernel;
       blocked = s.blocked;
       steps = s.steps;
+      sent = s.sent;
       due = s.due;
       ended = s.ended;
       views = s.views.items;
@@ -396,6 +408,7 @@ bounds-self-inside-thread g c =
       kernel = s.kernel;
       blocked = s.blocked;
       steps = s.steps;
+      sent = s.sent;
       due = s.due;
       ended = s.ended;
       views = s.views.items;
@@ -419,6 +432,7 @@ invariant_of-self-2 g c =
       kernel = s.kernel;
       blocked = s.blocked;
       steps = s.steps;
+      sent = s.sent;
       due = s.due;
       ended = s.ended;
       views = s.views.items;
@@ -469,6 +483,14 @@ invariant_of-self-2 g c =
     let home5 : AreHome f.job c.apply_to_all.new.seats (all_applied event.effect healed) = subst (λ (x : Effect). AreHome f.job c.apply_to_all.new.seats (all_applied x healed)) (sym (ap (λ (e : Event). e.effect) its)) (c.apply_to_all.ensures f.job healed home4) in
     let items5 = with_items_is (with_items (with_items s.seats c.reserve_pages.new.seats) c.recover_loser.new.seats) c.apply_to_all.new.seats (home-count f.job c.apply_to_all.new.seats (all_applied event.effect healed) home5 ∙ length-applied event.effect healed ∙ length-with-copy c.args.won.won c.args.won.lost replicas ∙ count) in
     let setup : c.happen.new.kernel.setup ≡ s.kernel.setup = c.happen.ensures.setup in
+    let failed : Option ℕ = c.send-failed.result in
+    let taken : c.taken_of-taken.result ≡ length (bytes-by failed event.payload) = c.taken_of-taken.ensures ∙ ap (unwrap_or failed) (c.len.ensures ∙ ap (λ (xs : List ℕ). length xs) written) ∙ sym (bytes-count failed event.payload (λ n e. (well.part n e).0)) in
+    let due : c.due_behind-self-inside.result ≡ due_behind event.due failed = c.due_behind-self-inside.ensures ∙ ap (λ (e : Event). due_behind e.due failed) (sym its) in
+    let left : sent_of f.job c.push_reserved.new.self.items (failed_of c.due_behind-self-inside.result) ≡ sent_of f.job f.journal (failed_of f.due) ++ bytes-by failed event.payload =
+        ap (λ (js : List Entry). sent_of f.job js (failed_of c.due_behind-self-inside.result)) journal
+        ∙ ap (λ (o : Option How). sent_of f.job (f.journal ++ Vote c.args.thread view.since c.args.won.won c.args.won.lost c.did_of-did.result ∷ []) (failed_of o)) due
+        ∙ hold-sent f h c.args.thread c.args.won.won c.args.won.lost may views verdict view there c.did_of-did.result failed well
+    in
     happened-holds f _ h (Vote c.args.thread view.since c.args.won.won c.args.won.lost c.did_of-did.result) allowed c.args.thread view.since healed event c.send-failed.result (hold-came f h c.args.thread c.args.won.won c.args.won.lost may views verdict view there c.did_of-did.result)
     goes.not_ended alone happens well (hold-few f h c.args.thread c.args.won.won c.args.won.lost may views verdict)
     (ap (λ (x : Setup). record { program = record { image = s.image; input = x.input }; faults = s.faults.items; settings = s.settings }) setup)
@@ -477,6 +499,11 @@ invariant_of-self-2 g c =
     (let d : event_steps event.did ≡ event_steps c.did_of-did.result = ap event_steps did in omega (arith, next, d))
     (c.due_behind-self-inside.ensures ∙ ap (λ (e : Event). due_behind e.due c.send-failed.result) (sym its)) refl
     (h.views_count ∙ h.seats_are.count ∙ sym (ap length items5 ∙ home-count f.job c.apply_to_all.new.seats (all_applied event.effect healed) home5 ∙ length-applied event.effect healed ∙ length-with-copy c.args.won.won c.args.won.lost replicas))
+    (record {
+      few = writes-step f.kernel.setup f.kernel.kernel c.args.thread view.stop view.payload (hold-short f h c.args.thread c.args.won.won c.args.won.lost may views verdict view there);
+      sent = ap (λ (n : ℕ). s.sent + n) taken;
+      bytes = left;
+    })
     refl (omega (arith, c.in_ok-reserve.ensures.ok, c.in_ok-reserve.ensures.len, c.push_reserved.ensures.len, c.push_reserved.ensures.capacity))
 
 pub returns-clause-entry : goal.returns-clause-entry
@@ -490,6 +517,7 @@ returns-clause-entry g c =
       kernel = s.kernel;
       blocked = s.blocked;
       steps = s.steps;
+      sent = s.sent;
       due = s.due;
       ended = s.ended;
       views = s.views.items;
@@ -557,6 +585,7 @@ returns-clause-sends g c =
       kernel = s.kernel;
       blocked = s.blocked;
       steps = s.steps;
+      sent = s.sent;
       due = s.due;
       ended = s.ended;
       views = s.views.items;
@@ -622,3 +651,70 @@ returns-clause-sends g c =
           (rose-by failed event.due (g.K.Sink.faults s.out) (g.K.Sink.faults c.send-failed.new.out) (over-unfailed event.due happens.ends_well) (λ n e. (part-of c.written-payload.result.now (g.K.Sink.held s.out) (g.K.Sink.held c.send-failed.new.out) (g.K.Sink.faults s.out) (g.K.Sink.faults c.send-failed.new.out) failed n c.send-failed.ensures.part e).2))),
       subst (λ (v : CoreOf). (bytes ≡ []) ⊎ IsOfMajority v.views bytes) c.self.view_is (hold-majority f h c.args.thread c.args.won.won c.args.won.lost may views verdict view there c.did_of-did.result failed well c.in_ok-event.event.writes (ap (λ (e : Event). e.payload) its)),
     )
+
+pub overflow_add-self-2 : goal.overflow_add-self-2
+overflow_add-self-2 g c =
+    let s = c.self.inside in
+    let f : Fields = record {
+      job = record { program = record { image = s.image; input = s.kernel.setup.input }; faults = s.faults.items; settings = s.settings };
+      journal = s.journal.items;
+      seats = s.seats.items;
+      leases = s.leases.items;
+      kernel = s.kernel;
+      blocked = s.blocked;
+      steps = s.steps;
+      sent = s.sent;
+      due = s.due;
+      ended = s.ended;
+      views = s.views.items;
+      places = vec_capacity s.journal - vec_len s.journal;
+    } in
+    let may : may_vote (state_in f) c.args.thread ≡ true = subst (λ (v : CoreOf). may_vote (state v) c.args.thread ≡ true) (sym c.self.view_is) c.requires.may in
+    let views : f.views ≡ views_of f.job (state_in f) c.args.thread = subst (λ (v : CoreOf). v.views ≡ views_of v.job (state v) c.args.thread) (sym c.self.view_is) c.requires.views in
+    let verdict : verdict_of f.views ≡ Won c.args.won.won c.args.won.lost = subst (λ (v : CoreOf). verdict_of v.views ≡ Won c.args.won.won c.args.won.lost) (sym c.self.view_is) c.requires.won in
+    let h : Holds f = c.self.invariant in
+    let within : c.args.won.won < length f.views = hold-within f h c.args.thread c.args.won.won c.args.won.lost may views verdict in
+    let view : View = c.index-view.result.now in
+    let there : slice_get f.views c.args.won.won ≡ Some view = slice_get-get_or f.views c.args.won.won view within ∙ ap (λ (v : View). Some v) (sym c.index-view.ensures) in
+    let event : Event = event_of f.kernel.setup f.kernel.kernel c.args.thread view.stop view.payload in
+    let did : event.did ≡ c.did_of-did.result = ap (λ (x : Stop). (event_of f.kernel.setup f.kernel.kernel c.args.thread x view.payload).did) (sym c.stop.ensures) ∙ c.did_of-did.ensures view.payload in
+    let next : view.since + event_steps c.did_of-did.result ≡ c.from.result + c.event_steps.result = (let a : c.since-count.result ≡ view.since = c.since-count.ensures in let b : c.from.result ≡ c.since-count.result = c.from.ensures in let d : c.event_steps.result ≡ event_steps c.did_of-did.result = c.event_steps.ensures in omega arith) in
+    let low : f.steps ≤ f.job.settings.limit = hold-steps f h c.args.thread c.args.won.won c.args.won.lost may views verdict in
+    let alone : f.leases ≡ [] = hold-alone f h c.args.thread c.args.won.won c.args.won.lost may views verdict in
+    let replicas : List Replica = (core_in f).replicas in
+    let home0 : AreHome f.job c.as_mut_slice.result.now replicas = subst (λ xs. AreHome f.job xs replicas) (sym c.as_mut_slice.ensures.value) (hold-home f h c.args.thread c.args.won.won c.args.won.lost may views verdict) in
+    let home1 : AreHome f.job c.reserve_pages.new.seats replicas = c.reserve_pages.ensures.kept f.job replicas home0 in
+    let count : length replicas ≡ vec_len s.seats = sym (home-count f.job f.seats replicas (hold-home f h c.args.thread c.args.won.won c.args.won.lost may views verdict)) ∙ sym s.seats.ok.0 in
+    let items1 = with_items_is s.seats c.reserve_pages.new.seats (home-count f.job c.reserve_pages.new.seats replicas home1 ∙ count) in
+    let slice2 = c.as_mut_slice-2.ensures.value ∙ items1 in
+    let home2 : AreHome f.job c.as_mut_slice-2.result.now replicas = subst (λ xs. AreHome f.job xs replicas) (sym slice2) home1 in
+    let healed : List Replica = with_recovered c.args.won.won c.args.won.lost replicas in
+    let home3 : AreHome f.job c.recover_loser.new.seats healed = c.recover_loser.ensures.recovered f.job replicas home2 in
+    let spared3 : AreSpared c.recover_loser.new.seats = c.recover_loser.ensures.spared (subst AreSpared (sym slice2) c.in_ok-reserve_pages.ensures.spared) in
+    let items3 = with_items_is (with_items s.seats c.reserve_pages.new.seats) c.recover_loser.new.seats (home-count f.job c.recover_loser.new.seats healed home3 ∙ length-with-copy c.args.won.won c.args.won.lost replicas ∙ count) in
+    let slice3 = c.as_mut_slice-3.ensures.value ∙ items3 in
+    let home4 : AreHome f.job c.as_mut_slice-3.result.now healed = subst (λ xs. AreHome f.job xs healed) (sym slice3) home3 in
+    let its : event ≡ record { did = c.in_ok-event.event.did; kernel = c.happen.new.kernel.kernel; effect = c.in_ok-event.event.effect; payload = if c.in_ok-event.event.writes then view.payload else []; blocked = c.in_ok-event.event.blocked; due = c.in_ok-event.event.due } =
+        ap (λ (x : Stop). event_of f.kernel.setup f.kernel.kernel c.args.thread x view.payload) (sym c.stop.ensures) ∙ c.in_ok-event.ensures.event view.payload
+    in
+    let happens : Happens (core_in f).kernel c.args.thread event = hold-happens f h c.args.thread c.args.won.won c.args.won.lost may views verdict view there in
+    let same_view : c.index.result.now ≡ view = c.index.ensures ∙ get_or_from_slice_get f.views c.args.won.won view c.index.result.now there in
+    let written : c.written-payload.result.now ≡ event.payload = c.written-payload.ensures ∙ ap (λ (v : View). if c.in_ok-event.event.writes then v.payload else []) same_view ∙ sym (ap (λ (e : Event). e.payload) its) in
+    let well : SinkWell event c.send-failed.result = record {
+      part = λ bytes e.
+          let p = part-of c.written-payload.result.now (g.K.Sink.held s.out) (g.K.Sink.held c.send-failed.new.out) (g.K.Sink.faults s.out) (g.K.Sink.faults c.send-failed.new.out) c.send-failed.result bytes c.send-failed.ensures.part e in
+          let less : bytes < length event.payload = subst (λ (xs : List ℕ). bytes < length xs) written p.0 in
+          (less, payload-due f.kernel.setup f.kernel.kernel c.args.thread view.stop view.payload bytes less);
+    } in
+    let fits : f.steps + (view.since + event_steps c.did_of-did.result) ≤ f.job.settings.limit = (let over : c.from.result + c.event_steps.result ≤ s.settings.limit - s.steps = c.if-next-self.false in omega arith) in
+    let allowed : MayVote f.job (core_in f) c.args.thread view.since c.args.won.won c.args.won.lost c.did_of-did.result = hold-allowed f h c.args.thread c.args.won.won c.args.won.lost may views verdict view there c.did_of-did.result did fits in
+    let goes : Goes f = hold-goes f h c.args.thread c.args.won.won c.args.won.lost may views verdict in
+    let entry : Vote c.args.thread c.since-count.result c.args.won.won c.args.won.lost c.did_of-did.result ≡ Vote c.args.thread view.since c.args.won.won c.args.won.lost c.did_of-did.result = ap (λ (n : ℕ). Vote c.args.thread n c.args.won.won c.args.won.lost c.did_of-did.result) c.since-count.ensures in
+    let journal : c.push_reserved.new.self.items ≡ f.journal ++ Vote c.args.thread view.since c.args.won.won c.args.won.lost c.did_of-did.result ∷ [] = c.push_reserved.ensures.items ∙ ap (λ js. js ++ Vote c.args.thread c.since-count.result c.args.won.won c.args.won.lost c.did_of-did.result ∷ []) c.in_ok-reserve.ensures.items ∙ ap (λ (e : Entry). f.journal ++ e ∷ []) entry in
+    let failed : Option ℕ = c.send-failed.result in
+    let taken : c.taken_of-taken.result ≡ length (bytes-by failed event.payload) = c.taken_of-taken.ensures ∙ ap (unwrap_or failed) (c.len.ensures ∙ ap (λ (xs : List ℕ). length xs) written) ∙ sym (bytes-count failed event.payload (λ n e. (well.part n e).0)) in
+    let most : length event.payload ≤ 4096 = subst (λ (xs : List ℕ). length xs ≤ 4096) (sym (ap (λ (e : Event). e.payload) its)) (short-if c.in_ok-event.event.writes view.payload (hold-short f h c.args.thread c.args.won.won c.args.won.lost may views verdict view there)) in
+    let fewer = bytes-fewer failed event.payload in
+    let few = h.counts.few in
+    let range = h.in_range.limit in
+    omega arith

@@ -17,6 +17,7 @@ returns-then-is_lendable g c =
       kernel = s.kernel;
       blocked = s.blocked;
       steps = s.steps;
+      sent = s.sent;
       due = s.due;
       ended = s.ended;
       views = s.views.items;

@@ -26,6 +26,7 @@ unreachable-requires g c =
       kernel = s.kernel;
       blocked = s.blocked;
       steps = s.steps;
+      sent = s.sent;
       due = s.due;
       ended = s.ended;
       views = s.views.items;
@@ -47,6 +48,7 @@ push_reserved-requires g c =
       kernel = s.kernel;
       blocked = s.blocked;
       steps = s.steps;
+      sent = s.sent;
       due = s.due;
       ended = s.ended;
       views = s.views.items;
@@ -68,6 +70,7 @@ come_home-requires g c =
       kernel = s.kernel;
       blocked = s.blocked;
       steps = s.steps;
+      sent = s.sent;
       due = s.due;
       ended = s.ended;
       views = s.views.items;
@@ -91,6 +94,7 @@ invariant_of-self g c =
       kernel = s.kernel;
       blocked = s.blocked;
       steps = s.steps;
+      sent = s.sent;
       due = s.due;
       ended = s.ended;
       views = s.views.items;
@@ -105,7 +109,7 @@ invariant_of-self g c =
     let as_one : state_in f ≡ core_in f = put-same f c.self.invariant c.args.driver r.lease.replica r.lease.thread c.args.ran.count c.args.ran.hit r.allowed in
     put-holds f c.self.invariant c.args.driver r.lease.replica r.lease.thread c.args.ran.count c.args.ran.hit r.allowed _ c.args.lent r.program
     (ap (λ (core : Core). slice_get (after f.job core (Put c.args.driver r.lease.replica r.lease.thread c.args.ran.count c.args.ran.hit)).replicas r.lease.replica) (sym as_one) ∙ r.became)
-    (record { job = refl; kernel = refl; blocked = refl; steps = refl; due = refl; ended = refl; views = refl })
+    (record { job = refl; kernel = refl; blocked = refl; steps = refl; sent = refl; due = refl; ended = refl; views = refl })
     (c.push_reserved.ensures.items ∙ ap (λ (l : Lease). s.journal.items ++ Put c.args.driver l.replica l.thread c.args.ran.count c.args.ran.hit ∷ []) (sym same))
     (c.give_back.ensures.items ∙ ap (λ d. filter (λ (l : Lease). not (is_lease d c.in-Some.lease.replica c.in-Some.lease.thread l)) s.leases.items) driver
     ∙ ap (λ (k : Lease). filter (λ (l : Lease). not (is_lease c.args.driver k.replica k.thread l)) s.leases.items) (sym same))
@@ -124,6 +128,7 @@ returns-clause-entry g c lease of_driver =
       kernel = s.kernel;
       blocked = s.blocked;
       steps = s.steps;
+      sent = s.sent;
       due = s.due;
       ended = s.ended;
       views = s.views.items;
@@ -148,6 +153,7 @@ returns-clause-quiet g c =
       kernel = s.kernel;
       blocked = s.blocked;
       steps = s.steps;
+      sent = s.sent;
       due = s.due;
       ended = s.ended;
       views = s.views.items;

@@ -35,6 +35,7 @@ leave-requires g c =
       kernel = s.kernel;
       blocked = s.blocked;
       steps = s.steps;
+      sent = s.sent;
       due = s.due;
       ended = s.ended;
       views = s.views.items;
@@ -54,6 +55,7 @@ invariant_of-self g c =
       kernel = s.kernel;
       blocked = s.blocked;
       steps = s.steps;
+      sent = s.sent;
       due = s.due;
       ended = s.ended;
       views = s.views.items;
@@ -63,7 +65,7 @@ invariant_of-self g c =
     let room = subst HasRoom (sym c.self.view_is) c.requires.room in
     let parts = spare_parts _ (vec_capacity s.journal - vec_len s.journal) (vec_capacity s.leases - vec_len s.leases) room in
     let same : length s.leases.items ≡ length (state_in f).leases = ap length (c.self.invariant.leases_are ∙ sym (with-leases f.job f.journal (failed_of f.due))) in
-    take-holds f c.self.invariant c.args.driver c.args.replica c.args.thread may _ (record { job = refl; kernel = refl; blocked = refl; steps = refl; due = refl; ended = refl; views = refl })
+    take-holds f c.self.invariant c.args.driver c.args.replica c.args.thread may _ (record { job = refl; kernel = refl; blocked = refl; steps = refl; sent = refl; due = refl; ended = refl; views = refl })
         c.push_reserved.ensures.items c.lend.ensures.items
         (with_items_is s.seats c.leave.new.seats (ap (λ xs. length xs) c.leave.ensures.seats ∙ length-set c.as_mut_slice.result.now c.args.replica None ∙ c.as_mut_slice.ensures.len) ∙ c.leave.ensures.seats ∙ ap (λ xs. slice_set xs c.args.replica None) c.as_mut_slice.ensures.value)
         (omega (arith, parts.0, same, c.push_reserved.ensures.len, c.push_reserved.ensures.capacity))
@@ -79,6 +81,7 @@ returns-clause-quiet g c =
       kernel = s.kernel;
       blocked = s.blocked;
       steps = s.steps;
+      sent = s.sent;
       due = s.due;
       ended = s.ended;
       views = s.views.items;
@@ -102,6 +105,7 @@ returns-clause-lent g c =
       kernel = s.kernel;
       blocked = s.blocked;
       steps = s.steps;
+      sent = s.sent;
       due = s.due;
       ended = s.ended;
       views = s.views.items;

@@ -1,0 +1,89 @@
+#!/usr/bin/env python3
+"""What each guest is to write and to exit with, worked out from its input without any of the guests or Romain.
+
+    expected.py            compares with what is stored in expected/, status 1 where they differ
+    expected.py --write    stores it
+"""
+import hashlib
+import pathlib
+import sys
+
+HERE = pathlib.Path(__file__).resolve().parent
+
+
+def given(name):
+    return (HERE / "inputs" / name).read_bytes()
+
+
+def lines_of(text):
+    """Its lines without their ends; a last one without its end counts."""
+    pieces = text.split(b"\n")
+    return pieces[:-1] if pieces[-1] == b"" else pieces
+
+
+def sorted_lines():
+    return b"".join(line + b"\n" for line in sorted(lines_of(given("sort"))))
+
+
+def digest():
+    return hashlib.sha256(given("sha256")).hexdigest().encode() + b"\n"
+
+
+def turned_lines():
+    """The program in the input writes each line of what follows it from its end to its front."""
+    own_input = given("tape").split(b"!", 1)[1]
+    return b"".join(line[::-1] + b"\n" for line in lines_of(own_input))
+
+
+def row_sums():
+    size, last = 20, 2024
+
+    def draw():
+        nonlocal last
+        last = (last * 1664525 + 1013904223) % 2**32
+        return last >> 8
+
+    left, right = ([[draw() for _ in range(size)] for _ in range(size)] for _ in range(2))
+    # The sum of a row of the product is that row of the left matrix times the row sums of the right one.
+    sums = [sum(row) for row in right]
+    return b"".join(b"%d\n" % (sum(a * b for a, b in zip(row, sums)) % 2**32) for row in left)
+
+
+def totals():
+    numbers = [int(word) for word in given("parallel_sum").split()]
+    return b"sum %d\nlargest %d\nnumbers %d\n" % (sum(numbers) % 2**32, max(numbers), len(numbers))
+
+
+def expected():
+    """Of each guest its output and its status."""
+    count = given("lines").count(b"\n")
+    return {
+        "hello": (b"Hello from three machines.\n", 7),
+        "cat": (given("cat"), 0),
+        "sort": (sorted_lines(), 0),
+        "sha256": (digest(), 0),
+        "tape": (turned_lines(), 0),
+        "matrix": (row_sums(), 0),
+        "parallel_sum": (totals(), 0),
+        "lines": (b"%d\n" % count, count % 256),
+    }
+
+
+def main():
+    write = sys.argv[1:] == ["--write"]
+    if sys.argv[1:] and not write:
+        sys.exit(__doc__)
+    differs = False
+    for name, (output, status) in expected().items():
+        for place, content in ((f"{name}.output", output), (f"{name}.status", b"%d\n" % status)):
+            file = HERE / "expected" / place
+            if write:
+                file.write_bytes(content)
+            elif not file.exists() or file.read_bytes() != content:
+                print(f"expected/{place} isn't what it should be")
+                differs = True
+    sys.exit(1 if differs else 0)
+
+
+if __name__ == "__main__":
+    main()

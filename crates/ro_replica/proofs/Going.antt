@@ -1,9 +1,8 @@
--- The rounds of a run.
-use Rattle.std.specs.Prelude.{◌≡◌, ◌⊎◌, ℕ, zero, suc, ◌+◌, ◌-◌, ◌<◌, ◌≤◌, ◌^◌, Bool, true, false, cond, List, [], ◌∷◌, length, Option, Some, None, IsSome, IfSome, is_some, is_none, ◌==◌, if◌then◌else◌, slice_get, slice_set, slice_index_or}
+-- A part of a run: instructions up to the next moment of a fault, and a strike.
+use Rattle.std.specs.Prelude.{◌≡◌, ◌⊎◌, ℕ, ◌+◌, ◌-◌, ◌<◌, ◌≤◌, ◌^◌, List, [], length, Option, Some, None, IsSome, IfSome, is_some, slice_get, slice_set, slice_index_or}
 use Rattle.std.specs.List.{filter}
 use Rattle.std.specs.Option.{option_map, option_and_then}
-use Rattle.std.proofs.Common.{refl, sym, ap, ◌∙◌, subst, arith, inl, inr, eq-eqb}
-use Rattle.std.proofs.lemmas.Bool.{eqb-false, ne_eqb}
+use Rattle.std.proofs.Common.{refl, sym, ap, ◌∙◌, subst, arith, inl, inr}
 use Rattle.std.proofs.lemmas.List.{length-set}
 use Rattle.std.proofs.lemmas.List.Elements.{All-set}
 use Rattle.std.proofs.lemmas.Option.{slice_get_read}
@@ -12,74 +11,19 @@ use Rattle.ro_event.specs.declared.table.CallTable.{CallTable}
 use Rattle.ro_region.specs.declared.Range.{Range}
 use Rattle.ro_pages.specs.Bytes.{Memory}
 use Rattle.ro_pages.specs.Held.{Held, memory_of, has_page}
-use Rattle.ro_exec.specs.Next.{Layout, Backed, Next, Stands, Executes, next}
+use Rattle.ro_exec.specs.Next.{Layout, Backed}
 use Rattle.ro_faults.specs.declared.Fault.{Fault}
 use Rattle.ro_thread.specs.declared.Thread.{Thread}
 use Rattle.ro_thread.specs.Stops.{standing}
-use Rattle.ro_thread.specs.Runs.{Running, IsRun, after_instruction, after_next, one_instruction, instructions}
-use Rattle.ro_replica.specs.Replica.{Replica, changed_at}
-use Rattle.ro_replica.specs.Runs.{Ran, is_due, struck, plus_hit, run_of, standing_in, standing_at, with_stop}
+use Rattle.ro_thread.specs.Runs.{Running, IsRun}
+use Rattle.ro_replica.specs.Replica.{Replica}
+use Rattle.ro_replica.specs.Runs.{Ran, is_due, struck, plus_hit, run_of, standing_in, standing_at}
 use Rattle.ro_replica.specs.Rounds.{IsStruck, Leads}
-use Rattle.ro_replica.specs.Seen.{ReplicaOf, replica_of, SameProgram, CanCount, IsReplica, Runs, stop_after}
+use Rattle.ro_replica.specs.Seen.{ReplicaOf, replica_of, SameProgram, CanCount, IsReplica}
 use Rattle.ro_replica.proofs.Elements.{get_set}
-use Rattle.ro_replica.proofs.Strikes.{NoneDue, done_at, strike_at, struck_is, struck_done, struck_none, struck_twice}
-use Rattle.ro_replica.proofs.Segments.{placed, plus_none, plus_both, run_of_struck, one_is_done, run_of_instructions}
-
--- instructions are counted
-pub instructions_done : (layout : Layout) (watchdog : ℕ) (backed : Backed) (count : ℕ) (running after : Running) → instructions layout watchdog backed count running ≡ Some after → after.thread.done ≡ running.thread.done + count
-instructions_done layout watchdog backed zero running after e =
-    let same : running ≡ after = cc in
-    let z : running.thread.done ≡ running.thread.done + 0 = omega arith in
-    ap (λ (r : Running). r.thread.done) (sym same) ∙ z
-instructions_done layout watchdog backed (suc n) running after e = by (one_instruction layout watchdog backed running) refl e (instructions_done layout watchdog backed n)
-  where
-    by : (o : Option Running) → one_instruction layout watchdog backed running ≡ o → option_and_then (instructions layout watchdog backed n) o ≡ Some after
-        → ((running after : Running) → instructions layout watchdog backed n running ≡ Some after → after.thread.done ≡ running.thread.done + n) → after.thread.done ≡ running.thread.done + suc n
-    by None one h more = absurd (cc)
-    by (Some mid) one h more =
-        let first : mid.thread.done ≡ running.thread.done + 1 = one_is_done layout watchdog backed running mid one in
-        let rest : after.thread.done ≡ mid.thread.done + n = more mid after h in
-        omega arith
-
--- one instruction stays within the watchdog
-one_watched : (layout : Layout) (watchdog : ℕ) (backed : Backed) (running after : Running) → running.thread.since ≤ watchdog → one_instruction layout watchdog backed running ≡ Some after → after.thread.since ≤ watchdog
-one_watched layout watchdog backed running after watched e = by (running.thread.since == watchdog) refl (next layout backed running.memory running.thread.cpu) e
-  where
-    by : (b : Bool) → (running.thread.since == watchdog) ≡ b → (n : Next) → cond b None (after_next running n) ≡ Some after → after.thread.since ≤ watchdog
-    by true f n h = absurd (cc)
-    by false f (Stands stop) h = absurd (cc)
-    by false f (Executes instr) h =
-        let same : after_instruction running instr ≡ after = cc in
-        let since : running.thread.since + 1 ≡ after.thread.since = ap (λ (r : Running). r.thread.since) same in
-        let apart : running.thread.since ≡ watchdog → ⊥ = eqb-false running.thread.since watchdog f in
-        omega arith
-
-pub instructions_watched : (layout : Layout) (watchdog : ℕ) (backed : Backed) (count : ℕ) (running after : Running) → running.thread.since ≤ watchdog → instructions layout watchdog backed count running ≡ Some after → after.thread.since ≤ watchdog
-instructions_watched layout watchdog backed zero running after watched e =
-    let same : running ≡ after = cc in subst (λ (r : Running). r.thread.since ≤ watchdog) same watched
-instructions_watched layout watchdog backed (suc n) running after watched e = by (one_instruction layout watchdog backed running) refl e (instructions_watched layout watchdog backed n)
-  where
-    by : (o : Option Running) → one_instruction layout watchdog backed running ≡ o → option_and_then (instructions layout watchdog backed n) o ≡ Some after
-        → ((running after : Running) → running.thread.since ≤ watchdog → instructions layout watchdog backed n running ≡ Some after → after.thread.since ≤ watchdog) → after.thread.since ≤ watchdog
-    by None one h more = absurd (cc)
-    by (Some mid) one h more = more mid after (one_watched layout watchdog backed running mid watched one) h
-
--- where a strike strikes nothing, no fault is due
-pub none_due : (layout : Layout) (replica : Replica) (thread : ℕ) (x : Thread) → slice_get replica.threads thread ≡ Some x → IsStruck layout replica thread → NoneDue thread x.done replica
-none_due layout replica thread x there is =
-    empty (filter (is_due thread x.done) replica.waiting)
-    (ap (λ (ran : Ran). ran.hit) (sym (struck_is layout.ranges replica thread ∙ ap (strike_at layout.ranges thread replica) (ap (option_map (λ (t : Thread). t.done)) there)) ∙ is))
-  where
-    empty : (faults : List Fault) → length faults ≡ 0 → faults ≡ []
-    empty [] h = refl
-    empty (fault ∷ faults) h = absurd (omega arith)
-
-pub run_count : (layout : Layout) (watchdog : ℕ) (backed : Backed) (most count : ℕ) (stop : Option Stop) (old new : Running) → IsRun layout watchdog backed most count stop old new → count ≤ most
-run_count layout watchdog backed most count stop old new run = by run.arrives
-  where
-    by : ((count ≡ most) × (stop ≡ None)) ⊎ ((count < most) × IsSome stop × (stop ≡ standing layout watchdog backed new.memory new.thread.cpu new.thread.since)) → count ≤ most
-    by (inl (all, _)) = omega arith
-    by (inr (early, _, _)) = omega arith
+use Rattle.ro_replica.proofs.Strikes.{NoneDue, done_at, struck_done, struck_none, struck_twice}
+use Rattle.ro_replica.proofs.Segments.{placed, plus_none, run_of_struck, run_of_instructions}
+use Rattle.ro_replica.proofs.Counted.{instructions_done, instructions_watched, none_due, run_count}
 
 -- a run of the thread with no fault due in it
 pub leads_on : (layout : Layout) (watchdog thread most until : ℕ) (replica : Replica) (x : Thread) (end : Running) (count : ℕ) (stop : Option Stop)
@@ -207,74 +151,3 @@ pub leads_same : (one two : ReplicaOf) (thread most : ℕ) (old new : Replica) (
 leads_same one two thread most old new count hit stop same leads =
     subst (λ (w : ℕ). Leads two.layout w thread most old new count hit stop) same.watchdog
     (subst (λ (l : Layout). Leads l one.watchdog thread most old new count hit stop) same.layout leads)
-
--- a run that has come so far
-pub record UnderWay (layout : Layout) (watchdog quantum thread : ℕ) (old now : Replica) (count hit : ℕ) (stop : Option Stop) : Type 0 where
-  pub leads : (rest : ℕ) → run_of layout watchdog (count + rest) old thread ≡ option_map (plus_hit hit) (run_of layout watchdog rest now thread)
-  pub arrives : ((stop ≡ None) × (count ≤ quantum)) ⊎ ((count < quantum) × IsSome stop × (stop ≡ standing_at layout watchdog now thread))
-
-pub begins : (layout : Layout) (watchdog quantum thread : ℕ) (old now : Replica) (hit : ℕ) → struck layout.ranges old thread ≡ record { replica = now; hit = hit } → UnderWay layout watchdog quantum thread old now 0 hit None
-begins layout watchdog quantum thread old now hit is = record {
-  leads = λ rest. ap (λ (n : ℕ). run_of layout watchdog n old thread) (let z : 0 + rest ≡ rest = omega arith in z)
-      ∙ run_of_struck layout watchdog rest old thread
-      ∙ ap (λ (ran : Ran). option_map (plus_hit ran.hit) (run_of layout watchdog rest ran.replica thread)) is;
-  arrives = inl (refl, omega arith);
-}
-
-pub goes : (layout : Layout) (watchdog quantum thread : ℕ) (old now after : Replica) (count hit more more_hit : ℕ) (before stop : Option Stop) → UnderWay layout watchdog quantum thread old now count hit before → count < quantum
-    → Leads layout watchdog thread (quantum - count) now after more more_hit stop → UnderWay layout watchdog quantum thread old after (count + more) (hit + more_hit) stop
-goes layout watchdog quantum thread old now after count hit more more_hit before stop so early leads = record {
-  leads = λ rest. ap (λ (n : ℕ). run_of layout watchdog n old thread) (let z : (count + more) + rest ≡ count + (more + rest) = omega arith in z)
-      ∙ so.leads (more + rest) ∙ ap (option_map (plus_hit hit)) (leads.leads rest) ∙ plus_both hit more_hit (run_of layout watchdog rest after thread);
-  arrives = by leads.arrives;
-}
-  where
-    by : ((stop ≡ None) × (0 < more) × (more ≤ quantum - count)) ⊎ ((more < quantum - count) × IsSome stop × (stop ≡ standing_at layout watchdog after thread) × IsStruck layout after thread)
-        → ((stop ≡ None) × (count + more ≤ quantum)) ⊎ ((count + more < quantum) × IsSome stop × (stop ≡ standing_at layout watchdog after thread))
-    by (inl (none, _, most)) = inl (none, omega arith)
-    by (inr (less, is_some, at, _)) = inr (omega arith, is_some, at)
-
-pub ends : (layout : Layout) (watchdog quantum thread : ℕ) (old now new : Replica) (count hit : ℕ) (stop : Option Stop) → UnderWay layout watchdog quantum thread old now count hit stop → IsStruck layout now thread
-    → (count < quantum → stop ≡ None → ⊥) → new ≡ record now { threads = changed_at (with_stop stop) now.threads thread }
-    → Runs layout watchdog quantum thread old new count hit stop
-ends layout watchdog quantum thread old now new count hit stop so is over new_is = record {
-  end = record { replica = now; hit = hit };
-  runs = ap (λ (n : ℕ). run_of layout watchdog n old thread) (let z : count ≡ count + 0 = omega arith in z) ∙ so.leads 0
-      ∙ ap (λ (ran : Ran). Some (plus_hit hit ran)) is
-      ∙ ap (λ (n : ℕ). Some (record { replica = now; hit = n })) (let z : hit + 0 ≡ hit = omega arith in z);
-  hit_is = refl;
-  stop_is = (by so.arrives).0;
-  new_is = new_is;
-  arrives = (by so.arrives).1;
-}
-  where
-    by : ((stop ≡ None) × (count ≤ quantum)) ⊎ ((count < quantum) × IsSome stop × (stop ≡ standing_at layout watchdog now thread))
-        → (stop ≡ stop_after layout watchdog quantum thread count now) × ((count ≡ quantum) ⊎ ((count < quantum) × IsSome stop))
-    by (inl (none, within)) =
-        let not_before : count < quantum → ⊥ = λ early. over early none in
-        let all : count ≡ quantum = omega arith in
-        (none ∙ sym (ap (λ (b : Bool). if b then None else standing_at layout watchdog now thread) (eq-eqb count quantum all)), inl all)
-    by (inr (early, is_some, at)) =
-        let apart : count ≡ quantum → ⊥ = λ e. omega arith in
-        (at ∙ sym (ap (λ (b : Bool). if b then None else standing_at layout watchdog now thread) (ne_eqb count quantum apart)), inr (early, is_some))
-
--- a round makes what is left smaller, or ends the run
-pub smaller : (layout : Layout) (watchdog thread quantum count more hit : ℕ) (old new : Replica) (before stop : Option Stop) → is_some before ≡ false → count < quantum → Leads layout watchdog thread (quantum - count) old new more hit stop
-    → (quantum - (count + more)) + (if is_none stop then 1 else 0) < (quantum - count) + (if is_none before then 1 else 0)
-smaller layout watchdog thread quantum count more hit old new (Some s) stop none early leads = absurd (cc)
-smaller layout watchdog thread quantum count more hit old new None stop none early leads = by leads.arrives
-  where
-    by-stop : (o : Option Stop) → more < quantum - count → IsSome o → (quantum - (count + more)) + (if is_none o then 1 else 0) < (quantum - count) + 1
-    by-stop None less is = let e : false ≡ true = is in absurd (cc)
-    by-stop (Some s) less is = omega arith
-
-    by : ((stop ≡ None) × (0 < more) × (more ≤ quantum - count)) ⊎ ((more < quantum - count) × IsSome stop × (stop ≡ standing_at layout watchdog new thread) × IsStruck layout new thread)
-        → (quantum - (count + more)) + (if is_none stop then 1 else 0) < (quantum - count) + 1
-    by (inl (is, some, most)) =
-        subst (λ (o : Option Stop). (quantum - (count + more)) + (if is_none o then 1 else 0) < (quantum - count) + 1) (sym is)
-        (let less : (quantum - (count + more)) + 1 < (quantum - count) + 1 = omega arith in less)
-    by (inr (less, is, _, _)) = by-stop stop less is
-
-pub some_not_none : (stop : Option Stop) → is_some stop ≡ true → stop ≡ None → ⊥
-some_not_none None is none = let e : false ≡ true = is in cc
-some_not_none (Some s) is none = cc

@@ -1,5 +1,6 @@
 pub mod Changes
 pub mod Copies
+pub mod Counted
 pub mod Elements
 pub mod Going
 pub mod Payloads
@@ -9,3 +10,4 @@ pub mod Spans
 pub mod Starts
 pub mod Strikes
 pub mod Targets
+pub mod UnderWay

@@ -3,7 +3,8 @@ use Rattle.ro_exec.specs.Next.{Layout}
 use Rattle.ro_replica.specs.Rounds.{IsStruck}
 use Rattle.ro_replica.specs.Seen.{replica_of, CanCount}
 use Rattle.ro_replica.proofs.SoFar.{same_again}
-use Rattle.ro_replica.proofs.Going.{begins, goes, ends, leads_same, smaller, some_not_none, struck_now, countable_struck}
+use Rattle.ro_replica.proofs.Going.{leads_same, struck_now, countable_struck}
+use Rattle.ro_replica.proofs.UnderWay.{begins, goes, ends, smaller, some_not_none}
 use Rattle.ro_replica.proofs.replicas.Replica.run.Goals as goal
 use Rattle.ro_replica.proofs.replicas.Replica.run.Goals.{then-loop-ran-test+else-is_none, else-loop-ran-test}
 

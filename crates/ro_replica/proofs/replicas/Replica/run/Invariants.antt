@@ -2,7 +2,7 @@ use Rattle.std.proofs.Common.{◌≡◌, ◌+◌, ◌-◌, ◌≤◌, length}
 use Rattle.std.specs.Prelude.{is_none, if◌then◌else◌}
 use Rattle.ro_replica.specs.Rounds.{IsStruck}
 use Rattle.ro_replica.specs.Seen.{replica_of, SameProgram, CanCount}
-use Rattle.ro_replica.proofs.Going.{UnderWay}
+use Rattle.ro_replica.proofs.UnderWay.{UnderWay}
 use Rattle.ro_replica.proofs.replicas.Replica.run.Given as goal
 
 abbrev pub invariant-loop-ran : goal.invariant-loop-ran

@@ -1,8 +1,11 @@
 pub mod Changes
 pub mod Copies
 pub mod Elements
+pub mod Going
 pub mod Payloads
 pub mod Segments
+pub mod SoFar
 pub mod Spans
 pub mod Starts
 pub mod Strikes
+pub mod Targets

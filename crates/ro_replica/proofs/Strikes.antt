@@ -2,7 +2,10 @@
 use Rattle.std.specs.Prelude.{◌≡◌, ℕ, zero, suc, ◌+◌, Bool, true, false, not, cond, ◌&&◌, if◌then◌else◌, List, [], ◌∷◌, length, Option, Some, None, slice_get, slice_set}
 use Rattle.std.specs.List.{filter, fold}
 use Rattle.std.specs.Option.{option_map, option_and_then}
-use Rattle.std.proofs.Common.{refl, sym, ap, ◌∙◌, arith, subst}
+use Rattle.std.specs.Prelude.{◌<◌, ◌≤◌, ◌++◌, slice_index_or}
+use Rattle.std.proofs.Common.{refl, sym, ap, ◌∙◌, arith, subst, take, append-nil, length-append}
+use Rattle.std.proofs.lemmas.List.Elements.{filter_more}
+use Rattle.std.proofs.lemmas.List.Filters.{length-filter_both, length-filter_more}
 use Rattle.ro_region.specs.declared.Range.{Range}
 use Rattle.ro_pages.specs.Bytes.{stored, page_of}
 use Rattle.ro_exec.specs.Next.{Layout}
@@ -11,7 +14,7 @@ use Rattle.ro_faults.specs.declared.Fault.{Fault}
 use Rattle.ro_faults.specs.declared.Target.{Target}
 use Rattle.ro_faults.specs.declared.Target.TheVariants.{Register, Pc, Byte}
 use Rattle.ro_replica.specs.Replica.{Replica, changed_at}
-use Rattle.ro_replica.specs.Runs.{Ran, is_due, is_mapped, with_cpu, struck_by, strike, strike_in, struck, execute, plus_hit, run_of}
+use Rattle.ro_replica.specs.Runs.{Ran, is_due, with_cpu, struck_by, strike, strike_in, struck, execute, plus_hit, run_of}
 use Rattle.ro_replica.proofs.Elements.{get_changed, filter_other, filter_none}
 
 -- no fault of the thread waits for this moment
@@ -101,3 +104,68 @@ struck_twice ranges replica thread =
 pub struck_none : (ranges : List Range) (replica : Replica) (thread done : ℕ) → done_at thread replica ≡ Some done → NoneDue thread done replica → struck ranges replica thread ≡ record { replica = replica; hit = 0 }
 struck_none ranges replica thread done e none =
     struck_is ranges replica thread ∙ ap (strike_at ranges thread replica) e ∙ strike_none ranges thread done replica none
+
+-- a strike at one fault more
+strikes_last : (ranges : List Range) (thread : ℕ) (replica : Replica) (faults : List Fault) (fault : Fault) → strikes ranges thread replica (faults ++ fault ∷ []) ≡ struck_by ranges thread (strikes ranges thread replica faults) fault.target
+strikes_last ranges thread replica [] fault = refl
+strikes_last ranges thread replica (first ∷ faults) fault = strikes_last ranges thread (struck_by ranges thread replica first.target) faults fault
+
+pub filter_takes : (p : Fault → Bool) (faults : List Fault) (i : ℕ) (fault : Fault) → i < length faults → fault ≡ slice_index_or faults i fault → p fault ≡ true → filter p (take (i + 1) faults) ≡ filter p (take i faults) ++ fault ∷ []
+filter_takes p faults i fault within read passes =
+    filter_more p faults i fault within
+    ∙ ap (λ (x : Fault). filter p (take i faults) ++ cond (p x) (x ∷ []) []) (sym read)
+    ∙ ap (λ (b : Bool). filter p (take i faults) ++ cond b (fault ∷ []) []) passes
+
+pub filter_skips : (p : Fault → Bool) (faults : List Fault) (i : ℕ) (fault : Fault) → i < length faults → fault ≡ slice_index_or faults i fault → p fault ≡ false → filter p (take (i + 1) faults) ≡ filter p (take i faults)
+filter_skips p faults i fault within read fails =
+    filter_more p faults i fault within
+    ∙ ap (λ (x : Fault). filter p (take i faults) ++ cond (p x) (x ∷ []) []) (sym read)
+    ∙ ap (λ (b : Bool). filter p (take i faults) ++ cond b (fault ∷ []) []) fails
+    ∙ append-nil (filter p (take i faults))
+
+pub strikes_more : (ranges : List Range) (thread : ℕ) (replica : Replica) (p : Fault → Bool) (faults : List Fault) (i : ℕ) (fault : Fault) → i < length faults → fault ≡ slice_index_or faults i fault → p fault ≡ true
+    → strikes ranges thread replica (filter p (take (i + 1) faults)) ≡ struck_by ranges thread (strikes ranges thread replica (filter p (take i faults))) fault.target
+strikes_more ranges thread replica p faults i fault within read passes =
+    ap (strikes ranges thread replica) (filter_takes p faults i fault within read passes)
+    ∙ strikes_last ranges thread replica (filter p (take i faults)) fault
+
+-- what waits does not matter to the strikes
+strikes_leave : (ranges : List Range) (thread : ℕ) (replica : Replica) (left : List Fault) (faults : List Fault) → strikes ranges thread (record replica { waiting = left }) faults ≡ record (strikes ranges thread replica faults) { waiting = left }
+strikes_leave ranges thread replica left [] = refl
+strikes_leave ranges thread replica left (fault ∷ faults) =
+    ap (λ (r : Replica). strikes ranges thread r faults) (one fault.target) ∙ strikes_leave ranges thread (struck_by ranges thread replica fault.target) left faults
+  where
+    one : (target : Target) → struck_by ranges thread (record replica { waiting = left }) target ≡ record (struck_by ranges thread replica target) { waiting = left }
+    one (Register number bit) = refl
+    one (Pc bit) = refl
+    one (Byte address bit) = refl
+
+-- a strike, as strikes at all that is due, which is left out then
+pub struck_all : (ranges : List Range) (replica after : Replica) (thread done hit : ℕ) → done_at thread replica ≡ Some done
+    → after ≡ record (strikes ranges thread replica (filter (is_due thread done) replica.waiting)) { waiting = filter (λ fault. not (is_due thread done fault)) replica.waiting }
+    → hit ≡ length (filter (is_due thread done) replica.waiting)
+    → struck ranges replica thread ≡ record { replica = after; hit = hit }
+struck_all ranges replica after thread done hit there is count =
+    let due : List Fault = filter (is_due thread done) replica.waiting in
+    let left : List Fault = filter (λ fault. not (is_due thread done fault)) replica.waiting in
+    struck_is ranges replica thread ∙ ap (strike_at ranges thread replica) there
+    ∙ ap (λ (r : Replica). record { replica = r; hit = length due }) (strikes_leave ranges thread replica left due ∙ sym is)
+    ∙ ap (λ (n : ℕ). record { replica = after; hit = n }) (sym count)
+
+-- none is found in one place more
+pub none_more : (p : Fault → Bool) (faults : List Fault) (i : ℕ) (d : Fault) → i < length faults → filter p (take i faults) ≡ [] → p (slice_index_or faults i d) ≡ false → filter p (take (i + 1) faults) ≡ []
+none_more p faults i d within none fails =
+    filter_more p faults i d within
+    ∙ ap (λ (b : Bool). filter p (take i faults) ++ cond b (slice_index_or faults i d ∷ []) []) fails
+    ∙ append-nil (filter p (take i faults)) ∙ none
+
+pub none_less : (p : Fault → Bool) (faults : List Fault) (i : ℕ) (d : Fault) → i < length faults → filter p (take (i + 1) faults) ≡ [] → (filter p (take i faults) ≡ []) × (p (slice_index_or faults i d) ≡ false)
+none_less p faults i d within none = by (p (slice_index_or faults i d)) refl (sym (filter_more p faults i d within) ∙ none)
+  where
+    by : (b : Bool) → p (slice_index_or faults i d) ≡ b → filter p (take i faults) ++ cond (p (slice_index_or faults i d)) (slice_index_or faults i d ∷ []) [] ≡ [] → (filter p (take i faults) ≡ []) × (p (slice_index_or faults i d) ≡ false)
+    by true e h = absurd (
+        let h1 : filter p (take i faults) ++ slice_index_or faults i d ∷ [] ≡ [] = subst (λ (b : Bool). filter p (take i faults) ++ cond b (slice_index_or faults i d ∷ []) [] ≡ []) e h in
+        let n : length (filter p (take i faults)) + 1 ≡ 0 = sym (length-append (filter p (take i faults)) (slice_index_or faults i d ∷ [])) ∙ ap length h1 in
+        omega arith)
+    by false e h =
+        (sym (append-nil (filter p (take i faults))) ∙ subst (λ (b : Bool). filter p (take i faults) ++ cond b (slice_index_or faults i d ∷ []) [] ≡ []) e h, e)

@@ -66,9 +66,6 @@ impl Replica {
     pub fn stop(&self, thread: u32) -> Option<Stop>
         ensures { result ≡ stop_of (replica_of self.now) thread }
     {
-        match self.threads.get(thread as usize) {
-            Some(thread) => thread.stop,
-            None => None,
-        }
+        self.threads.get(thread as usize)?.stop
     }
 }

@@ -1,0 +1,107 @@
+//! Striking the faults that are due.
+ghost use Rattle.std.specs.Prelude.{◌≡◌, ◌+◌, ◌<◌, ◌≤◌, true, not, length, filter, fold};
+ghost use Rattle.ro_faults.specs.Texts.{is_target};
+ghost use Rattle.ro_faults.specs.Flips.{flipped};
+ghost use Rattle.ro_exec.specs.Registers.{register, with_register};
+ghost use Rattle.ro_replica.specs.Runs.{struck_by, is_due, struck};
+ghost use Rattle.ro_replica.specs.Seen.{replica_of, SameProgram};
+
+use crate::replicas::Replica;
+use ro_exec::Cpu;
+use ro_faults::{Fault, Target};
+use ro_pages::Memory;
+
+impl Replica {
+    /// Strikes the faults of a thread that are due, in the list's order, and counts them. They wait no longer then.
+    pub(crate) fn strike(&mut self, thread: u32) -> u32
+        requires { thread < length self.old.threads }
+        ensures program { SameProgram self.new self.old }
+        ensures struck { struck self.old.layout.ranges (replica_of self.old) thread ≡ record { replica = replica_of self.new; hit = result } }
+        ensures fewer { result + length self.new.waiting ≡ length self.old.waiting }
+        ensures few { result + length self.new.waiting ≤ 256 }
+        ensures threads { length self.new.threads ≡ length self.old.threads }
+    {
+        let done = self.threads[thread as usize].done;
+        let hit = self.strike_all(thread, done);
+        forget(&mut self.waiting, thread, done);
+        hit
+    }
+
+    // Strikes all faults of a thread that are due at a count, and counts them.
+    fn strike_all(&mut self, thread: u32, done: u128) -> u32
+        requires { thread < length self.old.threads }
+        ensures program { SameProgram self.new self.old }
+        ensures waiting { self.new.waiting ≡ self.old.waiting }
+        ensures struck { replica_of self.new ≡ fold (λ r fault. struck_by self.old.layout.ranges thread r fault.target) (replica_of self.old) (filter (is_due thread done) self.old.waiting) }
+        ensures hit { result ≡ length (filter (is_due thread done) self.old.waiting) }
+        ensures threads { length self.new.threads ≡ length self.old.threads }
+    {
+        let mut hit = 0;
+        for i in 0..self.waiting.len() {
+            let fault = self.waiting[i];
+            if is_due(&fault, thread, done) {
+                self.strike_at(thread, fault.target);
+                hit += 1;
+            }
+        }
+        hit
+    }
+
+    // Strikes one target. A byte of an unbacked page or of no permitted range stays as it is.
+    fn strike_at(&mut self, thread: u32, target: Target)
+        requires thread { thread < length self.old.threads }
+        requires target { is_target target ≡ true }
+        ensures program { SameProgram self.new self.old }
+        ensures struck { replica_of self.new ≡ struck_by self.old.layout.ranges thread (replica_of self.old) target }
+        ensures threads { length self.new.threads ≡ length self.old.threads }
+    {
+        match target {
+            Target::Register { number, bit } => {
+                flip_register(&mut self.threads[thread as usize].cpu, number, bit)
+            }
+            Target::Pc { bit } => flip_pc(&mut self.threads[thread as usize].cpu, bit),
+            Target::Byte { address, bit } => {
+                if self.pages.backed(address / 4096) && self.regions.contains(address) {
+                    let byte = self.pages.load(address, 1);
+                    self.pages.store(address, 1, flip(byte, bit));
+                }
+            }
+        }
+    }
+}
+
+// The faults that are due wait no longer.
+fn forget(waiting: &mut Vec<Fault>, thread: u32, done: u128)
+    ensures { waiting.new.items ≡ filter (λ fault. not (is_due thread done fault)) waiting.old.items }
+{
+    waiting.retain(|fault| !is_due(fault, thread, done));
+}
+
+/// Whether a fault is one of a thread that has retired so many instructions.
+fn is_due(fault: &Fault, thread: u32, done: u128) -> bool
+    ensures { result ≡ is_due thread done fault.now }
+{
+    fault.thread == thread && u128::from(fault.at) == done
+}
+
+fn flip(number: u32, bit: u8) -> u32
+    requires { bit < 32 }
+    ensures { result ≡ flipped number bit }
+{
+    number ^ (1 << bit)
+}
+
+fn flip_register(cpu: &mut Cpu, number: u8, bit: u8)
+    requires number { number < 32 }
+    requires bit { bit < 32 }
+    ensures { cpu.new ≡ record cpu.old { registers = with_register cpu.old.registers number (flipped (register cpu.old number) bit) } }
+{
+    cpu.set(number, flip(cpu.get(number), bit));
+}
+
+fn flip_pc(cpu: &mut Cpu, bit: u8)
+    requires { bit < 32 }
+    ensures { cpu.new ≡ record cpu.old { pc = flipped cpu.old.pc bit } }
+{
+    cpu.pc = flip(cpu.pc, bit);
+}

@@ -295,6 +295,75 @@ mod tests {
         memory.load(address, size)
     }
 
+    // what bytes are stored at, and what is read afterwards at another place
+    struct Stretch {
+        place: u32,
+        bytes: &'static [u8],
+        from: u32,
+        want: [u8; 12],
+    }
+
+    const STRETCHES: &[Stretch] = &[
+        Stretch {
+            place: 0x1_0FFD,
+            bytes: &[1, 2, 3, 4, 5, 6, 7, 8],
+            from: 0x1_0FFB,
+            want: [0, 0, 1, 2, 3, 4, 5, 6, 7, 8, 0, 0],
+        },
+        Stretch {
+            place: 0x1_1000,
+            bytes: &[17, 18, 19, 20],
+            from: 0x1_0FFB,
+            want: [0, 0, 1, 2, 3, 17, 18, 19, 20, 8, 0, 0],
+        },
+        Stretch {
+            place: 0x1_0FFE,
+            bytes: &[],
+            from: 0x1_0FFC,
+            want: [0, 1, 2, 3, 17, 18, 19, 20, 8, 0, 0, 0],
+        },
+        // the next page is not backed
+        Stretch {
+            place: 0x1_1FFE,
+            bytes: &[8, 9],
+            from: 0x1_1FF8,
+            want: [0, 0, 0, 0, 0, 0, 8, 9, 0, 0, 0, 0],
+        },
+        Stretch {
+            place: 0x1_0FFF,
+            bytes: &[5],
+            from: 0xFFFF_FFF4,
+            want: [0; 12],
+        },
+    ];
+
+    fn store_bytes(rt: &impl Abort, pages: &mut Pages, place: u32, bytes: &[u8]) {
+        assert!(rt; bytes.len() <= 4096);
+        assert!(rt; place < 0x1000_0000);
+        let last = place + bytes.len() as u32;
+        assert!(rt; pages.has_page(place / 4096));
+        assert!(rt; last % 4096 == 0 || pages.has_page(last / 4096));
+        pages.write_bytes(place, bytes);
+    }
+
+    #[test]
+    fn stores_and_reads_stretches(rt: HostRuntime) -> Result<(), Fail> {
+        let mut pages = Pages::new(rt.alloc())?;
+        pages.reserve(2)?;
+        assert!(rt; !pages.backed(0x10));
+        pages.back(0x10);
+        assert!(rt; !pages.backed(0x11));
+        pages.back(0x11);
+        for stretch in STRETCHES {
+            store_bytes(&rt, &mut pages, stretch.place, stretch.bytes);
+            assert!(rt; stretch.from <= 0xFFFF_FFF4);
+            let mut bytes = [1; 12];
+            pages.read_bytes(stretch.from, &mut bytes);
+            assert_eq!(rt; bytes, stretch.want, "from {:x}", stretch.from);
+        }
+        Ok(())
+    }
+
     // each size at each alignment, over a word of 0xDDCCBBAA
     #[test]
     fn stores_and_loads(rt: HostRuntime) -> Result<(), Fail> {

@@ -18,7 +18,7 @@ use Rattle.ro_core.specs.Event.{Event, all_applied, core_after}
 use Rattle.ro_core.specs.Legal.{after, IsAllowed, replay}
 use Rattle.ro_core.specs.Sound.{IsOver, exits, traps, IsSound, IsOrdered}
 use Rattle.ro_core.specs.Seen.{sent_of}
-use Rattle.ro_core.specs.Fields.{failed_of, AreSeated, AreHome, AreSpared, CanTake, one_end, due_behind, Fields, core_in, blocked_at, Counts, Holds}
+use Rattle.ro_core.specs.Fields.{failed_of, AreSeated, AreHome, AreSpared, CanTake, one_end, due_behind, Fields, core_in, blocked_at, CountsBytes, Holds}
 use Rattle.ro_core.proofs.Happens.{Happens}
 use Rattle.ro_core.proofs.Journals.{outcome_of-append}
 use Rattle.ro_core.proofs.Ordered.{ordered}
@@ -109,7 +109,7 @@ module _ (f f' : Fields) (h : Holds f) (entry : Entry) (allowed : IsAllowed f.jo
       let same : n ≡ bytes = (let k : Some (Sink n) ≡ Some (Sink bytes) = sym (ap (due_behind event.due) e) ∙ g in cc) in
       (subst (λ (m : ℕ). m < length event.payload) same p.0, going-after p.1)
 
-  sent-counts : Sent f f' count event failed → f'.steps ≡ f.steps + count + event_steps event.did → Counts f'.sent f'.steps (sent_of f.job f'.journal (failed_of f'.due))
+  sent-counts : Sent f f' count event failed → f'.steps ≡ f.steps + count + event_steps event.did → CountsBytes f'.sent f'.steps (sent_of f.job f'.journal (failed_of f'.due))
   sent-counts s steps = record {
     sent_are = s.sent ∙ ap (λ (n : ℕ). n + length (bytes-by failed event.payload)) h.counts.sent_are ∙ sym (length-append (sent_of f.job f.journal (failed_of f.due)) (bytes-by failed event.payload)) ∙ ap length (sym s.bytes);
     few = let a = s.few in let b = s.sent in let d = h.counts.few in let e = bytes-fewer failed event.payload in omega arith;

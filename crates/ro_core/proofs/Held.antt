@@ -15,7 +15,7 @@ use Rattle.ro_core.specs.declared.actions.Lease.{Lease}
 use Rattle.ro_core.specs.Core.{Job, Core, is_going}
 use Rattle.ro_core.specs.Legal.{after, IsAllowed, Legal, replay, replay_with}
 use Rattle.ro_core.specs.Seen.{KeepsViews, sent_of}
-use Rattle.ro_core.specs.Fields.{failed_of, AreSeated, one_end, Fields, core_in, state_in, blocked_at, Counts, Holds}
+use Rattle.ro_core.specs.Fields.{failed_of, AreSeated, one_end, Fields, core_in, state_in, blocked_at, CountsBytes, Holds}
 use Rattle.ro_core.proofs.Homes.{replay_more, legal_more}
 use Rattle.ro_core.proofs.Ordered.{going-parts}
 use Rattle.ro_core.proofs.Outcomes.{ended_is_outcome}
@@ -94,7 +94,7 @@ pub record Becomes (f f' : Fields) (entry : Entry) : Type 0 where
   pub blocked_count : length f'.blocked ≡ 16
   pub blocked : (thread : ℕ) → blocked_at f'.blocked thread ≡ (after f.job (core_in f) entry).blocked thread
   pub steps : f'.steps ≡ (after f.job (core_in f) entry).steps
-  pub counts : Counts f'.sent f'.steps (sent_of f.job f'.journal (failed_of f'.due))
+  pub counts : CountsBytes f'.sent f'.steps (sent_of f.job f'.journal (failed_of f'.due))
   pub due : (f'.due ≡ (after f.job (core_in f) entry).due) ⊎ ((bytes : ℕ) × (f'.due ≡ Some (Sink bytes)))
   pub not_sink : (bytes : ℕ) → f'.due ≡ Some (Sink bytes) → (bytes < (after f.job (core_in f) entry).wrote) × (is_going (after f.job (core_in f) entry) ≡ true)
   pub ended : f'.ended ≡ (after f.job (core_in f) entry).ended
@@ -133,7 +133,7 @@ module _ (f f' : Fields) (entry : Entry) (h : Holds f) (allowed : IsAllowed f.jo
     blocked_count = b.blocked_count;
     blocked_are = λ t. b.blocked t ∙ sym (ap (λ (c : Core). c.blocked t) core_is);
     steps_are = b.steps ∙ sym (ap (λ (c : Core). c.steps) core_is);
-    counts = subst (λ (j : Job). Counts f'.sent f'.steps (sent_of j f'.journal (failed_of f'.due))) (sym b.job) b.counts;
+    counts = subst (λ (j : Job). CountsBytes f'.sent f'.steps (sent_of j f'.journal (failed_of f'.due))) (sym b.job) b.counts;
     due_is = due_is (failed_of f'.due) refl b.due;
     ended_is = b.ended ∙ sym (ap (λ (c : Core). c.ended) core_is);
     seats_are = subst (λ (j : Job). AreSeated j (core_in f') f'.seats) (sym b.job) (subst (λ (c : Core). AreSeated f.job c f'.seats) (sym core_is) b.seats);
@@ -145,7 +145,7 @@ module _ (f f' : Fields) (entry : Entry) (h : Holds f) (allowed : IsAllowed f.jo
   }
 
 -- no byte leaves
-pub same-counts : (f f' : Fields) → Holds f → f'.sent ≡ f.sent → f'.steps ≡ f.steps → sent_of f.job f'.journal (failed_of f'.due) ≡ sent_of f.job f.journal (failed_of f.due) → Counts f'.sent f'.steps (sent_of f.job f'.journal (failed_of f'.due))
+pub same-counts : (f f' : Fields) → Holds f → f'.sent ≡ f.sent → f'.steps ≡ f.steps → sent_of f.job f'.journal (failed_of f'.due) ≡ sent_of f.job f.journal (failed_of f.due) → CountsBytes f'.sent f'.steps (sent_of f.job f'.journal (failed_of f'.due))
 same-counts f f' h sent steps bytes = record {
   sent_are = sent ∙ h.counts.sent_are ∙ ap length (sym bytes);
   few = let k = h.counts.few in omega arith;

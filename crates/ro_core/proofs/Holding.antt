@@ -34,7 +34,7 @@ use Rattle.ro_core.specs.Event.{Event, call_event, event_of, with_recovered, all
 use Rattle.ro_core.specs.Legal.{event_in, since_in, core_after_event, after, cut_output, output_of, MayVote, PassesLimit, MayEnd, for_vote, Legal, replay, replay_with}
 use Rattle.ro_core.specs.Seen.{CoreOf, sent, sent_of, Sends, IsOfMajority, KeepsViews}
 use Rattle.ro_core.specs.Sound.{IsOver, exits, traps, IsLow, IsSound, IsOrdered}
-use Rattle.ro_core.specs.Fields.{failed_of, due_behind, one_end, blocked_at, AreSeated, AreHome, IsSeat, CanRecover, Fields, core_in, state_in, Counts, Holds}
+use Rattle.ro_core.specs.Fields.{failed_of, due_behind, one_end, blocked_at, AreSeated, AreHome, IsSeat, CanRecover, Fields, core_in, state_in, CountsBytes, Holds}
 use Rattle.ro_core.proofs.Homes.{replay_more}
 use Rattle.ro_core.proofs.Held.{Goes, goes, same-counts}
 use Rattle.ro_core.proofs.Happens.{Happens, event-happens}
@@ -388,7 +388,7 @@ kept-holds f f' h alone job journal home leases kernel blocked steps due ended v
       blocked_count = ap length blocked ∙ h.blocked_count;
       blocked_are = λ t. ap (λ (bs : List (Option Call)). blocked_at bs t) blocked ∙ h.blocked_are t ∙ sym (ap (λ (c : Core). c.blocked t) core);
       steps_are = steps ∙ h.steps_are ∙ sym (ap (λ (c : Core). c.steps) core);
-      counts = subst (λ (j : Job). Counts f'.sent f'.steps (sent_of j f'.journal (failed_of f'.due))) (sym job)
+      counts = subst (λ (j : Job). CountsBytes f'.sent f'.steps (sent_of j f'.journal (failed_of f'.due))) (sym job)
           (same-counts f f' h count steps (ap (λ (js : List Entry). sent_of f.job js (failed_of f'.due)) journal ∙ ap (λ (o : Option How). sent_of f.job f.journal (failed_of o)) due));
       due_is = due ∙ h.due_is ∙ sym (ap (λ (c : Core). c.due) state);
       ended_is = ended ∙ h.ended_is ∙ sym (ap (λ (c : Core). c.ended) core);

@@ -81,7 +81,7 @@ abbrev pub blocked_at : List (Option Call) → (thread : ℕ) → Option Call
 blocked_at blocked thread = slice_index_or blocked thread None
 
 -- so many bytes left, at most 4,096 a step
-pub record Counts (sent steps : ℕ) (bytes : List ℕ) : Type 0 where
+pub record CountsBytes (sent steps : ℕ) (bytes : List ℕ) : Type 0 where
   pub sent_are : sent ≡ length bytes
   pub few : sent ≤ 4096 * steps
 
@@ -95,7 +95,7 @@ pub record Holds (f : Fields) : Type 0 where
   pub blocked_count : length f.blocked ≡ 16
   pub blocked_are : (thread : ℕ) → blocked_at f.blocked thread ≡ (core_in f).blocked thread
   pub steps_are : f.steps ≡ (core_in f).steps
-  pub counts : Counts f.sent f.steps (sent_of f.job f.journal (failed_of f.due))
+  pub counts : CountsBytes f.sent f.steps (sent_of f.job f.journal (failed_of f.due))
   pub due_is : f.due ≡ (state_in f).due
   pub ended_is : f.ended ≡ (core_in f).ended
   pub seats_are : AreSeated f.job (core_in f) f.seats

@@ -11,53 +11,17 @@ use Rattle.ro_plain.specs.Machine.{layout_of, Machine, BackedRun}
 use Rattle.ro_plain.proofs.Calls.{some-injective}
 use Rattle.ro_core.specs.Core.{Job, Core}
 use Rattle.ro_core.specs.Event.{with_recovered}
-use Rattle.ro_simulation.specs.Invariant.{IsSound, Agrees}
-use Rattle.ro_simulation.proofs.Lists.{get-set-cases}
+use Rattle.ro_core.specs.Sound.{IsSound}
+use Rattle.ro_simulation.specs.Invariant.{Agrees}
+use Rattle.ro_core.proofs.Lists.{get-set-cases}
 use Rattle.ro_simulation.proofs.Counts.{counts, same-counts-ahead}
-
--- a thread of a copy is the winner's, but for what was retired
-pub record CopiedFrom (winners : List Thread) (i : ℕ) (y : Thread) : Type 0 where
-  pub from : Thread
-  pub there : slice_get winners i ≡ Some from
-  pub retired : ℕ
-  pub is : record from { done = retired } ≡ y
-
--- each thread of a copy comes from the winner
-pub copied-from : (winners losers : List Thread) (i : ℕ) (y : Thread) → slice_get (copied_threads winners losers) i ≡ Some y → CopiedFrom winners i y
-copied-from [] losers i y e = absurd (let f : None ≡ Some y = e in cc)
-copied-from (w ∷ winners) [] i y e = absurd (let f : None ≡ Some y = e in cc)
-copied-from (w ∷ winners) (l ∷ losers) zero y e = record { from = w; there = refl; retired = l.done; is = some-injective e }
-copied-from (w ∷ winners) (l ∷ losers) (suc i) y e = let c = copied-from winners losers i y e in record { from = c.from; there = c.there; retired = c.retired; is = c.is }
-
--- each of the winner's threads is in the copy
-pub copied-there : (winners losers : List Thread) (i : ℕ) (w : Thread) → length winners ≡ length losers → slice_get winners i ≡ Some w → (retired : ℕ) × (slice_get (copied_threads winners losers) i ≡ Some (record w { done = retired }))
-copied-there [] losers i w n e = absurd (let f : None ≡ Some w = e in cc)
-copied-there (x ∷ winners) [] i w n e = absurd (omega arith)
-copied-there (x ∷ winners) (l ∷ losers) zero w n e = (l.done, ap (λ (y : Thread). Some (record y { done = l.done })) (some-injective e))
-copied-there (x ∷ winners) (l ∷ losers) (suc i) w n e = copied-there winners losers i w (omega arith) e
+use Rattle.ro_core.proofs.Copies.{copied-from}
 
 -- a copy has the winner's counts
 counts-copied : (winners losers : List Thread) → length winners ≡ length losers → counts (copied_threads winners losers) ≡ counts winners
 counts-copied [] losers n = refl
 counts-copied (w ∷ winners) [] n = absurd (omega arith)
 counts-copied (w ∷ winners) (l ∷ losers) n = ap {B = List ℕ} (λ (r : List ℕ). w.since ∷ r) (counts-copied winners losers (omega arith))
-
--- a copy has as many threads as the winner
-length-copied : (winners losers : List Thread) → length winners ≡ length losers → length (copied_threads winners losers) ≡ length winners
-length-copied [] losers n = refl
-length-copied (w ∷ winners) [] n = absurd (omega arith)
-length-copied (w ∷ winners) (l ∷ losers) n = ap suc (length-copied winners losers (omega arith))
-
--- a copy keeps what holds of every replica
-pub sound-recovered : (job : Job) (core : Core) (backed : Backed) (won lost : ℕ) (winner loser : Replica) → IsSound job core backed won winner → IsSound job core backed lost loser → IsSound job core backed lost (recovered winner loser)
-unfolding recovered
-sound-recovered job core backed won lost winner loser h k = record {
-  same_backed = h.same_backed;
-  all_made = length-copied winner.threads loser.threads (h.all_made ∙ sym k.all_made) ∙ h.all_made;
-  within_watch = λ place thread e. let c = copied-from winner.threads loser.threads place thread e in
-      subst (λ (y : Thread). y.since ≤ job.settings.watchdog) c.is (h.within_watch place c.from c.there);
-  own_faults = k.own_faults;
-}
 
 -- a copy of a replica that agrees agrees
 pub agrees-recovered : (job : Job) (machine : Machine) (winner loser : Replica) → length winner.threads ≡ length loser.threads → Agrees job machine winner → Agrees job machine (recovered winner loser)
@@ -75,35 +39,3 @@ agrees-recovered job machine winner loser n h = record {
         subst (λ (y : Thread). y.stop ≡ Some stop → standing_in (layout_of job.program) job.settings.watchdog winner y ≡ Some stop) c.is ((h.stops number).stands c.from stop alive c.there) stopped;
   };
 }
-
--- a replica after a vote's copy: one as it was, or the copy
-pub data AfterCopy (won lost : ℕ) (replicas : List Replica) (number : ℕ) (r : Replica) : Type 0 where
-  not_lost : number ≢ lost → slice_get replicas number ≡ Some r → AfterCopy won lost replicas number r
-  is_copy : (winner loser : Replica) → number ≡ lost → slice_get replicas won ≡ Some winner → slice_get replicas lost ≡ Some loser → recovered winner loser ≡ r → AfterCopy won lost replicas number r
-
--- after a copy each other replica is as it was
-pub after-copy : (won lost : ℕ) (replicas : List Replica) (winner : Replica) (number : ℕ) (r : Replica) → slice_get replicas won ≡ Some winner → slice_get (with_recovered won (Some lost) replicas) number ≡ Some r → AfterCopy won lost replicas number r
-after-copy won lost replicas winner number r there e =
-    by (slice_get replicas lost) refl (sym (ap (λ (o : Option Replica). slice_get (option_map_or (λ w. option_map_or (λ l. slice_set replicas lost (recovered w l)) (slice_get replicas lost) replicas) o replicas) number) there) ∙ e)
-  where
-    set-case : (loser : Replica) → slice_get replicas lost ≡ Some loser → ((number ≢ lost) × (slice_get replicas number ≡ Some r)) ⊎ ((number ≡ lost) × (recovered winner loser ≡ r)) → AfterCopy won lost replicas number r
-    set-case loser f (inl g) = not_lost g.0 g.1
-    set-case loser f (inr g) = is_copy winner loser g.0 there f g.1
-
-    by : (o : Option Replica) → slice_get replicas lost ≡ o → slice_get (option_map_or (λ l. slice_set replicas lost (recovered winner l)) o replicas) number ≡ Some r → AfterCopy won lost replicas number r
-    by None f g = not_lost (λ (k : number ≡ lost). let l : None ≡ Some r = sym f ∙ (ap (slice_get replicas) (sym k) ∙ g) in cc) g
-    by (Some loser) f g = set-case loser f (get-set-cases replicas lost number (recovered winner loser) r g)
-
--- a copy changes no number of replicas
-set-or-same : (replicas : List Replica) (lost : ℕ) (winner : Replica) (o : Option Replica) → length (option_map_or (λ l. slice_set replicas lost (recovered winner l)) o replicas) ≡ length replicas
-set-or-same replicas lost winner None = refl
-set-or-same replicas lost winner (Some loser) = length-set replicas lost (recovered winner loser)
-
--- there are as many replicas after a vote's copy
-pub length-with-copy : (won : ℕ) (lost : Option ℕ) (replicas : List Replica) → length (with_recovered won lost replicas) ≡ length replicas
-length-with-copy won None replicas = refl
-length-with-copy won (Some lost) replicas = by (slice_get replicas won)
-  where
-    by : (o : Option Replica) → length (option_map_or (λ w. option_map_or (λ l. slice_set replicas lost (recovered w l)) (slice_get replicas lost) replicas) o replicas) ≡ length replicas
-    by None = refl
-    by (Some winner) = set-or-same replicas lost winner (slice_get replicas lost)

@@ -22,10 +22,11 @@ use Rattle.ro_core.specs.declared.actions.Lease.{Lease}
 use Rattle.ro_core.specs.Core.{Job, Core, is_going, nothing_lent, is_home, is_lendable, may_vote, may_free, views_of}
 use Rattle.ro_replica.specs.Views.{is_unstopped}
 use Rattle.ro_core.specs.Legal.{any_below, is_stuck, MayEnd, due, alone, for_vote, for_free}
-use Rattle.ro_simulation.specs.Invariant.{IsOver, exits, traps, Holds}
+use Rattle.ro_core.specs.Sound.{IsOver, exits, traps}
+use Rattle.ro_simulation.specs.Invariant.{Holds}
 use Rattle.ro_simulation.specs.Theorem.{EndsAs, TwoOrThree}
 use Rattle.ro_simulation.proofs.Stays.{live-within}
-use Rattle.ro_simulation.proofs.Lists.{get-within, all-from}
+use Rattle.ro_core.proofs.Lists.{get-within, all-from}
 use Rattle.ro_simulation.proofs.Verdicts.{never-splits, pair-agrees}
 use Rattle.ro_simulation.proofs.Kept.{going-from, none-lent}
 use Rattle.ro_simulation.proofs.Frees.{not-true-from, free-parts}

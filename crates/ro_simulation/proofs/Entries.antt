@@ -17,9 +17,11 @@ use Rattle.ro_plain.specs.Order.{RaceFree}
 use Rattle.ro_core.specs.declared.actions.Lease.{Lease}
 use Rattle.ro_core.specs.Core.{Job, Core, is_out}
 use Rattle.ro_core.specs.Legal.{arrived, arrival, is_lease, core_after_put, after, lease_run, MayTake, MayPut}
-use Rattle.ro_simulation.specs.Invariant.{IsSound, Agrees, Holds}
-use Rattle.ro_simulation.proofs.Lists.{get-set-cases}
-use Rattle.ro_simulation.proofs.Sound.{HasFault, StruckWell, run-well, sound-changed}
+use Rattle.ro_core.specs.Sound.{IsSound}
+use Rattle.ro_simulation.specs.Invariant.{Agrees, Holds}
+use Rattle.ro_core.proofs.Lists.{get-set-cases}
+use Rattle.ro_core.proofs.Sound.{HasFault}
+use Rattle.ro_simulation.proofs.Sound.{StruckWell, run-well, sound-changed}
 use Rattle.ro_simulation.proofs.Put.{agrees-after-lease}
 use Rattle.ro_simulation.proofs.Kept.{going-from, ideal-same, plan-same}
 

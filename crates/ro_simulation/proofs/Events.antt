@@ -29,10 +29,11 @@ use Rattle.ro_core.specs.Event.{quiet_effect}
 use Rattle.ro_simulation.specs.Invariant.{StopStands, Agrees}
 use Rattle.ro_simulation.proofs.Stays.{Stays, stays}
 use Rattle.ro_simulation.proofs.Ahead.{KeepsRest, BackedRun-keeps, reach-run, TakenAfter, take-after, stays-along}
-use Rattle.ro_simulation.proofs.Lists.{get-set-same, get-append-last}
-use Rattle.ro_simulation.proofs.Served.{IsTidy}
+use Rattle.ro_core.proofs.Lists.{get-set-same, get-append-last}
+use Rattle.ro_core.proofs.Served.{IsTidy}
 use Rattle.ro_simulation.proofs.Views.{Comes}
-use Rattle.ro_simulation.proofs.Effects.{backed_after, more-after, KeptStop, IsOf, ThreadAfter, as_before, its_own, newly_made, agrees-applied, stands-later}
+use Rattle.ro_core.proofs.Effects.{backed_after}
+use Rattle.ro_simulation.proofs.Effects.{more-after, KeptStop, IsOf, ThreadAfter, as_before, its_own, newly_made, agrees-applied, stands-later}
 
 -- a stop that is left was not released
 if-released : (releases : Bool) (o : Option Stop) (stop : Stop) → cond releases None o ≡ Some stop → (releases ≡ false) × (o ≡ Some stop)

@@ -23,7 +23,7 @@ use Rattle.ro_core.specs.Legal.{freed_event, core_after_event, after, MayFree}
 use Rattle.ro_simulation.specs.Invariant.{Agrees, StandsAtCall, Holds}
 use Rattle.ro_simulation.proofs.Stays.{live-within}
 use Rattle.ro_simulation.proofs.Ahead.{BackedRun-head, plain-executes}
-use Rattle.ro_simulation.proofs.Lists.{get-within}
+use Rattle.ro_core.proofs.Lists.{get-within}
 use Rattle.ro_simulation.proofs.Views.{Comes, comes-by, none-left}
 use Rattle.ro_simulation.proofs.Steps.{HasEvent, step-of-call}
 use Rattle.ro_simulation.proofs.Votes.{run-more}

@@ -22,12 +22,13 @@ use Rattle.ro_core.specs.declared.actions.Lease.{Lease}
 use Rattle.ro_core.specs.Core.{Job, Core, is_going, nothing_lent, is_out}
 use Rattle.ro_core.specs.Event.{Event, core_after}
 use Rattle.ro_core.specs.Ideal.{ideal}
-use Rattle.ro_simulation.specs.Invariant.{IsSound, Agrees, StandsAtCall, Holds}
+use Rattle.ro_core.specs.Sound.{IsSound}
+use Rattle.ro_simulation.specs.Invariant.{Agrees, StandsAtCall, Holds}
 use Rattle.ro_simulation.proofs.Stays.{live-within}
 use Rattle.ro_simulation.proofs.Ahead.{KeepsRest, BackedRun-keeps, BackedRun-run}
-use Rattle.ro_simulation.proofs.Lists.{MappedFrom, get-map, length-mapped}
-use Rattle.ro_simulation.proofs.Effects.{backed_after, sound-applied}
-use Rattle.ro_simulation.proofs.Served.{made_count}
+use Rattle.ro_core.proofs.Lists.{MappedFrom, get-map, length-mapped}
+use Rattle.ro_core.proofs.Effects.{backed_after, sound-applied}
+use Rattle.ro_core.proofs.Served.{made_count}
 use Rattle.ro_simulation.proofs.Steps.{EventStep}
 use Rattle.ro_simulation.proofs.Views.{Comes}
 

@@ -17,10 +17,10 @@ use Rattle.ro_plain.proofs.Swap.{run-append}
 use Rattle.ro_core.specs.Core.{Job, Core, opening_core}
 use Rattle.ro_core.specs.Legal.{MayEnd, due, alone, for_vote, for_free, after, Legal, replay}
 use Rattle.ro_core.specs.Ideal.{IsAlike, StaysApart}
-use Rattle.ro_simulation.specs.Invariant.{Listed, IsOver}
+use Rattle.ro_core.specs.Sound.{Listed, IsOver}
 use Rattle.ro_simulation.specs.Theorem.{Simulates, IsComplete, by_exit, by_trap, by_deadlock, WritesAsIdeal, AllOfOne, StaysAlone, NeverDiffers}
 use Rattle.ro_simulation.proofs.Alike.{agrees-is-alike}
-use Rattle.ro_simulation.proofs.Sound.{HasFault}
+use Rattle.ro_core.proofs.Sound.{HasFault}
 use Rattle.ro_simulation.proofs.Stays.{live-within}
 use Rattle.ro_simulation.proofs.Entries.{put-fault, put-going}
 use Rattle.ro_simulation.proofs.Ends.{never-differ}

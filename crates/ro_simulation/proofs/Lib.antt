@@ -1,13 +1,10 @@
 pub mod Pages
 pub mod Stays
 pub mod Ahead
-pub mod Lists
 pub mod Around
 pub mod Views
 pub mod Counts
-pub mod Sound
 pub mod Put
-pub mod Served
 pub mod Effects
 pub mod Events
 pub mod Verdicts

@@ -13,7 +13,8 @@ use Rattle.ro_plain.proofs.Calls.{some-injective}
 use Rattle.ro_core.specs.Core.{Job, Core, opening_core}
 use Rattle.ro_core.specs.Legal.{MayEnd, due, alone, for_vote, for_free, Legal, replay}
 use Rattle.ro_core.specs.Ideal.{StaysApart}
-use Rattle.ro_simulation.specs.Invariant.{IsOver, Holds}
+use Rattle.ro_core.specs.Sound.{IsOver}
+use Rattle.ro_simulation.specs.Invariant.{Holds}
 use Rattle.ro_simulation.specs.Theorem.{TwoOrThree, IsComplete, by_exit, by_trap, by_deadlock, PassedLimit, CannotDiffer, EndsComplete}
 use Rattle.ro_simulation.proofs.Kept.{plan-same}
 use Rattle.ro_simulation.proofs.Votes.{vote-parts, vote-runs}

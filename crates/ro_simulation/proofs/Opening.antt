@@ -9,8 +9,9 @@ use Rattle.ro_replica.specs.Replica.{Replica, unstopped, opening_replica}
 use Rattle.ro_plain.specs.Machine.{opening, nothing_left}
 use Rattle.ro_plain.proofs.Calls.{some-injective}
 use Rattle.ro_core.specs.Core.{Job, Core, opening_replicas, opening_core}
-use Rattle.ro_simulation.specs.Invariant.{IsSound, Agrees, Holds}
-use Rattle.ro_simulation.proofs.Lists.{get-append-cases, listed-filter}
+use Rattle.ro_core.specs.Sound.{IsSound}
+use Rattle.ro_simulation.specs.Invariant.{Agrees, Holds}
+use Rattle.ro_core.proofs.Lists.{get-append-cases, listed-filter}
 
 -- so many replicas are made
 length-opening : (job : Job) (n : ℕ) → length (opening_replicas job n) ≡ n

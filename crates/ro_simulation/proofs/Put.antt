@@ -20,10 +20,11 @@ use Rattle.ro_simulation.specs.Invariant.{RunsAhead, StopStands, Agrees}
 use Rattle.ro_simulation.proofs.Stays.{Stays, stays}
 use Rattle.ro_simulation.proofs.Ahead.{StepsBacked, backed-step, BackedRun-keeps, reach-run, push}
 use Rattle.ro_simulation.proofs.Views.{ahead-is, live-at-end}
-use Rattle.ro_simulation.proofs.Lists.{get-set-same, get-set-cases, ChangedFrom, unchanged, changed_here, get-changed}
+use Rattle.ro_core.proofs.Lists.{get-set-same, get-set-cases, ChangedFrom, unchanged, changed_here, get-changed}
 use Rattle.ro_simulation.proofs.Around.{Around, around, replicate-last}
 use Rattle.ro_simulation.proofs.Counts.{same-counts-ahead, counts-changed}
-use Rattle.ro_simulation.proofs.Sound.{Instructs, instructs, instructed, run-parts, SameButWaiting, none-struck}
+use Rattle.ro_core.proofs.Sound.{Instructs, instructed, run-parts, SameButWaiting, none-struck}
+use Rattle.ro_simulation.proofs.Sound.{instructs}
 use Rattle.ro_kernel.proofs.Kept.{slice_get-set_other}
 
 -- the replica agrees with the machine, but for this thread's stop

@@ -29,7 +29,7 @@ use Rattle.ro_core.specs.Event.{event_of}
 use Rattle.ro_core.specs.Legal.{Legal, after, output_of, due}
 use Rattle.ro_core.specs.Ideal.{ahead, IsAlike, StaysApart}
 use Rattle.ro_simulation.specs.Theorem.{StaysAlone, AllOfOne, Simulates}
-use Rattle.ro_simulation.specs.Invariant.{Listed}
+use Rattle.ro_core.specs.Sound.{Listed}
 use Rattle.ro_simulation.specs.Guests.{exit_guest, usual_job}
 use Rattle.ro_simulation.specs.Rows.{flip_a0, one_struck, two_struck, IsCovered}
 use Rattle.ro_simulation.proofs.Ahead.{BackedRun-run}

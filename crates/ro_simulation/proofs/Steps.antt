@@ -31,11 +31,13 @@ use Rattle.ro_plain.proofs.Calls.{some-injective, step-at}
 use Rattle.ro_core.specs.Core.{Job}
 use Rattle.ro_replica.specs.Views.{payload_at}
 use Rattle.ro_core.specs.Event.{Event, quiet_effect, call_event, event_of}
-use Rattle.ro_simulation.specs.Invariant.{StopStands, Agrees, StandsAtCall, IsOver, traps}
+use Rattle.ro_core.specs.Sound.{IsOver, traps}
+use Rattle.ro_simulation.specs.Invariant.{StopStands, Agrees, StandsAtCall}
 use Rattle.ro_simulation.proofs.Stays.{Stays, stays}
 use Rattle.ro_simulation.proofs.Ahead.{KeepsRest, BackedRun-keeps, reach-run, stays-along}
 use Rattle.ro_simulation.proofs.Around.{Without-replicate}
-use Rattle.ro_simulation.proofs.Served.{made_count, Tidy, tidy_done, tidy_blocked, tidy_end, serve-tidy}
+use Rattle.ro_core.proofs.Served.{made_count, Tidy, tidy_done, tidy_blocked, tidy_end}
+use Rattle.ro_simulation.proofs.Served.{serve-tidy}
 use Rattle.ro_simulation.proofs.Views.{Comes}
 use Rattle.ro_simulation.proofs.Events.{agrees-quiet, agrees-served}
 

@@ -29,7 +29,7 @@ use Rattle.ro_core.specs.Ideal.{ahead_from, ahead}
 use Rattle.ro_simulation.specs.Invariant.{RunsAhead, StopStands}
 use Rattle.ro_simulation.proofs.Stays.{Stays}
 use Rattle.ro_simulation.proofs.Ahead.{BackedParts, BackedRun-split, BackedRun-join, BackedHead, BackedRun-head, KeepsRest, BackedRun-keeps, reach-run, pull, stays-along}
-use Rattle.ro_simulation.proofs.Lists.{set-same}
+use Rattle.ro_core.proofs.Lists.{set-same}
 use Rattle.ro_simulation.proofs.Around.{Around, around, Without-append}
 
 -- ---- the stop that stands

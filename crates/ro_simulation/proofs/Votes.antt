@@ -27,12 +27,14 @@ use Rattle.ro_core.specs.Core.{Job, Core, may_vote, views_of}
 use Rattle.ro_replica.specs.Views.{payload_at, view_with, view_of}
 use Rattle.ro_core.specs.Event.{Event, event_of, with_recovered, core_after}
 use Rattle.ro_core.specs.Legal.{event_with, event_in, core_after_event, after, since_in, MayVote}
-use Rattle.ro_simulation.specs.Invariant.{IsSound, Agrees, Holds}
-use Rattle.ro_simulation.proofs.Lists.{get-within, get-filter-map, length-filter-map, get-all, all-from}
+use Rattle.ro_core.specs.Sound.{IsSound}
+use Rattle.ro_simulation.specs.Invariant.{Agrees, Holds}
+use Rattle.ro_core.proofs.Lists.{get-within, get-filter-map, length-filter-map, get-all, all-from}
 use Rattle.ro_simulation.proofs.Views.{Comes, Arrives, arrives, SameArrival, same-arrival, machine_view, next-at-middle, view-is, standing_by, stands-next, not-equal}
 use Rattle.ro_simulation.proofs.Ahead.{KeepsRest, BackedRun-keeps, BackedRun-run}
 use Rattle.ro_simulation.proofs.Verdicts.{AllBut, WonWell, won-well, won-some}
-use Rattle.ro_simulation.proofs.Copies.{copied-there, sound-recovered, agrees-recovered, AfterCopy, not_lost, is_copy, after-copy, length-with-copy}
+use Rattle.ro_core.proofs.Copies.{copied-there, sound-recovered, AfterCopy, not_lost, is_copy, after-copy, length-with-copy}
+use Rattle.ro_simulation.proofs.Copies.{agrees-recovered}
 use Rattle.ro_simulation.proofs.Steps.{HasEvent, step-of-stop}
 use Rattle.ro_simulation.proofs.Kept.{Going, going-from, none-lent, Meets, event-holds}
 

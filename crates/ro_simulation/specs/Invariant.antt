@@ -19,6 +19,7 @@ use Rattle.ro_replica.specs.Runs.{standing_in}
 use Rattle.ro_plain.specs.Machine.{Program, layout_of, Machine, BackedRun, next_of, steppable}
 use Rattle.ro_core.specs.Core.{Job, Core, is_out}
 use Rattle.ro_core.specs.Ideal.{ideal, ahead}
+use Rattle.ro_core.specs.Sound.{IsSound, IsOver}
 
 -- The replica is the machine, run ahead by plain instructions that touch only backed pages.
 pub record RunsAhead (job : Job) (machine : Machine) (replica : Replica) : Type 0 where
@@ -36,28 +37,12 @@ pub record Agrees (job : Job) (machine : Machine) (replica : Replica) : Type 0 w
   pub runs_ahead : RunsAhead job machine replica
   pub stops : (number : ℕ) → StopStands job machine replica number
 
--- The element stands somewhere in the list.
-abbrev pub Listed : {X : Type 0} → List X → X → Type 0
-Listed xs x = (place : ℕ) × (slice_get xs place ≡ Some x)
-
--- What holds of every replica, struck or not.
-pub record IsSound (job : Job) (core : Core) (backed : Backed) (number : ℕ) (replica : Replica) : Type 0 where
-  pub same_backed : replica.backed ≡ backed
-  pub all_made : length replica.threads ≡ length core.kernel.lives
-  pub within_watch : (place : ℕ) (thread : Thread) → slice_get replica.threads place ≡ Some thread → thread.since ≤ job.settings.watchdog
-  pub own_faults : (fault : Fault) → Listed replica.waiting fault → (fault.replica ≡ number) × Listed job.faults fault
-
 -- A blocked thread stands at its voted call, which writes nothing.
 pub record StandsAtCall (program : Program) (machine : Machine) (number : ℕ) (call : Call) : Type 0 where
   pub cpu : Cpu
   pub live : steppable machine number ≡ Some cpu
   pub stands : next_of program machine cpu ≡ Stands (Calls call)
   pub writes_nothing : (memory : Memory) → payload_of program.image.ranges memory call ≡ []
-
--- The program ended by an exit or a trap.
-pub data IsOver : How → Type 0 where
-  exits : {status : ℕ} → IsOver (Exit status)
-  traps : {code : ℕ} → IsOver (Trap code)
 
 -- The core stands to the ideal machine as it must; every replica but this one agrees with it.
 pub record Holds (job : Job) (odd : ℕ) (journal : List Entry) (core : Core) : Type 0 where

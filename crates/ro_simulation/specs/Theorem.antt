@@ -15,7 +15,7 @@ use Rattle.ro_replica.specs.Views.{view_of}
 use Rattle.ro_core.specs.Event.{Event}
 use Rattle.ro_core.specs.Legal.{event_in, after, replay, output_of}
 use Rattle.ro_core.specs.Ideal.{ideal, IsAlike}
-use Rattle.ro_simulation.specs.Invariant.{Listed}
+use Rattle.ro_core.specs.Sound.{Listed}
 
 -- ---- the payloads of all served writes
 

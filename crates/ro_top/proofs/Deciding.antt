@@ -15,7 +15,7 @@ use Rattle.ro_core.specs.Action.{next_action, IsNext}
 use Rattle.ro_core.specs.Seen.{CoreOf, state, sent, sent_of, Appends, Quiet, Sends, DecidesVote, DecidesFree}
 use Rattle.ro_core.proofs.Leases.{event_leases}
 use Rattle.ro_core.proofs.Nexts.{vote_next, free_next, end_is, over_is_next}
-use Rattle.ro_simulation.specs.Invariant.{IsOver}
+use Rattle.ro_core.specs.Sound.{IsOver}
 use Rattle.ro_top.specs.Driven.{IsDriven, IsHome, HasFailed, Goes}
 use Rattle.ro_top.proofs.Lasts.{due_over, ended_cut}
 use Rattle.ro_top.proofs.Turns.{going_calm, calm_state, leases_with, driven_more, home_new, goes_quiet, goes_sending}

@@ -22,8 +22,9 @@ use Rattle.ro_core.specs.Core.{Job, Core, opening_core}
 use Rattle.ro_core.specs.Event.{Event, event_of, call_event, with_recovered}
 use Rattle.ro_core.specs.Legal.{MayEnd, IsAllowed, LegalFrom, Legal, lease_run, core_after_put, core_after_event, event_with, event_in, freed_event, after, replay_from, replay, cut_output, output_of}
 use Rattle.ro_core.proofs.Journals.{replay_from-append}
-use Rattle.ro_simulation.specs.Invariant.{IsOver, traps}
-use Rattle.ro_simulation.proofs.Served.{Tidy, tidy_end, serve-tidy}
+use Rattle.ro_core.specs.Sound.{IsOver, traps}
+use Rattle.ro_core.proofs.Served.{Tidy, tidy_end}
+use Rattle.ro_simulation.proofs.Served.{serve-tidy}
 use Rattle.ro_simulation.proofs.Journals.{nothing-after, after-end-ended, ended-outcome}
 
 -- ---- an end that is due is an exit or a trap

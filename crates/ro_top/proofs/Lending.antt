@@ -19,7 +19,7 @@ use Rattle.ro_core.specs.Action.{next_action}
 use Rattle.ro_core.specs.Seen.{CoreOf, state, Appends, Quiet, IsLent, MayReturn, lease_of}
 use Rattle.ro_core.proofs.Nexts.{lend_is_next}
 use Rattle.ro_simulation.proofs.Kept.{going-from}
-use Rattle.ro_simulation.proofs.Lists.{get-set-same}
+use Rattle.ro_core.proofs.Lists.{get-set-same}
 use Rattle.ro_top.specs.Driven.{IsDriven, IsHome, Goes}
 use Rattle.ro_top.proofs.Turns.{lend_calm, calm_state, driven_more, replay_new, state_new, home_new, goes_quiet, goes_on}
 

@@ -13,7 +13,7 @@ use Rattle.ro_core.specs.Core.{Job, opening_core}
 use Rattle.ro_core.specs.Legal.{MayEnd, due, alone, for_vote, for_free, Legal, replay}
 use Rattle.ro_core.specs.Seen.{KeepsViews}
 use Rattle.ro_core.proofs.Journals.{plan_of-append}
-use Rattle.ro_simulation.specs.Invariant.{IsOver}
+use Rattle.ro_core.specs.Sound.{IsOver}
 use Rattle.ro_top.specs.Driven.{CanRun}
 use Rattle.ro_top.specs.Causes.{IsOutcome, IsStuck, PassesLimit, CutsWrite, EndCause}
 use Rattle.ro_top.proofs.Lasts.{due_over, LastEntry, last_from}

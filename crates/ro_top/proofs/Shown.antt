@@ -23,7 +23,7 @@ use Rattle.ro_core.specs.Core.{Job, Core, opening_replicas, opening_core, may_vo
 use Rattle.ro_core.specs.Event.{Event, with_recovered}
 use Rattle.ro_core.specs.Legal.{Legal, LegalFrom, EndsVote, arrived, lease_run, core_after_put, core_after_event, event_in, freed_event, after, replay_from, replay}
 use Rattle.ro_core.specs.Seen.{ShowsViews}
-use Rattle.ro_simulation.proofs.Lists.{length-mapped, length-filter-map}
+use Rattle.ro_core.proofs.Lists.{length-mapped, length-filter-map}
 use Rattle.ro_simulation.proofs.Votes.{vote-parts}
 use Rattle.ro_simulation.proofs.Journals.{legal-split, outcome-ended}
 use Rattle.ro_top.specs.Causes.{AreTwo, AreThree}

@@ -26,7 +26,8 @@ use Rattle.ro_core.specs.Event.{Event, call_event, with_recovered, all_applied}
 use Rattle.ro_core.specs.Legal.{arrived, lease_run, core_after_put, core_after_event, event_in, freed_event, after, IsAllowed, LegalFrom, Legal, replay_from, replay}
 use Rattle.ro_report.specs.Report.{hits_of, struck_in}
 use Rattle.ro_simulation.proofs.Frees.{free-parts}
-use Rattle.ro_simulation.proofs.Sound.{instructs, run-parts}
+use Rattle.ro_core.proofs.Sound.{run-parts}
+use Rattle.ro_simulation.proofs.Sound.{instructs}
 use Rattle.ro_top.specs.Driven.{CanRun, AreCounts}
 
 -- ---- faults that wait

@@ -484,7 +484,7 @@ invariant_of-self-2 g c =
     let items5 = with_items_is (with_items (with_items s.seats c.reserve_pages.new.seats) c.recover_loser.new.seats) c.apply_to_all.new.seats (home-count f.job c.apply_to_all.new.seats (all_applied event.effect healed) home5 ∙ length-applied event.effect healed ∙ length-with-copy c.args.won.won c.args.won.lost replicas ∙ count) in
     let setup : c.happen.new.kernel.setup ≡ s.kernel.setup = c.happen.ensures.setup in
     let failed : Option ℕ = c.send-failed.result in
-    let taken : c.taken_of-taken.result ≡ length (bytes-by failed event.payload) = c.taken_of-taken.ensures ∙ ap (unwrap_or failed) (c.len.ensures ∙ ap (λ (xs : List ℕ). length xs) written) ∙ sym (bytes-count failed event.payload (λ n e. (well.part n e).0)) in
+    let taken : c.taken_of-taken.result ≡ length (bytes-by failed event.payload) = c.taken_of-taken.ensures ∙ ap (λ (xs : List ℕ). unwrap_or failed (length xs)) written ∙ sym (bytes-count failed event.payload (λ n e. (well.part n e).0)) in
     let due : c.due_behind-self-inside.result ≡ due_behind event.due failed = c.due_behind-self-inside.ensures ∙ ap (λ (e : Event). due_behind e.due failed) (sym its) in
     let left : sent_of f.job c.push_reserved.new.self.items (failed_of c.due_behind-self-inside.result) ≡ sent_of f.job f.journal (failed_of f.due) ++ bytes-by failed event.payload =
         ap (λ (js : List Entry). sent_of f.job js (failed_of c.due_behind-self-inside.result)) journal
@@ -712,7 +712,7 @@ overflow_add-self-2 g c =
     let entry : Vote c.args.thread c.since-count.result c.args.won.won c.args.won.lost c.did_of-did.result ≡ Vote c.args.thread view.since c.args.won.won c.args.won.lost c.did_of-did.result = ap (λ (n : ℕ). Vote c.args.thread n c.args.won.won c.args.won.lost c.did_of-did.result) c.since-count.ensures in
     let journal : c.push_reserved.new.self.items ≡ f.journal ++ Vote c.args.thread view.since c.args.won.won c.args.won.lost c.did_of-did.result ∷ [] = c.push_reserved.ensures.items ∙ ap (λ js. js ++ Vote c.args.thread c.since-count.result c.args.won.won c.args.won.lost c.did_of-did.result ∷ []) c.in_ok-reserve.ensures.items ∙ ap (λ (e : Entry). f.journal ++ e ∷ []) entry in
     let failed : Option ℕ = c.send-failed.result in
-    let taken : c.taken_of-taken.result ≡ length (bytes-by failed event.payload) = c.taken_of-taken.ensures ∙ ap (unwrap_or failed) (c.len.ensures ∙ ap (λ (xs : List ℕ). length xs) written) ∙ sym (bytes-count failed event.payload (λ n e. (well.part n e).0)) in
+    let taken : c.taken_of-taken.result ≡ length (bytes-by failed event.payload) = c.taken_of-taken.ensures ∙ ap (λ (xs : List ℕ). unwrap_or failed (length xs)) written ∙ sym (bytes-count failed event.payload (λ n e. (well.part n e).0)) in
     let most : length event.payload ≤ 4096 = subst (λ (xs : List ℕ). length xs ≤ 4096) (sym (ap (λ (e : Event). e.payload) its)) (short-if c.in_ok-event.event.writes view.payload (hold-short f h c.args.thread c.args.won.won c.args.won.lost may views verdict view there)) in
     let fewer = bytes-fewer failed event.payload in
     let few = h.counts.few in

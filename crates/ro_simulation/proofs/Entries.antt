@@ -21,7 +21,7 @@ use Rattle.ro_core.specs.Sound.{IsSound}
 use Rattle.ro_simulation.specs.Invariant.{Agrees, Holds}
 use Rattle.ro_core.proofs.Lists.{get-set-cases}
 use Rattle.ro_core.proofs.Sound.{HasFault}
-use Rattle.ro_simulation.proofs.Sound.{StruckWell, run-well, sound-changed}
+use Rattle.ro_core.proofs.Sound.{StruckWell, run-well, sound-changed}
 use Rattle.ro_simulation.proofs.Put.{agrees-after-lease}
 use Rattle.ro_simulation.proofs.Kept.{going-from, ideal-same, plan-same}
 

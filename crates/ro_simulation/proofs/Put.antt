@@ -24,7 +24,7 @@ use Rattle.ro_core.proofs.Lists.{get-set-same, get-set-cases, ChangedFrom, uncha
 use Rattle.ro_simulation.proofs.Around.{Around, around, replicate-last}
 use Rattle.ro_simulation.proofs.Counts.{same-counts-ahead, counts-changed}
 use Rattle.ro_core.proofs.Sound.{Instructs, instructed, run-parts, SameButWaiting, none-struck}
-use Rattle.ro_simulation.proofs.Sound.{instructs}
+use Rattle.ro_core.proofs.Sound.{instructs}
 use Rattle.ro_kernel.proofs.Kept.{slice_get-set_other}
 
 -- the replica agrees with the machine, but for this thread's stop

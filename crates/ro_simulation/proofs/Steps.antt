@@ -37,7 +37,7 @@ use Rattle.ro_simulation.proofs.Stays.{Stays, stays}
 use Rattle.ro_simulation.proofs.Ahead.{KeepsRest, BackedRun-keeps, reach-run, stays-along}
 use Rattle.ro_simulation.proofs.Around.{Without-replicate}
 use Rattle.ro_core.proofs.Served.{made_count, Tidy, tidy_done, tidy_blocked, tidy_end}
-use Rattle.ro_simulation.proofs.Served.{serve-tidy}
+use Rattle.ro_core.proofs.Served.{serve-tidy}
 use Rattle.ro_simulation.proofs.Views.{Comes}
 use Rattle.ro_simulation.proofs.Events.{agrees-quiet, agrees-served}
 

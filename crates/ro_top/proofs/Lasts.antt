@@ -24,7 +24,7 @@ use Rattle.ro_core.specs.Legal.{MayEnd, IsAllowed, LegalFrom, Legal, lease_run, 
 use Rattle.ro_core.proofs.Journals.{replay_from-append}
 use Rattle.ro_core.specs.Sound.{IsOver, traps}
 use Rattle.ro_core.proofs.Served.{Tidy, tidy_end}
-use Rattle.ro_simulation.proofs.Served.{serve-tidy}
+use Rattle.ro_core.proofs.Served.{serve-tidy}
 use Rattle.ro_simulation.proofs.Journals.{nothing-after, after-end-ended, ended-outcome}
 
 -- ---- an end that is due is an exit or a trap

@@ -27,7 +27,7 @@ use Rattle.ro_core.specs.Legal.{arrived, lease_run, core_after_put, core_after_e
 use Rattle.ro_report.specs.Report.{hits_of, struck_in}
 use Rattle.ro_simulation.proofs.Frees.{free-parts}
 use Rattle.ro_core.proofs.Sound.{run-parts}
-use Rattle.ro_simulation.proofs.Sound.{instructs}
+use Rattle.ro_core.proofs.Sound.{instructs}
 use Rattle.ro_top.specs.Driven.{CanRun, AreCounts}
 
 -- ---- faults that wait

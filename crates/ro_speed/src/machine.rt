@@ -3,10 +3,10 @@ ghost use Rattle.std.specs.Prelude.{◌≡◌, ◌<◌, ◌^◌};
 ghost use Rattle.ro_exec.specs.Registers.{register};
 
 use ro_event::CallTable;
-use ro_exec::{Cpu, Step};
+use ro_exec::Cpu;
 use ro_pages::{Memory, Pages};
 use ro_region::{Range, Regions};
-use ro_thread::Thread;
+use ro_thread::{Thread, run};
 use std::alloc::{AllocError, Global};
 
 const CODE: u32 = 0x1_0000;
@@ -62,41 +62,15 @@ impl Machine {
         })
     }
 
-    /// Runs to the first stop, by quanta where one is given, and counts the instructions before it.
-    pub fn run(&mut self, quantum: Option<u32>) -> u64 {
-        match quantum {
-            Some(quantum) => self.run_quanta(quantum),
-            None => self.run_steps(),
-        }
-    }
-
-    // Instruction by instruction, with no counts.
-    #[inline(never)]
-    fn run_steps(&mut self) -> u64 {
-        for count in 0..u64::MAX {
-            match ro_exec::step(
-                &mut self.thread.cpu,
-                &mut self.pages,
-                &self.regions,
-                &self.calls,
-            ) {
-                Step::Did => {}
-                Step::Stopped(_) => return count,
-            }
-        }
-        u64::MAX
-    }
-
-    // By quanta, each after a release.
-    #[inline(never)]
-    fn run_quanta(&mut self, quantum: u32) -> u64 {
+    /// Runs to the first stop by quanta of instructions, each after a release, and counts the instructions before it.
+    pub fn run(&mut self, quantum: u32) -> u64 {
         let mut count: u64 = 0;
         for _ in 0..u64::MAX {
             self.thread.since = 0;
             if self.thread.done > u128::from(u64::MAX) {
                 break;
             }
-            let ran = ro_thread::run(
+            let ran = run(
                 &mut self.thread,
                 &mut self.pages,
                 &self.regions,

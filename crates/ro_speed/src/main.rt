@@ -1,8 +1,7 @@
 //! How fast a guest's instructions run: three loops of instructions, each run for as many turns as is asked.
 //!
-//! `ro_speed LOOP TURNS` prints how many instructions ran, two registers to compare, and the nanoseconds that it took;
-//! `ro_speed LOOP TURNS QUANTUM` does so for runs of so many instructions at a time. With no words each loop runs a few
-//! turns, and no time is printed.
+//! `ro_speed LOOP TURNS` prints how many instructions ran, two registers to compare, and the nanoseconds that it took. A
+//! third word is the quantum, the instructions of one run. With no words each loop runs a few turns, and no time is printed.
 #![tactic(auto)]
 
 mod guests;
@@ -16,13 +15,10 @@ use std::env;
 use std::rt::Clock;
 use std::time::Instant;
 
-fn ran(
-    rt: &impl Print,
-    alloc: Global,
-    guest: Guest,
-    turns: u32,
-    quantum: Option<u32>,
-) -> Result<()> {
+/// How many instructions a run has where no other number is given.
+const QUANTUM: u32 = 4096;
+
+fn ran(rt: &impl Print, alloc: Global, guest: Guest, turns: u32, quantum: u32) -> Result<()> {
     let mut machine = Machine::new(alloc, guest.words(), turns)?;
     let count = machine.run(quantum);
     println!(rt;
@@ -39,7 +35,7 @@ fn timed(
     alloc: Global,
     guest: Guest,
     turns: u32,
-    quantum: Option<u32>,
+    quantum: u32,
 ) -> Result<()> {
     let mut machine = Machine::new(alloc, guest.words(), turns)?;
     let start = Instant::now(rt)?;
@@ -59,16 +55,15 @@ fn main(rt: HostRuntime) -> Result<()> {
     let mut words = env::args(&rt)?.skip(1);
     let Some(name) = words.next() else {
         for guest in [Guest::Mix, Guest::Stack, Guest::Bytes] {
-            ran(&rt, alloc, guest, 100, None)?;
-            ran(&rt, alloc, guest, 100, Some(64))?;
+            ran(&rt, alloc, guest, 100, 64)?;
         }
         return Ok(());
     };
     let guest = Guest::named(name.as_str()).context("the loops are mix, stack and bytes")?;
     let turns = words.next().context("how many turns?")?.parse::<u32>()?;
     let quantum = match words.next() {
-        Some(word) => Some(word.parse::<u32>()?),
-        None => None,
+        Some(word) => word.parse::<u32>()?,
+        None => QUANTUM,
     };
     timed(&rt, alloc, guest, turns, quantum)
 }

@@ -19,7 +19,10 @@ pub struct Ran {
 
 /// Runs a thread until it stands at a stop, or for `most` instructions. It stands at the watchdog's stop once it has run for
 /// `watchdog` instructions since its last release.
-#[inline(always)]
+///
+/// It is a function of its own, so that `step` has one caller, and becomes a part of its loop: where a memory's `step` has
+/// two callers, LLVM inlines it into neither, and an instruction takes half as long again.
+#[inline(never)]
 pub fn run<M: Memory>(
     thread: &mut Thread,
     memory: &mut M,
@@ -37,32 +40,28 @@ pub fn run<M: Memory>(
     let mut cpu = thread.cpu;
     for count in 0..bound {
         if let Step::Stopped(stop) = step(&mut cpu, memory, regions, calls) {
-            advance(thread, cpu, count);
-            return Ran {
-                count,
-                stop: Some(stop),
-            };
+            return ended(thread, cpu, count, Some(stop));
         }
     }
-    advance(thread, cpu, bound);
-    Ran {
-        count: bound,
-        stop: if bound < most {
-            Some(Stop::Watchdog)
-        } else {
-            None
-        },
-    }
+    let stop = if bound < most {
+        Some(Stop::Watchdog)
+    } else {
+        None
+    };
+    ended(thread, cpu, bound, stop)
 }
 
-// Gives a thread what its registers are after so many instructions, and counts them.
-#[inline(always)]
-fn advance(thread: &mut Thread, cpu: Cpu, count: u32)
+// Ends a run of so many instructions: gives the thread what its registers are then, and counts them.
+#[cold]
+#[inline(never)]
+fn ended(thread: &mut Thread, cpu: Cpu, count: u32, stop: Option<Stop>) -> Ran
     requires since { thread.old.since + count < 2 ^ 32 }
     requires done { thread.old.done + count < 2 ^ 128 }
-    ensures { thread.new ≡ record thread.old { cpu = cpu; since = thread.old.since + count; done = thread.old.done + count } }
+    ensures ran { result ≡ record { count = count; stop = stop } }
+    ensures thread { thread.new ≡ record thread.old { cpu = cpu; since = thread.old.since + count; done = thread.old.done + count } }
 {
     thread.cpu = cpu;
     thread.since += count;
     thread.done += u128::from(count);
+    Ran { count, stop }
 }

@@ -1,10 +1,8 @@
 -- The fields of a core at its opening.
-use Rattle.std.proofs.Common.{◌≡◌, ◌⊎◌, inl, inr, ℕ, zero, suc, ◌+◌, ◌<◌, ◌≤◌, true, List, [], ◌∷◌, ◌++◌, length, Option, Some, None, refl, sym, ap, ◌∙◌, subst, arith}
+use Rattle.std.proofs.Common.{◌≡◌, ◌⊎◌, inl, inr, ℕ, zero, suc, ◌<◌, ◌≤◌, List, [], ◌∷◌, ◌++◌, length, Option, Some, None, refl, sym, ap, ◌∙◌, subst, arith}
 use Rattle.std.specs.Prelude.{slice_get}
 use Rattle.std.proofs.lemmas.Option.{slice_get_within}
-use Rattle.ro_journal.specs.declared.How.{How}
 use Rattle.ro_journal.specs.declared.How.TheVariants.{Sink}
-use Rattle.ro_journal.specs.declared.Entry.{Entry}
 use Rattle.ro_journal.specs.Plan.{outcome_of}
 use Rattle.ro_event.specs.declared.calls.Call.{Call}
 use Rattle.ro_faults.specs.declared.Fault.{Fault}
@@ -12,7 +10,7 @@ use Rattle.ro_image.specs.Image.{Image}
 use Rattle.ro_kernel.specs.Kernel.{opening_kernel}
 use Rattle.ro_plain.specs.Machine.{setup_of}
 use Rattle.ro_replica.specs.Replica.{Replica, opening_replica}
-use Rattle.ro_replica.specs.Seen.{ReplicaOf, replica_of, IsOpening}
+use Rattle.ro_replica.specs.Seen.{ReplicaOf, IsOpening}
 use Rattle.ro_settings.specs.Ranges.{InRange}
 use Rattle.ro_core.specs.Core.{Job, Core, opening_replicas, opening_core}
 use Rattle.ro_core.specs.Legal.{Legal, replay}

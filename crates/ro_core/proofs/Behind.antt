@@ -1,6 +1,6 @@
 -- The fields of a core behind an event: a vote or a free.
-use Rattle.std.proofs.Common.{◌≡◌, ◌≢◌, ◌⊎◌, inl, inr, ℕ, zero, suc, ◌+◌, ◌*◌, ◌<◌, ◌≤◌, Bool, true, false, true≢false, cond, ◌&&◌, List, [], ◌∷◌, ◌++◌, length, take, length-take, length-append, Option, Some, None, refl, sym, ap, ◌∙◌, subst, arith, eqb-true}
-use Rattle.std.specs.Prelude.{◌==◌, ◌^◌, if◌then◌else◌, is_none, IfSome, slice_get, slice_set, slice_index_or, unwrap_or}
+use Rattle.std.proofs.Common.{◌≡◌, ◌≢◌, ◌⊎◌, inl, inr, ℕ, zero, suc, ◌+◌, ◌*◌, ◌<◌, ◌≤◌, Bool, true, false, true≢false, cond, List, [], ◌∷◌, ◌++◌, length, take, length-take, length-append, Option, Some, None, refl, sym, ap, ◌∙◌, subst, arith, eqb-true}
+use Rattle.std.specs.Prelude.{◌==◌, ◌^◌, if◌then◌else◌, is_none, IfSome, slice_get, slice_set, unwrap_or}
 use Rattle.std.proofs.lemmas.Bool.{eq-eqb, and_from}
 use Rattle.std.proofs.lemmas.List.{length-set}
 use Rattle.ro_journal.specs.declared.How.{How}
@@ -10,20 +10,18 @@ use Rattle.ro_journal.specs.Plan.{event_steps, outcome_of}
 use Rattle.ro_event.specs.declared.calls.Call.{Call}
 use Rattle.ro_event.specs.declared.effects.Made.{Made}
 use Rattle.ro_event.specs.Effects.{Effect}
-use Rattle.ro_kernel.specs.Kernel.{Kernel, lives_on}
 use Rattle.ro_replica.specs.Replica.{Replica}
 use Rattle.ro_replica.specs.Seen.{ReplicaOf, replica_of, CanApply}
 use Rattle.ro_core.specs.Core.{Job, Core, is_going}
 use Rattle.ro_core.specs.Event.{Event, all_applied, core_after}
-use Rattle.ro_core.specs.Legal.{after, IsAllowed, replay}
-use Rattle.ro_core.specs.Sound.{IsOver, exits, traps, IsSound, IsOrdered}
+use Rattle.ro_core.specs.Legal.{after, IsAllowed}
+use Rattle.ro_core.specs.Sound.{IsOver}
 use Rattle.ro_core.specs.Seen.{sent_of}
 use Rattle.ro_core.specs.Fields.{failed_of, AreSeated, AreHome, AreSpared, CanTake, one_end, due_behind, Fields, core_in, blocked_at, CountsBytes, Holds}
 use Rattle.ro_core.proofs.Happens.{Happens}
 use Rattle.ro_core.proofs.Journals.{outcome_of-append}
-use Rattle.ro_core.proofs.Ordered.{ordered}
 use Rattle.ro_core.proofs.Tests.{seated-home}
-use Rattle.ro_core.proofs.Held.{no-views, no-outcome, Becomes, holds-step}
+use Rattle.ro_core.proofs.Held.{no-views, no-outcome, holds-step}
 
 -- one thread's call is set
 blocked-set : (blocked : List (Option Call)) (thread t : ℕ) (call : Option Call) → thread < length blocked → blocked_at (slice_set blocked thread call) t ≡ (if t == thread then call else blocked_at blocked t)
@@ -153,9 +151,10 @@ can-take job core thread effect [] [] home spared can made = tt
 can-take job core thread effect [] (r ∷ replicas) home spared can made = absurd home
 can-take job core thread effect (None ∷ seats) replicas home spared can made = absurd home
 can-take job core thread effect (Some value ∷ seats) [] home spared can made = absurd home
-can-take job core thread effect (Some value ∷ seats) (r ∷ replicas) home spared can made =
-    (can value refl (ap (λ (x : Replica). length x.threads) home.1 ∙ made 0 r refl) spared.0,
-    can-take job core thread effect seats replicas home.2 spared.1 can (λ n x e. made (suc n) x e))
+can-take job core thread effect (Some value ∷ seats) (r ∷ replicas) home spared can made = (
+  can value refl (ap (λ (x : Replica). length x.threads) home.1 ∙ made 0 r refl) spared.0,
+  can-take job core thread effect seats replicas home.2 spared.1 can (λ n x e. made (suc n) x e),
+)
 
 -- the facts of a live thread's event, for each replica
 pub all-can-take : (job : Job) (core : Core) (thread : ℕ) (event : Event) (seats : List (Option ReplicaOf)) (replicas : List Replica) → Happens core.kernel thread event → thread < length core.kernel.lives → IfSome event.effect.page (λ page. page < 2 ^ 20)

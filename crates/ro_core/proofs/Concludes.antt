@@ -1,19 +1,18 @@
 -- An end in the place of a vote or a free, in the fields of a core.
-use Rattle.std.proofs.Common.{◌≡◌, ◌≢◌, ◌⊎◌, inl, inr, ℕ, ◌+◌, ◌<◌, ◌≤◌, Bool, true, false, List, [], ◌∷◌, ◌++◌, length, Option, Some, None, refl, sym, ap, ◌∙◌, subst, arith}
+use Rattle.std.proofs.Common.{◌≡◌, ◌≢◌, inl, ℕ, ◌+◌, ◌<◌, true, List, [], ◌∷◌, ◌++◌, length, Option, Some, None, refl, sym, ap, ◌∙◌, subst, arith}
 use Rattle.ro_journal.specs.declared.How.{How}
 use Rattle.ro_journal.specs.declared.How.TheVariants.{Exit, Deadlock, Trap, Limit, Differ, NoMajority, Sink}
 use Rattle.ro_journal.specs.declared.Entry.{Entry}
 use Rattle.ro_journal.specs.declared.Entry.TheVariants.{End}
 use Rattle.ro_event.specs.declared.calls.Call.{Call}
 use Rattle.ro_kernel.specs.State.{State}
-use Rattle.ro_core.specs.Core.{Job, Core, is_going}
-use Rattle.ro_core.specs.Legal.{after, MayEnd, cut_output, output_of, replay}
+use Rattle.ro_core.specs.Core.{Core, is_going}
+use Rattle.ro_core.specs.Legal.{after, MayEnd, cut_output}
 use Rattle.ro_core.specs.Seen.{sent_of, KeepsViews}
 use Rattle.ro_core.specs.Fields.{failed_of, AreSeated, one_end, Fields, core_in, state_in, blocked_at, Holds}
 use Rattle.ro_core.proofs.Homes.{replay_more}
-use Rattle.ro_core.proofs.Held.{Goes, goes, Becomes, same-counts, holds-step}
+use Rattle.ro_core.proofs.Held.{Goes, goes, same-counts, holds-step}
 use Rattle.ro_core.proofs.Entries.{end-seated}
-use Rattle.ro_core.proofs.Ordered.{going-parts}
 
 -- an end that is not the sink's cuts nothing
 pub cut-none : (core : Core) (how : How) → ((bytes : ℕ) → how ≢ Sink bytes) → cut_output core how ≡ core.output

@@ -1,5 +1,5 @@
 -- How many instructions a thread can have retired: no more than a quantum for each entry.
-use Rattle.std.specs.Prelude.{◌≡◌, ◌≢◌, ℕ, zero, suc, ◌+◌, ◌*◌, ◌≤◌, ◌<◌, ◌⊎◌, List, [], ◌∷◌, ◌++◌, length, map, not, Option, Some, None, slice_get}
+use Rattle.std.specs.Prelude.{◌≡◌, ◌≢◌, ℕ, zero, suc, ◌+◌, ◌*◌, ◌≤◌, ◌<◌, ◌⊎◌, List, [], ◌∷◌, length, not, Option, Some, None, slice_get}
 use Rattle.std.specs.List.{filter, fold}
 use Rattle.std.proofs.Common.{refl, sym, ap, ◌∙◌, subst, arith, inl, inr}
 use Rattle.ro_event.specs.declared.effects.Made.{Made}
@@ -14,11 +14,11 @@ use Rattle.ro_faults.specs.declared.Fault.{Fault}
 use Rattle.ro_faults.specs.declared.Target.{Target}
 use Rattle.ro_faults.specs.declared.Target.TheVariants.{Register, Pc, Byte}
 use Rattle.ro_replica.specs.Replica.{Replica, unstopped, changed_at, thread_after, creator_of, with_made, without_cancelled, applied, cancelled, copied_threads, recovered, opening_replica}
-use Rattle.ro_replica.specs.Runs.{is_due, struck_by, Ran, strike_in, strike, struck, run_of, with_stop}
+use Rattle.ro_replica.specs.Runs.{is_due, struck_by, Ran, strike_in, struck, run_of, with_stop}
 use Rattle.ro_plain.specs.Machine.{layout_of}
 use Rattle.ro_plain.proofs.Calls.{some-injective}
 use Rattle.ro_core.specs.Core.{Job, Core, opening_core}
-use Rattle.ro_core.specs.Event.{Event, with_recovered, all_applied}
+use Rattle.ro_core.specs.Event.{Event, with_recovered}
 use Rattle.ro_core.specs.Legal.{HasArrived, arrived, arrival, core_after_put, core_after_event, event_in, freed_event, after, IsAllowed, LegalFrom, Legal, replay_from, replay}
 use Rattle.ro_core.specs.Sound.{Counts, AreCounted}
 use Rattle.ro_core.proofs.Lists.{ChangedFrom, unchanged, changed_here, get-changed, get-set-cases, MappedFrom, get-map, get-append-cases}

@@ -1,6 +1,6 @@
 -- A take, a put and an end, in the fields of a core.
-use Rattle.std.proofs.Common.{◌≡◌, ◌⊎◌, inl, inr, ℕ, zero, suc, ◌+◌, ◌*◌, ◌^◌, ◌<◌, ◌≤◌, Bool, true, false, true≢false, not, cond, ◌&&◌, List, [], ◌∷◌, ◌++◌, length, Option, Some, None, refl, sym, ap, ◌∙◌, subst, arith, eqb-true, lt-ltb}
-use Rattle.std.specs.Prelude.{◌==◌, is_some, IfSome, nat_lt, slice_get, slice_set, unwrap_or}
+use Rattle.std.proofs.Common.{◌≡◌, inl, inr, ℕ, zero, suc, ◌+◌, ◌*◌, ◌^◌, ◌<◌, ◌≤◌, Bool, true, false, true≢false, not, cond, List, [], ◌∷◌, ◌++◌, length, Option, Some, None, refl, sym, ap, ◌∙◌, subst, arith, eqb-true, lt-ltb}
+use Rattle.std.specs.Prelude.{◌==◌, IfSome, slice_get, slice_set, unwrap_or}
 use Rattle.std.specs.List.{filter, find, list_any}
 use Rattle.std.specs.Option.{option_map_or}
 use Rattle.std.proofs.lemmas.Bool.{and_parts}
@@ -18,8 +18,8 @@ use Rattle.ro_replica.specs.Runs.{Ran}
 use Rattle.ro_replica.specs.Views.{is_unstopped}
 use Rattle.ro_replica.specs.Seen.{ReplicaOf, replica_of, CanCount}
 use Rattle.ro_core.specs.declared.actions.Lease.{Lease}
-use Rattle.ro_core.specs.Core.{Job, Core, is_going, is_home, is_out, is_lendable}
-use Rattle.ro_core.specs.Legal.{is_lease, lease_run, arrived, core_after_put, after, IsAllowed, MayTake, MayPut, MayEnd, alone, EndsAlone, replay, replay_with, cut_output, output_of}
+use Rattle.ro_core.specs.Core.{Job, Core, is_out}
+use Rattle.ro_core.specs.Legal.{is_lease, lease_run, core_after_put, after, IsAllowed, MayTake, MayPut, MayEnd, alone, EndsAlone, replay, replay_with, cut_output, output_of}
 use Rattle.ro_core.specs.declared.actions.Action.TheVariants.{End as DoEnd}
 use Rattle.ro_core.specs.Action.{next_action, IsNext}
 use Rattle.ro_core.specs.Seen.{CoreOf, sent, sent_of, Quiet, Appends, IsOfJob}
@@ -31,7 +31,7 @@ use Rattle.ro_core.proofs.Ordered.{going-parts, ordered}
 use Rattle.ro_core.proofs.Nexts.{end_next, end_is}
 use Rattle.ro_core.proofs.Counted.{counted}
 use Rattle.ro_core.proofs.Journals.{outcome_of-append}
-use Rattle.ro_core.proofs.Held.{with-leases, with-replicas, with-ended, Goes, goes, no-views, not-split, no-outcome, Becomes, same-counts, holds-step}
+use Rattle.ro_core.proofs.Held.{with-leases, with-ended, Goes, goes, no-views, not-split, no-outcome, same-counts, holds-step}
 
 one-end-le : (o : Option How) → one_end o ≤ 1
 one-end-le None = omega arith

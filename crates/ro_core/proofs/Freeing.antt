@@ -1,22 +1,19 @@
 -- A blocked call that is served, in the fields of a core.
-use Rattle.std.proofs.Common.{◌≡◌, ◌≢◌, ◌⊎◌, inl, inr, ℕ, zero, suc, ◌+◌, ◌<◌, ◌≤◌, Bool, true, false, true≢false, List, [], ◌∷◌, ◌++◌, length, Option, Some, None, refl, sym, ap, ◌∙◌, subst, arith, append-nil}
-use Rattle.std.specs.Prelude.{◌^◌, if◌then◌else◌, IfSome, slice_get}
-use Rattle.ro_journal.specs.declared.How.{How}
+use Rattle.std.proofs.Common.{◌≡◌, ℕ, ◌+◌, ◌<◌, ◌≤◌, true, List, [], ◌∷◌, ◌++◌, length, Option, Some, None, refl, sym, ap, ◌∙◌, subst, arith, append-nil}
+use Rattle.std.specs.Prelude.{◌^◌, IfSome, slice_get}
 use Rattle.ro_journal.specs.declared.How.TheVariants.{Limit}
 use Rattle.ro_journal.specs.declared.Did.TheVariants.{Served as WasServed}
-use Rattle.ro_journal.specs.declared.Entry.{Entry}
 use Rattle.ro_journal.specs.declared.Entry.TheVariants.{Free}
-use Rattle.ro_journal.specs.Plan.{event_steps}
 use Rattle.ro_event.specs.declared.calls.Call.{Call}
 use Rattle.ro_kernel.specs.Kernel.{Setup, Kernel, lives_on}
 use Rattle.ro_kernel.specs.Serve.{Served, Done, Blocked, Ends, serve}
 use Rattle.ro_plain.specs.Machine.{setup_of}
 use Rattle.ro_replica.specs.Replica.{Replica}
-use Rattle.ro_core.specs.Core.{Job, Core, may_free, is_going}
+use Rattle.ro_core.specs.Core.{Core, may_free}
 use Rattle.ro_core.specs.Event.{Event, call_event, core_after}
-use Rattle.ro_core.specs.Legal.{freed_event, core_after_event, after, output_of, MayFree, MayEnd, for_free, EndsFree, replay}
+use Rattle.ro_core.specs.Legal.{core_after_event, after, MayFree, MayEnd, for_free, EndsFree}
 use Rattle.ro_core.specs.Seen.{sent_of}
-use Rattle.ro_core.specs.Fields.{failed_of, due_behind, AreHome, Fields, blocked_at, core_in, state_in, Holds}
+use Rattle.ro_core.specs.Fields.{failed_of, AreHome, Fields, blocked_at, core_in, state_in, Holds}
 use Rattle.ro_core.proofs.Homes.{replay_more}
 use Rattle.ro_core.proofs.Held.{Goes, goes}
 use Rattle.ro_core.proofs.Happens.{Happens, call-happens}

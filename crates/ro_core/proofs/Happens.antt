@@ -1,5 +1,5 @@
 -- What an event keeps of the kernel.
-use Rattle.std.specs.Prelude.{◌≡◌, ◌≢◌, ℕ, ◌+◌, ◌≤◌, ◌^◌, ◌<◌, Bool, true, false, ◌&&◌, List, [], length, Option, Some, None, IfSome, nat_le}
+use Rattle.std.specs.Prelude.{◌≡◌, ◌≢◌, ℕ, ◌+◌, ◌≤◌, ◌^◌, ◌<◌, true, List, [], length, Option, Some, None, IfSome, nat_le}
 use Rattle.std.proofs.Common.{refl, sym, ap, ◌∙◌, subst, arith}
 use Rattle.std.proofs.lemmas.Bool.{and_parts, leb-true}
 use Rattle.ro_event.specs.declared.calls.Call.{Call}
@@ -13,12 +13,12 @@ use Rattle.ro_journal.specs.declared.How.{How}
 use Rattle.ro_journal.specs.declared.How.TheVariants.{Trap as TrapHow}
 use Rattle.ro_kernel.specs.Kernel.{Setup, Kernel, lives_on}
 use Rattle.ro_kernel.specs.Serve.{Served, Done, Blocked, Ends, serve}
-use Rattle.ro_kernel.proofs.Kept.{IsOwn, Own, done, blocked, ends, serve-own}
+use Rattle.ro_kernel.proofs.Kept.{IsOwn, Own, done, serve-own}
 use Rattle.ro_kernel.proofs.Stores.{stores-permitted}
-use Rattle.ro_core.specs.Event.{Event, quiet_effect, quiet_event, call_event, event_of}
-use Rattle.ro_core.specs.Sound.{IsOver, exits, traps}
-use Rattle.ro_core.proofs.Served.{made_count, IsTidy, Tidy, tidy_done, tidy_blocked, tidy_end, serve-tidy}
-use Rattle.ro_core.proofs.Sizes.{IsSmall, served-small}
+use Rattle.ro_core.specs.Event.{Event, call_event, event_of}
+use Rattle.ro_core.specs.Sound.{IsOver, traps}
+use Rattle.ro_core.proofs.Served.{made_count, IsTidy, Tidy, tidy_done, tidy_end, serve-tidy}
+use Rattle.ro_core.proofs.Sizes.{served-small}
 
 -- an event of a live thread
 pub record Happens (kernel : Kernel) (thread : ℕ) (event : Event) : Type 0 where

@@ -1,17 +1,12 @@
 -- The fields of a core behind one entry more.
-use Rattle.std.proofs.Common.{◌≡◌, ◌⊎◌, inl, inr, ℕ, ◌+◌, ◌<◌, ◌≤◌, Bool, true, false, true≢false, ◌&&◌, List, [], ◌∷◌, ◌++◌, length, Option, Some, None, refl, sym, ap, ◌∙◌, subst, arith}
-use Rattle.std.specs.Prelude.{is_none, slice_get}
+use Rattle.std.proofs.Common.{◌≡◌, ◌⊎◌, inl, inr, ℕ, ◌+◌, ◌<◌, ◌≤◌, true, List, [], ◌∷◌, ◌++◌, length, Option, Some, None, refl, sym, ap, ◌∙◌, subst, arith}
 use Rattle.ro_journal.specs.declared.How.{How}
 use Rattle.ro_journal.specs.declared.How.TheVariants.{Exit, Deadlock, Trap, Limit, Differ, NoMajority, Sink}
 use Rattle.ro_journal.specs.declared.Entry.{Entry}
 use Rattle.ro_journal.specs.Plan.{outcome_of}
-use Rattle.ro_event.specs.declared.calls.Call.{Call}
 use Rattle.ro_event.specs.Views.{View}
-use Rattle.ro_kernel.specs.Kernel.{Kernel, Setup}
 use Rattle.ro_settings.specs.Ranges.{InRange}
 use Rattle.ro_plain.specs.Machine.{setup_of}
-use Rattle.ro_replica.specs.Replica.{Replica}
-use Rattle.ro_core.specs.declared.actions.Lease.{Lease}
 use Rattle.ro_core.specs.Core.{Job, Core, is_going}
 use Rattle.ro_core.specs.Legal.{after, IsAllowed, Legal, replay, replay_with}
 use Rattle.ro_core.specs.Seen.{KeepsViews, sent_of}

@@ -1,7 +1,7 @@
 -- A vote that was won, in the fields of a core.
-use Rattle.std.proofs.Common.{◌≡◌, ◌≢◌, ◌⊎◌, inl, inr, ℕ, zero, suc, ◌+◌, ◌-◌, ◌*◌, ◌<◌, ◌≤◌, Bool, true, false, true≢false, cond, ◌&&◌, List, [], ◌∷◌, ◌++◌, length, take, drop, Option, Some, None, refl, sym, ap, ◌∙◌, subst, arith, length-append, append-nil}
-use Rattle.std.specs.Prelude.{◌^◌, if◌then◌else◌, IfSome, is_some, slice_get, count_by}
-use Rattle.std.specs.List.{list_all, filter_map}
+use Rattle.std.proofs.Common.{◌≡◌, ◌≢◌, ◌⊎◌, inl, inr, ℕ, zero, suc, ◌+◌, ◌-◌, ◌*◌, ◌<◌, ◌≤◌, Bool, true, false, true≢false, List, [], ◌∷◌, ◌++◌, length, take, drop, Option, Some, None, refl, sym, ap, ◌∙◌, subst, arith, length-append, append-nil}
+use Rattle.std.specs.Prelude.{◌^◌, if◌then◌else◌, IfSome, is_some, slice_get}
+use Rattle.std.specs.List.{list_all}
 use Rattle.std.proofs.Math.Seq.{take-add}
 use Rattle.std.proofs.lemmas.Bool.{and_parts}
 use Rattle.std.proofs.lemmas.List.{take-append-drop, take_at, drop_at}
@@ -10,13 +10,13 @@ use Rattle.ro_journal.specs.declared.Did.{Did}
 use Rattle.ro_journal.specs.declared.How.{How}
 use Rattle.ro_journal.specs.declared.How.TheVariants.{Exit, Trap, Limit, Deadlock, Differ, NoMajority, Sink}
 use Rattle.ro_journal.specs.declared.Entry.{Entry}
-use Rattle.ro_journal.specs.declared.Entry.TheVariants.{Vote, End}
-use Rattle.ro_journal.specs.Plan.{event_steps, outcome_of}
+use Rattle.ro_journal.specs.declared.Entry.TheVariants.{Vote}
+use Rattle.ro_journal.specs.Plan.{event_steps}
 use Rattle.ro_event.specs.declared.calls.Call.{Call}
 use Rattle.ro_event.specs.declared.stops.Stop.{Stop}
 use Rattle.ro_event.specs.declared.stops.Stop.TheVariants.{Calls, Trap as TrapStop, PageFault, Watchdog}
 use Rattle.ro_event.specs.Effects.{Effect}
-use Rattle.ro_event.specs.Views.{View, same_view}
+use Rattle.ro_event.specs.Views.{View}
 use Rattle.ro_kernel.specs.declared.Life.{Life}
 use Rattle.ro_kernel.specs.Kernel.{Setup, Kernel, live_option, lives_on}
 use Rattle.ro_kernel.specs.Serve.{Served, Done, Blocked, Ends, serve}
@@ -27,18 +27,17 @@ use Rattle.ro_vote.specs.Verdict.{Won, verdict_of}
 use Rattle.ro_vote.specs.Votes.{IsWonBy}
 use Rattle.ro_plain.specs.Machine.{setup_of}
 use Rattle.ro_replica.specs.Replica.{Replica, applied, cancelled, stop_of}
-use Rattle.ro_replica.specs.Views.{view_of}
-use Rattle.ro_replica.specs.Seen.{ReplicaOf, replica_of, AreTwins}
+use Rattle.ro_replica.specs.Seen.{ReplicaOf, replica_of}
 use Rattle.ro_core.specs.Core.{Job, Core, is_going, may_vote, views_of}
 use Rattle.ro_core.specs.Event.{Event, call_event, event_of, with_recovered, all_applied, core_after}
-use Rattle.ro_core.specs.Legal.{event_in, since_in, core_after_event, after, cut_output, output_of, MayVote, PassesLimit, MayEnd, for_vote, Legal, replay, replay_with}
+use Rattle.ro_core.specs.Legal.{event_in, core_after_event, after, MayVote, PassesLimit, MayEnd, for_vote, Legal, replay, replay_with}
 use Rattle.ro_core.specs.Seen.{CoreOf, sent, sent_of, Sends, IsOfMajority, KeepsViews}
-use Rattle.ro_core.specs.Sound.{IsOver, exits, traps, IsLow, IsSound, IsOrdered}
+use Rattle.ro_core.specs.Sound.{IsOver, IsLow}
 use Rattle.ro_core.specs.Fields.{failed_of, due_behind, one_end, blocked_at, AreSeated, AreHome, IsSeat, CanRecover, Fields, core_in, state_in, CountsBytes, Holds}
 use Rattle.ro_core.proofs.Homes.{replay_more}
 use Rattle.ro_core.proofs.Held.{Goes, goes, same-counts}
 use Rattle.ro_core.proofs.Happens.{Happens, event-happens}
-use Rattle.ro_core.proofs.Served.{IsTidy, Tidy, tidy_done, serve-tidy}
+use Rattle.ro_core.proofs.Served.{Tidy, tidy_done, serve-tidy}
 use Rattle.ro_core.proofs.Ordered.{VoteParts, vote-parts, copied-sound, ordered}
 use Rattle.ro_core.proofs.LowStops.{low-stops}
 use Rattle.ro_core.proofs.Behind.{SinkWell, bytes-by}

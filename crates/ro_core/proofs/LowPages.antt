@@ -1,7 +1,7 @@
 -- The page of a page fault is one of the 2^20 pages.
-use Rattle.std.specs.Prelude.{◌≡◌, ℕ, ◌+◌, ◌/◌, ◌%◌, ◌^◌, ◌<◌, ◌≤◌, Bool, true, false, not, ◌&&◌, ◌==◌, cond, List, [], ◌∷◌, Option, Some, None, nat_le}
+use Rattle.std.specs.Prelude.{◌≡◌, ℕ, ◌+◌, ◌%◌, ◌^◌, ◌<◌, ◌≤◌, Bool, true, false, not, ◌==◌, cond, List, [], ◌∷◌, Option, Some, None, nat_le}
 use Rattle.std.specs.Option.{option_map}
-use Rattle.std.proofs.Common.{refl, sym, subst, arith}
+use Rattle.std.proofs.Common.{refl, subst, arith}
 use Rattle.std.proofs.lemmas.Bool.{and_parts, leb-true}
 use Rattle.ro_decode.specs.declared.Instr.{Instr}
 use Rattle.ro_decode.specs.declared.Instr.TheVariants.{Lui, Auipc, Jal, Jalr, Branch, Load, Store, AluImm, Alu, MulDiv, Fence, Ecall, Ebreak}
@@ -22,7 +22,7 @@ use Rattle.ro_region.specs.Permission.{permits_each, permits_of}
 use Rattle.ro_pages.specs.Bytes.{Memory, Span, number_at, page_of}
 use Rattle.ro_exec.specs.declared.Cpu.{Cpu}
 use Rattle.ro_exec.specs.Meaning.{load_size, store_size, loads, stores}
-use Rattle.ro_exec.specs.Next.{Layout, Backed, exit_place, call_of, Next, Stands, Executes, first, stop_if, access_stop, fetch_stop, instruction_stop, unless_stop, next_at, next, stop_in}
+use Rattle.ro_exec.specs.Next.{Layout, Backed, exit_place, call_of, Next, Executes, first, stop_if, access_stop, fetch_stop, instruction_stop, unless_stop, next_at, next, stop_in}
 use Rattle.ro_thread.specs.Stops.{standing}
 use Rattle.ro_core.specs.Sound.{IsLow}
 

@@ -1,10 +1,8 @@
 -- The code's event against the definition's.
-use Rattle.std.proofs.Common.{◌≡◌, ℕ, Bool, true, false, true≢false, cond, List, [], Option, Some, None, refl, sym, ap, ◌∙◌}
+use Rattle.std.proofs.Common.{◌≡◌, ℕ, Bool, true, false, true≢false, List, refl, sym, ap}
 use Rattle.std.specs.Prelude.{if◌then◌else◌}
 use Rattle.ro_event.specs.declared.calls.Call.{Call}
-use Rattle.ro_event.specs.declared.stops.Stop.{Stop}
 use Rattle.ro_event.specs.declared.stops.Stop.TheVariants.{Calls}
-use Rattle.ro_journal.specs.declared.Did.{Did}
 use Rattle.ro_journal.specs.declared.Did.TheVariants.{Served as WasServed, Blocked as WasBlocked}
 use Rattle.ro_kernel.specs.Kernel.{Setup, Kernel}
 use Rattle.ro_kernel.specs.State.{State}
@@ -12,7 +10,7 @@ use Rattle.ro_kernel.specs.Serve.{Served as Outcome, Done as DoneWith, Blocked a
 use Rattle.ro_kernel.specs.Served.{Brings}
 use Rattle.ro_kernel.specs.declared.outcome.Served.{Served}
 use Rattle.ro_kernel.specs.declared.outcome.Served.TheVariants.{Done, Blocked, Ends}
-use Rattle.ro_core.specs.Event.{Event, call_event, event_of}
+use Rattle.ro_core.specs.Event.{call_event, event_of}
 use Rattle.ro_core.specs.Fields.{outcome_with}
 
 did-by : (kernel : Kernel) (thread : ℕ) (call : Call) (payload : List ℕ) (o : Outcome) (b : Bool) → is_blocked o ≡ b → (call_event kernel thread call payload o).did ≡ (if b then WasBlocked else WasServed)

@@ -1,7 +1,7 @@
 -- What each entry of a legal journal keeps of the core.
-use Rattle.std.specs.Prelude.{◌≡◌, ◌≢◌, ℕ, zero, suc, ◌+◌, ◌≤◌, ◌<◌, ◌⊎◌, Bool, true, false, cond, not, ◌&&◌, ◌==◌, is_none, IfSome, List, [], ◌∷◌, ◌++◌, length, map, Option, Some, None, slice_get, slice_set}
-use Rattle.std.specs.List.{filter, list_any}
-use Rattle.std.specs.Option.{option_map, option_and_then, option_map_or}
+use Rattle.std.specs.Prelude.{◌≡◌, ◌≢◌, ℕ, zero, suc, ◌+◌, ◌≤◌, ◌<◌, ◌⊎◌, Bool, true, false, cond, not, ◌&&◌, ◌==◌, IfSome, List, [], ◌∷◌, length, Option, Some, None, slice_get}
+use Rattle.std.specs.List.{filter}
+use Rattle.std.specs.Option.{option_map, option_map_or}
 use Rattle.std.proofs.Common.{refl, sym, ap, ◌∙◌, subst, arith, inl, inr, length-append}
 use Rattle.std.proofs.lemmas.Bool.{true≢false, false≢true, eqb-true, eq-eqb, and_parts}
 use Rattle.std.proofs.lemmas.List.{length-set, nil_from_length}
@@ -21,16 +21,16 @@ use Rattle.ro_kernel.specs.Kernel.{Kernel, lives_on}
 use Rattle.ro_kernel.specs.Serve.{Served, Done, Blocked, Ends, is_blocked, blocks, serve}
 use Rattle.ro_exec.specs.Next.{Backed}
 use Rattle.ro_thread.specs.declared.Thread.{Thread}
-use Rattle.ro_replica.specs.Replica.{Replica, opening_replica, applied, cancelled, recovered, stop_of}
+use Rattle.ro_replica.specs.Replica.{Replica, opening_replica, applied, cancelled, stop_of}
 use Rattle.ro_replica.specs.Runs.{Ran, run_of, with_stop}
 use Rattle.ro_plain.specs.Machine.{layout_of, setup_of}
 use Rattle.ro_plain.proofs.Ahead.{is-none-from}
 use Rattle.ro_plain.proofs.Calls.{some-injective}
 use Rattle.ro_core.specs.declared.actions.Lease.{Lease}
 use Rattle.ro_core.specs.Core.{Job, Core, opening_replicas, opening_core, is_going, nothing_lent, may_vote, may_free}
-use Rattle.ro_core.specs.Event.{Event, call_event, event_of, with_recovered, all_applied, core_after}
+use Rattle.ro_core.specs.Event.{Event, call_event, with_recovered, core_after}
 use Rattle.ro_core.specs.Legal.{lease_run, arrived, arrival, core_after_put, event_with, event_in, freed_event, core_after_event, after, IsAllowed, MayTake, MayPut, MayVote, MayFree, MayEnd, due, alone, for_vote, for_free, LegalFrom, Legal, replay_from, replay}
-use Rattle.ro_core.specs.Sound.{Listed, IsSound, IsOrdered}
+use Rattle.ro_core.specs.Sound.{IsSound, IsOrdered}
 use Rattle.ro_core.proofs.Lists.{get-set-cases, listed-filter, MappedFrom, get-map, length-mapped, get-append-cases}
 use Rattle.ro_core.proofs.Sound.{sound-changed, run-well}
 use Rattle.ro_core.proofs.Copies.{AfterCopy, not_lost, is_copy, after-copy, length-with-copy, sound-recovered}

@@ -1,12 +1,12 @@
 -- Replicas in their seats that are changed one at a time.
-use Rattle.std.proofs.Common.{◌≡◌, ◌≢◌, ℕ, zero, suc, ◌<◌, ◌≤◌, List, [], ◌∷◌, length, Option, Some, None, get_or, refl, sym, ap, ap₂, ◌∙◌, subst, arith}
+use Rattle.std.proofs.Common.{◌≡◌, ◌≢◌, ℕ, zero, suc, ◌≤◌, List, [], ◌∷◌, Option, Some, None, get_or, refl, sym, ap, ◌∙◌, subst}
 use Rattle.std.specs.Prelude.{slice_get, slice_set}
 use Rattle.std.specs.Option.{option_map_or}
-use Rattle.std.proofs.lemmas.Option.{get_or_from_slice_get, slice_get_within}
+use Rattle.std.proofs.lemmas.Option.{get_or_from_slice_get}
 use Rattle.ro_kernel.proofs.Kept.{slice_get-set_other}
 use Rattle.ro_plain.proofs.Calls.{some-injective}
 use Rattle.ro_replica.specs.Replica.{Replica, recovered}
-use Rattle.ro_replica.specs.Seen.{ReplicaOf, replica_of, AreTwins, Recovers}
+use Rattle.ro_replica.specs.Seen.{ReplicaOf, replica_of, Recovers}
 use Rattle.ro_core.specs.Core.{Job}
 use Rattle.ro_event.specs.Effects.{Effect}
 use Rattle.ro_core.specs.Event.{all_applied, with_recovered}

@@ -1,5 +1,5 @@
 -- What a served call stores is little, and a thread is made only where there is a place for it.
-use Rattle.std.specs.Prelude.{◌≡◌, ℕ, ◌<◌, ◌≤◌, ◌%◌, Bool, true, false, cond, min, List, [], ◌∷◌, ◌++◌, length, take, drop, Option, Some, None, IfSome, ◌==◌, nat_le, slice_get, slice_set}
+use Rattle.std.specs.Prelude.{◌≡◌, ℕ, ◌<◌, ◌≤◌, Bool, true, false, cond, List, [], ◌∷◌, ◌++◌, length, take, Option, Some, None, IfSome, ◌==◌, nat_le, slice_get, slice_set}
 use Rattle.std.proofs.Common.{refl, sym, ◌∙◌, inl, inr, arith, length-take}
 use Rattle.std.proofs.lemmas.Bool.{cases_lt, true≢false, le-leb}
 use Rattle.ro_event.specs.declared.calls.Which.{Which}
@@ -13,7 +13,7 @@ use Rattle.ro_mutex.specs.Owners.{owner_of}
 use Rattle.ro_kernel.specs.declared.Life.{Life}
 use Rattle.ro_kernel.specs.declared.Life.TheVariants.{Live, Exited, Joined}
 use Rattle.ro_kernel.specs.Kernel.{Setup, Kernel}
-use Rattle.ro_kernel.specs.Serve.{Served, Done, answers, stores_effect, capped, serve_read, serve_write, serve_brk, serve_system, serve_create, joined, serve_join_at, serve_exit, gets, lock_at, trylock_at, unlock_at, on_mutex, serve_which, serve}
+use Rattle.ro_kernel.specs.Serve.{Served, Done, answers, stores_effect, capped, serve_read, serve_write, serve_brk, serve_system, serve_create, serve_join_at, serve_exit, lock_at, trylock_at, unlock_at, on_mutex, serve_which, serve}
 use Rattle.ro_kernel.proofs.Yields.{Yields, done, blocked, ends, yields-cond, yields-done}
 
 -- the effect of a call in this kernel

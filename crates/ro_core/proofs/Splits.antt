@@ -1,17 +1,16 @@
 -- A vote of views that have no majority.
-use Rattle.std.proofs.Common.{◌≡◌, ◌≢◌, ◌⊎◌, inl, inr, ℕ, ◌+◌, ◌<◌, ◌≤◌, Bool, true, false, true≢false, List, [], ◌∷◌, ◌++◌, length, Some, None, refl, sym, ap, ◌∙◌, subst, arith, eqb-true}
+use Rattle.std.proofs.Common.{◌≡◌, ◌≢◌, ℕ, Bool, true, false, true≢false, [], ◌∷◌, ◌++◌, length, None, refl, sym, ap, ◌∙◌, subst, arith, eqb-true}
 use Rattle.std.specs.Prelude.{◌==◌, if◌then◌else◌}
 use Rattle.std.proofs.lemmas.Bool.{eq-eqb}
-use Rattle.ro_journal.specs.declared.How.{How}
 use Rattle.ro_journal.specs.declared.How.TheVariants.{Differ, NoMajority, Sink}
 use Rattle.ro_journal.specs.declared.Entry.TheVariants.{End}
-use Rattle.ro_vote.specs.Verdict.{Verdict, verdict_of, Split}
-use Rattle.ro_core.specs.Core.{Job, Core, is_going, may_vote, views_of}
-use Rattle.ro_core.specs.Legal.{MayEnd, for_vote, EndsVote, replay}
+use Rattle.ro_vote.specs.Verdict.{verdict_of, Split}
+use Rattle.ro_core.specs.Core.{Core, is_going, may_vote, views_of}
+use Rattle.ro_core.specs.Legal.{MayEnd, for_vote, EndsVote}
 use Rattle.ro_core.specs.Seen.{KeepsViews}
-use Rattle.ro_core.specs.Fields.{Fields, core_in, state_in, split_end, Holds}
+use Rattle.ro_core.specs.Fields.{Fields, state_in, split_end, Holds}
 use Rattle.ro_core.proofs.Held.{goes}
-use Rattle.ro_core.proofs.Ordered.{ordered, vote-parts}
+use Rattle.ro_core.proofs.Ordered.{vote-parts}
 use Rattle.ro_core.proofs.Tests.{count-is, replicas-are}
 
 pub not-sink : (n bytes : ℕ) → split_end n ≢ Sink bytes

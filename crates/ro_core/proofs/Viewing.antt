@@ -1,12 +1,11 @@
 -- The views of a vote, in the fields of a core.
-use Rattle.std.proofs.Common.{◌≡◌, ◌⊎◌, inl, inr, ℕ, ◌+◌, ◌≤◌, true, List, [], length, None, Result, Ok, Err, refl, sym, ap, ◌∙◌, arith}
-use Rattle.std.specs.Prelude.{OnOk, is_some}
+use Rattle.std.proofs.Common.{◌≡◌, ◌⊎◌, inl, inr, ℕ, true, List, length, None, Result, Ok, Err, sym, ap, ◌∙◌, arith}
+use Rattle.std.specs.Prelude.{OnOk}
 use Rattle.std.specs.List.{list_all, filter_map}
 use Rattle.std.proofs.lemmas.Bool.{and_parts, cases_eq}
 use Rattle.ro_event.specs.Views.{View}
-use Rattle.ro_replica.specs.Replica.{Replica, stop_of}
 use Rattle.ro_replica.specs.Views.{view_of}
-use Rattle.ro_core.specs.Core.{Job, Core, may_vote, views_of}
+use Rattle.ro_core.specs.Core.{Core, may_vote, views_of}
 use Rattle.ro_core.specs.Fields.{AreHome, seat_stopped, Fields, core_in, state_in, Holds}
 use Rattle.ro_core.proofs.Held.{goes, no-outcome, no-views}
 use Rattle.ro_core.proofs.Ordered.{vote-parts, ordered}

@@ -1,7 +1,7 @@
 -- What a verdict says of the views, and of the replicas that showed them.
-use Rattle.std.proofs.Common.{◌≡◌, ◌≢◌, ◌⊎◌, inl, inr, ℕ, zero, suc, ◌+◌, ◌*◌, ◌<◌, ◌≤◌, Bool, true, false, true≢false, not, cond, ◌&&◌, List, [], ◌∷◌, ◌++◌, length, Option, Some, None, get_or, refl, sym, ap, ◌∙◌, subst, arith, lit<}
-use Rattle.std.specs.Prelude.{IfSome, is_some, slice_get, count_by, position, nat_le, min}
-use Rattle.std.specs.List.{list_all, filter_map}
+use Rattle.std.proofs.Common.{◌≡◌, ◌≢◌, ℕ, zero, suc, ◌+◌, ◌<◌, ◌≤◌, Bool, true, false, true≢false, not, cond, ◌&&◌, List, [], ◌∷◌, length, Option, Some, None, get_or, refl, sym, ap, ◌∙◌, subst, arith, lit<}
+use Rattle.std.specs.Prelude.{is_some, slice_get}
+use Rattle.std.specs.List.{list_all}
 use Rattle.std.specs.Option.{option_map, option_and_then}
 use Rattle.std.proofs.lemmas.Bool.{and_parts, and_from}
 use Rattle.std.proofs.lemmas.List.Quantifiers.{position-Some}
@@ -15,7 +15,7 @@ use Rattle.ro_region.specs.declared.Range.{Range}
 use Rattle.ro_pages.specs.Bytes.{Memory, bytes_at}
 use Rattle.ro_kernel.specs.Serve.{capped, is_write, is_good_write, payload_of}
 use Rattle.ro_thread.specs.declared.Thread.{Thread}
-use Rattle.ro_vote.specs.Verdict.{Verdict, verdict_of, Won, Split}
+use Rattle.ro_vote.specs.Verdict.{verdict_of, Won, Split}
 use Rattle.ro_vote.specs.Votes.{IsWonBy}
 use Rattle.ro_vote.proofs.Majority.{all_alike, third_differs, second_differs, first_differs}
 use Rattle.ro_replica.specs.Replica.{Replica, stop_of}
@@ -23,7 +23,7 @@ use Rattle.ro_replica.specs.Views.{payload_at, view_with, view_of}
 use Rattle.ro_plain.specs.Machine.{setup_of}
 use Rattle.ro_plain.proofs.Calls.{some-injective}
 use Rattle.ro_core.specs.Core.{Job, Core, views_of}
-use Rattle.ro_core.specs.Event.{Event, event_of}
+use Rattle.ro_core.specs.Event.{event_of}
 use Rattle.ro_core.specs.Legal.{event_with, event_in, since_in}
 use Rattle.ro_core.proofs.Lists.{get-within, get-filter-map, length-filter-map}
 

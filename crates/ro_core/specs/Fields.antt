@@ -20,7 +20,7 @@ use Rattle.ro_replica.specs.Seen.{ReplicaOf, replica_of, CanApply, AreTwins, Kee
 use Rattle.ro_plain.specs.Machine.{setup_of}
 use Rattle.ro_core.specs.declared.actions.Lease.{Lease}
 use Rattle.ro_core.specs.Core.{Job, Core, is_going, is_home}
-use Rattle.ro_core.specs.Event.{Event, call_event, event_of}
+use Rattle.ro_core.specs.Event.{call_event, event_of}
 use Rattle.ro_core.specs.Legal.{Legal, replay, replay_with}
 use Rattle.ro_core.specs.Seen.{IsOfJob, KeepsViews, sent_of}
 

@@ -70,8 +70,22 @@ pub(crate) fn happen(
 {
     match stop {
         Stop::Calls(call) => serve(alloc, kernel, thread, *call),
-        Stop::Trap(cause) => Ok(quiet_event(alloc, Did::Trapped, thread, None, false, Some(How::Trap(*cause)))),
-        Stop::PageFault(page) => Ok(quiet_event(alloc, Did::Mapped, thread, Some(*page), true, None)),
+        Stop::Trap(cause) => Ok(quiet_event(
+            alloc,
+            Did::Trapped,
+            thread,
+            None,
+            false,
+            Some(How::Trap(*cause)),
+        )),
+        Stop::PageFault(page) => Ok(quiet_event(
+            alloc,
+            Did::Mapped,
+            thread,
+            Some(*page),
+            true,
+            None,
+        )),
         Stop::Watchdog => Ok(quiet_event(alloc, Did::Watch, thread, None, true, None)),
     }
 }

@@ -1,4 +1,4 @@
-use Rattle.std.proofs.Common.{◌≡◌, ◌∙◌, ap}
+use Rattle.std.proofs.Common.{◌∙◌, ap}
 use Rattle.ro_kernel.specs.Serve.{Served as Outcome, serve}
 use Rattle.ro_core.specs.Event.{call_event}
 use Rattle.ro_core.proofs.Occurs.{brings-outcome, brings-blocked}

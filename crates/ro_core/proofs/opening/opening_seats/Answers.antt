@@ -1,4 +1,4 @@
-use Rattle.std.proofs.Common.{◌≡◌, ◌+◌, Some, ℕ, length, sym, ap, ◌∙◌, subst, arith}
+use Rattle.std.proofs.Common.{Some, ℕ, sym, subst, arith}
 use Rattle.ro_core.specs.Opening.{IsFirst, AreFirst}
 use Rattle.ro_core.proofs.Begins.{first-push}
 use Rattle.ro_core.proofs.opening.opening_seats.Goals as goal

@@ -1,4 +1,4 @@
-use Rattle.std.proofs.Common.{length, ℕ}
+use Rattle.std.proofs.Common.{length}
 use Rattle.ro_core.proofs.seats.+apply_to_all.Given as goal
 
 abbrev pub decreases-apply_to_all : goal.decreases-apply_to_all

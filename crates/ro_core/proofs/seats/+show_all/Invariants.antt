@@ -1,4 +1,4 @@
-use Rattle.std.proofs.Common.{length, ℕ}
+use Rattle.std.proofs.Common.{length}
 use Rattle.ro_core.proofs.seats.+show_all.Given as goal
 
 abbrev pub decreases-show_all : goal.decreases-show_all

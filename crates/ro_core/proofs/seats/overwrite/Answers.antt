@@ -1,9 +1,9 @@
-use Rattle.std.proofs.Common.{◌≡◌, ◌<◌, Some, None, length, get_or, refl, sym, ap, ◌∙◌, subst, arith}
-use Rattle.std.specs.Prelude.{slice_get, slice_set}
+use Rattle.std.proofs.Common.{◌≡◌, ◌<◌, Some, None, length, get_or, sym, ap, ◌∙◌, subst, arith}
+use Rattle.std.specs.Prelude.{slice_set}
 use Rattle.std.proofs.lemmas.List.{length-set}
 use Rattle.std.proofs.lemmas.Option.{slice_get_within}
 use Rattle.ro_plain.proofs.Calls.{some-injective}
-use Rattle.ro_replica.specs.Seen.{ReplicaOf, AreTwins, Recovers}
+use Rattle.ro_replica.specs.Seen.{ReplicaOf, AreTwins}
 use Rattle.ro_core.specs.Event.{with_recovered}
 use Rattle.ro_core.specs.Fields.{AreHome, AreSpared}
 use Rattle.ro_core.proofs.Sitting.{loser-there, recovery-home, recovery-spared}
@@ -35,8 +35,8 @@ returns-clause-recovered c job replicas home =
     let there = subst (λ xs. get_or xs c.args.lost c.index-seats-lost.result ≡ Some l.0) (sym c.leave-winner.ensures.seats) (loser-there c.args.seats.now c.args.won c.args.lost l.0 c.index-seats-lost.result c.requires.differ l.1) in
     let r = c.recover_in.ensures l.0 there in
     let final : c.come_home.new.seats ≡ slice_set (slice_set (slice_set c.args.seats.now c.args.won None) c.args.lost (Some r.0)) c.args.won (Some c.leave-winner.result) =
-        c.come_home.ensures ∙ ap (λ seat. slice_set (slice_set c.leave-winner.new.seats c.args.lost seat) c.args.won (Some c.leave-winner.result)) r.1
-        ∙ ap (λ xs. slice_set (slice_set xs c.args.lost (Some r.0)) c.args.won (Some c.leave-winner.result)) c.leave-winner.ensures.seats
+    c.come_home.ensures ∙ ap (λ seat. slice_set (slice_set c.leave-winner.new.seats c.args.lost seat) c.args.won (Some c.leave-winner.result)) r.1
+    ∙ ap (λ xs. slice_set (slice_set xs c.args.lost (Some r.0)) c.args.won (Some c.leave-winner.result)) c.leave-winner.ensures.seats
     in
     subst (λ xs. AreHome job xs (with_recovered c.args.won (Some c.args.lost) replicas)) (sym final)
     (recovery-home job c.args.seats.now replicas c.args.won c.args.lost c.leave-winner.result l.0 r.0 c.requires.differ w l.1 r.2 home)
@@ -48,7 +48,7 @@ returns-clause-spared c spared =
     let there = subst (λ xs. get_or xs c.args.lost c.index-seats-lost.result ≡ Some l.0) (sym c.leave-winner.ensures.seats) (loser-there c.args.seats.now c.args.won c.args.lost l.0 c.index-seats-lost.result c.requires.differ l.1) in
     let r = c.recover_in.ensures l.0 there in
     let final : c.come_home.new.seats ≡ slice_set (slice_set (slice_set c.args.seats.now c.args.won None) c.args.lost (Some r.0)) c.args.won (Some c.leave-winner.result) =
-        c.come_home.ensures ∙ ap (λ seat. slice_set (slice_set c.leave-winner.new.seats c.args.lost seat) c.args.won (Some c.leave-winner.result)) r.1
-        ∙ ap (λ xs. slice_set (slice_set xs c.args.lost (Some r.0)) c.args.won (Some c.leave-winner.result)) c.leave-winner.ensures.seats
+    c.come_home.ensures ∙ ap (λ seat. slice_set (slice_set c.leave-winner.new.seats c.args.lost seat) c.args.won (Some c.leave-winner.result)) r.1
+    ∙ ap (λ xs. slice_set (slice_set xs c.args.lost (Some r.0)) c.args.won (Some c.leave-winner.result)) c.leave-winner.ensures.seats
     in
     subst AreSpared (sym final) (recovery-spared c.args.seats.now c.args.won c.args.lost c.leave-winner.result l.0 r.0 c.requires.differ w l.1 r.2 spared)

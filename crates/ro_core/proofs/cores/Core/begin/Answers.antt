@@ -1,4 +1,4 @@
-use Rattle.std.proofs.Common.{◌≡◌, ◌-◌, ◌≤◌, ◌<◌, [], length, refl, vec_len, vec_capacity, sym, ap, ◌∙◌, subst, arith}
+use Rattle.std.proofs.Common.{length, refl, sym, ap, ◌∙◌, subst, arith}
 use Rattle.ro_kernel.specs.Kernel.{Setup}
 use Rattle.ro_core.specs.Opening.{AreFirst}
 use Rattle.ro_core.proofs.Begins.{opening-holds}

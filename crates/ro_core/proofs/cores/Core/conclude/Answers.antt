@@ -1,9 +1,9 @@
-use Rattle.std.proofs.Common.{◌≡◌, ◌-◌, ◌+◌, ◌<◌, ◌++◌, ◌∷◌, [], true, refl, vec_len, vec_capacity, sym, ap, ◌∙◌, subst, arith}
+use Rattle.std.proofs.Common.{◌≡◌, ◌-◌, ◌<◌, ◌++◌, ◌∷◌, [], true, refl, vec_len, vec_capacity, sym, ap, ◌∙◌, subst, arith}
 use Rattle.ro_journal.specs.declared.Entry.TheVariants.{End}
-use Rattle.ro_core.specs.Core.{Job, is_going}
+use Rattle.ro_core.specs.Core.{is_going}
 use Rattle.ro_core.specs.Legal.{MayEnd}
 use Rattle.ro_core.specs.Seen.{CoreOf, state, sent_of, KeepsViews}
-use Rattle.ro_core.specs.Fields.{Fields, failed_of, state_in}
+use Rattle.ro_core.specs.Fields.{Fields, failed_of}
 use Rattle.ro_core.proofs.Entries.{quiet-of}
 use Rattle.ro_core.proofs.Concludes.{concluding, conclude-room, conclude-holds, conclude-sent}
 use Rattle.ro_core.proofs.cores.Core.conclude.Goals as goal

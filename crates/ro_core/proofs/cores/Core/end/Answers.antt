@@ -1,12 +1,11 @@
-use Rattle.std.proofs.Common.{◌≡◌, ◌-◌, ◌+◌, ◌<◌, [], ◌∷◌, ◌++◌, Some, None, refl, length, vec_len, vec_capacity, sym, ap, ◌∙◌, subst, arith}
+use Rattle.std.proofs.Common.{◌≡◌, ◌-◌, ◌<◌, [], ◌∷◌, ◌++◌, Some, None, refl, vec_len, vec_capacity, sym, ap, ◌∙◌, subst, arith}
 use Rattle.ro_journal.specs.declared.How.{How}
 use Rattle.ro_journal.specs.declared.Entry.TheVariants.{End}
 use Rattle.ro_core.specs.declared.actions.Action.TheVariants.{End as DoEnd}
-use Rattle.ro_core.specs.Core.{Job, Core}
 use Rattle.ro_core.specs.Legal.{MayEnd, replay}
 use Rattle.ro_core.specs.Action.{next_action, IsNext}
 use Rattle.ro_core.specs.Seen.{CoreOf, state, sent_of}
-use Rattle.ro_core.specs.Fields.{Fields, failed_of, state_in, core_in}
+use Rattle.ro_core.specs.Fields.{Fields, state_in}
 use Rattle.ro_core.proofs.Entries.{end-how, end-not-over, end-allowed, end-room, end-holds, end-sent, quiet-of, appends-of}
 use Rattle.ro_core.proofs.cores.Core.end.Goals as goal
 
@@ -73,10 +72,11 @@ returns-clause-entry g c how is_next =
     } in
     let m : next_action f.job (state_in f) ≡ DoEnd how = ap (λ (v : CoreOf). next_action v.job (state v)) c.self.view_is ∙ is_next in
     let its : c.unwrap_or-how.result ≡ how = c.unwrap_or-how.ensures ∙ end-how f c.self.invariant how m in
-    let allowed = end-allowed f c.self.invariant how m in
-    (subst (λ (v : CoreOf). ((replay v.job v.journal).ended ≡ None) × MayEnd v.job (replay v.job v.journal) how) c.self.view_is (end-not-over f c.self.invariant how m, allowed.0),
-    subst (λ (v : CoreOf). IsNext v.job (replay v.job v.journal) (End how)) c.self.view_is allowed.1,
-    appends-of c.self.view_is refl (c.push_reserved.ensures.items ∙ ap (λ (x : How). s.journal.items ++ End x ∷ []) its))
+    let allowed = end-allowed f c.self.invariant how m in (
+      subst (λ (v : CoreOf). ((replay v.job v.journal).ended ≡ None) × MayEnd v.job (replay v.job v.journal) how) c.self.view_is (end-not-over f c.self.invariant how m, allowed.0),
+      subst (λ (v : CoreOf). IsNext v.job (replay v.job v.journal) (End how)) c.self.view_is allowed.1,
+      appends-of c.self.view_is refl (c.push_reserved.ensures.items ∙ ap (λ (x : How). s.journal.items ++ End x ∷ []) its),
+    )
 
 pub returns-clause-quiet : goal.returns-clause-quiet
 returns-clause-quiet g c =

@@ -1,4 +1,4 @@
-use Rattle.std.proofs.Common.{◌≡◌, ◌-◌, vec_len, vec_capacity, sym, ap, ◌∙◌, subst}
+use Rattle.std.proofs.Common.{◌-◌, vec_len, vec_capacity, ap, ◌∙◌, subst}
 use Rattle.ro_journal.specs.Plan.{outcome_of}
 use Rattle.ro_core.specs.Seen.{CoreOf, KeepsViews}
 use Rattle.ro_core.specs.Fields.{Fields}
@@ -6,7 +6,7 @@ use Rattle.ro_core.proofs.Outcomes.{ended_is_outcome}
 use Rattle.ro_core.proofs.cores.Core.finish.Goals as goal
 
 pub returns-clause-how : goal.returns-clause-how
-returns-clause-how g c = 
+returns-clause-how g c =
     let s = c.self.inside in
     let f : Fields = record {
       job = record { program = record { image = s.image; input = s.kernel.setup.input }; faults = s.faults.items; settings = s.settings };

@@ -1,35 +1,28 @@
-use Rattle.std.proofs.Common.{◌≡◌, ◌-◌, ◌+◌, append-nil, ◌<◌, ◌≤◌, ◌++◌, ◌∷◌, [], ℕ, Bool, true, false, List, Option, Some, None, length, refl, vec_len, vec_capacity, sym, ap, ◌∙◌, subst, arith}
-use Rattle.std.specs.Prelude.{◌⊎◌, ◌≢◌, if◌then◌else◌, IfSome, take, slice_get, slice_set}
+use Rattle.std.proofs.Common.{◌≡◌, ◌-◌, ◌+◌, append-nil, ◌≤◌, ◌++◌, ◌∷◌, [], ℕ, true, List, Some, None, length, refl, vec_len, vec_capacity, sym, ap, ◌∙◌, subst, arith}
+use Rattle.std.specs.Prelude.{◌≢◌, if◌then◌else◌, slice_set}
 use Rattle.std.specs.Vec.{with_items}
 use Rattle.std.proofs.lemmas.List.{with_items_is}
-use Rattle.ro_io.specs.Outside.{Rose, more}
-use Rattle.std.proofs.lemmas.Option.{slice_get-get_or, get_or_from_slice_get}
 use Rattle.ro_journal.specs.declared.How.{How}
 use Rattle.ro_journal.specs.declared.How.TheVariants.{Limit, Differ, NoMajority}
 use Rattle.ro_journal.specs.declared.Entry.{Entry}
 use Rattle.ro_journal.specs.declared.Entry.TheVariants.{Free, End}
-use Rattle.ro_journal.specs.Plan.{event_steps, outcome_of}
-use Rattle.ro_event.specs.declared.stops.Stop.{Stop}
+use Rattle.ro_journal.specs.Plan.{event_steps}
 use Rattle.ro_event.specs.Effects.{Effect}
-use Rattle.ro_event.specs.Views.{View}
-use Rattle.ro_kernel.specs.Kernel.{Setup, Kernel}
+use Rattle.ro_kernel.specs.Kernel.{Setup}
 use Rattle.ro_kernel.specs.Serve.{serve}
 use Rattle.ro_replica.specs.Replica.{Replica}
-use Rattle.ro_vote.specs.Verdict.{verdict_of, Won}
 use Rattle.ro_core.specs.Core.{Job, Core, may_free}
 use Rattle.ro_core.specs.Event.{Event, call_event, all_applied}
-use Rattle.ro_core.specs.Legal.{IsAllowed, MayFree, MayEnd, EndsFree, replay}
+use Rattle.ro_core.specs.Legal.{IsAllowed, MayFree, MayEnd, EndsFree}
 use Rattle.ro_core.specs.Seen.{CoreOf, state, sent_of, KeepsViews, Appends, DecidesFree}
-use Rattle.ro_core.specs.Fields.{Fields, blocked_at, failed_of, due_behind, state_in, core_in, AreHome, AreSpared, CanTake, Holds}
+use Rattle.ro_core.specs.Fields.{Fields, blocked_at, failed_of, state_in, core_in, AreHome, AreSpared, CanTake, Holds}
 use Rattle.ro_core.proofs.Journals.{outcome_of-append}
-use Rattle.ro_core.proofs.Copies.{length-with-copy}
 use Rattle.ro_core.proofs.Held.{Goes, no-outcome, not-split}
 use Rattle.ro_core.proofs.Happens.{Happens}
 use Rattle.ro_core.proofs.Entries.{appends-of, quiet-of}
 use Rattle.ro_core.proofs.Freeing.{free-goes, free-alone, free-there, free-live, free-made, free-few, free-steps, free-home, free-threads, free-ends, free-may-end, free-happens, free-low, free-came, free-did, free-allowed, free-well, free-sent, payload-none, parts}
-use Rattle.ro_core.proofs.Ordered.{copied-sound}
-use Rattle.ro_core.proofs.Behind.{SinkWell, happened-holds, all-can-take}
-use Rattle.ro_core.proofs.Holding.{writes-step-call, length-applied, hold-within, hold-steps, hold-goes, hold-alone, hold-home, hold-live, hold-few, hold-made, hold-recovers, hold-healed, hold-happens, hold-short, hold-low, hold-allowed, hold-limit, hold-may-end, hold-came, hold-sent, hold-majority, payload-due, short-if, held-by, rose-by, part-of, over-unfailed, sends-of, home-count, kept-holds}
+use Rattle.ro_core.proofs.Behind.{happened-holds, all-can-take}
+use Rattle.ro_core.proofs.Holding.{writes-step-call, length-applied, over-unfailed, home-count, kept-holds}
 use Rattle.ro_core.proofs.cores.Core.free.Goals as goal
 
 pub bounds-self-inside-thread : goal.bounds-self-inside-thread
@@ -340,8 +333,8 @@ invariant_of-self-2 g c =
     let one : event_steps event.did ≡ 1 = ap event_steps (free-did f h c.args.thread may c.in-Some.call there) in
     let empty : event.payload ≡ [] = payload-none f.kernel.kernel c.args.thread c.in-Some.call (serve f.kernel.setup f.kernel.kernel c.args.thread c.in-Some.call) in
     let left : sent_of f.job c.push_reserved.new.self.items (failed_of c.in_ok-event.event.due) ≡ sent_of f.job f.journal (failed_of f.due) =
-        ap (λ (js : List Entry). sent_of f.job js (failed_of c.in_ok-event.event.due)) journal
-        ∙ ap (λ (e : Event). sent_of f.job (f.journal ++ Free c.args.thread ∷ []) (failed_of e.due)) (sym its) ∙ free-sent f h c.args.thread may c.in-Some.call there
+    ap (λ (js : List Entry). sent_of f.job js (failed_of c.in_ok-event.event.due)) journal
+    ∙ ap (λ (e : Event). sent_of f.job (f.journal ++ Free c.args.thread ∷ []) (failed_of e.due)) (sym its) ∙ free-sent f h c.args.thread may c.in-Some.call there
     in
     happened-holds f _ h (Free c.args.thread) allowed c.args.thread 0 replicas event None (free-came f h c.args.thread may c.in-Some.call there)
     goes.not_ended alone happens (free-well f h c.args.thread may c.in-Some.call there) (free-few f h c.args.thread may)
@@ -386,8 +379,7 @@ returns-clause-entry g c =
     let allowed : MayFree f.job (core_in f) c.args.thread = free-allowed f h c.args.thread may c.in-Some.call there fits in
     let goes : Goes f = free-goes f h c.args.thread may in
     let setup : c.serve.new.kernel.setup ≡ s.kernel.setup = c.serve.ensures.setup in
-    let journal : c.push_reserved.new.self.items ≡ f.journal ++ Free c.args.thread ∷ [] = c.push_reserved.ensures.items ∙ ap (λ js. js ++ Free c.args.thread ∷ []) c.in_ok-reserve.ensures.items in
-    (
+    let journal : c.push_reserved.new.self.items ≡ f.journal ++ Free c.args.thread ∷ [] = c.push_reserved.ensures.items ∙ ap (λ js. js ++ Free c.args.thread ∷ []) c.in_ok-reserve.ensures.items in (
       subst (λ (v : CoreOf). MayFree v.job (state v) c.args.thread) c.self.view_is (subst (λ (k : Core). MayFree f.job k c.args.thread) (sym goes.same) allowed),
       refl,
       appends-of c.self.view_is (ap (λ (x : Setup). record { program = record { image = s.image; input = x.input }; faults = s.faults.items; settings = s.settings }) setup) journal,

@@ -1,4 +1,4 @@
-use Rattle.std.proofs.Common.{◌≡◌, ◌-◌, ◌+◌, ◌<◌, ◌≤◌, ◌++◌, ◌∷◌, [], ℕ, Bool, true, false, List, Option, Some, None, length, refl, vec_len, vec_capacity, sym, ap, ◌∙◌, subst, arith}
+use Rattle.std.proofs.Common.{◌≡◌, ◌-◌, ◌+◌, ◌<◌, ◌≤◌, ◌++◌, ◌∷◌, [], ℕ, true, List, Option, Some, None, length, refl, vec_len, vec_capacity, sym, ap, ◌∙◌, subst, arith}
 use Rattle.std.specs.Prelude.{unwrap_or, ◌⊎◌, if◌then◌else◌, IfSome, take, slice_get, slice_set}
 use Rattle.std.specs.Vec.{with_items}
 use Rattle.std.proofs.lemmas.List.{with_items_is}
@@ -8,16 +8,16 @@ use Rattle.ro_journal.specs.declared.How.{How}
 use Rattle.ro_journal.specs.declared.How.TheVariants.{Limit, Differ, NoMajority}
 use Rattle.ro_journal.specs.declared.Entry.{Entry}
 use Rattle.ro_journal.specs.declared.Entry.TheVariants.{Vote, End}
-use Rattle.ro_journal.specs.Plan.{event_steps, outcome_of}
+use Rattle.ro_journal.specs.Plan.{event_steps}
 use Rattle.ro_event.specs.declared.stops.Stop.{Stop}
 use Rattle.ro_event.specs.Effects.{Effect}
 use Rattle.ro_event.specs.Views.{View}
-use Rattle.ro_kernel.specs.Kernel.{Setup, Kernel}
+use Rattle.ro_kernel.specs.Kernel.{Setup}
 use Rattle.ro_replica.specs.Replica.{Replica}
 use Rattle.ro_vote.specs.Verdict.{verdict_of, Won}
 use Rattle.ro_core.specs.Core.{Job, Core, may_vote, views_of}
 use Rattle.ro_core.specs.Event.{Event, event_of, with_recovered, all_applied}
-use Rattle.ro_core.specs.Legal.{IsAllowed, MayVote, MayEnd, PassesLimit, replay}
+use Rattle.ro_core.specs.Legal.{IsAllowed, MayVote, MayEnd, PassesLimit}
 use Rattle.ro_core.specs.Seen.{CoreOf, state, sent_of, KeepsViews, Appends, DecidesVote, IsOfMajority}
 use Rattle.ro_core.specs.Fields.{Fields, failed_of, due_behind, state_in, core_in, AreHome, AreSpared, CanTake, Holds}
 use Rattle.ro_core.proofs.Journals.{outcome_of-append}
@@ -25,9 +25,8 @@ use Rattle.ro_core.proofs.Copies.{length-with-copy}
 use Rattle.ro_core.proofs.Held.{Goes, no-outcome, not-split}
 use Rattle.ro_core.proofs.Happens.{Happens}
 use Rattle.ro_core.proofs.Entries.{appends-of}
-use Rattle.ro_core.proofs.Ordered.{copied-sound}
 use Rattle.ro_core.proofs.Behind.{bytes-by, bytes-count, bytes-fewer, SinkWell, happened-holds, all-can-take}
-use Rattle.ro_core.proofs.Holding.{writes-step, length-applied, hold-within, hold-steps, hold-goes, hold-alone, hold-home, hold-live, hold-few, hold-made, hold-recovers, hold-healed, hold-happens, hold-short, hold-low, hold-allowed, hold-limit, hold-may-end, hold-came, hold-sent, hold-majority, payload-due, short-if, held-by, rose-by, part-of, over-unfailed, sends-of, home-count, kept-holds}
+use Rattle.ro_core.proofs.Holding.{writes-step, length-applied, hold-within, hold-steps, hold-goes, hold-alone, hold-home, hold-few, hold-made, hold-recovers, hold-healed, hold-happens, hold-short, hold-low, hold-allowed, hold-limit, hold-may-end, hold-came, hold-sent, hold-majority, payload-due, short-if, held-by, rose-by, part-of, over-unfailed, sends-of, home-count, kept-holds}
 use Rattle.ro_core.proofs.cores.Core.hold.Goals as goal
 
 pub index-view-requires : goal.index-view-requires
@@ -175,7 +174,7 @@ returns-then-next-self-clause-entry g c =
     let goes : Goes f = hold-goes f h c.args.thread c.args.won.won c.args.won.lost may views verdict in
     let may_end : MayEnd f.job (state_in f) (Limit s.steps (c.from.result + c.event_steps.result)) = subst (λ (n : ℕ). MayEnd f.job (state_in f) (Limit f.steps n)) next (hold-may-end f h c.args.thread c.args.won.won c.args.won.lost may views verdict view there c.did_of-did.result did above) in
     let passes : PassesLimit f.job (state_in f) c.args.thread s.steps (c.from.result + c.event_steps.result) =
-        subst (λ (n : ℕ). PassesLimit f.job (state_in f) c.args.thread f.steps n) next (subst (λ (k : Core). PassesLimit f.job k c.args.thread f.steps (view.since + event_steps c.did_of-did.result)) (sym goes.same) (hold-limit f h c.args.thread c.args.won.won c.args.won.lost may views verdict view there c.did_of-did.result did above))
+    subst (λ (n : ℕ). PassesLimit f.job (state_in f) c.args.thread f.steps n) next (subst (λ (k : Core). PassesLimit f.job k c.args.thread f.steps (view.since + event_steps c.did_of-did.result)) (sym goes.same) (hold-limit f h c.args.thread c.args.won.won c.args.won.lost may views verdict view there c.did_of-did.result did above))
     in
     subst (λ (e : Entry). IsAllowed c.args.self.now.job (state c.args.self.now) e × DecidesVote c.args.self.now.job (state c.args.self.now) c.args.thread e × Appends c.args.self.now c.conclude.new.self e) (sym c.conclude.ensures.entry) (
       subst (λ (v : CoreOf). ((state v).ended ≡ None) × MayEnd v.job (state v) (Limit s.steps (c.from.result + c.event_steps.result))) c.self.view_is (ap (λ (k : Core). k.ended) goes.same ∙ sym h.ended_is ∙ goes.not_ended, may_end),
@@ -335,7 +334,7 @@ apply_to_all-requires g c =
     let slice3 = c.as_mut_slice-3.ensures.value ∙ items3 in
     let home4 : AreHome f.job c.as_mut_slice-3.result.now healed = subst (λ xs. AreHome f.job xs healed) (sym slice3) home3 in
     let its : event ≡ record { did = c.in_ok-event.event.did; kernel = c.happen.new.kernel.kernel; effect = c.in_ok-event.event.effect; payload = if c.in_ok-event.event.writes then view.payload else []; blocked = c.in_ok-event.event.blocked; due = c.in_ok-event.event.due } =
-        ap (λ (x : Stop). event_of f.kernel.setup f.kernel.kernel c.args.thread x view.payload) (sym c.stop.ensures) ∙ c.in_ok-event.ensures.event view.payload
+    ap (λ (x : Stop). event_of f.kernel.setup f.kernel.kernel c.args.thread x view.payload) (sym c.stop.ensures) ∙ c.in_ok-event.ensures.event view.payload
     in
     let happens : Happens (core_in f).kernel c.args.thread event = hold-happens f h c.args.thread c.args.won.won c.args.won.lost may views verdict view there in
     subst (λ (x : Effect). CanTake x c.as_mut_slice-3.result.now) (ap (λ (e : Event). e.effect) its)
@@ -464,7 +463,7 @@ invariant_of-self-2 g c =
     let slice3 = c.as_mut_slice-3.ensures.value ∙ items3 in
     let home4 : AreHome f.job c.as_mut_slice-3.result.now healed = subst (λ xs. AreHome f.job xs healed) (sym slice3) home3 in
     let its : event ≡ record { did = c.in_ok-event.event.did; kernel = c.happen.new.kernel.kernel; effect = c.in_ok-event.event.effect; payload = if c.in_ok-event.event.writes then view.payload else []; blocked = c.in_ok-event.event.blocked; due = c.in_ok-event.event.due } =
-        ap (λ (x : Stop). event_of f.kernel.setup f.kernel.kernel c.args.thread x view.payload) (sym c.stop.ensures) ∙ c.in_ok-event.ensures.event view.payload
+    ap (λ (x : Stop). event_of f.kernel.setup f.kernel.kernel c.args.thread x view.payload) (sym c.stop.ensures) ∙ c.in_ok-event.ensures.event view.payload
     in
     let happens : Happens (core_in f).kernel c.args.thread event = hold-happens f h c.args.thread c.args.won.won c.args.won.lost may views verdict view there in
     let same_view : c.index.result.now ≡ view = c.index.ensures ∙ get_or_from_slice_get f.views c.args.won.won view c.index.result.now there in
@@ -487,9 +486,9 @@ invariant_of-self-2 g c =
     let taken : c.taken_of-taken.result ≡ length (bytes-by failed event.payload) = c.taken_of-taken.ensures ∙ ap (λ (xs : List ℕ). unwrap_or failed (length xs)) written ∙ sym (bytes-count failed event.payload (λ n e. (well.part n e).0)) in
     let due : c.due_behind-self-inside.result ≡ due_behind event.due failed = c.due_behind-self-inside.ensures ∙ ap (λ (e : Event). due_behind e.due failed) (sym its) in
     let left : sent_of f.job c.push_reserved.new.self.items (failed_of c.due_behind-self-inside.result) ≡ sent_of f.job f.journal (failed_of f.due) ++ bytes-by failed event.payload =
-        ap (λ (js : List Entry). sent_of f.job js (failed_of c.due_behind-self-inside.result)) journal
-        ∙ ap (λ (o : Option How). sent_of f.job (f.journal ++ Vote c.args.thread view.since c.args.won.won c.args.won.lost c.did_of-did.result ∷ []) (failed_of o)) due
-        ∙ hold-sent f h c.args.thread c.args.won.won c.args.won.lost may views verdict view there c.did_of-did.result failed well
+    ap (λ (js : List Entry). sent_of f.job js (failed_of c.due_behind-self-inside.result)) journal
+    ∙ ap (λ (o : Option How). sent_of f.job (f.journal ++ Vote c.args.thread view.since c.args.won.won c.args.won.lost c.did_of-did.result ∷ []) (failed_of o)) due
+    ∙ hold-sent f h c.args.thread c.args.won.won c.args.won.lost may views verdict view there c.did_of-did.result failed well
     in
     happened-holds f _ h (Vote c.args.thread view.since c.args.won.won c.args.won.lost c.did_of-did.result) allowed c.args.thread view.since healed event c.send-failed.result (hold-came f h c.args.thread c.args.won.won c.args.won.lost may views verdict view there c.did_of-did.result)
     goes.not_ended alone happens well (hold-few f h c.args.thread c.args.won.won c.args.won.lost may views verdict)
@@ -549,7 +548,7 @@ returns-clause-entry g c =
     let slice3 = c.as_mut_slice-3.ensures.value ∙ items3 in
     let home4 : AreHome f.job c.as_mut_slice-3.result.now healed = subst (λ xs. AreHome f.job xs healed) (sym slice3) home3 in
     let its : event ≡ record { did = c.in_ok-event.event.did; kernel = c.happen.new.kernel.kernel; effect = c.in_ok-event.event.effect; payload = if c.in_ok-event.event.writes then view.payload else []; blocked = c.in_ok-event.event.blocked; due = c.in_ok-event.event.due } =
-        ap (λ (x : Stop). event_of f.kernel.setup f.kernel.kernel c.args.thread x view.payload) (sym c.stop.ensures) ∙ c.in_ok-event.ensures.event view.payload
+    ap (λ (x : Stop). event_of f.kernel.setup f.kernel.kernel c.args.thread x view.payload) (sym c.stop.ensures) ∙ c.in_ok-event.ensures.event view.payload
     in
     let happens : Happens (core_in f).kernel c.args.thread event = hold-happens f h c.args.thread c.args.won.won c.args.won.lost may views verdict view there in
     let same_view : c.index.result.now ≡ view = c.index.ensures ∙ get_or_from_slice_get f.views c.args.won.won view c.index.result.now there in
@@ -617,7 +616,7 @@ returns-clause-sends g c =
     let slice3 = c.as_mut_slice-3.ensures.value ∙ items3 in
     let home4 : AreHome f.job c.as_mut_slice-3.result.now healed = subst (λ xs. AreHome f.job xs healed) (sym slice3) home3 in
     let its : event ≡ record { did = c.in_ok-event.event.did; kernel = c.happen.new.kernel.kernel; effect = c.in_ok-event.event.effect; payload = if c.in_ok-event.event.writes then view.payload else []; blocked = c.in_ok-event.event.blocked; due = c.in_ok-event.event.due } =
-        ap (λ (x : Stop). event_of f.kernel.setup f.kernel.kernel c.args.thread x view.payload) (sym c.stop.ensures) ∙ c.in_ok-event.ensures.event view.payload
+    ap (λ (x : Stop). event_of f.kernel.setup f.kernel.kernel c.args.thread x view.payload) (sym c.stop.ensures) ∙ c.in_ok-event.ensures.event view.payload
     in
     let happens : Happens (core_in f).kernel c.args.thread event = hold-happens f h c.args.thread c.args.won.won c.args.won.lost may views verdict view there in
     let same_view : c.index.result.now ≡ view = c.index.ensures ∙ get_or_from_slice_get f.views c.args.won.won view c.index.result.now there in
@@ -637,8 +636,7 @@ returns-clause-sends g c =
     let failed : Option ℕ = c.send-failed.result in
     let bytes : List ℕ = bytes-by failed event.payload in
     let due : c.due_behind-self-inside.result ≡ due_behind event.due failed = c.due_behind-self-inside.ensures ∙ ap (λ (e : Event). due_behind e.due failed) (sym its) in
-    let job : record { program = record { image = s.image; input = c.happen.new.kernel.setup.input }; faults = s.faults.items; settings = s.settings } ≡ f.job = ap (λ (x : Setup). record { program = record { image = s.image; input = x.input }; faults = s.faults.items; settings = s.settings }) setup in
-    (
+    let job : record { program = record { image = s.image; input = c.happen.new.kernel.setup.input }; faults = s.faults.items; settings = s.settings } ≡ f.job = ap (λ (x : Setup). record { program = record { image = s.image; input = x.input }; faults = s.faults.items; settings = s.settings }) setup in (
       bytes,
       sends-of c.self.view_is
           (ap (λ (j : Job). sent_of j c.push_reserved.new.self.items (failed_of c.due_behind-self-inside.result)) job ∙ ap (λ (js : List Entry). sent_of f.job js (failed_of c.due_behind-self-inside.result)) journal
@@ -695,7 +693,7 @@ overflow_add-self-2 g c =
     let slice3 = c.as_mut_slice-3.ensures.value ∙ items3 in
     let home4 : AreHome f.job c.as_mut_slice-3.result.now healed = subst (λ xs. AreHome f.job xs healed) (sym slice3) home3 in
     let its : event ≡ record { did = c.in_ok-event.event.did; kernel = c.happen.new.kernel.kernel; effect = c.in_ok-event.event.effect; payload = if c.in_ok-event.event.writes then view.payload else []; blocked = c.in_ok-event.event.blocked; due = c.in_ok-event.event.due } =
-        ap (λ (x : Stop). event_of f.kernel.setup f.kernel.kernel c.args.thread x view.payload) (sym c.stop.ensures) ∙ c.in_ok-event.ensures.event view.payload
+    ap (λ (x : Stop). event_of f.kernel.setup f.kernel.kernel c.args.thread x view.payload) (sym c.stop.ensures) ∙ c.in_ok-event.ensures.event view.payload
     in
     let happens : Happens (core_in f).kernel c.args.thread event = hold-happens f h c.args.thread c.args.won.won c.args.won.lost may views verdict view there in
     let same_view : c.index.result.now ≡ view = c.index.ensures ∙ get_or_from_slice_get f.views c.args.won.won view c.index.result.now there in

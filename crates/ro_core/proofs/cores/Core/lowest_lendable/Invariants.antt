@@ -1,5 +1,5 @@
 use Rattle.std.proofs.Common.{◌≡◌, None}
-use Rattle.ro_core.specs.Core.{may_free, may_vote, is_lendable}
+use Rattle.ro_core.specs.Core.{is_lendable}
 use Rattle.ro_core.specs.Action.{lowest_below}
 use Rattle.ro_core.specs.Seen.{state}
 use Rattle.ro_core.proofs.cores.Core.lowest_lendable.Given as goal

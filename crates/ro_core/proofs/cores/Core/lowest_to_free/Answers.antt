@@ -1,8 +1,8 @@
-use Rattle.std.proofs.Common.{◌≡◌, ◌-◌, ◌<◌, ℕ, length, vec_len, vec_capacity, sym, ap, ◌∙◌, subst, arith}
-use Rattle.ro_core.specs.Core.{may_free, may_vote, is_lendable}
+use Rattle.std.proofs.Common.{◌≡◌, ◌-◌, ◌<◌, length, vec_len, vec_capacity, sym, ap, ◌∙◌, arith}
+use Rattle.ro_core.specs.Core.{may_free}
 use Rattle.ro_core.specs.Action.{threads_made}
 use Rattle.ro_core.specs.Seen.{CoreOf, state}
-use Rattle.ro_core.specs.Fields.{Fields, state_in}
+use Rattle.ro_core.specs.Fields.{Fields}
 use Rattle.ro_core.proofs.Tests.{lowest-found, made-is}
 use Rattle.ro_core.proofs.cores.Core.lowest_to_free.Goals as goal
 

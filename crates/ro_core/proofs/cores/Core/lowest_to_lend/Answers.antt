@@ -1,8 +1,7 @@
-use Rattle.std.proofs.Common.{◌≡◌, ◌-◌, ◌<◌, ℕ, Some, length, vec_len, vec_capacity, sym, ap, ◌∙◌, subst, arith}
-use Rattle.ro_core.specs.Core.{is_lendable}
-use Rattle.ro_core.specs.Action.{threads_made, lowest_below, lend_next}
+use Rattle.std.proofs.Common.{◌≡◌, ◌-◌, length, vec_len, vec_capacity, sym, ap, ◌∙◌, arith}
+use Rattle.ro_core.specs.Action.{lowest_below}
 use Rattle.ro_core.specs.Seen.{CoreOf, state}
-use Rattle.ro_core.specs.Fields.{Fields, state_in}
+use Rattle.ro_core.specs.Fields.{Fields}
 use Rattle.ro_core.proofs.Tests.{lowest-more, lend-test, lends-none, lends-found, lends-nothing, count-is}
 use Rattle.ro_core.proofs.cores.Core.lowest_to_lend.Goals as goal
 

@@ -1,11 +1,8 @@
-use Rattle.std.proofs.Common.{◌≡◌, ◌-◌, ◌<◌, ◌&&◌, ℕ, Bool, true, None, length, vec_len, vec_capacity, sym, ap, ◌∙◌, subst, arith}
-use Rattle.std.specs.Prelude.{◌==◌, is_none}
+use Rattle.std.proofs.Common.{◌-◌, ◌&&◌, vec_len, vec_capacity, sym, ap, ◌∙◌}
 use Rattle.std.specs.List.{list_all}
-use Rattle.ro_event.specs.declared.calls.Call.{Call}
-use Rattle.ro_kernel.specs.Kernel.{lives_on}
 use Rattle.ro_core.specs.Core.{may_vote, is_going, nothing_lent}
 use Rattle.ro_core.specs.Seen.{CoreOf, state}
-use Rattle.ro_core.specs.Fields.{Fields, state_in, seat_stopped, blocked_at}
+use Rattle.ro_core.specs.Fields.{Fields, seat_stopped}
 use Rattle.ro_core.proofs.Tests.{vote-test}
 use Rattle.ro_core.proofs.cores.Core.may_vote.Goals as goal
 

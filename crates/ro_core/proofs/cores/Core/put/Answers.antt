@@ -1,15 +1,13 @@
-use Rattle.std.proofs.Common.{◌≡◌, ◌-◌, ◌+◌, ◌<◌, [], ◌∷◌, ◌++◌, Some, None, refl, not, length, vec_len, vec_capacity, sym, ap, ◌∙◌, subst, arith, length-set}
+use Rattle.std.proofs.Common.{◌≡◌, ◌-◌, ◌<◌, [], ◌∷◌, ◌++◌, Some, None, refl, not, length, vec_len, vec_capacity, sym, ap, ◌∙◌, subst, arith, length-set}
 use Rattle.std.specs.Prelude.{◌==◌, slice_get, slice_set}
 use Rattle.std.specs.List.{filter, find}
 use Rattle.std.proofs.lemmas.List.{with_items_is}
-use Rattle.ro_journal.specs.declared.How.{How}
 use Rattle.ro_journal.specs.declared.Entry.TheVariants.{Put}
 use Rattle.ro_plain.proofs.Calls.{some-injective}
-use Rattle.ro_replica.specs.Seen.{replica_of}
 use Rattle.ro_core.specs.declared.actions.Lease.{Lease}
-use Rattle.ro_core.specs.Core.{Job, Core}
-use Rattle.ro_core.specs.Legal.{is_lease, after, replay}
-use Rattle.ro_core.specs.Seen.{CoreOf, state, sent_of, lease_of, MayReturn, Appends}
+use Rattle.ro_core.specs.Core.{Core}
+use Rattle.ro_core.specs.Legal.{is_lease, after}
+use Rattle.ro_core.specs.Seen.{CoreOf, state, sent_of, lease_of, MayReturn}
 use Rattle.ro_core.specs.Fields.{Fields, failed_of, state_in, core_in}
 use Rattle.ro_core.proofs.Held.{with-leases}
 use Rattle.ro_core.proofs.Entries.{found_driver, put-not-due, put-same, put-within, put-room, put-holds, put-output, quiet-of, appends-of}

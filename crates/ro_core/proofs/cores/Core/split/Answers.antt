@@ -1,10 +1,10 @@
-use Rattle.std.proofs.Common.{◌≡◌, ◌≢◌, ◌-◌, ◌++◌, ◌∷◌, [], ℕ, true, length, None, refl, vec_len, vec_capacity, sym, ap, ◌∙◌, subst, arith}
+use Rattle.std.proofs.Common.{◌≡◌, ◌≢◌, ◌-◌, ◌++◌, ◌∷◌, [], ℕ, true, length, None, vec_len, vec_capacity, sym, ap, ◌∙◌, subst}
 use Rattle.ro_journal.specs.declared.How.{How}
 use Rattle.ro_journal.specs.declared.How.TheVariants.{Sink}
 use Rattle.ro_journal.specs.declared.Entry.{Entry}
 use Rattle.ro_journal.specs.declared.Entry.TheVariants.{End}
 use Rattle.ro_vote.specs.Verdict.{verdict_of, Split}
-use Rattle.ro_core.specs.Core.{Job, is_going, may_vote, views_of}
+use Rattle.ro_core.specs.Core.{is_going, may_vote, views_of}
 use Rattle.ro_core.specs.Legal.{IsAllowed, MayEnd, EndsVote}
 use Rattle.ro_core.specs.Seen.{CoreOf, state, KeepsViews, Appends, DecidesVote}
 use Rattle.ro_core.specs.Fields.{Fields, state_in, split_end}

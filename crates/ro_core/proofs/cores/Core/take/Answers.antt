@@ -1,11 +1,10 @@
-use Rattle.std.proofs.Common.{◌≡◌, ◌-◌, ◌∷◌, ◌++◌, [], None, refl, vec_len, vec_capacity, sym, ap, ◌∙◌, subst, arith, length-set}
-use Rattle.std.specs.Prelude.{◌≤◌, ◌+◌, length, slice_get, slice_set, Some}
+use Rattle.std.proofs.Common.{◌≡◌, ◌-◌, None, refl, vec_len, vec_capacity, sym, ap, ◌∙◌, subst, arith, length-set}
+use Rattle.std.specs.Prelude.{length, slice_get, slice_set}
 use Rattle.std.proofs.lemmas.List.{with_items_is}
-use Rattle.ro_journal.specs.declared.Entry.TheVariants.{Take}
-use Rattle.ro_core.specs.Core.{Job, Core}
-use Rattle.ro_core.specs.Legal.{MayTake, replay}
-use Rattle.ro_core.specs.Seen.{CoreOf, state, sent_of, Quiet, IsLent, HasRoom}
-use Rattle.ro_core.specs.Fields.{Fields, failed_of, state_in, core_in, IsSeat, Holds}
+use Rattle.ro_core.specs.Core.{Core}
+use Rattle.ro_core.specs.Legal.{MayTake}
+use Rattle.ro_core.specs.Seen.{CoreOf, state, sent_of, IsLent, HasRoom}
+use Rattle.ro_core.specs.Fields.{Fields, failed_of, state_in, IsSeat}
 use Rattle.ro_core.proofs.Held.{with-leases}
 use Rattle.ro_core.proofs.Entries.{spare_parts, take-goes, take-seat, take-holds, take-lent, take-going, take-countable, take-output, quiet-of}
 use Rattle.ro_core.proofs.cores.Core.take.Goals as goal
@@ -66,9 +65,9 @@ invariant_of-self g c =
     let parts = spare_parts _ (vec_capacity s.journal - vec_len s.journal) (vec_capacity s.leases - vec_len s.leases) room in
     let same : length s.leases.items ≡ length (state_in f).leases = ap length (c.self.invariant.leases_are ∙ sym (with-leases f.job f.journal (failed_of f.due))) in
     take-holds f c.self.invariant c.args.driver c.args.replica c.args.thread may _ (record { job = refl; kernel = refl; blocked = refl; steps = refl; sent = refl; due = refl; ended = refl; views = refl })
-        c.push_reserved.ensures.items c.lend.ensures.items
-        (with_items_is s.seats c.leave.new.seats (ap (λ xs. length xs) c.leave.ensures.seats ∙ length-set c.as_mut_slice.result.now c.args.replica None ∙ c.as_mut_slice.ensures.len) ∙ c.leave.ensures.seats ∙ ap (λ xs. slice_set xs c.args.replica None) c.as_mut_slice.ensures.value)
-        (omega (arith, parts.0, same, c.push_reserved.ensures.len, c.push_reserved.ensures.capacity))
+    c.push_reserved.ensures.items c.lend.ensures.items
+    (with_items_is s.seats c.leave.new.seats (ap (λ xs. length xs) c.leave.ensures.seats ∙ length-set c.as_mut_slice.result.now c.args.replica None ∙ c.as_mut_slice.ensures.len) ∙ c.leave.ensures.seats ∙ ap (λ xs. slice_set xs c.args.replica None) c.as_mut_slice.ensures.value)
+    (omega (arith, parts.0, same, c.push_reserved.ensures.len, c.push_reserved.ensures.capacity))
 
 pub returns-clause-quiet : goal.returns-clause-quiet
 returns-clause-quiet g c =

@@ -1,14 +1,13 @@
-use Rattle.std.proofs.Common.{◌≡◌, ◌⊎◌, ◌-◌, [], ℕ, true, List, None, length, refl, vec_len, vec_capacity, sym, ap, ◌∙◌, subst, arith}
+use Rattle.std.proofs.Common.{◌≡◌, ◌⊎◌, ◌-◌, [], ℕ, true, List, length, vec_len, vec_capacity, sym, ap, ◌∙◌, subst}
 use Rattle.std.specs.Vec.{with_items}
 use Rattle.std.specs.List.{list_all}
 use Rattle.std.proofs.lemmas.List.{with_items_is}
-use Rattle.ro_journal.specs.declared.Entry.{Entry}
 use Rattle.ro_event.specs.Views.{View}
 use Rattle.ro_vote.specs.Verdict.{verdict_of, Split}
 use Rattle.ro_vote.specs.Votes.{verdict_of_three}
-use Rattle.ro_core.specs.Core.{Job, Core, may_vote, views_of}
+use Rattle.ro_core.specs.Core.{may_vote, views_of}
 use Rattle.ro_core.specs.Legal.{IsAllowed}
-use Rattle.ro_core.specs.Seen.{CoreOf, state, Sends, Appends, DecidesVote, IsOfMajority}
+use Rattle.ro_core.specs.Seen.{CoreOf, state, DecidesVote, IsOfMajority}
 use Rattle.ro_core.specs.Fields.{Fields, state_in, core_in, AreHome, seat_stopped, Holds}
 use Rattle.ro_core.proofs.Entries.{appends-of}
 use Rattle.ro_core.proofs.Holding.{sends-of}

@@ -1,19 +1,12 @@
 -- A copy of a replica that agrees agrees too.
-use Rattle.std.specs.Prelude.{◌≡◌, ◌≢◌, ℕ, zero, suc, ◌≤◌, ◌⊎◌, List, [], ◌∷◌, length, Option, Some, None, slice_get, slice_set}
-use Rattle.std.specs.Option.{option_map_or}
-use Rattle.std.proofs.Common.{refl, sym, ap, ◌∙◌, subst, arith, inl, inr}
-use Rattle.std.proofs.lemmas.List.{length-set}
-use Rattle.ro_exec.specs.Next.{Backed}
+use Rattle.std.specs.Prelude.{◌≡◌, ℕ, List, [], ◌∷◌, length, Some}
+use Rattle.std.proofs.Common.{refl, sym, ap, ◌∙◌, subst, arith}
 use Rattle.ro_thread.specs.declared.Thread.{Thread}
 use Rattle.ro_replica.specs.Replica.{Replica, copied_threads, recovered}
 use Rattle.ro_replica.specs.Runs.{standing_in}
 use Rattle.ro_plain.specs.Machine.{layout_of, Machine, BackedRun}
-use Rattle.ro_plain.proofs.Calls.{some-injective}
-use Rattle.ro_core.specs.Core.{Job, Core}
-use Rattle.ro_core.specs.Event.{with_recovered}
-use Rattle.ro_core.specs.Sound.{IsSound}
+use Rattle.ro_core.specs.Core.{Job}
 use Rattle.ro_simulation.specs.Invariant.{Agrees}
-use Rattle.ro_core.proofs.Lists.{get-set-cases}
 use Rattle.ro_simulation.proofs.Counts.{counts, same-counts-ahead}
 use Rattle.ro_core.proofs.Copies.{copied-from}
 

@@ -1,6 +1,6 @@
 -- An effect in a replica that agrees with the machine: it still agrees, with the machine that the effect leaves.
-use Rattle.std.specs.Prelude.{◌≡◌, ◌≢◌, ℕ, ◌+◌, ◌<◌, ◌≤◌, ◌⊎◌, Bool, true, false, IsTrue, cond, ◌||◌, ◌==◌, List, [], ◌∷◌, ◌++◌, length, map, Option, Some, None, slice_get, slice_index_or}
-use Rattle.std.proofs.Common.{refl, sym, ap, ◌∙◌, subst, arith, inl, inr, length-append}
+use Rattle.std.specs.Prelude.{◌≡◌, ◌≢◌, ℕ, ◌⊎◌, Bool, true, false, IsTrue, cond, ◌||◌, ◌==◌, List, [], ◌∷◌, ◌++◌, length, map, Option, Some, None, slice_get, slice_index_or}
+use Rattle.std.proofs.Common.{refl, sym, ap, ◌∙◌, subst, inl, inr}
 use Rattle.std.proofs.lemmas.Bool.{true≢false}
 use Rattle.std.proofs.lemmas.Option.{get_or_from_slice_get}
 use Rattle.ro_event.specs.declared.effects.Made.{Made}
@@ -14,21 +14,19 @@ use Rattle.ro_exec.specs.Next.{Layout, Backed, Next, Stands, Executes, next, sto
 use Rattle.ro_exec.specs.Threads.{made_cpu}
 use Rattle.ro_thread.specs.declared.Thread.{Thread}
 use Rattle.ro_thread.specs.Stops.{standing}
-use Rattle.ro_replica.specs.Replica.{Replica, unstopped, changed_at, thread_after, creator_of, with_made, is_page, applied, is_cancelled, without_cancelled, cancelled}
+use Rattle.ro_replica.specs.Replica.{Replica, unstopped, changed_at, thread_after, with_made, is_page, applied, is_cancelled, without_cancelled, cancelled}
 use Rattle.ro_plain.specs.Machine.{layout_of, Machine, BackedRun}
 use Rattle.ro_plain.specs.Order.{RaceFree}
 use Rattle.ro_plain.proofs.Calls.{some-injective}
-use Rattle.ro_core.specs.Core.{Job, Core}
+use Rattle.ro_core.specs.Core.{Job}
 use Rattle.ro_core.specs.Ideal.{ahead_from}
-use Rattle.ro_core.specs.Sound.{IsSound}
 use Rattle.ro_simulation.specs.Invariant.{Agrees}
 use Rattle.ro_simulation.proofs.Pages.{IsMore, stands-more}
 use Rattle.ro_simulation.proofs.Stays.{stays}
 use Rattle.ro_simulation.proofs.Ahead.{BackedRun-more}
-use Rattle.ro_core.proofs.Lists.{get-set-same, ChangedFrom, unchanged, changed_here, get-changed, changed-is-set, length-changed, MappedFrom, get-map, length-mapped, get-append-cases}
+use Rattle.ro_core.proofs.Lists.{get-set-same, ChangedFrom, unchanged, changed_here, get-changed, changed-is-set, length-changed, get-map, get-append-cases}
 use Rattle.ro_simulation.proofs.Around.{Around}
 use Rattle.ro_simulation.proofs.Counts.{same-counts-ahead, counts-mapped, ahead-new}
-use Rattle.ro_core.proofs.Served.{made_count}
 use Rattle.ro_simulation.proofs.Views.{Comes}
 use Rattle.ro_core.proofs.Effects.{backed_after, threads_after}
 

@@ -1,13 +1,11 @@
 -- What every entry of a legal journal keeps.
-use Rattle.std.specs.Prelude.{◌≡◌, ◌≢◌, ℕ, ◌≤◌, IsTrue, List, [], length, Some, None, slice_get}
+use Rattle.std.specs.Prelude.{◌≡◌, ◌≢◌, ℕ, IsTrue, List, [], length, Some, None, slice_get}
 use Rattle.ro_event.specs.declared.calls.Call.{Call}
 use Rattle.ro_event.specs.declared.stops.Stop.{Stop}
 use Rattle.ro_event.specs.declared.stops.Stop.TheVariants.{Calls}
 use Rattle.ro_journal.specs.declared.How.{How}
-use Rattle.ro_journal.specs.declared.How.TheVariants.{Exit, Trap}
 use Rattle.ro_journal.specs.declared.Entry.{Entry}
 use Rattle.ro_journal.specs.Plan.{plan_of}
-use Rattle.ro_faults.specs.declared.Fault.{Fault}
 use Rattle.ro_pages.specs.Bytes.{Memory}
 use Rattle.ro_kernel.specs.Kernel.{lives_on}
 use Rattle.ro_kernel.specs.Serve.{payload_of}

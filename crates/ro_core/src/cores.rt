@@ -1,6 +1,7 @@
 //! The core: a sequential machine whose journal only grows.
-ghost use Rattle.std.specs.Prelude.{◌≡◌, length};
+ghost use Rattle.std.specs.Prelude.{◌≡◌, ◌≢◌, ◌⊎◌, [], Some, length};
 ghost use Rattle.ro_journal.specs.declared.How.{How as HowOf};
+ghost use Rattle.ro_journal.specs.declared.How.TheVariants.{Differ, NoMajority};
 ghost use Rattle.ro_journal.specs.declared.Entry.TheVariants.{End};
 ghost use Rattle.ro_journal.specs.Plan.{outcome_of};
 ghost use Rattle.ro_core.specs.declared.actions.Action.TheVariants as act;
@@ -106,6 +107,7 @@ impl<K: Sink> Core<K> {
     pub fn finish(self) -> Finished<K>
         ensures how { result.how ≡ outcome_of self.journal }
         ensures views { KeepsViews self.job self.journal result.views.items }
+        ensures no_views { outcome_of self.journal ≢ Some Differ → outcome_of self.journal ≢ Some NoMajority → result.views.items ≡ [] }
         ensures journal { result.journal.items ≡ self.journal }
         ensures bytes { result.bytes ≡ length (sent self) }
         ensures legal { Legal self.job self.journal }
@@ -126,14 +128,25 @@ impl<K: Sink> Core<K> {
             ended,
             views,
             out,
-            alloc: _,
+            alloc,
         } = self;
         Finished {
             how: ended,
-            views,
+            views: kept_views(alloc, ended, views),
             journal,
             bytes: sent,
             out,
         }
+    }
+}
+
+// The views of the last vote, where the run ended by their having no majority.
+fn kept_views(alloc: Global, ended: Option<How>, views: Vec<View>) -> Vec<View>
+    ensures split { ((ended ≡ Some Differ) ⊎ (ended ≡ Some NoMajority)) → result.items ≡ views.items }
+    ensures no_split { ended ≢ Some Differ → ended ≢ Some NoMajority → result.items ≡ [] }
+{
+    match ended {
+        Some(How::Differ | How::NoMajority) => views,
+        _ => Vec::new(alloc),
     }
 }

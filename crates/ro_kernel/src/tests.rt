@@ -6,6 +6,7 @@ use ro_journal::How;
 use ro_region::{Range, Regions};
 use std::alloc::{AllocError, Global};
 use std::process::Abort;
+use std::sync::Arc;
 use std::test::Fail;
 
 /// May be read and executed, and not written.
@@ -158,12 +159,7 @@ fn regions(alloc: Global) -> Result<Regions, AllocError> {
 }
 
 fn kernel(alloc: Global, input: &[u8]) -> Result<Kernel, AllocError> {
-    Ok(Kernel::new(
-        alloc,
-        HEAP,
-        Arc::new(alloc, regions(alloc)?)?,
-        input,
-    )?)
+    Ok(Kernel::new(alloc, HEAP, Arc::new(alloc, regions(alloc)?)?, input)?)
 }
 
 fn call(which: Which, arguments: [u32; 4]) -> Call {

@@ -13,7 +13,8 @@ struct Row {
     report: &'static str,
 }
 
-const ROWS: &[Row] = &[
+/// Programs that end by themselves.
+const ENDS: &[Row] = &[
     Row {
         words: &["run", "seven"],
         status: 7,
@@ -32,6 +33,10 @@ const ROWS: &[Row] = &[
         out: "",
         report: "romain 1\ntake 0 0 0\nput 0 0 0 2 0\ntake 0 1 0\nput 0 1 0 2 0\ntake 0 2 0\nput 0 2 0 2 0\nvote 0 2 0 - served\nend exit 7\nvotes 1 copies 0 struck 0 steps 3 bytes 0\nanswer exit 7\n",
     },
+];
+
+/// One replica is struck.
+const STRUCK: &[Row] = &[
     // One struck register of replica 1 loses the vote.
     Row {
         words: &["run", "seven", "--faults", "one"],
@@ -45,7 +50,17 @@ const ROWS: &[Row] = &[
         out: "",
         report: "votes 0 copies 0 struck 1 steps 0 bytes 0\nanswer differ\n",
     },
-    // Two replicas that are struck alike win, and two that are struck otherwise leave no majority.
+    // A register that is written after it was struck.
+    Row {
+        words: &["run", "seven", "--faults=vanishes"],
+        status: 7,
+        out: "",
+        report: "votes 1 copies 0 struck 1 steps 3 bytes 0\nanswer exit 7\n",
+    },
+];
+
+/// Two replicas that are struck alike win, and two that are struck otherwise leave no majority.
+const STRUCK_TWICE: &[Row] = &[
     Row {
         words: &["run", "seven", "--faults", "alike"],
         status: 6,
@@ -58,13 +73,10 @@ const ROWS: &[Row] = &[
         out: "",
         report: "votes 0 copies 0 struck 2 steps 0 bytes 0\nanswer no-majority\n",
     },
-    // A register that is written after it was struck.
-    Row {
-        words: &["run", "seven", "--faults=vanishes"],
-        status: 7,
-        out: "",
-        report: "votes 1 copies 0 struck 1 steps 3 bytes 0\nanswer exit 7\n",
-    },
+];
+
+/// The limit of steps.
+const LIMITS: &[Row] = &[
     Row {
         words: &["run", "seven", "--limit", "3"],
         status: 7,
@@ -84,6 +96,10 @@ const ROWS: &[Row] = &[
         out: "",
         report: "votes 2 copies 0 struck 0 steps 200 bytes 0\nanswer limit 200 100\n",
     },
+];
+
+/// A jump to nowhere, and reads.
+const CALLS: &[Row] = &[
     Row {
         words: &["run", "wild"],
         status: 241,
@@ -103,6 +119,10 @@ const ROWS: &[Row] = &[
         out: "",
         report: "votes 2 copies 0 struck 0 steps 7 bytes 0\nanswer exit 0\n",
     },
+];
+
+/// Commands that are refused run nothing.
+const REFUSED: &[Row] = &[
     Row {
         words: &["run", "empty"],
         status: 247,
@@ -154,25 +174,71 @@ const ROWS: &[Row] = &[
 ];
 
 #[test]
-fn rows(rt: HostRuntime) -> Result<(), Fail> {
-    for row in ROWS {
-        let words = words_of(rt.alloc(), row.words)?;
-        let mut store = store(rt.alloc())?;
-        let mut report = sink(rt.alloc(), &[])?;
-        let out = sink(rt.alloc(), &[])?;
-        let done = romain(
-            &rt,
-            rt.alloc(),
-            words.as_slice(),
-            &mut store,
-            out,
-            &mut report,
-        );
-        assert_eq!(rt; done.status(), row.status, "of {:?}", row.words);
-        assert_eq!(rt; report.bytes(), row.report.as_bytes(), "of {:?}", row.words);
-        assert_eq!(rt; done.out.bytes(), row.out.as_bytes(), "of {:?}", row.words);
-        assert_eq!(rt; done.told, Told::Whole);
+fn ends(rt: HostRuntime) -> Result<(), Fail> {
+    for row in ENDS {
+        come_to(&rt, row)?;
     }
+    Ok(())
+}
+
+#[test]
+fn struck(rt: HostRuntime) -> Result<(), Fail> {
+    for row in STRUCK {
+        come_to(&rt, row)?;
+    }
+    Ok(())
+}
+
+#[test]
+fn struck_twice(rt: HostRuntime) -> Result<(), Fail> {
+    for row in STRUCK_TWICE {
+        come_to(&rt, row)?;
+    }
+    Ok(())
+}
+
+#[test]
+fn limits(rt: HostRuntime) -> Result<(), Fail> {
+    for row in LIMITS {
+        come_to(&rt, row)?;
+    }
+    Ok(())
+}
+
+#[test]
+fn calls(rt: HostRuntime) -> Result<(), Fail> {
+    for row in CALLS {
+        come_to(&rt, row)?;
+    }
+    Ok(())
+}
+
+#[test]
+fn refused(rt: HostRuntime) -> Result<(), Fail> {
+    for row in REFUSED {
+        come_to(&rt, row)?;
+    }
+    Ok(())
+}
+
+// The command of a row comes to what the row says.
+fn come_to(rt: &HostRuntime, row: &Row) -> Result<(), Fail> {
+    let words = words_of(rt.alloc(), row.words)?;
+    let mut store = store(rt.alloc())?;
+    let mut report = sink(rt.alloc(), &[])?;
+    let out = sink(rt.alloc(), &[])?;
+    let done = romain(
+        rt,
+        rt.alloc(),
+        words.as_slice(),
+        &mut store,
+        out,
+        &mut report,
+    );
+    assert_eq!(rt; done.status(), row.status, "of {:?}", row.words);
+    assert_eq!(rt; report.bytes(), row.report.as_bytes(), "of {:?}", row.words);
+    assert_eq!(rt; done.out.bytes(), row.out.as_bytes(), "of {:?}", row.words);
+    assert_eq!(rt; done.told, Told::Whole);
     Ok(())
 }
 

@@ -1,5 +1,6 @@
 //! What a run is asked for, beside its program: how many replicas and drivers, and its bounds.
 #![tactic(auto)]
+
 ghost use Rattle.ro_settings.specs.Ranges.{InRange, default_settings};
 ghost use Rattle.std.specs.Prelude.{IsTrue, ◌≡◌, ◌↔◌};
 

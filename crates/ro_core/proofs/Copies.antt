@@ -3,6 +3,7 @@ use Rattle.std.specs.Prelude.{◌≡◌, ◌≢◌, ℕ, zero, suc, ◌≤◌, �
 use Rattle.std.specs.Option.{option_map_or}
 use Rattle.std.proofs.Common.{refl, sym, ap, ◌∙◌, subst, arith, inl, inr}
 use Rattle.std.proofs.lemmas.List.{length-set}
+use Rattle.ro_kernel.proofs.Kept.{slice_get-set_other}
 use Rattle.ro_exec.specs.Next.{Backed}
 use Rattle.ro_thread.specs.declared.Thread.{Thread}
 use Rattle.ro_replica.specs.Replica.{Replica, copied_threads, recovered}
@@ -81,3 +82,16 @@ length-with-copy won (Some lost) replicas = by (slice_get replicas won)
     by : (o : Option Replica) → length (option_map_or (λ w. option_map_or (λ l. slice_set replicas lost (recovered w l)) (slice_get replicas lost) replicas) o replicas) ≡ length replicas
     by None = refl
     by (Some winner) = set-or-same replicas lost winner (slice_get replicas lost)
+
+-- after a copy each replica but the loser is as it was
+pub copied-other : (won : ℕ) (lost : Option ℕ) (replicas : List Replica) (number : ℕ) → lost ≢ Some number → slice_get (with_recovered won lost replicas) number ≡ slice_get replicas number
+copied-other won None replicas number differs = refl
+copied-other won (Some lost) replicas number differs = by (slice_get replicas won)
+  where
+    set-other : (winner : Replica) (o : Option Replica) → slice_get (option_map_or (λ l. slice_set replicas lost (recovered winner l)) o replicas) number ≡ slice_get replicas number
+    set-other winner None = refl
+    set-other winner (Some loser) = slice_get-set_other replicas lost number (recovered winner loser) (λ e. differs (ap Some e))
+
+    by : (o : Option Replica) → slice_get (option_map_or (λ w. option_map_or (λ l. slice_set replicas lost (recovered w l)) (slice_get replicas lost) replicas) o replicas) number ≡ slice_get replicas number
+    by None = refl
+    by (Some winner) = set-other winner (slice_get replicas lost)

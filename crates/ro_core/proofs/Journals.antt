@@ -30,3 +30,7 @@ LegalFrom-append job core (x ∷ xs) ys l m = (l.0, LegalFrom-append job (after 
 pub EachIsNext-append : (job : Job) (core : Core) (xs ys : List Entry) → EachIsNext job core xs → EachIsNext job (replay_from job core xs) ys → EachIsNext job core (xs ++ ys)
 EachIsNext-append job core [] ys l m = m
 EachIsNext-append job core (x ∷ xs) ys l m = (l.0, EachIsNext-append job (after job core x) xs ys l.1 m)
+
+pub LegalFrom-parts : (job : Job) (core : Core) (xs ys : List Entry) → LegalFrom job core (xs ++ ys) → LegalFrom job core xs × LegalFrom job (replay_from job core xs) ys
+LegalFrom-parts job core [] ys l = (tt, l)
+LegalFrom-parts job core (x ∷ xs) ys l = let p = LegalFrom-parts job (after job core x) xs ys l.1 in ((l.0, p.0), p.1)

@@ -62,7 +62,7 @@ same_apart : (xs ys : List Lease) → xs ≡ ys → Apart ys → Apart xs
 same_apart xs ys e h = subst (λ (ls : List Lease). Apart ls) (sym e) h
 
 -- each entry keeps them apart
-apart_after : (job : Job) (core : Core) (entry : Entry) → IsAllowed job core entry → Apart core.leases → Apart (after job core entry).leases
+pub apart_after : (job : Job) (core : Core) (entry : Entry) → IsAllowed job core entry → Apart core.leases → Apart (after job core entry).leases
 unfolding after
 apart_after job core (Take driver replica thread) m h =
     let p = and_parts (is_home core replica && lives_on core.kernel thread) _ m.lendable in
@@ -84,7 +84,7 @@ unfolding opening_core
 leases_apart job journal legal = apart_from job (opening_core job) journal legal tt
 
 -- a lease that is out is of its replica
-out_has : (driver replica thread : ℕ) (leases : List Lease) → list_any (is_lease driver replica thread) leases ≡ true → has_replica replica leases ≡ true
+pub out_has : (driver replica thread : ℕ) (leases : List Lease) → list_any (is_lease driver replica thread) leases ≡ true → has_replica replica leases ≡ true
 out_has driver replica thread [] e = absurd (true≢false (sym e))
 out_has driver replica thread (lease ∷ leases) e = by (is_lease driver replica thread lease) refl (λ later. out_has driver replica thread leases later)
   where

@@ -322,7 +322,7 @@ opening-sound job core number one = record {
   own_faults = λ fault e. let l = listed-filter (λ f. f.replica == number) job.faults fault e in (eqb-true fault.replica number l.1, l.0);
 }
 
-ordered-opening : (job : Job) → IsOrdered job (opening_core job)
+pub ordered-opening : (job : Job) → IsOrdered job (opening_core job)
 unfolding opening_core
 ordered-opening job = record {
   replica_count = length-opening job job.settings.replicas;

@@ -1,0 +1,37 @@
+//! What holds of every legal journal.
+ghost use Rattle.std.specs.Prelude.{◌≡◌, ◌⊎◌, ◌&&◌, ◌==◌, ◌∷◌, ◌++◌, ℕ, List, [], Some, not, length, slice_get};
+ghost use Rattle.std.specs.List.{filter};
+ghost use Rattle.ro_event.specs.declared.calls.Call.{Call};
+ghost use Rattle.ro_event.specs.declared.stops.Stop.TheVariants.{Calls};
+ghost use Rattle.ro_exec.specs.Next.{Layout};
+ghost use Rattle.ro_thread.specs.declared.Thread.{Thread};
+ghost use Rattle.ro_replica.specs.Replica.{Replica};
+ghost use Rattle.ro_replica.specs.Runs.{Ran, run_of};
+ghost use Rattle.ro_journal.specs.declared.Entry.{Entry};
+ghost use Rattle.ro_journal.specs.declared.Entry.TheVariants.{End};
+ghost use Rattle.ro_journal.specs.declared.How.{How};
+ghost use Rattle.ro_core.specs.Core.{Job};
+ghost use Rattle.ro_core.specs.Legal.{Legal, replay};
+ghost use Rattle.ro_core.specs.Laws.{thread_in, LetsGoOn, hits, has_come};
+
+/// Nothing follows an end.
+pub fn end_is_last()
+    ensures { (job : Job) (before behind : List Entry) (how : How) → Legal job (before ++ End how ∷ behind) → behind ≡ [] }
+{}
+
+/// One order of grants: a replica's thread that stands at a call, of a mutex or any other, goes on at nothing but the
+/// vote or the free that answers it, or where its replica becomes a copy of another.
+pub fn one_grant_order()
+    ensures { (job : Job) (journal : List Entry) (entry : Entry) → Legal job (journal ++ entry ∷ []) → (replica thread : ℕ) (stands : Thread) (call : Call) → thread_in (replay job journal) replica thread ≡ Some stands → stands.stop ≡ Some (Calls call) → (thread_in (replay job (journal ++ entry ∷ [])) replica thread ≡ Some stands) ⊎ LetsGoOn entry replica thread }
+{}
+
+/// Each fault whose moment has come was struck once, and the others of its replica wait.
+pub fn struck_once()
+    ensures waiting { (job : Job) (journal : List Entry) → Legal job journal → (number : ℕ) (replica : Replica) → slice_get (replay job journal).replicas number ≡ Some replica → replica.waiting ≡ filter (λ fault. (fault.replica == number) && not (has_come journal fault)) job.faults }
+    ensures struck { (job : Job) (journal : List Entry) → Legal job journal → (number : ℕ) (replica : Replica) → slice_get (replay job journal).replicas number ≡ Some replica → hits journal number ≡ length (filter (λ fault. (fault.replica == number) && has_come journal fault) job.faults) }
+{}
+
+/// No other bit flips: a run in which no fault was struck is the run of a replica that has none.
+pub fn no_other_flip()
+    ensures { (layout : Layout) (watchdog count thread : ℕ) (replica : Replica) (ran : Ran) → run_of layout watchdog count replica thread ≡ Some ran → ran.hit ≡ 0 → run_of layout watchdog count (record replica { waiting = [] }) thread ≡ Some (record { replica = record ran.replica { waiting = [] }; hit = 0 }) }
+{}

@@ -1,11 +1,13 @@
 //! What a vote sees of a replica.
-ghost use Rattle.std.specs.Prelude.{◌≡◌, ◌≤◌, IsTrue, Some, is_some, length, take};
+ghost use Rattle.std.specs.Prelude.{◌≡◌, ◌≤◌, ◌+◌, ◌^◌, IsTrue, Some, is_some, length};
+ghost use Rattle.ro_event.specs.declared.stops.Stop.TheVariants.{Calls};
+ghost use Rattle.ro_pages.specs.Bytes.{bytes_at};
 ghost use Rattle.ro_replica.specs.Replica.{stop_of};
-ghost use Rattle.ro_replica.specs.Views.{payload_at, view_of, view_with};
+ghost use Rattle.ro_replica.specs.Views.{view_of, view_with};
 ghost use Rattle.ro_replica.specs.Seen.{replica_of};
 
 use crate::replicas::Replica;
-use ro_event::{Stop, View};
+use ro_event::{Call, Stop, View};
 use ro_kernel::payload_len;
 use ro_thread::Thread;
 
@@ -22,33 +24,31 @@ impl Replica {
             unreachable!()
         };
         match stop {
-            Stop::Calls(_) => self.show_call(thread, stop, view),
+            Stop::Calls(call) => self.show_call(thread, call, view),
             _ => show(thread, stop, &[], view),
         }
     }
 
     /// Shows a thread that makes a call, with what it writes.
-    fn show_call(&self, thread: &Thread, stop: Stop, view: &mut View)
-        ensures { view.new ≡ view_with self.now.layout.ranges (replica_of self.now) thread.now stop }
+    fn show_call(&self, thread: &Thread, call: Call, view: &mut View)
+        ensures { view.new ≡ view_with self.now.layout.ranges (replica_of self.now) thread.now (Calls call) }
     {
-        let mut payload = [0; 4096];
-        let len = self.read_payload(stop, &mut payload);
-        show(thread, stop, &payload[..len], view);
+        match payload_len(&self.regions, call) {
+            0 => show(thread, Stop::Calls(call), &[], view),
+            len => self.show_write(thread, call, len, view),
+        }
     }
 
-    /// Reads what a thread that stands at a stop writes, and how many bytes that is.
-    fn read_payload(&self, stop: Stop, payload: &mut [u8; 4096]) -> usize
-        ensures most { result ≤ 4096 }
-        ensures bytes { take result payload.new ≡ payload_at self.now.layout.ranges (replica_of self.now).memory stop }
+    /// Shows a thread that writes so many bytes.
+    fn show_write(&self, thread: &Thread, call: Call, len: u32, view: &mut View)
+        requires most { len ≤ 4096 }
+        requires within { call.a1 + len ≤ 2 ^ 32 }
+        ensures { view.new ≡ record { registers = thread.now.cpu.registers; pc = thread.now.cpu.pc; since = thread.now.since; stop = Calls call; payload = bytes_at (replica_of self.now).memory call.a1 len } }
     {
-        let Stop::Calls(call) = stop else {
-            return 0;
-        };
-        let len = payload_len(&self.regions, call);
-        if len > 0 {
-            self.pages.read_bytes(call.a1, &mut payload[..len as usize]);
-        }
-        len as usize
+        let mut payload = [0; 4096];
+        let payload = &mut payload[..len as usize];
+        self.pages.read_bytes(call.a1, payload);
+        show(thread, Stop::Calls(call), payload, view);
     }
 }
 

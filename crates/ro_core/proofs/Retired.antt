@@ -20,14 +20,14 @@ use Rattle.ro_core.proofs.Sound.{Instructs, instructs, instructed, RunParts, run
 -- ---- lists that are filtered twice
 
 -- by whether the first element passes
-filter-cons : {X : Type 0} (q r : X → Bool) (x : X) (xs ys : List X) (b c : Bool) → filter q xs ≡ ys → (b && q x) ≡ c → filter q (cond b (x ∷ xs) xs) ≡ cond c (x ∷ ys) ys
-filter-cons q r x xs ys false c rest e = rest ∙ ap (λ (d : Bool). cond d (x ∷ ys) ys) e
-filter-cons q r x xs ys true c rest e = (λ t. cond (e t) (x ∷ rest t) (rest t))
+filter-cons : {X : Type 0} (q : X → Bool) (x : X) (xs ys : List X) (b c : Bool) → filter q xs ≡ ys → (b && q x) ≡ c → filter q (cond b (x ∷ xs) xs) ≡ cond c (x ∷ ys) ys
+filter-cons q x xs ys false c rest e = rest ∙ ap (λ (d : Bool). cond d (x ∷ ys) ys) e
+filter-cons q x xs ys true c rest e = (λ t. cond (e t) (x ∷ rest t) (rest t))
 
 -- what passes two tests passes the one that is both
 pub filter-filter : {X : Type 0} (p q r : X → Bool) → ((x : X) → (p x && q x) ≡ r x) → (xs : List X) → filter q (filter p xs) ≡ filter r xs
 filter-filter p q r both [] = refl
-filter-filter p q r both (x ∷ xs) = filter-cons q r x (filter p xs) (filter r xs) (p x) (r x) (filter-filter p q r both xs) (both x)
+filter-filter p q r both (x ∷ xs) = filter-cons q x (filter p xs) (filter r xs) (p x) (r x) (filter-filter p q r both xs) (both x)
 
 -- the same test
 pub filter-same : {X : Type 0} (p q : X → Bool) → ((x : X) → p x ≡ q x) → (xs : List X) → filter p xs ≡ filter q xs

@@ -23,7 +23,7 @@ use Rattle.ro_replica.specs.Replica.{Replica, changed_at, thread_after, with_mad
 use Rattle.ro_replica.specs.Runs.{Ran, run_of, with_stop}
 use Rattle.ro_replica.specs.Views.{is_unstopped}
 use Rattle.ro_plain.specs.Machine.{layout_of, setup_of}
-use Rattle.ro_plain.proofs.Calls.{some-injective}
+use Rattle.ro_plain.proofs.Calls.{some-injective, slice_get-append}
 use Rattle.ro_core.specs.declared.actions.Lease.{Lease}
 use Rattle.ro_core.specs.Core.{Job, Core, opening_core, is_home, is_out, is_lendable}
 use Rattle.ro_core.specs.Event.{Event, call_event, with_recovered}
@@ -161,16 +161,11 @@ not-cancelled backed stands call e = ap (λ (o : Option Stop). record stands { s
     by None f = refl
     by (Some stop) f = ap (λ (s : Stop). cond (is_cancelled backed (Some s)) None (Some s)) (some-injective f) ∙ sym f
 
-appended : {X : Type 0} (ys : List X) (x : X) (xs : List X) (i : ℕ) → slice_get xs i ≡ Some x → slice_get (xs ++ ys) i ≡ Some x
-appended ys x [] i f = absurd (let g : None ≡ Some x = f in cc)
-appended ys x (z ∷ xs) zero f = f
-appended ys x (z ∷ xs) (suc i) f = appended ys x xs i f
-
 -- a thread that is made stands behind the others
 made-keeps : (made : Option Made) (threads : List Thread) (i : ℕ) (x : Thread) → slice_get threads i ≡ Some x → slice_get (with_made made threads) i ≡ Some x
 made-keeps None threads i x e = e
 made-keeps (Some made) [] i x e = e
-made-keeps (Some made) (y ∷ threads) i x e = appended _ x (y ∷ threads) i e
+made-keeps (Some made) (y ∷ threads) i x e = slice_get-append (y ∷ threads) _ i x e
 
 changed-other : (f : Thread → Thread) (xs : List Thread) (t i : ℕ) → i ≢ t → slice_get (changed_at f xs t) i ≡ slice_get xs i
 changed-other f [] t i d = refl

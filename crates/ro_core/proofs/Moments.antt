@@ -2,7 +2,7 @@
 use Rattle.std.specs.Prelude.{◌≡◌, ◌≢◌, ℕ, zero, suc, ◌+◌, ◌<◌, ◌≤◌, ◌⊎◌, Bool, true, false, not, cond, ◌&&◌, ◌||◌, ◌==◌, nat_le, List, [], ◌∷◌, ◌++◌, length, map, Option, Some, None, slice_get}
 use Rattle.std.specs.List.{filter}
 use Rattle.std.proofs.Common.{refl, sym, ap, ◌∙◌, subst, arith, inl, inr, append-nil, append_assoc}
-use Rattle.std.proofs.lemmas.Bool.{cases_Bool, cases_eq, and_parts, and_from, and_left, and_right, or_parts, or_left, or_right, le-leb, leb-true, leb-false, eqb-true, eqb-false, eq-eqb, ne_eqb}
+use Rattle.std.proofs.lemmas.Bool.{cases_Bool, or_cases, cases_eq, and_parts, and_from, and_left, and_right, or_parts, or_left, or_right, le-leb, leb-true, leb-false, eqb-true, eqb-false, eq-eqb, ne_eqb}
 use Rattle.ro_event.specs.Effects.{Effect}
 use Rattle.ro_event.specs.declared.effects.Made.{Made}
 use Rattle.ro_exec.specs.Threads.{made_cpu}
@@ -26,7 +26,7 @@ use Rattle.ro_core.proofs.Effects.{backed_after, threads_after}
 use Rattle.ro_core.proofs.Leases.{Apart, apart_after}
 use Rattle.ro_core.proofs.Ordered.{put-parts, PutParts, get-opening, one-thread, event-parts, free-parts, freed-is, ordered-after, ordered-opening}
 use Rattle.ro_core.proofs.Grants.{LentGo, go-after, go-none, LentThread, lent-thread}
-use Rattle.ro_core.proofs.Retired.{RunMeets, meets, filter-filter, filter-same, length-parts, is_passed, same-bool, or-true, not-or}
+use Rattle.ro_core.proofs.Retired.{RunMeets, meets, filter-filter, filter-same, length-parts, is_passed, same-bool, not-or}
 
 -- ---- a journal with one entry more
 
@@ -121,11 +121,6 @@ same-replica : (replica : Replica) → SameCounts replica replica
 same-replica replica = record { waiting = refl; made = λ place x e. inl (x, e, refl); unmade = λ place e. e }
 
 -- ---- effects and copies
-
--- a thread is there or not
-there-or-not : {X : Type 0} (o : Option X) → ((x : X) × (o ≡ Some x)) ⊎ (o ≡ None)
-there-or-not None = inr refl
-there-or-not (Some x) = inl (x, refl)
 
 -- where no thread is after a change of the list, none was before
 changed-none : {X : Type 0} (f : X → X) (xs : List X) (t i : ℕ) → slice_get (changed_at f xs t) i ≡ None → slice_get xs i ≡ None
@@ -243,7 +238,7 @@ copied-same job core won winner (Some lost) ordered there number r e = by (after
 
 -- whether the moment of a fault has come, where its thread has retired `done` and retires so many more
 moment-or : (ran : Bool) (at done count : ℕ) → (ran ≡ false → done ≡ 0) → ((ran && nat_le at done) || (nat_le done at && nat_le at (done + count))) ≡ nat_le at (done + count)
-moment-or ran at done count none = same-bool _ _ (λ e. there (or-true _ _ e)) (λ e. back (cases_Bool ran) (cases_Bool (nat_le at done)) (leb-true at (done + count) e))
+moment-or ran at done count none = same-bool _ _ (λ e. there (or_cases _ _ e)) (λ e. back (cases_Bool ran) (cases_Bool (nat_le at done)) (leb-true at (done + count) e))
   where
     there : ((ran && nat_le at done) ≡ true) ⊎ ((nat_le done at && nat_le at (done + count)) ≡ true) → nat_le at (done + count) ≡ true
     there (inl e) = let l : at ≤ done = leb-true at done (and_parts ran (nat_le at done) e).1 in le-leb at (done + count) (omega arith)

@@ -3,7 +3,7 @@ use Rattle.std.specs.Prelude.{◌≡◌, ◌≢◌, ℕ, zero, suc, ◌+◌, ◌
 use Rattle.std.specs.List.{filter, fold}
 use Rattle.std.specs.Option.{option_map, option_and_then}
 use Rattle.std.proofs.Common.{refl, sym, ap, ◌∙◌, subst, arith, inl, inr}
-use Rattle.std.proofs.lemmas.Bool.{cases_Bool, and_parts, and_from, or_left, or_right, le-leb, leb-true, eqb-true, eqb-false, eq-eqb}
+use Rattle.std.proofs.lemmas.Bool.{cases_Bool, or_cases, and_parts, and_from, or_left, or_right, le-leb, leb-true, eqb-true, eqb-false, eq-eqb}
 use Rattle.ro_region.specs.declared.Range.{Range}
 use Rattle.ro_kernel.proofs.Kept.{slice_get-set_other}
 use Rattle.ro_exec.specs.Next.{Layout, next}
@@ -57,10 +57,6 @@ same-bool true c there back = sym (there refl)
 same-bool false true there back = back refl
 same-bool false false there back = refl
 
-pub or-true : (b c : Bool) → (b || c) ≡ true → (b ≡ true) ⊎ (c ≡ true)
-or-true true c e = inl refl
-or-true false c e = inr e
-
 pub not-or : (b c d : Bool) → (b || c) ≡ d → (not b && not c) ≡ not d
 not-or true c d e = ap not e
 not-or false c d e = ap not e
@@ -99,7 +95,7 @@ passed-now thread now fault = same-bool _ _ there back
 
 -- of one more
 passed-more : (thread now n : ℕ) (fault : Fault) → (is_due thread now fault || is_passed thread (now + 1) (now + 1 + n) fault) ≡ is_passed thread now (now + suc n) fault
-passed-more thread now n fault = same-bool _ _ (λ e. there (or-true _ _ e)) back
+passed-more thread now n fault = same-bool _ _ (λ e. there (or_cases _ _ e)) back
   where
     there : (is_due thread now fault ≡ true) ⊎ (is_passed thread (now + 1) (now + 1 + n) fault ≡ true) → is_passed thread now (now + suc n) fault ≡ true
     there (inl e) = let p = and_parts _ _ e in let at : fault.at ≡ now = eqb-true fault.at now p.1 in

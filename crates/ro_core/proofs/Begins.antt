@@ -16,9 +16,11 @@ use Rattle.ro_core.specs.Core.{Job, Core, opening_replicas, opening_core}
 use Rattle.ro_core.specs.Legal.{Legal, replay}
 use Rattle.ro_core.specs.Seen.{sent_of}
 use Rattle.ro_core.specs.Fields.{failed_of, Seated, AreSeated, one_end, Fields, blocked_at, Holds}
-use Rattle.ro_core.specs.Opening.{IsFirst, AreFirst}
+use Rattle.ro_core.specs.Grouped.{AreGrouped}
+use Rattle.ro_core.specs.Opening.{IsFirst, AreFirst, NoneStands}
 use Rattle.ro_core.proofs.Lists.{get-within, get-append-cases}
 use Rattle.ro_core.proofs.Ordered.{length-opening, get-opening}
+use Rattle.ro_core.proofs.Grouped.{opening-grouped}
 use Rattle.ro_core.proofs.Held.{due-same, no-views}
 
 pub first-push : (image : Image) (faults : List Fault) (watchdog : ℕ) (seats : List (Option ReplicaOf)) (seat : Option ReplicaOf) → AreFirst image faults watchdog seats → IsFirst image faults watchdog (length seats) seat → AreFirst image faults watchdog (seats ++ seat ∷ [])
@@ -71,9 +73,9 @@ nothing-blocked blocked e thread = ap (λ (bs : List (Option Call)). blocked_at 
 pub opening-holds : (f : Fields) → InRange f.job.settings → f.journal ≡ [] → AreFirst f.job.program.image f.job.faults f.job.settings.watchdog f.seats → length f.seats ≡ f.job.settings.replicas
     → f.leases ≡ [] → f.kernel.setup ≡ setup_of f.job.program → f.kernel.kernel ≡ opening_kernel f.job.program.image.heap
     → f.blocked ≡ None ∷ None ∷ None ∷ None ∷ None ∷ None ∷ None ∷ None ∷ None ∷ None ∷ None ∷ None ∷ None ∷ None ∷ None ∷ None ∷ [] → f.steps ≡ 0 → f.due ≡ None → f.ended ≡ None → f.sent ≡ 0
-    → length f.views ≡ f.job.settings.replicas → 1 ≤ f.places → Holds f
+    → length f.views ≡ f.job.settings.replicas → NoneStands f.job.settings.replicas f.groups → 1 ≤ f.places → Holds f
 unfolding opening_core
-opening-holds f in_range journal first count leases setup kernel blocked steps due ended sent views room =
+opening-holds f in_range journal first count leases setup kernel blocked steps due ended sent views none room =
     let core : replay f.job f.journal ≡ opening_core f.job = ap (replay f.job) journal in
     record {
       in_range = in_range;
@@ -91,6 +93,7 @@ opening-holds f in_range journal first count leases setup kernel blocked steps d
       due_is = due-same f.job f.journal f.due (ap failed_of due) (due ∙ sym (ap (λ (x : Core). x.due) core));
       ended_is = ended ∙ sym (ap (λ (x : Core). x.ended) core);
       seats_are = subst (λ (x : Core). AreSeated f.job x f.seats) (sym core) (first-seated f.job f.seats first count);
+      groups_are = subst (λ (x : Core). AreGrouped x.replicas f.groups) (sym core) (opening-grouped f.job f.groups none);
       views_count = views ∙ sym count;
       views_kept = no-views f.job f.journal f.views (ap outcome_of journal);
       failed_well = λ bytes g. absurd (let z : None ≡ Some (Sink bytes) = sym due ∙ g in cc);

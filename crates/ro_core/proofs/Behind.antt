@@ -17,6 +17,7 @@ use Rattle.ro_core.specs.Event.{Event, all_applied, core_after}
 use Rattle.ro_core.specs.Legal.{after, IsAllowed}
 use Rattle.ro_core.specs.Sound.{IsOver}
 use Rattle.ro_core.specs.Seen.{sent_of}
+use Rattle.ro_core.specs.Grouped.{AreGrouped}
 use Rattle.ro_core.specs.Fields.{failed_of, AreSeated, AreHome, AreSpared, CanTake, one_end, due_behind, Fields, core_in, blocked_at, CountsBytes, Holds}
 use Rattle.ro_core.proofs.Happens.{Happens}
 use Rattle.ro_core.proofs.Journals.{outcome_of-append}
@@ -114,10 +115,10 @@ module _ (f f' : Fields) (h : Holds f) (entry : Entry) (allowed : IsAllowed f.jo
   }
 
   -- the fields behind the event
-  pub happened-holds : f'.job ≡ f.job → f'.journal ≡ f.journal ++ entry ∷ [] → AreHome f.job f'.seats (all_applied event.effect replicas) → f'.leases ≡ f.leases → f'.kernel.setup ≡ f.kernel.setup → f'.kernel.kernel ≡ event.kernel
+  pub happened-holds : f'.job ≡ f.job → f'.journal ≡ f.journal ++ entry ∷ [] → AreHome f.job f'.seats (all_applied event.effect replicas) → AreGrouped (all_applied event.effect replicas) f'.groups → f'.leases ≡ f.leases → f'.kernel.setup ≡ f.kernel.setup → f'.kernel.kernel ≡ event.kernel
       → f'.blocked ≡ slice_set f.blocked thread event.blocked → f'.steps ≡ f.steps + count + event_steps event.did → f'.due ≡ due_behind event.due failed → f'.ended ≡ f.ended → length f'.views ≡ length f'.seats → Sent f f' count event failed
       → outcome_of (entry ∷ []) ≡ None → 1 ≤ f'.places → Holds f'
-  happened-holds job journal home leases setup kernel blocked steps due ended views sent no_end room = holds-step f f' entry h allowed (record {
+  happened-holds job journal home groups leases setup kernel blocked steps due ended views sent no_end room = holds-step f f' entry h allowed (record {
     job = job;
     journal = journal;
     leases = leases ∙ h.leases_are ∙ sym (ap (λ (c : Core). c.leases) came);
@@ -133,6 +134,7 @@ module _ (f f' : Fields) (h : Holds f) (entry : Entry) (allowed : IsAllowed f.jo
         (subst (λ (c : Core). bytes < c.wrote) (sym came) n.0, ap is_going came ∙ n.1);
     ended = ended ∙ h.ended_is ∙ sym (ap (λ (c : Core). c.ended) came);
     seats = subst (λ (c : Core). AreSeated f.job c f'.seats) (sym came) (seated-home f.job (core_after (core_in f) thread count replicas event) f'.seats home core_alone);
+    groups = subst (λ (c : Core). AreGrouped c.replicas f'.groups) (sym came) groups;
     views_count = views;
     views_kept = no-views f.job _ f'.views (outcome_of-append f.journal (entry ∷ []) (no-outcome f h still) ∙ no_end);
     room = let none : length f'.leases ≡ 0 = ap length (leases ∙ alone) in let one : one_end f'.ended ≡ 1 = ap one_end (ended ∙ still) in omega arith;

@@ -10,6 +10,7 @@ use Rattle.ro_core.specs.Core.{Core, is_going}
 use Rattle.ro_core.specs.Legal.{after, MayEnd, cut_output}
 use Rattle.ro_core.specs.Seen.{sent_of, KeepsViews}
 use Rattle.ro_core.specs.Fields.{failed_of, AreSeated, one_end, Fields, core_in, state_in, blocked_at, Holds}
+use Rattle.ro_core.specs.Grouped.{AreGrouped}
 use Rattle.ro_core.proofs.Homes.{replay_more}
 use Rattle.ro_core.proofs.Held.{Goes, goes, same-counts, holds-step}
 use Rattle.ro_core.proofs.Entries.{end-seated}
@@ -45,10 +46,10 @@ module _ (f : Fields) (h : Holds f) (how : How) (going : is_going (state_in f) �
       ∙ cut-none (core_in f) how not_sink
       ∙ sym (ap (sent_of f.job f.journal) concluding.not_failed)
 
-  pub conclude-holds : (f' : Fields) → f'.job ≡ f.job → f'.kernel ≡ f.kernel → f'.blocked ≡ f.blocked → f'.steps ≡ f.steps → f'.views ≡ f.views → f'.seats ≡ f.seats → f'.leases ≡ f.leases → f'.due ≡ f.due → f'.ended ≡ Some how → f'.sent ≡ f.sent → ((bytes : ℕ) → how ≢ Sink bytes)
+  pub conclude-holds : (f' : Fields) → f'.job ≡ f.job → f'.kernel ≡ f.kernel → f'.blocked ≡ f.blocked → f'.steps ≡ f.steps → f'.views ≡ f.views → f'.seats ≡ f.seats → f'.groups ≡ f.groups → f'.leases ≡ f.leases → f'.due ≡ f.due → f'.ended ≡ Some how → f'.sent ≡ f.sent → ((bytes : ℕ) → how ≢ Sink bytes)
       → f'.journal ≡ f.journal ++ End how ∷ [] → f.places ≡ f'.places + 1 → KeepsViews f.job (f.journal ++ End how ∷ []) f.views → Holds f'
   unfolding after
-  conclude-holds f' job kernel blocked steps views seats leases due ended sent not_sink journal less kept = holds-step f f' (End how) h (conclude-not-over, conclude-allowed) (record {
+  conclude-holds f' job kernel blocked steps views seats groups leases due ended sent not_sink journal less kept = holds-step f f' (End how) h (conclude-not-over, conclude-allowed) (record {
     job = job;
     journal = journal;
     leases = leases ∙ h.leases_are;
@@ -62,6 +63,7 @@ module _ (f : Fields) (h : Holds f) (how : How) (going : is_going (state_in f) �
     not_sink = λ bytes e. absurd (let g : None ≡ Some (Sink bytes) = sym concluding.not_due ∙ sym due ∙ e in cc);
     ended = ended;
     seats = subst (AreSeated f.job (after f.job (core_in f) (End how))) (sym seats) (end-seated f.job (core_in f) f.seats how h.seats_are);
+    groups = subst (AreGrouped (core_in f).replicas) (sym groups) h.groups_are;
     views_count = ap length views ∙ h.views_count ∙ sym (ap length seats);
     views_kept = subst (KeepsViews f.job (f.journal ++ End how ∷ [])) (sym views) kept;
     room = let k = h.room in let one : one_end f.ended ≡ 1 = ap one_end concluding.not_ended in let none : one_end f'.ended ≡ 0 = ap one_end ended in let n : length f'.leases ≡ length f.leases = ap length leases in omega arith;

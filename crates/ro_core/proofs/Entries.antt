@@ -1,6 +1,6 @@
 -- A take, a put and an end, in the fields of a core.
 use Rattle.std.proofs.Common.{◌≡◌, inl, inr, ℕ, zero, suc, ◌+◌, ◌*◌, ◌^◌, ◌<◌, ◌≤◌, Bool, true, false, true≢false, not, cond, List, [], ◌∷◌, ◌++◌, length, Option, Some, None, refl, sym, ap, ◌∙◌, subst, arith, eqb-true, lt-ltb}
-use Rattle.std.specs.Prelude.{◌==◌, IfSome, slice_get, slice_set, unwrap_or}
+use Rattle.std.specs.Prelude.{◌==◌, IfSome, is_some, slice_get, slice_set, unwrap_or}
 use Rattle.std.specs.List.{filter, find, list_any}
 use Rattle.std.specs.Option.{option_map_or}
 use Rattle.std.proofs.lemmas.Bool.{and_parts}
@@ -13,7 +13,7 @@ use Rattle.ro_journal.specs.Plan.{outcome_of}
 use Rattle.ro_event.specs.declared.calls.Call.{Call}
 use Rattle.ro_kernel.specs.State.{State}
 use Rattle.ro_thread.specs.declared.Thread.{Thread}
-use Rattle.ro_replica.specs.Replica.{Replica}
+use Rattle.ro_replica.specs.Replica.{Replica, stop_of}
 use Rattle.ro_replica.specs.Runs.{Ran}
 use Rattle.ro_replica.specs.Views.{is_unstopped}
 use Rattle.ro_replica.specs.Seen.{ReplicaOf, replica_of, CanCount}
@@ -26,6 +26,10 @@ use Rattle.ro_core.specs.Seen.{CoreOf, sent, sent_of, Quiet, Appends, IsOfJob}
 use Rattle.ro_core.specs.Sound.{IsOver, exits, traps, IsOrdered, Counts}
 use Rattle.ro_core.specs.Fields.{failed_of, spare_of, Seated, AreSeated, IsSeat, one_end, Fields, core_in, state_in, blocked_at, Holds}
 use Rattle.ro_core.proofs.Homes.{replay_more, AtHome, lendable_there, seat_there, take_seated, put_seated, seat_within, fewer}
+use Rattle.ro_core.specs.Grouped.{AreGrouped, Returns}
+use Rattle.std.proofs.lemmas.Option.{slice_get_within}
+use Rattle.ro_core.proofs.Grants.{lent-go, lent-thread}
+use Rattle.ro_core.proofs.Grouped.{put-grouped}
 use Rattle.ro_core.proofs.Leases.{leases_apart}
 use Rattle.ro_core.proofs.Ordered.{going-parts, ordered}
 use Rattle.ro_core.proofs.Nexts.{end_next, end_is}
@@ -101,9 +105,9 @@ module _ (f : Fields) (h : Holds f) (driver replica thread : ℕ) (allowed : May
       ∙ take-output f.job f.journal driver replica thread ∙ sym (ap (sent_of f.job f.journal) none)
 
   pub take-holds : (f' : Fields) → Rest f f' → f'.journal ≡ f.journal ++ Take driver replica thread ∷ [] → f'.leases ≡ record { driver = driver; replica = replica; thread = thread } ∷ f.leases
-      → f'.seats ≡ slice_set f.seats replica None → length f.leases + 3 ≤ f'.places + 1 → Holds f'
+      → f'.seats ≡ slice_set f.seats replica None → f'.groups ≡ f.groups → length f.leases + 3 ≤ f'.places + 1 → Holds f'
   unfolding after
-  take-holds f' r journal leases seats room = holds-step f f' (Take driver replica thread) h take-allowed (record {
+  take-holds f' r journal leases seats groups room = holds-step f f' (Take driver replica thread) h take-allowed (record {
     job = r.job;
     journal = journal;
     leases = leases ∙ ap (λ (ls : List Lease). record { driver = driver; replica = replica; thread = thread } ∷ ls) h.leases_are;
@@ -117,6 +121,7 @@ module _ (f : Fields) (h : Holds f) (driver replica thread : ℕ) (allowed : May
     not_sink = λ bytes e. absurd (let g : None ≡ Some (Sink bytes) = sym take-goes.not_due ∙ sym r.due ∙ e in cc);
     ended = r.ended ∙ h.ended_is;
     seats = subst (AreSeated f.job (after f.job (core_in f) (Take driver replica thread))) (sym seats) (take_seated f.job (core_in f) f.seats driver replica thread take-seat.0 h.seats_are take-seat.1);
+    groups = subst (AreGrouped (core_in f).replicas) (sym groups) h.groups_are;
     views_count = ap length r.views ∙ h.views_count ∙ sym (length-set f.seats replica None) ∙ sym (ap length seats);
     views_kept = no-views f.job _ f'.views (outcome_of-append f.journal (Take driver replica thread ∷ []) (no-outcome f h take-goes.not_ended));
     room = let one : one_end f'.ended ≤ 1 = one-end-le f'.ended in let n : length f'.leases ≡ suc (length f.leases) = ap length leases in omega arith;
@@ -195,6 +200,19 @@ module _ (f : Fields) (h : Holds f) (driver replica thread count hit : ℕ) (all
   pub put-within : replica < length f.seats
   put-within = seat_within f.job (core_in f) f.seats replica thread count put-allowed.ran h.seats_are put-allowed.runs
 
+  -- its group, and the thread, are there
+  pub put-group : replica < length f.groups
+  put-group = let s = put-within in let n = h.seats_are.count in let m = h.groups_are.count in omega arith
+
+  pub put-few : thread < 16
+  put-few =
+      let lent = lent-thread (core_in f) replica thread (lent-go f.job f.journal h.legal driver replica thread put-allowed.out) in
+      let order = ordered f.job f.journal h.legal in
+      let made = (order.sound replica lent.lent lent.in_core).all_made in
+      let within = slice_get_within lent.lent.threads thread lent.went lent.in_lent in
+      let few = order.few_lives in
+      omega arith
+
   pub put-fewer : length (filter (λ l. not (is_lease driver replica thread l)) f.leases) + 1 ≤ length f.leases
   put-fewer = fewer (is_lease driver replica thread) f.leases (ap (list_any (is_lease driver replica thread)) h.leases_are ∙ out)
 
@@ -212,9 +230,9 @@ module _ (f : Fields) (h : Holds f) (driver replica thread count hit : ℕ) (all
 
   pub put-holds : (f' : Fields) (value : ReplicaOf) → IsOfJob f.job value → slice_get (after f.job (core_in f) (Put driver replica thread count hit)).replicas replica ≡ Some (replica_of value)
       → Rest f f' → f'.journal ≡ f.journal ++ Put driver replica thread count hit ∷ [] → f'.leases ≡ filter (λ l. not (is_lease driver replica thread l)) f.leases
-      → f'.seats ≡ slice_set f.seats replica (Some value) → f.places ≡ f'.places + 1 → Holds f'
+      → f'.seats ≡ slice_set f.seats replica (Some value) → Returns replica thread (is_some (stop_of (replica_of value) thread)) f.groups f'.groups → f.places ≡ f'.places + 1 → Holds f'
   unfolding after
-  put-holds f' value program became r journal leases seats less =
+  put-holds f' value program became r journal leases seats back less =
       let core : Core = core_in f in
       let is : core_after_put f.job core driver replica thread count (lease_run f.job core replica thread count) ≡ core_after_put f.job core driver replica thread count (Some put-allowed.ran) = ap (core_after_put f.job core driver replica thread count) put-allowed.runs in
       holds-step f f' (Put driver replica thread count hit) h put-allowed (record {
@@ -231,6 +249,7 @@ module _ (f : Fields) (h : Holds f) (driver replica thread count hit : ℕ) (all
         not_sink = λ bytes e. absurd (let g : None ≡ Some (Sink bytes) = sym put-not-due ∙ sym r.due ∙ e in cc);
         ended = r.ended ∙ h.ended_is ∙ sym (ap (λ (c : Core). c.ended) is);
         seats = subst (AreSeated f.job (after f.job core (Put driver replica thread count hit))) (sym seats) (put_seated f.job core f.seats driver replica thread count hit value (leases_apart f.job f.journal h.legal) h.seats_are put-allowed program became);
+        groups = put-grouped f.job core driver replica thread count hit put-allowed (lent-go f.job f.journal h.legal) f.groups f'.groups (replica_of value) became h.groups_are back;
         views_count = ap length r.views ∙ h.views_count ∙ sym (length-set f.seats replica (Some value)) ∙ sym (ap length seats);
         views_kept = no-views f.job _ f'.views (outcome_of-append f.journal (Put driver replica thread count hit ∷ []) put-outcome);
         room = let k = h.room in let one : one_end f'.ended ≡ one_end f.ended = ap one_end r.ended in let n : length f'.leases ≡ length (filter (λ l. not (is_lease driver replica thread l)) f.leases) = ap length leases in omega (arith, put-fewer);
@@ -358,10 +377,10 @@ module _ (f : Fields) (h : Holds f) (how : How) (is_next : next_action f.job (st
   pub end-room : 0 < f.places
   end-room = let e : one_end f.ended ≡ 1 = ap one_end ended-none in let k = h.room in omega arith
 
-  pub end-holds : (f' : Fields) → f'.job ≡ f.job → f'.kernel ≡ f.kernel → f'.blocked ≡ f.blocked → f'.steps ≡ f.steps → f'.views ≡ f.views → f'.seats ≡ f.seats → f'.leases ≡ f.leases → f'.due ≡ None → f'.ended ≡ Some how → f'.sent ≡ f.sent
+  pub end-holds : (f' : Fields) → f'.job ≡ f.job → f'.kernel ≡ f.kernel → f'.blocked ≡ f.blocked → f'.steps ≡ f.steps → f'.views ≡ f.views → f'.seats ≡ f.seats → f'.groups ≡ f.groups → f'.leases ≡ f.leases → f'.due ≡ None → f'.ended ≡ Some how → f'.sent ≡ f.sent
       → f'.journal ≡ f.journal ++ End how ∷ [] → f.places ≡ f'.places + 1 → Holds f'
   unfolding after
-  end-holds f' job kernel blocked steps views seats leases due ended sent journal less = holds-step f f' (End how) h (end-not-over, end-allowed.0) (record {
+  end-holds f' job kernel blocked steps views seats groups leases due ended sent journal less = holds-step f f' (End how) h (end-not-over, end-allowed.0) (record {
     job = job;
     journal = journal;
     leases = leases ∙ h.leases_are;
@@ -375,6 +394,7 @@ module _ (f : Fields) (h : Holds f) (how : How) (is_next : next_action f.job (st
     not_sink = λ bytes e. absurd (let g : None ≡ Some (Sink bytes) = sym due ∙ e in cc);
     ended = ended;
     seats = subst (AreSeated f.job (after f.job (core_in f) (End how))) (sym seats) (end-seated f.job (core_in f) f.seats how h.seats_are);
+    groups = subst (AreGrouped (core_in f).replicas) (sym groups) h.groups_are;
     views_count = ap length views ∙ h.views_count ∙ sym (ap length seats);
     views_kept = not-split f.job _ f'.views how (outcome_of-append f.journal (End how ∷ []) (no-outcome f h ended-none)) not-by-views.0 not-by-views.1;
     room = let k = h.room in let one : one_end f.ended ≡ 1 = ap one_end ended-none in let none : one_end f'.ended ≡ 0 = ap one_end ended in let n : length f'.leases ≡ length f.leases = ap length leases in omega arith;

@@ -14,6 +14,7 @@ use Rattle.ro_core.specs.Event.{Event, call_event, core_after}
 use Rattle.ro_core.specs.Legal.{core_after_event, after, MayFree, MayEnd, for_free, EndsFree}
 use Rattle.ro_core.specs.Seen.{sent_of}
 use Rattle.ro_core.specs.Fields.{failed_of, AreHome, Fields, blocked_at, core_in, state_in, Holds}
+use Rattle.ro_core.specs.Grouped.{AreMade}
 use Rattle.ro_core.proofs.Homes.{replay_more}
 use Rattle.ro_core.proofs.Held.{Goes, goes}
 use Rattle.ro_core.proofs.Happens.{Happens, call-happens}
@@ -68,6 +69,9 @@ module _ (f : Fields) (h : Holds f) (thread : ℕ) (may : may_free f.job (state_
 
   pub free-threads : (number : ℕ) (replica : Replica) → slice_get (core_in f).replicas number ≡ Some replica → length replica.threads ≡ length (core_in f).kernel.lives
   free-threads number replica e = ((ordered f.job f.journal h.legal).sound number replica e).all_made
+
+  pub free-made-all : AreMade (length f.kernel.kernel.lives) (core_in f).replicas
+  free-made-all number replica e = free-threads number replica e ∙ ap (λ (k : Kernel). length k.lives) (sym h.kernel_is)
 
   -- the end in its place
   pub free-ends : f.steps ≡ f.job.settings.limit → EndsFree f.job (state_in f) (Limit f.steps 1)

@@ -167,7 +167,7 @@ made-keeps None threads i x e = e
 made-keeps (Some made) [] i x e = e
 made-keeps (Some made) (y ∷ threads) i x e = slice_get-append (y ∷ threads) _ i x e
 
-changed-other : (f : Thread → Thread) (xs : List Thread) (t i : ℕ) → i ≢ t → slice_get (changed_at f xs t) i ≡ slice_get xs i
+pub changed-other : (f : Thread → Thread) (xs : List Thread) (t i : ℕ) → i ≢ t → slice_get (changed_at f xs t) i ≡ slice_get xs i
 changed-other f [] t i d = refl
 changed-other f (x ∷ xs) zero zero d = absurd (d refl)
 changed-other f (x ∷ xs) zero (suc i) d = refl

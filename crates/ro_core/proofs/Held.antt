@@ -11,6 +11,7 @@ use Rattle.ro_core.specs.Core.{Job, Core, is_going}
 use Rattle.ro_core.specs.Legal.{after, IsAllowed, Legal, replay, replay_with}
 use Rattle.ro_core.specs.Seen.{KeepsViews, sent_of}
 use Rattle.ro_core.specs.Fields.{failed_of, AreSeated, one_end, Fields, core_in, state_in, blocked_at, CountsBytes, Holds}
+use Rattle.ro_core.specs.Grouped.{AreGrouped}
 use Rattle.ro_core.proofs.Homes.{replay_more, legal_more}
 use Rattle.ro_core.proofs.Ordered.{going-parts}
 use Rattle.ro_core.proofs.Outcomes.{ended_is_outcome}
@@ -94,6 +95,7 @@ pub record Becomes (f f' : Fields) (entry : Entry) : Type 0 where
   pub not_sink : (bytes : ℕ) → f'.due ≡ Some (Sink bytes) → (bytes < (after f.job (core_in f) entry).wrote) × (is_going (after f.job (core_in f) entry) ≡ true)
   pub ended : f'.ended ≡ (after f.job (core_in f) entry).ended
   pub seats : AreSeated f.job (after f.job (core_in f) entry) f'.seats
+  pub groups : AreGrouped (after f.job (core_in f) entry).replicas f'.groups
   pub views_count : length f'.views ≡ length f'.seats
   pub views_kept : KeepsViews f.job (f.journal ++ entry ∷ []) f'.views
   pub room : length f'.leases + one_end f'.ended ≤ f'.places
@@ -132,6 +134,7 @@ module _ (f f' : Fields) (entry : Entry) (h : Holds f) (allowed : IsAllowed f.jo
     due_is = due_is (failed_of f'.due) refl b.due;
     ended_is = b.ended ∙ sym (ap (λ (c : Core). c.ended) core_is);
     seats_are = subst (λ (j : Job). AreSeated j (core_in f') f'.seats) (sym b.job) (subst (λ (c : Core). AreSeated f.job c f'.seats) (sym core_is) b.seats);
+    groups_are = subst (λ (c : Core). AreGrouped c.replicas f'.groups) (sym core_is) b.groups;
     views_count = b.views_count;
     views_kept = subst (λ (j : Job). KeepsViews j f'.journal f'.views) (sym b.job) (subst (λ (js : List Entry). KeepsViews f.job js f'.views) (sym b.journal) b.views_kept);
     failed_well = λ bytes e. let n = b.not_sink bytes e in

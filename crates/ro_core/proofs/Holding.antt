@@ -22,6 +22,7 @@ use Rattle.ro_kernel.specs.Kernel.{Setup, Kernel, live_option, lives_on}
 use Rattle.ro_kernel.specs.Serve.{Served, Done, Blocked, Ends, serve}
 use Rattle.ro_kernel.specs.State.{State}
 use Rattle.ro_io.specs.Outside.{Rose, more}
+use Rattle.ro_exec.specs.Next.{Backed}
 use Rattle.ro_settings.specs.Ranges.{InRange}
 use Rattle.ro_vote.specs.Verdict.{Won, verdict_of}
 use Rattle.ro_vote.specs.Votes.{IsWonBy}
@@ -32,14 +33,17 @@ use Rattle.ro_core.specs.Core.{Job, Core, is_going, may_vote, views_of}
 use Rattle.ro_core.specs.Event.{Event, call_event, event_of, with_recovered, all_applied, core_after}
 use Rattle.ro_core.specs.Legal.{event_in, core_after_event, after, MayVote, PassesLimit, MayEnd, for_vote, Legal, replay, replay_with}
 use Rattle.ro_core.specs.Seen.{CoreOf, sent, sent_of, Sends, IsOfMajority, KeepsViews}
-use Rattle.ro_core.specs.Sound.{IsOver, IsLow}
+use Rattle.ro_core.specs.Sound.{IsOver, IsFault}
 use Rattle.ro_core.specs.Fields.{failed_of, due_behind, one_end, blocked_at, AreSeated, AreHome, IsSeat, CanRecover, Fields, core_in, state_in, CountsBytes, Holds}
+use Rattle.ro_core.specs.Grouped.{AreGrouped, AreMade, Copies}
+use Rattle.ro_group.specs.Groups.{Groups}
+use Rattle.ro_core.proofs.Grouped.{copies-grouped}
 use Rattle.ro_core.proofs.Homes.{replay_more}
 use Rattle.ro_core.proofs.Held.{Goes, goes, same-counts}
 use Rattle.ro_core.proofs.Happens.{Happens, event-happens}
 use Rattle.ro_core.proofs.Served.{Tidy, tidy_done, serve-tidy}
 use Rattle.ro_core.proofs.Ordered.{VoteParts, vote-parts, copied-sound, ordered}
-use Rattle.ro_core.proofs.LowStops.{low-stops}
+use Rattle.ro_core.proofs.FaultStops.{fault-stops}
 use Rattle.ro_core.proofs.Behind.{SinkWell, bytes-by}
 use Rattle.ro_core.proofs.Sitting.{home-get}
 use Rattle.ro_core.proofs.Winners.{won-by, WonIn, won-in, won-view, Showing, showing, showing-event, showing-since, showing-short, views-count}
@@ -59,6 +63,13 @@ lives-within kernel thread e = by (slice_get kernel.lives thread) refl e
     by None f g = absurd (true≢false (sym g))
     by (Some life) f g = slice_get_within kernel.lives thread life f
 
+pub live-few : (f : Fields) → Holds f → (thread : ℕ) → lives_on f.kernel.kernel thread ≡ true → thread < 16
+live-few f h thread e =
+    let within = lives-within f.kernel.kernel thread e in
+    let few = (ordered f.job f.journal h.legal).few_lives in
+    let same : length f.kernel.kernel.lives ≡ length (core_in f).kernel.lives = ap (λ (k : Kernel). length k.lives) h.kernel_is in
+    omega arith
+
 -- each place of seats that are all home has a replica
 home-seat : (job : Job) (seats : List (Option ReplicaOf)) (replicas : List Replica) → AreHome job seats replicas → (n : ℕ) → n < length replicas → IsSeat seats n
 home-seat job [] [] h n less = absurd (omega arith)
@@ -76,12 +87,12 @@ module _ (setup : Setup) (kernel : Kernel) (thread : ℕ) where
   no-page call payload Blocked t = refl
   no-page call payload (Ends after how) t = refl
 
-  pub page-low : (stop : Stop) (payload : List ℕ) → IsLow (Some stop) → IfSome (event_of setup kernel thread stop payload).effect.page (λ page. page < 2 ^ 20)
+  pub page-low : (backed : Backed) (stop : Stop) (payload : List ℕ) → IsFault backed (Some stop) → IfSome (event_of setup kernel thread stop payload).effect.page (λ page. page < 2 ^ 20)
   unfolding event_of
-  page-low (Calls call) payload low = subst (λ (o : Option ℕ). IfSome o (λ page. page < 2 ^ 20)) (sym (no-page call payload (serve setup kernel thread call) (serve-tidy setup kernel thread call))) tt
-  page-low (PageFault page) payload low = low page refl
-  page-low Watchdog payload low = tt
-  page-low (TrapStop code) payload low = tt
+  page-low backed (Calls call) payload low = subst (λ (o : Option ℕ). IfSome o (λ page. page < 2 ^ 20)) (sym (no-page call payload (serve setup kernel thread call) (serve-tidy setup kernel thread call))) tt
+  page-low backed (PageFault page) payload low = (low page refl).0
+  page-low backed Watchdog payload low = tt
+  page-low backed (TrapStop code) payload low = tt
 
 module _ (f : Fields) (h : Holds f) (thread won : ℕ) (lost : Option ℕ) (may : may_vote (state_in f) thread ≡ true) (views : f.views ≡ views_of f.job (state_in f) thread) (verdict : verdict_of f.views ≡ Won won lost) where
   parts : VoteParts (state_in f) thread
@@ -145,6 +156,29 @@ module _ (f : Fields) (h : Holds f) (thread won : ℕ) (lost : Option ℕ) (may 
       let w = get-within (core_in f).replicas won (let x = hold-within in let y = as-many in omega arith) in
       (copied-sound f.job (core_in f) order.backed (core_in f).replicas won w.0 lost w.1 order.sound number replica e).all_made
 
+  -- winner and loser have groups, and as many threads as the kernel made
+  pub hold-groups : (won < length f.groups) × IfSome lost (λ l. (l < length f.groups) × (won ≢ l))
+  hold-groups = ((let w = hold-within in let m = many in omega arith), by lost refl)
+    where
+      many : length f.groups ≡ length f.views
+      many = h.groups_are.count ∙ sym as-many
+
+      by : (o : Option ℕ) → lost ≡ o → IfSome o (λ l. (l < length f.groups) × (won ≢ l))
+      by None e = tt
+      by (Some l) e = let p = won-of.lost_within l e in ((let m = many in omega (arith, p.0)), p.1)
+
+  pub hold-made-all : AreMade (length f.kernel.kernel.lives) (core_in f).replicas
+  hold-made-all number replica e = hold-threads number replica e ∙ ap (λ (k : Kernel). length k.lives) (sym h.kernel_is)
+
+  pub hold-made-healed : AreMade (length f.kernel.kernel.lives) (with_recovered won lost (core_in f).replicas)
+  hold-made-healed number replica e = hold-healed number replica e ∙ ap (λ (k : Kernel). length k.lives) (sym h.kernel_is)
+
+  -- the groups after the copy
+  pub hold-copied : (new : Groups) → Copies won lost (length f.kernel.kernel.lives) f.groups new → AreGrouped (with_recovered won lost (core_in f).replicas) new
+  hold-copied new c =
+      let w = get-within (core_in f).replicas won (let x = hold-within in let y = as-many in omega arith) in
+      copies-grouped won lost (length f.kernel.kernel.lives) (core_in f).replicas w.0 f.groups new w.1 hold-made-all h.groups_are c
+
   -- the loser can become as the winner, in seats that have the core's replicas
   module _ (seats : List (Option ReplicaOf)) (home : AreHome f.job seats (core_in f).replicas) where
     pub seat-of : (n : ℕ) → n < length f.views → IsSeat seats n
@@ -187,8 +221,8 @@ module _ (f : Fields) (h : Holds f) (thread won : ℕ) (lost : Option ℕ) (may 
     hold-short = showing-short f.job (core_in f) thread won view shows
 
     pub hold-low : IfSome hold-event.effect.page (λ page. page < 2 ^ 20)
-    hold-low = page-low f.kernel.setup f.kernel.kernel thread view.stop view.payload
-        (subst IsLow shows.shown.stop_is (low-stops f.job f.journal h.legal won shows.replica shows.there thread shows.shown.its shows.shown.at))
+    hold-low = page-low f.kernel.setup f.kernel.kernel thread shows.replica.backed view.stop view.payload
+        (subst (IsFault shows.replica.backed) shows.shown.stop_is (fault-stops f.job f.journal h.legal won shows.replica shows.there thread shows.shown.its shows.shown.at))
 
     pub hold-allowed : (did : Did) → hold-event.did ≡ did → f.steps + (view.since + event_steps did) ≤ f.job.settings.limit → MayVote f.job (core_in f) thread view.since won lost did
     hold-allowed did is fits = record {
@@ -373,9 +407,13 @@ home-count job (None ∷ seats) replicas h = absurd h
 home-count job (Some value ∷ seats) [] h = absurd h
 home-count job (Some value ∷ seats) (r ∷ replicas) h = ap suc (home-count job seats replicas h.2)
 
+-- as many replicas as settings say
+pub replicas-many : (f : Fields) → Holds f → length (core_in f).replicas ≡ f.job.settings.replicas
+replicas-many f h = (ordered f.job f.journal h.legal).replica_count
+
 pub kept-holds : (f f' : Fields) → Holds f → f.leases ≡ [] → f'.job ≡ f.job → f'.journal ≡ f.journal → AreHome f.job f'.seats (core_in f).replicas → f'.leases ≡ f.leases → f'.kernel ≡ f.kernel → f'.blocked ≡ f.blocked → f'.steps ≡ f.steps → f'.due ≡ f.due → f'.ended ≡ f.ended → f'.views ≡ f.views → f'.sent ≡ f.sent
-    → f.places ≤ f'.places → Holds f'
-kept-holds f f' h alone job journal home leases kernel blocked steps due ended views count room =
+    → f'.groups ≡ f.groups → f.places ≤ f'.places → Holds f'
+kept-holds f f' h alone job journal home leases kernel blocked steps due ended views count groups room =
     let core : core_in f' ≡ core_in f = ap (λ (j : Job). replay j f'.journal) job ∙ ap (replay f.job) journal in
     let state : state_in f' ≡ state_in f = ap (λ (j : Job). replay_with j f'.journal (failed_of f'.due)) job ∙ ap (λ (js : List Entry). replay_with f.job js (failed_of f'.due)) journal ∙ ap (λ (o : Option How). replay_with f.job f.journal (failed_of o)) due in
     record {
@@ -392,6 +430,7 @@ kept-holds f f' h alone job journal home leases kernel blocked steps due ended v
       due_is = due ∙ h.due_is ∙ sym (ap (λ (c : Core). c.due) state);
       ended_is = ended ∙ h.ended_is ∙ sym (ap (λ (c : Core). c.ended) core);
       seats_are = subst (λ (j : Job). AreSeated j (core_in f') f'.seats) (sym job) (subst (λ (c : Core). AreSeated f.job c f'.seats) (sym core) (seated-home f.job (core_in f) f'.seats home (sym h.leases_are ∙ alone)));
+      groups_are = subst (λ (c : Core). AreGrouped c.replicas f'.groups) (sym core) (subst (AreGrouped (core_in f).replicas) (sym groups) h.groups_are);
       views_count = ap length views ∙ h.views_count ∙ h.seats_are.count ∙ sym (home-count f.job f'.seats (core_in f).replicas home);
       views_kept = subst (λ (j : Job). KeepsViews j f'.journal f'.views) (sym job) (subst (λ (js : List Entry). KeepsViews f.job js f'.views) (sym journal) (subst (KeepsViews f.job f.journal) (sym views) h.views_kept));
       failed_well = λ bytes e. let w = h.failed_well bytes (sym due ∙ e) in

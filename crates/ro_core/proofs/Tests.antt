@@ -1,10 +1,8 @@
 -- What the core's tests say, from its fields.
-use Rattle.std.proofs.Common.{◌≡◌, ℕ, zero, suc, ◌+◌, ◌-◌, ◌<◌, Bool, true, false, true≢false, not, cond, ◌&&◌, ◌||◌, List, [], ◌∷◌, length, Option, Some, None, refl, sym, ap, ◌∙◌, subst, arith, eqb-true}
+use Rattle.std.proofs.Common.{◌≡◌, ℕ, zero, suc, ◌+◌, ◌-◌, ◌<◌, Bool, true, false, true≢false, not, cond, ◌&&◌, ◌||◌, List, [], ◌∷◌, length, Option, Some, None, refl, sym, ap, ◌∙◌, subst, arith}
 use Rattle.std.specs.Prelude.{◌==◌, is_none, is_some, slice_get}
 use Rattle.std.specs.List.{list_all, list_any}
 use Rattle.std.specs.Option.{option_map_or}
-use Rattle.std.proofs.lemmas.Bool.{and_parts}
-use Rattle.std.proofs.lemmas.List.{nil_from_length}
 use Rattle.ro_event.specs.declared.calls.Call.{Call}
 use Rattle.ro_journal.specs.declared.How.{How}
 use Rattle.ro_kernel.specs.Kernel.{Kernel, lives_on}
@@ -19,7 +17,10 @@ use Rattle.ro_core.specs.Core.{Job, Core, is_going, nothing_lent, is_home, is_le
 use Rattle.ro_core.specs.Legal.{any_below, replay, replay_with}
 use Rattle.ro_core.specs.Action.{or_else, lowest_below, map_action, threads_made, lend_in, lend_next}
 use Rattle.ro_core.specs.Seen.{IsOfJob}
-use Rattle.ro_core.specs.Fields.{failed_of, Seated, AreSeated, AreHome, seat_stopped, seat_unstopped, Fields, core_in, state_in, blocked_at, Holds}
+use Rattle.ro_core.specs.Fields.{failed_of, Seated, AreSeated, AreHome, seat_unstopped, Fields, core_in, state_in, blocked_at, Holds}
+use Rattle.ro_core.specs.Grouped.{seat_stopped}
+use Rattle.ro_group.specs.Groups.{is_ready}
+use Rattle.ro_core.proofs.Grouped.{ready-all}
 use Rattle.ro_core.proofs.Ordered.{ordered}
 use Rattle.ro_core.proofs.Held.{with-leases, with-kernel, with-replicas, with-ended}
 
@@ -112,12 +113,6 @@ stopped-home job thread (Some value ∷ seats) (r ∷ replicas) h =
 
 -- ---- the tests
 
--- a last part that matters only where the second holds
-same-vote : (a n l k s t : Bool) → (n ≡ true → s ≡ t) → (a && n && l && k && s) ≡ (a && n && l && k && t)
-same-vote a true l k s t h = ap (λ (b : Bool). a && true && l && k && b) (h refl)
-same-vote true false l k s t h = refl
-same-vote false false l k s t h = refl
-
 module _ (f : Fields) (h : Holds f) where
   pub going-is : (is_none f.due && is_none f.ended) ≡ is_going (state_in f)
   going-is = ap (λ (o : Option How). is_none o && is_none f.ended) h.due_is ∙ ap (λ (o : Option How). is_none (state_in f).due && is_none o) (h.ended_is ∙ sym (with-ended f.job f.journal (failed_of f.due)))
@@ -138,25 +133,11 @@ module _ (f : Fields) (h : Holds f) where
   pub replicas-are : (state_in f).replicas ≡ (core_in f).replicas
   replicas-are = with-replicas f.job f.journal (failed_of f.due)
 
-  none-lent : (length f.leases == 0) ≡ true → (core_in f).leases ≡ []
-  none-lent e = sym h.leases_are ∙ nil_from_length f.leases (eqb-true (length f.leases) 0 e)
-
-  -- what the test of a vote comes to, part by part
-  pub may-vote-is : (thread : ℕ) → (is_going (state_in f) && (length f.leases == 0) && lives_on f.kernel.kernel thread && is_none (blocked_at f.blocked thread) && list_all (seat_stopped thread) f.seats) ≡ may_vote (state_in f) thread
-  may-vote-is thread =
-      let stopped : Bool = list_all (λ replica. is_some (stop_of replica thread)) (state_in f).replicas in
-      same-vote (is_going (state_in f)) (length f.leases == 0) (lives_on f.kernel.kernel thread) (is_none (blocked_at f.blocked thread)) (list_all (seat_stopped thread) f.seats) stopped
-      (λ e. stopped-home f.job thread f.seats (core_in f).replicas (all-home f.job (core_in f) f.seats h.seats_are (none-lent e)) ∙ ap (list_all (λ (replica : Replica). is_some (stop_of replica thread))) (sym replicas-are))
-      ∙ ap (λ (ls : List Lease). is_going (state_in f) && (length ls == 0) && lives_on f.kernel.kernel thread && is_none (blocked_at f.blocked thread) && stopped) (sym leases-are)
-      ∙ ap (λ (k : Kernel). is_going (state_in f) && nothing_lent (state_in f) && lives_on k thread && is_none (blocked_at f.blocked thread) && stopped) (sym kernel-is)
-      ∙ ap (λ (o : Option Call). is_going (state_in f) && nothing_lent (state_in f) && lives_on (state_in f).kernel thread && is_none o && stopped) (sym (blocked-is thread))
-
-  -- what is left of it where the rest holds
-  pub vote-test : (thread : ℕ) → (is_going (state_in f) && nothing_lent (state_in f)) ≡ true → lives_on f.kernel.kernel thread ≡ true → (state_in f).blocked thread ≡ None → list_all (seat_stopped thread) f.seats ≡ may_vote (state_in f) thread
+  -- what is left of the test of a vote where the rest holds
+  pub vote-test : (thread : ℕ) → (is_going (state_in f) && nothing_lent (state_in f)) ≡ true → lives_on f.kernel.kernel thread ≡ true → (state_in f).blocked thread ≡ None → is_ready f.groups thread ≡ may_vote (state_in f) thread
   vote-test thread idle lives unblocked =
       let stopped : Bool = list_all (λ replica. is_some (stop_of replica thread)) (state_in f).replicas in
-      let empty : (length f.leases == 0) ≡ true = ap (λ (ls : List Lease). length ls == 0) (sym leases-are) ∙ (and_parts _ _ idle).1 in
-      let same : list_all (seat_stopped thread) f.seats ≡ stopped = stopped-home f.job thread f.seats (core_in f).replicas (all-home f.job (core_in f) f.seats h.seats_are (none-lent empty)) ∙ ap (list_all (λ (replica : Replica). is_some (stop_of replica thread))) (sym replicas-are) in
+      let same : is_ready f.groups thread ≡ stopped = ready-all (core_in f).replicas f.groups thread h.groups_are ∙ ap (list_all (λ (replica : Replica). is_some (stop_of replica thread))) (sym replicas-are) in
       same
       ∙ sym (ap (λ (b : Bool). b && lives_on (state_in f).kernel thread && is_none ((state_in f).blocked thread) && stopped) idle
       ∙ ap (λ (b : Bool). true && b && is_none ((state_in f).blocked thread) && stopped) (ap (λ (k : Kernel). lives_on k thread) kernel-is ∙ lives)

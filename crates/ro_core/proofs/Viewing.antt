@@ -1,12 +1,13 @@
 -- The views of a vote, in the fields of a core.
 use Rattle.std.proofs.Common.{◌≡◌, ◌⊎◌, inl, inr, ℕ, true, List, length, None, Result, Ok, Err, sym, ap, ◌∙◌, arith}
-use Rattle.std.specs.Prelude.{OnOk}
+use Rattle.std.specs.Prelude.{OnOk, IfOk}
 use Rattle.std.specs.List.{list_all, filter_map}
 use Rattle.std.proofs.lemmas.Bool.{and_parts, cases_eq}
 use Rattle.ro_event.specs.Views.{View}
 use Rattle.ro_replica.specs.Views.{view_of}
 use Rattle.ro_core.specs.Core.{Core, may_vote, views_of}
-use Rattle.ro_core.specs.Fields.{AreHome, seat_stopped, Fields, core_in, state_in, Holds}
+use Rattle.ro_core.specs.Fields.{AreHome, Fields, core_in, state_in, Holds}
+use Rattle.ro_core.specs.Grouped.{seat_stopped}
 use Rattle.ro_core.proofs.Held.{goes, no-outcome, no-views}
 use Rattle.ro_core.proofs.Ordered.{vote-parts, ordered}
 use Rattle.ro_core.proofs.Tests.{all-home, stopped-home}
@@ -25,6 +26,7 @@ viewed-holds f views h still same = record {
   due_is = h.due_is;
   ended_is = h.ended_is;
   seats_are = h.seats_are;
+  groups_are = h.groups_are;
   views_count = same ∙ h.views_count;
   views_kept = no-views f.job f.journal views (no-outcome f h still);
   failed_well = h.failed_well;
@@ -34,6 +36,10 @@ viewed-holds f views h still same = record {
 pub on-ok : {X E : Type 0} {A B : Type 0} (r : Result X E) → (A → B) → OnOk r A → OnOk r B
 on-ok (Ok x) f h = f h
 on-ok (Err e) f h = tt
+
+pub on-if-ok : {X E : Type 0} {A B : X → Type 0} (r : Result X E) → ((x : X) → A x → B x) → IfOk r A → IfOk r B
+on-if-ok (Ok x) f h = f x h
+on-if-ok (Err e) f h = tt
 
 module _ (f : Fields) (h : Holds f) (thread : ℕ) (may : may_vote (state_in f) thread ≡ true) where
   pub view-may : may_vote (core_in f) thread ≡ true

@@ -1,9 +1,10 @@
 -- The fields of a core against its journal.
-use Rattle.std.specs.Prelude.{◌≡◌, ◌<◌, ◌≤◌, ◌+◌, ◌*◌, ℕ, Bool, true, false, is_some, List, [], ◌∷◌, length, Option, Some, None, nat_lt, ◌==◌, if◌then◌else◌, slice_get, slice_index_or}
+use Rattle.std.specs.Prelude.{◌≡◌, ◌<◌, ◌≤◌, ◌+◌, ◌*◌, ℕ, Bool, true, false, List, [], ◌∷◌, length, Option, Some, None, nat_lt, ◌==◌, if◌then◌else◌, slice_get, slice_index_or}
 use Rattle.ro_journal.specs.declared.Did.{Did}
 use Rattle.ro_journal.specs.declared.How.{How}
 use Rattle.ro_journal.specs.declared.How.TheVariants.{Differ, NoMajority, Sink}
 use Rattle.ro_journal.specs.declared.Entry.{Entry}
+use Rattle.ro_group.specs.Groups.{Groups}
 use Rattle.ro_event.specs.declared.calls.Call.{Call}
 use Rattle.ro_event.specs.Views.{View}
 use Rattle.ro_event.specs.declared.stops.Stop.{Stop}
@@ -14,7 +15,7 @@ use Rattle.ro_kernel.specs.declared.outcome.Served.{Served}
 use Rattle.ro_kernel.specs.declared.outcome.Served.TheVariants.{Done, Blocked, Ends}
 use Rattle.ro_kernel.specs.Serve.{Served as Outcome, Done as DoneWith, Blocked as BlockedAtAll, Ends as EndsWith, serve}
 use Rattle.ro_settings.specs.Ranges.{InRange}
-use Rattle.ro_replica.specs.Replica.{Replica, stop_of}
+use Rattle.ro_replica.specs.Replica.{Replica}
 use Rattle.ro_replica.specs.Views.{is_unstopped}
 use Rattle.ro_replica.specs.Seen.{ReplicaOf, replica_of, CanApply, AreTwins, Keeps}
 use Rattle.ro_plain.specs.Machine.{setup_of}
@@ -23,6 +24,7 @@ use Rattle.ro_core.specs.Core.{Job, Core, is_going, is_home}
 use Rattle.ro_core.specs.Event.{call_event, event_of}
 use Rattle.ro_core.specs.Legal.{Legal, replay, replay_with}
 use Rattle.ro_core.specs.Seen.{IsOfJob, KeepsViews, sent_of}
+use Rattle.ro_core.specs.Grouped.{AreGrouped}
 
 -- how many bytes of the last write a failing sink took, by the end that is due
 abbrev pub failed_of : Option How → Option ℕ
@@ -59,6 +61,7 @@ pub record Fields : Type 0 where
   pub job : Job
   pub journal : List Entry
   pub seats : List (Option ReplicaOf)
+  pub groups : Groups
   pub leases : List Lease
   pub kernel : State
   pub blocked : List (Option Call)
@@ -99,16 +102,13 @@ pub record Holds (f : Fields) : Type 0 where
   pub due_is : f.due ≡ (state_in f).due
   pub ended_is : f.ended ≡ (core_in f).ended
   pub seats_are : AreSeated f.job (core_in f) f.seats
+  pub groups_are : AreGrouped (core_in f).replicas f.groups
   pub views_count : length f.views ≡ length f.seats
   pub views_kept : KeepsViews f.job f.journal f.views
   pub failed_well : (bytes : ℕ) → f.due ≡ Some (Sink bytes) → (bytes < (core_in f).wrote) × (is_going (core_in f) ≡ true)
   pub room : length f.leases + one_end f.ended ≤ f.places
 
--- of a seat: whether its replica is there and the thread stands still, or can be lent
-abbrev pub seat_stopped : (thread : ℕ) → Option ReplicaOf → Bool
-seat_stopped thread None = false
-seat_stopped thread (Some value) = is_some (stop_of (replica_of value) thread)
-
+-- of a seat: whether its replica is there and the thread can be lent
 abbrev pub seat_unstopped : (thread : ℕ) → Option ReplicaOf → Bool
 seat_unstopped thread None = false
 seat_unstopped thread (Some value) = is_unstopped thread (replica_of value)

@@ -119,6 +119,10 @@ DecidesVote job core thread (Vote voted count won lost did) = voted ≡ thread
 DecidesVote job core thread (End how) = EndsVote job core thread how
 DecidesVote job core thread _ = ⊥
 
+-- the run ended by views that had no majority
+abbrev pub IsSplit : Entry → Type 0
+IsSplit entry = (entry ≡ End Differ) ⊎ (entry ≡ End NoMajority)
+
 -- the entry frees a thread, or is an end in its place
 abbrev pub DecidesFree : Job → Core → (thread : ℕ) → Entry → Type 0
 DecidesFree job core thread (Free freed) = freed ≡ thread

@@ -1,5 +1,5 @@
 -- What legal journals keep, struck or not.
-use Rattle.std.specs.Prelude.{◌≡◌, ◌≤◌, ◌<◌, ◌^◌, ℕ, true, List, [], length, Option, Some, None, slice_get}
+use Rattle.std.specs.Prelude.{◌≡◌, ◌≤◌, ◌<◌, ◌^◌, ℕ, true, false, List, [], length, Option, Some, None, slice_get}
 use Rattle.ro_event.specs.declared.stops.Stop.{Stop}
 use Rattle.ro_event.specs.declared.stops.Stop.TheVariants.{PageFault}
 use Rattle.ro_event.specs.declared.calls.Call.{Call}
@@ -49,13 +49,13 @@ Counts most replica = (place : ℕ) (thread : Thread) → slice_get replica.thre
 abbrev pub AreCounted : (most : ℕ) → Core → Type 0
 AreCounted most core = (number : ℕ) (replica : Replica) → slice_get core.replicas number ≡ Some replica → Counts most replica
 
--- a stop for a page is for one of the 2^20 pages
-abbrev pub IsLow : Option Stop → Type 0
-IsLow o = (page : ℕ) → o ≡ Some (PageFault page) → page < 2 ^ 20
+-- a stop for a page is for one of the 2^20 pages, which is not backed
+abbrev pub IsFault : Backed → Option Stop → Type 0
+IsFault backed o = (page : ℕ) → o ≡ Some (PageFault page) → (page < 2 ^ 20) × (backed page ≡ false)
 
 -- and so is each stop of a replica, and of all
-abbrev pub HasLowStops : Replica → Type 0
-HasLowStops replica = (place : ℕ) (thread : Thread) → slice_get replica.threads place ≡ Some thread → IsLow thread.stop
+abbrev pub HasFaults : Replica → Type 0
+HasFaults replica = (place : ℕ) (thread : Thread) → slice_get replica.threads place ≡ Some thread → IsFault replica.backed thread.stop
 
-abbrev pub HaveLowStops : Core → Type 0
-HaveLowStops core = (number : ℕ) (replica : Replica) → slice_get core.replicas number ≡ Some replica → HasLowStops replica
+abbrev pub HaveFaults : Core → Type 0
+HaveFaults core = (number : ℕ) (replica : Replica) → slice_get core.replicas number ≡ Some replica → HasFaults replica

@@ -6,7 +6,7 @@ ghost use Rattle.ro_core.specs.Seen.{state};
 
 use crate::actions::Action;
 use crate::cores::Core;
-use crate::seats::{all_stopped, is_unstopped};
+use crate::seats::is_unstopped;
 use ro_event::Call;
 use ro_io::Sink;
 use ro_journal::How;
@@ -126,7 +126,7 @@ impl<K: Sink> Core<K> {
         }
         match self.blocked_call(thread) {
             Some(_) => false,
-            None => all_stopped(self.seats.as_slice(), thread),
+            None => self.groups.ready(thread),
         }
     }
 

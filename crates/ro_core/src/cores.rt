@@ -12,6 +12,7 @@ ghost use Rattle.ro_core.specs.Seen.{state, sent, Appends, Quiet, KeepsViews};
 use crate::actions::Lease;
 use ro_event::{Call, View};
 use ro_faults::Fault;
+use ro_group::Groups;
 use ro_image::Executable;
 use ro_io::Sink;
 use ro_journal::{Entry, How};
@@ -29,6 +30,8 @@ pub struct Core<K: Sink> {
     pub(crate) journal: Vec<Entry>,
     /// The replicas, where they are not lent.
     pub(crate) seats: Vec<Option<Replica>>,
+    /// Which threads stand still, in the replicas as they were when they left.
+    pub(crate) groups: Groups,
     pub(crate) leases: Vec<Lease>,
     pub(crate) kernel: Kernel,
     /// Of each thread the voted call on which it is blocked.
@@ -66,6 +69,7 @@ impl<K: Sink> Model for Core<K> {
       job = record { program = record { image = c.image; input = c.kernel.setup.input }; faults = c.faults.items; settings = c.settings };
       journal = c.journal.items;
       seats = c.seats.items;
+      groups = c.groups;
       leases = c.leases.items;
       kernel = c.kernel;
       blocked = c.blocked;
@@ -107,6 +111,7 @@ impl<K: Sink> Core<K> {
     pub fn finish(self) -> Finished<K>
         ensures how { result.how ≡ outcome_of self.journal }
         ensures views { KeepsViews self.job self.journal result.views.items }
+        ensures kept { (outcome_of self.journal ≡ Some Differ) ⊎ (outcome_of self.journal ≡ Some NoMajority) → result.views.items ≡ self.views }
         ensures no_views { outcome_of self.journal ≢ Some Differ → outcome_of self.journal ≢ Some NoMajority → result.views.items ≡ [] }
         ensures journal { result.journal.items ≡ self.journal }
         ensures bytes { result.bytes ≡ length (sent self) }
@@ -119,6 +124,7 @@ impl<K: Sink> Core<K> {
             settings: _,
             journal,
             seats: _,
+            groups: _,
             leases: _,
             kernel: _,
             blocked: _,

@@ -1,11 +1,11 @@
 //! What holds of every legal journal.
-ghost use Rattle.std.specs.Prelude.{◌≡◌, ◌⊎◌, ◌&&◌, ◌==◌, ◌∷◌, ◌++◌, ℕ, List, [], Some, not, length, slice_get};
+ghost use Rattle.std.specs.Prelude.{false, ◌≡◌, ◌⊎◌, ◌&&◌, ◌==◌, ◌∷◌, ◌++◌, ℕ, List, [], Some, not, length, slice_get};
 ghost use Rattle.std.specs.List.{filter};
 ghost use Rattle.ro_event.specs.declared.calls.Call.{Call};
-ghost use Rattle.ro_event.specs.declared.stops.Stop.TheVariants.{Calls};
+ghost use Rattle.ro_event.specs.declared.stops.Stop.TheVariants.{Calls, PageFault};
 ghost use Rattle.ro_exec.specs.Next.{Layout};
 ghost use Rattle.ro_thread.specs.declared.Thread.{Thread};
-ghost use Rattle.ro_replica.specs.Replica.{Replica};
+ghost use Rattle.ro_replica.specs.Replica.{Replica, stop_of};
 ghost use Rattle.ro_replica.specs.Runs.{Ran, run_of};
 ghost use Rattle.ro_journal.specs.declared.Entry.{Entry};
 ghost use Rattle.ro_journal.specs.declared.Entry.TheVariants.{End};
@@ -34,4 +34,14 @@ pub fn struck_once()
 /// No other bit flips: a run in which no fault was struck is the run of a replica that has none.
 pub fn no_other_flip()
     ensures { (layout : Layout) (watchdog count thread : ℕ) (replica : Replica) (ran : Ran) → run_of layout watchdog count replica thread ≡ Some ran → ran.hit ≡ 0 → run_of layout watchdog count (record replica { waiting = [] }) thread ≡ Some (record { replica = record ran.replica { waiting = [] }; hit = 0 }) }
+{}
+
+/// The same pages are backed in every replica.
+pub fn same_pages()
+    ensures { (job : Job) (journal : List Entry) → Legal job journal → (number other : ℕ) (one two : Replica) → slice_get (replay job journal).replicas number ≡ Some one → slice_get (replay job journal).replicas other ≡ Some two → one.backed ≡ two.backed }
+{}
+
+/// A thread stands at a page fault only while its page is not backed.
+pub fn page_faults_wait()
+    ensures { (job : Job) (journal : List Entry) → Legal job journal → (number thread page : ℕ) (replica : Replica) → slice_get (replay job journal).replicas number ≡ Some replica → stop_of replica thread ≡ Some (PageFault page) → replica.backed page ≡ false }
 {}

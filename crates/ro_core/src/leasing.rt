@@ -7,6 +7,7 @@ ghost use Rattle.ro_core.specs.Seen.{state, Appends, Quiet, Stays, HasRoom, IsLe
 
 use crate::actions::Lease;
 use crate::cores::Core;
+use crate::grouping::note_return;
 use crate::seats::{come_home, leave};
 use ro_io::Sink;
 use ro_journal::Entry;
@@ -67,6 +68,7 @@ impl<K: Sink> Core<K> {
             hit: ran.hit,
         });
         give_back(&mut self.leases, lease);
+        note_return(&mut self.groups, lease.replica, lease.thread, &lent);
         come_home(self.seats.as_mut_slice(), lease.replica as usize, lent);
     }
 }

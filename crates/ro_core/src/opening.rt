@@ -5,11 +5,12 @@ ghost use Rattle.ro_settings.specs.Ranges.{InRange};
 ghost use Rattle.ro_replica.specs.Seen.{AreFaults};
 ghost use Rattle.ro_kernel.specs.Kernel.{opening_kernel};
 ghost use Rattle.ro_core.specs.Seen.{Opens};
-ghost use Rattle.ro_core.specs.Opening.{AreFirst};
+ghost use Rattle.ro_core.specs.Opening.{AreFirst, NoneStands};
 
 use crate::cores::Core;
 use ro_event::{Stop, View};
 use ro_faults::Fault;
+use ro_group::Groups;
 use ro_image::Executable;
 use ro_io::Sink;
 use ro_journal::Entry;
@@ -45,6 +46,7 @@ impl<K: Sink> Core<K> {
             faults,
             journal,
             seats,
+            groups,
             kernel,
             views,
         } = parts;
@@ -54,6 +56,7 @@ impl<K: Sink> Core<K> {
             settings,
             journal,
             seats,
+            groups,
             leases: Vec::new(alloc),
             kernel,
             blocked: [None; 16],
@@ -74,6 +77,7 @@ struct Parts {
     faults: Vec<Fault>,
     journal: Vec<Entry>,
     seats: Vec<Option<Replica>>,
+    groups: Groups,
     kernel: Kernel,
     views: Vec<View>,
 }
@@ -91,6 +95,7 @@ impl Parts {
         ensures faults { IfOk result (λ p. p.faults.items ≡ faults.now) }
         ensures journal { IfOk result (λ p. (p.journal.items ≡ []) × (1 ≤ vec_capacity p.journal)) }
         ensures seats { IfOk result (λ p. AreFirst image.now faults.now settings.watchdog p.seats.items × (length p.seats.items ≡ settings.replicas)) }
+        ensures groups { IfOk result (λ p. NoneStands settings.replicas p.groups) }
         ensures kernel { IfOk result (λ p. (p.kernel.setup ≡ record { ranges = image.now.ranges; heap = image.now.heap; input = input.now }) × (p.kernel.kernel ≡ opening_kernel image.now.heap)) }
         ensures views { IfOk result (λ p. length p.views.items ≡ settings.replicas) }
     {
@@ -100,6 +105,7 @@ impl Parts {
             faults: faults.to_vec(alloc)?,
             journal: Vec::with_capacity(alloc, 1)?,
             seats,
+            groups: Groups::new(alloc, settings.replicas)?,
             kernel: Kernel::new(alloc, image.heap(), regions, input)?,
             views: blank_views(alloc, settings.replicas)?,
         })

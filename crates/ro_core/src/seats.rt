@@ -8,7 +8,8 @@ ghost use Rattle.ro_vote.specs.Verdict.{verdict_of};
 ghost use Rattle.ro_vote.specs.Votes.{verdict_of_three};
 ghost use Rattle.ro_core.specs.Core.{Job};
 ghost use Rattle.ro_core.specs.Event.{all_applied, with_recovered};
-ghost use Rattle.ro_core.specs.Fields.{IsSeat, AreHome, AreSpared, CanTake, KeepsSeat, CanRecover, seat_stopped, seat_unstopped};
+ghost use Rattle.ro_core.specs.Fields.{IsSeat, AreHome, AreSpared, CanTake, KeepsSeat, CanRecover, seat_unstopped};
+ghost use Rattle.ro_core.specs.Grouped.{seat_stopped};
 
 use ro_event::{Effect, View};
 use ro_recover::recover;
@@ -39,14 +40,8 @@ pub(crate) fn come_home(seats: &mut [Option<Replica>], place: usize, replica: Re
     seats[place] = Some(replica);
 }
 
-/// Whether a thread stands still in every replica, each of which is at home.
-pub(crate) fn all_stopped(seats: &[Option<Replica>], thread: u32) -> bool
-    ensures { result ≡ list_all (seat_stopped thread) seats.now }
-{
-    seats.iter().all(|seat| is_stopped(seat, thread))
-}
-
-fn is_stopped(seat: &Option<Replica>, thread: u32) -> bool
+/// Whether a replica is at home, and a thread of it stands still.
+pub(crate) fn is_stopped(seat: &Option<Replica>, thread: u32) -> bool
     ensures { result ≡ seat_stopped thread seat.now }
 {
     match seat {

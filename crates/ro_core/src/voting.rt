@@ -7,10 +7,11 @@ ghost use Rattle.ro_vote.specs.Verdict.{verdict_of, Won as IsWon, Split};
 ghost use Rattle.ro_core.specs.Core.{may_vote, may_free, views_of, is_going};
 ghost use Rattle.ro_core.specs.Legal.{IsAllowed, MayEnd};
 ghost use Rattle.ro_core.specs.Fields.{due_behind as behind, split_end};
-ghost use Rattle.ro_core.specs.Seen.{state, Appends, Quiet, Sends, IsOfMajority, Stays, DecidesVote, DecidesFree, KeepsViews};
+ghost use Rattle.ro_core.specs.Seen.{state, Appends, Quiet, Sends, IsOfMajority, Stays, DecidesVote, DecidesFree, IsSplit, KeepsViews};
 
 use crate::cores::Core;
 use crate::events::{did_of, event_steps, happen, serve};
+use crate::grouping::{copy_stops, regroup};
 use crate::seats::{apply_to_all, recover_loser, reserve_pages, show_all, verdict};
 use crate::sending::send;
 use ro_event::View;
@@ -29,6 +30,7 @@ impl<K: Sink> Core<K> {
         requires { IsTrue (may_vote (state self.old) thread) }
         ensures entry { IfOk result (λ entry. IsAllowed self.old.job (state self.old) entry × DecidesVote self.old.job (state self.old) thread entry × Appends self.old self.new entry) }
         ensures sends { OnOk result ((bytes : List ℕ) × Sends self.old self.new bytes × ((bytes ≡ []) ⊎ IsOfMajority (views_of self.old.job (state self.old) thread) bytes)) }
+        ensures shown { IfOk result (λ entry. IsSplit entry → self.new.views ≡ views_of self.old.job (state self.old) thread) }
         ensures err { OnErr result (Stays self.old self.new) }
     {
         show_all(self.seats.as_slice(), thread, self.views.as_mut_slice());
@@ -43,6 +45,7 @@ impl<K: Sink> Core<K> {
         requires { (thread : ℕ) × (may_vote (state self.old) thread ≡ true) × (self.old.views ≡ views_of self.old.job (state self.old) thread) × (verdict_of self.old.views ≡ Split) }
         ensures entry { (thread : ℕ) → may_vote (state self.old) thread ≡ true → self.old.views ≡ views_of self.old.job (state self.old) thread → verdict_of self.old.views ≡ Split → IsAllowed self.old.job (state self.old) result × DecidesVote self.old.job (state self.old) thread result × Appends self.old self.new result }
         ensures quiet { Quiet self.old self.new }
+        ensures views { self.new.views ≡ self.old.views }
     {
         let how = split_of(self.views.len());
         self.conclude(how)
@@ -57,6 +60,7 @@ impl<K: Sink> Core<K> {
         ensures entry { result ≡ End how }
         ensures appends { Appends self.old self.new (End how) }
         ensures quiet { Quiet self.old self.new }
+        ensures views { self.new.views ≡ self.old.views }
     {
         let entry = Entry::End { how };
         self.journal.push_reserved(entry);
@@ -71,6 +75,7 @@ impl<K: Sink> Core<K> {
         requires won { verdict_of self.old.views ≡ IsWon won.won won.lost }
         ensures entry { IfOk result (λ entry. IsAllowed self.old.job (state self.old) entry × DecidesVote self.old.job (state self.old) thread entry × Appends self.old self.new entry) }
         ensures sends { OnOk result ((bytes : List ℕ) × Sends self.old self.new bytes × ((bytes ≡ []) ⊎ IsOfMajority self.old.views bytes)) }
+        ensures won { IfOk result (λ entry. IsSplit entry → ⊥) }
         ensures err { OnErr result (Stays self.old self.new) }
     {
         let view = &self.views[won.won as usize];
@@ -83,9 +88,18 @@ impl<K: Sink> Core<K> {
         }
         self.journal.reserve(2)?;
         reserve_pages(self.seats.as_mut_slice())?;
+        let threads = self.kernel.made();
         let event = happen(self.alloc, &mut self.kernel, thread, &stop)?;
         recover_loser(self.seats.as_mut_slice(), &won);
+        copy_stops(&mut self.groups, &won, threads);
         apply_to_all(self.seats.as_mut_slice(), &event.effect);
+        regroup(
+            self.seats.as_slice(),
+            &mut self.groups,
+            &event.effect,
+            self.settings.replicas,
+            threads,
+        );
         let payload = written(event.writes, &self.views[won.won as usize]);
         let failed = send(&mut self.out, payload);
         let taken = taken_of(failed, payload.len());
@@ -124,8 +138,16 @@ impl<K: Sink> Core<K> {
         }
         self.journal.reserve(2)?;
         reserve_pages(self.seats.as_mut_slice())?;
+        let threads = self.kernel.made();
         let event = serve(self.alloc, &mut self.kernel, thread, call)?;
         apply_to_all(self.seats.as_mut_slice(), &event.effect);
+        regroup(
+            self.seats.as_slice(),
+            &mut self.groups,
+            &event.effect,
+            self.settings.replicas,
+            threads,
+        );
         let entry = Entry::Free { thread };
         self.journal.push_reserved(entry);
         self.blocked[thread as usize] = event.blocked;

@@ -15,6 +15,7 @@ push_reserved-requires g c =
       job = record { program = record { image = s.image; input = s.kernel.setup.input }; faults = s.faults.items; settings = s.settings };
       journal = s.journal.items;
       seats = s.seats.items;
+      groups = s.groups;
       leases = s.leases.items;
       kernel = s.kernel;
       blocked = s.blocked;
@@ -37,6 +38,7 @@ invariant_of-self g c =
       job = record { program = record { image = s.image; input = s.kernel.setup.input }; faults = s.faults.items; settings = s.settings };
       journal = s.journal.items;
       seats = s.seats.items;
+      groups = s.groups;
       leases = s.leases.items;
       kernel = s.kernel;
       blocked = s.blocked;
@@ -51,7 +53,7 @@ invariant_of-self g c =
     let allowed = subst (λ (v : CoreOf). MayEnd v.job (state v) c.args.how) (sym c.self.view_is) c.requires.allowed in
     let room : 0 < f.places = conclude-room f c.self.invariant c.args.how going allowed in
     let kept = subst (λ (v : CoreOf). KeepsViews v.job (v.journal ++ End c.args.how ∷ []) v.views) (sym c.self.view_is) c.requires.views in
-    conclude-holds f c.self.invariant c.args.how going allowed _ refl refl refl refl refl refl refl refl refl refl c.requires.not_sink c.push_reserved.ensures.items
+    conclude-holds f c.self.invariant c.args.how going allowed _ refl refl refl refl refl refl refl refl refl refl refl c.requires.not_sink c.push_reserved.ensures.items
     (omega (arith, room, c.push_reserved.ensures.len, c.push_reserved.ensures.capacity)) kept
 
 pub returns-clause-quiet : goal.returns-clause-quiet
@@ -61,6 +63,7 @@ returns-clause-quiet g c =
       job = record { program = record { image = s.image; input = s.kernel.setup.input }; faults = s.faults.items; settings = s.settings };
       journal = s.journal.items;
       seats = s.seats.items;
+      groups = s.groups;
       leases = s.leases.items;
       kernel = s.kernel;
       blocked = s.blocked;

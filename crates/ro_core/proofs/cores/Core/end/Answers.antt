@@ -16,6 +16,7 @@ push_reserved-requires g c =
       job = record { program = record { image = s.image; input = s.kernel.setup.input }; faults = s.faults.items; settings = s.settings };
       journal = s.journal.items;
       seats = s.seats.items;
+      groups = s.groups;
       leases = s.leases.items;
       kernel = s.kernel;
       blocked = s.blocked;
@@ -37,6 +38,7 @@ invariant_of-self g c =
       job = record { program = record { image = s.image; input = s.kernel.setup.input }; faults = s.faults.items; settings = s.settings };
       journal = s.journal.items;
       seats = s.seats.items;
+      groups = s.groups;
       leases = s.leases.items;
       kernel = s.kernel;
       blocked = s.blocked;
@@ -50,7 +52,7 @@ invariant_of-self g c =
     let n = subst (λ (v : CoreOf). (how : How) × (next_action v.job (state v) ≡ DoEnd how)) (sym c.self.view_is) c.requires in
     let how : c.unwrap_or-how.result ≡ n.0 = c.unwrap_or-how.ensures ∙ end-how f c.self.invariant n.0 n.1 in
     let room : 0 < f.places = end-room f c.self.invariant n.0 n.1 in
-    end-holds f c.self.invariant n.0 n.1 _ refl refl refl refl refl refl refl refl (ap (λ (x : How). Some x) how) refl
+    end-holds f c.self.invariant n.0 n.1 _ refl refl refl refl refl refl refl refl refl (ap (λ (x : How). Some x) how) refl
     (c.push_reserved.ensures.items ∙ ap (λ (x : How). s.journal.items ++ End x ∷ []) how) (omega (arith, room, c.push_reserved.ensures.len, c.push_reserved.ensures.capacity))
 
 pub returns-clause-entry : goal.returns-clause-entry
@@ -60,6 +62,7 @@ returns-clause-entry g c how is_next =
       job = record { program = record { image = s.image; input = s.kernel.setup.input }; faults = s.faults.items; settings = s.settings };
       journal = s.journal.items;
       seats = s.seats.items;
+      groups = s.groups;
       leases = s.leases.items;
       kernel = s.kernel;
       blocked = s.blocked;
@@ -85,6 +88,7 @@ returns-clause-quiet g c =
       job = record { program = record { image = s.image; input = s.kernel.setup.input }; faults = s.faults.items; settings = s.settings };
       journal = s.journal.items;
       seats = s.seats.items;
+      groups = s.groups;
       leases = s.leases.items;
       kernel = s.kernel;
       blocked = s.blocked;

@@ -15,6 +15,7 @@ returns-clause-how g c =
       job = record { program = record { image = s.image; input = s.kernel.setup.input }; faults = s.faults.items; settings = s.settings };
       journal = s.journal.items;
       seats = s.seats.items;
+      groups = s.groups;
       leases = s.leases.items;
       kernel = s.kernel;
       blocked = s.blocked;
@@ -34,6 +35,7 @@ returns-clause-views g c =
       job = record { program = record { image = s.image; input = s.kernel.setup.input }; faults = s.faults.items; settings = s.settings };
       journal = s.journal.items;
       seats = s.seats.items;
+      groups = s.groups;
       leases = s.leases.items;
       kernel = s.kernel;
       blocked = s.blocked;
@@ -56,6 +58,7 @@ returns-clause-no_views g c differ majority =
       job = record { program = record { image = s.image; input = s.kernel.setup.input }; faults = s.faults.items; settings = s.settings };
       journal = s.journal.items;
       seats = s.seats.items;
+      groups = s.groups;
       leases = s.leases.items;
       kernel = s.kernel;
       blocked = s.blocked;
@@ -68,3 +71,24 @@ returns-clause-no_views g c differ majority =
     } in
     let is : outcome_of c.args.self.journal ≡ s.ended = sym (c.self.invariant.ended_is ∙ ended_is_outcome f.job f.journal c.self.invariant.legal ∙ ap (λ (v : CoreOf). outcome_of v.journal) c.self.view_is) in
     c.kept_views.ensures.no_split (λ e. differ (is ∙ e)) (λ e. majority (is ∙ e))
+
+pub returns-clause-kept : goal.returns-clause-kept
+returns-clause-kept g c split =
+    let s = c.self.inside in
+    let f : Fields = record {
+      job = record { program = record { image = s.image; input = s.kernel.setup.input }; faults = s.faults.items; settings = s.settings };
+      journal = s.journal.items;
+      seats = s.seats.items;
+      groups = s.groups;
+      leases = s.leases.items;
+      kernel = s.kernel;
+      blocked = s.blocked;
+      steps = s.steps;
+      sent = s.sent;
+      due = s.due;
+      ended = s.ended;
+      views = s.views.items;
+      places = vec_capacity s.journal - vec_len s.journal;
+    } in
+    let is : outcome_of c.args.self.journal ≡ s.ended = sym (c.self.invariant.ended_is ∙ ended_is_outcome f.job f.journal c.self.invariant.legal ∙ ap (λ (v : CoreOf). outcome_of v.journal) c.self.view_is) in
+    c.kept_views.ensures.split (subst (λ (o : Option How). (o ≡ Some Differ) ⊎ (o ≡ Some NoMajority)) is split) ∙ ap (λ (v : CoreOf). v.views) c.self.view_is

@@ -1,4 +1,5 @@
 use Rattle.std.proofs.Common.{◌≡◌, ◌-◌, ◌+◌, ◌<◌, ◌≤◌, ◌++◌, ◌∷◌, [], ℕ, true, List, Option, Some, None, length, refl, vec_len, vec_capacity, sym, ap, ◌∙◌, subst, arith}
+use Rattle.std.proofs.Common.{inl, inr}
 use Rattle.std.specs.Prelude.{unwrap_or, ◌⊎◌, if◌then◌else◌, IfSome, take, slice_get, slice_set}
 use Rattle.std.specs.Vec.{with_items}
 use Rattle.std.proofs.lemmas.List.{with_items_is}
@@ -18,15 +19,16 @@ use Rattle.ro_vote.specs.Verdict.{verdict_of, Won}
 use Rattle.ro_core.specs.Core.{Job, Core, may_vote, views_of}
 use Rattle.ro_core.specs.Event.{Event, event_of, with_recovered, all_applied}
 use Rattle.ro_core.specs.Legal.{IsAllowed, MayVote, MayEnd, PassesLimit}
-use Rattle.ro_core.specs.Seen.{CoreOf, state, sent_of, KeepsViews, Appends, DecidesVote, IsOfMajority}
+use Rattle.ro_core.specs.Seen.{CoreOf, state, sent_of, KeepsViews, Appends, DecidesVote, IsSplit, IsOfMajority}
 use Rattle.ro_core.specs.Fields.{Fields, failed_of, due_behind, state_in, core_in, AreHome, AreSpared, CanTake, Holds}
+use Rattle.ro_core.specs.Grouped.{AreGrouped, AreMade, Copies}
 use Rattle.ro_core.proofs.Journals.{outcome_of-append}
 use Rattle.ro_core.proofs.Copies.{length-with-copy}
 use Rattle.ro_core.proofs.Held.{Goes, no-outcome, not-split}
 use Rattle.ro_core.proofs.Happens.{Happens}
 use Rattle.ro_core.proofs.Entries.{appends-of}
 use Rattle.ro_core.proofs.Behind.{bytes-by, bytes-count, bytes-fewer, SinkWell, happened-holds, all-can-take}
-use Rattle.ro_core.proofs.Holding.{writes-step, length-applied, hold-within, hold-steps, hold-goes, hold-alone, hold-home, hold-few, hold-made, hold-recovers, hold-healed, hold-happens, hold-short, hold-low, hold-allowed, hold-limit, hold-may-end, hold-came, hold-sent, hold-majority, payload-due, short-if, held-by, rose-by, part-of, over-unfailed, sends-of, home-count, kept-holds}
+use Rattle.ro_core.proofs.Holding.{writes-step, length-applied, hold-within, hold-steps, hold-goes, hold-alone, hold-home, hold-few, hold-made, hold-groups, hold-copied, hold-made-healed, hold-recovers, hold-healed, hold-happens, hold-short, hold-low, hold-allowed, hold-limit, hold-may-end, hold-came, hold-sent, hold-majority, payload-due, short-if, held-by, rose-by, part-of, over-unfailed, sends-of, home-count, replicas-many, kept-holds}
 use Rattle.ro_core.proofs.cores.Core.hold.Goals as goal
 
 pub index-view-requires : goal.index-view-requires
@@ -36,6 +38,7 @@ index-view-requires g c =
       job = record { program = record { image = s.image; input = s.kernel.setup.input }; faults = s.faults.items; settings = s.settings };
       journal = s.journal.items;
       seats = s.seats.items;
+      groups = s.groups;
       leases = s.leases.items;
       kernel = s.kernel;
       blocked = s.blocked;
@@ -60,6 +63,7 @@ overflow_sub-self-inside g c =
       job = record { program = record { image = s.image; input = s.kernel.setup.input }; faults = s.faults.items; settings = s.settings };
       journal = s.journal.items;
       seats = s.seats.items;
+      groups = s.groups;
       leases = s.leases.items;
       kernel = s.kernel;
       blocked = s.blocked;
@@ -84,6 +88,7 @@ conclude-requires-clause-allowed g c =
       job = record { program = record { image = s.image; input = s.kernel.setup.input }; faults = s.faults.items; settings = s.settings };
       journal = s.journal.items;
       seats = s.seats.items;
+      groups = s.groups;
       leases = s.leases.items;
       kernel = s.kernel;
       blocked = s.blocked;
@@ -116,6 +121,7 @@ conclude-requires-clause-views g c =
       job = record { program = record { image = s.image; input = s.kernel.setup.input }; faults = s.faults.items; settings = s.settings };
       journal = s.journal.items;
       seats = s.seats.items;
+      groups = s.groups;
       leases = s.leases.items;
       kernel = s.kernel;
       blocked = s.blocked;
@@ -149,6 +155,7 @@ returns-then-next-self-clause-entry g c =
       job = record { program = record { image = s.image; input = s.kernel.setup.input }; faults = s.faults.items; settings = s.settings };
       journal = s.journal.items;
       seats = s.seats.items;
+      groups = s.groups;
       leases = s.leases.items;
       kernel = s.kernel;
       blocked = s.blocked;
@@ -189,6 +196,7 @@ invariant_of-self-in_err-reserve_pages g c =
       job = record { program = record { image = s.image; input = s.kernel.setup.input }; faults = s.faults.items; settings = s.settings };
       journal = s.journal.items;
       seats = s.seats.items;
+      groups = s.groups;
       leases = s.leases.items;
       kernel = s.kernel;
       blocked = s.blocked;
@@ -210,7 +218,7 @@ invariant_of-self-in_err-reserve_pages g c =
     let home1 : AreHome f.job c.reserve_pages.new.seats replicas = c.reserve_pages.ensures.kept f.job replicas home0 in
     let count : length replicas ≡ vec_len s.seats = sym (home-count f.job f.seats replicas (hold-home f h c.args.thread c.args.won.won c.args.won.lost may views verdict)) ∙ sym s.seats.ok.0 in
     let items1 = with_items_is s.seats c.reserve_pages.new.seats (home-count f.job c.reserve_pages.new.seats replicas home1 ∙ count) in
-    kept-holds f _ h alone refl c.in_ok-reserve.ensures.items (subst (λ xs. AreHome f.job xs replicas) (sym items1) home1) refl refl refl refl refl refl refl refl
+    kept-holds f _ h alone refl c.in_ok-reserve.ensures.items (subst (λ xs. AreHome f.job xs replicas) (sym items1) home1) refl refl refl refl refl refl refl refl refl
     (omega (arith, c.in_ok-reserve.ensures.capacity, c.in_ok-reserve.ensures.len))
 
 pub invariant_of-self-in_err-event : goal.invariant_of-self-in_err-event
@@ -220,6 +228,7 @@ invariant_of-self-in_err-event g c =
       job = record { program = record { image = s.image; input = s.kernel.setup.input }; faults = s.faults.items; settings = s.settings };
       journal = s.journal.items;
       seats = s.seats.items;
+      groups = s.groups;
       leases = s.leases.items;
       kernel = s.kernel;
       blocked = s.blocked;
@@ -246,6 +255,7 @@ invariant_of-self-in_err-event g c =
       job = record { program = record { image = s.image; input = k.setup.input }; faults = s.faults.items; settings = s.settings };
       journal = c.reserve.new.self.items;
       seats = (with_items s.seats c.reserve_pages.new.seats).items;
+      groups = s.groups;
       leases = s.leases.items;
       kernel = k;
       blocked = s.blocked;
@@ -256,7 +266,7 @@ invariant_of-self-in_err-event g c =
       views = s.views.items;
       places = vec_capacity c.reserve.new.self - vec_len c.reserve.new.self;
     })) (sym same)
-    (kept-holds f _ h alone refl c.in_ok-reserve.ensures.items (subst (λ xs. AreHome f.job xs replicas) (sym items1) home1) refl refl refl refl refl refl refl refl
+    (kept-holds f _ h alone refl c.in_ok-reserve.ensures.items (subst (λ xs. AreHome f.job xs replicas) (sym items1) home1) refl refl refl refl refl refl refl refl refl
     (omega (arith, c.in_ok-reserve.ensures.capacity, c.in_ok-reserve.ensures.len)))
 
 pub recover_loser-requires : goal.recover_loser-requires
@@ -266,6 +276,7 @@ recover_loser-requires g c lost e =
       job = record { program = record { image = s.image; input = s.kernel.setup.input }; faults = s.faults.items; settings = s.settings };
       journal = s.journal.items;
       seats = s.seats.items;
+      groups = s.groups;
       leases = s.leases.items;
       kernel = s.kernel;
       blocked = s.blocked;
@@ -298,6 +309,7 @@ apply_to_all-requires g c =
       job = record { program = record { image = s.image; input = s.kernel.setup.input }; faults = s.faults.items; settings = s.settings };
       journal = s.journal.items;
       seats = s.seats.items;
+      groups = s.groups;
       leases = s.leases.items;
       kernel = s.kernel;
       blocked = s.blocked;
@@ -347,6 +359,7 @@ index-requires g c =
       job = record { program = record { image = s.image; input = s.kernel.setup.input }; faults = s.faults.items; settings = s.settings };
       journal = s.journal.items;
       seats = s.seats.items;
+      groups = s.groups;
       leases = s.leases.items;
       kernel = s.kernel;
       blocked = s.blocked;
@@ -371,6 +384,7 @@ send-failed-requires g c =
       job = record { program = record { image = s.image; input = s.kernel.setup.input }; faults = s.faults.items; settings = s.settings };
       journal = s.journal.items;
       seats = s.seats.items;
+      groups = s.groups;
       leases = s.leases.items;
       kernel = s.kernel;
       blocked = s.blocked;
@@ -403,6 +417,7 @@ bounds-self-inside-thread g c =
       job = record { program = record { image = s.image; input = s.kernel.setup.input }; faults = s.faults.items; settings = s.settings };
       journal = s.journal.items;
       seats = s.seats.items;
+      groups = s.groups;
       leases = s.leases.items;
       kernel = s.kernel;
       blocked = s.blocked;
@@ -427,6 +442,7 @@ invariant_of-self-2 g c =
       job = record { program = record { image = s.image; input = s.kernel.setup.input }; faults = s.faults.items; settings = s.settings };
       journal = s.journal.items;
       seats = s.seats.items;
+      groups = s.groups;
       leases = s.leases.items;
       kernel = s.kernel;
       blocked = s.blocked;
@@ -485,6 +501,15 @@ invariant_of-self-2 g c =
     let failed : Option ℕ = c.send-failed.result in
     let taken : c.taken_of-taken.result ≡ length (bytes-by failed event.payload) = c.taken_of-taken.ensures ∙ ap (λ (xs : List ℕ). unwrap_or failed (length xs)) written ∙ sym (bytes-count failed event.payload (λ n e. (well.part n e).0)) in
     let due : c.due_behind-self-inside.result ≡ due_behind event.due failed = c.due_behind-self-inside.ensures ∙ ap (λ (e : Event). due_behind e.due failed) (sym its) in
+    let slice5 : c.as_slice.result.now ≡ c.apply_to_all.new.seats = c.as_slice.ensures.value ∙ items5 in
+    let many : c.made-threads.result ≡ length f.kernel.kernel.lives = c.made-threads.ensures.made in
+    let copied : AreGrouped healed c.copy_stops.new.groups = hold-copied f h c.args.thread c.args.won.won c.args.won.lost may views verdict c.copy_stops.new.groups
+    (subst (λ (n : ℕ). Copies c.args.won.won c.args.won.lost n f.groups c.copy_stops.new.groups) many c.copy_stops.ensures)
+    in
+    let made : AreMade c.made-threads.result healed = subst (λ (n : ℕ). AreMade n healed) (sym many) (hold-made-healed f h c.args.thread c.args.won.won c.args.won.lost may views verdict) in
+    let groups : AreGrouped (all_applied event.effect healed) c.regroup.new.groups = subst (λ (x : Effect). AreGrouped (all_applied x healed) c.regroup.new.groups) (sym (ap (λ (e : Event). e.effect) its))
+    (c.regroup.ensures f.job healed copied made (subst (λ xs. AreHome f.job xs (all_applied c.in_ok-event.event.effect healed)) (sym slice5) (c.apply_to_all.ensures f.job healed home4)))
+    in
     let left : sent_of f.job c.push_reserved.new.self.items (failed_of c.due_behind-self-inside.result) ≡ sent_of f.job f.journal (failed_of f.due) ++ bytes-by failed event.payload =
     ap (λ (js : List Entry). sent_of f.job js (failed_of c.due_behind-self-inside.result)) journal
     ∙ ap (λ (o : Option How). sent_of f.job (f.journal ++ Vote c.args.thread view.since c.args.won.won c.args.won.lost c.did_of-did.result ∷ []) (failed_of o)) due
@@ -493,7 +518,7 @@ invariant_of-self-2 g c =
     happened-holds f _ h (Vote c.args.thread view.since c.args.won.won c.args.won.lost c.did_of-did.result) allowed c.args.thread view.since healed event c.send-failed.result (hold-came f h c.args.thread c.args.won.won c.args.won.lost may views verdict view there c.did_of-did.result)
     goes.not_ended alone happens well (hold-few f h c.args.thread c.args.won.won c.args.won.lost may views verdict)
     (ap (λ (x : Setup). record { program = record { image = s.image; input = x.input }; faults = s.faults.items; settings = s.settings }) setup)
-    journal (subst (λ xs. AreHome f.job xs (all_applied event.effect healed)) (sym items5) home5) refl setup (sym (ap (λ (e : Event). e.kernel) its))
+    journal (subst (λ xs. AreHome f.job xs (all_applied event.effect healed)) (sym items5) home5) groups refl setup (sym (ap (λ (e : Event). e.kernel) its))
     (ap (λ (e : Event). slice_set s.blocked c.args.thread e.blocked) (sym its))
     (let d : event_steps event.did ≡ event_steps c.did_of-did.result = ap event_steps did in omega (arith, next, d))
     (c.due_behind-self-inside.ensures ∙ ap (λ (e : Event). due_behind e.due c.send-failed.result) (sym its)) refl
@@ -512,6 +537,7 @@ returns-clause-entry g c =
       job = record { program = record { image = s.image; input = s.kernel.setup.input }; faults = s.faults.items; settings = s.settings };
       journal = s.journal.items;
       seats = s.seats.items;
+      groups = s.groups;
       leases = s.leases.items;
       kernel = s.kernel;
       blocked = s.blocked;
@@ -580,6 +606,7 @@ returns-clause-sends g c =
       job = record { program = record { image = s.image; input = s.kernel.setup.input }; faults = s.faults.items; settings = s.settings };
       journal = s.journal.items;
       seats = s.seats.items;
+      groups = s.groups;
       leases = s.leases.items;
       kernel = s.kernel;
       blocked = s.blocked;
@@ -657,6 +684,7 @@ overflow_add-self-2 g c =
       job = record { program = record { image = s.image; input = s.kernel.setup.input }; faults = s.faults.items; settings = s.settings };
       journal = s.journal.items;
       seats = s.seats.items;
+      groups = s.groups;
       leases = s.leases.items;
       kernel = s.kernel;
       blocked = s.blocked;
@@ -715,4 +743,216 @@ overflow_add-self-2 g c =
     let fewer = bytes-fewer failed event.payload in
     let few = h.counts.few in
     let range = h.in_range.limit in
+    omega arith
+
+pub returns-then-next-self-clause-won : goal.returns-then-next-self-clause-won
+returns-then-next-self-clause-won g c split = limits (subst IsSplit c.conclude.ensures.entry split)
+  where
+    limits : IsSplit (End (Limit c.self.inside.steps (c.from.result + c.event_steps.result))) → ⊥
+    limits (inl e) = absurd (cc e)
+    limits (inr e) = absurd (cc e)
+
+pub copy_stops-requires-clause-won : goal.copy_stops-requires-clause-won
+copy_stops-requires-clause-won g c =
+    let s = c.self.inside in
+    let f : Fields = record {
+      job = record { program = record { image = s.image; input = s.kernel.setup.input }; faults = s.faults.items; settings = s.settings };
+      journal = s.journal.items;
+      seats = s.seats.items;
+      groups = s.groups;
+      leases = s.leases.items;
+      kernel = s.kernel;
+      blocked = s.blocked;
+      steps = s.steps;
+      sent = s.sent;
+      due = s.due;
+      ended = s.ended;
+      views = s.views.items;
+      places = vec_capacity s.journal - vec_len s.journal;
+    } in
+    let may : may_vote (state_in f) c.args.thread ≡ true = subst (λ (v : CoreOf). may_vote (state v) c.args.thread ≡ true) (sym c.self.view_is) c.requires.may in
+    let views : f.views ≡ views_of f.job (state_in f) c.args.thread = subst (λ (v : CoreOf). v.views ≡ views_of v.job (state v) c.args.thread) (sym c.self.view_is) c.requires.views in
+    let verdict : verdict_of f.views ≡ Won c.args.won.won c.args.won.lost = subst (λ (v : CoreOf). verdict_of v.views ≡ Won c.args.won.won c.args.won.lost) (sym c.self.view_is) c.requires.won in
+    let h : Holds f = c.self.invariant in
+    (hold-groups f h c.args.thread c.args.won.won c.args.won.lost may views verdict).0
+
+pub copy_stops-requires-clause-lost : goal.copy_stops-requires-clause-lost
+copy_stops-requires-clause-lost g c =
+    let s = c.self.inside in
+    let f : Fields = record {
+      job = record { program = record { image = s.image; input = s.kernel.setup.input }; faults = s.faults.items; settings = s.settings };
+      journal = s.journal.items;
+      seats = s.seats.items;
+      groups = s.groups;
+      leases = s.leases.items;
+      kernel = s.kernel;
+      blocked = s.blocked;
+      steps = s.steps;
+      sent = s.sent;
+      due = s.due;
+      ended = s.ended;
+      views = s.views.items;
+      places = vec_capacity s.journal - vec_len s.journal;
+    } in
+    let may : may_vote (state_in f) c.args.thread ≡ true = subst (λ (v : CoreOf). may_vote (state v) c.args.thread ≡ true) (sym c.self.view_is) c.requires.may in
+    let views : f.views ≡ views_of f.job (state_in f) c.args.thread = subst (λ (v : CoreOf). v.views ≡ views_of v.job (state v) c.args.thread) (sym c.self.view_is) c.requires.views in
+    let verdict : verdict_of f.views ≡ Won c.args.won.won c.args.won.lost = subst (λ (v : CoreOf). verdict_of v.views ≡ Won c.args.won.won c.args.won.lost) (sym c.self.view_is) c.requires.won in
+    let h : Holds f = c.self.invariant in
+    (hold-groups f h c.args.thread c.args.won.won c.args.won.lost may views verdict).1
+
+pub regroup-requires-clause-seats : goal.regroup-requires-clause-seats
+regroup-requires-clause-seats g c =
+    let s = c.self.inside in
+    let f : Fields = record {
+      job = record { program = record { image = s.image; input = s.kernel.setup.input }; faults = s.faults.items; settings = s.settings };
+      journal = s.journal.items;
+      seats = s.seats.items;
+      groups = s.groups;
+      leases = s.leases.items;
+      kernel = s.kernel;
+      blocked = s.blocked;
+      steps = s.steps;
+      sent = s.sent;
+      due = s.due;
+      ended = s.ended;
+      views = s.views.items;
+      places = vec_capacity s.journal - vec_len s.journal;
+    } in
+    let may : may_vote (state_in f) c.args.thread ≡ true = subst (λ (v : CoreOf). may_vote (state v) c.args.thread ≡ true) (sym c.self.view_is) c.requires.may in
+    let views : f.views ≡ views_of f.job (state_in f) c.args.thread = subst (λ (v : CoreOf). v.views ≡ views_of v.job (state v) c.args.thread) (sym c.self.view_is) c.requires.views in
+    let verdict : verdict_of f.views ≡ Won c.args.won.won c.args.won.lost = subst (λ (v : CoreOf). verdict_of v.views ≡ Won c.args.won.won c.args.won.lost) (sym c.self.view_is) c.requires.won in
+    let h : Holds f = c.self.invariant in
+    let within : c.args.won.won < length f.views = hold-within f h c.args.thread c.args.won.won c.args.won.lost may views verdict in
+    let view : View = c.index-view.result.now in
+    let there : slice_get f.views c.args.won.won ≡ Some view = slice_get-get_or f.views c.args.won.won view within ∙ ap (λ (v : View). Some v) (sym c.index-view.ensures) in
+    let event : Event = event_of f.kernel.setup f.kernel.kernel c.args.thread view.stop view.payload in
+    let did : event.did ≡ c.did_of-did.result = ap (λ (x : Stop). (event_of f.kernel.setup f.kernel.kernel c.args.thread x view.payload).did) (sym c.stop.ensures) ∙ c.did_of-did.ensures view.payload in
+    let next : view.since + event_steps c.did_of-did.result ≡ c.from.result + c.event_steps.result = (let a : c.since-count.result ≡ view.since = c.since-count.ensures in let b : c.from.result ≡ c.since-count.result = c.from.ensures in let d : c.event_steps.result ≡ event_steps c.did_of-did.result = c.event_steps.ensures in omega arith) in
+    let low : f.steps ≤ f.job.settings.limit = hold-steps f h c.args.thread c.args.won.won c.args.won.lost may views verdict in
+    let alone : f.leases ≡ [] = hold-alone f h c.args.thread c.args.won.won c.args.won.lost may views verdict in
+    let replicas : List Replica = (core_in f).replicas in
+    let home0 : AreHome f.job c.as_mut_slice.result.now replicas = subst (λ xs. AreHome f.job xs replicas) (sym c.as_mut_slice.ensures.value) (hold-home f h c.args.thread c.args.won.won c.args.won.lost may views verdict) in
+    let home1 : AreHome f.job c.reserve_pages.new.seats replicas = c.reserve_pages.ensures.kept f.job replicas home0 in
+    let count : length replicas ≡ vec_len s.seats = sym (home-count f.job f.seats replicas (hold-home f h c.args.thread c.args.won.won c.args.won.lost may views verdict)) ∙ sym s.seats.ok.0 in
+    let items1 = with_items_is s.seats c.reserve_pages.new.seats (home-count f.job c.reserve_pages.new.seats replicas home1 ∙ count) in
+    let slice2 = c.as_mut_slice-2.ensures.value ∙ items1 in
+    let home2 : AreHome f.job c.as_mut_slice-2.result.now replicas = subst (λ xs. AreHome f.job xs replicas) (sym slice2) home1 in
+    let healed : List Replica = with_recovered c.args.won.won c.args.won.lost replicas in
+    let home3 : AreHome f.job c.recover_loser.new.seats healed = c.recover_loser.ensures.recovered f.job replicas home2 in
+    let spared3 : AreSpared c.recover_loser.new.seats = c.recover_loser.ensures.spared (subst AreSpared (sym slice2) c.in_ok-reserve_pages.ensures.spared) in
+    let items3 = with_items_is (with_items s.seats c.reserve_pages.new.seats) c.recover_loser.new.seats (home-count f.job c.recover_loser.new.seats healed home3 ∙ length-with-copy c.args.won.won c.args.won.lost replicas ∙ count) in
+    let slice3 = c.as_mut_slice-3.ensures.value ∙ items3 in
+    let home4 : AreHome f.job c.as_mut_slice-3.result.now healed = subst (λ xs. AreHome f.job xs healed) (sym slice3) home3 in
+    let its : event ≡ record { did = c.in_ok-event.event.did; kernel = c.happen.new.kernel.kernel; effect = c.in_ok-event.event.effect; payload = if c.in_ok-event.event.writes then view.payload else []; blocked = c.in_ok-event.event.blocked; due = c.in_ok-event.event.due } =
+    ap (λ (x : Stop). event_of f.kernel.setup f.kernel.kernel c.args.thread x view.payload) (sym c.stop.ensures) ∙ c.in_ok-event.ensures.event view.payload
+    in
+    let happens : Happens (core_in f).kernel c.args.thread event = hold-happens f h c.args.thread c.args.won.won c.args.won.lost may views verdict view there in
+    let home5 : AreHome f.job c.apply_to_all.new.seats (all_applied event.effect healed) = subst (λ (x : Effect). AreHome f.job c.apply_to_all.new.seats (all_applied x healed)) (sym (ap (λ (e : Event). e.effect) its)) (c.apply_to_all.ensures f.job healed home4) in
+    let items5 = with_items_is (with_items (with_items s.seats c.reserve_pages.new.seats) c.recover_loser.new.seats) c.apply_to_all.new.seats (home-count f.job c.apply_to_all.new.seats (all_applied event.effect healed) home5 ∙ length-applied event.effect healed ∙ length-with-copy c.args.won.won c.args.won.lost replicas ∙ count) in
+    let slice5 : c.as_slice.result.now ≡ c.apply_to_all.new.seats = c.as_slice.ensures.value ∙ items5 in
+    ap length slice5 ∙ home-count f.job c.apply_to_all.new.seats (all_applied event.effect healed) home5 ∙ length-applied event.effect healed ∙ length-with-copy c.args.won.won c.args.won.lost replicas ∙ replicas-many f h
+
+pub regroup-requires-clause-groups : goal.regroup-requires-clause-groups
+regroup-requires-clause-groups g c =
+    let s = c.self.inside in
+    let f : Fields = record {
+      job = record { program = record { image = s.image; input = s.kernel.setup.input }; faults = s.faults.items; settings = s.settings };
+      journal = s.journal.items;
+      seats = s.seats.items;
+      groups = s.groups;
+      leases = s.leases.items;
+      kernel = s.kernel;
+      blocked = s.blocked;
+      steps = s.steps;
+      sent = s.sent;
+      due = s.due;
+      ended = s.ended;
+      views = s.views.items;
+      places = vec_capacity s.journal - vec_len s.journal;
+    } in
+    let may : may_vote (state_in f) c.args.thread ≡ true = subst (λ (v : CoreOf). may_vote (state v) c.args.thread ≡ true) (sym c.self.view_is) c.requires.may in
+    let views : f.views ≡ views_of f.job (state_in f) c.args.thread = subst (λ (v : CoreOf). v.views ≡ views_of v.job (state v) c.args.thread) (sym c.self.view_is) c.requires.views in
+    let verdict : verdict_of f.views ≡ Won c.args.won.won c.args.won.lost = subst (λ (v : CoreOf). verdict_of v.views ≡ Won c.args.won.won c.args.won.lost) (sym c.self.view_is) c.requires.won in
+    let h : Holds f = c.self.invariant in
+    let within : c.args.won.won < length f.views = hold-within f h c.args.thread c.args.won.won c.args.won.lost may views verdict in
+    let view : View = c.index-view.result.now in
+    let there : slice_get f.views c.args.won.won ≡ Some view = slice_get-get_or f.views c.args.won.won view within ∙ ap (λ (v : View). Some v) (sym c.index-view.ensures) in
+    let event : Event = event_of f.kernel.setup f.kernel.kernel c.args.thread view.stop view.payload in
+    let did : event.did ≡ c.did_of-did.result = ap (λ (x : Stop). (event_of f.kernel.setup f.kernel.kernel c.args.thread x view.payload).did) (sym c.stop.ensures) ∙ c.did_of-did.ensures view.payload in
+    let next : view.since + event_steps c.did_of-did.result ≡ c.from.result + c.event_steps.result = (let a : c.since-count.result ≡ view.since = c.since-count.ensures in let b : c.from.result ≡ c.since-count.result = c.from.ensures in let d : c.event_steps.result ≡ event_steps c.did_of-did.result = c.event_steps.ensures in omega arith) in
+    let low : f.steps ≤ f.job.settings.limit = hold-steps f h c.args.thread c.args.won.won c.args.won.lost may views verdict in
+    let alone : f.leases ≡ [] = hold-alone f h c.args.thread c.args.won.won c.args.won.lost may views verdict in
+    let replicas : List Replica = (core_in f).replicas in
+    let home0 : AreHome f.job c.as_mut_slice.result.now replicas = subst (λ xs. AreHome f.job xs replicas) (sym c.as_mut_slice.ensures.value) (hold-home f h c.args.thread c.args.won.won c.args.won.lost may views verdict) in
+    let home1 : AreHome f.job c.reserve_pages.new.seats replicas = c.reserve_pages.ensures.kept f.job replicas home0 in
+    let count : length replicas ≡ vec_len s.seats = sym (home-count f.job f.seats replicas (hold-home f h c.args.thread c.args.won.won c.args.won.lost may views verdict)) ∙ sym s.seats.ok.0 in
+    let items1 = with_items_is s.seats c.reserve_pages.new.seats (home-count f.job c.reserve_pages.new.seats replicas home1 ∙ count) in
+    let slice2 = c.as_mut_slice-2.ensures.value ∙ items1 in
+    let home2 : AreHome f.job c.as_mut_slice-2.result.now replicas = subst (λ xs. AreHome f.job xs replicas) (sym slice2) home1 in
+    let healed : List Replica = with_recovered c.args.won.won c.args.won.lost replicas in
+    let home3 : AreHome f.job c.recover_loser.new.seats healed = c.recover_loser.ensures.recovered f.job replicas home2 in
+    let spared3 : AreSpared c.recover_loser.new.seats = c.recover_loser.ensures.spared (subst AreSpared (sym slice2) c.in_ok-reserve_pages.ensures.spared) in
+    let items3 = with_items_is (with_items s.seats c.reserve_pages.new.seats) c.recover_loser.new.seats (home-count f.job c.recover_loser.new.seats healed home3 ∙ length-with-copy c.args.won.won c.args.won.lost replicas ∙ count) in
+    let slice3 = c.as_mut_slice-3.ensures.value ∙ items3 in
+    let home4 : AreHome f.job c.as_mut_slice-3.result.now healed = subst (λ xs. AreHome f.job xs healed) (sym slice3) home3 in
+    let its : event ≡ record { did = c.in_ok-event.event.did; kernel = c.happen.new.kernel.kernel; effect = c.in_ok-event.event.effect; payload = if c.in_ok-event.event.writes then view.payload else []; blocked = c.in_ok-event.event.blocked; due = c.in_ok-event.event.due } =
+    ap (λ (x : Stop). event_of f.kernel.setup f.kernel.kernel c.args.thread x view.payload) (sym c.stop.ensures) ∙ c.in_ok-event.ensures.event view.payload
+    in
+    let happens : Happens (core_in f).kernel c.args.thread event = hold-happens f h c.args.thread c.args.won.won c.args.won.lost may views verdict view there in
+    let many : c.made-threads.result ≡ length f.kernel.kernel.lives = c.made-threads.ensures.made in
+    let copied : AreGrouped healed c.copy_stops.new.groups = hold-copied f h c.args.thread c.args.won.won c.args.won.lost may views verdict c.copy_stops.new.groups
+    (subst (λ (n : ℕ). Copies c.args.won.won c.args.won.lost n f.groups c.copy_stops.new.groups) many c.copy_stops.ensures)
+    in
+    copied.count ∙ length-with-copy c.args.won.won c.args.won.lost replicas ∙ replicas-many f h
+
+pub regroup-requires-clause-thread : goal.regroup-requires-clause-thread
+regroup-requires-clause-thread g c =
+    let s = c.self.inside in
+    let f : Fields = record {
+      job = record { program = record { image = s.image; input = s.kernel.setup.input }; faults = s.faults.items; settings = s.settings };
+      journal = s.journal.items;
+      seats = s.seats.items;
+      groups = s.groups;
+      leases = s.leases.items;
+      kernel = s.kernel;
+      blocked = s.blocked;
+      steps = s.steps;
+      sent = s.sent;
+      due = s.due;
+      ended = s.ended;
+      views = s.views.items;
+      places = vec_capacity s.journal - vec_len s.journal;
+    } in
+    let may : may_vote (state_in f) c.args.thread ≡ true = subst (λ (v : CoreOf). may_vote (state v) c.args.thread ≡ true) (sym c.self.view_is) c.requires.may in
+    let views : f.views ≡ views_of f.job (state_in f) c.args.thread = subst (λ (v : CoreOf). v.views ≡ views_of v.job (state v) c.args.thread) (sym c.self.view_is) c.requires.views in
+    let verdict : verdict_of f.views ≡ Won c.args.won.won c.args.won.lost = subst (λ (v : CoreOf). verdict_of v.views ≡ Won c.args.won.won c.args.won.lost) (sym c.self.view_is) c.requires.won in
+    let h : Holds f = c.self.invariant in
+    let within : c.args.won.won < length f.views = hold-within f h c.args.thread c.args.won.won c.args.won.lost may views verdict in
+    let view : View = c.index-view.result.now in
+    let there : slice_get f.views c.args.won.won ≡ Some view = slice_get-get_or f.views c.args.won.won view within ∙ ap (λ (v : View). Some v) (sym c.index-view.ensures) in
+    let event : Event = event_of f.kernel.setup f.kernel.kernel c.args.thread view.stop view.payload in
+    let did : event.did ≡ c.did_of-did.result = ap (λ (x : Stop). (event_of f.kernel.setup f.kernel.kernel c.args.thread x view.payload).did) (sym c.stop.ensures) ∙ c.did_of-did.ensures view.payload in
+    let next : view.since + event_steps c.did_of-did.result ≡ c.from.result + c.event_steps.result = (let a : c.since-count.result ≡ view.since = c.since-count.ensures in let b : c.from.result ≡ c.since-count.result = c.from.ensures in let d : c.event_steps.result ≡ event_steps c.did_of-did.result = c.event_steps.ensures in omega arith) in
+    let low : f.steps ≤ f.job.settings.limit = hold-steps f h c.args.thread c.args.won.won c.args.won.lost may views verdict in
+    let alone : f.leases ≡ [] = hold-alone f h c.args.thread c.args.won.won c.args.won.lost may views verdict in
+    let replicas : List Replica = (core_in f).replicas in
+    let home0 : AreHome f.job c.as_mut_slice.result.now replicas = subst (λ xs. AreHome f.job xs replicas) (sym c.as_mut_slice.ensures.value) (hold-home f h c.args.thread c.args.won.won c.args.won.lost may views verdict) in
+    let home1 : AreHome f.job c.reserve_pages.new.seats replicas = c.reserve_pages.ensures.kept f.job replicas home0 in
+    let count : length replicas ≡ vec_len s.seats = sym (home-count f.job f.seats replicas (hold-home f h c.args.thread c.args.won.won c.args.won.lost may views verdict)) ∙ sym s.seats.ok.0 in
+    let items1 = with_items_is s.seats c.reserve_pages.new.seats (home-count f.job c.reserve_pages.new.seats replicas home1 ∙ count) in
+    let slice2 = c.as_mut_slice-2.ensures.value ∙ items1 in
+    let home2 : AreHome f.job c.as_mut_slice-2.result.now replicas = subst (λ xs. AreHome f.job xs replicas) (sym slice2) home1 in
+    let healed : List Replica = with_recovered c.args.won.won c.args.won.lost replicas in
+    let home3 : AreHome f.job c.recover_loser.new.seats healed = c.recover_loser.ensures.recovered f.job replicas home2 in
+    let spared3 : AreSpared c.recover_loser.new.seats = c.recover_loser.ensures.spared (subst AreSpared (sym slice2) c.in_ok-reserve_pages.ensures.spared) in
+    let items3 = with_items_is (with_items s.seats c.reserve_pages.new.seats) c.recover_loser.new.seats (home-count f.job c.recover_loser.new.seats healed home3 ∙ length-with-copy c.args.won.won c.args.won.lost replicas ∙ count) in
+    let slice3 = c.as_mut_slice-3.ensures.value ∙ items3 in
+    let home4 : AreHome f.job c.as_mut_slice-3.result.now healed = subst (λ xs. AreHome f.job xs healed) (sym slice3) home3 in
+    let its : event ≡ record { did = c.in_ok-event.event.did; kernel = c.happen.new.kernel.kernel; effect = c.in_ok-event.event.effect; payload = if c.in_ok-event.event.writes then view.payload else []; blocked = c.in_ok-event.event.blocked; due = c.in_ok-event.event.due } =
+    ap (λ (x : Stop). event_of f.kernel.setup f.kernel.kernel c.args.thread x view.payload) (sym c.stop.ensures) ∙ c.in_ok-event.ensures.event view.payload
+    in
+    let happens : Happens (core_in f).kernel c.args.thread event = hold-happens f h c.args.thread c.args.won.won c.args.won.lost may views verdict view there in
+    let few : c.args.thread < 16 = hold-few f h c.args.thread c.args.won.won c.args.won.lost may views verdict in
+    let same : event.effect.thread ≡ c.in_ok-event.event.effect.thread = ap (λ (e : Event). e.effect.thread) its in
+    let own = happens.thread_is in
     omega arith

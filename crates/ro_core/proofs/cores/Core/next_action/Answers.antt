@@ -18,6 +18,7 @@ returns-then-is_some g c =
       job = record { program = record { image = s.image; input = s.kernel.setup.input }; faults = s.faults.items; settings = s.settings };
       journal = s.journal.items;
       seats = s.seats.items;
+      groups = s.groups;
       leases = s.leases.items;
       kernel = s.kernel;
       blocked = s.blocked;
@@ -38,6 +39,7 @@ returns-in-Some g c =
       job = record { program = record { image = s.image; input = s.kernel.setup.input }; faults = s.faults.items; settings = s.settings };
       journal = s.journal.items;
       seats = s.seats.items;
+      groups = s.groups;
       leases = s.leases.items;
       kernel = s.kernel;
       blocked = s.blocked;
@@ -59,6 +61,7 @@ returns-in-Some-first_action g c =
       job = record { program = record { image = s.image; input = s.kernel.setup.input }; faults = s.faults.items; settings = s.settings };
       journal = s.journal.items;
       seats = s.seats.items;
+      groups = s.groups;
       leases = s.leases.items;
       kernel = s.kernel;
       blocked = s.blocked;
@@ -80,6 +83,7 @@ returns-then-is_empty g c =
       job = record { program = record { image = s.image; input = s.kernel.setup.input }; faults = s.faults.items; settings = s.settings };
       journal = s.journal.items;
       seats = s.seats.items;
+      groups = s.groups;
       leases = s.leases.items;
       kernel = s.kernel;
       blocked = s.blocked;
@@ -105,6 +109,7 @@ returns-else-is_empty g c =
       job = record { program = record { image = s.image; input = s.kernel.setup.input }; faults = s.faults.items; settings = s.settings };
       journal = s.journal.items;
       seats = s.seats.items;
+      groups = s.groups;
       leases = s.leases.items;
       kernel = s.kernel;
       blocked = s.blocked;

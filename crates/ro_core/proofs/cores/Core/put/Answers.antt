@@ -1,5 +1,5 @@
 use Rattle.std.proofs.Common.{◌≡◌, ◌-◌, ◌<◌, [], ◌∷◌, ◌++◌, Some, None, refl, not, length, vec_len, vec_capacity, sym, ap, ◌∙◌, subst, arith, length-set}
-use Rattle.std.specs.Prelude.{◌==◌, slice_get, slice_set}
+use Rattle.std.specs.Prelude.{◌==◌, is_some, slice_get, slice_set}
 use Rattle.std.specs.List.{filter, find}
 use Rattle.std.proofs.lemmas.List.{with_items_is}
 use Rattle.ro_journal.specs.declared.Entry.TheVariants.{Put}
@@ -9,8 +9,11 @@ use Rattle.ro_core.specs.Core.{Core}
 use Rattle.ro_core.specs.Legal.{is_lease, after}
 use Rattle.ro_core.specs.Seen.{CoreOf, state, sent_of, lease_of, MayReturn}
 use Rattle.ro_core.specs.Fields.{Fields, failed_of, state_in, core_in}
+use Rattle.ro_core.specs.Grouped.{Returns}
+use Rattle.ro_replica.specs.Replica.{stop_of}
+use Rattle.ro_replica.specs.Seen.{replica_of}
 use Rattle.ro_core.proofs.Held.{with-leases}
-use Rattle.ro_core.proofs.Entries.{found_driver, put-not-due, put-same, put-within, put-room, put-holds, put-output, quiet-of, appends-of}
+use Rattle.ro_core.proofs.Entries.{found_driver, put-not-due, put-same, put-within, put-group, put-few, put-room, put-holds, put-output, quiet-of, appends-of}
 use Rattle.ro_core.proofs.cores.Core.put.Goals as goal
 
 pub unreachable-requires : goal.unreachable-requires
@@ -20,6 +23,7 @@ unreachable-requires g c =
       job = record { program = record { image = s.image; input = s.kernel.setup.input }; faults = s.faults.items; settings = s.settings };
       journal = s.journal.items;
       seats = s.seats.items;
+      groups = s.groups;
       leases = s.leases.items;
       kernel = s.kernel;
       blocked = s.blocked;
@@ -42,6 +46,7 @@ push_reserved-requires g c =
       job = record { program = record { image = s.image; input = s.kernel.setup.input }; faults = s.faults.items; settings = s.settings };
       journal = s.journal.items;
       seats = s.seats.items;
+      groups = s.groups;
       leases = s.leases.items;
       kernel = s.kernel;
       blocked = s.blocked;
@@ -64,6 +69,7 @@ come_home-requires g c =
       job = record { program = record { image = s.image; input = s.kernel.setup.input }; faults = s.faults.items; settings = s.settings };
       journal = s.journal.items;
       seats = s.seats.items;
+      groups = s.groups;
       leases = s.leases.items;
       kernel = s.kernel;
       blocked = s.blocked;
@@ -88,6 +94,7 @@ invariant_of-self g c =
       job = record { program = record { image = s.image; input = s.kernel.setup.input }; faults = s.faults.items; settings = s.settings };
       journal = s.journal.items;
       seats = s.seats.items;
+      groups = s.groups;
       leases = s.leases.items;
       kernel = s.kernel;
       blocked = s.blocked;
@@ -113,6 +120,7 @@ invariant_of-self g c =
     ∙ ap (λ (k : Lease). filter (λ (l : Lease). not (is_lease c.args.driver k.replica k.thread l)) s.leases.items) (sym same))
     (with_items_is s.seats c.come_home.new.seats (ap (λ xs. length xs) c.come_home.ensures ∙ length-set c.as_mut_slice.result.now c.in-Some.lease.replica (Some c.args.lent) ∙ c.as_mut_slice.ensures.len)
     ∙ c.come_home.ensures ∙ ap (λ xs. slice_set xs c.in-Some.lease.replica (Some c.args.lent)) c.as_mut_slice.ensures.value ∙ ap (λ (l : Lease). slice_set s.seats.items l.replica (Some c.args.lent)) (sym same))
+    (subst (λ (l : Lease). Returns l.replica l.thread (is_some (stop_of (replica_of c.args.lent) l.thread)) f.groups c.note_return.new.groups) (sym same) c.note_return.ensures)
     (omega (arith, room, c.push_reserved.ensures.len, c.push_reserved.ensures.capacity))
 
 pub returns-clause-entry : goal.returns-clause-entry
@@ -122,6 +130,7 @@ returns-clause-entry g c lease of_driver =
       job = record { program = record { image = s.image; input = s.kernel.setup.input }; faults = s.faults.items; settings = s.settings };
       journal = s.journal.items;
       seats = s.seats.items;
+      groups = s.groups;
       leases = s.leases.items;
       kernel = s.kernel;
       blocked = s.blocked;
@@ -147,6 +156,7 @@ returns-clause-quiet g c =
       job = record { program = record { image = s.image; input = s.kernel.setup.input }; faults = s.faults.items; settings = s.settings };
       journal = s.journal.items;
       seats = s.seats.items;
+      groups = s.groups;
       leases = s.leases.items;
       kernel = s.kernel;
       blocked = s.blocked;
@@ -164,3 +174,51 @@ returns-clause-quiet g c =
     (ap (sent_of f.job c.push_reserved.new.self.items) none ∙ ap (λ js. sent_of f.job js None) c.push_reserved.ensures.items
     ∙ put-output f.job f.journal c.args.driver c.in-Some.lease.replica c.in-Some.lease.thread c.args.ran.count c.args.ran.hit ∙ sym (ap (sent_of f.job f.journal) none))
     refl refl
+
+pub note_return-requires-clause-replica : goal.note_return-requires-clause-replica
+note_return-requires-clause-replica g c =
+    let s = c.self.inside in
+    let f : Fields = record {
+      job = record { program = record { image = s.image; input = s.kernel.setup.input }; faults = s.faults.items; settings = s.settings };
+      journal = s.journal.items;
+      seats = s.seats.items;
+      groups = s.groups;
+      leases = s.leases.items;
+      kernel = s.kernel;
+      blocked = s.blocked;
+      steps = s.steps;
+      sent = s.sent;
+      due = s.due;
+      ended = s.ended;
+      views = s.views.items;
+      places = vec_capacity s.journal - vec_len s.journal;
+    } in
+    let r = subst (λ (v : CoreOf). MayReturn v c.args.driver c.args.lent c.args.ran.count c.args.ran.hit) (sym c.self.view_is) c.requires in
+    let held : find (λ (l : Lease). l.driver == c.args.driver) s.leases.items ≡ Some r.lease = ap (find (λ (l : Lease). l.driver == c.args.driver)) (c.self.invariant.leases_are ∙ sym (with-leases f.job f.journal (failed_of f.due))) ∙ r.held in
+    let found : find (λ (l : Lease). l.driver == c.args.driver) s.leases.items ≡ Some c.in-Some.lease = sym (c.in-Some.ensures ∙ ap (find (λ (l : Lease). l.driver == c.args.driver)) c.as_slice.ensures.value) in
+    let same : r.lease ≡ c.in-Some.lease = some-injective (sym held ∙ found) in
+    subst (λ (l : Lease). l.replica < length f.groups) same (put-group f c.self.invariant c.args.driver r.lease.replica r.lease.thread c.args.ran.count c.args.ran.hit r.allowed)
+
+pub note_return-requires-clause-thread : goal.note_return-requires-clause-thread
+note_return-requires-clause-thread g c =
+    let s = c.self.inside in
+    let f : Fields = record {
+      job = record { program = record { image = s.image; input = s.kernel.setup.input }; faults = s.faults.items; settings = s.settings };
+      journal = s.journal.items;
+      seats = s.seats.items;
+      groups = s.groups;
+      leases = s.leases.items;
+      kernel = s.kernel;
+      blocked = s.blocked;
+      steps = s.steps;
+      sent = s.sent;
+      due = s.due;
+      ended = s.ended;
+      views = s.views.items;
+      places = vec_capacity s.journal - vec_len s.journal;
+    } in
+    let r = subst (λ (v : CoreOf). MayReturn v c.args.driver c.args.lent c.args.ran.count c.args.ran.hit) (sym c.self.view_is) c.requires in
+    let held : find (λ (l : Lease). l.driver == c.args.driver) s.leases.items ≡ Some r.lease = ap (find (λ (l : Lease). l.driver == c.args.driver)) (c.self.invariant.leases_are ∙ sym (with-leases f.job f.journal (failed_of f.due))) ∙ r.held in
+    let found : find (λ (l : Lease). l.driver == c.args.driver) s.leases.items ≡ Some c.in-Some.lease = sym (c.in-Some.ensures ∙ ap (find (λ (l : Lease). l.driver == c.args.driver)) c.as_slice.ensures.value) in
+    let same : r.lease ≡ c.in-Some.lease = some-injective (sym held ∙ found) in
+    subst (λ (l : Lease). l.thread < 16) same (put-few f c.self.invariant c.args.driver r.lease.replica r.lease.thread c.args.ran.count c.args.ran.hit r.allowed)

@@ -18,6 +18,7 @@ conclude-requires-clause-going g c =
       job = record { program = record { image = s.image; input = s.kernel.setup.input }; faults = s.faults.items; settings = s.settings };
       journal = s.journal.items;
       seats = s.seats.items;
+      groups = s.groups;
       leases = s.leases.items;
       kernel = s.kernel;
       blocked = s.blocked;
@@ -38,6 +39,7 @@ conclude-requires-clause-allowed g c =
       job = record { program = record { image = s.image; input = s.kernel.setup.input }; faults = s.faults.items; settings = s.settings };
       journal = s.journal.items;
       seats = s.seats.items;
+      groups = s.groups;
       leases = s.leases.items;
       kernel = s.kernel;
       blocked = s.blocked;
@@ -60,6 +62,7 @@ conclude-requires-clause-views g c =
       job = record { program = record { image = s.image; input = s.kernel.setup.input }; faults = s.faults.items; settings = s.settings };
       journal = s.journal.items;
       seats = s.seats.items;
+      groups = s.groups;
       leases = s.leases.items;
       kernel = s.kernel;
       blocked = s.blocked;
@@ -82,6 +85,7 @@ conclude-requires-clause-not_sink g c =
       job = record { program = record { image = s.image; input = s.kernel.setup.input }; faults = s.faults.items; settings = s.settings };
       journal = s.journal.items;
       seats = s.seats.items;
+      groups = s.groups;
       leases = s.leases.items;
       kernel = s.kernel;
       blocked = s.blocked;
@@ -102,6 +106,7 @@ returns-clause-entry g c thread may views split =
       job = record { program = record { image = s.image; input = s.kernel.setup.input }; faults = s.faults.items; settings = s.settings };
       journal = s.journal.items;
       seats = s.seats.items;
+      groups = s.groups;
       leases = s.leases.items;
       kernel = s.kernel;
       blocked = s.blocked;

@@ -30,6 +30,7 @@ leave-requires g c =
       job = record { program = record { image = s.image; input = s.kernel.setup.input }; faults = s.faults.items; settings = s.settings };
       journal = s.journal.items;
       seats = s.seats.items;
+      groups = s.groups;
       leases = s.leases.items;
       kernel = s.kernel;
       blocked = s.blocked;
@@ -50,6 +51,7 @@ invariant_of-self g c =
       job = record { program = record { image = s.image; input = s.kernel.setup.input }; faults = s.faults.items; settings = s.settings };
       journal = s.journal.items;
       seats = s.seats.items;
+      groups = s.groups;
       leases = s.leases.items;
       kernel = s.kernel;
       blocked = s.blocked;
@@ -67,7 +69,7 @@ invariant_of-self g c =
     take-holds f c.self.invariant c.args.driver c.args.replica c.args.thread may _ (record { job = refl; kernel = refl; blocked = refl; steps = refl; sent = refl; due = refl; ended = refl; views = refl })
     c.push_reserved.ensures.items c.lend.ensures.items
     (with_items_is s.seats c.leave.new.seats (ap (λ xs. length xs) c.leave.ensures.seats ∙ length-set c.as_mut_slice.result.now c.args.replica None ∙ c.as_mut_slice.ensures.len) ∙ c.leave.ensures.seats ∙ ap (λ xs. slice_set xs c.args.replica None) c.as_mut_slice.ensures.value)
-    (omega (arith, parts.0, same, c.push_reserved.ensures.len, c.push_reserved.ensures.capacity))
+    refl (omega (arith, parts.0, same, c.push_reserved.ensures.len, c.push_reserved.ensures.capacity))
 
 pub returns-clause-quiet : goal.returns-clause-quiet
 returns-clause-quiet g c =
@@ -76,6 +78,7 @@ returns-clause-quiet g c =
       job = record { program = record { image = s.image; input = s.kernel.setup.input }; faults = s.faults.items; settings = s.settings };
       journal = s.journal.items;
       seats = s.seats.items;
+      groups = s.groups;
       leases = s.leases.items;
       kernel = s.kernel;
       blocked = s.blocked;
@@ -100,6 +103,7 @@ returns-clause-lent g c =
       job = record { program = record { image = s.image; input = s.kernel.setup.input }; faults = s.faults.items; settings = s.settings };
       journal = s.journal.items;
       seats = s.seats.items;
+      groups = s.groups;
       leases = s.leases.items;
       kernel = s.kernel;
       blocked = s.blocked;

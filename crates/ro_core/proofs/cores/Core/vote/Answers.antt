@@ -8,10 +8,11 @@ use Rattle.ro_vote.specs.Votes.{verdict_of_three}
 use Rattle.ro_core.specs.Core.{may_vote, views_of}
 use Rattle.ro_core.specs.Legal.{IsAllowed}
 use Rattle.ro_core.specs.Seen.{CoreOf, state, DecidesVote, IsOfMajority}
-use Rattle.ro_core.specs.Fields.{Fields, state_in, core_in, AreHome, seat_stopped, Holds}
+use Rattle.ro_core.specs.Fields.{Fields, state_in, core_in, AreHome, Holds}
+use Rattle.ro_core.specs.Grouped.{seat_stopped}
 use Rattle.ro_core.proofs.Entries.{appends-of}
 use Rattle.ro_core.proofs.Holding.{sends-of}
-use Rattle.ro_core.proofs.Viewing.{viewed-holds, on-ok, view-still, view-home, view-stopped, view-count, view-views}
+use Rattle.ro_core.proofs.Viewing.{viewed-holds, on-ok, on-if-ok, view-still, view-home, view-stopped, view-count, view-views}
 use Rattle.ro_core.proofs.cores.Core.vote.Goals as goal
 
 pub show_all-requires-clause-stopped : goal.show_all-requires-clause-stopped
@@ -21,6 +22,7 @@ show_all-requires-clause-stopped g c =
       job = record { program = record { image = s.image; input = s.kernel.setup.input }; faults = s.faults.items; settings = s.settings };
       journal = s.journal.items;
       seats = s.seats.items;
+      groups = s.groups;
       leases = s.leases.items;
       kernel = s.kernel;
       blocked = s.blocked;
@@ -42,6 +44,7 @@ verdict-requires g c =
       job = record { program = record { image = s.image; input = s.kernel.setup.input }; faults = s.faults.items; settings = s.settings };
       journal = s.journal.items;
       seats = s.seats.items;
+      groups = s.groups;
       leases = s.leases.items;
       kernel = s.kernel;
       blocked = s.blocked;
@@ -67,6 +70,7 @@ invariant_of-self g c =
       job = record { program = record { image = s.image; input = s.kernel.setup.input }; faults = s.faults.items; settings = s.settings };
       journal = s.journal.items;
       seats = s.seats.items;
+      groups = s.groups;
       leases = s.leases.items;
       kernel = s.kernel;
       blocked = s.blocked;
@@ -92,6 +96,7 @@ hold-requires-clause-views g c =
       job = record { program = record { image = s.image; input = s.kernel.setup.input }; faults = s.faults.items; settings = s.settings };
       journal = s.journal.items;
       seats = s.seats.items;
+      groups = s.groups;
       leases = s.leases.items;
       kernel = s.kernel;
       blocked = s.blocked;
@@ -117,6 +122,7 @@ invariant_of-self-in-None g c =
       job = record { program = record { image = s.image; input = s.kernel.setup.input }; faults = s.faults.items; settings = s.settings };
       journal = s.journal.items;
       seats = s.seats.items;
+      groups = s.groups;
       leases = s.leases.items;
       kernel = s.kernel;
       blocked = s.blocked;
@@ -142,6 +148,7 @@ split-requires g c =
       job = record { program = record { image = s.image; input = s.kernel.setup.input }; faults = s.faults.items; settings = s.settings };
       journal = s.journal.items;
       seats = s.seats.items;
+      groups = s.groups;
       leases = s.leases.items;
       kernel = s.kernel;
       blocked = s.blocked;
@@ -168,6 +175,7 @@ returns-in-Some-clause-sends g c =
       job = record { program = record { image = s.image; input = s.kernel.setup.input }; faults = s.faults.items; settings = s.settings };
       journal = s.journal.items;
       seats = s.seats.items;
+      groups = s.groups;
       leases = s.leases.items;
       kernel = s.kernel;
       blocked = s.blocked;
@@ -197,6 +205,7 @@ returns-in-None-clause-entry g c =
       job = record { program = record { image = s.image; input = s.kernel.setup.input }; faults = s.faults.items; settings = s.settings };
       journal = s.journal.items;
       seats = s.seats.items;
+      groups = s.groups;
       leases = s.leases.items;
       kernel = s.kernel;
       blocked = s.blocked;
@@ -219,3 +228,32 @@ returns-in-None-clause-entry g c =
       subst (λ (v : CoreOf). DecidesVote v.job (state v) c.args.thread c.split.result) c.self.view_is e.1,
       appends-of c.self.view_is e.2.job e.2.journal,
     )
+
+pub returns-in-None-clause-shown : goal.returns-in-None-clause-shown
+returns-in-None-clause-shown g c split =
+    let s = c.self.inside in
+    let f : Fields = record {
+      job = record { program = record { image = s.image; input = s.kernel.setup.input }; faults = s.faults.items; settings = s.settings };
+      journal = s.journal.items;
+      seats = s.seats.items;
+      groups = s.groups;
+      leases = s.leases.items;
+      kernel = s.kernel;
+      blocked = s.blocked;
+      steps = s.steps;
+      sent = s.sent;
+      due = s.due;
+      ended = s.ended;
+      views = s.views.items;
+      places = vec_capacity s.journal - vec_len s.journal;
+    } in
+    let h : Holds f = c.self.invariant in
+    let may : may_vote (state_in f) c.args.thread ≡ true = subst (λ (v : CoreOf). may_vote (state v) c.args.thread ≡ true) (sym c.self.view_is) c.requires in
+    let items : (with_items s.views c.show_all.new.views).items ≡ c.show_all.new.views = with_items_is s.views c.show_all.new.views (c.show_all.ensures.count ∙ c.as_mut_slice.ensures.len) in
+    let home : AreHome f.job c.as_slice.result.now (core_in f).replicas = subst (λ xs. AreHome f.job xs (core_in f).replicas) (sym c.as_slice.ensures.value) (view-home f h c.args.thread may) in
+    let shown : (with_items s.views c.show_all.new.views).items ≡ views_of f.job (state_in f) c.args.thread = view-views f h c.args.thread may _ (items ∙ c.show_all.ensures.views f.job (core_in f).replicas home) in
+    let count : length (with_items s.views c.show_all.new.views).items ≡ length f.views = ap length items ∙ c.show_all.ensures.count ∙ ap length c.as_mut_slice.ensures.value in
+    subst (λ (v : CoreOf). c.split.new.self.views ≡ views_of v.job (state v) c.args.thread) c.self.view_is (c.split.ensures.views ∙ shown)
+
+pub returns-in-Some-clause-shown : goal.returns-in-Some-clause-shown
+returns-in-Some-clause-shown g c = on-if-ok c.hold.result (λ entry not_split split. absurd (not_split split)) c.hold.ensures.won

@@ -1,0 +1,335 @@
+-- Which threads stand still, as replicas run, are copied and are given effects.
+use Rattle.std.specs.Prelude.{◌≡◌, ◌≢◌, ◌⊎◌, ℕ, zero, suc, ◌+◌, ◌<◌, ◌≤◌, Bool, true, false, ◌&&◌, if◌then◌else◌, List, [], ◌∷◌, ◌++◌, length, map, Option, Some, None, is_some, slice_get}
+use Rattle.std.specs.Option.{option_and_then}
+use Rattle.std.specs.List.{list_all}
+use Rattle.std.proofs.Common.{refl, sym, ap, ◌∙◌, subst, arith, inl, inr}
+use Rattle.std.proofs.lemmas.Bool.{cases_Bool, cases_eq, cases_lt}
+use Rattle.std.proofs.lemmas.List.{length-set}
+use Rattle.std.proofs.lemmas.Option.{slice_get_past, slice_get_within}
+use Rattle.ro_kernel.proofs.Kept.{slice_get-set_other}
+use Rattle.ro_event.specs.declared.effects.Made.{Made}
+use Rattle.ro_event.specs.declared.stops.Stop.{Stop}
+use Rattle.ro_event.specs.Effects.{Effect}
+use Rattle.ro_exec.specs.Next.{Backed}
+use Rattle.ro_group.specs.Groups.{Groups, stands_in, stands, is_ready, Changes}
+use Rattle.ro_plain.specs.Machine.{layout_of}
+use Rattle.ro_plain.proofs.Calls.{some-injective}
+use Rattle.ro_journal.specs.declared.Entry.TheVariants.{Put}
+use Rattle.ro_thread.specs.declared.Thread.{Thread}
+use Rattle.ro_replica.specs.Replica.{Replica, changed_at, thread_after, with_made, applied, is_cancelled, without_cancelled, cancelled, copied_threads, recovered, stop_of, opening_replica}
+use Rattle.ro_replica.specs.Runs.{run_of, with_stop}
+use Rattle.ro_replica.specs.Seen.{ReplicaOf, replica_of}
+use Rattle.ro_core.specs.Core.{Job, Core, opening_core}
+use Rattle.ro_core.specs.Event.{with_recovered, all_applied}
+use Rattle.ro_core.specs.Legal.{arrival, arrived, core_after_put, after, MayPut}
+use Rattle.ro_core.specs.Fields.{AreHome}
+use Rattle.ro_core.specs.Grouped.{AreGrouped, AreMade, seat_stopped, Returns, CopiesRow, Copies, Releases, SettlesSeat, Settles}
+use Rattle.ro_core.specs.Opening.{NoneStands}
+use Rattle.ro_core.proofs.Lists.{MappedFrom, get-map, length-mapped, get-set-same}
+use Rattle.ro_core.proofs.Copies.{AfterCopy, not_lost, is_copy, after-copy, length-with-copy}
+use Rattle.ro_core.proofs.Ordered.{length-opening, get-opening, PutParts, put-parts}
+use Rattle.ro_core.proofs.Retired.{RunMeets, meets}
+use Rattle.ro_core.proofs.Grants.{LentGo, LentThread, lent-thread, changed-other}
+
+-- the stop of a thread in a list
+abbrev stop_in : List Thread → (thread : ℕ) → Option Stop
+stop_in threads thread = option_and_then (λ t. t.stop) (slice_get threads thread)
+
+-- a thread that was not made does not stand still
+pub past-none : (replica : Replica) (thread : ℕ) → length replica.threads ≤ thread → is_some (stop_of replica thread) ≡ false
+past-none replica thread past = ap (λ (o : Option Thread). is_some (option_and_then (λ (t : Thread). t.stop) o)) (slice_get_past replica.threads thread past)
+
+-- ---- a thread that stands still in every replica
+
+pub ready-all : (replicas : List Replica) (groups : Groups) (thread : ℕ) → AreGrouped replicas groups → is_ready groups thread ≡ list_all (λ replica. is_some (stop_of replica thread)) replicas
+ready-all [] [] thread h = refl
+ready-all [] (row ∷ rows) thread h = absurd (let n = h.count in omega arith)
+ready-all (r ∷ replicas) [] thread h = absurd (let n = h.count in omega arith)
+ready-all (r ∷ replicas) (row ∷ rows) thread h =
+    ap (λ (b : Bool). b && list_all (stands_in thread) rows) (h.each 0 thread r refl)
+    ∙ ap (λ (b : Bool). is_some (stop_of r thread) && b) (ready-all replicas rows thread (record { count = (let n = h.count in omega arith); each = λ number t x e. h.each (suc number) t x e }))
+
+-- ---- the opening
+
+pub opening-grouped : (job : Job) (groups : Groups) → NoneStands job.settings.replicas groups → AreGrouped (opening_core job).replicas groups
+unfolding opening_core opening_replica
+opening-grouped job groups none = record {
+  count = none.count ∙ sym (length-opening job job.settings.replicas);
+  each = λ number thread r e. none.none number thread ∙ sym (ap (λ (x : Replica). is_some (stop_of x thread)) (sym (get-opening job job.settings.replicas number r e)) ∙ alone number thread);
+}
+  where
+    alone : (number thread : ℕ) → is_some (stop_of (opening_replica job.program.image job.faults number) thread) ≡ false
+    alone number zero = refl
+    alone number (suc thread) = refl
+
+-- ---- a run
+
+put-into : (job : Job) (core : Core) (driver replica thread count hit : ℕ) (may : MayPut job core driver replica thread count hit) (lent : LentThread core replica thread) (groups new : Groups) (value : Replica)
+    → slice_get (core_after_put job core driver replica thread count (Some may.ran)).replicas replica ≡ Some value → AreGrouped core.replicas groups → Returns replica thread (is_some (stop_of value thread)) groups new
+    → AreGrouped (core_after_put job core driver replica thread count (Some may.ran)).replicas new
+put-into job core driver replica thread count hit may lent groups new value became h back = record {
+  count = kept-count (cases_Bool (is_some (stop_of value thread))) ∙ h.count ∙ sym (length-set core.replicas replica (arrived job thread count may.ran.replica));
+  each = λ number t r e. by number t r e (cases_eq number replica) (cases_eq t thread);
+}
+  where
+    kept-count : (is_some (stop_of value thread) ≡ true) ⊎ (is_some (stop_of value thread) ≡ false) → length new ≡ length groups
+    kept-count (inl e) = (back.noted e).count
+    kept-count (inr e) = ap (λ (g : Groups). length g) (back.same e)
+
+    kept : (number t : ℕ) → (number ≢ replica) ⊎ (t ≢ thread) → (is_some (stop_of value thread) ≡ true) ⊎ (is_some (stop_of value thread) ≡ false) → stands new number t ≡ stands groups number t
+    kept number t d (inl e) = (back.noted e).others number t d
+    kept number t d (inr e) = ap (λ (g : Groups). stands g number t) (back.same e)
+
+    parts : PutParts job core replica thread count may.ran
+    parts = put-parts job core replica thread count may.ran may.runs
+
+    same-lent : parts.lent ≡ lent.lent
+    same-lent = some-injective (sym parts.there ∙ lent.in_core)
+
+    ran-meets : RunMeets thread count lent.went lent.lent may.ran
+    ran-meets = meets (layout_of job.program) job.settings.watchdog count thread lent.went lent.lent may.ran lent.in_lent
+        (ap (λ (r : Replica). run_of (layout_of job.program) job.settings.watchdog count r thread) (sym same-lent) ∙ parts.runs)
+
+    arrived-is : value ≡ arrived job thread count may.ran.replica
+    arrived-is = some-injective (sym became ∙ get-set-same core.replicas replica lent.lent (arrived job thread count may.ran.replica) lent.in_core)
+
+    -- the thread that ran
+    own : (is_some (stop_of value thread) ≡ true) ⊎ (is_some (stop_of value thread) ≡ false) → stands new replica thread ≡ is_some (stop_of value thread)
+    own (inl e) = (back.noted e).named ∙ sym e
+    own (inr e) =
+        ap (λ (g : Groups). stands g replica thread) (back.same e) ∙ h.each replica thread lent.lent lent.in_core
+        ∙ ap (λ (o : Option Thread). is_some (option_and_then (λ (t : Thread). t.stop) o)) lent.in_lent ∙ ap is_some lent.goes ∙ sym e
+
+    -- another thread of its replica
+    beside : (t : ℕ) → t ≢ thread → stands new replica t ≡ is_some (stop_of value t)
+    beside t differs =
+        kept replica t (inr differs) (cases_Bool (is_some (stop_of value thread))) ∙ h.each replica t lent.lent lent.in_core
+        ∙ ap (λ (o : Option Thread). is_some (option_and_then (λ (x : Thread). x.stop) o))
+        (sym (changed-other (with_stop (arrival job thread count may.ran.replica)) may.ran.replica.threads thread t differs ∙ ran-meets.only.others t differs))
+        ∙ ap (λ (r : Replica). is_some (stop_of r t)) (sym arrived-is)
+
+    by : (number t : ℕ) (r : Replica) → slice_get (core_after_put job core driver replica thread count (Some may.ran)).replicas number ≡ Some r → (number ≡ replica) ⊎ (number ≢ replica) → (t ≡ thread) ⊎ (t ≢ thread) → stands new number t ≡ is_some (stop_of r t)
+    by number t r e (inr other) _ =
+        kept number t (inl other) (cases_Bool (is_some (stop_of value thread)))
+        ∙ h.each number t r (sym (slice_get-set_other core.replicas replica number (arrived job thread count may.ran.replica) (λ k. other (sym k))) ∙ e)
+    by number t r e (inl same) (inl here) =
+        let is : value ≡ r = some-injective (sym became ∙ ap (slice_get (core_after_put job core driver replica thread count (Some may.ran)).replicas) (sym same) ∙ e) in
+        ap (λ (n : ℕ). stands new n t) same ∙ ap (stands new replica) here ∙ own (cases_Bool (is_some (stop_of value thread))) ∙ ap (λ (x : Replica). is_some (stop_of x thread)) is ∙ ap (λ (n : ℕ). is_some (stop_of r n)) (sym here)
+    by number t r e (inl same) (inr differs) =
+        let is : value ≡ r = some-injective (sym became ∙ ap (slice_get (core_after_put job core driver replica thread count (Some may.ran)).replicas) (sym same) ∙ e) in
+        ap (λ (n : ℕ). stands new n t) same ∙ beside t differs ∙ ap (λ (x : Replica). is_some (stop_of x t)) is
+
+-- a put keeps the groups
+pub put-grouped : (job : Job) (core : Core) (driver replica thread count hit : ℕ) (may : MayPut job core driver replica thread count hit) → LentGo core → (groups new : Groups) (value : Replica)
+    → slice_get (after job core (Put driver replica thread count hit)).replicas replica ≡ Some value → AreGrouped core.replicas groups → Returns replica thread (is_some (stop_of value thread)) groups new
+    → AreGrouped (after job core (Put driver replica thread count hit)).replicas new
+unfolding after
+put-grouped job core driver replica thread count hit may go groups new value became h back =
+    let is = ap (core_after_put job core driver replica thread count) may.runs in
+    subst (λ (c : Core). AreGrouped c.replicas new) (sym is)
+    (put-into job core driver replica thread count hit may (lent-thread core replica thread (go driver replica thread may.out)) groups new value (sym (ap (λ (c : Core). slice_get c.replicas replica) is) ∙ became) h back)
+
+-- ---- a copy
+
+copied-stop : (winners losers : List Thread) (thread : ℕ) → length winners ≡ length losers → stop_in (copied_threads winners losers) thread ≡ stop_in winners thread
+copied-stop [] losers thread n = refl
+copied-stop (w ∷ winners) [] thread n = absurd (omega arith)
+copied-stop (w ∷ winners) (l ∷ losers) zero n = refl
+copied-stop (w ∷ winners) (l ∷ losers) (suc thread) n = copied-stop winners losers thread (omega arith)
+
+pub copies-grouped : (won : ℕ) (lost : Option ℕ) (threads : ℕ) (replicas : List Replica) (winner : Replica) (old new : Groups) → slice_get replicas won ≡ Some winner → AreMade threads replicas → AreGrouped replicas old → Copies won lost threads old new → AreGrouped (with_recovered won lost replicas) new
+unfolding recovered
+copies-grouped won None threads replicas winner old new there made h c = subst (AreGrouped replicas) (sym c) h
+copies-grouped won (Some lost) threads replicas winner old new there made h c = record {
+  count = c.count ∙ h.count ∙ sym (length-with-copy won (Some lost) replicas);
+  each = λ number thread r e. by number thread r (after-copy won lost replicas winner number r there e) (cases_lt thread threads);
+}
+  where
+    by : (number thread : ℕ) (r : Replica) → AfterCopy won lost replicas number r → (thread < threads) ⊎ (threads ≤ thread) → stands new number thread ≡ is_some (stop_of r thread)
+    by number thread r (not_lost differs e) _ = c.others number thread (inl differs) ∙ h.each number thread r e
+    by number thread r (is_copy w l same at_won at_lost is) (inl less) =
+        ap (λ (n : ℕ). stands new n thread) same ∙ c.copied thread less ∙ h.each won thread w at_won
+        ∙ ap is_some (sym (copy-stop w l at_won at_lost thread)) ∙ ap (λ (x : Replica). is_some (stop_of x thread)) is
+      where
+        copy-stop : (w l : Replica) → slice_get replicas won ≡ Some w → slice_get replicas lost ≡ Some l → (thread : ℕ) → stop_of (recovered w l) thread ≡ stop_of w thread
+        copy-stop w l a b thread = copied-stop w.threads l.threads thread (made won w a ∙ sym (made lost l b))
+    by number thread r (is_copy w l same at_won at_lost is) (inr past) =
+        ap (λ (n : ℕ). stands new n thread) same ∙ c.others lost thread (inr past) ∙ h.each lost thread l at_lost
+        ∙ past-none l thread (let n = made lost l at_lost in omega arith)
+        ∙ sym (past-none w thread (let n = made won w at_won in omega arith))
+        ∙ ap is_some (sym (copy-stop w l at_won at_lost thread)) ∙ ap (λ (x : Replica). is_some (stop_of x thread)) is
+      where
+        copy-stop : (w l : Replica) → slice_get replicas won ≡ Some w → slice_get replicas lost ≡ Some l → (thread : ℕ) → stop_of (recovered w l) thread ≡ stop_of w thread
+        copy-stop w l a b thread = copied-stop w.threads l.threads thread (made won w a ∙ sym (made lost l b))
+
+-- ---- an effect
+
+-- a thread that is made stands behind the others, and goes on
+made-stop : (made : Option Made) (threads : List Thread) (thread : ℕ) → stop_in (with_made made threads) thread ≡ stop_in threads thread
+made-stop None threads thread = refl
+made-stop (Some made) [] thread = refl
+made-stop (Some made) (t ∷ threads) thread = behind (t ∷ threads) thread _ refl
+  where
+    behind : (threads : List Thread) (thread : ℕ) (last : Thread) → last.stop ≡ None → stop_in (threads ++ last ∷ []) thread ≡ stop_in threads thread
+    behind [] zero last e = e
+    behind [] (suc thread) last e = refl
+    behind (x ∷ threads) zero last e = refl
+    behind (x ∷ threads) (suc thread) last e = behind threads thread last e
+
+-- the thread of an effect
+own-stop : (effect : Effect) (threads : List Thread) (place : ℕ) → stop_in (changed_at (thread_after effect) threads place) place ≡ (if effect.releases then None else stop_in threads place)
+own-stop effect [] place = same effect.releases None refl
+  where
+    same : (b : Bool) (o : Option Stop) → o ≡ None → o ≡ (if b then None else o)
+    same true o e = e
+    same false o e = refl
+own-stop effect (t ∷ threads) zero = refl
+own-stop effect (t ∷ threads) (suc place) = own-stop effect threads place
+
+applied-stop : (effect : Effect) (replica : Replica) (thread : ℕ) → stop_of (applied effect replica) thread ≡ stop_in (changed_at (thread_after effect) replica.threads effect.thread) thread
+unfolding applied
+applied-stop effect replica thread = made-stop effect.made (changed_at (thread_after effect) replica.threads effect.thread) thread
+
+-- another thread stands as it did
+applied-other : (effect : Effect) (replica : Replica) (thread : ℕ) → thread ≢ effect.thread → stop_of (applied effect replica) thread ≡ stop_of replica thread
+applied-other effect replica thread differs =
+    applied-stop effect replica thread ∙ ap (λ (o : Option Thread). option_and_then (λ (t : Thread). t.stop) o) (changed-other (thread_after effect) replica.threads effect.thread thread differs)
+
+applied-own : (effect : Effect) (replica : Replica) → stop_of (applied effect replica) effect.thread ≡ (if effect.releases then None else stop_of replica effect.thread)
+applied-own effect replica = applied-stop effect replica effect.thread ∙ own-stop effect replica.threads effect.thread
+
+-- the groups once an effect's thread is released
+released-each : (effect : Effect) (replicas : List Replica) (old new : Groups) → AreGrouped replicas old → Releases effect old new → (number thread : ℕ) (replica : Replica) → slice_get replicas number ≡ Some replica → stands new number thread ≡ is_some (stop_of (applied effect replica) thread)
+released-each effect replicas old new h r number thread replica e = by (cases_Bool effect.releases) (cases_eq thread effect.thread)
+  where
+    by : (effect.releases ≡ true) ⊎ (effect.releases ≡ false) → (thread ≡ effect.thread) ⊎ (thread ≢ effect.thread) → stands new number thread ≡ is_some (stop_of (applied effect replica) thread)
+    by (inl releases) (inl own) =
+        ap (stands new number) own ∙ (r.released releases).named number
+        ∙ sym (ap is_some (ap (stop_of (applied effect replica)) own ∙ applied-own effect replica ∙ ap (λ (b : Bool). if b then None else stop_of replica effect.thread) releases))
+    by (inl releases) (inr other) = (r.released releases).others number thread other ∙ h.each number thread replica e ∙ ap is_some (sym (applied-other effect replica thread other))
+    by (inr keeps) (inl own) =
+        ap (λ (g : Groups). stands g number thread) (r.same keeps) ∙ h.each number thread replica e
+        ∙ ap is_some (ap (stop_of replica) own ∙ sym (ap (stop_of (applied effect replica)) own ∙ applied-own effect replica ∙ ap (λ (b : Bool). if b then None else stop_of replica effect.thread) keeps))
+    by (inr keeps) (inr other) = ap (λ (g : Groups). stands g number thread) (r.same keeps) ∙ h.each number thread replica e ∙ ap is_some (sym (applied-other effect replica thread other))
+
+-- a page fault that is settled was a stop
+cancelled-stop : (backed : Backed) (threads : List Thread) (thread : ℕ) → (is_some (stop_in threads thread) && is_some (stop_in (map (without_cancelled backed) threads) thread)) ≡ is_some (stop_in (map (without_cancelled backed) threads) thread)
+cancelled-stop backed [] thread = refl
+cancelled-stop backed (t ∷ threads) zero = by t.stop
+  where
+    by : (o : Option Stop) → (is_some o && is_some (if is_cancelled backed o then None else o)) ≡ is_some (if is_cancelled backed o then None else o)
+    by None = refl
+    by (Some stop) = refl
+cancelled-stop backed (t ∷ threads) (suc thread) = cancelled-stop backed threads thread
+
+settled-stop : (replica : Replica) (thread : ℕ) → (is_some (stop_of replica thread) && is_some (stop_of (cancelled replica) thread)) ≡ is_some (stop_of (cancelled replica) thread)
+unfolding cancelled
+settled-stop replica thread = cancelled-stop replica.backed replica.threads thread
+
+-- the seat of a replica that is home
+home-seat : (job : Job) (seats : List (Option ReplicaOf)) (replicas : List Replica) (number : ℕ) (replica : Replica) → AreHome job seats replicas → slice_get replicas number ≡ Some replica → (value : ReplicaOf) × (slice_get seats number ≡ Some (Some value)) × (replica_of value ≡ replica)
+home-seat job [] [] number replica h e = absurd (let f : None ≡ Some replica = e in cc)
+home-seat job [] (r ∷ replicas) number replica h e = absurd h
+home-seat job (None ∷ seats) replicas number replica h e = absurd h
+home-seat job (Some value ∷ seats) [] number replica h e = absurd h
+home-seat job (Some value ∷ seats) (r ∷ replicas) zero replica h e = (value, refl, h.1 ∙ some-injective e)
+home-seat job (Some value ∷ seats) (r ∷ replicas) (suc number) replica h e = home-seat job seats replicas number replica h.2 e
+
+-- an effect in every replica keeps the groups
+pub regrouped : (job : Job) (effect : Effect) (before : List Replica) (seats : List (Option ReplicaOf)) (replicas threads : ℕ) (old mid new : Groups) → length old ≡ replicas → length mid ≡ length old → Releases effect old mid → Settles seats replicas threads mid new
+    → AreGrouped before old → AreMade threads before → AreHome job seats (all_applied effect before) → AreGrouped (all_applied effect before) new
+regrouped job effect before seats replicas threads old mid new many same r s h made home = record {
+  count = s.count ∙ same ∙ h.count ∙ sym (length-mapped (λ (x : Replica). cancelled (applied effect x)) before);
+  each = λ number thread x e. by number thread x e (get-map (λ (x : Replica). cancelled (applied effect x)) before number x e) (cases_lt thread threads);
+}
+  where
+    by : (number thread : ℕ) (x : Replica) → slice_get (all_applied effect before) number ≡ Some x → MappedFrom (λ (x : Replica). cancelled (applied effect x)) before number x → (thread < threads) ⊎ (threads ≤ thread) → stands new number thread ≡ is_some (stop_of x thread)
+    by number thread x e m (inl less) =
+        let seat = home-seat job seats (all_applied effect before) number x home e in
+        let within : number < replicas = (let w = slice_get_within before number m.from m.there in let n = h.count in omega arith) in
+        s.settled number thread (Some seat.0) within seat.1 less
+        ∙ ap (λ (b : Bool). b && is_some (stop_of (replica_of seat.0) thread)) (released-each effect before old mid h r number thread m.from m.there)
+        ∙ ap (λ (y : Replica). is_some (stop_of (applied effect m.from) thread) && is_some (stop_of y thread)) (seat.2 ∙ sym m.gives)
+        ∙ settled-stop (applied effect m.from) thread
+        ∙ ap (λ (y : Replica). is_some (stop_of y thread)) m.gives
+    by number thread x e m (inr past) =
+        let gone : is_some (stop_of (applied effect m.from) thread) ≡ false = not-made (cases_eq thread effect.thread) (past-none m.from thread (let n = made number m.from m.there in omega arith)) in
+        s.others number thread (inr past) ∙ released-each effect before old mid h r number thread m.from m.there ∙ gone
+        ∙ sym (sym (settled-stop (applied effect m.from) thread) ∙ ap (λ (b : Bool). b && is_some (stop_of (cancelled (applied effect m.from)) thread)) gone)
+        ∙ ap (λ (y : Replica). is_some (stop_of y thread)) m.gives
+      where
+        held : (b : Bool) (o : Option Stop) → is_some o ≡ false → is_some (if b then None else o) ≡ false
+        held true o f = refl
+        held false o f = f
+
+        not-made : (thread ≡ effect.thread) ⊎ (thread ≢ effect.thread) → is_some (stop_of m.from thread) ≡ false → is_some (stop_of (applied effect m.from) thread) ≡ false
+        not-made (inl own) f =
+            ap is_some (ap (stop_of (applied effect m.from)) own ∙ applied-own effect m.from)
+            ∙ held effect.releases (stop_of m.from effect.thread) (ap (λ (n : ℕ). is_some (stop_of m.from n)) (sym own) ∙ f)
+        not-made (inr other) f = ap is_some (applied-other effect m.from thread other) ∙ f
+
+-- ---- loops
+
+-- of no threads
+pub row-none : (from to : ℕ) (groups : Groups) → CopiesRow from to 0 groups groups
+row-none from to groups = record { count = refl; copied = λ t less. absurd (omega arith); others = λ n t d. refl }
+
+pub seat-none : (seat : Option ReplicaOf) (replica : ℕ) (groups : Groups) → SettlesSeat seat replica 0 groups groups
+seat-none seat replica groups = record { count = refl; settled = λ t less. absurd (omega arith); others = λ n t d. refl }
+
+-- of no seats
+pub seats-none : (seats : List (Option ReplicaOf)) (threads : ℕ) (groups : Groups) → Settles seats 0 threads groups groups
+seats-none seats threads groups = record { count = refl; settled = λ n t seat less e few. absurd (omega arith); others = λ n t d. refl }
+
+-- one thread more of a row that is copied
+pub row-more : (from to thread : ℕ) (old mid new : Groups) → from ≢ to → CopiesRow from to thread old mid → Changes mid new to thread (stands mid from thread) → CopiesRow from to (thread + 1) old new
+row-more from to thread old mid new differ h c = record {
+  count = c.count ∙ h.count;
+  copied = λ t less. by t less (cases_eq t thread);
+  others = λ n t d. later n t d;
+}
+  where
+    by : (t : ℕ) → t < thread + 1 → (t ≡ thread) ⊎ (t ≢ thread) → stands new to t ≡ stands old from t
+    by t less (inl same) = ap (stands new to) same ∙ c.named ∙ h.others from thread (inl differ) ∙ ap (stands old from) (sym same)
+    by t less (inr other) = c.others to t (inr other) ∙ h.copied t (omega arith)
+
+    later : (n t : ℕ) → (n ≢ to) ⊎ (thread + 1 ≤ t) → stands new n t ≡ stands old n t
+    later n t (inl other) = c.others n t (inl other) ∙ h.others n t (inl other)
+    later n t (inr past) = c.others n t (inr (λ (e : t ≡ thread). omega arith)) ∙ h.others n t (inr (omega arith))
+
+-- one thread more of a seat that is settled
+pub seat-more : (seat : Option ReplicaOf) (replica thread : ℕ) (old mid new : Groups) → SettlesSeat seat replica thread old mid → Changes mid new replica thread (stands mid replica thread && seat_stopped thread seat) → SettlesSeat seat replica (thread + 1) old new
+seat-more seat replica thread old mid new h c = record {
+  count = c.count ∙ h.count;
+  settled = λ t less. by t less (cases_eq t thread);
+  others = λ n t d. later n t d;
+}
+  where
+    by : (t : ℕ) → t < thread + 1 → (t ≡ thread) ⊎ (t ≢ thread) → stands new replica t ≡ (stands old replica t && seat_stopped t seat)
+    by t less (inl same) =
+        ap (stands new replica) same ∙ c.named ∙ ap (λ (b : Bool). b && seat_stopped thread seat) (h.others replica thread (inr (omega arith)))
+        ∙ ap (λ (n : ℕ). stands old replica n && seat_stopped n seat) (sym same)
+    by t less (inr other) = c.others replica t (inr other) ∙ h.settled t (omega arith)
+
+    later : (n t : ℕ) → (n ≢ replica) ⊎ (thread + 1 ≤ t) → stands new n t ≡ stands old n t
+    later n t (inl other) = c.others n t (inl other) ∙ h.others n t (inl other)
+    later n t (inr past) = c.others n t (inr (λ (e : t ≡ thread). omega arith)) ∙ h.others n t (inr (omega arith))
+
+-- one seat more
+pub seats-more : (seats : List (Option ReplicaOf)) (seat : Option ReplicaOf) (replica threads : ℕ) (old mid new : Groups) → slice_get seats replica ≡ Some seat → Settles seats replica threads old mid → SettlesSeat seat replica threads mid new → Settles seats (replica + 1) threads old new
+seats-more seats seat replica threads old mid new there h c = record {
+  count = c.count ∙ h.count;
+  settled = λ n t x less e few. by n t x less e few (cases_eq n replica);
+  others = λ n t d. later n t d;
+}
+  where
+    by : (n t : ℕ) (x : Option ReplicaOf) → n < replica + 1 → slice_get seats n ≡ Some x → t < threads → (n ≡ replica) ⊎ (n ≢ replica) → stands new n t ≡ (stands old n t && seat_stopped t x)
+    by n t x less e few (inl same) =
+        let is : seat ≡ x = some-injective (sym there ∙ ap (slice_get seats) (sym same) ∙ e) in
+        ap (λ (m : ℕ). stands new m t) same ∙ c.settled t few ∙ ap (λ (b : Bool). b && seat_stopped t seat) (h.others replica t (inl (omega arith)))
+        ∙ ap (λ (m : ℕ). stands old m t && seat_stopped t seat) (sym same) ∙ ap (λ (y : Option ReplicaOf). stands old n t && seat_stopped t y) is
+    by n t x less e few (inr other) = c.others n t (inl other) ∙ h.settled n t x (omega arith) e few
+
+    later : (n t : ℕ) → (replica + 1 ≤ n) ⊎ (threads ≤ t) → stands new n t ≡ stands old n t
+    later n t (inl past) = c.others n t (inl (λ (e : n ≡ replica). omega arith)) ∙ h.others n t (inl (omega arith))
+    later n t (inr past) = c.others n t (inr past) ∙ h.others n t (inr past)

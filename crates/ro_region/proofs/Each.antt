@@ -1,7 +1,7 @@
 -- Permission of a stretch is permission of each of its bytes.
-use Rattle.std.specs.Prelude.{◌≡◌, ℕ, zero, suc, ◌+◌, ◌<◌, ◌≤◌, ◌^◌, Bool, true, false, ◌&&◌, List, nat_le}
-use Rattle.std.proofs.Common.{refl, ap, arith, rules, add-zero}
-use Rattle.std.proofs.lemmas.Bool.{and_from, le-leb}
+use Rattle.std.specs.Prelude.{◌≡◌, ℕ, zero, suc, ◌+◌, ◌-◌, ◌<◌, ◌≤◌, ◌^◌, Bool, true, false, ◌&&◌, List, nat_le}
+use Rattle.std.proofs.Common.{refl, sym, ap, ◌∙◌, arith, rules, add-zero, inl, inr}
+use Rattle.std.proofs.lemmas.Bool.{and_from, and_parts, le-leb, cases_lt, cases_Bool, true≢false}
 use Rattle.ro_region.specs.declared.Kind.{Kind}
 use Rattle.ro_region.specs.declared.Range.{Range}
 use Rattle.ro_region.specs.Permission.{permits_byte, permits_each, permits_of}
@@ -43,3 +43,36 @@ le-false m n h = search rules
 pub permits_past : (ranges : List Range) (kind : Kind) (a n : ℕ) → 2 ^ 32 < a + n → permits_of ranges kind a n ≡ false
 unfolding permits_of
 permits_past ranges kind a n h = not_and _ _ (le-false (a + n) (2 ^ 32) h)
+
+earlier : (P : ℕ → Type 0) (a k : ℕ) → P (a + 1 + k) → P (a + suc k)
+earlier P a k h = let e : a + 1 + k ≡ a + suc k = omega arith in rw (← e) h
+
+true-each : (ranges : List Range) (kind : Kind) (a n : ℕ) → permits_each ranges kind a n ≡ true → (k : ℕ) → k < n → permits_byte ranges kind (a + k) ≡ true
+true-each ranges kind a zero h k l = absurd (omega arith)
+true-each ranges kind a (suc n) h zero l = rw add-zero (and_parts _ _ h).0
+true-each ranges kind a (suc n) h (suc k) l =
+    earlier (λ b. permits_byte ranges kind b ≡ true) a k (true-each ranges kind (a + 1) n (and_parts _ _ h).1 k (omega arith))
+
+-- each byte of a stretch that is permitted
+pub each_of : (ranges : List Range) (kind : Kind) (a n : ℕ) → permits_of ranges kind a n ≡ true → (k : ℕ) → k < n → permits_byte ranges kind (a + k) ≡ true
+unfolding permits_of
+each_of ranges kind a n h k l = true-each ranges kind a n (and_parts _ _ h).1 k l
+
+-- a stretch and one that follows it
+pub permits_more : (ranges : List Range) (kind : Kind) (a m n : ℕ) → ((k : ℕ) → k < m → permits_byte ranges kind (a + k) ≡ true) → permits_of ranges kind (a + m) n ≡ true → (k : ℕ) → k < m + n → permits_byte ranges kind (a + k) ≡ true
+permits_more ranges kind a m n before after k l = elim (cases_lt k m) [
+  | inl low ↦ before k low
+  | inr high ↦
+      let e : a + m + (k - m) ≡ a + k = omega arith in
+      ap (permits_byte ranges kind) (sym e) ∙ each_of ranges kind (a + m) n after (k - m) (omega arith)
+]
+
+-- a stretch with a part that is not permitted
+pub part_not : (ranges : List Range) (kind : Kind) (a n m part : ℕ) → m + part ≤ n → a + n ≤ 2 ^ 32 → permits_of ranges kind (a + m) part ≡ false → permits_of ranges kind a n ≡ false
+part_not ranges kind a n m part l room h = elim (cases_Bool (permits_of ranges kind a n)) [
+  | inr refused ↦ refused
+  | inl all ↦
+      absurd (true≢false (sym (permits_all ranges kind (a + m) part (omega arith) (λ k below.
+      let e : a + (m + k) ≡ a + m + k = omega arith in
+      ap (permits_byte ranges kind) (sym e) ∙ each_of ranges kind a n all (m + k) (omega arith))) ∙ h))
+]

@@ -1,10 +1,10 @@
 //! The ranges and their windows together.
-ghost use Rattle.std.specs.Prelude.{◌≡◌, ◌^◌, ◌<◌, IfOk};
+ghost use Rattle.std.specs.Prelude.{◌≡◌, ◌+◌, ◌^◌, ◌<◌, ◌≤◌, true, IsTrue, IfOk};
 ghost use Rattle.ro_region.specs.Permission.{is_mapped, permits_byte, permits_each, permits_of};
 ghost use Rattle.ro_region.specs.Windows.{IsOpen};
 
 use crate::windows::{Window, windows_of};
-use crate::{Kind, Range};
+use crate::{Kind, PAGE_SIZE, Range};
 use std::alloc::{AllocError, Global};
 use std::marker::Model;
 
@@ -53,8 +53,7 @@ impl Regions {
     pub fn permits(&self, address: u32, len: u32, kind: Kind) -> bool
         ensures { result ≡ permits_of self.now kind address len }
     {
-        self.window(address / 4096, kind).holds(address % 4096, len)
-            || self.permits_each_byte(address, len, kind)
+        self.window_holds(address, len, kind) || self.permits_each_page(address, len, kind)
     }
 
     /// Whether a byte lies in a range, whatever that permits.
@@ -77,14 +76,45 @@ impl Regions {
         }
     }
 
+    /// Whether a stretch lies in the window of its first page.
+    #[inline(always)]
+    fn window_holds(&self, address: u32, len: u32, kind: Kind) -> bool
+        ensures { IsTrue result → permits_of self.now kind address len ≡ true }
+    {
+        self.window(address / PAGE_SIZE, kind)
+            .holds(address % PAGE_SIZE, len)
+    }
+
+    /// Judges a stretch page by page.
     #[inline(never)]
     #[cold]
-    #[tactic(auto, using(crate::proofs::Each::permits_all, crate::proofs::Each::permits_not, crate::proofs::Each::permits_past))]
-    fn permits_each_byte(&self, address: u32, len: u32, kind: Kind) -> bool
+    #[tactic(auto, using(crate::proofs::Each::permits_past))]
+    fn permits_each_page(&self, address: u32, len: u32, kind: Kind) -> bool
         ensures { result ≡ permits_of self.now kind address len }
     {
-        if len > 0 && address > u32::MAX - (len - 1) {
+        if u64::from(address) + u64::from(len) > 1 << 32 {
             return false;
+        }
+        let mut done = 0;
+        while done < len {
+            let place = address + done;
+            let count = (len - done).min(PAGE_SIZE - place % PAGE_SIZE);
+            if !self.permits_in_page(place, count, kind) {
+                return false;
+            }
+            done += count;
+        }
+        true
+    }
+
+    /// Judges a stretch in one page: by the page's window, and where that does not hold it, byte by byte.
+    #[tactic(auto, using(crate::proofs::Each::permits_all, crate::proofs::Each::permits_not))]
+    fn permits_in_page(&self, address: u32, len: u32, kind: Kind) -> bool
+        requires { address + len ≤ 2 ^ 32 }
+        ensures { result ≡ permits_of self.now kind address len }
+    {
+        if self.window_holds(address, len, kind) {
+            return true;
         }
         for k in 0..len {
             if !self.permits_byte(address + k, kind) {
@@ -147,6 +177,7 @@ mod tests {
             range(0x1_0024, 6, true, false, false),
             range(0x1_1000, 0x1800, true, true, false),
             range(0x1_2900, 0x10, true, true, false),
+            range(0x2_0000, 0x2C00, true, false, false),
             range(0xFFFF_F000, 0x1000, true, false, false),
             range(0xFFFF_0000, 0xFFFF, false, true, false),
         ];
@@ -175,6 +206,18 @@ mod tests {
             (0xFFFF_FFFE, 1, Kind::Write, true),
             (0xFFFF_FFFF, 1, Kind::Write, false),
             (0x5000_0000, 0, Kind::Read, true),
+            // over three pages, from the middle of one to the middle of another
+            (0x2_0800, 0x2000, Kind::Read, true),
+            (0x2_0FFF, 0x1002, Kind::Read, true),
+            // into a page of which only the beginning is permitted, and into a forbidden one
+            (0x2_0800, 0x2401, Kind::Read, false),
+            (0x2_0800, 0x3000, Kind::Read, false),
+            (0x1_FFFF, 0x1001, Kind::Read, false),
+            (0xFFFF_F800, 0x800, Kind::Read, true),
+            (0xFFFF_EFFF, 0x1001, Kind::Write, false),
+            (0xFFFF_EFFF, 0x1000, Kind::Write, true),
+            (0xFFFF_F800, 0x801, Kind::Read, false),
+            (1, u32::MAX, Kind::Read, false),
         ] {
             assert_eq!(rt;
                 regions.permits(address, len, kind),

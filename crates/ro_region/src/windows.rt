@@ -3,13 +3,15 @@ ghost use Rattle.std.specs.Prelude.{ℕ, ◌≡◌, IsTrue, ◌↔◌, ◌+◌, 
 ghost use Rattle.ro_region.specs.Permission.{allows};
 ghost use Rattle.ro_region.specs.Windows.{IsOpen, AreOpen};
 
-use crate::{Kind, Range};
+use crate::{Kind, PAGE_SIZE, PAGES, Range};
 use std::alloc::{AllocError, Global};
 
 /// The bytes of a page from offset `from` to before offset `to`.
 #[derive(Clone, Copy, Debug)]
 pub struct Window {
+    /// The offset of its first byte.
     pub from: u16,
+    /// The offset behind its last byte.
     pub to: u16,
 }
 
@@ -30,12 +32,13 @@ fn part_of(range: &Range, page: u32) -> Window
     ensures within { result.to ≤ 4096 }
     ensures covered { (k : ℕ) → result.from ≤ k → k < result.to → (range.now.start ≤ 4096 * page + k) × (4096 * page + k < range.now.start + range.now.length) }
 {
-    let first = u64::from(page) * 4096;
+    let first = u64::from(page) * u64::from(PAGE_SIZE);
+    let past = first + u64::from(PAGE_SIZE);
     let start = u64::from(range.start);
     let end = start + u64::from(range.length);
     Window {
-        from: (start.clamp(first, first + 4096) - first) as u16,
-        to: (end.clamp(first, first + 4096) - first) as u16,
+        from: (start.clamp(first, past) - first) as u16,
+        to: (end.clamp(first, past) - first) as u16,
     }
 }
 
@@ -70,8 +73,8 @@ fn open(windows: &mut [Window], ranges: &[Range], i: usize, kind: Kind)
     if !range.allows(kind) {
         return;
     }
-    let end = (u64::from(range.start) + u64::from(range.length)).div_ceil(4096);
-    for page in range.start / 4096..end.min(1_048_576) as u32 {
+    let end = (u64::from(range.start) + u64::from(range.length)).div_ceil(u64::from(PAGE_SIZE));
+    for page in range.start / PAGE_SIZE..end.min(u64::from(PAGES)) as u32 {
         let window = joined(windows[page as usize], part_of(range, page));
         windows[page as usize] = window;
     }
@@ -82,8 +85,8 @@ pub fn windows_of(alloc: Global, ranges: &[Range], kind: Kind) -> Result<Vec<Win
     ensures pages { IfOk result (λ windows. vec_len windows ≡ 1048576) }
     ensures sound { IfOk result (λ windows. AreOpen ranges.now kind windows.items) }
 {
-    let mut windows = Vec::with_capacity(alloc, 1_048_576)?;
-    for _ in 0..1_048_576u32 {
+    let mut windows = Vec::with_capacity(alloc, PAGES as usize)?;
+    for _ in 0..PAGES {
         windows.push(Window { from: 0, to: 0 })?;
     }
     for i in 0..ranges.len() {

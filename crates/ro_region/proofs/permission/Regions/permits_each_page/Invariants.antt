@@ -1,0 +1,12 @@
+use Rattle.std.proofs.Common.{ℕ, ◌≡◌, ◌+◌, ◌-◌, ◌<◌, ◌≤◌, true}
+use Rattle.ro_region.specs.Permission.{permits_byte}
+use Rattle.ro_region.proofs.permission.Regions.permits_each_page.Given as goal
+
+abbrev pub invariant-loop-done : goal.invariant-loop-done
+invariant-loop-done l = record {
+  within : l.done ≤ l.len;
+  permitted : (k : ℕ) → k < l.done → permits_byte l.self l.kind (l.address + k) ≡ true;
+}
+
+abbrev pub decreases-loop-done : goal.decreases-loop-done
+decreases-loop-done l = l.len - l.done

@@ -3,13 +3,10 @@ ghost use Rattle.std.specs.Prelude.{◌≡◌, IfOk, MatchResult, Some, None};
 ghost use Rattle.ro_pages.specs.Bytes.{number_at};
 ghost use Rattle.ro_exec.specs.Next.{call_of, fetch_stop};
 
-use crate::Cpu;
+use crate::{Cpu, EXIT_PLACE};
 use ro_event::{Call, CallTable, Stop, Which};
 use ro_pages::Memory;
 use ro_region::{Kind, Regions};
-
-/// A jump to this place ends the thread.
-const EXIT_PLACE: u32 = 0x7FFF_FFF0;
 
 /// The word at pc, or the stop at which the thread stands before it is read.
 #[tactic(auto, unfolding(crate::specs::Next::fetch_stop))]

@@ -7,10 +7,10 @@ ghost use Rattle.ro_exec.specs.Meaning.{with_value, jumps, goes_to, load_size as
 ghost use Rattle.ro_exec.specs.Next.{Executes, instruction_stop, unless_stop};
 ghost use Rattle.ro_exec.specs.Steps.{IsStep, IsJump};
 
-use crate::Cpu;
 use crate::access::check_access;
 use crate::fetching::call;
 use crate::outcome::Step;
+use crate::{Cpu, traps};
 use ro_alu::{alu, muldiv, taken};
 use ro_decode::{Instr, LoadOp, StoreOp};
 use ro_event::{Stop, Which};
@@ -110,7 +110,7 @@ fn jump(cpu: &mut Cpu, rd: u8, target: u32) -> Step
     ensures { IsJump target result cpu.old cpu.new (jumps cpu.old rd target).cpu }
 {
     if target % 4 != 0 {
-        return Step::Stopped(Stop::Trap(4));
+        return Step::Stopped(Stop::Trap(traps::MISALIGNED_TARGET));
     }
     cpu.set(rd, cpu.pc.wrapping_add(4));
     cpu.pc = target;
@@ -123,10 +123,76 @@ fn branch(cpu: &mut Cpu, target: u32) -> Step
     ensures { IsJump target result cpu.old cpu.new (goes_to cpu.old target).cpu }
 {
     if target % 4 != 0 {
-        return Step::Stopped(Stop::Trap(4));
+        return Step::Stopped(Stop::Trap(traps::MISALIGNED_TARGET));
     }
     cpu.pc = target;
     Step::Did
+}
+
+/// Executes a load, or says at which stop the thread stands at it.
+#[tactic(auto, unfolding(crate::specs::Next::instruction_stop, crate::specs::Meaning::meaning))]
+#[inline(always)]
+fn execute_load<M: Memory>(
+    cpu: &mut Cpu,
+    memory: &M,
+    regions: &Regions,
+    op: LoadOp,
+    rd: u8,
+    rs1: u8,
+    imm: u32,
+) -> Step
+    requires rd { rd < 32 }
+    requires rs1 { rs1 < 32 }
+    ensures { let instr = Instr.Load op rd rs1 imm in IsStep (unless_stop (instruction_stop regions.now (M.backing memory.now) cpu.old instr) (Executes instr)) result cpu.old cpu.new (M.memory memory.now) (M.memory memory.now) }
+{
+    let address = cpu.get(rs1).wrapping_add(imm);
+    match check_access(
+        memory,
+        regions,
+        Kind::Read,
+        address,
+        load_size(op),
+        traps::MISALIGNED_LOAD,
+        traps::LOAD_FORBIDDEN,
+    ) {
+        Ok(()) => give(cpu, rd, load(memory, op, address)),
+        Err(stop) => Step::Stopped(stop),
+    }
+}
+
+/// Executes a store, or says at which stop the thread stands at it.
+#[tactic(auto, unfolding(crate::specs::Next::instruction_stop, crate::specs::Meaning::meaning))]
+#[inline(always)]
+fn execute_store<M: Memory>(
+    cpu: &mut Cpu,
+    memory: &mut M,
+    regions: &Regions,
+    op: StoreOp,
+    rs1: u8,
+    rs2: u8,
+    imm: u32,
+) -> Step
+    requires rs1 { rs1 < 32 }
+    requires rs2 { rs2 < 32 }
+    ensures step { let instr = Instr.Store op rs1 rs2 imm in IsStep (unless_stop (instruction_stop regions.now (M.backing memory.old) cpu.old instr) (Executes instr)) result cpu.old cpu.new (M.memory memory.old) (M.memory memory.new) }
+    ensures pages { M.backing memory.new ≡ M.backing memory.old }
+{
+    let address = cpu.get(rs1).wrapping_add(imm);
+    match check_access(
+        memory,
+        regions,
+        Kind::Write,
+        address,
+        store_size(op),
+        traps::MISALIGNED_STORE,
+        traps::STORE_FORBIDDEN,
+    ) {
+        Ok(()) => {
+            store(memory, op, address, cpu.get(rs2));
+            go_on(cpu)
+        }
+        Err(stop) => Step::Stopped(stop),
+    }
 }
 
 /// Executes an instruction, or says at which stop the thread stands at it.
@@ -156,24 +222,9 @@ pub fn execute<M: Memory>(instr: Instr, cpu: &mut Cpu, memory: &mut M, regions: 
                 branch(cpu, pc.wrapping_add(4))
             }
         }
-        Instr::Load { op, rd, rs1, imm } => {
-            let address = cpu.get(rs1).wrapping_add(imm);
-            let size = load_size(op);
-            match check_access(memory, regions, Kind::Read, address, size, 5, 6) {
-                Ok(()) => give(cpu, rd, load(memory, op, address)),
-                Err(stop) => Step::Stopped(stop),
-            }
-        }
+        Instr::Load { op, rd, rs1, imm } => execute_load(cpu, memory, regions, op, rd, rs1, imm),
         Instr::Store { op, rs1, rs2, imm } => {
-            let address = cpu.get(rs1).wrapping_add(imm);
-            let size = store_size(op);
-            match check_access(memory, regions, Kind::Write, address, size, 7, 8) {
-                Ok(()) => {
-                    store(memory, op, address, cpu.get(rs2));
-                    go_on(cpu)
-                }
-                Err(stop) => Step::Stopped(stop),
-            }
+            execute_store(cpu, memory, regions, op, rs1, rs2, imm)
         }
         Instr::AluImm { op, rd, rs1, imm } => give(cpu, rd, alu(op, cpu.get(rs1), imm)),
         Instr::Alu { op, rd, rs1, rs2 } => give(cpu, rd, alu(op, cpu.get(rs1), cpu.get(rs2))),
@@ -182,6 +233,6 @@ pub fn execute<M: Memory>(instr: Instr, cpu: &mut Cpu, memory: &mut M, regions: 
         }
         Instr::Fence { .. } => go_on(cpu),
         Instr::Ecall => Step::Stopped(call(cpu, Which::System(cpu.get(17)))),
-        Instr::Ebreak => Step::Stopped(Stop::Trap(9)),
+        Instr::Ebreak => Step::Stopped(Stop::Trap(traps::BREAKPOINT)),
     }
 }

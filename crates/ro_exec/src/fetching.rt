@@ -3,7 +3,7 @@ ghost use Rattle.std.specs.Prelude.{◌≡◌, IfOk, MatchResult, Some, None};
 ghost use Rattle.ro_pages.specs.Bytes.{number_at};
 ghost use Rattle.ro_exec.specs.Next.{call_of, fetch_stop};
 
-use crate::{Cpu, EXIT_PLACE};
+use crate::{Cpu, EXIT_PLACE, traps};
 use ro_event::{Call, CallTable, Stop, Which};
 use ro_pages::Memory;
 use ro_region::{Kind, Regions};
@@ -22,7 +22,7 @@ pub fn fetch<M: Memory>(
 {
     let pc = cpu.pc;
     if pc % 4 != 0 {
-        return Err(Stop::Trap(1));
+        return Err(Stop::Trap(traps::MISALIGNED_PC));
     }
     if pc == EXIT_PLACE {
         return Err(call(cpu, Which::Exit));
@@ -31,7 +31,7 @@ pub fn fetch<M: Memory>(
         return Err(call(cpu, which));
     }
     if !regions.permits(pc, 4, Kind::Execute) {
-        return Err(Stop::Trap(2));
+        return Err(Stop::Trap(traps::FETCH_FORBIDDEN));
     }
     if !memory.backed(pc / 4096) {
         return Err(Stop::PageFault(pc / 4096));

@@ -3,10 +3,10 @@ ghost use Rattle.std.specs.Prelude.{◌≡◌};
 ghost use Rattle.ro_exec.specs.Next.{next};
 ghost use Rattle.ro_exec.specs.Steps.{IsStep};
 
-use crate::Cpu;
 use crate::execution::execute;
 use crate::fetching::fetch;
 use crate::outcome::Step;
+use crate::{Cpu, traps};
 use ro_decode::decode;
 use ro_event::{CallTable, Stop};
 use ro_pages::Memory;
@@ -23,7 +23,7 @@ pub fn step<M: Memory>(cpu: &mut Cpu, memory: &mut M, regions: &Regions, calls: 
     match fetch(cpu, memory, regions, calls) {
         Ok(word) => match decode(word) {
             Some(instr) => execute(instr, cpu, memory, regions),
-            None => Step::Stopped(Stop::Trap(3)),
+            None => Step::Stopped(Stop::Trap(traps::ILLEGAL_INSTRUCTION)),
         },
         Err(stop) => Step::Stopped(stop),
     }
@@ -48,6 +48,10 @@ mod tests {
     const UNBACKED: u32 = 0x1_3000;
 
     const CREATE: u32 = 0x1_0800;
+
+    fn trap(number: u8) -> Step {
+        Step::Stopped(Stop::Trap(number))
+    }
 
     fn range(start: u32, write: bool, execute: bool) -> Range {
         Range {
@@ -113,12 +117,12 @@ mod tests {
             (0x0002_9383, DATA, 0, Step::Did, 0x7F01, CODE + 4),
             (0x0002_A383, DATA, 0, Step::Did, 0x80FF_7F01, CODE + 4),
             // lh from an odd address, lw from a forbidden and from an unbacked page
-            (0x0012_9383, DATA, 0, Step::Stopped(Stop::Trap(5)), 7, CODE),
+            (0x0012_9383, DATA, 0, trap(traps::MISALIGNED_LOAD), 7, CODE),
             (
                 0x0002_A383,
                 FORBIDDEN,
                 0,
-                Step::Stopped(Stop::Trap(6)),
+                trap(traps::LOAD_FORBIDDEN),
                 7,
                 CODE,
             ),
@@ -131,8 +135,8 @@ mod tests {
                 CODE,
             ),
             // sw to an address that is no multiple of 4, to the code, and to an unbacked page
-            (0x0062_A123, DATA, 9, Step::Stopped(Stop::Trap(7)), 7, CODE),
-            (0x0062_A023, CODE, 9, Step::Stopped(Stop::Trap(8)), 7, CODE),
+            (0x0062_A123, DATA, 9, trap(traps::MISALIGNED_STORE), 7, CODE),
+            (0x0062_A023, CODE, 9, trap(traps::STORE_FORBIDDEN), 7, CODE),
             (
                 0x0062_A023,
                 UNBACKED,
@@ -143,7 +147,14 @@ mod tests {
             ),
             // jalr to 1(x5), to 2(x5), and with rd = rs1; jal back by 4
             (0x0012_83E7, DATA, 0, Step::Did, CODE + 4, DATA),
-            (0x0022_83E7, DATA, 0, Step::Stopped(Stop::Trap(4)), 7, CODE),
+            (
+                0x0022_83E7,
+                DATA,
+                0,
+                trap(traps::MISALIGNED_TARGET),
+                7,
+                CODE,
+            ),
             (0x0002_82E7, DATA, 0, Step::Did, 7, DATA),
             (0xFFDF_F3EF, 0, 0, Step::Did, CODE + 4, CODE - 4),
             // beq, blt and bltu by 8, and beq by 6
@@ -151,7 +162,7 @@ mod tests {
             (0x0062_8463, 3, 4, Step::Did, 7, CODE + 4),
             (0x0062_C463, 0xFFFF_FFFF, 1, Step::Did, 7, CODE + 8),
             (0x0062_E463, 0xFFFF_FFFF, 1, Step::Did, 7, CODE + 4),
-            (0x0062_8363, 3, 3, Step::Stopped(Stop::Trap(4)), 7, CODE),
+            (0x0062_8363, 3, 3, trap(traps::MISALIGNED_TARGET), 7, CODE),
             (0x0062_8363, 3, 4, Step::Did, 7, CODE + 4),
             // addi to x0, addi -1, sra, auipc, lui, mulhsu, div, fence
             (0x0012_8013, 5, 0, Step::Did, 7, CODE + 4),
@@ -184,9 +195,9 @@ mod tests {
             ),
             (0x0FF0_000F, 0, 0, Step::Did, 7, CODE + 4),
             // ebreak, fence.i and a word of zeros
-            (0x0010_0073, 0, 0, Step::Stopped(Stop::Trap(9)), 7, CODE),
-            (0x0000_100F, 0, 0, Step::Stopped(Stop::Trap(3)), 7, CODE),
-            (0x0000_0000, 0, 0, Step::Stopped(Stop::Trap(3)), 7, CODE),
+            (0x0010_0073, 0, 0, trap(traps::BREAKPOINT), 7, CODE),
+            (0x0000_100F, 0, 0, trap(traps::ILLEGAL_INSTRUCTION), 7, CODE),
+            (0x0000_0000, 0, 0, trap(traps::ILLEGAL_INSTRUCTION), 7, CODE),
         ] {
             put(&rt, &mut pages, CODE, word);
             put(&rt, &mut pages, DATA, 0x80FF_7F01);
@@ -259,11 +270,11 @@ mod tests {
         });
         for (pc, want) in [
             (CODE, call(Which::System(17))),
-            (CODE + 2, Stop::Trap(1)),
+            (CODE + 2, Stop::Trap(traps::MISALIGNED_PC)),
             (0x7FFF_FFF0, call(Which::Exit)),
             (CREATE, call(Which::Create)),
-            (DATA, Stop::Trap(2)),
-            (CODE + 0x1000 - 4, Stop::Trap(3)),
+            (DATA, Stop::Trap(traps::FETCH_FORBIDDEN)),
+            (CODE + 0x1000 - 4, Stop::Trap(traps::ILLEGAL_INSTRUCTION)),
             (UNBACKED, Stop::PageFault(0x13)),
         ] {
             let mut cpu = Cpu {

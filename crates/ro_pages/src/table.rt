@@ -9,10 +9,11 @@ ghost use Rattle.ro_pages.specs.Words.{bytes_in};
 
 use crate::access::Memory;
 use crate::words::{load_from, read_from, store_in, write_to};
+use crate::{PAGE_SIZE, PAGE_WORDS, PAGES};
 use std::alloc::{AllocError, Global};
 use std::marker::Model;
 
-type Page = Box<[u32; 1024]>;
+type Page = Box<[u32; PAGE_WORDS]>;
 
 /// Pages that are backed, by their numbers, and zeroed pages to back more with.
 #[derive(Drop)]
@@ -46,8 +47,8 @@ impl Pages {
         ensures pages { IfOk result (λ m. m.pages ≡ map.empty) }
         ensures spare { IfOk result (λ m. m.spare ≡ 0) }
     {
-        let mut table = Vec::with_capacity(alloc, 1_048_576)?;
-        for _ in 0..1_048_576u32 {
+        let mut table = Vec::with_capacity(alloc, PAGES as usize)?;
+        for _ in 0..PAGES {
             table.push(None)?;
         }
         Ok(Pages {
@@ -140,9 +141,10 @@ impl Pages {
         ensures within { result ≤ length bytes.old }
         ensures read { (i : ℕ) → i < result → slice_index bytes.new i ≡ memory_of self.now.pages (address + i) }
     {
+        let size = PAGE_SIZE as usize;
         let place = address as usize + done;
-        let end = bytes.len().min(done + (4096 - place % 4096));
-        self.read_in_page((place / 4096) as u32, place % 4096, &mut bytes[done..end]);
+        let end = bytes.len().min(done + (size - place % size));
+        self.read_in_page((place / size) as u32, place % size, &mut bytes[done..end]);
         end
     }
 
@@ -166,11 +168,12 @@ impl Pages {
         ensures pages { has_page self.new.pages ≡ has_page self.old.pages }
         ensures spare { self.new.spare ≡ self.old.spare }
     {
+        let size = PAGE_SIZE as usize;
         let mut done = 0;
         while done < bytes.len() {
             let place = address as usize + done;
-            let end = bytes.len().min(done + (4096 - place % 4096));
-            self.write_in_page((place / 4096) as u32, place % 4096, &bytes[done..end]);
+            let end = bytes.len().min(done + (size - place % size));
+            self.write_in_page((place / size) as u32, place % size, &bytes[done..end]);
             done = end;
         }
     }
@@ -187,18 +190,18 @@ impl Pages {
         let Some(page) = &mut self.table[page as usize] else {
             unreachable!()
         };
-        let words: &mut [u32; 1024] = page;
+        let words: &mut [u32; PAGE_WORDS] = page;
         write_to(words, offset, bytes);
     }
 
     #[inline(always)]
-    fn page(&self, page: u32) -> Option<&[u32; 1024]>
+    fn page(&self, page: u32) -> Option<&[u32; PAGE_WORDS]>
         requires { page < 2 ^ 20 }
         ensures { MatchOption result (map.get self.now.pages page ≡ None) (λ words. map.get self.now.pages page ≡ Some (bytes_in words.now)) }
     {
         match &self.table[page as usize] {
             Some(page) => {
-                let words: &[u32; 1024] = page;
+                let words: &[u32; PAGE_WORDS] = page;
                 Some(words)
             }
             None => None,
@@ -219,19 +222,19 @@ impl Memory for Pages {
     #[tactic(auto, using(crate::proofs::PageBytes::number_in_words, crate::proofs::PageBytes::aligned_within))]
     #[inline(always)]
     fn load(&self, address: u32, size: u32) -> u32 {
-        let Some(words) = self.page(address / 4096) else {
+        let Some(words) = self.page(address / PAGE_SIZE) else {
             unreachable!()
         };
-        load_from(words, address % 4096, size)
+        load_from(words, address % PAGE_SIZE, size)
     }
 
     #[inline(always)]
     fn store(&mut self, address: u32, size: u32, value: u32) {
-        let Some(page) = &mut self.table[(address / 4096) as usize] else {
+        let Some(page) = &mut self.table[(address / PAGE_SIZE) as usize] else {
             unreachable!()
         };
-        let words: &mut [u32; 1024] = page;
-        store_in(words, address % 4096, size, value);
+        let words: &mut [u32; PAGE_WORDS] = page;
+        store_in(words, address % PAGE_SIZE, size, value);
     }
 }
 
@@ -239,7 +242,7 @@ impl Memory for Pages {
 fn zero_page(alloc: Global) -> Result<Page, AllocError>
     ensures { IfOk result (λ b. bytes_in b.value ≡ zeros) }
 {
-    Ok(Box::new(alloc, [0u32; 1024])?)
+    Ok(Box::new(alloc, [0u32; PAGE_WORDS])?)
 }
 
 /// Adds a number for which there is a place.

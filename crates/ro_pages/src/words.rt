@@ -3,9 +3,11 @@ ghost use Rattle.std.specs.Prelude.{ℕ, ◌≡◌, ◌+◌, ◌-◌, ◌*◌, �
 ghost use Rattle.ro_pages.specs.Bytes.{IsSize, number_at, bytes_of, stored};
 ghost use Rattle.ro_pages.specs.Words.{byte_of_word, byte_in_words, after_store};
 
+use crate::PAGE_WORDS;
+
 /// The number of so many bytes at an offset.
 #[inline(always)]
-pub fn load_from(words: &[u32; 1024], offset: u32, size: u32) -> u32
+pub fn load_from(words: &[u32; PAGE_WORDS], offset: u32, size: u32) -> u32
     requires size { IsSize size }
     requires within { offset < 4096 }
     requires aligned { offset % size ≡ 0 }
@@ -22,7 +24,7 @@ pub fn load_from(words: &[u32; 1024], offset: u32, size: u32) -> u32
 
 /// Stores so many bytes of a number at an offset.
 #[inline(always)]
-pub fn store_in(words: &mut [u32; 1024], offset: u32, size: u32, value: u32)
+pub fn store_in(words: &mut [u32; PAGE_WORDS], offset: u32, size: u32, value: u32)
     requires size { IsSize size }
     requires within { offset < 4096 }
     requires aligned { offset % size ≡ 0 }
@@ -65,7 +67,7 @@ fn with_half(word: u32, place: u32, half: u32) -> u32
 }
 
 /// Reads the bytes from an offset on.
-pub fn read_from(words: &[u32; 1024], offset: usize, bytes: &mut [u8])
+pub fn read_from(words: &[u32; PAGE_WORDS], offset: usize, bytes: &mut [u8])
     requires { offset + length bytes.old ≤ 4096 }
     ensures { (i : ℕ) → i < length bytes.old → slice_index bytes.new i ≡ byte_in_words words.now (offset + i) }
 {
@@ -77,7 +79,7 @@ pub fn read_from(words: &[u32; 1024], offset: usize, bytes: &mut [u8])
 
 /// Reads a word more where one begins and there is room for it, and else a byte.
 #[inline(always)]
-fn read_more(words: &[u32; 1024], offset: usize, bytes: &mut [u8], done: usize) -> usize
+fn read_more(words: &[u32; PAGE_WORDS], offset: usize, bytes: &mut [u8], done: usize) -> usize
     requires within { offset + length bytes.old ≤ 4096 }
     requires more { done < length bytes.old }
     requires read { (i : ℕ) → i < done → slice_index bytes.old i ≡ byte_in_words words.now (offset + i) }
@@ -116,7 +118,7 @@ fn put_word(bytes: &mut [u8], place: usize, word: u32)
 }
 
 /// Writes bytes from an offset on.
-pub fn write_to(words: &mut [u32; 1024], offset: usize, bytes: &[u8])
+pub fn write_to(words: &mut [u32; PAGE_WORDS], offset: usize, bytes: &[u8])
     requires { offset + length bytes.now ≤ 4096 }
     ensures { byte_in_words words.new ≡ stored (byte_in_words words.old) offset bytes.now }
 {
@@ -128,7 +130,7 @@ pub fn write_to(words: &mut [u32; 1024], offset: usize, bytes: &[u8])
 
 /// Writes a word more where one begins and there are bytes enough, and else a byte.
 #[inline(always)]
-fn write_more(words: &mut [u32; 1024], offset: usize, bytes: &[u8], done: usize) -> usize
+fn write_more(words: &mut [u32; PAGE_WORDS], offset: usize, bytes: &[u8], done: usize) -> usize
     requires within { offset + length bytes.now ≤ 4096 }
     requires more { done < length bytes.now }
     ensures more { done < result }

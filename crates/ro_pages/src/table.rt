@@ -199,13 +199,9 @@ impl Pages {
         requires { page < 2 ^ 20 }
         ensures { MatchOption result (map.get self.now.pages page ≡ None) (λ words. map.get self.now.pages page ≡ Some (bytes_in words.now)) }
     {
-        match &self.table[page as usize] {
-            Some(page) => {
-                let words: &[u32; PAGE_WORDS] = page;
-                Some(words)
-            }
-            None => None,
-        }
+        let page = self.table[page as usize].as_ref()?;
+        let words: &[u32; PAGE_WORDS] = page;
+        Some(words)
     }
 }
 

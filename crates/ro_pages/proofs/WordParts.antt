@@ -1,12 +1,13 @@
 -- The bytes of words, and words of which a part is replaced.
-use Rattle.std.specs.Prelude.{◌≡◌, ◌⊎◌, ℕ, zero, suc, ◌+◌, ◌-◌, ◌*◌, ◌/◌, ◌%◌, ◌^◌, ◌<◌, ◌==◌, cond, List, [], ◌∷◌, length, replicate, slice_index, slice_set}
+use Rattle.std.specs.Prelude.{◌≡◌, ◌⊎◌, ℕ, zero, suc, ◌+◌, ◌-◌, ◌*◌, ◌/◌, ◌%◌, ◌^◌, ◌<◌, ◌≤◌, ◌==◌, ◌&&◌, cond, List, [], ◌∷◌, ◌++◌, length, take, drop, replicate, slice_index, slice_set, nat_le, nat_lt}
+use Rattle.std.specs.Int.{w32, to_le_bytes}
 use Rattle.std.proofs.Common.{refl, sym, ap, ap₂, ◌∙◌, subst, inl, inr, arith}
-use Rattle.std.proofs.lemmas.Bool.{cases_eq}
+use Rattle.std.proofs.lemmas.Bool.{cases_eq, cases_lt}
 use Rattle.ro_pages.specs.Held.{zeros}
 use Rattle.ro_pages.specs.Words.{byte_of_word, byte_in_words, bytes_in, after_store}
 use Rattle.std.proofs.lemmas.Bool.Decides.{nat_tests}
 use Rattle.std.proofs.lemmas.Grind.{get_or-set_at}
-use Rattle.std.proofs.lemmas.List.{get_or-set_other}
+use Rattle.std.proofs.lemmas.List.{get_or-set_other, get_or_append_left, get_or-append_right, get_or-take, get_or-drop, length-take-le}
 
 four : (i : ℕ) → (i % 4 ≡ 0) ⊎ ((i % 4 ≡ 1) ⊎ ((i % 4 ≡ 2) ⊎ (i % 4 ≡ 3)))
 four i = elim (cases_eq (i % 4) 0) [
@@ -116,3 +117,41 @@ half_stored words offset value word i l even h = elim (cases_eq (i / 4) (offset 
       ap (λ w. byte_of_word w i) (get_or-set_other words (offset / 4) (i / 4) word 0 other)
       ∙ half_elsewhere offset value (byte_in_words words i) i other even
 ]
+
+-- a word's bytes as a list
+listed : (word j : ℕ) → j < 4 → slice_index (to_le_bytes w32 word) j ≡ byte_of_word word j
+listed word zero l = omega arith
+listed word (suc zero) l = omega arith
+listed word (suc (suc zero)) l = omega arith
+listed word (suc (suc (suc zero))) l = omega arith
+listed word (suc (suc (suc (suc j)))) l = absurd (omega arith)
+
+tested_before : (a i x y z : ℕ) → i < a → z ≡ y → z ≡ cond (nat_le a i && nat_lt i (a + 4)) x y
+tested_before a i x y z l e = grind (arith, nat_tests)
+
+tested_in : (a i x y z : ℕ) → a ≤ i → i < a + 4 → z ≡ x → z ≡ cond (nat_le a i && nat_lt i (a + 4)) x y
+tested_in a i x y z l h e = grind (arith, nat_tests)
+
+tested_behind : (a i x y z : ℕ) → a + 4 ≤ i → z ≡ y → z ≡ cond (nat_le a i && nat_lt i (a + 4)) x y
+tested_behind a i x y z h e = grind (arith, nat_tests)
+
+-- a word's bytes in place of four of a list
+pub word_put : (bytes four : List ℕ) (a k word i : ℕ) → a + 4 ≤ length bytes → k ≡ 4 → four ≡ to_le_bytes w32 word → slice_index (take a bytes ++ (four ++ drop k (drop a bytes))) i ≡ cond (nat_le a i && nat_lt i (a + 4)) (byte_of_word word (i - a)) (slice_index bytes i)
+word_put bytes four a k word i l e h =
+    let rest = four ++ drop k (drop a bytes) in
+    let front : length (take a bytes) ≡ a = length-take-le a bytes (omega arith) in
+    let size : length four ≡ 4 = ap length h in
+    elim (cases_lt i a) [
+      | inl low ↦ tested_before a i _ _ _ low (get_or_append_left (take a bytes) rest 0 i (omega arith) ∙ get_or-take a bytes i 0 low)
+      | inr high ↦ elim (cases_lt (i - a) 4) [
+        | inl low ↦
+            tested_in a i _ _ _ high (omega arith)
+            (get_or-append_right (take a bytes) rest a i 0 front high ∙ get_or_append_left four (drop k (drop a bytes)) 0 (i - a) (omega arith)
+            ∙ ap (λ xs. slice_index xs (i - a)) h ∙ listed word (i - a) low)
+        | inr past ↦
+            let at : a + (k + (i - a - 4)) ≡ i = omega arith in
+            tested_behind a i _ _ _ (omega arith)
+            (get_or-append_right (take a bytes) rest a i 0 front high ∙ get_or-append_right four (drop k (drop a bytes)) 4 (i - a) 0 size past
+            ∙ get_or-drop k (drop a bytes) (i - a - 4) 0 ∙ get_or-drop a bytes (k + (i - a - 4)) 0 ∙ ap (slice_index bytes) at)
+      ]
+    ]

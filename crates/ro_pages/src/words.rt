@@ -77,7 +77,7 @@ pub fn read_from(words: &[u32; PAGE_WORDS], offset: usize, bytes: &mut [u8])
     }
 }
 
-/// Reads a word more where one begins and there is room for it, and else a byte.
+/// Reads all the whole words that are left where one begins, and else a byte.
 #[inline(always)]
 fn read_more(words: &[u32; PAGE_WORDS], offset: usize, bytes: &mut [u8], done: usize) -> usize
     requires within { offset + length bytes.old ≤ 4096 }
@@ -88,13 +88,28 @@ fn read_more(words: &[u32; PAGE_WORDS], offset: usize, bytes: &mut [u8], done: u
     ensures read { (i : ℕ) → i < result → slice_index bytes.new i ≡ byte_in_words words.now (offset + i) }
 {
     let place = offset + done;
-    let word = words[place / 4];
-    if place % 4 == 0 && bytes.len() - done >= 4 {
-        put_word(bytes, done, word);
-        done + 4
+    let count = (bytes.len() - done) / 4;
+    if place % 4 == 0 && count > 0 {
+        read_words(words, offset, bytes, done, count);
+        done + 4 * count
     } else {
-        bytes[done] = byte_of(word, place);
+        bytes[done] = byte_of(words[place / 4], place);
         done + 1
+    }
+}
+
+/// Reads so many words more, of which the first begins here.
+#[inline(always)]
+fn read_words(words: &[u32; PAGE_WORDS], offset: usize, bytes: &mut [u8], done: usize, count: usize)
+    requires within { offset + length bytes.old ≤ 4096 }
+    requires begins { (offset + done) % 4 ≡ 0 }
+    requires room { done + 4 * count ≤ length bytes.old }
+    requires read { (i : ℕ) → i < done → slice_index bytes.old i ≡ byte_in_words words.now (offset + i) }
+    ensures { (i : ℕ) → i < done + 4 * count → slice_index bytes.new i ≡ byte_in_words words.now (offset + i) }
+{
+    let first = (offset + done) / 4;
+    for k in 0..count {
+        put_word(bytes, done + 4 * k, words[first + k]);
     }
 }
 
@@ -111,10 +126,7 @@ fn put_word(bytes: &mut [u8], place: usize, word: u32)
     requires { place + 4 ≤ length bytes.old }
     ensures { (i : ℕ) → slice_index bytes.new i ≡ (if nat_le place i && nat_lt i (place + 4) then byte_of_word word (i - place) else slice_index bytes.old i) }
 {
-    bytes[place] = (word % 0x100) as u8;
-    bytes[place + 1] = ((word >> 8) % 0x100) as u8;
-    bytes[place + 2] = ((word >> 16) % 0x100) as u8;
-    bytes[place + 3] = (word >> 24) as u8;
+    bytes[place..place + 4].copy_from_slice(&word.to_le_bytes());
 }
 
 /// Writes bytes from an offset on.
@@ -153,8 +165,10 @@ fn word_at(bytes: &[u8], place: usize) -> u32
     requires { place + 4 ≤ length bytes.now }
     ensures { bytes_of 4 result ≡ take 4 (drop place bytes.now) }
 {
-    u32::from(bytes[place])
-        + 0x100 * u32::from(bytes[place + 1])
-        + 0x1_0000 * u32::from(bytes[place + 2])
-        + 0x100_0000 * u32::from(bytes[place + 3])
+    u32::from_le_bytes([
+        bytes[place],
+        bytes[place + 1],
+        bytes[place + 2],
+        bytes[place + 3],
+    ])
 }

@@ -13,6 +13,7 @@ use crate::{PAGE_SIZE, PAGE_WORDS, PAGES};
 use std::alloc::{AllocError, Global};
 use std::marker::Model;
 
+/// The words of a backed page.
 type Page = Box<[u32; PAGE_WORDS]>;
 
 /// Pages that are backed, by their numbers, and zeroed pages to back more with.
@@ -72,12 +73,9 @@ impl Pages {
             if self.spare.len() >= count as usize {
                 break;
             }
-            match add_spare(self.alloc, &mut self.spare) {
-                Ok(()) => {}
-                Err(error) => {
-                    self.spare.truncate(before);
-                    return Err(error);
-                }
+            if let Err(error) = add_spare(self.alloc, &mut self.spare) {
+                self.spare.truncate(before);
+                return Err(error);
             }
         }
         Ok(())
@@ -194,6 +192,7 @@ impl Pages {
         write_to(words, offset, bytes);
     }
 
+    /// The words of a page, if it is backed.
     #[inline(always)]
     fn page(&self, page: u32) -> Option<&[u32; PAGE_WORDS]>
         requires { page < 2 ^ 20 }
@@ -234,6 +233,7 @@ impl Memory for Pages {
     }
 }
 
+/// A page of zeros.
 #[tactic(auto, using(crate::proofs::WordParts::zero_words))]
 fn zero_page(alloc: Global) -> Result<Page, AllocError>
     ensures { IfOk result (λ b. bytes_in b.value ≡ zeros) }
@@ -253,6 +253,7 @@ fn add_number(numbers: &mut Vec<u32>, number: u32)
     }
 }
 
+/// Adds a page of zeros to the spare ones.
 fn add_spare(alloc: Global, spare: &mut Vec<Page>) -> Result<(), AllocError>
     requires { All (λ b. bytes_in b.value ≡ zeros) spare.old.items }
     ensures zeroed { All (λ b. bytes_in b.value ≡ zeros) spare.new.items }
@@ -263,6 +264,7 @@ fn add_spare(alloc: Global, spare: &mut Vec<Page>) -> Result<(), AllocError>
     Ok(())
 }
 
+/// Takes over the bytes of a page, if it is backed.
 fn copy_place(mine: &mut Option<Page>, theirs: &Option<Page>)
     requires { is_some mine.old ≡ is_some theirs.now }
     ensures { option_map (λ b. bytes_in b.value) mine.new ≡ option_map (λ b. bytes_in b.value) theirs.now }

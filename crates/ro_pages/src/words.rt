@@ -113,6 +113,7 @@ fn read_words(words: &[u32; PAGE_WORDS], offset: usize, bytes: &mut [u8], done: 
     }
 }
 
+/// The byte of a word at a place, whose lowest two bits say which.
 #[inline(always)]
 fn byte_of(word: u32, place: usize) -> u8
     ensures { result ≡ byte_of_word word place }

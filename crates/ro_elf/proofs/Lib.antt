@@ -2,3 +2,4 @@ pub mod Tails
 pub mod Rows
 pub mod Checking
 pub mod Loading
+pub mod Flags

@@ -2,7 +2,9 @@
 ghost use Rattle.std.specs.Prelude.{◌≡◌, IfOk, IfErr, Some, None, All, AllPairs, length};
 ghost use Rattle.ro_elf.specs.Elf.{bad_headers, elf_of, IsLoaded, SharesNone};
 
-use crate::header::{MOST_PROGRAM_HEADERS, SectionTable, bad_header, section_table};
+use crate::header::{
+    E_ENTRY, E_PHNUM, E_PHOFF, MOST_PROGRAM_HEADERS, SectionTable, bad_header, section_table,
+};
 use crate::numbers::{half_at, word_at};
 use crate::segments::{Segment, bad_segments, headers_at, segments_in};
 use arrayvec::ArrayVec;
@@ -75,11 +77,11 @@ pub fn read_elf(bytes: &[u8]) -> Result<Elf, BadExe>
     }
     let headers = headers_at(
         bytes,
-        word_at(bytes, 28) as usize,
-        half_at(bytes, 44) as usize,
+        word_at(bytes, E_PHOFF) as usize,
+        half_at(bytes, E_PHNUM) as usize,
     );
     let segments = segments_in(headers.as_slice());
-    let entry = word_at(bytes, 24);
+    let entry = word_at(bytes, E_ENTRY);
     match bad_segments(
         bytes.len() as u64,
         entry,

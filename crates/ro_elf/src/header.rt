@@ -14,7 +14,50 @@ pub(crate) const PROGRAM_HEADER_SIZE: usize = 32;
 /// How many program headers a file may have.
 pub(crate) const MOST_PROGRAM_HEADERS: usize = 32;
 
-const MAGIC: [u8; 4] = [0x7F, 0x45, 0x4C, 0x46];
+const MAGIC: [u8; 4] = [0x7F, b'E', b'L', b'F'];
+
+// Where the fields of the header stand, by their names in ELF32.
+const EI_CLASS: usize = 4;
+
+const EI_DATA: usize = 5;
+
+const EI_VERSION: usize = 6;
+
+const E_TYPE: usize = 16;
+
+const E_MACHINE: usize = 18;
+
+const E_VERSION: usize = 20;
+
+pub(crate) const E_ENTRY: usize = 24;
+
+pub(crate) const E_PHOFF: usize = 28;
+
+const E_SHOFF: usize = 32;
+
+const E_FLAGS: usize = 36;
+
+const E_PHENTSIZE: usize = 42;
+
+pub(crate) const E_PHNUM: usize = 44;
+
+const E_SHENTSIZE: usize = 46;
+
+const E_SHNUM: usize = 48;
+
+// The values that are accepted.
+const ELFCLASS32: u8 = 1;
+
+const ELFDATA2LSB: u8 = 1;
+
+const EV_CURRENT: u8 = 1;
+
+const ET_EXEC: u16 = 2;
+
+const EM_RISCV: u16 = 243;
+
+/// The flags of compressed code (1), of hard floats (2 and 4) and of RV32E (8) (RISC-V psABI).
+const REFUSED_FLAGS: u32 = 0xF;
 
 /// Where the section headers of a file stand: their offset in the file and the size of each in bytes, and how many
 /// there are. None of it is checked.
@@ -31,9 +74,9 @@ pub(crate) fn section_table(bytes: &[u8]) -> SectionTable
     ensures { result ≡ section_table_of bytes.now }
 {
     SectionTable {
-        offset: word_at(bytes, 32),
-        entry_size: half_at(bytes, 46),
-        count: half_at(bytes, 48),
+        offset: word_at(bytes, E_SHOFF),
+        entry_size: half_at(bytes, E_SHENTSIZE),
+        count: half_at(bytes, E_SHNUM),
     }
 }
 
@@ -46,17 +89,17 @@ pub(crate) fn bad_header(bytes: &[u8]) -> Option<u8>
         Some(1)
     } else if !bytes.starts_with(&MAGIC) {
         Some(2)
-    } else if bytes[4] != 1 {
+    } else if bytes[EI_CLASS] != ELFCLASS32 {
         Some(3)
-    } else if bytes[5] != 1 {
+    } else if bytes[EI_DATA] != ELFDATA2LSB {
         Some(4)
     } else if !has_version_one(bytes) {
         Some(5)
-    } else if half_at(bytes, 16) != 2 {
+    } else if half_at(bytes, E_TYPE) != ET_EXEC {
         Some(6)
-    } else if half_at(bytes, 18) != 243 {
+    } else if half_at(bytes, E_MACHINE) != EM_RISCV {
         Some(7)
-    } else if word_at(bytes, 36) & 0xF != 0 {
+    } else if word_at(bytes, E_FLAGS) & REFUSED_FLAGS != 0 {
         Some(8)
     } else if !has_program_headers(bytes) {
         Some(9)
@@ -72,7 +115,7 @@ fn has_version_one(bytes: &[u8]) -> bool
     requires { 52 ≤ length bytes.now }
     ensures { result ≡ version_one bytes.now }
 {
-    bytes[6] == 1 && word_at(bytes, 20) == 1
+    bytes[EI_VERSION] == EV_CURRENT && word_at(bytes, E_VERSION) == u32::from(EV_CURRENT)
 }
 
 // Whether the program headers have their size, and 1 to 32 are there.
@@ -80,8 +123,10 @@ fn has_program_headers(bytes: &[u8]) -> bool
     requires { 52 ≤ length bytes.now }
     ensures { result ≡ has_header_sizes bytes.now }
 {
-    let count = half_at(bytes, 44);
-    half_at(bytes, 42) == 32 && count >= 1 && count <= 32
+    let count = half_at(bytes, E_PHNUM) as usize;
+    half_at(bytes, E_PHENTSIZE) as usize == PROGRAM_HEADER_SIZE
+        && count >= 1
+        && count <= MOST_PROGRAM_HEADERS
 }
 
 // Whether the program headers lie in the file.
@@ -89,6 +134,6 @@ fn holds_program_headers(bytes: &[u8]) -> bool
     requires { 52 ≤ length bytes.now }
     ensures { result ≡ holds_headers bytes.now }
 {
-    let size = PROGRAM_HEADER_SIZE * half_at(bytes, 44) as usize;
-    word_at(bytes, 28) as usize + size <= bytes.len()
+    let size = PROGRAM_HEADER_SIZE * half_at(bytes, E_PHNUM) as usize;
+    word_at(bytes, E_PHOFF) as usize + size <= bytes.len()
 }

@@ -16,6 +16,35 @@ const HIGHEST: u64 = 0x4000_0000;
 /// How many bytes of memory a program's segments may take.
 const MOST_BYTES: u64 = 4_194_304;
 
+// Where the fields of a program header stand, by their names in ELF32.
+const P_OFFSET: usize = 4;
+
+const P_VADDR: usize = 8;
+
+const P_FILESZ: usize = 16;
+
+const P_MEMSZ: usize = 20;
+
+const P_FLAGS: usize = 24;
+
+// The types of program headers that are looked at.
+const PT_LOAD: u32 = 1;
+
+const PT_DYNAMIC: u32 = 2;
+
+const PT_INTERP: u32 = 3;
+
+const PT_TLS: u32 = 7;
+
+/// A segment's bytes may be executed.
+const PF_X: u32 = 1;
+
+/// A segment's bytes may be written.
+const PF_W: u32 = 2;
+
+/// A segment's bytes may be read.
+const PF_R: u32 = 4;
+
 /// A program header: its type, where its bytes stand in the file and how many there are, where they go in memory and how
 /// many bytes they take there, and its flags.
 #[derive(Clone, Copy, PartialEq, Eq, Debug, Default)]
@@ -33,14 +62,14 @@ impl ProgramHeader {
     fn has_static_type(&self) -> bool
         ensures { result ≡ is_static self.now }
     {
-        !matches!(self.kind, 2 | 3 | 7)
+        !matches!(self.kind, PT_DYNAMIC | PT_INTERP | PT_TLS)
     }
 
     // Whether it loads a segment.
     fn loads(&self) -> bool
         ensures { result ≡ is_load self.now }
     {
-        self.kind == 1
+        self.kind == PT_LOAD
     }
 
     // Whether the bytes that it loads lie in a file of so many bytes, and in its memory.
@@ -103,24 +132,26 @@ impl Segment {
     ghost use Rattle.ro_elf.specs.Segments.{is_readable as readable, is_writable as writable, is_executable as executable};
 
     /// Whether its bytes may be read.
+    #[tactic(auto, using(crate::proofs::Flags::flag_4))]
     pub fn is_readable(&self) -> bool
         ensures { result ≡ readable self.now }
     {
-        (self.flags >> 2) & 1 == 1
+        self.flags & PF_R == PF_R
     }
 
     /// Whether its bytes may be written.
+    #[tactic(auto, using(crate::proofs::Flags::flag_2))]
     pub fn is_writable(&self) -> bool
         ensures { result ≡ writable self.now }
     {
-        (self.flags >> 1) & 1 == 1
+        self.flags & PF_W == PF_W
     }
 
     /// Whether its bytes may be executed.
     pub fn is_executable(&self) -> bool
         ensures { result ≡ executable self.now }
     {
-        self.flags & 1 == 1
+        self.flags & PF_X == PF_X
     }
 
     // The first address behind it.
@@ -167,11 +198,11 @@ fn header_at(bytes: &[u8], offset: usize) -> ProgramHeader
 {
     ProgramHeader {
         kind: word_at(bytes, offset),
-        offset: word_at(bytes, offset + 4),
-        address: word_at(bytes, offset + 8),
-        file_size: word_at(bytes, offset + 16),
-        memory_size: word_at(bytes, offset + 20),
-        flags: word_at(bytes, offset + 24),
+        offset: word_at(bytes, offset + P_OFFSET),
+        address: word_at(bytes, offset + P_VADDR),
+        file_size: word_at(bytes, offset + P_FILESZ),
+        memory_size: word_at(bytes, offset + P_MEMSZ),
+        flags: word_at(bytes, offset + P_FLAGS),
     }
 }
 

@@ -10,6 +10,20 @@ const HEADER_SIZE: usize = 40;
 /// The size of a symbol, in bytes.
 pub(crate) const SYMBOL_SIZE: usize = 16;
 
+// Where the fields of a section header stand, by their names in ELF32.
+const SH_TYPE: usize = 4;
+
+const SH_OFFSET: usize = 16;
+
+const SH_SIZE: usize = 20;
+
+const SH_LINK: usize = 24;
+
+// The types of sections that are looked at.
+const SHT_SYMTAB: u32 = 2;
+
+const SHT_STRTAB: u32 = 3;
+
 const BAD_SYMBOLS: BadExe = BadExe { code: 16 };
 
 /// A section header: its type, where its bytes stand in the file and how many there are, and the number of the section
@@ -36,23 +50,23 @@ impl Section {
         ensures { result ≡ section_in header.now }
     {
         Section {
-            kind: word_at(header, 4),
-            offset: word_at(header, 16),
-            size: word_at(header, 20),
-            link: word_at(header, 24),
+            kind: word_at(header, SH_TYPE),
+            offset: word_at(header, SH_OFFSET),
+            size: word_at(header, SH_SIZE),
+            link: word_at(header, SH_LINK),
         }
     }
 
     fn has_symbols(&self) -> bool
         ensures { result ≡ is_symbol_table self.now }
     {
-        self.kind == 2
+        self.kind == SHT_SYMTAB
     }
 
     fn has_strings(&self) -> bool
         ensures { result ≡ is_strings self.now }
     {
-        self.kind == 3
+        self.kind == SHT_STRTAB
     }
 
     // Whether its bytes lie in the file.

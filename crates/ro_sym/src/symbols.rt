@@ -6,6 +6,21 @@ ghost use Rattle.ro_sym.specs.Symbols.{symbol_in, is_function, is_ended, is_belo
 use crate::sections::SYMBOL_SIZE;
 use ro_elf::{half_at, word_at};
 
+// Where the fields of a symbol stand, by their names in ELF32.
+const ST_NAME: usize = 0;
+
+const ST_VALUE: usize = 4;
+
+const ST_INFO: usize = 12;
+
+const ST_SHNDX: usize = 14;
+
+/// The type of a function.
+const STT_FUNC: u8 = 2;
+
+/// The section of a symbol that is defined in no section.
+const SHN_UNDEF: u16 = 0;
+
 /// A symbol: the place of its name among the strings, its value, its type in the low four bits of `info`, and the number of
 /// the section that it is defined in, or 0.
 #[derive(Clone, Copy, PartialEq, Eq, Debug)]
@@ -31,10 +46,10 @@ impl Symbol {
         ensures { result ≡ symbol_in entry.now }
     {
         Symbol {
-            name: word_at(entry, 0),
-            value: word_at(entry, 4),
-            info: entry[12],
-            section: half_at(entry, 14),
+            name: word_at(entry, ST_NAME),
+            value: word_at(entry, ST_VALUE),
+            info: entry[ST_INFO],
+            section: half_at(entry, ST_SHNDX),
         }
     }
 
@@ -42,7 +57,7 @@ impl Symbol {
     fn is_defined_function(&self) -> bool
         ensures { result ≡ is_function self.now }
     {
-        self.info % 16 == 2 && self.section != 0
+        self.info % 16 == STT_FUNC && self.section != SHN_UNDEF
     }
 
     // Whether its name starts below a place, where it is a function.

@@ -27,13 +27,12 @@ fn value_from(number: u64, word: &[u8]) -> Option<u64>
 {
     match word {
         [] => Some(number),
-        [digit, digits @ ..] => match number.checked_mul(10) {
-            Some(tens) => match tens.checked_add(u64::from(*digit - b'0')) {
-                Some(next) => value_from(next, digits),
-                None => None,
-            },
-            None => None,
-        },
+        [digit, digits @ ..] => {
+            let next = number
+                .checked_mul(10)?
+                .checked_add(u64::from(*digit - b'0'))?;
+            value_from(next, digits)
+        }
     }
 }
 

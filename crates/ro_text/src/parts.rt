@@ -23,10 +23,8 @@ fn cut_at(bytes: &[u8], separator: u8) -> Option<(&[u8], &[u8])>
     ensures less { IfSome result (λ found. length found.1.now < length bytes.now) }
     ensures none { IfNone result (slice_split (λ b. b == separator) bytes.now ≡ bytes.now ∷ []) }
 {
-    match place_of(bytes, separator) {
-        Some(place) => Some((&bytes[..place], &bytes[place + 1..])),
-        None => None,
-    }
+    let place = place_of(bytes, separator)?;
+    Some((&bytes[..place], &bytes[place + 1..]))
 }
 
 fn place_of(bytes: &[u8], value: u8) -> Option<usize>

@@ -91,10 +91,7 @@ fn read_fields(
     if !is_number(replica) || !is_number(thread) || !is_number(at) {
         return Err(FaultsCode::Form);
     }
-    match read_target(target) {
-        Err(code) => Err(code),
-        Ok(target) => with_target(replica, thread, at, target, replicas),
-    }
+    with_target(replica, thread, at, read_target(target)?, replicas)
 }
 
 // The fault of these numbers and of a target in its ranges.

@@ -188,8 +188,7 @@ fn free_entry(thread: &[u8]) -> Result<Entry, JournalCode>
 fn read_end(fields: &[&[u8]]) -> Result<Entry, JournalCode>
     ensures { result ≡ ranged is_entry (end_of (map (λ word. word.now) fields.now)) }
 {
-    match read_how(fields) {
-        Ok(how) => Ok(Entry::End { how }),
-        Err(code) => Err(code),
-    }
+    Ok(Entry::End {
+        how: read_how(fields)?,
+    })
 }

@@ -16,8 +16,11 @@ pub enum Goes {
 /// A thread that a call makes.
 #[derive(Clone, Copy, PartialEq, Eq, Debug)]
 pub struct Made {
+    /// The address of its first instruction.
     pub start: u32,
+    /// Its a0.
     pub argument: u32,
+    /// The number of the thread whose gp it takes.
     pub creator: u32,
 }
 

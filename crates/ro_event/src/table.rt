@@ -70,10 +70,7 @@ impl CallTable {
 fn stands_at(address: Option<u32>, pc: u32) -> bool
     ensures { result ≡ is_at pc address }
 {
-    match address {
-        Some(address) => address == pc,
-        None => false,
-    }
+    address == Some(pc)
 }
 
 /// The function of a place in the table.

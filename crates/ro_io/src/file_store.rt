@@ -25,6 +25,7 @@ impl<'a, R: Files> Model for FileStore<'a, R> {
 }
 
 impl<'a, R: Files> FileStore<'a, R> {
+    /// A store that has not failed yet.
     pub fn new(rt: &'a R) -> FileStore<'a, R>
         ensures { result ≡ 0 }
     {

@@ -24,6 +24,7 @@ impl<W: Write> Model for OutSink<W> {
 }
 
 impl<W: Write> OutSink<W> {
+    /// A sink over this stream that has not failed yet.
     pub fn new(stream: W) -> OutSink<W>
         ensures { result ≡ (stream, 0) }
     {

@@ -7,7 +7,9 @@ use std::alloc::Global;
 /// Why a file did not come.
 #[derive(Clone, Copy, Debug, PartialEq, Eq)]
 pub enum FetchError {
+    /// There is no such file, or it can't be read.
     Failed,
+    /// There was no memory for the bytes.
     NoMemory,
 }
 

@@ -8,7 +8,7 @@ pub const EPERM: u32 = 1;
 /// There is no such thread.
 pub const ESRCH: u32 = 3;
 
-/// There is no such file.
+/// The descriptor is not one that is open for this.
 pub const EBADF: u32 = 9;
 
 /// There is no place for another thread or mutex.
@@ -20,7 +20,7 @@ pub const EFAULT: u32 = 14;
 /// The mutex is held.
 pub const EBUSY: u32 = 16;
 
-/// An argument is not one that is known.
+/// An argument is not valid.
 pub const EINVAL: u32 = 22;
 
 /// The caller would wait for itself.

@@ -12,22 +12,30 @@ use ro_journal::How;
 use ro_region::Kind;
 use std::alloc::AllocError;
 
-/// The numbers of the calls, those of Linux's generic table.
+// The calls have the numbers of Linux's generic table.
+
+/// The number of `read`.
 const READ: u32 = 63;
 
+/// The number of `write`.
 pub const WRITE: u32 = 64;
 
+/// The number of `exit`.
 const EXIT: u32 = 93;
 
+/// The number of `exit_group`, which does what `exit` does.
 const EXIT_GROUP: u32 = 94;
 
+/// The number of `brk`.
 const BRK: u32 = 214;
 
-/// The files that are open.
+/// The descriptor of the input.
 const STDIN: u32 = 0;
 
+/// The first descriptor of the output.
 const STDOUT: u32 = 1;
 
+/// The second descriptor of the output.
 const STDERR: u32 = 2;
 
 /// How many bytes one call moves at most.

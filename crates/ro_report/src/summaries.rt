@@ -1,9 +1,9 @@
 //! The summary of a run's journal.
 ghost use Rattle.std.specs.Prelude.{◌≡◌, ◌+◌, ◌^◌, ◌<◌, ◌≤◌, ◌++◌, length, decimal};
-ghost use Rattle.ro_journal.specs.Plan.{entry_plan, event_steps};
+ghost use Rattle.ro_journal.specs.Plan.{entry_plan};
 ghost use Rattle.ro_report.specs.Report.{is_vote, is_copy, hits_of, votes_in, copies_in, struck_in, steps_in, summary_text};
 
-use ro_journal::{Did, Entry};
+use ro_journal::Entry;
 use ro_text::{Line, ROOM, Text};
 
 /// The line that sums a journal up: its votes, the copies that followed them, the faults that were struck, the
@@ -83,18 +83,8 @@ fn entry_steps(entry: &Entry) -> u64
     ensures { result ≡ length (entry_plan entry.now) }
 {
     match *entry {
-        Entry::Vote { count, did, .. } => u64::from(count) + event_steps(did),
+        Entry::Vote { count, did, .. } => u64::from(count) + did.steps(),
         Entry::Free { .. } => 1,
         _ => 0,
-    }
-}
-
-// The step of the event itself: a call that is served, or a trap that is taken.
-fn event_steps(did: Did) -> u64
-    ensures { result ≡ event_steps did }
-{
-    match did {
-        Did::Served | Did::Trapped => 1,
-        Did::Blocked | Did::Mapped | Did::Watch => 0,
     }
 }

@@ -16,7 +16,7 @@ use Rattle.ro_words.specs.Uses.{Text, Use, is_argument, is_once, is_used, option
 use Rattle.ro_words.proofs.Names.{IsValued, flagged, known, takes_one, unmet}
 use Rattle.ro_words.proofs.Once.{differ_twice, or_true, same_twice, twice, used-append}
 
-some_same : {X : Type 0} (x y : X) → ◌≡◌ {A = Option X} (Some x) (Some y) → x ≡ y
+pub some_same : {X : Type 0} (x y : X) → ◌≡◌ {A = Option X} (Some x) (Some y) → x ≡ y
 some_same x y e = cc
 
 pub usual : (program exe : Text) → is_argument exe ≡ true → command_of (program ∷ codes "run" ∷ exe ∷ []) ≡ Some (usual_run exe)
@@ -26,7 +26,7 @@ pub ruleset usual_law = (usual)
 
 -- ---- ranges
 
-from_number : (usual least most n : ℕ) (given : Option Text) → IsFrom least most usual → number_or usual least most given ≡ Some n → IsFrom least most n
+pub from_number : (usual least most n : ℕ) (given : Option Text) → IsFrom least most usual → number_or usual least most given ≡ Some n → IsFrom least most n
 from_number usual least most n None fits is = let same : usual ≡ n = cc in subst (λ (x : ℕ). IsFrom least most x) same fits
 from_number usual least most n (Some text) fits is = elim (cases_Bool (is_unsigned_in least most text)) [
   | inl accepted ↦
@@ -38,7 +38,7 @@ from_number usual least most n (Some text) fits is = elim (cases_Bool (is_unsign
 ]
 
 -- settings are made of five numbers
-made_of : (a b c d e : Option ℕ) (s : Settings) → settings_from a b c d e ≡ Some s
+pub made_of : (a b c d e : Option ℕ) (s : Settings) → settings_from a b c d e ≡ Some s
     → (a ≡ Some s.replicas) × (b ≡ Some s.drivers) × (c ≡ Some s.watchdog) × (d ≡ Some s.quantum) × (e ≡ Some s.limit)
 made_of (Some a) (Some b) (Some c) (Some d) (Some e) s is =
     let same : record { replicas = a; drivers = b; watchdog = c; quantum = d; limit = e } ≡ s = some_same _ s is in (
@@ -54,7 +54,7 @@ made_of (Some a) (Some b) None d e s is = cc
 made_of (Some a) (Some b) (Some c) None e s is = cc
 made_of (Some a) (Some b) (Some c) (Some d) None s is = cc
 
-settings_fit : (given : Text → Option Text) (s : Settings) → settings_of given ≡ Some s → InRange s
+pub settings_fit : (given : Text → Option Text) (s : Settings) → settings_of given ≡ Some s → InRange s
 settings_fit given s is =
     let parts = made_of _ _ _ _ _ s is in
     record {

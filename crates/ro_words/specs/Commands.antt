@@ -1,5 +1,5 @@
 -- The command that words spell: `run EXE` with its options anywhere behind `run`, each at most once.
-use Rattle.std.specs.Prelude.{ℕ, Bool, false, List, ◌∷◌, Option, Some, None, codes}
+use Rattle.std.specs.Prelude.{ℕ, ◌-◌, ◌^◌, Bool, false, List, ◌∷◌, Option, Some, None, codes}
 use Rattle.std.specs.Prelude.{if◌then◌else◌, option_and_then, option_map}
 use Rattle.std.specs.Str.{bytes_eq}
 use Rattle.std.specs.Str.Parse.{digits_value, without_leading_plus}
@@ -45,6 +45,15 @@ settings_of given = settings_from
     (number_or default_settings.watchdog 100 1000000 (given (codes "watchdog")))
     (number_or default_settings.quantum 1 65536 (given (codes "quantum")))
     (number_or default_settings.limit 1 1000000000000 (given (codes "limit")))
+
+-- the settings of these texts where each number is one that the code holds, whatever its range
+abbrev pub unranged : (Text → Option Text) → Option Settings
+unranged given = settings_from
+    (number_or default_settings.replicas 0 (2 ^ 32 - 1) (given (codes "replicas")))
+    (number_or default_settings.drivers 0 (2 ^ 32 - 1) (given (codes "drivers")))
+    (number_or default_settings.watchdog 0 (2 ^ 32 - 1) (given (codes "watchdog")))
+    (number_or default_settings.quantum 0 (2 ^ 32 - 1) (given (codes "quantum")))
+    (number_or default_settings.limit 0 (2 ^ 64 - 1) (given (codes "limit")))
 
 -- ---- commands
 

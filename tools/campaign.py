@@ -113,7 +113,23 @@ def areas_of(exe):
 
 def build(arguments):
     """Words that are no command are answered at once, and the program is built then if it wasn't."""
-    subprocess.run([arguments.romain, "run"], stdin=subprocess.DEVNULL, capture_output=True)
+    try:
+        done = subprocess.run([arguments.romain, "run"], stdin=subprocess.DEVNULL, capture_output=True)
+    except OSError as error:
+        sys.exit(f"campaign: failed, nothing was run: {error}")
+    if done.returncode != 249:
+        print(done.stderr.decode(errors="replace"), end="", file=sys.stderr)
+        sys.exit(f"campaign: failed, nothing was run: {arguments.romain} run ends with status {done.returncode}, not 249")
+
+
+def names_of(arguments):
+    """The guests that are asked for, or all."""
+    known = sorted(file.stem for file in (ROOT / "guests/expected").glob("*.status"))
+    names = [name for name in arguments.guests.split(",") if name]
+    unknown = [name for name in names if name not in known]
+    if unknown:
+        sys.exit(f"campaign: failed, nothing was run: no guest {', '.join(unknown)} among {', '.join(known)}")
+    return names or known
 
 
 def call(arguments, words):
@@ -143,7 +159,7 @@ def open_guest(arguments, name):
 
 def draw_register(draw):
     register = draw.randrange(1, 32)
-    groups = {1: "ra", 2: "sp", 3: "gp, tp", 4: "gp, tp", 8: "s0 to s11", 9: "s0 to s11"}
+    groups = {1: "ra", 2: "sp", 3: "gp, tp", 4: "gp, tp"}
     if 5 <= register <= 7 or register >= 28:
         place = "t0 to t6"
     elif 10 <= register <= 17:
@@ -314,9 +330,8 @@ def read_arguments():
 
 def main():
     arguments = read_arguments()
+    names = names_of(arguments)
     build(arguments)
-    names = [name for name in arguments.guests.split(",") if name]
-    names = names or sorted(file.stem for file in (ROOT / "guests/expected").glob("*.status"))
     guests = [open_guest(arguments, name) for name in names]
     with concurrent.futures.ThreadPoolExecutor(arguments.jobs) as pool:
         results = [run_guest(arguments, guest, pool) for guest in guests]

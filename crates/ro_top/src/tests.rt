@@ -1,21 +1,27 @@
 //! Rows: a command over a store and sinks in memory, and what it comes to.
 use super::*;
+use ro_event::{Call, Stop, Which};
 use ro_io::{Act, MemSink, MemStore};
+use ro_journal::{Entry, How};
 use ro_make::image_bytes;
 use std::alloc::Global;
+use std::process::Abort;
 use std::test::Fail;
 
-// How many views are kept.
+// The views that are kept, by what each has in a0 at its exit.
 #[test]
 fn kept_views(rt: HostRuntime) -> Result<(), Fail> {
-    let cases: [(&[&str], usize); 3] = [
-        (&["run", "seven"], 0),
-        (&["run", "seven", "--faults", "one", "--replicas", "2"], 2),
-        (&["run", "seven", "--faults", "unlike"], 3),
+    let cases: [(&[&str], &[u32]); 3] = [
+        (&["run", "seven"], &[]),
+        (
+            &["run", "seven", "--faults", "one", "--replicas", "2"],
+            &[7, 6],
+        ),
+        (&["run", "seven", "--faults", "unlike"], &[6, 5, 7]),
     ];
-    for (command, count) in cases {
+    for (command, statuses) in cases {
         let words = words_of(rt.alloc(), command)?;
-        let mut store = store(rt.alloc())?;
+        let mut store = store(&rt, rt.alloc())?;
         let mut report = sink(rt.alloc(), &[])?;
         let out = sink(rt.alloc(), &[])?;
         let done = romain(
@@ -26,15 +32,32 @@ fn kept_views(rt: HostRuntime) -> Result<(), Fail> {
             out,
             &mut report,
         );
-        assert_eq!(rt; done.views.len(), count, "of {command:?}");
+        assert_eq!(rt; done.views.len(), statuses.len(), "of {command:?}");
+        for (view, status) in done.views.iter().zip(statuses) {
+            assert_eq!(rt; view.registers()[9], *status, "of {command:?}");
+            assert_eq!(rt; *view.stop(), exit_call(*status), "of {command:?}");
+        }
     }
     Ok(())
+}
+
+// The stop of a thread that is to exit with this status.
+fn exit_call(status: u32) -> Stop {
+    Stop::Calls(Call {
+        which: Which::System(93),
+        a0: status,
+        a1: 0,
+        a2: 0,
+        a3: 0,
+    })
 }
 
 /// The acts of a sink, and what the command comes to.
 struct Failing {
     out: &'static [Act],
     report: &'static [Act],
+    answer: Answer,
+    end: How,
     status: u8,
     told: Told,
     held: &'static str,
@@ -45,14 +68,45 @@ const FAILING: &[Failing] = &[
     Failing {
         out: &[Act::Take(2), Act::Fail],
         report: &[],
+        answer: Answer::SinkFailed { taken: 2 },
+        end: How::Sink(2),
         status: 245,
         told: Told::Whole,
         held: "he",
         reported: "votes 1 copies 0 struck 0 steps 6 bytes 2\nanswer sink 2\n",
     },
+    // It takes one write in two pieces, and fails at the third.
+    Failing {
+        out: &[Act::Take(2), Act::Take(1), Act::Fail],
+        report: &[],
+        answer: Answer::SinkFailed { taken: 3 },
+        end: How::Sink(3),
+        status: 245,
+        told: Told::Whole,
+        held: "hel",
+        reported: "votes 1 copies 0 struck 0 steps 6 bytes 3\nanswer sink 3\n",
+    },
+    Failing {
+        out: &[
+            Act::Take(1),
+            Act::Take(1),
+            Act::Take(1),
+            Act::Take(1),
+            Act::Take(1),
+        ],
+        report: &[],
+        answer: Answer::Exit(0),
+        end: How::Exit(0),
+        status: 0,
+        told: Told::Whole,
+        held: "hello",
+        reported: "votes 2 copies 0 struck 0 steps 9 bytes 5\nanswer exit 0\n",
+    },
     Failing {
         out: &[Act::Fail],
         report: &[],
+        answer: Answer::SinkFailed { taken: 0 },
+        end: How::Sink(0),
         status: 245,
         told: Told::Whole,
         held: "",
@@ -61,6 +115,8 @@ const FAILING: &[Failing] = &[
     Failing {
         out: &[Act::Take(2)],
         report: &[Act::Fail],
+        answer: Answer::Exit(0),
+        end: How::Exit(0),
         status: 251,
         told: Told::Failed,
         held: "hello",
@@ -69,6 +125,8 @@ const FAILING: &[Failing] = &[
     Failing {
         out: &[],
         report: &[Act::Take(5), Act::Fail],
+        answer: Answer::Exit(0),
+        end: How::Exit(0),
         status: 251,
         told: Told::Failed,
         held: "hello",
@@ -80,7 +138,7 @@ const FAILING: &[Failing] = &[
 fn failing_sinks(rt: HostRuntime) -> Result<(), Fail> {
     for row in FAILING {
         let words = words_of(rt.alloc(), &["run", "hello"])?;
-        let mut store = store(rt.alloc())?;
+        let mut store = store(&rt, rt.alloc())?;
         let mut report = sink(rt.alloc(), row.report)?;
         let out = sink(rt.alloc(), row.out)?;
         let done = romain(
@@ -91,6 +149,8 @@ fn failing_sinks(rt: HostRuntime) -> Result<(), Fail> {
             out,
             &mut report,
         );
+        assert_eq!(rt; done.answer, row.answer);
+        assert_eq!(rt; done.journal.last(), Some(&Entry::End { how: row.end }));
         assert_eq!(rt; done.status(), row.status);
         assert_eq!(rt; done.told, row.told);
         assert_eq!(rt; done.out.bytes(), row.held.as_bytes());
@@ -126,7 +186,7 @@ fn long_files(rt: HostRuntime) -> Result<(), Fail> {
     ];
     for (command, size, answer) in cases {
         let words = words_of(rt.alloc(), command)?;
-        let mut store = store(rt.alloc())?;
+        let mut store = store(&rt, rt.alloc())?;
         let long = vec![in rt.alloc(); 0_u8; size]?;
         store.put("long", long.as_slice())?;
         let mut report = sink(rt.alloc(), &[])?;
@@ -162,10 +222,6 @@ fn sink(alloc: Global, acts: &[Act]) -> Result<MemSink, Fail> {
 const GUESTS: &[(&str, &[u32])] = &[
     // ADDI a0, zero, 7, and an exit
     ("seven", &[0x0070_0513, 0x05D0_0893, 0x0000_0073]),
-    // ADDI a0, zero, 7, and nothing behind it
-    ("wild", &[0x0070_0513]),
-    // a jump to itself
-    ("loop", &[0x0000_006F]),
     // it writes `hello` and exits with 0
     (
         "hello",
@@ -198,28 +254,21 @@ const GUESTS: &[(&str, &[u32])] = &[
     ),
 ];
 
-/// Other files.
-const FILES: &[(&str, &str)] = &[
-    ("empty", ""),
-    ("abc", "abc"),
+/// Lists of faults.
+const LISTS: &[(&str, &str)] = &[
     ("one", "1 0 1 reg 10 0\n"),
-    ("alike", "0 0 1 reg 10 0\n1 0 1 reg 10 0\n"),
     ("unlike", "0 0 1 reg 10 0\n1 0 1 reg 10 1\n"),
-    ("vanishes", "2 0 0 reg 10 3\n"),
-    ("range", "3 0 1 reg 10 0\n"),
-    ("form", "1 0 1 reg 10 0\n1 0 01 reg 10 0\n"),
 ];
 
 // The store of the rows.
-fn store(alloc: Global) -> Result<MemStore, Fail> {
+fn store(rt: &impl Abort, alloc: Global) -> Result<MemStore, Fail> {
     let mut store = MemStore::new(alloc);
     for (name, words) in GUESTS {
-        if words.len() <= 65_536 {
-            let file = image_bytes(alloc, words, 5, &[])?;
-            store.put(name, file.as_slice())?;
-        }
+        assert!(rt; words.len() <= 65_536, "of {name}");
+        let file = image_bytes(alloc, words, 5, &[])?;
+        store.put(name, file.as_slice())?;
     }
-    for (name, text) in FILES {
+    for (name, text) in LISTS {
         store.put(name, text.as_bytes())?;
     }
     Ok(store)

@@ -1,6 +1,5 @@
 //! The event of a vote: what the winner's stop comes to.
 ghost use Rattle.std.specs.Prelude.{ℕ, ◌≡◌, List, [], IfOk, OnErr, None, true, false, if◌then◌else◌};
-ghost use Rattle.ro_journal.specs.Plan.{event_steps as steps_of};
 ghost use Rattle.ro_kernel.specs.Kernel.{lives_on, Kernel as KernelSeen};
 ghost use Rattle.ro_core.specs.Event.{event_of, quiet_effect as quiet, call_event};
 ghost use Rattle.ro_core.specs.Fields.{IsEvent, IsCallEvent, outcome_with};
@@ -39,16 +38,6 @@ pub(crate) fn did_of(kernel: &Kernel, thread: u32, stop: &Stop) -> Did
         Stop::Trap(_) => Did::Trapped,
         Stop::PageFault(_) => Did::Mapped,
         Stop::Watchdog => Did::Watch,
-    }
-}
-
-/// How many steps an event adds to the plan.
-pub(crate) fn event_steps(did: Did) -> u64
-    ensures { result ≡ steps_of did }
-{
-    match did {
-        Did::Served | Did::Trapped => 1,
-        Did::Blocked | Did::Mapped | Did::Watch => 0,
     }
 }
 

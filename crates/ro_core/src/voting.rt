@@ -10,7 +10,7 @@ ghost use Rattle.ro_core.specs.Fields.{due_behind as behind, split_end};
 ghost use Rattle.ro_core.specs.Seen.{state, Appends, Quiet, Sends, IsOfMajority, Stays, DecidesVote, DecidesFree, IsSplit, KeepsViews};
 
 use crate::cores::Core;
-use crate::events::{did_of, event_steps, happen, serve};
+use crate::events::{did_of, happen, serve};
 use crate::grouping::{copy_stops, regroup};
 use crate::seats::{apply_to_all, recover_loser, reserve_pages, show_all, verdict};
 use crate::sending::send;
@@ -81,7 +81,7 @@ impl<K: Sink> Core<K> {
         let view = &self.views[won.won as usize];
         let (count, stop) = (view.since(), *view.stop());
         let did = did_of(&self.kernel, thread, &stop);
-        let next = u64::from(count) + event_steps(did);
+        let next = u64::from(count) + did.steps();
         if next > self.settings.limit - self.steps {
             let steps = self.steps;
             return Ok(self.conclude(How::Limit { steps, next }));

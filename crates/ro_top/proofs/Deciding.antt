@@ -1,5 +1,5 @@
 -- Votes, frees and ends of the one driver.
-use Rattle.std.proofs.Common.{◌≡◌, inl, inr, ℕ, List, [], ◌∷◌, Option, Some, None, refl, sym, ap, ◌∙◌, subst}
+use Rattle.std.proofs.Common.{◌≡◌, inl, inr, ℕ, true, List, [], ◌∷◌, Option, Some, None, refl, sym, ap, ◌∙◌, subst}
 use Rattle.std.specs.Prelude.{IsSome, unwrap_or}
 use Rattle.std.proofs.lemmas.Bool.{and_parts}
 use Rattle.ro_journal.specs.declared.How.{How}
@@ -8,26 +8,32 @@ use Rattle.ro_journal.specs.declared.Entry.{Entry}
 use Rattle.ro_journal.specs.declared.Entry.TheVariants.{Take, Put, Vote, Free, End}
 use Rattle.ro_journal.specs.Plan.{outcome_of}
 use Rattle.ro_core.specs.declared.actions.Action.TheVariants.{Vote as DoVote, Free as DoFree, End as DoEnd, Over}
-use Rattle.ro_core.specs.Core.{Job, Core}
+use Rattle.ro_core.specs.Core.{Job, Core, is_going}
 use Rattle.ro_core.specs.Event.{with_recovered}
 use Rattle.ro_core.specs.Legal.{IsAllowed, EndsVote, EndsFree, event_in, freed_event, after, replay, replay_with, output_of}
 use Rattle.ro_core.specs.Action.{next_action, IsNext}
 use Rattle.ro_core.specs.Seen.{CoreOf, state, sent, sent_of, Appends, Quiet, Sends, DecidesVote, DecidesFree}
 use Rattle.ro_core.proofs.Leases.{event_leases}
+use Rattle.ro_core.proofs.Outcomes.{ended_is_outcome}
 use Rattle.ro_core.proofs.Nexts.{vote_next, free_next, end_is, over_is_next}
 use Rattle.ro_core.specs.Sound.{IsOver}
 use Rattle.ro_top.specs.Driven.{IsDriven, IsHome, HasFailed, Goes}
 use Rattle.ro_top.proofs.Lasts.{due_over, ended_cut}
 use Rattle.ro_top.proofs.Turns.{going_calm, calm_state, leases_with, driven_more, home_new, goes_quiet, goes_sending}
 
--- where a vote is next the sink has not failed
+-- where a vote is next the core goes on, and the sink has not failed
+pub vote_going : (core : CoreOf) (thread : ℕ) → next_action core.job (state core) ≡ DoVote thread → is_going (state core) ≡ true
+vote_going core thread next =
+    let a = and_parts _ _ (vote_next core.job (state core) thread next) in let b = and_parts _ _ a.0 in let c = and_parts _ _ b.0 in (and_parts _ _ c.0).0
+
 pub vote_calm : (core : CoreOf) (thread : ℕ) → next_action core.job (state core) ≡ DoVote thread → core.failed ≡ None
-vote_calm core thread next =
-    let a = and_parts _ _ (vote_next core.job (state core) thread next) in let b = and_parts _ _ a.0 in let c = and_parts _ _ b.0 in
-    going_calm core (and_parts _ _ c.0).0
+vote_calm core thread next = going_calm core (vote_going core thread next)
+
+pub free_going : (core : CoreOf) (thread : ℕ) → next_action core.job (state core) ≡ DoFree thread → is_going (state core) ≡ true
+free_going core thread next = let a = and_parts _ _ (free_next core.job (state core) thread next) in (and_parts _ _ a.0).0
 
 pub free_calm : (core : CoreOf) (thread : ℕ) → next_action core.job (state core) ≡ DoFree thread → core.failed ≡ None
-free_calm core thread next = let a = and_parts _ _ (free_next core.job (state core) thread next) in going_calm core (and_parts _ _ a.0).0
+free_calm core thread next = going_calm core (free_going core thread next)
 
 -- ---- what decides a vote
 
@@ -170,3 +176,11 @@ over_sent core driven next = by core.failed refl
         ended_with : (o : Option ℕ) → IsSome (replay_with core.job core.journal o).ended → IsSome (replay core.job core.journal).ended
         ended_with None h = h
         ended_with (Some n) h = h
+
+-- all is over behind an end alone
+pub over_outcome : (core : CoreOf) → IsDriven core → next_action core.job (state core) ≡ Over → IsSome (outcome_of core.journal)
+over_outcome core driven next = subst (λ (o : Option How). IsSome o) (ended_is_outcome core.job core.journal driven.legal) (ended_with core.failed (over_is_next core.job (state core) next))
+  where
+    ended_with : (o : Option ℕ) → IsSome (replay_with core.job core.journal o).ended → IsSome (replay core.job core.journal).ended
+    ended_with None h = h
+    ended_with (Some n) h = h

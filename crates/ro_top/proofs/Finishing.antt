@@ -13,8 +13,8 @@ use Rattle.ro_faults.specs.declared.Fault.{Fault}
 use Rattle.ro_settings.specs.declared.Settings.{Settings}
 use Rattle.ro_core.specs.Core.{Job, opening_core}
 use Rattle.ro_core.specs.Legal.{output_of, replay_with}
-use Rattle.ro_core.specs.Seen.{CoreOf, sent, sent_of, Opens, KeepsViews}
-use Rattle.ro_top.specs.Driven.{HasRun, IsDriven, IsHome, HasFailed, Goes, AreCounts}
+use Rattle.ro_core.specs.Seen.{CoreOf, sent, sent_of, Opens}
+use Rattle.ro_top.specs.Driven.{HasRun, IsDriven, IsHome, HasFailed, Goes, AreCounts, KeepsLast}
 use Rattle.ro_top.specs.Files.{job_of}
 use Rattle.ro_top.specs.Causes.{IsOutcome, EndCause}
 use Rattle.ro_top.proofs.Tells.{more_none}
@@ -88,7 +88,7 @@ module _ (job : Job) (held : Option (List ℕ)) (faults : ℕ) (first : CoreOf) 
         by (inl was) = absurd (opens_calm was)
         by (inr rose) = subst (λ (n : ℕ). Rose n last.faults) opens.faults_is rose
 
-    pub ran_cause : (views : List View) → KeepsViews last.job last.journal views → (after : ℕ) → after ≡ last.faults → (answer : Answer) → IsOutcome answer (outcome_of last.journal) → EndCause job journal views faults after answer
+    pub ran_cause : (views : List View) → KeepsLast last.job last.journal views → (after : ℕ) → after ≡ last.faults → (answer : Answer) → IsOutcome answer (outcome_of last.journal) → EndCause job journal views faults after answer
     ran_cause views keeps after same answer e =
-        end_cause job journal ran.legal views faults after ran.can_run (subst (λ (js : List Entry). KeepsViews job js views) (sym is) (subst (λ (j : Job). KeepsViews j last.journal views) its_job keeps))
+        end_cause job journal ran.legal views faults after ran.can_run (subst (λ (js : List Entry). KeepsLast job js views) (sym is) (subst (λ (j : Job). KeepsLast j last.journal views) its_job keeps))
         (λ taken f. subst (λ (n : ℕ). Rose faults n) (sym same) (sink_rose taken f)) answer (subst (λ (js : List Entry). IsOutcome answer (outcome_of js)) (sym is) e)

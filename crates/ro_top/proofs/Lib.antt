@@ -3,6 +3,7 @@ mod Asked
 mod Turns
 mod Lending
 mod Lasts
+mod LastViews
 mod Deciding
 mod Summed
 mod Shown

@@ -11,10 +11,9 @@ use Rattle.ro_report.specs.declared.answers.Answer.{Answer}
 use Rattle.ro_report.specs.declared.answers.Answer.TheVariants.{Exit, Deadlock, Trap, Differ, NoMajority, Limit, SinkFailed, StoreFailed, BadExe, BadFaults, BadWords, TooLong, NoMemory}
 use Rattle.ro_core.specs.Core.{Job, opening_core}
 use Rattle.ro_core.specs.Legal.{MayEnd, due, alone, for_vote, for_free, Legal, replay}
-use Rattle.ro_core.specs.Seen.{KeepsViews}
 use Rattle.ro_core.proofs.Journals.{plan_of-append}
 use Rattle.ro_core.specs.Sound.{IsOver}
-use Rattle.ro_top.specs.Driven.{CanRun}
+use Rattle.ro_top.specs.Driven.{CanRun, KeepsLast}
 use Rattle.ro_top.specs.Causes.{IsOutcome, IsStuck, PassesLimit, CutsWrite, EndCause}
 use Rattle.ro_top.proofs.Lasts.{due_over, LastEntry, last_from}
 use Rattle.ro_top.proofs.Shown.{are_two, are_three}
@@ -66,7 +65,7 @@ module _ (job : Job) (journal : List Entry) (legal : Legal job journal) where
   last_by : (how : How) → outcome_of journal ≡ Some how → LastEntry job (opening_core job) journal how
   last_by how e = last_from job (opening_core job) journal how legal e
 
-  pub end_cause : (views : List View) (before after : ℕ) → CanRun job → KeepsViews job journal views → ((taken : ℕ) → outcome_of journal ≡ Some (BySink taken) → Rose before after)
+  pub end_cause : (views : List View) (before after : ℕ) → CanRun job → KeepsLast job journal views → ((taken : ℕ) → outcome_of journal ≡ Some (BySink taken) → Rose before after)
       → (answer : Answer) → IsOutcome answer (outcome_of journal) → EndCause job journal views before after answer
   end_cause views before after can keeps rose (Exit status) e = tt
   end_cause views before after can keeps rose Deadlock e = is_stuck_by (last_by ByDeadlock e)

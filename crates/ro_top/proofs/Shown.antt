@@ -22,10 +22,11 @@ use Rattle.ro_replica.specs.Views.{view_with, view_of}
 use Rattle.ro_core.specs.Core.{Job, Core, opening_replicas, opening_core, may_vote, views_of}
 use Rattle.ro_core.specs.Event.{Event, with_recovered}
 use Rattle.ro_core.specs.Legal.{Legal, LegalFrom, EndsVote, arrived, lease_run, core_after_put, core_after_event, event_in, freed_event, after, replay_from, replay}
-use Rattle.ro_core.specs.Seen.{ShowsViews}
+use Rattle.ro_core.proofs.Nexts.{vote_next}
 use Rattle.ro_core.proofs.Lists.{length-mapped, length-filter-map}
 use Rattle.ro_simulation.proofs.Votes.{vote-parts}
 use Rattle.ro_simulation.proofs.Journals.{legal-split, outcome-ended}
+use Rattle.ro_top.specs.Driven.{ShowsLast}
 use Rattle.ro_top.specs.Causes.{AreTwo, AreThree}
 use Rattle.ro_top.proofs.Turns.{outcome_cases}
 
@@ -99,7 +100,10 @@ as_many_views job core thread may =
 unequal : (a b : View) → same_view a b ≡ false → a ≢ b
 unequal a b f e = true≢false (sym (subst (λ (x : View). same_view a x ≡ true) e (view-same a)) ∙ f)
 
-module _ (job : Job) (journal : List Entry) (views : List View) (shows : ShowsViews job journal views) where
+module _ (job : Job) (journal : List Entry) (views : List View) (shows : ShowsLast job journal views) where
+  its_may : may_vote (replay job shows.before) shows.thread ≡ true
+  its_may = vote_next job (replay job shows.before) shows.thread shows.next
+
   two_of : (all : List View) → views ≡ all → length all ≡ 2 → verdict_of all ≡ Split → AreTwo job journal views
   unfolding verdict_of
   two_of [] is n v = absurd (omega arith)
@@ -136,16 +140,16 @@ module _ (job : Job) (journal : List Entry) (views : List View) (shows : ShowsVi
 
       by : (outcome_of shows.before ≡ Some how) ⊎ (outcome_of (End shows.how ∷ []) ≡ Some how) → shows.how ≡ how
       by (inl was) =
-          absurd (let f : None ≡ Some how = sym (vote-parts (replay job shows.before) shows.thread shows.may).going.not_ended ∙ outcome-ended job (opening_core job) shows.before how split.0 was in cc)
+          absurd (let f : None ≡ Some how = sym (vote-parts (replay job shows.before) shows.thread its_may).going.not_ended ∙ outcome-ended job (opening_core job) shows.before how split.0 was in cc)
       by (inr is) = let f : Some shows.how ≡ Some how = is in cc
 
   as_many : length (views_of job (replay job shows.before) shows.thread) ≡ job.settings.replicas
-  as_many = as_many_views job (replay job shows.before) shows.thread shows.may ∙ as_many_replicas job shows.before
+  as_many = as_many_views job (replay job shows.before) shows.thread its_may ∙ as_many_replicas job shows.before
 
   pub are_two : Legal job journal → outcome_of journal ≡ Some Differ → AreTwo job journal views
   are_two legal e =
       let ends : EndsVote job (replay job shows.before) shows.thread Differ = subst (EndsVote job (replay job shows.before) shows.thread) (how_is legal Differ e) shows.in_place in
-      two_of (views_of job (replay job shows.before) shows.thread) shows.views_are (as_many_views job (replay job shows.before) shows.thread shows.may ∙ ends.1) ends.0
+      two_of (views_of job (replay job shows.before) shows.thread) shows.views_are (as_many_views job (replay job shows.before) shows.thread its_may ∙ ends.1) ends.0
 
   pub are_three : Legal job journal → job.settings.replicas ≤ 3 → outcome_of journal ≡ Some NoMajority → AreThree job journal views
   are_three legal most e =

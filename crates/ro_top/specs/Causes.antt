@@ -17,8 +17,8 @@ use Rattle.ro_report.specs.declared.answers.Answer.{Answer}
 use Rattle.ro_report.specs.declared.answers.Answer.TheVariants.{Exit, Deadlock, Trap, Differ, NoMajority, Limit, SinkFailed, StoreFailed, BadExe, BadFaults, BadWords, TooLong, NoMemory}
 use Rattle.ro_core.specs.Core.{Job, may_vote, may_free}
 use Rattle.ro_core.specs.Legal.{is_stuck, EndsVote, EndsFree, replay}
-use Rattle.ro_core.specs.Seen.{ShowsViews}
 use Rattle.ro_words.specs.Commands.{Asked, command_of}
+use Rattle.ro_top.specs.Driven.{ShowsLast}
 use Rattle.ro_top.specs.Files.{most_of, name_in, IsFile, IsContent}
 
 -- ---- refusals
@@ -113,7 +113,7 @@ pub record IsStuck (job : Job) (journal : List Entry) : Type 0 where
 
 -- two views of a vote, which are not equal
 pub record AreTwo (job : Job) (journal : List Entry) (views : List View) : Type 0 where
-  pub shows : ShowsViews job journal views
+  pub shows : ShowsLast job journal views
   pub one : View
   pub other : View
   pub views_are : views ≡ one ∷ other ∷ []
@@ -121,7 +121,7 @@ pub record AreTwo (job : Job) (journal : List Entry) (views : List View) : Type 
 
 -- three views of a vote, no two of which are equal
 pub record AreThree (job : Job) (journal : List Entry) (views : List View) : Type 0 where
-  pub shows : ShowsViews job journal views
+  pub shows : ShowsLast job journal views
   pub one : View
   pub second : View
   pub third : View

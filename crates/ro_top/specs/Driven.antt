@@ -1,15 +1,19 @@
 -- The core of a run that one driver drives.
-use Rattle.std.specs.Prelude.{◌≡◌, ◌⊎◌, ℕ, ◌<◌, ◌≤◌, ◌^◌, List, [], ◌++◌, Some, IsSome}
+use Rattle.std.specs.Prelude.{◌≡◌, ◌⊎◌, ℕ, ◌<◌, ◌≤◌, ◌^◌, List, [], ◌∷◌, ◌++◌, Some, IsSome}
 use Rattle.ro_io.specs.Outside.{Rose, more}
-use Rattle.ro_journal.specs.declared.How.TheVariants.{Sink}
+use Rattle.ro_event.specs.Views.{View}
+use Rattle.ro_journal.specs.declared.How.{How}
+use Rattle.ro_journal.specs.declared.How.TheVariants.{Sink, Differ, NoMajority}
 use Rattle.ro_journal.specs.declared.Entry.{Entry}
+use Rattle.ro_journal.specs.declared.Entry.TheVariants.{End}
 use Rattle.ro_journal.specs.Plan.{outcome_of}
 use Rattle.ro_settings.specs.Ranges.{InRange}
 use Rattle.ro_report.specs.Report.{struck_in, steps_in}
 use Rattle.ro_replica.specs.Seen.{AreFaults}
-use Rattle.ro_core.specs.Core.{Job, opening_core}
-use Rattle.ro_core.specs.Legal.{Legal}
-use Rattle.ro_core.specs.Action.{EachIsNext}
+use Rattle.ro_core.specs.declared.actions.Action.TheVariants.{Vote as DoVote}
+use Rattle.ro_core.specs.Core.{Job, opening_core, views_of}
+use Rattle.ro_core.specs.Legal.{Legal, EndsVote, replay}
+use Rattle.ro_core.specs.Action.{next_action, EachIsNext}
 use Rattle.ro_core.specs.Seen.{CoreOf, state, sent}
 
 -- what a core can be opened with
@@ -46,6 +50,20 @@ pub record Goes (old new : CoreOf) : Type 0 where
   pub held : new.held ≡ more old.held bytes
   pub faults : old.faults ≤ new.faults
   pub blames : HasFailed new → HasFailed old ⊎ Rose old.faults new.faults
+
+-- The journal ended where these views had no majority: they are those of the thread on which a vote came next.
+pub record ShowsLast (job : Job) (journal : List Entry) (views : List View) : Type 0 where
+  pub before : List Entry
+  pub how : How
+  pub journal_is : journal ≡ before ++ End how ∷ []
+  pub thread : ℕ
+  pub next : next_action job (replay job before) ≡ DoVote thread
+  pub in_place : EndsVote job (replay job before) thread how
+  pub views_are : views ≡ views_of job (replay job before) thread
+
+-- the views of a vote that came to nothing are kept
+abbrev pub KeepsLast : Job → List Entry → List View → Type 0
+KeepsLast job journal views = (outcome_of journal ≡ Some Differ) ⊎ (outcome_of journal ≡ Some NoMajority) → ShowsLast job journal views
 
 -- what a summary counts are numbers of 64 bits
 abbrev pub AreCounts : List Entry → Type 0

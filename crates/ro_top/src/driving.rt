@@ -1,11 +1,12 @@
 //! One driver, which takes all turns of a run.
 ghost use Rattle.std.specs.Prelude.{◌≡◌, OnOk, OnErr, IsSome, None};
 ghost use Rattle.ro_journal.specs.declared.How.{How as HowOf};
+ghost use Rattle.ro_journal.specs.Plan.{outcome_of};
 ghost use Rattle.ro_core.specs.declared.actions.Action.TheVariants as act;
 ghost use Rattle.ro_core.specs.Legal.{output_of};
 ghost use Rattle.ro_core.specs.Action.{next_action};
 ghost use Rattle.ro_core.specs.Seen.{state, sent};
-ghost use Rattle.ro_top.specs.Driven.{IsDriven, IsHome, Goes};
+ghost use Rattle.ro_top.specs.Driven.{IsDriven, IsHome, KeepsLast, Goes};
 
 use ro_core::{Action, Core};
 use ro_io::Sink;
@@ -25,10 +26,13 @@ pub(crate) fn drive<R: Wait, K: Sink>(
 ) -> Result<(), AllocError>
     requires driven { IsDriven core.old }
     requires home { IsHome core.old }
+    requires last { KeepsLast core.old.job core.old.journal core.old.views }
     requires quantum { quantum ≡ core.old.job.settings.quantum }
     ensures goes { Goes core.old core.new }
     ensures driven { IsDriven core.new }
+    ensures last { KeepsLast core.new.job core.new.journal core.new.views }
     ensures all_sent { sent core.new ≡ output_of core.new.job core.new.journal }
+    ensures over { OnOk result (IsSome (outcome_of core.new.journal)) }
 {
     for _ in rt.forever() {
         match core.next_action() {
@@ -56,6 +60,7 @@ fn lend<K: Sink>(
     requires next { next_action core.old.job (state core.old) ≡ act.Lend replica thread }
     ensures goes { Goes core.old core.new }
     ensures driven { IsDriven core.new }
+    ensures last { KeepsLast core.new.job core.new.journal core.new.views }
     ensures home { IsHome core.new }
     ensures calm { OnErr result (core.new.failed ≡ None) }
 {
@@ -73,6 +78,7 @@ fn vote<K: Sink>(core: &mut Core<K>, thread: u32) -> Result<(), AllocError>
     requires next { next_action core.old.job (state core.old) ≡ act.Vote thread }
     ensures goes { Goes core.old core.new }
     ensures driven { IsDriven core.new }
+    ensures last { KeepsLast core.new.job core.new.journal core.new.views }
     ensures home { IsHome core.new }
     ensures calm { OnErr result (core.new.failed ≡ None) }
 {
@@ -87,6 +93,7 @@ fn free<K: Sink>(core: &mut Core<K>, thread: u32) -> Result<(), AllocError>
     requires next { next_action core.old.job (state core.old) ≡ act.Free thread }
     ensures goes { Goes core.old core.new }
     ensures driven { IsDriven core.new }
+    ensures last { KeepsLast core.new.job core.new.journal core.new.views }
     ensures home { IsHome core.new }
     ensures calm { OnErr result (core.new.failed ≡ None) }
 {
@@ -101,6 +108,7 @@ fn end<K: Sink>(core: &mut Core<K>)
     requires next { (how : HowOf) × (next_action core.old.job (state core.old) ≡ act.End how) }
     ensures goes { Goes core.old core.new }
     ensures driven { IsDriven core.new }
+    ensures last { KeepsLast core.new.job core.new.journal core.new.views }
     ensures home { IsHome core.new }
 {
     core.end();

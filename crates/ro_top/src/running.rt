@@ -1,11 +1,11 @@
 //! The run of a job.
-ghost use Rattle.std.specs.Prelude.{◌≡◌, [], length};
-ghost use Rattle.ro_io.specs.Outside.{more};
+ghost use Rattle.std.specs.Prelude.{◌≡◌, ◌≢◌, []};
 ghost use Rattle.ro_journal.specs.Plan.{outcome_of};
-ghost use Rattle.ro_core.specs.Legal.{output_of};
+ghost use Rattle.ro_report.specs.declared.answers.Answer.TheVariants as a;
 ghost use Rattle.ro_top.specs.Files.{job_of};
-ghost use Rattle.ro_top.specs.Driven.{CanRun, HasRun, AreCounts};
-ghost use Rattle.ro_top.specs.Causes.{IsRefusal, IsOutcome, EndCause};
+ghost use Rattle.ro_top.specs.Driven.{CanRun, AreCounts};
+ghost use Rattle.ro_top.specs.Causes.{IsRefusal, IsOutcome};
+ghost use Rattle.ro_top.specs.Top.{RanAs};
 
 use crate::asking::Job;
 use crate::driving::drive;
@@ -31,6 +31,7 @@ pub(crate) struct Ran<K> {
 pub(crate) fn nothing<K>(alloc: Global, answer: Answer, out: K) -> Ran<K>
     ensures answer { result.answer ≡ answer }
     ensures journal { result.journal.items ≡ [] }
+    ensures views { result.views.items ≡ [] }
     ensures bytes { result.bytes ≡ 0 }
     ensures out { result.out ≡ out }
 {
@@ -46,13 +47,11 @@ pub(crate) fn nothing<K>(alloc: Global, answer: Answer, out: K) -> Ran<K>
 // Runs a job.
 pub(crate) fn run<R: Wait, K: Sink>(rt: &R, alloc: Global, job: Job, out: K) -> Ran<K>
     requires { CanRun (job_of job.image job.input.items job.faults.items job.settings) }
-    ensures run { HasRun (job_of job.image job.input.items job.faults.items job.settings) result.journal.items }
+    ensures run { RanAs (record { journal = result.journal.items; answer = result.answer; views = result.views.items; bytes = result.bytes; held_before = K.held out; held_after = K.held result.out; faults_before = K.faults out; faults_after = K.faults result.out }) (job_of job.image job.input.items job.faults.items job.settings) }
     ensures counts { AreCounts result.journal.items }
     ensures answer { IsOutcome result.answer (outcome_of result.journal.items) }
-    ensures cause { EndCause (job_of job.image job.input.items job.faults.items job.settings) result.journal.items result.views.items (K.faults out) (K.faults result.out) result.answer }
     ensures program { IsRefusal result.answer → ⊥ }
-    ensures bytes { result.bytes ≡ length (output_of (job_of job.image job.input.items job.faults.items job.settings) result.journal.items) }
-    ensures held { K.held result.out ≡ more (K.held out) (output_of (job_of job.image job.input.items job.faults.items job.settings) result.journal.items) }
+    ensures no_views { result.answer ≢ a.Differ → result.answer ≢ a.NoMajority → result.views.items ≡ [] }
     ensures nothing_run { result.journal.items ≡ [] → (K.held result.out ≡ K.held out) × (K.faults result.out ≡ K.faults out) }
 {
     let Job {

@@ -1,22 +1,15 @@
 //! The call that does it all.
-ghost use Rattle.std.specs.Prelude.{◌≡◌, ◌≢◌, ◌⊎◌, ◌≤◌, ℕ, [], None};
-ghost use Rattle.ro_io.specs.Outside.{Rose, more};
+ghost use Rattle.std.specs.Prelude.{◌≡◌, ◌≢◌, ◌⊎◌, ℕ, [], None};
+ghost use Rattle.ro_io.specs.Outside.{Rose};
 ghost use Rattle.ro_journal.specs.Plan.{outcome_of};
-ghost use Rattle.ro_plain.specs.Machine.{AllEnd};
-ghost use Rattle.ro_plain.specs.Order.{RaceFree};
 ghost use Rattle.ro_report.specs.Report.{report_of};
 ghost use Rattle.ro_report.specs.declared.answers.Answer.TheVariants as a;
-ghost use Rattle.ro_core.specs.Core.{opening_core};
-ghost use Rattle.ro_core.specs.Legal.{output_of};
-ghost use Rattle.ro_core.specs.Action.{EachIsNext};
-ghost use Rattle.ro_core.specs.Ideal.{StaysApart};
-ghost use Rattle.ro_simulation.specs.Theorem.{WritesAsIdeal, AllOfOne, CannotDiffer};
 ghost use Rattle.ro_words.specs.Commands.{command_of};
 ghost use Rattle.ro_words.specs.Uses.{texts_of};
 ghost use Rattle.ro_top.specs.Driven.{AreCounts};
 ghost use Rattle.ro_top.specs.Files.{wants_journal};
-ghost use Rattle.ro_top.specs.Causes.{IsRefusal, RefusalCause, IsOutcome, EndCause};
-ghost use Rattle.ro_top.specs.Top.{HasRunJob, OfItsJob, Wrote, EndsItself, IsTold};
+ghost use Rattle.ro_top.specs.Causes.{IsRefusal, RefusalCause, IsOutcome};
+ghost use Rattle.ro_top.specs.Top.{OfItsJob, RanAs, IsRunOf, IsTold};
 ghost use Rattle.ro_top.specs.declared.done.Told.TheVariants as t;
 
 use crate::asking::asked_job;
@@ -40,20 +33,14 @@ pub fn romain<'a, R: Wait, S: Store, K: Sink, E: Sink>(
     out: K,
     report: &mut E,
 ) -> Done<K>
-    ensures legal { OfItsJob (S.told store.old) (texts_of words.now) result.journal.items (λ job. EachIsNext job (opening_core job) result.journal.items) }
+    ensures run { (bytes : ℕ) × OfItsJob (S.told store.old) (texts_of words.now) result.journal.items (IsRunOf (record { journal = result.journal.items; answer = result.answer; views = result.views.items; bytes = bytes; held_before = K.held out; held_after = K.held result.out; faults_before = K.faults out; faults_after = K.faults result.out })) × IsTold result.told (E.held report.old) (E.held report.new) (report_of (wants_journal (texts_of words.now)) result.journal.items bytes result.answer) }
     ensures answer { IsOutcome result.answer (outcome_of result.journal.items) }
-    ensures headline { OfItsJob (S.told store.old) (texts_of words.now) result.journal.items (λ job. RaceFree job.program → StaysApart job result.journal.items → WritesAsIdeal job result.journal.items) }
-    ensures apart { OfItsJob (S.told store.old) (texts_of words.now) result.journal.items (λ job. RaceFree job.program → AllOfOne job.faults → StaysApart job result.journal.items) }
-    ensures complete { OfItsJob (S.told store.old) (texts_of words.now) result.journal.items (λ job. RaceFree job.program → StaysApart job result.journal.items → AllEnd job.program job.settings.limit → CannotDiffer job → (Rose (K.faults out) (K.faults result.out) → ⊥) → EndsItself result.journal.items) }
-    ensures majority { OfItsJob (S.told store.old) (texts_of words.now) result.journal.items (λ job. RaceFree job.program → StaysApart job result.journal.items → result.answer ≢ a.NoMajority) }
-    ensures output { OfItsJob (S.told store.old) (texts_of words.now) result.journal.items (λ job. K.held result.out ≡ more (K.held out) (output_of job result.journal.items)) }
     ensures nothing_run { result.journal.items ≡ [] → (K.held result.out ≡ K.held out) × (K.faults result.out ≡ K.faults out) }
-    ensures report { (bytes : ℕ) × Wrote (S.told store.old) (texts_of words.now) result.journal.items bytes × IsTold result.told (E.held report.old) (E.held report.new) (report_of (wants_journal (texts_of words.now)) result.journal.items bytes result.answer) }
+    ensures no_views { result.answer ≢ a.Differ → result.answer ≢ a.NoMajority → result.views.items ≡ [] }
     ensures told { result.told ≡ t.Failed → Rose (E.faults report.old) (E.faults report.new) }
     ensures refused { IsRefusal result.answer → result.journal.items ≡ [] }
     ensures refusal { IsRefusal result.answer → RefusalCause (S.told store.old) (texts_of words.now) (S.faults store.old) (S.faults store.new) result.answer }
     ensures words { command_of (texts_of words.now) ≡ None → (result.answer ≡ a.BadWords) ⊎ (result.answer ≡ a.NoMemory) }
-    ensures end { OfItsJob (S.told store.old) (texts_of words.now) result.journal.items (λ job. EndCause job result.journal.items result.views.items (K.faults out) (K.faults result.out) result.answer) }
     ensures files { S.told store.new ≡ S.told store.old }
 {
     let (shown, ran) = command(rt, alloc, words, store, out);
@@ -82,17 +69,15 @@ fn command<'a, R: Wait, S: Store, K: Sink>(
     store: &mut S,
     out: K,
 ) -> (bool, Ran<K>)
-    ensures run { HasRunJob (S.told store.old) (texts_of words.now) result.1.journal.items }
+    ensures run { OfItsJob (S.told store.old) (texts_of words.now) result.1.journal.items (RanAs (record { journal = result.1.journal.items; answer = result.1.answer; views = result.1.views.items; bytes = result.1.bytes; held_before = K.held out; held_after = K.held result.1.out; faults_before = K.faults out; faults_after = K.faults result.1.out })) }
     ensures counts { AreCounts result.1.journal.items }
     ensures shown { (result.1.journal.items ≡ []) ⊎ (result.0 ≡ wants_journal (texts_of words.now)) }
     ensures answer { IsOutcome result.1.answer (outcome_of result.1.journal.items) }
-    ensures output { OfItsJob (S.told store.old) (texts_of words.now) result.1.journal.items (λ job. K.held result.1.out ≡ more (K.held out) (output_of job result.1.journal.items)) }
-    ensures bytes { Wrote (S.told store.old) (texts_of words.now) result.1.journal.items result.1.bytes }
     ensures nothing_run { result.1.journal.items ≡ [] → (K.held result.1.out ≡ K.held out) × (K.faults result.1.out ≡ K.faults out) }
+    ensures no_views { result.1.answer ≢ a.Differ → result.1.answer ≢ a.NoMajority → result.1.views.items ≡ [] }
     ensures refused { IsRefusal result.1.answer → result.1.journal.items ≡ [] }
     ensures refusal { IsRefusal result.1.answer → RefusalCause (S.told store.old) (texts_of words.now) (S.faults store.old) (S.faults store.new) result.1.answer }
     ensures words { command_of (texts_of words.now) ≡ None → (result.1.answer ≡ a.BadWords) ⊎ (result.1.answer ≡ a.NoMemory) }
-    ensures end { OfItsJob (S.told store.old) (texts_of words.now) result.1.journal.items (λ job. EndCause job result.1.journal.items result.1.views.items (K.faults out) (K.faults result.1.out) result.1.answer) }
     ensures files { S.told store.new ≡ S.told store.old }
 {
     match asked_job(alloc, words, store) {

@@ -8,20 +8,21 @@ use ro_io::{FileStore, OutSink};
 use ro_top::romain;
 use std::alloc::{AllocError, Global};
 use std::env::{self, Args};
+use std::io::ErrorKind;
 use std::process::ExitCode;
 
 /// The status where there is no memory for the words.
 const NO_MEMORY: u8 = 250;
+/// The status where the report was not taken.
+const REPORT_FAILED: u8 = 251;
 
 fn main(rt: HostRuntime) -> ExitCode {
     let alloc = rt.alloc();
-    // Words that are no texts are no command, and so are none.
-    let args = env::args(&rt).unwrap_or_else(|_| Vec::new(alloc).into_iter());
-    let Ok(words) = all_of(alloc, args) else {
-        return ExitCode::from(NO_MEMORY);
+    let Ok(words) = words(&rt, alloc) else {
+        return without_words(&rt);
     };
     let Ok(texts) = texts(alloc, words.as_slice()) else {
-        return ExitCode::from(NO_MEMORY);
+        return without_words(&rt);
     };
     let mut store = FileStore::new(&rt);
     let mut report = OutSink::new(rt.stderr());
@@ -30,7 +31,15 @@ fn main(rt: HostRuntime) -> ExitCode {
     ExitCode::from(done.status())
 }
 
-// The words of the command line.
+// The words of the command line. Words that are no texts are no command, and so are none.
+fn words(rt: &HostRuntime, alloc: Global) -> Result<Vec<String>, AllocError> {
+    match env::args(rt) {
+        Ok(args) => all_of(alloc, args),
+        Err(error) if error.kind() == ErrorKind::OutOfMemory => Err(AllocError),
+        Err(_) => Ok(Vec::new(alloc)),
+    }
+}
+
 fn all_of(alloc: Global, args: Args) -> Result<Vec<String>, AllocError> {
     let mut words = Vec::with_capacity(alloc, args.len())?;
     for word in args {
@@ -46,4 +55,12 @@ fn texts<'a>(alloc: Global, words: &'a [String]) -> Result<Vec<&'a str>, AllocEr
         texts.push(word.as_str())?;
     }
     Ok(texts)
+}
+
+// There is no memory for the words: that is the answer, and the whole report.
+fn without_words(rt: &HostRuntime) -> ExitCode {
+    match eprintln!(rt; "answer no-memory") {
+        Ok(()) => ExitCode::from(NO_MEMORY),
+        Err(_) => ExitCode::from(REPORT_FAILED),
+    }
 }

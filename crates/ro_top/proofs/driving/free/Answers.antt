@@ -2,8 +2,9 @@ use Rattle.std.proofs.Common.{◌∙◌}
 use Rattle.ro_core.specs.Seen.{state}
 use Rattle.ro_core.proofs.Nexts.{free_next}
 use Rattle.ro_top.proofs.Tells.{always_on_err}
+use Rattle.ro_top.proofs.LastViews.{going_open, none_last, stays_open, freed_last}
 use Rattle.ro_top.proofs.Turns.{stays_goes}
-use Rattle.ro_top.proofs.Deciding.{free_calm, freed_driven, freed_home, freed_goes}
+use Rattle.ro_top.proofs.Deciding.{free_going, free_calm, freed_driven, freed_home, freed_goes}
 use Rattle.ro_top.proofs.driving.free.Goals as goal
 
 pub free-requires : goal.free-requires
@@ -30,3 +31,12 @@ pub returns-clause-home : goal.returns-clause-home
 returns-clause-home g c =
     let e = c.in_ok-free.ensures.entry in
     freed_home _ _ c.in_ok-free.field-0 c.requires.driven c.requires.home e.2 (free_calm c.args.core.now c.args.thread c.requires.next) e.0 c.args.thread c.requires.next e.1
+
+pub returns-in_err-free-clause-last : goal.returns-in_err-free-clause-last
+returns-in_err-free-clause-last g c =
+    none_last _ _ _ (stays_open _ _ (going_open c.args.core.now c.requires.driven (free_going c.args.core.now c.args.thread c.requires.next)) c.in_err-free.ensures.err)
+
+pub returns-clause-last : goal.returns-clause-last
+returns-clause-last g c =
+    let e = c.in_ok-free.ensures.entry in
+    freed_last c.args.core.now _ c.args.thread c.in_ok-free.field-0 (going_open c.args.core.now c.requires.driven (free_going c.args.core.now c.args.thread c.requires.next)) e.1 e.2

@@ -2,8 +2,9 @@ use Rattle.std.proofs.Common.{◌∙◌}
 use Rattle.ro_core.specs.Seen.{state}
 use Rattle.ro_core.proofs.Nexts.{vote_next}
 use Rattle.ro_top.proofs.Tells.{always_on_err}
-use Rattle.ro_top.proofs.Turns.{stays_goes}
-use Rattle.ro_top.proofs.Deciding.{vote_calm, voted_driven, voted_home, voted_goes}
+use Rattle.ro_top.proofs.LastViews.{going_open, none_last, stays_open, voted_last}
+use Rattle.ro_top.proofs.Turns.{stays_goes, calm_state}
+use Rattle.ro_top.proofs.Deciding.{vote_going, vote_calm, voted_driven, voted_home, voted_goes}
 use Rattle.ro_top.proofs.driving.vote.Goals as goal
 
 pub vote-requires : goal.vote-requires
@@ -30,3 +31,13 @@ pub returns-clause-home : goal.returns-clause-home
 returns-clause-home g c =
     let e = c.in_ok-vote.ensures.entry in
     voted_home _ _ c.in_ok-vote.field-0 c.requires.driven c.requires.home e.2 (vote_calm c.args.core.now c.args.thread c.requires.next) e.0 c.args.thread c.requires.next e.1
+
+pub returns-in_err-vote-clause-last : goal.returns-in_err-vote-clause-last
+returns-in_err-vote-clause-last g c =
+    none_last _ _ _ (stays_open _ _ (going_open c.args.core.now c.requires.driven (vote_going c.args.core.now c.args.thread c.requires.next)) c.in_err-vote.ensures.err)
+
+pub returns-clause-last : goal.returns-clause-last
+returns-clause-last g c =
+    let e = c.in_ok-vote.ensures.entry in
+    voted_last c.args.core.now _ c.args.thread c.in_ok-vote.field-0 (going_open c.args.core.now c.requires.driven (vote_going c.args.core.now c.args.thread c.requires.next))
+    (calm_state c.args.core.now (vote_calm c.args.core.now c.args.thread c.requires.next)) c.requires.next e.1 e.2 c.in_ok-vote.ensures.shown

@@ -1,16 +1,20 @@
-use Rattle.ro_top.proofs.Claims.{of_job, its_headline, its_apart, its_end, its_majority, no_failing}
+use Rattle.std.proofs.Common.{ap, ◌∙◌, subst}
+use Rattle.std.specs.Prelude.{List}
+use Rattle.ro_journal.specs.declared.Entry.{Entry}
+use Rattle.ro_report.specs.Report.{report_of}
+use Rattle.ro_words.specs.Uses.{texts_of}
+use Rattle.ro_top.specs.Files.{wants_journal}
+use Rattle.ro_top.specs.Top.{IsTold}
+use Rattle.ro_top.proofs.Claims.{of_job, is_run, same_report}
 use Rattle.ro_top.proofs.top.romain.Goals as goal
 
-pub returns-clause-headline : goal.returns-clause-headline
-returns-clause-headline g c = of_job _ _ _ _ c.command-shown.ensures.run (λ job ran. its_headline job _ ran)
-
-pub returns-clause-apart : goal.returns-clause-apart
-returns-clause-apart g c = of_job _ _ _ _ c.command-shown.ensures.run (λ job ran. its_apart job _ ran)
-
-pub returns-clause-complete : goal.returns-clause-complete
-returns-clause-complete g c =
-    of_job _ _ _ _ c.command-shown.ensures.run
-    (λ job ran free apart ends cannot still. its_end job _ ran free apart ends cannot (λ taken. no_failing _ _ _ _ _ _ still taken c.command-shown.result.1.answer c.command-shown.ensures.answer c.command-shown.ensures.end))
-
-pub returns-clause-majority : goal.returns-clause-majority
-returns-clause-majority g c = of_job _ _ _ _ c.command-shown.ensures.run (λ job ran. its_majority job _ ran c.command-shown.result.1.answer c.command-shown.ensures.answer)
+pub returns-clause-run : goal.returns-clause-run
+returns-clause-run g c =
+    let ran = c.command-shown.result.1 in
+    let wants = wants_journal (texts_of c.args.words.now) in (
+      ran.bytes,
+      of_job _ _ _ _ _ c.command-shown.ensures.run (λ job r. is_run _ job c.command-shown.ensures.answer r),
+      subst (IsTold c.tell-told.result _ _)
+          (ap (λ (js : List Entry). report_of c.command-shown.result.0 js ran.bytes ran.answer) c.as_slice.ensures.value ∙ same_report c.command-shown.result.0 wants ran.journal.items ran.bytes ran.answer c.command-shown.ensures.shown)
+          c.tell-told.ensures.told,
+    )

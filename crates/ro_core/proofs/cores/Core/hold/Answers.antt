@@ -108,10 +108,10 @@ conclude-requires-clause-allowed g c =
     let there : slice_get f.views c.args.won.won ≡ Some view = slice_get-get_or f.views c.args.won.won view within ∙ ap (λ (v : View). Some v) (sym c.index-view.ensures) in
     let event : Event = event_of f.kernel.setup f.kernel.kernel c.args.thread view.stop view.payload in
     let did : event.did ≡ c.did_of-did.result = ap (λ (x : Stop). (event_of f.kernel.setup f.kernel.kernel c.args.thread x view.payload).did) (sym c.stop.ensures) ∙ c.did_of-did.ensures view.payload in
-    let next : view.since + event_steps c.did_of-did.result ≡ c.from.result + c.event_steps.result = (let a : c.since-count.result ≡ view.since = c.since-count.ensures in let b : c.from.result ≡ c.since-count.result = c.from.ensures in let d : c.event_steps.result ≡ event_steps c.did_of-did.result = c.event_steps.ensures in omega arith) in
+    let next : view.since + event_steps c.did_of-did.result ≡ c.from.result + c.steps.result = (let a : c.since-count.result ≡ view.since = c.since-count.ensures in let b : c.from.result ≡ c.since-count.result = c.from.ensures in let d : c.steps.result ≡ event_steps c.did_of-did.result = c.steps.ensures in omega arith) in
     let low : f.steps ≤ f.job.settings.limit = hold-steps f h c.args.thread c.args.won.won c.args.won.lost may views verdict in
-    let above : f.job.settings.limit < f.steps + (view.since + event_steps c.did_of-did.result) = (let over : s.settings.limit - s.steps < c.from.result + c.event_steps.result = c.if-next-self.true in omega arith) in
-    subst (λ (v : CoreOf). MayEnd v.job (state v) (Limit s.steps (c.from.result + c.event_steps.result))) c.self.view_is
+    let above : f.job.settings.limit < f.steps + (view.since + event_steps c.did_of-did.result) = (let over : s.settings.limit - s.steps < c.from.result + c.steps.result = c.if-next-self.true in omega arith) in
+    subst (λ (v : CoreOf). MayEnd v.job (state v) (Limit s.steps (c.from.result + c.steps.result))) c.self.view_is
     (subst (λ (n : ℕ). MayEnd f.job (state_in f) (Limit f.steps n)) next (hold-may-end f h c.args.thread c.args.won.won c.args.won.lost may views verdict view there c.did_of-did.result did above))
 
 pub conclude-requires-clause-views : goal.conclude-requires-clause-views
@@ -141,12 +141,12 @@ conclude-requires-clause-views g c =
     let there : slice_get f.views c.args.won.won ≡ Some view = slice_get-get_or f.views c.args.won.won view within ∙ ap (λ (v : View). Some v) (sym c.index-view.ensures) in
     let event : Event = event_of f.kernel.setup f.kernel.kernel c.args.thread view.stop view.payload in
     let did : event.did ≡ c.did_of-did.result = ap (λ (x : Stop). (event_of f.kernel.setup f.kernel.kernel c.args.thread x view.payload).did) (sym c.stop.ensures) ∙ c.did_of-did.ensures view.payload in
-    let next : view.since + event_steps c.did_of-did.result ≡ c.from.result + c.event_steps.result = (let a : c.since-count.result ≡ view.since = c.since-count.ensures in let b : c.from.result ≡ c.since-count.result = c.from.ensures in let d : c.event_steps.result ≡ event_steps c.did_of-did.result = c.event_steps.ensures in omega arith) in
+    let next : view.since + event_steps c.did_of-did.result ≡ c.from.result + c.steps.result = (let a : c.since-count.result ≡ view.since = c.since-count.ensures in let b : c.from.result ≡ c.since-count.result = c.from.ensures in let d : c.steps.result ≡ event_steps c.did_of-did.result = c.steps.ensures in omega arith) in
     let low : f.steps ≤ f.job.settings.limit = hold-steps f h c.args.thread c.args.won.won c.args.won.lost may views verdict in
-    let how : How = Limit s.steps (c.from.result + c.event_steps.result) in
+    let how : How = Limit s.steps (c.from.result + c.steps.result) in
     let still : f.ended ≡ None = (hold-goes f h c.args.thread c.args.won.won c.args.won.lost may views verdict).not_ended in
     subst (λ (v : CoreOf). KeepsViews v.job (v.journal ++ End how ∷ []) v.views) c.self.view_is
-    (not-split f.job (f.journal ++ End how ∷ []) f.views how (outcome_of-append f.journal (End how ∷ []) (no-outcome f h still)) (λ (e : Limit s.steps (c.from.result + c.event_steps.result) ≡ Differ). cc) (λ (e : Limit s.steps (c.from.result + c.event_steps.result) ≡ NoMajority). cc))
+    (not-split f.job (f.journal ++ End how ∷ []) f.views how (outcome_of-append f.journal (End how ∷ []) (no-outcome f h still)) (λ (e : Limit s.steps (c.from.result + c.steps.result) ≡ Differ). cc) (λ (e : Limit s.steps (c.from.result + c.steps.result) ≡ NoMajority). cc))
 
 pub returns-then-next-self-clause-entry : goal.returns-then-next-self-clause-entry
 returns-then-next-self-clause-entry g c =
@@ -175,17 +175,17 @@ returns-then-next-self-clause-entry g c =
     let there : slice_get f.views c.args.won.won ≡ Some view = slice_get-get_or f.views c.args.won.won view within ∙ ap (λ (v : View). Some v) (sym c.index-view.ensures) in
     let event : Event = event_of f.kernel.setup f.kernel.kernel c.args.thread view.stop view.payload in
     let did : event.did ≡ c.did_of-did.result = ap (λ (x : Stop). (event_of f.kernel.setup f.kernel.kernel c.args.thread x view.payload).did) (sym c.stop.ensures) ∙ c.did_of-did.ensures view.payload in
-    let next : view.since + event_steps c.did_of-did.result ≡ c.from.result + c.event_steps.result = (let a : c.since-count.result ≡ view.since = c.since-count.ensures in let b : c.from.result ≡ c.since-count.result = c.from.ensures in let d : c.event_steps.result ≡ event_steps c.did_of-did.result = c.event_steps.ensures in omega arith) in
+    let next : view.since + event_steps c.did_of-did.result ≡ c.from.result + c.steps.result = (let a : c.since-count.result ≡ view.since = c.since-count.ensures in let b : c.from.result ≡ c.since-count.result = c.from.ensures in let d : c.steps.result ≡ event_steps c.did_of-did.result = c.steps.ensures in omega arith) in
     let low : f.steps ≤ f.job.settings.limit = hold-steps f h c.args.thread c.args.won.won c.args.won.lost may views verdict in
-    let above : f.job.settings.limit < f.steps + (view.since + event_steps c.did_of-did.result) = (let over : s.settings.limit - s.steps < c.from.result + c.event_steps.result = c.if-next-self.true in omega arith) in
+    let above : f.job.settings.limit < f.steps + (view.since + event_steps c.did_of-did.result) = (let over : s.settings.limit - s.steps < c.from.result + c.steps.result = c.if-next-self.true in omega arith) in
     let goes : Goes f = hold-goes f h c.args.thread c.args.won.won c.args.won.lost may views verdict in
-    let may_end : MayEnd f.job (state_in f) (Limit s.steps (c.from.result + c.event_steps.result)) = subst (λ (n : ℕ). MayEnd f.job (state_in f) (Limit f.steps n)) next (hold-may-end f h c.args.thread c.args.won.won c.args.won.lost may views verdict view there c.did_of-did.result did above) in
-    let passes : PassesLimit f.job (state_in f) c.args.thread s.steps (c.from.result + c.event_steps.result) =
+    let may_end : MayEnd f.job (state_in f) (Limit s.steps (c.from.result + c.steps.result)) = subst (λ (n : ℕ). MayEnd f.job (state_in f) (Limit f.steps n)) next (hold-may-end f h c.args.thread c.args.won.won c.args.won.lost may views verdict view there c.did_of-did.result did above) in
+    let passes : PassesLimit f.job (state_in f) c.args.thread s.steps (c.from.result + c.steps.result) =
     subst (λ (n : ℕ). PassesLimit f.job (state_in f) c.args.thread f.steps n) next (subst (λ (k : Core). PassesLimit f.job k c.args.thread f.steps (view.since + event_steps c.did_of-did.result)) (sym goes.same) (hold-limit f h c.args.thread c.args.won.won c.args.won.lost may views verdict view there c.did_of-did.result did above))
     in
     subst (λ (e : Entry). IsAllowed c.args.self.now.job (state c.args.self.now) e × DecidesVote c.args.self.now.job (state c.args.self.now) c.args.thread e × Appends c.args.self.now c.conclude.new.self e) (sym c.conclude.ensures.entry) (
-      subst (λ (v : CoreOf). ((state v).ended ≡ None) × MayEnd v.job (state v) (Limit s.steps (c.from.result + c.event_steps.result))) c.self.view_is (ap (λ (k : Core). k.ended) goes.same ∙ sym h.ended_is ∙ goes.not_ended, may_end),
-      subst (λ (v : CoreOf). PassesLimit v.job (state v) c.args.thread s.steps (c.from.result + c.event_steps.result)) c.self.view_is passes,
+      subst (λ (v : CoreOf). ((state v).ended ≡ None) × MayEnd v.job (state v) (Limit s.steps (c.from.result + c.steps.result))) c.self.view_is (ap (λ (k : Core). k.ended) goes.same ∙ sym h.ended_is ∙ goes.not_ended, may_end),
+      subst (λ (v : CoreOf). PassesLimit v.job (state v) c.args.thread s.steps (c.from.result + c.steps.result)) c.self.view_is passes,
       c.conclude.ensures.appends,
     )
 
@@ -329,7 +329,7 @@ apply_to_all-requires g c =
     let there : slice_get f.views c.args.won.won ≡ Some view = slice_get-get_or f.views c.args.won.won view within ∙ ap (λ (v : View). Some v) (sym c.index-view.ensures) in
     let event : Event = event_of f.kernel.setup f.kernel.kernel c.args.thread view.stop view.payload in
     let did : event.did ≡ c.did_of-did.result = ap (λ (x : Stop). (event_of f.kernel.setup f.kernel.kernel c.args.thread x view.payload).did) (sym c.stop.ensures) ∙ c.did_of-did.ensures view.payload in
-    let next : view.since + event_steps c.did_of-did.result ≡ c.from.result + c.event_steps.result = (let a : c.since-count.result ≡ view.since = c.since-count.ensures in let b : c.from.result ≡ c.since-count.result = c.from.ensures in let d : c.event_steps.result ≡ event_steps c.did_of-did.result = c.event_steps.ensures in omega arith) in
+    let next : view.since + event_steps c.did_of-did.result ≡ c.from.result + c.steps.result = (let a : c.since-count.result ≡ view.since = c.since-count.ensures in let b : c.from.result ≡ c.since-count.result = c.from.ensures in let d : c.steps.result ≡ event_steps c.did_of-did.result = c.steps.ensures in omega arith) in
     let low : f.steps ≤ f.job.settings.limit = hold-steps f h c.args.thread c.args.won.won c.args.won.lost may views verdict in
     let alone : f.leases ≡ [] = hold-alone f h c.args.thread c.args.won.won c.args.won.lost may views verdict in
     let replicas : List Replica = (core_in f).replicas in
@@ -404,7 +404,7 @@ send-failed-requires g c =
     let there : slice_get f.views c.args.won.won ≡ Some view = slice_get-get_or f.views c.args.won.won view within ∙ ap (λ (v : View). Some v) (sym c.index-view.ensures) in
     let event : Event = event_of f.kernel.setup f.kernel.kernel c.args.thread view.stop view.payload in
     let did : event.did ≡ c.did_of-did.result = ap (λ (x : Stop). (event_of f.kernel.setup f.kernel.kernel c.args.thread x view.payload).did) (sym c.stop.ensures) ∙ c.did_of-did.ensures view.payload in
-    let next : view.since + event_steps c.did_of-did.result ≡ c.from.result + c.event_steps.result = (let a : c.since-count.result ≡ view.since = c.since-count.ensures in let b : c.from.result ≡ c.since-count.result = c.from.ensures in let d : c.event_steps.result ≡ event_steps c.did_of-did.result = c.event_steps.ensures in omega arith) in
+    let next : view.since + event_steps c.did_of-did.result ≡ c.from.result + c.steps.result = (let a : c.since-count.result ≡ view.since = c.since-count.ensures in let b : c.from.result ≡ c.since-count.result = c.from.ensures in let d : c.steps.result ≡ event_steps c.did_of-did.result = c.steps.ensures in omega arith) in
     let low : f.steps ≤ f.job.settings.limit = hold-steps f h c.args.thread c.args.won.won c.args.won.lost may views verdict in
     let same_view : c.index.result.now ≡ view = c.index.ensures ∙ get_or_from_slice_get f.views c.args.won.won view c.index.result.now there in
     subst (λ (xs : List ℕ). length xs ≤ 4096) (sym (c.written-payload.ensures ∙ ap (λ (v : View). if c.in_ok-event.event.writes then v.payload else []) same_view))
@@ -462,7 +462,7 @@ invariant_of-self-2 g c =
     let there : slice_get f.views c.args.won.won ≡ Some view = slice_get-get_or f.views c.args.won.won view within ∙ ap (λ (v : View). Some v) (sym c.index-view.ensures) in
     let event : Event = event_of f.kernel.setup f.kernel.kernel c.args.thread view.stop view.payload in
     let did : event.did ≡ c.did_of-did.result = ap (λ (x : Stop). (event_of f.kernel.setup f.kernel.kernel c.args.thread x view.payload).did) (sym c.stop.ensures) ∙ c.did_of-did.ensures view.payload in
-    let next : view.since + event_steps c.did_of-did.result ≡ c.from.result + c.event_steps.result = (let a : c.since-count.result ≡ view.since = c.since-count.ensures in let b : c.from.result ≡ c.since-count.result = c.from.ensures in let d : c.event_steps.result ≡ event_steps c.did_of-did.result = c.event_steps.ensures in omega arith) in
+    let next : view.since + event_steps c.did_of-did.result ≡ c.from.result + c.steps.result = (let a : c.since-count.result ≡ view.since = c.since-count.ensures in let b : c.from.result ≡ c.since-count.result = c.from.ensures in let d : c.steps.result ≡ event_steps c.did_of-did.result = c.steps.ensures in omega arith) in
     let low : f.steps ≤ f.job.settings.limit = hold-steps f h c.args.thread c.args.won.won c.args.won.lost may views verdict in
     let alone : f.leases ≡ [] = hold-alone f h c.args.thread c.args.won.won c.args.won.lost may views verdict in
     let replicas : List Replica = (core_in f).replicas in
@@ -490,7 +490,7 @@ invariant_of-self-2 g c =
           let less : bytes < length event.payload = subst (λ (xs : List ℕ). bytes < length xs) written p.0 in
           (less, payload-due f.kernel.setup f.kernel.kernel c.args.thread view.stop view.payload bytes less);
     } in
-    let fits : f.steps + (view.since + event_steps c.did_of-did.result) ≤ f.job.settings.limit = (let over : c.from.result + c.event_steps.result ≤ s.settings.limit - s.steps = c.if-next-self.false in omega arith) in
+    let fits : f.steps + (view.since + event_steps c.did_of-did.result) ≤ f.job.settings.limit = (let over : c.from.result + c.steps.result ≤ s.settings.limit - s.steps = c.if-next-self.false in omega arith) in
     let allowed : MayVote f.job (core_in f) c.args.thread view.since c.args.won.won c.args.won.lost c.did_of-did.result = hold-allowed f h c.args.thread c.args.won.won c.args.won.lost may views verdict view there c.did_of-did.result did fits in
     let goes : Goes f = hold-goes f h c.args.thread c.args.won.won c.args.won.lost may views verdict in
     let entry : Vote c.args.thread c.since-count.result c.args.won.won c.args.won.lost c.did_of-did.result ≡ Vote c.args.thread view.since c.args.won.won c.args.won.lost c.did_of-did.result = ap (λ (n : ℕ). Vote c.args.thread n c.args.won.won c.args.won.lost c.did_of-did.result) c.since-count.ensures in
@@ -557,7 +557,7 @@ returns-clause-entry g c =
     let there : slice_get f.views c.args.won.won ≡ Some view = slice_get-get_or f.views c.args.won.won view within ∙ ap (λ (v : View). Some v) (sym c.index-view.ensures) in
     let event : Event = event_of f.kernel.setup f.kernel.kernel c.args.thread view.stop view.payload in
     let did : event.did ≡ c.did_of-did.result = ap (λ (x : Stop). (event_of f.kernel.setup f.kernel.kernel c.args.thread x view.payload).did) (sym c.stop.ensures) ∙ c.did_of-did.ensures view.payload in
-    let next : view.since + event_steps c.did_of-did.result ≡ c.from.result + c.event_steps.result = (let a : c.since-count.result ≡ view.since = c.since-count.ensures in let b : c.from.result ≡ c.since-count.result = c.from.ensures in let d : c.event_steps.result ≡ event_steps c.did_of-did.result = c.event_steps.ensures in omega arith) in
+    let next : view.since + event_steps c.did_of-did.result ≡ c.from.result + c.steps.result = (let a : c.since-count.result ≡ view.since = c.since-count.ensures in let b : c.from.result ≡ c.since-count.result = c.from.ensures in let d : c.steps.result ≡ event_steps c.did_of-did.result = c.steps.ensures in omega arith) in
     let low : f.steps ≤ f.job.settings.limit = hold-steps f h c.args.thread c.args.won.won c.args.won.lost may views verdict in
     let alone : f.leases ≡ [] = hold-alone f h c.args.thread c.args.won.won c.args.won.lost may views verdict in
     let replicas : List Replica = (core_in f).replicas in
@@ -585,7 +585,7 @@ returns-clause-entry g c =
           let less : bytes < length event.payload = subst (λ (xs : List ℕ). bytes < length xs) written p.0 in
           (less, payload-due f.kernel.setup f.kernel.kernel c.args.thread view.stop view.payload bytes less);
     } in
-    let fits : f.steps + (view.since + event_steps c.did_of-did.result) ≤ f.job.settings.limit = (let over : c.from.result + c.event_steps.result ≤ s.settings.limit - s.steps = c.if-next-self.false in omega arith) in
+    let fits : f.steps + (view.since + event_steps c.did_of-did.result) ≤ f.job.settings.limit = (let over : c.from.result + c.steps.result ≤ s.settings.limit - s.steps = c.if-next-self.false in omega arith) in
     let allowed : MayVote f.job (core_in f) c.args.thread view.since c.args.won.won c.args.won.lost c.did_of-did.result = hold-allowed f h c.args.thread c.args.won.won c.args.won.lost may views verdict view there c.did_of-did.result did fits in
     let goes : Goes f = hold-goes f h c.args.thread c.args.won.won c.args.won.lost may views verdict in
     let entry : Vote c.args.thread c.since-count.result c.args.won.won c.args.won.lost c.did_of-did.result ≡ Vote c.args.thread view.since c.args.won.won c.args.won.lost c.did_of-did.result = ap (λ (n : ℕ). Vote c.args.thread n c.args.won.won c.args.won.lost c.did_of-did.result) c.since-count.ensures in
@@ -626,7 +626,7 @@ returns-clause-sends g c =
     let there : slice_get f.views c.args.won.won ≡ Some view = slice_get-get_or f.views c.args.won.won view within ∙ ap (λ (v : View). Some v) (sym c.index-view.ensures) in
     let event : Event = event_of f.kernel.setup f.kernel.kernel c.args.thread view.stop view.payload in
     let did : event.did ≡ c.did_of-did.result = ap (λ (x : Stop). (event_of f.kernel.setup f.kernel.kernel c.args.thread x view.payload).did) (sym c.stop.ensures) ∙ c.did_of-did.ensures view.payload in
-    let next : view.since + event_steps c.did_of-did.result ≡ c.from.result + c.event_steps.result = (let a : c.since-count.result ≡ view.since = c.since-count.ensures in let b : c.from.result ≡ c.since-count.result = c.from.ensures in let d : c.event_steps.result ≡ event_steps c.did_of-did.result = c.event_steps.ensures in omega arith) in
+    let next : view.since + event_steps c.did_of-did.result ≡ c.from.result + c.steps.result = (let a : c.since-count.result ≡ view.since = c.since-count.ensures in let b : c.from.result ≡ c.since-count.result = c.from.ensures in let d : c.steps.result ≡ event_steps c.did_of-did.result = c.steps.ensures in omega arith) in
     let low : f.steps ≤ f.job.settings.limit = hold-steps f h c.args.thread c.args.won.won c.args.won.lost may views verdict in
     let alone : f.leases ≡ [] = hold-alone f h c.args.thread c.args.won.won c.args.won.lost may views verdict in
     let replicas : List Replica = (core_in f).replicas in
@@ -654,7 +654,7 @@ returns-clause-sends g c =
           let less : bytes < length event.payload = subst (λ (xs : List ℕ). bytes < length xs) written p.0 in
           (less, payload-due f.kernel.setup f.kernel.kernel c.args.thread view.stop view.payload bytes less);
     } in
-    let fits : f.steps + (view.since + event_steps c.did_of-did.result) ≤ f.job.settings.limit = (let over : c.from.result + c.event_steps.result ≤ s.settings.limit - s.steps = c.if-next-self.false in omega arith) in
+    let fits : f.steps + (view.since + event_steps c.did_of-did.result) ≤ f.job.settings.limit = (let over : c.from.result + c.steps.result ≤ s.settings.limit - s.steps = c.if-next-self.false in omega arith) in
     let allowed : MayVote f.job (core_in f) c.args.thread view.since c.args.won.won c.args.won.lost c.did_of-did.result = hold-allowed f h c.args.thread c.args.won.won c.args.won.lost may views verdict view there c.did_of-did.result did fits in
     let goes : Goes f = hold-goes f h c.args.thread c.args.won.won c.args.won.lost may views verdict in
     let entry : Vote c.args.thread c.since-count.result c.args.won.won c.args.won.lost c.did_of-did.result ≡ Vote c.args.thread view.since c.args.won.won c.args.won.lost c.did_of-did.result = ap (λ (n : ℕ). Vote c.args.thread n c.args.won.won c.args.won.lost c.did_of-did.result) c.since-count.ensures in
@@ -704,7 +704,7 @@ overflow_add-self-2 g c =
     let there : slice_get f.views c.args.won.won ≡ Some view = slice_get-get_or f.views c.args.won.won view within ∙ ap (λ (v : View). Some v) (sym c.index-view.ensures) in
     let event : Event = event_of f.kernel.setup f.kernel.kernel c.args.thread view.stop view.payload in
     let did : event.did ≡ c.did_of-did.result = ap (λ (x : Stop). (event_of f.kernel.setup f.kernel.kernel c.args.thread x view.payload).did) (sym c.stop.ensures) ∙ c.did_of-did.ensures view.payload in
-    let next : view.since + event_steps c.did_of-did.result ≡ c.from.result + c.event_steps.result = (let a : c.since-count.result ≡ view.since = c.since-count.ensures in let b : c.from.result ≡ c.since-count.result = c.from.ensures in let d : c.event_steps.result ≡ event_steps c.did_of-did.result = c.event_steps.ensures in omega arith) in
+    let next : view.since + event_steps c.did_of-did.result ≡ c.from.result + c.steps.result = (let a : c.since-count.result ≡ view.since = c.since-count.ensures in let b : c.from.result ≡ c.since-count.result = c.from.ensures in let d : c.steps.result ≡ event_steps c.did_of-did.result = c.steps.ensures in omega arith) in
     let low : f.steps ≤ f.job.settings.limit = hold-steps f h c.args.thread c.args.won.won c.args.won.lost may views verdict in
     let alone : f.leases ≡ [] = hold-alone f h c.args.thread c.args.won.won c.args.won.lost may views verdict in
     let replicas : List Replica = (core_in f).replicas in
@@ -732,7 +732,7 @@ overflow_add-self-2 g c =
           let less : bytes < length event.payload = subst (λ (xs : List ℕ). bytes < length xs) written p.0 in
           (less, payload-due f.kernel.setup f.kernel.kernel c.args.thread view.stop view.payload bytes less);
     } in
-    let fits : f.steps + (view.since + event_steps c.did_of-did.result) ≤ f.job.settings.limit = (let over : c.from.result + c.event_steps.result ≤ s.settings.limit - s.steps = c.if-next-self.false in omega arith) in
+    let fits : f.steps + (view.since + event_steps c.did_of-did.result) ≤ f.job.settings.limit = (let over : c.from.result + c.steps.result ≤ s.settings.limit - s.steps = c.if-next-self.false in omega arith) in
     let allowed : MayVote f.job (core_in f) c.args.thread view.since c.args.won.won c.args.won.lost c.did_of-did.result = hold-allowed f h c.args.thread c.args.won.won c.args.won.lost may views verdict view there c.did_of-did.result did fits in
     let goes : Goes f = hold-goes f h c.args.thread c.args.won.won c.args.won.lost may views verdict in
     let entry : Vote c.args.thread c.since-count.result c.args.won.won c.args.won.lost c.did_of-did.result ≡ Vote c.args.thread view.since c.args.won.won c.args.won.lost c.did_of-did.result = ap (λ (n : ℕ). Vote c.args.thread n c.args.won.won c.args.won.lost c.did_of-did.result) c.since-count.ensures in
@@ -748,7 +748,7 @@ overflow_add-self-2 g c =
 pub returns-then-next-self-clause-won : goal.returns-then-next-self-clause-won
 returns-then-next-self-clause-won g c split = limits (subst IsSplit c.conclude.ensures.entry split)
   where
-    limits : IsSplit (End (Limit c.self.inside.steps (c.from.result + c.event_steps.result))) → ⊥
+    limits : IsSplit (End (Limit c.self.inside.steps (c.from.result + c.steps.result))) → ⊥
     limits (inl e) = absurd (cc e)
     limits (inr e) = absurd (cc e)
 
@@ -827,7 +827,7 @@ regroup-requires-clause-seats g c =
     let there : slice_get f.views c.args.won.won ≡ Some view = slice_get-get_or f.views c.args.won.won view within ∙ ap (λ (v : View). Some v) (sym c.index-view.ensures) in
     let event : Event = event_of f.kernel.setup f.kernel.kernel c.args.thread view.stop view.payload in
     let did : event.did ≡ c.did_of-did.result = ap (λ (x : Stop). (event_of f.kernel.setup f.kernel.kernel c.args.thread x view.payload).did) (sym c.stop.ensures) ∙ c.did_of-did.ensures view.payload in
-    let next : view.since + event_steps c.did_of-did.result ≡ c.from.result + c.event_steps.result = (let a : c.since-count.result ≡ view.since = c.since-count.ensures in let b : c.from.result ≡ c.since-count.result = c.from.ensures in let d : c.event_steps.result ≡ event_steps c.did_of-did.result = c.event_steps.ensures in omega arith) in
+    let next : view.since + event_steps c.did_of-did.result ≡ c.from.result + c.steps.result = (let a : c.since-count.result ≡ view.since = c.since-count.ensures in let b : c.from.result ≡ c.since-count.result = c.from.ensures in let d : c.steps.result ≡ event_steps c.did_of-did.result = c.steps.ensures in omega arith) in
     let low : f.steps ≤ f.job.settings.limit = hold-steps f h c.args.thread c.args.won.won c.args.won.lost may views verdict in
     let alone : f.leases ≡ [] = hold-alone f h c.args.thread c.args.won.won c.args.won.lost may views verdict in
     let replicas : List Replica = (core_in f).replicas in
@@ -879,7 +879,7 @@ regroup-requires-clause-groups g c =
     let there : slice_get f.views c.args.won.won ≡ Some view = slice_get-get_or f.views c.args.won.won view within ∙ ap (λ (v : View). Some v) (sym c.index-view.ensures) in
     let event : Event = event_of f.kernel.setup f.kernel.kernel c.args.thread view.stop view.payload in
     let did : event.did ≡ c.did_of-did.result = ap (λ (x : Stop). (event_of f.kernel.setup f.kernel.kernel c.args.thread x view.payload).did) (sym c.stop.ensures) ∙ c.did_of-did.ensures view.payload in
-    let next : view.since + event_steps c.did_of-did.result ≡ c.from.result + c.event_steps.result = (let a : c.since-count.result ≡ view.since = c.since-count.ensures in let b : c.from.result ≡ c.since-count.result = c.from.ensures in let d : c.event_steps.result ≡ event_steps c.did_of-did.result = c.event_steps.ensures in omega arith) in
+    let next : view.since + event_steps c.did_of-did.result ≡ c.from.result + c.steps.result = (let a : c.since-count.result ≡ view.since = c.since-count.ensures in let b : c.from.result ≡ c.since-count.result = c.from.ensures in let d : c.steps.result ≡ event_steps c.did_of-did.result = c.steps.ensures in omega arith) in
     let low : f.steps ≤ f.job.settings.limit = hold-steps f h c.args.thread c.args.won.won c.args.won.lost may views verdict in
     let alone : f.leases ≡ [] = hold-alone f h c.args.thread c.args.won.won c.args.won.lost may views verdict in
     let replicas : List Replica = (core_in f).replicas in
@@ -932,7 +932,7 @@ regroup-requires-clause-thread g c =
     let there : slice_get f.views c.args.won.won ≡ Some view = slice_get-get_or f.views c.args.won.won view within ∙ ap (λ (v : View). Some v) (sym c.index-view.ensures) in
     let event : Event = event_of f.kernel.setup f.kernel.kernel c.args.thread view.stop view.payload in
     let did : event.did ≡ c.did_of-did.result = ap (λ (x : Stop). (event_of f.kernel.setup f.kernel.kernel c.args.thread x view.payload).did) (sym c.stop.ensures) ∙ c.did_of-did.ensures view.payload in
-    let next : view.since + event_steps c.did_of-did.result ≡ c.from.result + c.event_steps.result = (let a : c.since-count.result ≡ view.since = c.since-count.ensures in let b : c.from.result ≡ c.since-count.result = c.from.ensures in let d : c.event_steps.result ≡ event_steps c.did_of-did.result = c.event_steps.ensures in omega arith) in
+    let next : view.since + event_steps c.did_of-did.result ≡ c.from.result + c.steps.result = (let a : c.since-count.result ≡ view.since = c.since-count.ensures in let b : c.from.result ≡ c.since-count.result = c.from.ensures in let d : c.steps.result ≡ event_steps c.did_of-did.result = c.steps.ensures in omega arith) in
     let low : f.steps ≤ f.job.settings.limit = hold-steps f h c.args.thread c.args.won.won c.args.won.lost may views verdict in
     let alone : f.leases ≡ [] = hold-alone f h c.args.thread c.args.won.won c.args.won.lost may views verdict in
     let replicas : List Replica = (core_in f).replicas in

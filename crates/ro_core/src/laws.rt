@@ -1,5 +1,5 @@
 //! What holds of every legal journal.
-ghost use Rattle.std.specs.Prelude.{false, ◌≡◌, ◌⊎◌, ◌&&◌, ◌==◌, ◌∷◌, ◌++◌, ℕ, List, [], Some, not, length, slice_get};
+ghost use Rattle.std.specs.Prelude.{false, true, is_some, ◌≡◌, ◌⊎◌, ◌&&◌, ◌==◌, ◌∷◌, ◌++◌, ℕ, List, [], Some, None, not, length, slice_get};
 ghost use Rattle.std.specs.List.{filter};
 ghost use Rattle.ro_event.specs.declared.calls.Call.{Call};
 ghost use Rattle.ro_event.specs.declared.stops.Stop.TheVariants.{Calls, PageFault};
@@ -10,8 +10,10 @@ ghost use Rattle.ro_replica.specs.Runs.{Ran, run_of};
 ghost use Rattle.ro_journal.specs.declared.Entry.{Entry};
 ghost use Rattle.ro_journal.specs.declared.Entry.TheVariants.{End};
 ghost use Rattle.ro_journal.specs.declared.How.{How};
-ghost use Rattle.ro_core.specs.Core.{Job};
-ghost use Rattle.ro_core.specs.Legal.{Legal, replay};
+ghost use Rattle.ro_core.specs.declared.actions.Action.TheVariants as act;
+ghost use Rattle.ro_core.specs.Core.{Job, Core, is_going, is_lendable, may_vote, may_free, nothing_lent};
+ghost use Rattle.ro_core.specs.Legal.{Legal, MayEnd, replay};
+ghost use Rattle.ro_core.specs.Action.{next_action};
 ghost use Rattle.ro_core.specs.Laws.{thread_in, LetsGoOn, hits, has_come};
 
 /// Nothing follows an end.
@@ -44,4 +46,15 @@ pub fn same_pages()
 /// A thread stands at a page fault only while its page is not backed.
 pub fn page_faults_wait()
     ensures { (job : Job) (journal : List Entry) → Legal job journal → (number thread page : ℕ) (replica : Replica) → slice_get (replay job journal).replicas number ≡ Some replica → stop_of replica thread ≡ Some (PageFault page) → replica.backed page ≡ false }
+{}
+
+/// What comes next may be done: the thread may be voted on, freed or lent, the end may come, or a lease is out that has to
+/// come back first.
+pub fn next_may_be_done()
+    ensures vote { (job : Job) (core : Core) (thread : ℕ) → next_action job core ≡ act.Vote thread → may_vote core thread ≡ true }
+    ensures free { (job : Job) (core : Core) (thread : ℕ) → next_action job core ≡ act.Free thread → may_free job core thread ≡ true }
+    ensures lend { (job : Job) (core : Core) (replica thread : ℕ) → next_action job core ≡ act.Lend replica thread → (is_going core ≡ true) × (is_lendable core replica thread ≡ true) }
+    ensures end { (job : Job) (core : Core) (how : How) → next_action job core ≡ act.End how → (core.ended ≡ None) × MayEnd job core how }
+    ensures wait { (job : Job) (core : Core) → next_action job core ≡ act.Wait → nothing_lent core ≡ false }
+    ensures over { (job : Job) (core : Core) → next_action job core ≡ act.Over → is_some core.ended ≡ true }
 {}

@@ -4,10 +4,7 @@ ghost use Rattle.ro_exec.specs.Registers.{register};
 ghost use Rattle.ro_exec.specs.Threads.{with_stack, first_cpu as first, made_cpu as made_of, goes_on, cpu_after};
 
 use ro_event::{Effect, Goes, Made};
-use ro_exec::Cpu;
-
-/// A jump to this place ends the thread.
-const EXIT_PLACE: u32 = 0x7FFF_FFF0;
+use ro_exec::{Cpu, EXIT_PLACE};
 
 /// Where the first stack ends, and how far the next is from it.
 const FIRST_STACK_END: u32 = 0x7001_0000;

@@ -4,6 +4,7 @@ mod Turns
 mod Lending
 mod Lasts
 mod LastViews
+mod OneDriver
 mod Deciding
 mod Summed
 mod Shown

@@ -5,7 +5,7 @@ use Rattle.ro_event.specs.Views.{View}
 use Rattle.ro_journal.specs.declared.How.{How}
 use Rattle.ro_journal.specs.declared.How.TheVariants.{Sink, Differ, NoMajority}
 use Rattle.ro_journal.specs.declared.Entry.{Entry}
-use Rattle.ro_journal.specs.declared.Entry.TheVariants.{End}
+use Rattle.ro_journal.specs.declared.Entry.TheVariants.{Take, Put, Vote, Free, End}
 use Rattle.ro_journal.specs.Plan.{outcome_of}
 use Rattle.ro_settings.specs.Ranges.{InRange}
 use Rattle.ro_report.specs.Report.{struck_in, steps_in}
@@ -64,6 +64,16 @@ pub record ShowsLast (job : Job) (journal : List Entry) (views : List View) : Ty
 -- the views of a vote that came to nothing are kept
 abbrev pub KeepsLast : Job → List Entry → List View → Type 0
 KeepsLast job journal views = (outcome_of journal ≡ Some Differ) ⊎ (outcome_of journal ≡ Some NoMajority) → ShowsLast job journal views
+
+-- Driver 0 takes all turns: what it takes comes back in the next entry.
+abbrev pub TakesTurns : List Entry → Type 0
+TakesTurns [] = Unit {0}
+TakesTurns (Take driver replica thread ∷ Put back lent ran count hit ∷ journal) = (driver ≡ 0) × (back ≡ 0) × TakesTurns journal
+TakesTurns (Take driver replica thread ∷ journal) = ⊥
+TakesTurns (Put back lent ran count hit ∷ journal) = ⊥
+TakesTurns (Vote thread count won lost did ∷ journal) = TakesTurns journal
+TakesTurns (Free thread ∷ journal) = TakesTurns journal
+TakesTurns (End how ∷ journal) = TakesTurns journal
 
 -- what a summary counts are numbers of 64 bits
 abbrev pub AreCounts : List Entry → Type 0

@@ -6,7 +6,7 @@ ghost use Rattle.ro_core.specs.declared.actions.Action.TheVariants as act;
 ghost use Rattle.ro_core.specs.Legal.{output_of};
 ghost use Rattle.ro_core.specs.Action.{next_action};
 ghost use Rattle.ro_core.specs.Seen.{state, sent};
-ghost use Rattle.ro_top.specs.Driven.{IsDriven, IsHome, KeepsLast, Goes};
+ghost use Rattle.ro_top.specs.Driven.{IsDriven, IsHome, KeepsLast, TakesTurns, Goes};
 
 use ro_core::{Action, Core};
 use ro_io::Sink;
@@ -27,10 +27,12 @@ pub(crate) fn drive<R: Wait, K: Sink>(
     requires driven { IsDriven core.old }
     requires home { IsHome core.old }
     requires last { KeepsLast core.old.job core.old.journal core.old.views }
+    requires turns { TakesTurns core.old.journal }
     requires quantum { quantum ≡ core.old.job.settings.quantum }
     ensures goes { Goes core.old core.new }
     ensures driven { IsDriven core.new }
     ensures last { KeepsLast core.new.job core.new.journal core.new.views }
+    ensures turns { TakesTurns core.new.journal }
     ensures all_sent { sent core.new ≡ output_of core.new.job core.new.journal }
     ensures over { OnOk result (IsSome (outcome_of core.new.journal)) }
 {
@@ -58,9 +60,11 @@ fn lend<K: Sink>(
     requires home { IsHome core.old }
     requires quantum { quantum ≡ core.old.job.settings.quantum }
     requires next { next_action core.old.job (state core.old) ≡ act.Lend replica thread }
+    requires turns { TakesTurns core.old.journal }
     ensures goes { Goes core.old core.new }
     ensures driven { IsDriven core.new }
     ensures last { KeepsLast core.new.job core.new.journal core.new.views }
+    ensures turns { TakesTurns core.new.journal }
     ensures home { IsHome core.new }
     ensures calm { OnErr result (core.new.failed ≡ None) }
 {
@@ -76,9 +80,11 @@ fn vote<K: Sink>(core: &mut Core<K>, thread: u32) -> Result<(), AllocError>
     requires driven { IsDriven core.old }
     requires home { IsHome core.old }
     requires next { next_action core.old.job (state core.old) ≡ act.Vote thread }
+    requires turns { TakesTurns core.old.journal }
     ensures goes { Goes core.old core.new }
     ensures driven { IsDriven core.new }
     ensures last { KeepsLast core.new.job core.new.journal core.new.views }
+    ensures turns { TakesTurns core.new.journal }
     ensures home { IsHome core.new }
     ensures calm { OnErr result (core.new.failed ≡ None) }
 {
@@ -91,9 +97,11 @@ fn free<K: Sink>(core: &mut Core<K>, thread: u32) -> Result<(), AllocError>
     requires driven { IsDriven core.old }
     requires home { IsHome core.old }
     requires next { next_action core.old.job (state core.old) ≡ act.Free thread }
+    requires turns { TakesTurns core.old.journal }
     ensures goes { Goes core.old core.new }
     ensures driven { IsDriven core.new }
     ensures last { KeepsLast core.new.job core.new.journal core.new.views }
+    ensures turns { TakesTurns core.new.journal }
     ensures home { IsHome core.new }
     ensures calm { OnErr result (core.new.failed ≡ None) }
 {
@@ -106,9 +114,11 @@ fn end<K: Sink>(core: &mut Core<K>)
     requires driven { IsDriven core.old }
     requires home { IsHome core.old }
     requires next { (how : HowOf) × (next_action core.old.job (state core.old) ≡ act.End how) }
+    requires turns { TakesTurns core.old.journal }
     ensures goes { Goes core.old core.new }
     ensures driven { IsDriven core.new }
     ensures last { KeepsLast core.new.job core.new.journal core.new.views }
+    ensures turns { TakesTurns core.new.journal }
     ensures home { IsHome core.new }
 {
     core.end();

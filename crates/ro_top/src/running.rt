@@ -3,7 +3,7 @@ ghost use Rattle.std.specs.Prelude.{◌≡◌, ◌≢◌, []};
 ghost use Rattle.ro_journal.specs.Plan.{outcome_of};
 ghost use Rattle.ro_report.specs.declared.answers.Answer.TheVariants as a;
 ghost use Rattle.ro_top.specs.Files.{job_of};
-ghost use Rattle.ro_top.specs.Driven.{CanRun, AreCounts};
+ghost use Rattle.ro_top.specs.Driven.{CanRun, TakesTurns, AreCounts};
 ghost use Rattle.ro_top.specs.Causes.{IsRefusal, IsOutcome};
 ghost use Rattle.ro_top.specs.Top.{RanAs};
 
@@ -49,6 +49,7 @@ pub(crate) fn run<R: Wait, K: Sink>(rt: &R, alloc: Global, job: Job, out: K) -> 
     requires { CanRun (job_of job.image job.input.items job.faults.items job.settings) }
     ensures run { RanAs (record { journal = result.journal.items; answer = result.answer; views = result.views.items; bytes = result.bytes; held_before = K.held out; held_after = K.held result.out; faults_before = K.faults out; faults_after = K.faults result.out }) (job_of job.image job.input.items job.faults.items job.settings) }
     ensures counts { AreCounts result.journal.items }
+    ensures turns { TakesTurns result.journal.items }
     ensures answer { IsOutcome result.answer (outcome_of result.journal.items) }
     ensures program { IsRefusal result.answer → ⊥ }
     ensures no_views { result.answer ≢ a.Differ → result.answer ≢ a.NoMajority → result.views.items ≡ [] }

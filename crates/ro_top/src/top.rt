@@ -6,7 +6,7 @@ ghost use Rattle.ro_report.specs.Report.{report_of};
 ghost use Rattle.ro_report.specs.declared.answers.Answer.TheVariants as a;
 ghost use Rattle.ro_words.specs.Commands.{command_of};
 ghost use Rattle.ro_words.specs.Uses.{texts_of};
-ghost use Rattle.ro_top.specs.Driven.{AreCounts};
+ghost use Rattle.ro_top.specs.Driven.{TakesTurns, AreCounts};
 ghost use Rattle.ro_top.specs.Files.{wants_journal};
 ghost use Rattle.ro_top.specs.Causes.{IsRefusal, RefusalCause, IsOutcome};
 ghost use Rattle.ro_top.specs.Top.{OfItsJob, RanAs, IsRunOf, IsTold};
@@ -34,6 +34,7 @@ pub fn romain<'a, R: Wait, S: Store, K: Sink, E: Sink>(
     report: &mut E,
 ) -> Done<K>
     ensures run { (bytes : ℕ) × OfItsJob (S.told store.old) (texts_of words.now) result.journal.items (IsRunOf (record { journal = result.journal.items; answer = result.answer; views = result.views.items; bytes = bytes; held_before = K.held out; held_after = K.held result.out; faults_before = K.faults out; faults_after = K.faults result.out })) × IsTold result.told (E.held report.old) (E.held report.new) (report_of (wants_journal (texts_of words.now)) result.journal.items bytes result.answer) }
+    ensures turns { TakesTurns result.journal.items }
     ensures answer { IsOutcome result.answer (outcome_of result.journal.items) }
     ensures nothing_run { result.journal.items ≡ [] → (K.held result.out ≡ K.held out) × (K.faults result.out ≡ K.faults out) }
     ensures no_views { result.answer ≢ a.Differ → result.answer ≢ a.NoMajority → result.views.items ≡ [] }
@@ -71,6 +72,7 @@ fn command<'a, R: Wait, S: Store, K: Sink>(
 ) -> (bool, Ran<K>)
     ensures run { OfItsJob (S.told store.old) (texts_of words.now) result.1.journal.items (RanAs (record { journal = result.1.journal.items; answer = result.1.answer; views = result.1.views.items; bytes = result.1.bytes; held_before = K.held out; held_after = K.held result.1.out; faults_before = K.faults out; faults_after = K.faults result.1.out })) }
     ensures counts { AreCounts result.1.journal.items }
+    ensures turns { TakesTurns result.1.journal.items }
     ensures shown { (result.1.journal.items ≡ []) ⊎ (result.0 ≡ wants_journal (texts_of words.now)) }
     ensures answer { IsOutcome result.1.answer (outcome_of result.1.journal.items) }
     ensures nothing_run { result.1.journal.items ≡ [] → (K.held result.1.out ≡ K.held out) × (K.faults result.1.out ≡ K.faults out) }

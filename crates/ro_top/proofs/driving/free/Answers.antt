@@ -3,6 +3,7 @@ use Rattle.ro_core.specs.Seen.{state}
 use Rattle.ro_core.proofs.Nexts.{free_next}
 use Rattle.ro_top.proofs.Tells.{always_on_err}
 use Rattle.ro_top.proofs.LastViews.{going_open, none_last, stays_open, freed_last}
+use Rattle.ro_top.proofs.OneDriver.{turns_stay, turns_freed}
 use Rattle.ro_top.proofs.Turns.{stays_goes}
 use Rattle.ro_top.proofs.Deciding.{free_going, free_calm, freed_driven, freed_home, freed_goes}
 use Rattle.ro_top.proofs.driving.free.Goals as goal
@@ -40,3 +41,11 @@ pub returns-clause-last : goal.returns-clause-last
 returns-clause-last g c =
     let e = c.in_ok-free.ensures.entry in
     freed_last c.args.core.now _ c.args.thread c.in_ok-free.field-0 (going_open c.args.core.now c.requires.driven (free_going c.args.core.now c.args.thread c.requires.next)) e.1 e.2
+
+pub returns-in_err-free-clause-turns : goal.returns-in_err-free-clause-turns
+returns-in_err-free-clause-turns g c = turns_stay _ _ c.in_err-free.ensures.err c.requires.turns
+
+pub returns-clause-turns : goal.returns-clause-turns
+returns-clause-turns g c =
+    let e = c.in_ok-free.ensures.entry in
+    turns_freed c.args.core.now _ c.args.thread c.in_ok-free.field-0 e.2 e.1 c.requires.turns

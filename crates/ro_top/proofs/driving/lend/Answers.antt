@@ -2,6 +2,7 @@ use Rattle.std.proofs.Common.{◌∙◌, ap, sym, refl}
 use Rattle.ro_core.specs.Seen.{state}
 use Rattle.ro_core.proofs.Nexts.{lend_is_next}
 use Rattle.ro_top.proofs.LastViews.{going_open, none_last, more_open, stays_open}
+use Rattle.ro_top.proofs.OneDriver.{turns_stay, turns_lent}
 use Rattle.ro_core.specs.Core.{Job}
 use Rattle.ro_top.proofs.Tells.{always_on_err}
 use Rattle.ro_top.proofs.Turns.{lend_calm, stays_goes, stays_driven, stays_home, stays_next, goes_on}
@@ -91,3 +92,19 @@ returns-clause-last g c =
     in
     let open_first = going_open c.args.core.now c.requires.driven (lend_is_next c.args.core.now.job (state c.args.core.now) c.args.replica c.args.thread c.requires.next).0 in
     none_last _ _ _ (more_open c.take-lent.new.self c.put.new.self _ (more_open c.room.new.self c.take-lent.new.self _ (stays_open _ _ open_first stays) c.take-lent.ensures.entry refl) (c.put.ensures.entry _ lease) refl)
+
+pub returns-in_err-room-clause-turns : goal.returns-in_err-room-clause-turns
+returns-in_err-room-clause-turns g c = turns_stay _ _ c.in_err-room.ensures.stays c.requires.turns
+
+pub returns-clause-turns : goal.returns-clause-turns
+returns-clause-turns g c =
+    let stays = c.in_ok-room.ensures.stays in
+    let quantum = c.requires.quantum ∙ ap (λ (j : Job). j.settings.quantum) (sym stays.job) in
+    let driven = stays_driven _ _ stays c.requires.driven in
+    let home = stays_home _ _ stays c.requires.home in
+    let next = stays_next _ _ c.args.replica c.args.thread stays c.requires.next in
+    let lease =
+    lease_is c.room.new.self c.take-lent.new.self c.args.replica c.args.thread c.args.quantum c.run-ran.result.count c.run-ran.result.hit c.take-lent.result c.run-ran.new.self c.run-ran.result.stop
+    driven home next c.take-lent.ensures.entry c.take-lent.ensures.quiet c.take-lent.ensures.lent c.run-ran.ensures.program quantum c.run-ran.ensures.runs
+    in
+    turns_lent c.room.new.self c.take-lent.new.self c.put.new.self _ _ _ _ _ _ c.take-lent.ensures.entry (c.put.ensures.entry _ lease) (turns_stay _ _ stays c.requires.turns)

@@ -3,6 +3,7 @@ use Rattle.ro_core.specs.Seen.{state}
 use Rattle.ro_core.proofs.Nexts.{vote_next}
 use Rattle.ro_top.proofs.Tells.{always_on_err}
 use Rattle.ro_top.proofs.LastViews.{going_open, none_last, stays_open, voted_last}
+use Rattle.ro_top.proofs.OneDriver.{turns_stay, turns_voted}
 use Rattle.ro_top.proofs.Turns.{stays_goes, calm_state}
 use Rattle.ro_top.proofs.Deciding.{vote_going, vote_calm, voted_driven, voted_home, voted_goes}
 use Rattle.ro_top.proofs.driving.vote.Goals as goal
@@ -41,3 +42,11 @@ returns-clause-last g c =
     let e = c.in_ok-vote.ensures.entry in
     voted_last c.args.core.now _ c.args.thread c.in_ok-vote.field-0 (going_open c.args.core.now c.requires.driven (vote_going c.args.core.now c.args.thread c.requires.next))
     (calm_state c.args.core.now (vote_calm c.args.core.now c.args.thread c.requires.next)) c.requires.next e.1 e.2 c.in_ok-vote.ensures.shown
+
+pub returns-in_err-vote-clause-turns : goal.returns-in_err-vote-clause-turns
+returns-in_err-vote-clause-turns g c = turns_stay _ _ c.in_err-vote.ensures.err c.requires.turns
+
+pub returns-clause-turns : goal.returns-clause-turns
+returns-clause-turns g c =
+    let e = c.in_ok-vote.ensures.entry in
+    turns_voted c.args.core.now _ c.args.thread c.in_ok-vote.field-0 e.2 e.1 c.requires.turns

@@ -1,6 +1,6 @@
 use Rattle.std.proofs.Common.{length, sym, ap, ◌∙◌, subst}
 use Rattle.ro_core.specs.Core.{Job}
-use Rattle.ro_top.specs.Driven.{HasRun, ShowsLast}
+use Rattle.ro_top.specs.Driven.{HasRun, ShowsLast, TakesTurns}
 use Rattle.ro_top.specs.Files.{job_of}
 use Rattle.ro_top.specs.Causes.{IsOutcome, EndCause}
 use Rattle.ro_journal.specs.Plan.{outcome_of}
@@ -56,3 +56,12 @@ returns-clause-nothing_run g c none =
 
 pub drive-requires-clause-last : goal.drive-requires-clause-last
 drive-requires-clause-last g c = none_last _ _ _ (ap outcome_of c.in-Ok.ensures.opens.journal_is)
+
+pub drive-requires-clause-turns : goal.drive-requires-clause-turns
+drive-requires-clause-turns g c = subst TakesTurns (sym c.in-Ok.ensures.opens.journal_is) tt
+
+pub returns-in-Err-clause-turns : goal.returns-in-Err-clause-turns
+returns-in-Err-clause-turns g c = subst TakesTurns (sym c.nothing.ensures.journal) tt
+
+pub returns-clause-turns : goal.returns-clause-turns
+returns-clause-turns g c = subst TakesTurns (sym c.finish-how.ensures.journal) c.drive.ensures.turns

@@ -1,0 +1,19 @@
+//! Where stacks and the heap lie.
+ghost use Rattle.std.specs.Prelude.{ℕ, ◌≡◌, ◌+◌, ◌<◌, ◌≤◌};
+ghost use Rattle.ro_event.specs.declared.calls.Call.{Call};
+ghost use Rattle.ro_image.specs.Image.{stack_range, heap_size};
+ghost use Rattle.ro_exec.specs.Threads.{stack_top};
+ghost use Rattle.ro_kernel.specs.Kernel.{Setup, Kernel};
+ghost use Rattle.ro_kernel.specs.Serve.{serve_brk, answers};
+
+/// A thread's stack ends where the range that is its stack does.
+pub fn stacks_end_with_their_ranges()
+    ensures { (thread : ℕ) → stack_top thread ≡ (stack_range thread).start + (stack_range thread).length }
+{}
+
+/// The heap ends anywhere from the start of its range to its end, and nowhere else.
+pub fn the_heap_ends_in_its_range()
+    ensures within { (setup : Setup) (kernel : Kernel) (thread : ℕ) (call : Call) → setup.heap ≤ call.a0 → call.a0 ≤ setup.heap + heap_size → serve_brk setup kernel thread call ≡ answers (record kernel { heap_end = call.a0 }) thread call call.a0 }
+    ensures below { (setup : Setup) (kernel : Kernel) (thread : ℕ) (call : Call) → call.a0 < setup.heap → serve_brk setup kernel thread call ≡ answers kernel thread call kernel.heap_end }
+    ensures above { (setup : Setup) (kernel : Kernel) (thread : ℕ) (call : Call) → setup.heap + heap_size < call.a0 → serve_brk setup kernel thread call ≡ answers kernel thread call kernel.heap_end }
+{}

@@ -1,5 +1,5 @@
 -- A strike at each kind of target.
-use Rattle.std.specs.Prelude.{◌≡◌, ℕ, ◌+◌, ◌<◌, ◌≤◌, ◌^◌, ◌%◌, ◌-◌, ◌/◌, Bool, true, ◌&&◌, List, [], ◌∷◌, length, nat_le, nat_lt, if◌then◌else◌, slice_set, slice_index_or, Option, bit_xor}
+use Rattle.std.specs.Prelude.{◌≡◌, ℕ, ◌+◌, ◌<◌, ◌≤◌, ◌^◌, ◌%◌, ◌-◌, ◌/◌, Bool, true, ◌&&◌, List, [], ◌∷◌, length, nat_le, if◌then◌else◌, slice_set, slice_index_or, Option, bit_xor}
 use Rattle.ro_event.specs.declared.stops.Stop.{Stop}
 use Rattle.std.proofs.Common.{refl, sym, ap, ◌∙◌, subst, arith}
 use Rattle.std.proofs.lemmas.Bool.{and_parts, and_from, leb-true}

@@ -10,11 +10,4 @@
     sw s1, 0(t0)
     li t0, PAGE / 2
     add a1, a1, t0
-    mv a2, s2
-    li a7, WRITE
-turn:
-    li a0, 1
-    ecall
-    addi s1, s1, -1
-    bnez s1, turn
-    finish
+    write_turns

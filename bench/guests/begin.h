@@ -24,6 +24,18 @@ _start:
     lw s2, 4(s0)
     .endm
 
+    # Writes s2 bytes from a1 on in each of s1 turns, and ends.
+    .macro write_turns
+    mv a2, s2
+    li a7, WRITE
+turn:
+    li a0, 1
+    ecall
+    addi s1, s1, -1
+    bnez s1, turn
+    finish
+    .endm
+
     # The exit with 0.
     .macro finish
     li a0, 0

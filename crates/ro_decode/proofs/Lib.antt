@@ -1,2 +1,3 @@
 pub mod InstructionsBack
 pub mod WordsBack
+pub mod Masks

@@ -1,7 +1,9 @@
 -- Looking a place up in the call table.
-use Rattle.std.specs.Prelude.{◌≡◌, ℕ, suc, ◌+◌, ◌<◌, ◌/◌, ◌%◌, ◌^◌, ◌==◌, Bool, true, false, ◌||◌, cond, List, [], ◌∷◌, length, drop, Option, Some, None}
+use Rattle.std.specs.Prelude.{◌≡◌, ℕ, suc, ◌+◌, ◌<◌, ◌/◌, ◌%◌, ◌^◌, ◌==◌, Bool, true, false, ◌||◌, cond, List, [], ◌∷◌, length, take, drop, Option, Some, None}
 use Rattle.std.proofs.Common.{refl, ap, sym, ◌∙◌, get_or, add-one, drop-cons}
 use Rattle.std.proofs.lemmas.Bool.{true≢false}
+use Rattle.std.proofs.lemmas.List.{take_more}
+use Rattle.std.proofs.lemmas.List.Folds.{list_any-append, list_any_at}
 use Rattle.std.specs.List.{list_any}
 use Rattle.ro_event.specs.declared.calls.Which.{Which}
 use Rattle.ro_event.specs.Addresses.{Addresses, is_at, IsFilter}
@@ -49,3 +51,28 @@ finds addresses w ws i pc d l h =
 pub ends : (addresses : List (Option ℕ)) (pc : ℕ) → function_at addresses [] pc ≡ None
 ends [] pc = refl
 ends (a ∷ addresses) pc = refl
+
+none_first : (addresses : List (Option ℕ)) (ws : List Which) (pc : ℕ) → list_any (is_at pc) (take (length ws) addresses) ≡ false → function_at addresses ws pc ≡ None
+none_first [] ws pc h = refl
+none_first (a ∷ addresses) [] pc h = refl
+none_first (None ∷ addresses) (w ∷ ws) pc h = none_first addresses ws pc h
+none_first (Some a ∷ addresses) (w ∷ ws) pc h = none_at (a == pc) _ w _ h (none_first addresses ws pc)
+
+-- a place that is none of the first nine addresses
+pub none_in : (table : Addresses) (pc : ℕ) → list_any (is_at pc) (take 9 table.addresses) ≡ false → call_at table pc ≡ None
+unfolding call_at
+none_in table pc h = none_first table.addresses functions pc h
+
+-- a place that is none of the addresses, and no next one
+pub none_more : (addresses : List (Option ℕ)) (i pc : ℕ) (d : Option ℕ) → i < length addresses → list_any (is_at pc) (take i addresses) ≡ false → is_at pc (get_or addresses i d) ≡ false → list_any (is_at pc) (take (i + 1) addresses) ≡ false
+none_more addresses i pc d l h k =
+    ap (λ (xs : List (Option ℕ)). list_any (is_at pc) xs) (take_more addresses i d l) ∙ list_any-append (is_at pc) (take i addresses) (get_or addresses i d ∷ []) ∙ neither _ _ h k
+  where
+    neither : (a b : Bool) → a ≡ false → b ≡ false → (a || (b || false)) ≡ false
+    neither true b x y = x
+    neither false true x y = y
+    neither false false x y = refl
+
+-- where a place is none of the addresses, it is not the one that stands here
+pub none_here : (addresses : List (Option ℕ)) (i pc : ℕ) (d : Option ℕ) → i < length addresses → list_any (is_at pc) addresses ≡ false → is_at pc (get_or addresses i d) ≡ false
+none_here addresses i pc d l h = unset _ (λ e. true≢false (sym (list_any_at (is_at pc) addresses i d l e) ∙ h))

@@ -1,5 +1,6 @@
 //! The addresses at which a thread calls a function of POSIX threads.
-ghost use Rattle.std.specs.Prelude.{ℕ, ◌≡◌, ◌+◌, ◌/◌, ◌%◌, ◌^◌, ◌<◌, ◌∷◌, drop, true};
+ghost use Rattle.std.specs.Prelude.{ℕ, ◌≡◌, ◌+◌, ◌/◌, ◌%◌, ◌^◌, ◌<◌, ◌≤◌, ◌∷◌, drop, true, false, None, slice_index};
+ghost use Rattle.std.specs.List.{list_any};
 ghost use Rattle.ro_event.specs.Addresses.{is_at};
 ghost use Rattle.ro_event.specs.Table.{functions, call_at};
 
@@ -54,6 +55,27 @@ impl CallTable {
         self.search(pc)
     }
 
+    /// A part of the addresses from `from` to before `to` that has no function's address: the one round a place, between
+    /// the addresses that lie next to it. It begins at a multiple of 4, as they do.
+    pub fn clear_around(&self, pc: u32, from: u32, to: u32) -> (u32, u32)
+        requires aligned { from % 4 ≡ 0 }
+        requires ordered { from ≤ to }
+        requires low { to < 2 ^ 31 }
+        ensures clear { (p : ℕ) → result.0 ≤ p → p < result.1 → call_at self.now p ≡ None }
+        ensures round { list_any (is_at pc) self.now.addresses ≡ false → pc % 4 ≡ 0 → from ≤ pc → pc < to → (result.0 ≤ pc) × (pc < result.1) }
+        ensures aligned { result.0 % 4 ≡ 0 }
+        ensures begins { from ≤ result.0 }
+        ensures ordered { result.0 ≤ result.1 }
+        ensures ends { result.1 ≤ to }
+    {
+        let mut from = from;
+        let mut to = to;
+        for i in 0..9usize {
+            (from, to) = cut(self.addresses[i], pc, from, to);
+        }
+        (from, to)
+    }
+
     fn search(&self, pc: u32) -> Option<Which>
         ensures { result ≡ call_at self.now pc }
     {
@@ -64,6 +86,36 @@ impl CallTable {
             }
         }
         None
+    }
+}
+
+/// The part of the addresses from `from` to before `to` that lies before a function's address, or the one behind it,
+/// where the place lies behind it; all of them where they don't have that address.
+fn cut(address: Option<u32>, pc: u32, from: u32, to: u32) -> (u32, u32)
+    requires aligned { from % 4 ≡ 0 }
+    requires ordered { from ≤ to }
+    requires low { to < 2 ^ 31 }
+    ensures clear { (p : ℕ) → result.0 ≤ p → p < result.1 → is_at p address ≡ false }
+    ensures round { is_at pc address ≡ false → pc % 4 ≡ 0 → from ≤ pc → pc < to → (result.0 ≤ pc) × (pc < result.1) }
+    ensures aligned { result.0 % 4 ≡ 0 }
+    ensures begins { from ≤ result.0 }
+    ensures ordered { result.0 ≤ result.1 }
+    ensures ends { result.1 ≤ to }
+{
+    match address {
+        Some(address) if from <= address && address < to => {
+            if pc <= address {
+                (from, address)
+            } else {
+                let behind = address / 4 * 4 + 4;
+                if behind <= to {
+                    (behind, to)
+                } else {
+                    (from, from)
+                }
+            }
+        }
+        _ => (from, to),
     }
 }
 
@@ -139,6 +191,28 @@ mod tests {
             (0xFFFF_FFFC, None),
         ] {
             assert_eq!(rt; table.find(pc), want, "at {pc:x}");
+        }
+    }
+
+    #[test]
+    fn clears_round_a_place(rt: HostRuntime) {
+        let mut addresses = [None; 9];
+        addresses[1] = Some(0x1_0100);
+        addresses[4] = Some(0x1_0206);
+        addresses[8] = Some(0x2_0000);
+        let table = CallTable::new(addresses);
+        for (pc, want) in [
+            (0x1_0000, (0x1_0000, 0x1_0100)),
+            (0x1_0100, (0x1_0000, 0x1_0100)),
+            (0x1_0104, (0x1_0104, 0x1_0206)),
+            (0x1_0208, (0x1_0208, 0x1_1000)),
+            (0x1_0FFC, (0x1_0208, 0x1_1000)),
+        ] {
+            assert_eq!(rt;
+                table.clear_around(pc, 0x1_0000, 0x1_1000),
+                want,
+                "at {pc:x}"
+            );
         }
     }
 }

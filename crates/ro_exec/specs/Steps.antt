@@ -1,5 +1,5 @@
 -- What one step of a thread leaves.
-use Rattle.std.specs.Prelude.{◌≡◌, ℕ, Option, Some, None}
+use Rattle.std.specs.Prelude.{◌≡◌, ℕ, Bool, true, false, Option, Some, None}
 use Rattle.ro_event.specs.declared.stops.Stop.{Stop}
 use Rattle.ro_pages.specs.Bytes.{Memory, stored}
 use Rattle.ro_exec.specs.declared.Cpu.{Cpu}
@@ -20,3 +20,8 @@ IsJumpStop (Some stop) step old new after = (step ≡ Stopped stop) × (new ≡ 
 -- a jump to a place that is no multiple of 4 is a trap
 abbrev pub IsJump : (target : ℕ) → Step → (old new after : Cpu) → Type 0
 IsJump target step old new after = IsJumpStop (jump_stop target) step old new after
+
+-- A step that is done or left alone: where it is done it is the step, and else nothing changed.
+abbrev pub IsQuick : Bool → Next → (old new : Cpu) → (before after : Memory) → Type 0
+IsQuick true next old new before after = IsStep next Did old new before after
+IsQuick false next old new before after = (new ≡ old) × (after ≡ before)

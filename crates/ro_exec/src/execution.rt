@@ -19,7 +19,7 @@ use ro_region::{Kind, Regions};
 
 /// How many bytes a load reads.
 #[inline(always)]
-fn load_size(op: LoadOp) -> u32
+pub fn load_size(op: LoadOp) -> u32
     ensures value { result ≡ load_size_of op }
     ensures size { IsSize result }
     ensures positive { 0 < result }
@@ -33,7 +33,7 @@ fn load_size(op: LoadOp) -> u32
 
 /// How many bytes a store writes.
 #[inline(always)]
-fn store_size(op: StoreOp) -> u32
+pub fn store_size(op: StoreOp) -> u32
     ensures value { result ≡ store_size_of op }
     ensures size { IsSize result }
     ensures positive { 0 < result }
@@ -47,7 +47,7 @@ fn store_size(op: StoreOp) -> u32
 
 /// What a load puts into its register; LB and LH spread the sign of what they find.
 #[inline(always)]
-fn load<M: Memory>(memory: &M, op: LoadOp, address: u32) -> u32
+pub fn load<M: Memory>(memory: &M, op: LoadOp, address: u32) -> u32
     requires aligned { address % load_size_of op ≡ 0 }
     requires backed { M.backing memory.now (address / 4096) ≡ true }
     ensures { result ≡ loaded_as op (number_at (M.memory memory.now) address (load_size_of op)) }
@@ -69,7 +69,7 @@ fn load<M: Memory>(memory: &M, op: LoadOp, address: u32) -> u32
 
 /// Stores as many bytes of a value as the store writes.
 #[inline(always)]
-fn store<M: Memory>(memory: &mut M, op: StoreOp, address: u32, value: u32)
+pub fn store<M: Memory>(memory: &mut M, op: StoreOp, address: u32, value: u32)
     requires aligned { address % store_size_of op ≡ 0 }
     requires backed { M.backing memory.old (address / 4096) ≡ true }
     ensures bytes { M.memory memory.new ≡ stored (M.memory memory.old) address (bytes_of (store_size_of op) value) }

@@ -1,5 +1,5 @@
 //! The ranges and their windows together.
-ghost use Rattle.std.specs.Prelude.{◌≡◌, ◌+◌, ◌^◌, ◌<◌, ◌≤◌, true, IsTrue, IfOk};
+ghost use Rattle.std.specs.Prelude.{ℕ, ◌≡◌, ◌+◌, ◌-◌, ◌*◌, ◌%◌, ◌^◌, ◌<◌, ◌≤◌, true, IsTrue, IfOk};
 ghost use Rattle.ro_region.specs.Permission.{is_mapped, permits_byte, permits_each, permits_of};
 ghost use Rattle.ro_region.specs.Windows.{IsOpen};
 
@@ -54,6 +54,37 @@ impl Regions {
         ensures { result ≡ permits_of self.now kind address len }
     {
         self.window_holds(address, len, kind) || self.permits_each_page(address, len, kind)
+    }
+
+    /// Whether the window of its first page shows at once that a stretch is permitted.
+    #[inline(always)]
+    pub fn permits_quickly(&self, address: u32, len: u32, kind: Kind) -> bool
+        ensures { result ≡ true → permits_of self.now kind address len ≡ true }
+    {
+        self.window_holds(address, len, kind)
+    }
+
+    /// The words of a page that its window shows to be code: from the first address to before the second, both multiples
+    /// of 4. It is no page at whose end the addresses of 32 bits end.
+    #[tactic(auto, using(crate::proofs::Each::permits_all))]
+    pub fn code_in_page(&self, page: u32) -> (u32, u32)
+        requires { page < 2 ^ 20 - 1 }
+        ensures aligned { result.0 % 4 ≡ 0 }
+        ensures begins { 4096 * page ≤ result.0 }
+        ensures ordered { result.0 ≤ result.1 }
+        ensures ends { result.1 ≤ 4096 * page + 4096 }
+        ensures whole { result.1 % 4 ≡ 0 }
+        ensures permitted { (p : ℕ) → result.0 ≤ p → p + 4 ≤ result.1 → permits_of self.now Kind.Execute p 4 ≡ true }
+    {
+        let window = self.window(page, Kind::Execute);
+        let first = page * PAGE_SIZE;
+        let from = first + (u32::from(window.from) + 3) / 4 * 4;
+        let to = first + u32::from(window.to) / 4 * 4;
+        if from <= to {
+            (from, to)
+        } else {
+            (first, first)
+        }
     }
 
     /// Whether a byte lies in a range, whatever that permits.
@@ -166,6 +197,27 @@ mod tests {
             (0xFFFF_FFFF, true),
         ] {
             assert_eq!(rt; regions.contains(address), want, "at {address:x}");
+        }
+        Ok(())
+    }
+
+    #[test]
+    fn finds_the_code_of_a_page(rt: HostRuntime) -> Result<(), Fail> {
+        let list = [
+            range(0x1_0002, 0x24, true, false, true),
+            range(0x2_0000, 0x1800, true, false, true),
+            range(0x3_0000, 0x1000, true, true, false),
+            range(0x4_0FFD, 2, true, false, true),
+        ];
+        let regions = Regions::new(rt.alloc(), &list)?;
+        for (page, want) in [
+            (0x10u32, (0x1_0004, 0x1_0024)),
+            (0x20, (0x2_0000, 0x2_1000)),
+            (0x21, (0x2_1000, 0x2_1800)),
+            (0x30, (0x3_0000, 0x3_0000)),
+            (0x40, (0x4_0000, 0x4_0000)),
+        ] {
+            assert_eq!(rt; regions.code_in_page(page), want, "page {page:x}");
         }
         Ok(())
     }

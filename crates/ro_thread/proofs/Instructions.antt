@@ -1,5 +1,5 @@
 -- Instruction after instruction of a thread.
-use Rattle.std.proofs.Common.{◌≡◌, ℕ, zero, suc, ◌+◌, ◌<◌, Option, Some, None, refl, ap, ◌∙◌, subst, arith}
+use Rattle.std.proofs.Common.{◌≡◌, ℕ, zero, suc, ◌+◌, ◌*◌, ◌%◌, ◌^◌, ◌<◌, ◌≤◌, Option, Some, None, refl, ap, ap₂, sym, List, ◌∙◌, subst, arith, Bool, true, false}
 use Rattle.std.proofs.lemmas.Bool.{ne_eqb}
 use Rattle.std.specs.Option.{option_and_then}
 use Rattle.ro_pages.specs.Bytes.{Memory}
@@ -7,7 +7,9 @@ use Rattle.ro_exec.specs.declared.Cpu.{Cpu}
 use Rattle.ro_exec.specs.declared.outcome.Step.{Step}
 use Rattle.ro_exec.specs.declared.outcome.Step.TheVariants.{Did}
 use Rattle.ro_exec.specs.Next.{Layout, Backed, Next, Stands, Executes, next}
-use Rattle.ro_exec.specs.Steps.{IsStep}
+use Rattle.ro_exec.specs.Steps.{IsStep, IsQuick}
+use Rattle.ro_exec.specs.Stretches.{IsClear}
+use Rattle.ro_exec.specs.declared.stretch.Stretch.{Stretch}
 use Rattle.ro_thread.specs.declared.Thread.{Thread}
 use Rattle.ro_thread.specs.Runs.{Running, after_next, one_instruction, instructions}
 
@@ -53,3 +55,33 @@ one_step_more layout watchdog backed now thread memory count cpu after before st
     ap (λ (n : ℕ). instructions layout watchdog backed n (record { thread = thread; memory = memory })) one
     ∙ one_more layout watchdog backed count (record { thread = thread; memory = memory }) (ran_on thread count cpu before) ran
     ∙ one_step layout watchdog backed thread count cpu after before stored early here
+
+-- one step more that was done at once
+pub one_quick_more : (layout : Layout) (watchdog : ℕ) (backed now : Backed) (thread : Thread) (memory : Memory) (count : ℕ) (cpu after : Cpu) (before stored : Memory) (quick : Bool) → (thread.since + count) < watchdog → instructions layout watchdog backed count (record { thread = thread; memory = memory }) ≡ Some (ran_on thread count cpu before) → now ≡ backed → quick ≡ true → IsQuick quick (next layout now before cpu) cpu after before stored → instructions layout watchdog backed (count + 1) (record { thread = thread; memory = memory }) ≡ Some (ran_on thread (count + 1) after stored)
+one_quick_more layout watchdog backed now thread memory count cpu after before stored quick early ran same done is =
+    one_step_more layout watchdog backed now thread memory count cpu after before stored Did early ran same refl (subst (λ (b : Bool). IsQuick b (next layout now before cpu) cpu after before stored) done is)
+
+-- one step more that was left first
+pub one_slow_more : (layout : Layout) (watchdog : ℕ) (backed now then : Backed) (thread : Thread) (memory : Memory) (count : ℕ) (cpu mid after : Cpu) (before between stored : Memory) (quick : Bool) (step : Step) → (thread.since + count) < watchdog → instructions layout watchdog backed count (record { thread = thread; memory = memory }) ≡ Some (ran_on thread count cpu before) → then ≡ backed → quick ≡ false → IsQuick quick (next layout now before cpu) cpu mid before between → step ≡ Did → IsStep (next layout then between mid) step mid after between stored → instructions layout watchdog backed (count + 1) (record { thread = thread; memory = memory }) ≡ Some (ran_on thread (count + 1) after stored)
+one_slow_more layout watchdog backed now then thread memory count cpu mid after before between stored quick step early ran same left is did step_is =
+    let unchanged : IsQuick false (next layout now before cpu) cpu mid before between = subst (λ (b : Bool). IsQuick b (next layout now before cpu) cpu mid before between) left is in
+    let here : instructions layout watchdog backed count (record { thread = thread; memory = memory }) ≡ Some (ran_on thread count mid between) =
+    ran ∙ ap (λ (c : Cpu). Some (ran_on thread count c before)) (sym unchanged.0) ∙ ap (λ (m : Memory). Some (ran_on thread count mid m)) (sym unchanged.1) in
+    one_step_more layout watchdog backed then thread memory count mid after between stored step early here same did step_is
+
+-- other names of what was reached
+pub renamed : (from : Option Running) (thread : Thread) (count : ℕ) (registers : List ℕ) (pc : ℕ) (after : Cpu) (memory stored : Memory) → registers ≡ after.registers → pc ≡ after.pc → memory ≡ stored → from ≡ Some (ran_on thread count after stored) → from ≡ Some (ran_on thread count (record { registers = registers; pc = pc }) memory)
+renamed from thread count registers pc after memory stored a p b e =
+    let same : record { registers = registers; pc = pc } ≡ after = ap₂ (λ (r : List ℕ) (k : ℕ). record { registers = r; pc = k }) a p in
+    e ∙ ap (λ (c : Cpu). Some (ran_on thread count c stored)) (sym same) ∙ ap (λ (m : Memory). Some (ran_on thread count (record { registers = registers; pc = pc }) m)) (sym b)
+
+-- another name of a stretch, and of the backed pages
+pub kept : (layout : Layout) (now before : Backed) (stretch found : Stretch) → now ≡ before → stretch ≡ found → IsClear layout before found → IsClear layout now stretch
+kept layout now before stretch found a b h =
+    subst (λ (s : Stretch). IsClear layout now s) (sym b) (subst (λ (k : Backed). IsClear layout k found) (sym a) h)
+
+pub kept_aligned : (stretch found : Stretch) → stretch ≡ found → found.from % 4 ≡ 0 → stretch.from % 4 ≡ 0
+kept_aligned stretch found b h = subst (λ (s : Stretch). s.from % 4 ≡ 0) (sym b) h
+
+pub kept_bounded : (stretch found : Stretch) → stretch ≡ found → found.from + 4 * found.words ≤ 2 ^ 32 → stretch.from + 4 * stretch.words ≤ 2 ^ 32
+kept_bounded stretch found b h = subst (λ (s : Stretch). s.from + 4 * s.words ≤ 2 ^ 32) (sym b) h

@@ -1,10 +1,12 @@
 //! Running a thread.
 ghost use Rattle.std.specs.Prelude.{◌≡◌, ◌≤◌, ◌<◌, ◌+◌, ◌^◌};
+ghost use Rattle.ro_exec.specs.Next.{next};
+ghost use Rattle.ro_exec.specs.Steps.{IsStep};
 ghost use Rattle.ro_thread.specs.Runs.{IsRun};
 
 use crate::Thread;
 use ro_event::{CallTable, Stop};
-use ro_exec::{Cpu, Step, step};
+use ro_exec::{Bank, Cpu, Step, quick_step, step, stretch_at};
 use ro_pages::Memory;
 use ro_region::Regions;
 
@@ -37,10 +39,21 @@ pub fn run<M: Memory>(
     ensures pages { M.backing memory.new ≡ M.backing memory.old }
 {
     let bound = most.min(watchdog - thread.since);
-    let mut cpu = thread.cpu;
+    let mut registers = Bank::new(&thread.cpu.registers);
+    let mut pc = thread.cpu.pc;
+    let mut stretch = stretch_at(pc, memory, regions, calls);
     for count in 0..bound {
-        if let Step::Stopped(stop) = step(&mut cpu, memory, regions, calls) {
-            return ended(thread, cpu, count, Some(stop));
+        if !quick_step(&mut registers, &mut pc, memory, regions, calls, stretch) {
+            stretch = stretch_at(pc, memory, regions, calls);
+            if let Step::Stopped(stop) = slow_step(
+                &mut registers,
+                &mut pc,
+                memory,
+                regions,
+                calls,
+            ) {
+                return ended(thread, &registers, pc, count, Some(stop));
+            }
         }
     }
     let stop = if bound < most {
@@ -48,20 +61,46 @@ pub fn run<M: Memory>(
     } else {
         None
     };
-    ended(thread, cpu, bound, stop)
+    ended(thread, &registers, pc, bound, stop)
 }
 
 // Ends a run of so many instructions: gives the thread what its registers are then, and counts them.
 #[cold]
 #[inline(never)]
-fn ended(thread: &mut Thread, cpu: Cpu, count: u32, stop: Option<Stop>) -> Ran
+fn ended(thread: &mut Thread, registers: &Bank, pc: u32, count: u32, stop: Option<Stop>) -> Ran
     requires since { thread.old.since + count < 2 ^ 32 }
     requires done { thread.old.done + count < 2 ^ 128 }
     ensures ran { result ≡ record { count = count; stop = stop } }
-    ensures thread { thread.new ≡ record thread.old { cpu = cpu; since = thread.old.since + count; done = thread.old.done + count } }
+    ensures thread { thread.new ≡ record thread.old { cpu = record { registers = registers.now; pc = pc }; since = thread.old.since + count; done = thread.old.done + count } }
 {
-    thread.cpu = cpu;
+    thread.cpu = Cpu {
+        registers: registers.registers(),
+        pc,
+    };
     thread.since += count;
     thread.done += u128::from(count);
     Ran { count, stop }
+}
+
+// A step that `quick_step` left: a stop, or a rare instruction or access.
+#[cold]
+#[inline(never)]
+fn slow_step<M: Memory>(
+    registers: &mut Bank,
+    pc: &mut u32,
+    memory: &mut M,
+    regions: &Regions,
+    calls: &CallTable,
+) -> Step
+    ensures step { IsStep (next (record { ranges = regions.now; calls = calls.now }) (M.backing memory.old) (M.memory memory.old) (record { registers = registers.old; pc = pc.old })) result (record { registers = registers.old; pc = pc.old }) (record { registers = registers.new; pc = pc.new }) (M.memory memory.old) (M.memory memory.new) }
+    ensures pages { M.backing memory.new ≡ M.backing memory.old }
+{
+    let mut cpu = Cpu {
+        registers: registers.registers(),
+        pc: *pc,
+    };
+    let step = step(&mut cpu, memory, regions, calls);
+    *registers = Bank::new(&cpu.registers);
+    *pc = cpu.pc;
+    step
 }

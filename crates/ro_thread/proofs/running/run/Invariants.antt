@@ -1,4 +1,5 @@
-use Rattle.std.proofs.Common.{◌≡◌, Some}
+use Rattle.std.proofs.Common.{◌≡◌, ◌≤◌, ◌+◌, ◌*◌, ◌%◌, ◌^◌, Some}
+use Rattle.ro_exec.specs.Stretches.{IsClear}
 use Rattle.ro_thread.specs.Runs.{instructions}
 use Rattle.ro_thread.proofs.Instructions.{ran_on}
 use Rattle.ro_thread.proofs.running.run.Given as goal
@@ -7,5 +8,8 @@ abbrev pub invariant-loop-count : goal.invariant-loop-count
 invariant-loop-count g l = record {
   thread : l.thread ≡ l.fn.thread;
   same : g.M.Memory.backing l.memory ≡ g.M.Memory.backing l.fn.memory;
-  ran : instructions (record { ranges = l.regions; calls = l.calls }) l.watchdog (g.M.Memory.backing l.fn.memory) l.count (record { thread = l.fn.thread; memory = g.M.Memory.memory l.fn.memory }) ≡ Some (ran_on l.fn.thread l.count l.cpu (g.M.Memory.memory l.memory));
+  aligned : l.stretch.from % 4 ≡ 0;
+  bounded : l.stretch.from + 4 * l.stretch.words ≤ 2 ^ 32;
+  clear : IsClear (record { ranges = l.regions; calls = l.calls }) (g.M.Memory.backing l.memory) l.stretch;
+  ran : instructions (record { ranges = l.regions; calls = l.calls }) l.watchdog (g.M.Memory.backing l.fn.memory) l.count (record { thread = l.fn.thread; memory = g.M.Memory.memory l.fn.memory }) ≡ Some (ran_on l.fn.thread l.count (record { registers = l.registers; pc = l.pc }) (g.M.Memory.memory l.memory));
 }

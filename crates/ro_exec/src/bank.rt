@@ -1,0 +1,86 @@
+//! The registers of a thread while it runs, x0 among them.
+ghost use Rattle.std.specs.Prelude.{◌≡◌, ◌-◌, ◌<◌, ◌==◌, if◌then◌else◌, slice_index};
+ghost use Rattle.ro_exec.specs.Registers.{with_register};
+
+use std::marker::Model;
+
+/// Registers x0 to x31, of which x0 is 0, so that no access asks which one it is. They are seen as x1 to x31.
+#[derive(Drop)]
+pub struct Bank {
+    values: [u32; 32],
+}
+
+impl Model for Bank {
+    ghost use Rattle.std.specs.Prelude.{ℕ, ◌≡◌, List, drop, slice_index};
+
+    ghost Value = { List ℕ };
+
+    ghost view = { λ s. drop 1 s.values };
+
+    ghost invariant = { λ s. slice_index s.values 0 ≡ 0 };
+}
+
+impl Bank {
+    /// The register of this number.
+    #[tactic(auto, using(crate::proofs::Banks::read))]
+    #[inline(always)]
+    pub fn get(&self, number: u8) -> u32
+        requires { number < 32 }
+        ensures { result ≡ (if number == 0 then 0 else slice_index self.now (number - 1)) }
+    {
+        self.values[number as usize]
+    }
+
+    /// Writes the register of this number; what is written to x0 is lost, since x0 is then written again.
+    #[tactic(auto, using(crate::proofs::Banks::written, crate::proofs::Banks::zeroed))]
+    #[inline(always)]
+    pub fn set(&mut self, number: u8, value: u32)
+        requires { number < 32 }
+        ensures { self.new ≡ with_register self.old number value }
+    {
+        self.values[number as usize] = value;
+        self.values[0] = 0;
+    }
+
+    /// The registers x1 to x31.
+    pub fn registers(&self) -> [u32; 31]
+        ensures { result ≡ self.now }
+    {
+        let mut registers = [0; 31];
+        registers.copy_from_slice(&self.values[1..]);
+        registers
+    }
+
+    /// The registers with these as x1 to x31.
+    pub fn new(registers: &[u32; 31]) -> Bank
+        ensures { result ≡ registers.now }
+    {
+        let mut values = [0; 32];
+        values[1..].copy_from_slice(registers);
+        Bank { values }
+    }
+}
+
+#[cfg(test)]
+mod tests {
+    use super::*;
+
+    #[test]
+    fn keeps_registers(rt: HostRuntime) {
+        let mut registers = [0; 31];
+        registers[0] = 11;
+        registers[30] = 41;
+        let mut bank = Bank::new(&registers);
+        for (number, want) in [(0u8, 0u32), (1, 11), (2, 0), (31, 41)] {
+            assert_eq!(rt; bank.get(number), want, "x{number}");
+        }
+        bank.set(0, 5);
+        bank.set(2, 7);
+        bank.set(31, 8);
+        registers[1] = 7;
+        registers[30] = 8;
+        assert_eq!(rt; bank.get(0), 0);
+        assert_eq!(rt; bank.get(31), 8);
+        assert_eq!(rt; bank.registers(), registers);
+    }
+}

@@ -1,0 +1,454 @@
+//! Most steps, done by one jump; what is not done here is left to `step`.
+ghost use Rattle.std.specs.Prelude.{◌≡◌, ◌+◌, ◌*◌, ◌/◌, ◌%◌, ◌^◌, ◌<◌, ◌≤◌, true, false, Some, None};
+ghost use Rattle.ro_decode.specs.Table.{InRange, instruction_of};
+ghost use Rattle.ro_alu.specs.Results.{low_word};
+ghost use Rattle.ro_region.specs.Permission.{permits_of};
+ghost use Rattle.ro_exec.specs.Registers.{with_register};
+ghost use Rattle.ro_exec.specs.Meaning.{load_size as load_size_of, store_size as store_size_of};
+ghost use Rattle.ro_exec.specs.Next.{Executes, instruction_stop, unless_stop, next_at, next, jump_stop};
+ghost use Rattle.ro_exec.specs.Steps.{IsQuick};
+ghost use Rattle.ro_exec.specs.Stretches.{IsClear};
+
+use crate::bank::Bank;
+use crate::execution::{load, load_size, store, store_size};
+use crate::stretch::Stretch;
+use ro_alu::{alu, muldiv, taken};
+use ro_decode::{AluOp, BranchOp, Instr, LoadOp, MulDivOp, StoreOp, funct7, rows};
+use ro_event::CallTable;
+use ro_pages::Memory;
+use ro_region::{Kind, Regions};
+
+/// Goes on at the next instruction.
+#[inline(always)]
+fn go_on(pc: &mut u32)
+    ensures { pc.new ≡ low_word (pc.old + 4) }
+{
+    *pc = pc.wrapping_add(4);
+}
+
+/// Goes on at the next instruction with a value in rd.
+#[inline(always)]
+fn give(registers: &mut Bank, pc: &mut u32, rd: u8, value: u32)
+    requires { rd < 32 }
+    ensures registers { registers.new ≡ with_register registers.old rd value }
+    ensures pc { pc.new ≡ low_word (pc.old + 4) }
+{
+    registers.set(rd, value);
+    go_on(pc);
+}
+
+/// Jumps, with the place after the jump in rd, if the target is a multiple of 4.
+#[inline(always)]
+fn jump(registers: &mut Bank, pc: &mut u32, rd: u8, target: u32) -> bool
+    requires { rd < 32 }
+    ensures registers { result ≡ true → registers.new ≡ with_register registers.old rd (low_word (pc.old + 4)) }
+    ensures pc { result ≡ true → (pc.new ≡ target) × (jump_stop target ≡ None) }
+    ensures left { result ≡ false → (registers.new ≡ registers.old) × (pc.new ≡ pc.old) }
+{
+    if target % 4 != 0 {
+        return false;
+    }
+    registers.set(rd, pc.wrapping_add(4));
+    *pc = target;
+    true
+}
+
+/// Goes on at the place that a branch comes to, if it is a multiple of 4.
+#[inline(always)]
+fn branch(pc: &mut u32, target: u32) -> bool
+    ensures did { result ≡ true → (pc.new ≡ target) × (jump_stop target ≡ None) }
+    ensures left { result ≡ false → pc.new ≡ pc.old }
+{
+    if target % 4 != 0 {
+        return false;
+    }
+    *pc = target;
+    true
+}
+
+/// Whether an access is seen at once to be let through.
+#[inline(always)]
+fn may_access<M: Memory>(memory: &M, regions: &Regions, kind: Kind, address: u32, size: u32) -> bool
+    requires { 0 < size }
+    ensures aligned { result ≡ true → address % size ≡ 0 }
+    ensures permitted { result ≡ true → permits_of regions.now kind address size ≡ true }
+    ensures backed { result ≡ true → M.backing memory.now (address / 4096) ≡ true }
+{
+    address % size == 0
+        && regions.permits_quickly(address, size, kind)
+        && memory.backed(address / 4096)
+}
+
+/// Executes an instruction, or changes nothing.
+#[tactic(auto, unfolding(crate::specs::Next::instruction_stop, crate::specs::Meaning::meaning))]
+#[inline(always)]
+fn execute<M: Memory>(
+    instr: Instr,
+    registers: &mut Bank,
+    pc: &mut u32,
+    memory: &mut M,
+    regions: &Regions,
+) -> bool
+    requires { InRange instr }
+    ensures step { IsQuick result (unless_stop (instruction_stop regions.now (M.backing memory.old) (record { registers = registers.old; pc = pc.old }) instr) (Executes instr)) (record { registers = registers.old; pc = pc.old }) (record { registers = registers.new; pc = pc.new }) (M.memory memory.old) (M.memory memory.new) }
+    ensures pages { M.backing memory.new ≡ M.backing memory.old }
+{
+    let place = *pc;
+    match instr {
+        Instr::Lui { rd, imm } => {
+            give(registers, pc, rd, imm);
+            true
+        }
+        Instr::Auipc { rd, imm } => {
+            give(registers, pc, rd, place.wrapping_add(imm));
+            true
+        }
+        Instr::Jal { rd, imm } => jump(registers, pc, rd, place.wrapping_add(imm)),
+        Instr::Jalr { rd, rs1, imm } => {
+            let target = registers.get(rs1).wrapping_add(imm) / 2 * 2;
+            jump(registers, pc, rd, target)
+        }
+        Instr::Branch { op, rs1, rs2, imm } => {
+            if taken(op, registers.get(rs1), registers.get(rs2)) {
+                branch(pc, place.wrapping_add(imm))
+            } else {
+                branch(pc, place.wrapping_add(4))
+            }
+        }
+        Instr::Load { op, rd, rs1, imm } => {
+            let address = registers.get(rs1).wrapping_add(imm);
+            if !may_access(memory, regions, Kind::Read, address, load_size(op)) {
+                return false;
+            }
+            give(registers, pc, rd, load(memory, op, address));
+            true
+        }
+        Instr::Store { op, rs1, rs2, imm } => {
+            let address = registers.get(rs1).wrapping_add(imm);
+            if !may_access(memory, regions, Kind::Write, address, store_size(op)) {
+                return false;
+            }
+            store(memory, op, address, registers.get(rs2));
+            go_on(pc);
+            true
+        }
+        Instr::AluImm { op, rd, rs1, imm } => {
+            give(registers, pc, rd, alu(op, registers.get(rs1), imm));
+            true
+        }
+        Instr::Alu { op, rd, rs1, rs2 } => {
+            give(
+                registers,
+                pc,
+                rd,
+                alu(op, registers.get(rs1), registers.get(rs2)),
+            );
+            true
+        }
+        Instr::MulDiv { op, rd, rs1, rs2 } => {
+            give(
+                registers,
+                pc,
+                rd,
+                muldiv(op, registers.get(rs1), registers.get(rs2)),
+            );
+            true
+        }
+        Instr::Fence { .. } | Instr::Ecall | Instr::Ebreak => false,
+    }
+}
+
+/// Executes what a word spells, by one jump, or changes nothing.
+#[inline(always)]
+fn read_and_execute<M: Memory>(
+    word: u32,
+    registers: &mut Bank,
+    pc: &mut u32,
+    memory: &mut M,
+    regions: &Regions,
+) -> bool
+    ensures step { IsQuick result (next_at regions.now (M.backing memory.old) (record { registers = registers.old; pc = pc.old }) (instruction_of word)) (record { registers = registers.old; pc = pc.old }) (record { registers = registers.new; pc = pc.new }) (M.memory memory.old) (M.memory memory.new) }
+    ensures pages { M.backing memory.new ≡ M.backing memory.old }
+{
+    match rows::row(word) {
+        0x0D | 0x2D | 0x4D | 0x6D | 0x8D | 0xAD | 0xCD | 0xED => execute(
+            rows::lui(word),
+            registers,
+            pc,
+            memory,
+            regions,
+        ),
+        0x05 | 0x25 | 0x45 | 0x65 | 0x85 | 0xA5 | 0xC5 | 0xE5 => execute(
+            rows::auipc(word),
+            registers,
+            pc,
+            memory,
+            regions,
+        ),
+        0x1B | 0x3B | 0x5B | 0x7B | 0x9B | 0xBB | 0xDB | 0xFB => execute(
+            rows::jal(word),
+            registers,
+            pc,
+            memory,
+            regions,
+        ),
+        0x19 => execute(rows::jalr(word), registers, pc, memory, regions),
+        0x18 => execute(
+            rows::branch(word, BranchOp::Beq),
+            registers,
+            pc,
+            memory,
+            regions,
+        ),
+        0x38 => execute(
+            rows::branch(word, BranchOp::Bne),
+            registers,
+            pc,
+            memory,
+            regions,
+        ),
+        0x98 => execute(
+            rows::branch(word, BranchOp::Blt),
+            registers,
+            pc,
+            memory,
+            regions,
+        ),
+        0xB8 => execute(
+            rows::branch(word, BranchOp::Bge),
+            registers,
+            pc,
+            memory,
+            regions,
+        ),
+        0xD8 => execute(
+            rows::branch(word, BranchOp::Bltu),
+            registers,
+            pc,
+            memory,
+            regions,
+        ),
+        0xF8 => execute(
+            rows::branch(word, BranchOp::Bgeu),
+            registers,
+            pc,
+            memory,
+            regions,
+        ),
+        0x00 => execute(rows::load(word, LoadOp::Lb), registers, pc, memory, regions),
+        0x20 => execute(rows::load(word, LoadOp::Lh), registers, pc, memory, regions),
+        0x40 => execute(rows::load(word, LoadOp::Lw), registers, pc, memory, regions),
+        0x80 => execute(
+            rows::load(word, LoadOp::Lbu),
+            registers,
+            pc,
+            memory,
+            regions,
+        ),
+        0xA0 => execute(
+            rows::load(word, LoadOp::Lhu),
+            registers,
+            pc,
+            memory,
+            regions,
+        ),
+        0x08 => execute(
+            rows::store(word, StoreOp::Sb),
+            registers,
+            pc,
+            memory,
+            regions,
+        ),
+        0x28 => execute(
+            rows::store(word, StoreOp::Sh),
+            registers,
+            pc,
+            memory,
+            regions,
+        ),
+        0x48 => execute(
+            rows::store(word, StoreOp::Sw),
+            registers,
+            pc,
+            memory,
+            regions,
+        ),
+        0x04 => execute(
+            rows::alu_imm(word, AluOp::Add),
+            registers,
+            pc,
+            memory,
+            regions,
+        ),
+        0x44 => execute(
+            rows::alu_imm(word, AluOp::Slt),
+            registers,
+            pc,
+            memory,
+            regions,
+        ),
+        0x64 => execute(
+            rows::alu_imm(word, AluOp::Sltu),
+            registers,
+            pc,
+            memory,
+            regions,
+        ),
+        0x84 => execute(
+            rows::alu_imm(word, AluOp::Xor),
+            registers,
+            pc,
+            memory,
+            regions,
+        ),
+        0xC4 => execute(
+            rows::alu_imm(word, AluOp::Or),
+            registers,
+            pc,
+            memory,
+            regions,
+        ),
+        0xE4 => execute(
+            rows::alu_imm(word, AluOp::And),
+            registers,
+            pc,
+            memory,
+            regions,
+        ),
+        0x24 => match funct7(word) {
+            0 => execute(rows::sll_imm(word), registers, pc, memory, regions),
+            _ => false,
+        },
+        0xA4 => match funct7(word) {
+            0 => execute(rows::srl_imm(word), registers, pc, memory, regions),
+            32 => execute(rows::sra_imm(word), registers, pc, memory, regions),
+            _ => false,
+        },
+        0x0C => match funct7(word) {
+            0 => execute(rows::alu(word, AluOp::Add), registers, pc, memory, regions),
+            1 => execute(
+                rows::muldiv(word, MulDivOp::Mul),
+                registers,
+                pc,
+                memory,
+                regions,
+            ),
+            32 => execute(
+                rows::other_alu(word, AluOp::Sub),
+                registers,
+                pc,
+                memory,
+                regions,
+            ),
+            _ => false,
+        },
+        0x2C => match funct7(word) {
+            0 => execute(rows::alu(word, AluOp::Sll), registers, pc, memory, regions),
+            1 => execute(
+                rows::muldiv(word, MulDivOp::Mulh),
+                registers,
+                pc,
+                memory,
+                regions,
+            ),
+            _ => false,
+        },
+        0x4C => match funct7(word) {
+            0 => execute(rows::alu(word, AluOp::Slt), registers, pc, memory, regions),
+            1 => execute(
+                rows::muldiv(word, MulDivOp::Mulhsu),
+                registers,
+                pc,
+                memory,
+                regions,
+            ),
+            _ => false,
+        },
+        0x6C => match funct7(word) {
+            0 => execute(rows::alu(word, AluOp::Sltu), registers, pc, memory, regions),
+            1 => execute(
+                rows::muldiv(word, MulDivOp::Mulhu),
+                registers,
+                pc,
+                memory,
+                regions,
+            ),
+            _ => false,
+        },
+        0x8C => match funct7(word) {
+            0 => execute(rows::alu(word, AluOp::Xor), registers, pc, memory, regions),
+            1 => execute(
+                rows::muldiv(word, MulDivOp::Div),
+                registers,
+                pc,
+                memory,
+                regions,
+            ),
+            _ => false,
+        },
+        0xAC => match funct7(word) {
+            0 => execute(rows::alu(word, AluOp::Srl), registers, pc, memory, regions),
+            1 => execute(
+                rows::muldiv(word, MulDivOp::Divu),
+                registers,
+                pc,
+                memory,
+                regions,
+            ),
+            32 => execute(
+                rows::other_alu(word, AluOp::Sra),
+                registers,
+                pc,
+                memory,
+                regions,
+            ),
+            _ => false,
+        },
+        0xCC => match funct7(word) {
+            0 => execute(rows::alu(word, AluOp::Or), registers, pc, memory, regions),
+            1 => execute(
+                rows::muldiv(word, MulDivOp::Rem),
+                registers,
+                pc,
+                memory,
+                regions,
+            ),
+            _ => false,
+        },
+        0xEC => match funct7(word) {
+            0 => execute(rows::alu(word, AluOp::And), registers, pc, memory, regions),
+            1 => execute(
+                rows::muldiv(word, MulDivOp::Remu),
+                registers,
+                pc,
+                memory,
+                regions,
+            ),
+            _ => false,
+        },
+        _ => false,
+    }
+}
+
+/// Does the next instruction of a thread in a stretch of code, or changes nothing.
+#[tactic(auto, unfolding(crate::specs::Next::next))]
+#[inline(always)]
+pub fn quick_step<M: Memory>(
+    registers: &mut Bank,
+    pc: &mut u32,
+    memory: &mut M,
+    regions: &Regions,
+    calls: &CallTable,
+    stretch: Stretch,
+) -> bool
+    requires aligned { stretch.from % 4 ≡ 0 }
+    requires bounded { stretch.from + 4 * stretch.words ≤ 2 ^ 32 }
+    requires clear { IsClear (record { ranges = regions.now; calls = calls.now }) (M.backing memory.old) stretch }
+    ensures step { IsQuick result (next (record { ranges = regions.now; calls = calls.now }) (M.backing memory.old) (M.memory memory.old) (record { registers = registers.old; pc = pc.old })) (record { registers = registers.old; pc = pc.old }) (record { registers = registers.new; pc = pc.new }) (M.memory memory.old) (M.memory memory.new) }
+    ensures pages { M.backing memory.new ≡ M.backing memory.old }
+{
+    if !stretch.holds(*pc) {
+        return false;
+    }
+    read_and_execute(memory.load(*pc, 4), registers, pc, memory, regions)
+}

@@ -264,14 +264,16 @@ fn add_spare(alloc: Global, spare: &mut Vec<Page>) -> Result<(), AllocError>
     Ok(())
 }
 
-/// Takes over the bytes of a page, if it is backed.
+/// Takes over the bytes of a page, if it is backed. It is written only where they differ.
 fn copy_place(mine: &mut Option<Page>, theirs: &Option<Page>)
     requires { is_some mine.old ≡ is_some theirs.now }
     ensures { option_map (λ b. bytes_in b.value) mine.new ≡ option_map (λ b. bytes_in b.value) theirs.now }
 {
     if let Some(theirs) = theirs {
         if let Some(mine) = mine {
-            **mine = **theirs;
+            if **mine != **theirs {
+                **mine = **theirs;
+            }
         }
     }
 }

@@ -29,8 +29,8 @@ impl JournalCode {
 #[derive(Clone, Copy, PartialEq, Eq, Debug)]
 pub enum JournalError {
     /// The first bad line, by its number from 1 on, and what is bad in it.
-    Bad { line: u32, code: JournalCode },
-    /// There was no memory, or the number of the first bad line is too high to be told.
+    Bad { line: u64, code: JournalCode },
+    /// There was no memory.
     NoMemory,
 }
 

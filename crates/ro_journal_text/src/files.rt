@@ -1,9 +1,6 @@
 //! The texts of journals.
-ghost use Rattle.std.specs.Prelude.{◌≡◌, Ok, Err, Result, List, IfOk, IfErr, codes};
+ghost use Rattle.std.specs.Prelude.{◌≡◌, Ok, IfOk, IfErr, codes};
 ghost use Rattle.std.specs.Str.{bytes_eq};
-ghost use Rattle.ro_journal.specs.declared.Entry.{Entry};
-ghost use Rattle.ro_journal_text.specs.declared.errors.JournalError.{JournalError};
-ghost use Rattle.ro_journal_text.specs.declared.errors.JournalError.TheVariants.{Bad};
 ghost use Rattle.ro_text.specs.Lines.{parts_of};
 ghost use Rattle.ro_journal_text.specs.Texts.{journal_text};
 ghost use Rattle.ro_journal_text.specs.Reading.{refuses, file_journal, lines_entries, is_end};
@@ -69,7 +66,7 @@ fn read_entries(alloc: Global, bytes: &[u8]) -> Result<Vec<Entry>, JournalError>
                     return Ok(entries);
                 }
             }
-            Err(code) => return Err(refusal(line, code)),
+            Err(code) => return Err(JournalError::Bad { line, code }),
         }
         rest = behind;
         line += 1;
@@ -77,7 +74,10 @@ fn read_entries(alloc: Global, bytes: &[u8]) -> Result<Vec<Entry>, JournalError>
     if rest.is_empty() {
         Ok(entries)
     } else {
-        Err(refusal(line, JournalCode::Form))
+        Err(JournalError::Bad {
+            line,
+            code: JournalCode::Form,
+        })
     }
 }
 
@@ -85,14 +85,4 @@ fn is_end(entry: &Entry) -> bool
     ensures { result ≡ is_end entry.now }
 {
     matches!(entry, Entry::End { .. })
-}
-
-// The error of a bad line of this number.
-fn refusal(line: u64, code: JournalCode) -> JournalError
-    ensures { (read : Result (List Entry) JournalError) → read ≡ Err (Bad line code) → refuses result read }
-{
-    match u32::try_from(line) {
-        Ok(line) => JournalError::Bad { line, code },
-        Err(_) => JournalError::NoMemory,
-    }
 }

@@ -160,7 +160,7 @@ fn writes(rt: HostRuntime) {
 // A text, and the number of its entries, or its first bad line and the code.
 struct Row {
     text: &'static str,
-    want: Result<usize, (u32, u8)>,
+    want: Result<usize, (u64, u8)>,
 }
 
 const ROWS: &[Row] = &[
@@ -275,7 +275,7 @@ fn rows(rt: HostRuntime) {
 }
 
 // The number of the entries, or the bad line and its code.
-fn outcome(alloc: Global, bytes: &[u8]) -> Result<usize, (u32, u8)> {
+fn outcome(alloc: Global, bytes: &[u8]) -> Result<usize, (u64, u8)> {
     match read_journal(alloc, bytes) {
         Ok(entries) => Ok(entries.len()),
         Err(JournalError::Bad { line, code }) => Err((line, code.code())),

@@ -1,6 +1,6 @@
 use Rattle.std.proofs.Common.{◌≡◌, ◌++◌, ◌∷◌, [], Ok, true, false, rules, arith, sym, ◌∙◌, ap}
 use Rattle.ro_text.specs.Lines.{parts_of}
-use Rattle.ro_journal_text.specs.Reading.{lines_entries, is_end}
+use Rattle.ro_journal_text.specs.Reading.{is_end}
 use Rattle.ro_journal_text.proofs.Steps.{line_read, line_last, line_refused}
 use Rattle.ro_journal_text.proofs.files.read_entries.Goals as goal
 
@@ -16,9 +16,8 @@ returns-then-is_end-clause-read c =
 pub returns-in-Err-clause-refused : goal.returns-in-Err-clause-refused
 returns-in-Err-clause-refused c =
     let cut : parts_of c.loop-text.rest.now ≡ c.in-Some.text.now ∷ parts_of c.in-Some.behind.now = search rules in
-    c.refusal.ensures (lines_entries 2 (parts_of c.args.bytes.now))
-    (sym c.loop-text.invariant.1
-    ∙ line_refused c.loop-text.line c.loop-text.entries.items c.in-Err.code c.loop-text.rest.now c.in-Some.text.now c.in-Some.behind.now cut c.in-Err.ensures)
+    sym c.loop-text.invariant.1
+    ∙ line_refused c.loop-text.line c.loop-text.entries.items c.in-Err.code c.loop-text.rest.now c.in-Some.text.now c.in-Some.behind.now cut c.in-Err.ensures
 
 pub loop-text-preserved : goal.loop-text-preserved
 loop-text-preserved c =

@@ -1,9 +1,11 @@
-//! The outside: where files come from, and where bytes go. Contracts see what a store or a sink holds where it
-//! tells, and how often it failed, a count that never falls. Over memory there are `MemStore` and `MemSink`; the
-//! trusted edge is `FileStore` over the file system and `OutSink` over a stream, a few lines each.
+//! The outside: where files come from, where bytes go, and a gate that a lease passes before it runs. Contracts see what
+//! a store or a sink holds where it tells, and how often it failed, a count that rises just where it fails. Over memory
+//! there are `MemStore` and `MemSink`; the trusted edge is `FileStore` over the file system and `OutSink` over a stream, a
+//! few lines each.
 #![tactic(auto)]
 
 mod file_store;
+mod gates;
 mod mem_sink;
 mod mem_store;
 mod out_sink;
@@ -11,6 +13,7 @@ mod sinks;
 mod stores;
 
 pub use file_store::FileStore;
+pub use gates::{Gate, OpenGate};
 pub use mem_sink::{Act, MemSink};
 pub use mem_store::MemStore;
 pub use out_sink::OutSink;

@@ -80,6 +80,7 @@ impl Sink for MemSink {
         ensures taken { IfOk result (λ n. self.new.bytes ≡ self.old.bytes ++ take n piece.now) }
         ensures refused { OnErr result (self.new.bytes ≡ self.old.bytes) }
         ensures cause { OnErr result (Rose self.old.faults self.new.faults) }
+        ensures calm { IfOk result (λ _. self.new.faults ≡ self.old.faults) }
         ensures faults { self.old.faults ≤ self.new.faults }
 
         // Which answer comes, and all that it changes.

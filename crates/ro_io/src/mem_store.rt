@@ -149,6 +149,7 @@ impl Store for MemStore {
             IsFront (file_in self.old.files) name.now most bytes.items) }
         ensures told { self.new.files ≡ self.old.files }
         ensures cause { IsErrOf result FetchError.Failed → Rose self.old.faults self.new.faults }
+        ensures calm { (IsErrOf result FetchError.Failed → ⊥) → self.new.faults ≡ self.old.faults }
         ensures faults { self.old.faults ≤ self.new.faults }
 
         // Which answer comes, but for want of memory, and all that the call changes.

@@ -41,6 +41,7 @@ impl<W: Write> Sink for OutSink<W> {
         requires { 0 < length piece.now }
         ensures count { IfOk result (λ n. (0 < n) × (n ≤ length piece.now)) }
         ensures cause { OnErr result (Rose self.old.1 self.new.1) }
+        ensures calm { IfOk result (λ _. self.new.1 ≡ self.old.1) }
         ensures faults { self.old.1 ≤ self.new.1 }
 
         // A stream that tells what it holds has got what was taken.

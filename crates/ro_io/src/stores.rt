@@ -27,12 +27,13 @@ pub trait Store {
     /// Fetches the first `most` bytes of a file, or all where it has fewer.
     ///
     /// # Errors
-    /// `Failed` where there is no such file or it can't be read; the count of faults rose then. `NoMemory` where
-    /// there is no memory for the bytes.
+    /// `Failed` where there is no such file or it can't be read; the count of faults rose then, and only then. `NoMemory`
+    /// where there is no memory for the bytes.
     fn fetch(&mut self, alloc: Global, name: &str, most: usize) -> Result<Vec<u8>, FetchError>
         ensures length { IfOk result (λ bytes. length bytes.items ≤ most) }
         ensures front { IfOk result (λ bytes. IfSome (told self.old) (λ files. IsFront files name.now most bytes.items)) }
         ensures told { told self.new ≡ told self.old }
         ensures cause { IsErrOf result FetchError.Failed → Rose (faults self.old) (faults self.new) }
+        ensures calm { (IsErrOf result FetchError.Failed → ⊥) → faults self.new ≡ faults self.old }
         ensures faults { faults self.old ≤ faults self.new };
 }

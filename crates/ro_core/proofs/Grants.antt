@@ -8,16 +8,17 @@ use Rattle.std.proofs.lemmas.Option.{option_and_then_some}
 use Rattle.ro_event.specs.declared.calls.Call.{Call}
 use Rattle.ro_event.specs.declared.effects.Made.{Made}
 use Rattle.ro_event.specs.declared.stops.Stop.{Stop}
-use Rattle.ro_event.specs.declared.stops.Stop.TheVariants.{Calls}
+use Rattle.ro_event.specs.declared.stops.Stop.TheVariants.{Calls, Trap, PageFault, Watchdog}
 use Rattle.ro_event.specs.Effects.{Effect}
 use Rattle.ro_exec.specs.Next.{Backed}
 use Rattle.ro_journal.specs.declared.Did.{Did}
+use Rattle.ro_journal.specs.declared.Did.TheVariants.{Served, Blocked, Mapped, Watch, Trapped}
 use Rattle.ro_journal.specs.declared.How.{How}
 use Rattle.ro_journal.specs.declared.Entry.{Entry}
 use Rattle.ro_journal.specs.declared.Entry.TheVariants.{Take, Put, Vote, Free, End}
 use Rattle.ro_kernel.proofs.Kept.{slice_get-set_other}
-use Rattle.ro_kernel.specs.Kernel.{lives_on}
-use Rattle.ro_kernel.specs.Serve.{serve}
+use Rattle.ro_kernel.specs.Kernel.{Setup, Kernel, lives_on}
+use Rattle.ro_kernel.specs.Serve.{Served as Serving, Done, Blocked as Blocks, Ends, serve}
 use Rattle.ro_thread.specs.declared.Thread.{Thread}
 use Rattle.ro_replica.specs.Replica.{Replica, changed_at, thread_after, with_made, without_cancelled, is_cancelled, applied, cancelled}
 use Rattle.ro_replica.specs.Runs.{Ran, run_of, with_stop}
@@ -26,10 +27,10 @@ use Rattle.ro_plain.specs.Machine.{layout_of, setup_of}
 use Rattle.ro_plain.proofs.Calls.{some-injective, slice_get-append}
 use Rattle.ro_core.specs.declared.actions.Lease.{Lease}
 use Rattle.ro_core.specs.Core.{Job, Core, opening_core, is_home, is_out, is_lendable}
-use Rattle.ro_core.specs.Event.{Event, call_event, with_recovered}
+use Rattle.ro_core.specs.Event.{Event, quiet_effect, call_event, event_of, with_recovered}
 use Rattle.ro_core.specs.Legal.{is_lease, arrival, arrived, core_after_put, core_after_event, event_in, freed_event, after, IsAllowed, MayPut, MayVote, MayFree, LegalFrom, Legal, replay_from, replay}
-use Rattle.ro_core.specs.Laws.{thread_in, LetsGoOn}
-use Rattle.ro_core.proofs.Lists.{get-map-there, get-set-same}
+use Rattle.ro_core.specs.Laws.{thread_in, LeavesBlocked, LetsGoOn}
+use Rattle.ro_core.proofs.Lists.{get-map-there, get-set-same, changed-is-set}
 use Rattle.ro_core.proofs.Copies.{copied-other}
 use Rattle.ro_core.proofs.Effects.{backed_after, threads_after}
 use Rattle.ro_core.proofs.Happens.{Happens, event-happens, call-happens}
@@ -194,6 +195,57 @@ event-keeps core voted count replicas event replica thread value stands call own
       there = effect-keeps event.effect value thread stands call (λ e. other (e ∙ own)) there at;
     })
 
+-- what an event that blocks does to its thread: its count since the last vote begins anew
+blocked-stands : (core : Core) (voted count : ℕ) (replicas : List Replica) (event : Event) (replica : ℕ) (value : Replica) (stands : Thread) (call : Call)
+    → event.effect ≡ quiet_effect voted None false → slice_get replicas replica ≡ Some value → slice_get value.threads voted ≡ Some stands → stands.stop ≡ Some (Calls call)
+    → thread_in (core_after_event core voted count replicas (Some event)) replica voted ≡ Some (record stands { since = 0 })
+unfolding applied cancelled
+blocked-stands core voted count replicas event replica value stands call quiet in_core there at =
+    found-is (core_after_event core voted count replicas (Some event)) replica voted (record stands { since = 0 }) (record {
+      value = cancelled (applied event.effect value);
+      in_core = get-map-there (λ r. cancelled (applied event.effect r)) replicas replica value in_core;
+      there = subst (λ (e : Effect). slice_get (cancelled (applied e value)).threads voted ≡ Some (record stands { since = 0 })) (sym quiet) new;
+    })
+  where
+    effect : Effect
+    effect = quiet_effect voted None false
+
+    changed : slice_get (changed_at (thread_after effect) value.threads voted) voted ≡ Some (record stands { since = 0 })
+    changed =
+        ap (λ (xs : List Thread). slice_get xs voted) (changed-is-set (thread_after effect) value.threads voted stands there)
+        ∙ get-set-same value.threads voted stands (thread_after effect stands) there
+
+    new : slice_get (cancelled (applied effect value)).threads voted ≡ Some (record stands { since = 0 })
+    new =
+        get-map-there (without_cancelled (backed_after effect value.backed)) (threads_after effect value.threads) voted (record stands { since = 0 }) changed
+        ∙ ap Some (not-cancelled (backed_after effect value.backed) (record stands { since = 0 }) call at)
+
+-- an event that blocks changes nothing else
+blocked-quiet : (setup : Setup) (kernel : Kernel) (thread : ℕ) (stop : Stop) (payload : List ℕ) → (event_of setup kernel thread stop payload).did ≡ Blocked → (event_of setup kernel thread stop payload).effect ≡ quiet_effect thread None false
+unfolding event_of
+blocked-quiet setup kernel thread (PageFault page) payload e = absurd (let f : Mapped ≡ Blocked = e in cc)
+blocked-quiet setup kernel thread Watchdog payload e = absurd (let f : Watch ≡ Blocked = e in cc)
+blocked-quiet setup kernel thread (Trap code) payload e = absurd (let f : Trapped ≡ Blocked = e in cc)
+blocked-quiet setup kernel thread (Calls call) payload e = by (serve setup kernel thread call) e
+  where
+    by : (s : Serving) → (call_event kernel thread call payload s).did ≡ Blocked → (call_event kernel thread call payload s).effect ≡ quiet_effect thread None false
+    by (Done after effect) f = absurd (let g : Served ≡ Blocked = f in cc)
+    by Blocks f = refl
+    by (Ends after how) f = absurd (let g : Served ≡ Blocked = f in cc)
+
+-- whether a vote blocked
+blocked-cases : (did : Did) → (did ≡ Blocked) ⊎ (did ≢ Blocked)
+blocked-cases Served = inr (λ e. cc)
+blocked-cases Blocked = inl refl
+blocked-cases Mapped = inr (λ e. cc)
+blocked-cases Watch = inr (λ e. cc)
+blocked-cases Trapped = inr (λ e. cc)
+
+-- what becomes of a thread that stands at a call
+abbrev Goes : Core → Entry → (replica thread : ℕ) → Thread → Type 0
+Goes new entry replica thread stands =
+    (thread_in new replica thread ≡ Some stands) ⊎ (LeavesBlocked entry thread × (thread_in new replica thread ≡ Some (record stands { since = 0 }))) ⊎ LetsGoOn entry replica thread
+
 put-keeps : (job : Job) (core : Core) (driver ran_in ran count hit : ℕ) → MayPut job core driver ran_in ran count hit → LentGo core → (replica thread : ℕ) (stands : Thread) (call : Call)
     → Found core replica thread stands → stands.stop ≡ Some (Calls call) → thread_in (after job core (Put driver ran_in ran count hit)) replica thread ≡ Some stands
 unfolding after
@@ -250,26 +302,41 @@ lost-cases (Some lost) replica = by (cases_eq lost replica)
     by (inr d) = inr (λ e. d (some-injective e))
 
 vote-keeps : (job : Job) (core : Core) (voted count won : ℕ) (lost : Option ℕ) (did : Did) → MayVote job core voted count won lost did → (replica thread : ℕ) (stands : Thread) (call : Call)
-    → Found core replica thread stands → stands.stop ≡ Some (Calls call) → (thread_in (after job core (Vote voted count won lost did)) replica thread ≡ Some stands) ⊎ LetsGoOn (Vote voted count won lost did) replica thread
+    → Found core replica thread stands → stands.stop ≡ Some (Calls call) → Goes (after job core (Vote voted count won lost did)) (Vote voted count won lost did) replica thread stands
 unfolding after
-vote-keeps job core voted count won lost did may replica thread stands call f at = by (cases_eq voted thread) (lost-cases lost replica)
+vote-keeps job core voted count won lost did may replica thread stands call f at = by (cases_eq voted thread) (blocked-cases did) (lost-cases lost replica)
   where
-    kept : voted ≢ thread → lost ≢ Some replica → thread_in (core_after_event core voted count (with_recovered won lost core.replicas) (event_in job core voted won)) replica thread ≡ Some stands
+    new : Core
+    new = core_after_event core voted count (with_recovered won lost core.replicas) (event_in job core voted won)
+
+    here : lost ≢ Some replica → slice_get (with_recovered won lost core.replicas) replica ≡ Some f.value
+    here not_lost = copied-other won lost core.replicas replica not_lost ∙ f.in_core
+
+    kept : voted ≢ thread → lost ≢ Some replica → thread_in new replica thread ≡ Some stands
     kept other not_lost =
         let e = event-parts job core voted won may.event may.comes in
         let own : may.event.effect.thread ≡ voted = (subst (Happens core.kernel voted) e.is (event-happens (setup_of job.program) core.kernel voted e.stop _)).thread_is in
         subst (λ (o : Option Event). thread_in (core_after_event core voted count (with_recovered won lost core.replicas) o) replica thread ≡ Some stands) (sym may.comes)
-        (event-keeps core voted count (with_recovered won lost core.replicas) may.event replica thread f.value stands call own (λ k. other (sym k))
-        (copied-other won lost core.replicas replica not_lost ∙ f.in_core) f.there at)
+        (event-keeps core voted count (with_recovered won lost core.replicas) may.event replica thread f.value stands call own (λ k. other (sym k)) (here not_lost) f.there at)
 
-    by : (voted ≡ thread) ⊎ (voted ≢ thread) → (lost ≡ Some replica) ⊎ (lost ≢ Some replica)
-        → (thread_in (core_after_event core voted count (with_recovered won lost core.replicas) (event_in job core voted won)) replica thread ≡ Some stands) ⊎ ((voted ≡ thread) ⊎ (lost ≡ Some replica))
-    by (inl e) l = inr (inl e)
-    by (inr d) (inl e) = inr (inr e)
-    by (inr d) (inr g) = inl (kept d g)
+    stays : voted ≡ thread → did ≡ Blocked → lost ≢ Some replica → thread_in new replica thread ≡ Some (record stands { since = 0 })
+    stays same blocks not_lost =
+        let e = event-parts job core voted won may.event may.comes in
+        let quiet : may.event.effect ≡ quiet_effect voted None false =
+        subst (λ (v : Event). v.did ≡ Blocked → v.effect ≡ quiet_effect voted None false) e.is (blocked-quiet (setup_of job.program) core.kernel voted e.stop _) (may.did_is ∙ blocks)
+        in
+        subst (λ (o : Option Event). thread_in (core_after_event core voted count (with_recovered won lost core.replicas) o) replica thread ≡ Some (record stands { since = 0 })) (sym may.comes)
+        (subst (λ (n : ℕ). thread_in (core_after_event core voted count (with_recovered won lost core.replicas) (Some may.event)) replica n ≡ Some (record stands { since = 0 })) same
+        (blocked-stands core voted count (with_recovered won lost core.replicas) may.event replica f.value stands call quiet (here not_lost) (ap (slice_get f.value.threads) same ∙ f.there) at))
+
+    by : (voted ≡ thread) ⊎ (voted ≢ thread) → (did ≡ Blocked) ⊎ (did ≢ Blocked) → (lost ≡ Some replica) ⊎ (lost ≢ Some replica) → Goes new (Vote voted count won lost did) replica thread stands
+    by v d (inl e) = inr (inr (inr e))
+    by (inr d) b (inr g) = inl (kept d g)
+    by (inl e) (inl b) (inr g) = inr (inl ((e, b), stays e b g))
+    by (inl e) (inr n) (inr g) = inr (inr (inl (e, n)))
 
 free-keeps : (job : Job) (core : Core) (freed : ℕ) → MayFree job core freed → (replica thread : ℕ) (stands : Thread) (call : Call)
-    → Found core replica thread stands → stands.stop ≡ Some (Calls call) → (thread_in (after job core (Free freed)) replica thread ≡ Some stands) ⊎ (freed ≡ thread)
+    → Found core replica thread stands → stands.stop ≡ Some (Calls call) → Goes (after job core (Free freed)) (Free freed) replica thread stands
 unfolding after
 free-keeps job core freed may replica thread stands call f at = by (cases_eq freed thread)
   where
@@ -280,12 +347,12 @@ free-keeps job core freed may replica thread stands call f at = by (cases_eq fre
         subst (λ (o : Option Event). thread_in (core_after_event core freed 0 core.replicas o) replica thread ≡ Some stands) (sym (freed-is job core freed p.call p.blocked_on))
         (event-keeps core freed 0 core.replicas event replica thread f.value stands call (call-happens (setup_of job.program) core.kernel freed p.call []).thread_is (λ k. other (sym k)) f.in_core f.there at)
 
-    by : (freed ≡ thread) ⊎ (freed ≢ thread) → (thread_in (core_after_event core freed 0 core.replicas (freed_event job core freed)) replica thread ≡ Some stands) ⊎ (freed ≡ thread)
-    by (inl e) = inr e
+    by : (freed ≡ thread) ⊎ (freed ≢ thread) → Goes (core_after_event core freed 0 core.replicas (freed_event job core freed)) (Free freed) replica thread stands
+    by (inl e) = inr (inr e)
     by (inr d) = inl (kept d)
 
 entry-keeps : (job : Job) (core : Core) (entry : Entry) → IsAllowed job core entry → LentGo core → (replica thread : ℕ) (stands : Thread) (call : Call)
-    → Found core replica thread stands → stands.stop ≡ Some (Calls call) → (thread_in (after job core entry) replica thread ≡ Some stands) ⊎ LetsGoOn entry replica thread
+    → Found core replica thread stands → stands.stop ≡ Some (Calls call) → Goes (after job core entry) entry replica thread stands
 unfolding after
 entry-keeps job core (Take driver taken lent) may go replica thread stands call f at = inl (found-is core replica thread stands f)
 entry-keeps job core (Put driver ran_in ran count hit) may go replica thread stands call f at = inl (put-keeps job core driver ran_in ran count hit may go replica thread stands call f at)
@@ -303,10 +370,10 @@ last-entry job journal entry legal = let p = LegalFrom-parts job (opening_core j
 
 pub one-grant : (job : Job) (journal : List Entry) (entry : Entry) → Legal job (journal ++ entry ∷ []) → (replica thread : ℕ) (stands : Thread) (call : Call)
     → thread_in (replay job journal) replica thread ≡ Some stands → stands.stop ≡ Some (Calls call)
-    → (thread_in (replay job (journal ++ entry ∷ [])) replica thread ≡ Some stands) ⊎ LetsGoOn entry replica thread
+    → Goes (replay job (journal ++ entry ∷ [])) entry replica thread stands
 one-grant job journal entry legal replica thread stands call e at =
     let p = last-entry job journal entry legal in
-    subst (λ (c : Core). (thread_in c replica thread ≡ Some stands) ⊎ LetsGoOn entry replica thread) (sym (replay_more job journal entry))
+    subst (λ (c : Core). Goes c entry replica thread stands) (sym (replay_more job journal entry))
     (entry-keeps job (replay job journal) entry p.allowed (lent-go job journal p.legal) replica thread stands call (found (replay job journal) replica thread stands e) at)
 
 -- nothing is allowed behind an end

@@ -32,7 +32,7 @@ use Rattle.ro_replica.specs.Seen.{ReplicaOf, replica_of}
 use Rattle.ro_core.specs.Core.{Job, Core, is_going, may_vote, views_of}
 use Rattle.ro_core.specs.Event.{Event, call_event, event_of, with_recovered, all_applied, core_after}
 use Rattle.ro_core.specs.Legal.{event_in, core_after_event, after, MayVote, PassesLimit, MayEnd, for_vote, Legal, replay, replay_with}
-use Rattle.ro_core.specs.Seen.{CoreOf, sent, sent_of, Sends, IsOfMajority, KeepsViews}
+use Rattle.ro_core.specs.Seen.{CoreOf, sent, sent_of, Quiet, Sends, IsOfMajority, KeepsViews}
 use Rattle.ro_core.specs.Sound.{IsOver, IsFault}
 use Rattle.ro_core.specs.Fields.{failed_of, due_behind, one_end, blocked_at, AreSeated, AreHome, IsSeat, CanRecover, Fields, core_in, state_in, CountsBytes, Holds}
 use Rattle.ro_core.specs.Grouped.{AreGrouped, AreMade, Copies}
@@ -370,6 +370,11 @@ pub rose-by : (failed : Option ℕ) (due : Option How) (old new : ℕ) → faile
 rose-by None due old new none part = subst (λ (o : Option ℕ). IfSome o (λ taken. Rose old new)) (sym none) tt
 rose-by (Some n) due old new none part = part n refl
 
+-- where the sink did not fail its count stays
+pub calm-by : (failed : Option ℕ) (due : Option How) (old new : ℕ) → (failed ≡ None → new ≡ old) → failed_of (due_behind due failed) ≡ None → new ≡ old
+calm-by None due old new calm e = calm refl
+calm-by (Some n) due old new calm e = absurd (let f : Some n ≡ None = e in cc)
+
 -- what a sink that failed says
 abbrev pub IsPart : (bytes : List ℕ) → (old new : Option (List ℕ)) → (a b n : ℕ) → Type 0
 IsPart bytes old new a b n = (n < length bytes) × (new ≡ more old (take n bytes)) × Rose a b
@@ -391,8 +396,22 @@ over-unfailed (Some how) h = by how (h how refl)
     by NoMajority o = refl
     by (Sink bytes) o = elim o [ ]
 
-pub sends-of : {inside old new : CoreOf} {bytes : List ℕ} → inside ≡ old → sent new ≡ sent inside ++ bytes → new.held ≡ more inside.held bytes → inside.faults ≤ new.faults → IfSome new.failed (λ taken. Rose inside.faults new.faults) → Sends old new bytes
-sends-of {inside} {old} {new} {bytes} is same held faults failed = subst (λ (v : CoreOf). Sends v new bytes) is (record { sent = same; held = held; faults = faults; failed = failed })
+pub sends-of : {inside old new : CoreOf} {bytes : List ℕ} → inside ≡ old → sent new ≡ sent inside ++ bytes → new.held ≡ more inside.held bytes → inside.faults ≤ new.faults → IfSome new.failed (λ taken. Rose inside.faults new.faults) → (new.failed ≡ None → new.faults ≡ inside.faults) → Sends old new bytes
+sends-of {inside} {old} {new} {bytes} is same held faults failed calm = subst (λ (v : CoreOf). Sends v new bytes) is (record { sent = same; held = held; faults = faults; failed = failed; calm = calm })
+
+more-none : (held : Option (List ℕ)) → held ≡ more held []
+more-none None = refl
+more-none (Some bytes) = ap Some (sym (append-nil bytes))
+
+-- where nothing leaves, no byte is sent
+pub quiet-sends : {old new : CoreOf} → Quiet old new → Sends old new []
+quiet-sends {old} {new} q = record {
+  sent = q.sent ∙ sym (append-nil (sent old));
+  held = q.held ∙ more-none old.held;
+  faults = (let f : new.faults ≡ old.faults = q.faults in omega arith);
+  failed = subst (λ (o : Option ℕ). IfSome o (λ taken. Rose old.faults new.faults)) (sym q.failed) tt;
+  calm = λ e. q.faults;
+}
 
 -- an effect keeps the number of replicas
 pub length-applied : (effect : Effect) (replicas : List Replica) → length (all_applied effect replicas) ≡ length replicas

@@ -1,6 +1,7 @@
 -- What the laws of legal journals speak of.
-use Rattle.std.specs.Prelude.{◌≡◌, ℕ, ◌+◌, Bool, false, ◌&&◌, ◌||◌, ◌⊎◌, List, [], ◌∷◌, Option, Some, nat_le, ◌==◌, if◌then◌else◌, slice_get}
+use Rattle.std.specs.Prelude.{◌≡◌, ◌≢◌, ℕ, ◌+◌, Bool, false, ◌&&◌, ◌||◌, ◌⊎◌, List, [], ◌∷◌, Option, Some, nat_le, ◌==◌, if◌then◌else◌, slice_get}
 use Rattle.std.specs.Option.{option_and_then}
+use Rattle.ro_journal.specs.declared.Did.TheVariants.{Blocked}
 use Rattle.ro_journal.specs.declared.Entry.{Entry}
 use Rattle.ro_journal.specs.declared.Entry.TheVariants.{Put, Vote, Free}
 use Rattle.ro_faults.specs.declared.Fault.{Fault}
@@ -11,9 +12,14 @@ use Rattle.ro_core.specs.Core.{Core}
 abbrev pub thread_in : Core → (replica thread : ℕ) → Option Thread
 thread_in core replica thread = option_and_then (λ r. slice_get r.threads thread) (slice_get core.replicas replica)
 
+-- the entry is the vote on a call of the thread that blocks
+abbrev pub LeavesBlocked : Entry → (thread : ℕ) → Type 0
+LeavesBlocked (Vote voted count won lost did) thread = (voted ≡ thread) × (did ≡ Blocked)
+LeavesBlocked entry thread = ⊥
+
 -- the entry answers the thread, or makes its replica a copy of another
 abbrev pub LetsGoOn : Entry → (replica thread : ℕ) → Type 0
-LetsGoOn (Vote voted count won lost did) replica thread = (voted ≡ thread) ⊎ (lost ≡ Some replica)
+LetsGoOn (Vote voted count won lost did) replica thread = ((voted ≡ thread) × (did ≢ Blocked)) ⊎ (lost ≡ Some replica)
 LetsGoOn (Free freed) replica thread = freed ≡ thread
 LetsGoOn entry replica thread = ⊥
 

@@ -58,12 +58,13 @@ pub record Quiet (old new : CoreOf) : Type 0 where
   pub held : new.held ≡ old.held
   pub faults : new.faults ≡ old.faults
 
--- these bytes leave; where not all could, the sink failed
+-- these bytes leave; where not all could, the sink failed, and it failed only there
 pub record Sends (old new : CoreOf) (bytes : List ℕ) : Type 0 where
   pub sent : sent new ≡ sent old ++ bytes
   pub held : new.held ≡ more old.held bytes
   pub faults : old.faults ≤ new.faults
   pub failed : IfSome new.failed (λ taken. Rose old.faults new.faults)
+  pub calm : new.failed ≡ None → new.faults ≡ old.faults
 
 -- a front of the payload that more than half of the views have
 pub record IsOfMajority (views : List View) (bytes : List ℕ) : Type 0 where

@@ -14,7 +14,7 @@ ghost use Rattle.ro_core.specs.declared.actions.Action.TheVariants as act;
 ghost use Rattle.ro_core.specs.Core.{Job, Core, is_going, is_lendable, may_vote, may_free, nothing_lent};
 ghost use Rattle.ro_core.specs.Legal.{Legal, MayEnd, replay};
 ghost use Rattle.ro_core.specs.Action.{next_action};
-ghost use Rattle.ro_core.specs.Laws.{thread_in, LetsGoOn, hits, has_come};
+ghost use Rattle.ro_core.specs.Laws.{thread_in, LeavesBlocked, LetsGoOn, hits, has_come};
 
 /// Nothing follows an end.
 pub fn end_is_last()
@@ -22,9 +22,10 @@ pub fn end_is_last()
 {}
 
 /// One order of grants: a replica's thread that stands at a call, of a mutex or any other, goes on at nothing but the
-/// vote or the free that answers it, or where its replica becomes a copy of another.
+/// vote or the free that answers it, or where its replica becomes a copy of another. A vote on a call that blocks leaves it
+/// where it stands, but for its count since the last vote.
 pub fn one_grant_order()
-    ensures { (job : Job) (journal : List Entry) (entry : Entry) → Legal job (journal ++ entry ∷ []) → (replica thread : ℕ) (stands : Thread) (call : Call) → thread_in (replay job journal) replica thread ≡ Some stands → stands.stop ≡ Some (Calls call) → (thread_in (replay job (journal ++ entry ∷ [])) replica thread ≡ Some stands) ⊎ LetsGoOn entry replica thread }
+    ensures { (job : Job) (journal : List Entry) (entry : Entry) → Legal job (journal ++ entry ∷ []) → (replica thread : ℕ) (stands : Thread) (call : Call) → thread_in (replay job journal) replica thread ≡ Some stands → stands.stop ≡ Some (Calls call) → (thread_in (replay job (journal ++ entry ∷ [])) replica thread ≡ Some stands) ⊎ (LeavesBlocked entry thread × (thread_in (replay job (journal ++ entry ∷ [])) replica thread ≡ Some (record stands { since = 0 }))) ⊎ LetsGoOn entry replica thread }
 {}
 
 /// Each fault whose moment has come was struck once, and the others of its replica wait.

@@ -9,6 +9,7 @@ pub(crate) fn send<K: Sink>(out: &mut K, bytes: &[u8]) -> Option<u32>
     requires { length bytes.now ≤ 4096 }
     ensures whole { result ≡ None → K.held out.new ≡ more (K.held out.old) bytes.now }
     ensures part { IfSome result (λ n. (n < length bytes.now) × (K.held out.new ≡ more (K.held out.old) (take n bytes.now)) × Rose (K.faults out.old) (K.faults out.new)) }
+    ensures calm { result ≡ None → K.faults out.new ≡ K.faults out.old }
     ensures faults { K.faults out.old ≤ K.faults out.new }
 {
     let mut sent = 0;

@@ -28,7 +28,7 @@ use Rattle.ro_core.proofs.Held.{Goes, no-outcome, not-split}
 use Rattle.ro_core.proofs.Happens.{Happens}
 use Rattle.ro_core.proofs.Entries.{appends-of}
 use Rattle.ro_core.proofs.Behind.{bytes-by, bytes-count, bytes-fewer, SinkWell, happened-holds, all-can-take}
-use Rattle.ro_core.proofs.Holding.{writes-step, length-applied, hold-within, hold-steps, hold-goes, hold-alone, hold-home, hold-few, hold-made, hold-groups, hold-copied, hold-made-healed, hold-recovers, hold-healed, hold-happens, hold-short, hold-low, hold-allowed, hold-limit, hold-may-end, hold-came, hold-sent, hold-majority, payload-due, short-if, held-by, rose-by, part-of, over-unfailed, sends-of, home-count, replicas-many, kept-holds}
+use Rattle.ro_core.proofs.Holding.{writes-step, length-applied, hold-within, hold-steps, hold-goes, hold-alone, hold-home, hold-few, hold-made, hold-groups, hold-copied, hold-made-healed, hold-recovers, hold-healed, hold-happens, hold-short, hold-low, hold-allowed, hold-limit, hold-may-end, hold-came, hold-sent, hold-majority, payload-due, short-if, held-by, rose-by, calm-by, part-of, over-unfailed, sends-of, quiet-sends, home-count, replicas-many, kept-holds}
 use Rattle.ro_core.proofs.cores.Core.hold.Goals as goal
 
 pub index-view-requires : goal.index-view-requires
@@ -599,6 +599,9 @@ returns-clause-entry g c =
           (c.push_reserved.ensures.items ∙ ap (λ js. js ++ Vote c.args.thread c.since-count.result c.args.won.won c.args.won.lost c.did_of-did.result ∷ []) c.in_ok-reserve.ensures.items),
     )
 
+pub returns-then-next-self-clause-sends : goal.returns-then-next-self-clause-sends
+returns-then-next-self-clause-sends g c = ([], quiet-sends c.conclude.ensures.quiet, inl refl)
+
 pub returns-clause-sends : goal.returns-clause-sends
 returns-clause-sends g c =
     let s = c.self.inside in
@@ -673,7 +676,8 @@ returns-clause-sends g c =
           (λ e. c.send-failed.ensures.whole e ∙ ap (more (g.K.Sink.held s.out)) written) (λ n e. (part-of c.written-payload.result.now (g.K.Sink.held s.out) (g.K.Sink.held c.send-failed.new.out) (g.K.Sink.faults s.out) (g.K.Sink.faults c.send-failed.new.out) failed n c.send-failed.ensures.part e).1 ∙ ap (λ (xs : List ℕ). more (g.K.Sink.held s.out) (take n xs)) written))
           c.send-failed.ensures.faults
           (subst (λ (o : Option How). IfSome (failed_of o) (λ taken. Rose (g.K.Sink.faults s.out) (g.K.Sink.faults c.send-failed.new.out))) (sym due)
-          (rose-by failed event.due (g.K.Sink.faults s.out) (g.K.Sink.faults c.send-failed.new.out) (over-unfailed event.due happens.ends_well) (λ n e. (part-of c.written-payload.result.now (g.K.Sink.held s.out) (g.K.Sink.held c.send-failed.new.out) (g.K.Sink.faults s.out) (g.K.Sink.faults c.send-failed.new.out) failed n c.send-failed.ensures.part e).2))),
+          (rose-by failed event.due (g.K.Sink.faults s.out) (g.K.Sink.faults c.send-failed.new.out) (over-unfailed event.due happens.ends_well) (λ n e. (part-of c.written-payload.result.now (g.K.Sink.held s.out) (g.K.Sink.held c.send-failed.new.out) (g.K.Sink.faults s.out) (g.K.Sink.faults c.send-failed.new.out) failed n c.send-failed.ensures.part e).2)))
+          (λ e. calm-by failed event.due (g.K.Sink.faults s.out) (g.K.Sink.faults c.send-failed.new.out) c.send-failed.ensures.calm (ap failed_of (sym due) ∙ e)),
       subst (λ (v : CoreOf). (bytes ≡ []) ⊎ IsOfMajority v.views bytes) c.self.view_is (hold-majority f h c.args.thread c.args.won.won c.args.won.lost may views verdict view there c.did_of-did.result failed well c.in_ok-event.event.writes (ap (λ (e : Event). e.payload) its)),
     )
 

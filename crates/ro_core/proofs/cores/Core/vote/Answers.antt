@@ -1,3 +1,4 @@
+use Rattle.std.proofs.Common.{inl, refl}
 use Rattle.std.proofs.Common.{◌≡◌, ◌⊎◌, ◌-◌, [], ℕ, true, List, length, vec_len, vec_capacity, sym, ap, ◌∙◌, subst}
 use Rattle.std.specs.Vec.{with_items}
 use Rattle.std.specs.List.{list_all}
@@ -11,7 +12,7 @@ use Rattle.ro_core.specs.Seen.{CoreOf, state, DecidesVote, IsOfMajority}
 use Rattle.ro_core.specs.Fields.{Fields, state_in, core_in, AreHome, Holds}
 use Rattle.ro_core.specs.Grouped.{seat_stopped}
 use Rattle.ro_core.proofs.Entries.{appends-of}
-use Rattle.ro_core.proofs.Holding.{sends-of}
+use Rattle.ro_core.proofs.Holding.{sends-of, quiet-sends}
 use Rattle.ro_core.proofs.Viewing.{viewed-holds, on-ok, on-if-ok, view-still, view-home, view-stopped, view-count, view-views}
 use Rattle.ro_core.proofs.cores.Core.vote.Goals as goal
 
@@ -168,6 +169,11 @@ split-requires g c =
     let split : verdict_of (with_items s.views c.show_all.new.views).items ≡ Split = ap verdict_of (sym c.as_slice-2.ensures.value) ∙ sym c.verdict.ensures ∙ ap verdict_of_three c.in-None.is in
     (c.args.thread, may, shown, split)
 
+pub returns-in-None-clause-sends : goal.returns-in-None-clause-sends
+returns-in-None-clause-sends g c =
+    let q = quiet-sends c.split.ensures.quiet in
+    ([], sends-of c.self.view_is q.sent q.held q.faults q.failed q.calm, inl refl)
+
 pub returns-in-Some-clause-sends : goal.returns-in-Some-clause-sends
 returns-in-Some-clause-sends g c =
     let s = c.self.inside in
@@ -194,7 +200,7 @@ returns-in-Some-clause-sends g c =
     let count : length (with_items s.views c.show_all.new.views).items ≡ length f.views = ap length items ∙ c.show_all.ensures.count ∙ ap length c.as_mut_slice.ensures.value in
     on-ok c.hold.result (λ x. (
       x.0,
-      sends-of c.self.view_is x.1.sent x.1.held x.1.faults x.1.failed,
+      sends-of c.self.view_is x.1.sent x.1.held x.1.faults x.1.failed x.1.calm,
       subst (λ (v : CoreOf). (x.0 ≡ []) ⊎ IsOfMajority (views_of v.job (state v) c.args.thread) x.0) c.self.view_is (subst (λ (vs : List View). (x.0 ≡ []) ⊎ IsOfMajority vs x.0) shown x.2),
     )) c.hold.ensures.sends
 

@@ -1,112 +1,94 @@
-//! One driver, which takes all turns of a run.
-ghost use Rattle.std.specs.Prelude.{◌≡◌, OnOk, OnErr, IsSome, None};
+//! The run by as many drivers as are asked for.
+ghost use Rattle.std.specs.Prelude.{◌≡◌, [], None};
 ghost use Rattle.ro_journal.specs.declared.How.{How as HowOf};
-ghost use Rattle.ro_journal.specs.Plan.{outcome_of};
 ghost use Rattle.ro_core.specs.declared.actions.Action.TheVariants as act;
 ghost use Rattle.ro_core.specs.Legal.{output_of};
 ghost use Rattle.ro_core.specs.Action.{next_action};
 ghost use Rattle.ro_core.specs.Seen.{state, sent};
-ghost use Rattle.ro_top.specs.Driven.{IsDriven, IsHome, KeepsLast, TakesTurns, Goes};
+ghost use Rattle.ro_master.specs.Driven.{CanRun, IsDriven, IsHome, KeepsLast, Goes};
 
 use ro_core::{Action, Core};
-use ro_io::Sink;
-use std::alloc::AllocError;
+use ro_drive::drive_all;
+use ro_io::{Gate, Sink};
+use ro_master::{Master, Naming, Opened};
+use std::alloc::Global;
+use std::marker::Brand;
 use std::sync::Wait;
+use std::thread::Threads;
 
-// The number of the one driver.
-const DRIVER: u32 = 0;
-
-// Takes turns until all is over.
+// Has the drivers take turns until all is over.
 //
 // Where there is no memory the journal stays as far as it has come.
-pub(crate) fn drive<R: Wait, K: Sink>(
+pub(crate) fn drive<R: Threads + Wait + Sync, K: Sink + Send, G: Gate + Sync>(
     rt: &R,
-    core: &mut Core<K>,
-    quantum: u32,
-) -> Result<(), AllocError>
-    requires driven { IsDriven core.old }
-    requires home { IsHome core.old }
-    requires last { KeepsLast core.old.job core.old.journal core.old.views }
-    requires turns { TakesTurns core.old.journal }
-    requires quantum { quantum ≡ core.old.job.settings.quantum }
-    ensures goes { Goes core.old core.new }
-    ensures driven { IsDriven core.new }
-    ensures last { KeepsLast core.new.job core.new.journal core.new.views }
-    ensures turns { TakesTurns core.new.journal }
-    ensures all_sent { sent core.new ≡ output_of core.new.job core.new.journal }
-    ensures over { OnOk result (IsSome (outcome_of core.new.journal)) }
+    alloc: Global,
+    core: Core<K>,
+    gate: &G,
+) -> Core<K>
+    requires journal { core.journal ≡ [] }
+    requires calm { core.failed ≡ None }
+    requires can_run { CanRun core.job }
+    ensures goes { Goes core result }
+    ensures driven { IsDriven result }
+    ensures last { KeepsLast result.job result.journal result.views }
+    ensures home { IsHome result }
+    ensures all_sent { sent result ≡ output_of result.job result.journal }
 {
-    for _ in rt.forever() {
-        match core.next_action() {
-            Action::Lend { replica, thread } => lend(core, replica, thread, quantum)?,
-            Action::Vote(thread) => vote(core, thread)?,
-            Action::Free(thread) => free(core, thread)?,
-            Action::End(_) => end(core),
-            Action::Over => return Ok(()),
-            Action::Wait => unreachable!(),
-        }
+    match Opened::new(alloc) {
+        Ok(opened) => drive_named::<R, K, G, Brand>(rt, alloc, core, opened, gate),
+        Err(_) => core,
     }
-    unreachable!()
 }
 
-// Runs a replica's thread for a quantum.
-fn lend<K: Sink>(
-    core: &mut Core<K>,
-    replica: u32,
-    thread: u32,
-    quantum: u32,
-) -> Result<(), AllocError>
-    requires driven { IsDriven core.old }
-    requires home { IsHome core.old }
-    requires quantum { quantum ≡ core.old.job.settings.quantum }
-    requires next { next_action core.old.job (state core.old) ≡ act.Lend replica thread }
-    requires turns { TakesTurns core.old.journal }
-    ensures goes { Goes core.old core.new }
-    ensures driven { IsDriven core.new }
-    ensures last { KeepsLast core.new.job core.new.journal core.new.views }
-    ensures turns { TakesTurns core.new.journal }
-    ensures home { IsHome core.new }
-    ensures calm { OnErr result (core.new.failed ≡ None) }
+// The same with a table that `N` names.
+fn drive_named<R: Threads + Wait + Sync, K: Sink + Send, G: Gate + Sync, N: Naming + Send + Sync>(
+    rt: &R,
+    alloc: Global,
+    core: Core<K>,
+    opened: Opened,
+    gate: &G,
+) -> Core<K>
+    requires name { opened ≡ N.table }
+    requires start { core ≡ N.start }
+    requires journal { core.journal ≡ [] }
+    requires calm { core.failed ≡ None }
+    requires can_run { CanRun core.job }
+    ensures goes { Goes core result }
+    ensures driven { IsDriven result }
+    ensures last { KeepsLast result.job result.journal result.views }
+    ensures home { IsHome result }
+    ensures all_sent { sent result ≡ output_of result.job result.journal }
 {
-    core.room()?;
-    let mut lent = core.take(DRIVER, replica, thread);
-    let ran = lent.run(thread, quantum);
-    core.put(DRIVER, lent, ran);
-    Ok(())
+    let (master, mut drivers) = match Master::<K, N>::start(alloc, core, opened) {
+        Ok(started) => started,
+        Err(back) => {
+            let (core, opened) = back.into_parts();
+            opened.discard();
+            return core;
+        }
+    };
+    drive_all(rt, &master, drivers.as_mut_slice(), gate);
+    settled(master.close(drivers))
 }
 
-// Holds a vote.
-fn vote<K: Sink>(core: &mut Core<K>, thread: u32) -> Result<(), AllocError>
-    requires driven { IsDriven core.old }
-    requires home { IsHome core.old }
-    requires next { next_action core.old.job (state core.old) ≡ act.Vote thread }
-    requires turns { TakesTurns core.old.journal }
-    ensures goes { Goes core.old core.new }
-    ensures driven { IsDriven core.new }
-    ensures last { KeepsLast core.new.job core.new.journal core.new.views }
-    ensures turns { TakesTurns core.new.journal }
-    ensures home { IsHome core.new }
-    ensures calm { OnErr result (core.new.failed ≡ None) }
+// Appends an end that is due, if one is.
+fn settled<K: Sink>(mut core: Core<K>) -> Core<K>
+    requires driven { IsDriven core }
+    requires last { KeepsLast core.job core.journal core.views }
+    requires home { IsHome core }
+    ensures goes { Goes core result }
+    ensures driven { IsDriven result }
+    ensures last { KeepsLast result.job result.journal result.views }
+    ensures home { IsHome result }
+    ensures all_sent { sent result ≡ output_of result.job result.journal }
 {
-    core.vote(thread)?;
-    Ok(())
-}
-
-// Has a blocked call served.
-fn free<K: Sink>(core: &mut Core<K>, thread: u32) -> Result<(), AllocError>
-    requires driven { IsDriven core.old }
-    requires home { IsHome core.old }
-    requires next { next_action core.old.job (state core.old) ≡ act.Free thread }
-    requires turns { TakesTurns core.old.journal }
-    ensures goes { Goes core.old core.new }
-    ensures driven { IsDriven core.new }
-    ensures last { KeepsLast core.new.job core.new.journal core.new.views }
-    ensures turns { TakesTurns core.new.journal }
-    ensures home { IsHome core.new }
-    ensures calm { OnErr result (core.new.failed ≡ None) }
-{
-    core.free(thread)?;
-    Ok(())
+    match core.next_action() {
+        Action::End(_) => {
+            end(&mut core);
+            core
+        }
+        _ => core,
+    }
 }
 
 // Ends the run.
@@ -114,12 +96,11 @@ fn end<K: Sink>(core: &mut Core<K>)
     requires driven { IsDriven core.old }
     requires home { IsHome core.old }
     requires next { (how : HowOf) × (next_action core.old.job (state core.old) ≡ act.End how) }
-    requires turns { TakesTurns core.old.journal }
     ensures goes { Goes core.old core.new }
     ensures driven { IsDriven core.new }
     ensures last { KeepsLast core.new.job core.new.journal core.new.views }
-    ensures turns { TakesTurns core.new.journal }
     ensures home { IsHome core.new }
+    ensures all_sent { sent core.new ≡ output_of core.new.job core.new.journal }
 {
     core.end();
 }

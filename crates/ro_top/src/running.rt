@@ -3,7 +3,8 @@ ghost use Rattle.std.specs.Prelude.{◌≡◌, ◌≢◌, []};
 ghost use Rattle.ro_journal.specs.Plan.{outcome_of};
 ghost use Rattle.ro_report.specs.declared.answers.Answer.TheVariants as a;
 ghost use Rattle.ro_top.specs.Files.{job_of};
-ghost use Rattle.ro_top.specs.Driven.{CanRun, TakesTurns, AreCounts};
+ghost use Rattle.ro_master.specs.Driven.{CanRun};
+ghost use Rattle.ro_top.specs.Driven.{AreCounts};
 ghost use Rattle.ro_top.specs.Causes.{IsRefusal, IsOutcome};
 ghost use Rattle.ro_top.specs.Top.{RanAs};
 
@@ -11,11 +12,12 @@ use crate::asking::Job;
 use crate::driving::drive;
 use ro_core::{Core, Finished};
 use ro_event::View;
-use ro_io::Sink;
+use ro_io::{Gate, Sink};
 use ro_journal::{Entry, How};
 use ro_report::Answer;
 use std::alloc::Global;
 use std::sync::Wait;
+use std::thread::Threads;
 
 // What a command came to, before it is told.
 pub(crate) struct Ran<K> {
@@ -45,11 +47,16 @@ pub(crate) fn nothing<K>(alloc: Global, answer: Answer, out: K) -> Ran<K>
 }
 
 // Runs a job.
-pub(crate) fn run<R: Wait, K: Sink>(rt: &R, alloc: Global, job: Job, out: K) -> Ran<K>
+pub(crate) fn run<R: Threads + Wait + Sync, K: Sink + Send, G: Gate + Sync>(
+    rt: &R,
+    alloc: Global,
+    job: Job,
+    out: K,
+    gate: &G,
+) -> Ran<K>
     requires { CanRun (job_of job.image job.input.items job.faults.items job.settings) }
     ensures run { RanAs (record { journal = result.journal.items; answer = result.answer; views = result.views.items; bytes = result.bytes; held_before = K.held out; held_after = K.held result.out; faults_before = K.faults out; faults_after = K.faults result.out }) (job_of job.image job.input.items job.faults.items job.settings) }
     ensures counts { AreCounts result.journal.items }
-    ensures turns { TakesTurns result.journal.items }
     ensures answer { IsOutcome result.answer (outcome_of result.journal.items) }
     ensures program { IsRefusal result.answer → ⊥ }
     ensures no_views { result.answer ≢ a.Differ → result.answer ≢ a.NoMajority → result.views.items ≡ [] }
@@ -62,7 +69,7 @@ pub(crate) fn run<R: Wait, K: Sink>(rt: &R, alloc: Global, job: Job, out: K) -> 
         settings,
         journal: _journal,
     } = job;
-    let mut core = match Core::begin(
+    let core = match Core::begin(
         alloc,
         image,
         input.as_slice(),
@@ -74,7 +81,7 @@ pub(crate) fn run<R: Wait, K: Sink>(rt: &R, alloc: Global, job: Job, out: K) -> 
         Err(out) => return nothing(alloc, Answer::NoMemory, out),
     };
     // Where there was no memory the journal has no end, and that is the answer.
-    let _ = drive(rt, &mut core, settings.quantum);
+    let core = drive(rt, alloc, core, gate);
     let Finished {
         how,
         views,

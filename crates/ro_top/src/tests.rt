@@ -1,12 +1,15 @@
 //! Rows: a command over a store and sinks in memory, and what it comes to.
 use super::*;
 use ro_event::{Call, Stop, Which};
-use ro_io::{Act, MemSink, MemStore};
+use ro_io::{Act, Gate, MemSink, MemStore, OpenGate};
 use ro_journal::{Entry, How};
 use ro_make::image_bytes;
 use std::alloc::Global;
 use std::process::Abort;
+use std::sync::Wait;
+use std::sync::atomic::{AtomicU64, Ordering};
 use std::test::Fail;
+use std::thread;
 
 // The views that are kept, by what each has in a0 at its exit.
 #[test]
@@ -31,6 +34,7 @@ fn kept_views(rt: HostRuntime) -> Result<(), Fail> {
             &mut store,
             out,
             &mut report,
+            &OpenGate,
         );
         assert_eq!(rt; done.views.len(), statuses.len(), "of {command:?}");
         for (view, status) in done.views.iter().zip(statuses) {
@@ -148,6 +152,7 @@ fn failing_sinks(rt: HostRuntime) -> Result<(), Fail> {
             &mut store,
             out,
             &mut report,
+            &OpenGate,
         );
         assert_eq!(rt; done.answer, row.answer);
         assert_eq!(rt; done.journal.last(), Some(&Entry::End { how: row.end }));
@@ -198,6 +203,7 @@ fn long_files(rt: HostRuntime) -> Result<(), Fail> {
             &mut store,
             out,
             &mut report,
+            &OpenGate,
         );
         assert_eq!(rt; done.answer, answer, "of {command:?}");
     }
@@ -272,4 +278,66 @@ fn store(rt: &impl Abort, alloc: Global) -> Result<MemStore, Fail> {
         store.put(name, text.as_bytes())?;
     }
     Ok(store)
+}
+
+/// A gate whose first caller waits, for a while, until another driver has come to it twice.
+#[derive(Drop)]
+struct Meeting {
+    /// The number of the driver that came first, and one more; 0 before.
+    first: AtomicU64,
+    /// How often another driver came.
+    others: AtomicU64,
+    /// Whether the first saw it in time.
+    met: AtomicU64,
+}
+
+impl Gate for Meeting {
+    fn pass<R: Wait>(&self, _rt: &R, driver: u32, _replica: u32, _thread: u32) {
+        let name = u64::from(driver) + 1;
+        match self
+            .first
+            .compare_exchange(0, name, Ordering::SeqCst, Ordering::SeqCst)
+        {
+            Ok(_) => {
+                for _ in 0..10_000_000u32 {
+                    if self.others.load(Ordering::SeqCst) >= 2 {
+                        self.met.store(1, Ordering::SeqCst);
+                        return;
+                    }
+                    thread::yield_now();
+                }
+            }
+            Err(first) => {
+                if first != name {
+                    self.others.fetch_add(1, Ordering::SeqCst);
+                }
+            }
+        }
+    }
+}
+
+// Two drivers are inside their runs at once: while one stands at the gate with its lease, the other takes two.
+#[test]
+fn two_drivers_at_once(rt: HostRuntime) -> Result<(), Fail> {
+    let words = words_of(rt.alloc(), &["run", "seven", "--drivers", "2"])?;
+    let mut store = store(&rt, rt.alloc())?;
+    let mut report = sink(rt.alloc(), &[])?;
+    let out = sink(rt.alloc(), &[])?;
+    let gate = Meeting {
+        first: AtomicU64::new(0),
+        others: AtomicU64::new(0),
+        met: AtomicU64::new(0),
+    };
+    let done = romain(
+        &rt,
+        rt.alloc(),
+        words.as_slice(),
+        &mut store,
+        out,
+        &mut report,
+        &gate,
+    );
+    assert_eq!(rt; done.answer, Answer::Exit(7));
+    assert_eq!(rt; gate.met.load(Ordering::SeqCst), 1);
+    Ok(())
 }

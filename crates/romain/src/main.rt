@@ -4,7 +4,7 @@
 //! program's status, or with one of Romain's own.
 #![tactic(auto)]
 
-use ro_io::{FileStore, OutSink};
+use ro_io::{FileStore, OpenGate, OutSink};
 use ro_top::romain;
 use std::alloc::{AllocError, Global};
 use std::env::{self, Args};
@@ -27,7 +27,15 @@ fn main(rt: HostRuntime) -> ExitCode {
     let mut store = FileStore::new(&rt);
     let mut report = OutSink::new(rt.stderr());
     let out = OutSink::new(rt.stdout());
-    let done = romain(&rt, alloc, texts.as_slice(), &mut store, out, &mut report);
+    let done = romain(
+        &rt,
+        alloc,
+        texts.as_slice(),
+        &mut store,
+        out,
+        &mut report,
+        &OpenGate,
+    );
     ExitCode::from(done.status())
 }
 

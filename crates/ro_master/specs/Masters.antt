@@ -1,0 +1,45 @@
+-- What a master says once its lock is let go.
+use Rattle.std.specs.Prelude.{◌≡◌, ◌+◌, ℕ, zero, suc, List, [], ◌∷◌, ◌++◌, None, Result, MatchResult}
+use Rattle.std.specs.declared.alloc.AllocError.{AllocError}
+use Rattle.ro_core.specs.Core.{Job}
+use Rattle.ro_core.specs.Action.{next_action}
+use Rattle.ro_core.specs.Seen.{CoreOf, state}
+use Rattle.ro_post.specs.declared.posts.Turn.{Turn}
+use Rattle.ro_post.specs.declared.posts.Driver.{Driver}
+use Rattle.ro_master.specs.Passes.{PassOf, CountOf, Knew, fresh_pass}
+use Rattle.ro_lease.specs.Loans.{LentOf, BackOf}
+use Rattle.ro_master.specs.Desks.{DeskOf, Tied, AtRest, Looked, TurnIs, PutIs, TakesMemory}
+
+-- there was a desk, under the lock, of which the turn did what it answers
+pub record TurnDid (start : CoreOf) (r : Result (Turn LentOf) AllocError) (p q : PassOf) : Type 0 where
+  pub old : DeskOf
+  pub new : DeskOf
+  pub tied : Tied start old.core old.count
+  pub did : MatchResult r (λ t. TurnIs t old new p q) (λ _. Looked old new p q × TakesMemory (next_action old.core.job (state old.core)))
+
+pub record PutDid (start : CoreOf) (back : BackOf) (p q : PassOf) : Type 0 where
+  pub old : DeskOf
+  pub new : DeskOf
+  pub tied : Tied start old.core old.count
+  pub did : PutIs old new p q back
+
+abbrev pub PassDriver : Type 0
+PassDriver = Driver PassOf
+
+abbrev pub fresh_driver : ℕ → PassDriver
+fresh_driver number = record { pass = fresh_pass number; outcome = None }
+
+-- a driver for each number below n
+abbrev pub fresh_drivers : ℕ → List PassDriver
+fresh_drivers zero = []
+fresh_drivers (suc n) = fresh_drivers n ++ fresh_driver n ∷ []
+
+-- each pass knew the history: what it had seen is a beginning of it, and its own places are all that bear its number
+abbrev pub AllKnew : CountOf → List PassDriver → Type 0
+AllKnew c [] = Unit {0}
+AllKnew c (d ∷ ds) = Knew d.pass c × AllKnew c ds
+
+-- the drivers have the numbers from n on, in order, and each is at rest
+abbrev pub AreAll : Job → ℕ → List PassDriver → Type 0
+AreAll job n [] = Unit {0}
+AreAll job n (d ∷ ds) = (d.pass.number ≡ n) × AtRest job d.pass × AreAll job (n + 1) ds

@@ -1,0 +1,16 @@
+//! The master: the core of a run behind one lock, and the passes with which drivers take their turns. Each entry of the
+//! journal is one driver's; what a pass has seen is a beginning of the one history, and its own places are all that bear
+//! its number.
+#![tactic(auto)]
+
+mod desks;
+mod masters;
+mod passes;
+mod seats;
+mod steps;
+mod waking;
+
+pub use desks::Desk;
+pub use masters::{Master, Refused};
+pub use passes::{Counter, Opened, Pass};
+pub use seats::Naming;

@@ -8,3 +8,8 @@ mod SingleRow
 mod WatchedRow
 mod WriteRows
 mod OtherRows
+mod OrderRows
+mod EdgeRows
+mod TableRows
+mod Explore
+mod RaceRows

@@ -1,3 +1,6 @@
 pub mod Exit
 pub mod Guests
+pub mod Edges
+pub mod Order
 pub mod Rows
+pub mod Tables

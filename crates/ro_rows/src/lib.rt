@@ -1,5 +1,10 @@
-//! Worked rows: the journals of small guests, computed.
+//! Worked rows: the journals of small guests, computed; the order of their steps and their races; the edges of what is allowed;
+//! and tables. What a row says comes from outside, by hand, by a standard or by an assembler: it pins the definitions.
 #![tactic(auto)]
+
+mod edges;
+mod order;
+mod tables;
 
 ghost use Rattle.std.specs.Prelude.{◌≡◌, ◌≢◌, ℕ, List, [], ◌∷◌, length, replicate, Some, None};
 ghost use Rattle.std.specs.Option.{option_map};
@@ -19,6 +24,15 @@ ghost use Rattle.ro_simulation.specs.Drives.{driven};
 ghost use Rattle.ro_rows.specs.Exit.{exit_file, exit_image, exit_job, exit_journal};
 ghost use Rattle.ro_rows.specs.Guests.{loop_guest};
 ghost use Rattle.ro_rows.specs.Rows.{IdealEnds, decisions, page_job, deadlock_job, deadlock_journal, pair_job, pair_journal, single_job, watched_job, hello_job, failing_journal, healed_job, before_vote};
+
+pub use edges::{
+    differ_row, free_first_row, length_row, limit_row, put_row, stuck_row, take_row, waiters_row,
+};
+pub use order::{accesses_row, before_row, calls_row, races_row, sync_row};
+pub use tables::{
+    checks_row, errors_row, instructions_row, names_row, results_row, settings_row, threads_row,
+    traps_row,
+};
 
 /// A row: the program of a file of 96 bytes exits with 7. Its journal of eight entries is legal and the one that one
 /// driver makes, each entry is what the core does next, and the plan is three steps of thread 0, after which the

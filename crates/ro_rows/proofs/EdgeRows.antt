@@ -1,0 +1,252 @@
+-- The edges of what is allowed, by computation.
+use Rattle.std.specs.Prelude.{◌≡◌, ℕ, zero, suc, ◌+◌, ◌<◌, ◌≤◌, IsSome, true, false, [], ◌∷◌, ◌++◌, length, Option, Some, None, is_none}
+use Rattle.std.specs.List.{filter}
+use Rattle.std.specs.Option.{option_map}
+use Rattle.std.proofs.Common.{refl, sym, ap, ◌∙◌, inl, inr, arith, ⊎_elim}
+use Rattle.std.proofs.Math.Dec.{lit<, lit≤}
+use Rattle.ro_decode.specs.Table.{instruction_of}
+use Rattle.ro_event.specs.declared.stops.Stop.{Stop}
+use Rattle.ro_event.specs.Table.{call_at}
+use Rattle.ro_region.specs.Permission.{permits_of}
+use Rattle.ro_alu.specs.Results.{alu_of, taken_by}
+use Rattle.ro_exec.specs.Meaning.{meaning}
+use Rattle.ro_exec.specs.Next.{fetch_stop, instruction_stop, next}
+use Rattle.ro_exec.specs.Threads.{first_cpu, made_cpu}
+use Rattle.ro_kernel.specs.Serve.{serve, payload_of}
+use Rattle.ro_journal.specs.declared.Did.TheVariants.{Served, Blocked}
+use Rattle.ro_journal.specs.declared.How.{How}
+use Rattle.ro_journal.specs.declared.How.TheVariants.{Exit, Deadlock, Limit}
+use Rattle.ro_journal.specs.declared.Entry.TheVariants.{Take, Put, Vote, Free, End}
+use Rattle.ro_journal.specs.Plan.{plan_of}
+use Rattle.ro_vote.specs.Verdict.{verdict_of}
+use Rattle.ro_replica.specs.Replica.{opening_replica, applied, cancelled, recovered}
+use Rattle.ro_replica.specs.Runs.{Ran, struck, execute}
+use Rattle.ro_plain.specs.Machine.{Machine, opening, steppable, step, AllEnd}
+use Rattle.ro_plain.proofs.Calls.{some-injective}
+use Rattle.ro_core.specs.declared.actions.Action.TheVariants as act
+use Rattle.ro_core.specs.Core.{Job, Core, opening_core, may_free}
+use Rattle.ro_core.specs.Event.{event_of}
+use Rattle.ro_core.specs.Legal.{Legal, IsAllowed, HasArrived, arrival, EndsAlone, EndsVote, EndsFree, MayEnd, after, replay, output_of, due, alone, for_vote, for_free}
+use Rattle.ro_core.specs.Action.{next_action, IsNext}
+use Rattle.ro_simulation.specs.Theorem.{CannotDiffer}
+use Rattle.ro_simulation.specs.Guests.{exit_guest}
+use Rattle.ro_simulation.specs.Rows.{flip_a0}
+use Rattle.ro_simulation.specs.Drives.{driven}
+use Rattle.ro_simulation.proofs.Checks.{test_legal, legal-by-test}
+use Rattle.ro_rows.specs.Exit.{exit_job}
+use Rattle.ro_rows.specs.Rows.{decisions, deadlock_job, deadlock_before}
+use Rattle.ro_rows.specs.Edges.{small_job, waiters_job, two_wait, unlocked, letter_job, all_hits, is_vote, page_limit_job, before_free, exit_runs}
+
+-- a run that does not exist
+no-machine : {P : Type 0} (machine : Machine) (o : Option Machine) → o ≡ Some machine → o ≡ None → P
+no-machine machine o e f = absurd (let g : None ≡ Some machine = sym f ∙ e in cc)
+
+-- an end that neither is due, nor comes alone, nor in the place of a vote or a free
+no-end : (job : Job) (core : Core) (how : How) → core.due ≡ None → (EndsAlone job core how → ⊥) → ((thread : ℕ) → EndsVote job core thread how → ⊥) → (EndsFree job core how → ⊥) → MayEnd job core how → ⊥
+no-end job core how none a v f (due e) = absurd (let g : None ≡ Some how = sym none ∙ e in cc)
+no-end job core how none a v f (alone e) = a e
+no-end job core how none a v f (for_vote thread may e) = v thread e
+no-end job core how none a v f (for_free thread may e) = f e
+
+-- a stop that is not there
+no-stop : (stop : Option Stop) → is_none stop ≡ true → IsSome stop → ⊥
+no-stop None e s = let f : false ≡ true = s in cc
+no-stop (Some stop) e s = absurd (let f : false ≡ true = e in cc)
+
+-- a run of so many instructions, fewer than a quantum, that comes to no stop
+no-arrival : (job : Job) (thread count : ℕ) (o : Option Ran) (ran : Ran) → o ≡ Some ran → option_map (λ (r : Ran). is_none (arrival job thread count r.replica)) o ≡ Some true → count < job.settings.quantum → HasArrived job thread count ran.replica → ⊥
+no-arrival job thread count o ran e f low (inl whole) = omega arith
+no-arrival job thread count o ran e f low (inr g) =
+    no-stop (arrival job thread count ran.replica) (some-injective (sym (ap (option_map (λ (r : Ran). is_none (arrival job thread count r.replica))) e) ∙ f)) g.1
+
+-- how many faults a run struck
+hit-is : (o : Option Ran) (ran : Ran) (hit : ℕ) → o ≡ Some ran → option_map (λ (r : Ran). r.hit) o ≡ Some hit → ran.hit ≡ hit
+hit-is o ran hit e f = some-injective (sym (ap (option_map (λ (r : Ran). r.hit)) e) ∙ f)
+
+-- ---- length_row
+
+pub length-three : AllEnd exit_job.program 3
+unfolding opening first_cpu steppable step next fetch_stop instruction_stop instruction_of call_at permits_of alu_of meaning serve payload_of
+length-three [] e = lit≤ tt
+length-three (zero ∷ []) e = lit≤ tt
+length-three (zero ∷ zero ∷ []) e = lit≤ tt
+length-three (zero ∷ zero ∷ zero ∷ []) e = lit≤ tt
+length-three (zero ∷ zero ∷ zero ∷ x ∷ rest) e = no-machine e.0 _ e.1 refl
+length-three (zero ∷ zero ∷ suc x ∷ rest) e = no-machine e.0 _ e.1 refl
+length-three (zero ∷ suc x ∷ rest) e = no-machine e.0 _ e.1 refl
+length-three (suc x ∷ rest) e = no-machine e.0 _ e.1 refl
+
+pub length-not-two : AllEnd exit_job.program 2 → ⊥
+unfolding opening first_cpu steppable step next fetch_stop instruction_stop instruction_of call_at permits_of alu_of meaning serve payload_of
+length-not-two h = let f = h (0 ∷ 0 ∷ 0 ∷ []) (_, refl) in omega arith
+
+-- ---- take_row
+
+pub take-last : IsAllowed exit_job (opening_core exit_job) (Take 2 0 0)
+unfolding opening_core opening_replica struck execute applied cancelled recovered verdict_of event_of after next_action first_cpu made_cpu next fetch_stop instruction_stop instruction_of call_at permits_of alu_of taken_by meaning serve payload_of
+take-last = record { going = refl; driver_exists = lit< tt; driver_is_idle = refl; lendable = refl }
+
+pub take-no-such : IsAllowed exit_job (opening_core exit_job) (Take 3 0 0) → ⊥
+unfolding opening_core opening_replica struck execute applied cancelled recovered verdict_of event_of after next_action first_cpu made_cpu next fetch_stop instruction_stop instruction_of call_at permits_of alu_of taken_by meaning serve payload_of
+take-no-such h = let f = h.driver_exists in omega arith
+
+pub take-any-first : IsAllowed exit_job (opening_core exit_job) (Take 0 1 0)
+unfolding opening_core opening_replica struck execute applied cancelled recovered verdict_of event_of after next_action first_cpu made_cpu next fetch_stop instruction_stop instruction_of call_at permits_of alu_of taken_by meaning serve payload_of
+take-any-first = record { going = refl; driver_exists = lit< tt; driver_is_idle = refl; lendable = refl }
+
+pub take-next : IsNext exit_job (opening_core exit_job) (Take 0 0 0)
+unfolding opening_core opening_replica struck execute applied cancelled recovered verdict_of event_of after next_action first_cpu made_cpu next fetch_stop instruction_stop instruction_of call_at permits_of alu_of taken_by meaning serve payload_of
+take-next = refl
+
+pub take-not-next : IsNext exit_job (opening_core exit_job) (Take 0 1 0) → ⊥
+unfolding opening_core opening_replica struck execute applied cancelled recovered verdict_of event_of after next_action first_cpu made_cpu next fetch_stop instruction_stop instruction_of call_at permits_of alu_of taken_by meaning serve payload_of
+take-not-next h = let f : act.Lend 0 0 ≡ act.Lend 1 0 = h in cc
+
+-- ---- put_row
+
+pub put-at-stop : IsAllowed exit_job (replay exit_job (Take 0 0 0 ∷ [])) (Put 0 0 0 2 0)
+unfolding opening_core opening_replica struck execute applied cancelled recovered verdict_of event_of after next_action first_cpu made_cpu next fetch_stop instruction_stop instruction_of call_at permits_of alu_of taken_by meaning serve payload_of
+put-at-stop = record { not_ended = refl; out = refl; ran = _; runs = refl; struck = refl; arrives = inr (lit< tt, refl) }
+
+pub put-early : IsAllowed exit_job (replay exit_job (Take 0 0 0 ∷ [])) (Put 0 0 0 1 0) → ⊥
+unfolding opening_core opening_replica struck execute applied cancelled recovered verdict_of event_of after next_action first_cpu made_cpu next fetch_stop instruction_stop instruction_of call_at permits_of alu_of taken_by meaning serve payload_of
+put-early h = no-arrival exit_job 0 1 _ h.ran h.runs refl (lit< tt) h.arrives
+
+pub put-late : IsAllowed exit_job (replay exit_job (Take 0 0 0 ∷ [])) (Put 0 0 0 3 0) → ⊥
+unfolding opening_core opening_replica struck execute applied cancelled recovered verdict_of event_of after next_action first_cpu made_cpu next fetch_stop instruction_stop instruction_of call_at permits_of alu_of taken_by meaning serve payload_of
+put-late h = let f : None ≡ Some h.ran = h.runs in cc
+
+pub put-another : IsAllowed exit_job (replay exit_job (Take 0 0 0 ∷ [])) (Put 1 0 0 2 0) → ⊥
+unfolding opening_core opening_replica struck execute applied cancelled recovered verdict_of event_of after next_action first_cpu made_cpu next fetch_stop instruction_stop instruction_of call_at permits_of alu_of taken_by meaning serve payload_of
+put-another h = let f : false ≡ true = h.out in cc
+
+pub put-unstruck : IsAllowed exit_job (replay exit_job (Take 0 0 0 ∷ [])) (Put 0 0 0 2 1) → ⊥
+unfolding opening_core opening_replica struck execute applied cancelled recovered verdict_of event_of after next_action first_cpu made_cpu next fetch_stop instruction_stop instruction_of call_at permits_of alu_of taken_by meaning serve payload_of
+put-unstruck h = let f : h.ran.hit ≡ 0 = hit-is _ h.ran 0 h.runs refl in let g : h.ran.hit ≡ 1 = h.struck in omega arith
+
+-- ---- differ_row
+
+pub differ-three : CannotDiffer (small_job exit_guest (flip_a0 1 ∷ []) 3 1000000000)
+differ-three = inl refl
+
+pub differ-two : CannotDiffer (small_job exit_guest [] 2 1000000000)
+differ-two = inr refl
+
+pub differ-struck : CannotDiffer (small_job exit_guest (flip_a0 1 ∷ []) 2 1000000000) → ⊥
+differ-struck h = ⊎_elim (λ (e : 2 ≡ 3). omega arith) (λ (e : flip_a0 1 ∷ [] ≡ []). cc) h
+
+-- ---- stuck_row
+
+pub stuck-stuck : IsAllowed deadlock_job (replay deadlock_job deadlock_before) (End Deadlock)
+unfolding opening_core opening_replica struck execute applied cancelled recovered verdict_of event_of after next_action first_cpu made_cpu next fetch_stop instruction_stop instruction_of call_at permits_of alu_of taken_by meaning serve payload_of
+stuck-stuck = (refl, alone refl)
+
+pub stuck-not-opening : IsAllowed deadlock_job (opening_core deadlock_job) (End Deadlock) → ⊥
+unfolding opening_core opening_replica struck execute applied cancelled recovered verdict_of event_of after next_action first_cpu made_cpu next fetch_stop instruction_stop instruction_of call_at permits_of alu_of taken_by meaning serve payload_of
+stuck-not-opening h = no-end deadlock_job (opening_core deadlock_job) Deadlock refl (λ e. let f : false ≡ true = e in cc) (λ thread e. e) (λ e. e) h.1
+
+pub stuck-not-going : IsAllowed exit_job (replay exit_job exit_runs) (End Deadlock) → ⊥
+unfolding opening_core opening_replica struck execute applied cancelled recovered verdict_of event_of after next_action first_cpu made_cpu next fetch_stop instruction_stop instruction_of call_at permits_of alu_of taken_by meaning serve payload_of
+stuck-not-going h = no-end exit_job (replay exit_job exit_runs) Deadlock refl (λ e. let f : false ≡ true = e in cc) (λ thread e. e) (λ e. e) h.1
+
+pub stuck-not-lent : IsAllowed exit_job (replay exit_job (Take 0 0 0 ∷ [])) (End Deadlock) → ⊥
+unfolding opening_core opening_replica struck execute applied cancelled recovered verdict_of event_of after next_action first_cpu made_cpu next fetch_stop instruction_stop instruction_of call_at permits_of alu_of taken_by meaning serve payload_of
+stuck-not-lent h = no-end exit_job (replay exit_job (Take 0 0 0 ∷ [])) Deadlock refl (λ e. let f : false ≡ true = e in cc) (λ thread e. e) (λ e. e) h.1
+
+-- ---- limit_row
+
+pub limit-vote-fits : IsAllowed (small_job exit_guest [] 3 3) (replay (small_job exit_guest [] 3 3) exit_runs) (Vote 0 2 0 None Served)
+unfolding opening_core opening_replica struck execute applied cancelled recovered verdict_of event_of after next_action first_cpu made_cpu next fetch_stop instruction_stop instruction_of call_at permits_of alu_of taken_by meaning serve payload_of
+limit-vote-fits = record { may = refl; verdict = refl; count_is = refl; event = _; comes = refl; did_is = refl; fits = lit≤ tt }
+
+pub limit-no-limit : IsAllowed (small_job exit_guest [] 3 3) (replay (small_job exit_guest [] 3 3) exit_runs) (End (Limit 0 3)) → ⊥
+unfolding opening_core opening_replica struck execute applied cancelled recovered verdict_of event_of after next_action first_cpu made_cpu next fetch_stop instruction_stop instruction_of call_at permits_of alu_of taken_by meaning serve payload_of
+limit-no-limit h = no-end (small_job exit_guest [] 3 3) (replay (small_job exit_guest [] 3 3) exit_runs) (Limit 0 3) refl (λ e. e) (λ thread e. let f : 3 < 0 + 3 = e.above in omega arith) (λ e. let f : 3 ≡ 1 = e.1 in omega arith) h.1
+
+pub limit-vote-passes : IsAllowed (small_job exit_guest [] 3 2) (replay (small_job exit_guest [] 3 2) exit_runs) (Vote 0 2 0 None Served) → ⊥
+unfolding opening_core opening_replica struck execute applied cancelled recovered verdict_of event_of after next_action first_cpu made_cpu next fetch_stop instruction_stop instruction_of call_at permits_of alu_of taken_by meaning serve payload_of
+limit-vote-passes h = let f = h.fits in omega arith
+
+pub limit-limit : IsAllowed (small_job exit_guest [] 3 2) (replay (small_job exit_guest [] 3 2) exit_runs) (End (Limit 0 3))
+unfolding opening_core opening_replica struck execute applied cancelled recovered verdict_of event_of after next_action first_cpu made_cpu next fetch_stop instruction_stop instruction_of call_at permits_of alu_of taken_by meaning serve payload_of
+limit-limit = (refl, for_vote 0 refl (record { won = 0; lost = None; verdict = refl; count = 2; count_is = refl; event = _; comes = refl; steps_are = refl; next_is = refl; above = lit< tt }))
+
+pub limit-free-fits : IsAllowed (page_limit_job 18) (replay (page_limit_job 18) before_free) (Free 0)
+unfolding opening_core opening_replica struck execute applied cancelled recovered verdict_of event_of after next_action first_cpu made_cpu next fetch_stop instruction_stop instruction_of call_at permits_of alu_of taken_by meaning serve payload_of
+limit-free-fits = record { may = refl; fits = lit≤ tt }
+
+pub limit-no-free-limit : IsAllowed (page_limit_job 18) (replay (page_limit_job 18) before_free) (End (Limit 17 1)) → ⊥
+unfolding opening_core opening_replica struck execute applied cancelled recovered verdict_of event_of after next_action first_cpu made_cpu next fetch_stop instruction_stop instruction_of call_at permits_of alu_of taken_by meaning serve payload_of
+limit-no-free-limit h = no-end (page_limit_job 18) (replay (page_limit_job 18) before_free) (Limit 17 1) refl (λ e. e) (λ thread e. let f : 18 < 17 + 1 = e.above in omega arith) (λ e. let f : 18 < 17 + 1 = e.2 in omega arith) h.1
+
+pub limit-free-passes : IsAllowed (page_limit_job 17) (replay (page_limit_job 17) before_free) (Free 0) → ⊥
+unfolding opening_core opening_replica struck execute applied cancelled recovered verdict_of event_of after next_action first_cpu made_cpu next fetch_stop instruction_stop instruction_of call_at permits_of alu_of taken_by meaning serve payload_of
+limit-free-passes h = let f : 17 + 1 ≤ 17 = h.fits in omega arith
+
+pub limit-free-limit : IsAllowed (page_limit_job 17) (replay (page_limit_job 17) before_free) (End (Limit 17 1))
+unfolding opening_core opening_replica struck execute applied cancelled recovered verdict_of event_of after next_action first_cpu made_cpu next fetch_stop instruction_stop instruction_of call_at permits_of alu_of taken_by meaning serve payload_of
+limit-free-limit = (refl, for_free 0 refl (refl, refl, lit< tt))
+
+-- ---- free_first_row
+
+-- it passes the test of legality
+letter-passes : test_legal letter_job (opening_core letter_job) (driven 200 letter_job) ≡ true
+unfolding opening_core opening_replica struck execute applied cancelled recovered verdict_of event_of after next_action first_cpu made_cpu next fetch_stop instruction_stop instruction_of call_at permits_of alu_of taken_by meaning serve payload_of
+letter-passes = refl
+
+pub free-first-decides : decisions (driven 200 letter_job) ≡ Vote 0 6 0 None Served ∷ Vote 0 3 0 None Served ∷ Vote 0 3 0 None Blocked ∷ Vote 1 4 0 None Served ∷ Vote 1 4 0 None Served ∷ Vote 1 2 0 None Served ∷ Vote 1 2 0 (Some 2) Served ∷ Free 0 ∷ Vote 2 4 0 None Served ∷ Vote 0 2 0 None Blocked ∷ Vote 2 4 0 None Served ∷ Vote 2 2 0 None Served ∷ Vote 2 2 0 None Served ∷ Free 0 ∷ Vote 0 2 0 None Served ∷ End (Exit 0) ∷ []
+unfolding opening_core opening_replica struck execute applied cancelled recovered verdict_of event_of after next_action first_cpu made_cpu next fetch_stop instruction_stop instruction_of call_at permits_of alu_of taken_by meaning serve payload_of
+free-first-decides = refl
+
+pub free-first-legal : Legal letter_job (driven 200 letter_job)
+free-first-legal = legal-by-test letter_job (opening_core letter_job) (driven 200 letter_job) letter-passes
+
+pub free-first-votes : length (filter is_vote (driven 200 letter_job)) ≡ 13
+unfolding opening_core opening_replica struck execute applied cancelled recovered verdict_of event_of after next_action first_cpu made_cpu next fetch_stop instruction_stop instruction_of call_at permits_of alu_of taken_by meaning serve payload_of
+free-first-votes = refl
+
+pub free-first-hits : all_hits (driven 200 letter_job) ≡ 1
+unfolding opening_core opening_replica struck execute applied cancelled recovered verdict_of event_of after next_action first_cpu made_cpu next fetch_stop instruction_stop instruction_of call_at permits_of alu_of taken_by meaning serve payload_of
+free-first-hits = refl
+
+pub free-first-steps : length (plan_of (driven 200 letter_job)) ≡ 53
+unfolding opening_core opening_replica struck execute applied cancelled recovered verdict_of event_of after next_action first_cpu made_cpu next fetch_stop instruction_stop instruction_of call_at permits_of alu_of taken_by meaning serve payload_of
+free-first-steps = refl
+
+pub free-first-output : output_of letter_job (driven 200 letter_job) ≡ 65 ∷ 66 ∷ []
+unfolding opening_core opening_replica struck execute applied cancelled recovered verdict_of event_of after next_action first_cpu made_cpu next fetch_stop instruction_stop instruction_of call_at permits_of alu_of taken_by meaning serve payload_of
+free-first-output = refl
+
+-- ---- waiters_row
+
+-- it passes the test of legality
+waiters-pass : test_legal waiters_job (opening_core waiters_job) unlocked ≡ true
+unfolding opening_core opening_replica struck execute applied cancelled recovered verdict_of event_of after next_action first_cpu made_cpu next fetch_stop instruction_stop instruction_of call_at permits_of alu_of taken_by meaning serve payload_of
+waiters-pass = refl
+
+pub waiters-legal : Legal waiters_job unlocked
+waiters-legal = legal-by-test waiters_job (opening_core waiters_job) unlocked waiters-pass
+
+pub waiters-wait : may_free waiters_job (replay waiters_job two_wait) 1 ≡ false
+unfolding opening_core opening_replica struck execute applied cancelled recovered verdict_of event_of after next_action first_cpu made_cpu next fetch_stop instruction_stop instruction_of call_at permits_of alu_of taken_by meaning serve payload_of
+waiters-wait = refl
+
+pub waiters-wait-too : may_free waiters_job (replay waiters_job two_wait) 2 ≡ false
+unfolding opening_core opening_replica struck execute applied cancelled recovered verdict_of event_of after next_action first_cpu made_cpu next fetch_stop instruction_stop instruction_of call_at permits_of alu_of taken_by meaning serve payload_of
+waiters-wait-too = refl
+
+pub waiters-may : may_free waiters_job (replay waiters_job unlocked) 1 ≡ true
+unfolding opening_core opening_replica struck execute applied cancelled recovered verdict_of event_of after next_action first_cpu made_cpu next fetch_stop instruction_stop instruction_of call_at permits_of alu_of taken_by meaning serve payload_of
+waiters-may = refl
+
+pub waiters-may-too : may_free waiters_job (replay waiters_job unlocked) 2 ≡ true
+unfolding opening_core opening_replica struck execute applied cancelled recovered verdict_of event_of after next_action first_cpu made_cpu next fetch_stop instruction_stop instruction_of call_at permits_of alu_of taken_by meaning serve payload_of
+waiters-may-too = refl
+
+pub waiters-lowest : next_action waiters_job (replay waiters_job unlocked) ≡ act.Free 1
+unfolding opening_core opening_replica struck execute applied cancelled recovered verdict_of event_of after next_action first_cpu made_cpu next fetch_stop instruction_stop instruction_of call_at permits_of alu_of taken_by meaning serve payload_of
+waiters-lowest = refl
+
+pub waiters-then-waits : may_free waiters_job (replay waiters_job (unlocked ++ Free 1 ∷ [])) 2 ≡ false
+unfolding opening_core opening_replica struck execute applied cancelled recovered verdict_of event_of after next_action first_cpu made_cpu next fetch_stop instruction_stop instruction_of call_at permits_of alu_of taken_by meaning serve payload_of
+waiters-then-waits = refl

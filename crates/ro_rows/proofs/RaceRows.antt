@@ -1,0 +1,92 @@
+-- What the steps of a guest of many calls mean, and races of two threads.
+use Rattle.std.specs.Prelude.{zero, suc, Some, None, slice_get, ◌≡◌, ℕ, ◌<◌, List, [], ◌∷◌, ◌++◌, replicate}
+use Rattle.std.proofs.Common.{refl, sym, ◌∙◌, arith}
+use Rattle.std.proofs.Math.Dec.{lit<}
+use Rattle.ro_decode.specs.Table.{instruction_of}
+use Rattle.ro_event.specs.Table.{call_at}
+use Rattle.ro_region.specs.Permission.{permits_of}
+use Rattle.ro_alu.specs.Results.{alu_of, taken_by}
+use Rattle.ro_exec.specs.Meaning.{meaning}
+use Rattle.ro_exec.specs.Next.{fetch_stop, instruction_stop, next}
+use Rattle.ro_exec.specs.Threads.{first_cpu, made_cpu}
+use Rattle.ro_kernel.specs.Serve.{serve, payload_of}
+use Rattle.ro_plain.specs.Machine.{Program, opening, steppable, step}
+use Rattle.ro_plain.proofs.Calls.{some-injective}
+use Rattle.ro_plain.specs.Accesses.{accesses}
+use Rattle.ro_plain.specs.Order.{Unlocks, Locks, Makes, Joins, Exits, Nothing, sync_of, sync_at, accesses_at, HappensBefore, in_thread, by_mutex, by_creation, by_join, chain, RaceFree}
+use Rattle.ro_rows.proofs.Explore.{explored-free}
+use Rattle.ro_rows.specs.Order.{syncs_from, bytes, none, calls_guest, calls_plan, racing_guest, racing_plan, created_guest, joined_guest, locked_guest}
+
+-- from a step that means nothing, the last of its thread, no step follows
+none-from : (program : Program) (threads : List ℕ) (i : ℕ) → sync_at program threads i ≡ Nothing → ((j : ℕ) → i < j → slice_get threads i ≡ slice_get threads j → ⊥) → (j : ℕ) → HappensBefore program threads i j → ⊥
+none-from program threads i nothing alone j (in_thread thread low a b) = alone j low (a ∙ sym b)
+none-from program threads i nothing alone j (by_mutex mutex low a b) = let e : Nothing ≡ Unlocks mutex = sym nothing ∙ a in cc
+none-from program threads i nothing alone j (by_creation thread low a b) = let e : Nothing ≡ Makes thread = sym nothing ∙ a in cc
+none-from program threads i nothing alone j (by_join thread low a b c) = let e : Nothing ≡ Exits = sym nothing ∙ b in cc
+none-from program threads i nothing alone k (chain {j = j} p q) = none-from program threads i nothing alone j p
+
+-- a place with a thread is not one behind the end
+not-there : (n : ℕ) → Some n ≡ None → ⊥
+not-there n e = cc
+
+same : (m n : ℕ) → Some m ≡ Some n → m ≡ n
+same m n e = some-injective e
+
+-- thread 0 does not step again
+alone : (j : ℕ) → 5 < j → slice_get racing_plan 5 ≡ slice_get racing_plan j → ⊥
+alone zero low e = omega arith
+alone (suc zero) low e = omega arith
+alone (suc (suc zero)) low e = omega arith
+alone (suc (suc (suc zero))) low e = omega arith
+alone (suc (suc (suc (suc zero)))) low e = omega arith
+alone (suc (suc (suc (suc (suc zero))))) low e = omega arith
+alone (suc (suc (suc (suc (suc (suc zero)))))) low e = let f = same 0 1 e in omega arith
+alone (suc (suc (suc (suc (suc (suc (suc j))))))) low e = not-there 0 e
+
+pub calls-syncs : syncs_from calls_guest calls_plan 0 37 ≡ replicate 3 Nothing ++ Locks 0x100E4 ∷ replicate 5 Nothing ++ Unlocks 0x100E4 ∷ replicate 20 Nothing ++ Makes 1 ∷ Exits ∷ replicate 3 Nothing ++ Joins 1 ∷ Nothing ∷ []
+unfolding opening sync_of accesses steppable step first_cpu made_cpu next fetch_stop instruction_stop instruction_of call_at permits_of alu_of taken_by meaning serve payload_of
+calls-syncs = refl
+
+pub calls-read : accesses_at calls_guest calls_plan 17 ≡ record { reads = bytes 0x10088 4 ∷ []; writes = bytes 0x100E8 2 ∷ [] }
+unfolding opening sync_of accesses steppable step first_cpu made_cpu next fetch_stop instruction_stop instruction_of call_at permits_of alu_of taken_by meaning serve payload_of
+calls-read = refl
+
+pub calls-write : accesses_at calls_guest calls_plan 20 ≡ record { reads = bytes 0x10094 4 ∷ []; writes = none ∷ [] }
+unfolding opening sync_of accesses steppable step first_cpu made_cpu next fetch_stop instruction_stop instruction_of call_at permits_of alu_of taken_by meaning serve payload_of
+calls-write = refl
+
+pub calls-load : accesses_at calls_guest calls_plan 21 ≡ record { reads = bytes 0x100E8 4 ∷ bytes 0x10098 4 ∷ []; writes = none ∷ [] }
+unfolding opening sync_of accesses steppable step first_cpu made_cpu next fetch_stop instruction_stop instruction_of call_at permits_of alu_of taken_by meaning serve payload_of
+calls-load = refl
+
+pub calls-store : accesses_at calls_guest calls_plan 22 ≡ record { reads = none ∷ bytes 0x1009C 4 ∷ []; writes = bytes 0x100EC 2 ∷ [] }
+unfolding opening sync_of accesses steppable step first_cpu made_cpu next fetch_stop instruction_stop instruction_of call_at permits_of alu_of taken_by meaning serve payload_of
+calls-store = refl
+
+pub calls-exit : accesses_at calls_guest calls_plan 31 ≡ record { reads = []; writes = none ∷ [] }
+unfolding opening sync_of accesses steppable step first_cpu made_cpu next fetch_stop instruction_stop instruction_of call_at permits_of alu_of taken_by meaning serve payload_of
+calls-exit = refl
+
+pub calls-join : accesses_at calls_guest calls_plan 35 ≡ record { reads = []; writes = bytes 0x100E0 4 ∷ [] }
+unfolding opening sync_of accesses steppable step first_cpu made_cpu next fetch_stop instruction_stop instruction_of call_at permits_of alu_of taken_by meaning serve payload_of
+calls-join = refl
+
+pub calls-trap : accesses_at calls_guest calls_plan 36 ≡ record { reads = bytes 0x100C4 4 ∷ []; writes = [] }
+unfolding opening sync_of accesses steppable step first_cpu made_cpu next fetch_stop instruction_stop instruction_of call_at permits_of alu_of taken_by meaning serve payload_of
+calls-trap = refl
+
+pub races-races : RaceFree racing_guest → ⊥
+unfolding opening sync_of accesses steppable step first_cpu made_cpu next fetch_stop instruction_stop instruction_of call_at permits_of alu_of taken_by meaning serve payload_of
+races-races h = none-from racing_guest racing_plan 5 refl alone 6 (h racing_plan (_, refl) 5 6 0x1007C (lit< tt) (lit< tt) (λ e. let f : Some 0 ≡ Some 1 = e in cc) refl)
+
+pub races-by-creation : RaceFree created_guest
+unfolding opening sync_of accesses steppable step first_cpu made_cpu next fetch_stop instruction_stop instruction_of call_at permits_of alu_of taken_by meaning serve payload_of
+races-by-creation = explored-free 20 created_guest refl
+
+pub races-by-join : RaceFree joined_guest
+unfolding opening sync_of accesses steppable step first_cpu made_cpu next fetch_stop instruction_stop instruction_of call_at permits_of alu_of taken_by meaning serve payload_of
+races-by-join = explored-free 24 joined_guest refl
+
+pub races-by-mutex : RaceFree locked_guest
+unfolding opening sync_of accesses steppable step first_cpu made_cpu next fetch_stop instruction_stop instruction_of call_at permits_of alu_of taken_by meaning serve payload_of
+races-by-mutex = explored-free 28 locked_guest refl

@@ -1,0 +1,18 @@
+-- The parts are lemmas.
+use Rattle.ro_rows.proofs.TableRows.{errors-system, errors-create, errors-join, errors-mutex, errors-full}
+use Rattle.ro_rows.proofs.tables.errors_row.Goals as goal
+
+pub returns-clause-system : goal.returns-clause-system
+returns-clause-system c = errors-system
+
+pub returns-clause-create : goal.returns-clause-create
+returns-clause-create c = errors-create
+
+pub returns-clause-join : goal.returns-clause-join
+returns-clause-join c = errors-join
+
+pub returns-clause-mutex : goal.returns-clause-mutex
+returns-clause-mutex c = errors-mutex
+
+pub returns-clause-full : goal.returns-clause-full
+returns-clause-full c = errors-full

@@ -1,0 +1,172 @@
+-- What tables are asked of: each instruction once, files, calls of the kernel, and threads.
+use Rattle.std.specs.Prelude.{ℕ, List, [], ◌∷◌, ◌++◌, Option, Some, None, replicate, slice_set, map, codes}
+use Rattle.std.specs.List.{flat_map}
+use Rattle.ro_decode.specs.declared.Instr.{Instr}
+use Rattle.ro_decode.specs.declared.Instr.TheVariants.{Lui, Auipc, Jal, Jalr, Branch, Load, Store, AluImm, Alu, MulDiv, Fence, Ecall, Ebreak}
+use Rattle.ro_decode.specs.declared.AluOp.TheVariants.{Add, Sub, Sll, Slt, Sltu, Xor, Srl, Sra, Or, And}
+use Rattle.ro_decode.specs.declared.MulDivOp.TheVariants.{Mul, Mulh, Mulhsu, Mulhu, Div, Divu, Rem, Remu}
+use Rattle.ro_decode.specs.declared.LoadOp.TheVariants.{Lb, Lh, Lw, Lbu, Lhu}
+use Rattle.ro_decode.specs.declared.StoreOp.TheVariants.{Sb, Sh, Sw}
+use Rattle.ro_decode.specs.declared.BranchOp.TheVariants.{Beq, Bne, Blt, Bge, Bltu, Bgeu}
+use Rattle.ro_alu.specs.Results.{muldiv_of}
+use Rattle.ro_event.specs.declared.calls.Which.{Which}
+use Rattle.ro_pages.specs.Bytes.{bytes_of, stored}
+use Rattle.ro_mutex.specs.Owners.{Owners}
+use Rattle.ro_kernel.specs.declared.Life.{Life}
+use Rattle.ro_kernel.specs.declared.Life.TheVariants.{Live, Exited, Joined}
+use Rattle.ro_kernel.specs.Kernel.{Kernel}
+use Rattle.ro_kernel.specs.Serve.{Served, Done, serve}
+use Rattle.ro_exec.specs.declared.Cpu.{Cpu}
+use Rattle.ro_exec.specs.Next.{Next, all_backed, next}
+use Rattle.ro_plain.specs.Machine.{layout_of, setup_of}
+use Rattle.ro_simulation.specs.Guests.{locking_guest}
+use Rattle.ro_rows.specs.Exit.{exit_file}
+
+-- ---- instructions
+
+-- each of the 48 instructions
+abbrev pub instructions : List Instr
+instructions =
+    Lui 5 0x12345000
+    ∷ Auipc 6 0xFEDCB000
+    ∷ Jal 1 0xAAAAA
+    ∷ Jalr 7 8 0xFFFFFAAA
+    ∷ Branch Beq 9 10 2730
+    ∷ Branch Bne 9 10 0xFFFFF554
+    ∷ Branch Blt 9 10 1364
+    ∷ Branch Bge 9 10 0xFFFFFAAA
+    ∷ Branch Bltu 9 10 4094
+    ∷ Branch Bgeu 9 10 0xFFFFF000
+    ∷ Load Lb 11 12 1365
+    ∷ Load Lh 11 12 0xFFFFFAAA
+    ∷ Load Lw 11 12 2047
+    ∷ Load Lbu 11 12 0xFFFFF800
+    ∷ Load Lhu 11 12 1
+    ∷ Store Sb 14 13 1365
+    ∷ Store Sh 14 13 0xFFFFFAAA
+    ∷ Store Sw 14 13 0xFFFFF800
+    ∷ AluImm Add 15 16 0xFFFFFFFF
+    ∷ AluImm Slt 15 16 0xFFFFF800
+    ∷ AluImm Sltu 15 16 2047
+    ∷ AluImm Xor 15 16 1365
+    ∷ AluImm Or 15 16 0xFFFFFAAA
+    ∷ AluImm And 15 16 7
+    ∷ AluImm Sll 15 16 31
+    ∷ AluImm Srl 15 16 21
+    ∷ AluImm Sra 15 16 10
+    ∷ Alu Add 17 18 19
+    ∷ Alu Sub 17 18 19
+    ∷ Alu Sll 17 18 19
+    ∷ Alu Slt 17 18 19
+    ∷ Alu Sltu 17 18 19
+    ∷ Alu Xor 17 18 19
+    ∷ Alu Srl 17 18 19
+    ∷ Alu Sra 17 18 19
+    ∷ Alu Or 17 18 19
+    ∷ Alu And 17 18 19
+    ∷ MulDiv Mul 29 30 31
+    ∷ MulDiv Mulh 29 30 31
+    ∷ MulDiv Mulhsu 29 30 31
+    ∷ MulDiv Mulhu 29 30 31
+    ∷ MulDiv Div 29 30 31
+    ∷ MulDiv Divu 29 30 31
+    ∷ MulDiv Rem 29 30 31
+    ∷ MulDiv Remu 29 30 31
+    ∷ Fence 0 0 0x031
+    ∷ Ecall
+    ∷ Ebreak
+    ∷ []
+
+-- their words, as an assembler writes them
+abbrev pub assembled : List ℕ
+assembled = 0x123452B7 ∷ 0xFEDCB317 ∷ 0x2ABAA0EF ∷ 0xAAA403E7 ∷ 0x2AA485E3 ∷ 0xD4A49A63 ∷ 0x54A4CA63 ∷ 0xAAA4D5E3 ∷ 0x7EA4EFE3 ∷ 0x80A4F063 ∷ 0x55560583 ∷ 0xAAA61583 ∷ 0x7FF62583 ∷ 0x80064583 ∷ 0x00165583 ∷ 0x54D70AA3 ∷ 0xAAD71523 ∷ 0x80D72023 ∷ 0xFFF80793 ∷ 0x80082793 ∷ 0x7FF83793 ∷ 0x55584793 ∷ 0xAAA86793 ∷ 0x00787793 ∷ 0x01F81793 ∷ 0x01585793 ∷ 0x40A85793 ∷ 0x013908B3 ∷ 0x413908B3 ∷ 0x013918B3 ∷ 0x013928B3 ∷ 0x013938B3 ∷ 0x013948B3 ∷ 0x013958B3 ∷ 0x413958B3 ∷ 0x013968B3 ∷ 0x013978B3 ∷ 0x03FF0EB3 ∷ 0x03FF1EB3 ∷ 0x03FF2EB3 ∷ 0x03FF3EB3 ∷ 0x03FF4EB3 ∷ 0x03FF5EB3 ∷ 0x03FF6EB3 ∷ 0x03FF7EB3 ∷ 0x0310000F ∷ 0x00000073 ∷ 0x00100073 ∷ []
+
+-- products, quotients and remainders, of signed and unsigned numbers
+abbrev pub results : List ℕ
+results =
+    muldiv_of Mulh 0xFFFFFFFE 0xFFFFFFFD
+    ∷ muldiv_of Mulhsu 0xFFFFFFFE 0xFFFFFFFD
+    ∷ muldiv_of Mulhu 0xFFFFFFFE 0xFFFFFFFD
+    ∷ muldiv_of Mul 0xFFFFFFFE 0xFFFFFFFD
+    ∷ muldiv_of Mulhsu 0x7FFFFFFF 0x80000000
+    ∷ muldiv_of Mulhsu 0x80000000 0x7FFFFFFF
+    ∷ muldiv_of Div 0xFFFFFFF9 0x00000002
+    ∷ muldiv_of Rem 0xFFFFFFF9 0x00000002
+    ∷ muldiv_of Div 0x00000007 0xFFFFFFFE
+    ∷ muldiv_of Rem 0x00000007 0xFFFFFFFE
+    ∷ muldiv_of Divu 0xFFFFFFF9 0x00000002
+    ∷ muldiv_of Remu 0xFFFFFFF9 0x00000002
+    ∷ muldiv_of Div 0x00000007 0x00000000
+    ∷ muldiv_of Divu 0x00000007 0x00000000
+    ∷ muldiv_of Rem 0x00000007 0x00000000
+    ∷ muldiv_of Remu 0x00000007 0x00000000
+    ∷ muldiv_of Div 0x80000000 0xFFFFFFFF
+    ∷ muldiv_of Rem 0x80000000 0xFFFFFFFF
+    ∷ []
+
+-- ---- files
+
+-- a file with some bytes changed, each given by its place and what it becomes
+abbrev pub changed : List ℕ → List (ℕ × ℕ) → List ℕ
+changed bytes [] = bytes
+changed bytes (change ∷ changes) = changed (slice_set bytes change.0 change.1) changes
+
+-- a program header
+abbrev pub header : (kind offset address file_size memory_size flags : ℕ) → List ℕ
+header kind offset address file_size memory_size flags =
+    flat_map (bytes_of 4) (kind ∷ offset ∷ address ∷ address ∷ file_size ∷ memory_size ∷ flags ∷ 4096 ∷ [])
+
+-- the file of 96 bytes with these two program headers behind it in place of its own
+abbrev pub two_headers : (one other : List ℕ) → List ℕ
+two_headers one other = changed exit_file ((28, 96) ∷ (44, 2) ∷ []) ++ one ++ other
+
+-- names of functions, in the order of the alphabet, each ended by a zero byte
+abbrev pub strings : List ℕ
+strings =
+    flat_map (λ name. name ++ 0 ∷ [])
+    (codes "pthread_create" ∷ codes "pthread_exit" ∷ codes "pthread_join" ∷ codes "pthread_mutex_destroy" ∷ codes "pthread_mutex_init" ∷ codes "pthread_mutex_lock" ∷ codes "pthread_mutex_trylock" ∷ codes "pthread_mutex_unlock" ∷ codes "pthread_self" ∷ [])
+
+-- the symbol of a global function of section 1 whose name begins there
+abbrev pub function : (name value : ℕ) → List ℕ
+function name value = bytes_of 4 name ++ bytes_of 4 value ++ bytes_of 4 0 ++ 18 ∷ 0 ∷ 1 ∷ 0 ∷ []
+
+-- the nine functions, one at each word from 10000 on
+abbrev pub nine : List (List ℕ)
+nine =
+    function 0 0x10000 ∷ function 15 0x10004 ∷ function 28 0x10008 ∷ function 41 0x1000C ∷ function 63 0x10010 ∷ function 82 0x10014 ∷ function 101 0x10018 ∷ function 123 0x1001C ∷ function 144 0x10020 ∷ []
+
+-- ---- the kernel
+
+-- threads 0 and 1 live, thread 2 has exited, and thread 3 was joined; thread 0 asks
+abbrev pub four : List Life
+four = Live ∷ Live ∷ Exited 5 ∷ Joined ∷ []
+
+abbrev pub kernel_with : List Life → Owners → Kernel
+kernel_with lives owners = record { lives = lives; owners = owners; heap_end = 0x11000; taken = 0 }
+
+-- the mutexes at 100E0, which thread 1 holds, and at 100E4, which thread 0 holds
+abbrev pub two_held : Owners
+two_held = (0x100E0, Some 1) ∷ (0x100E4, Some 0) ∷ []
+
+-- 256 mutexes that nobody holds
+abbrev pub unheld : ℕ → Owners
+unheld count = map (λ address. (address, None)) (replicate count 0)
+
+abbrev pub answer_in : Served → Option ℕ
+answer_in (Done kernel effect) = effect.answer
+answer_in served = None
+
+-- what thread 0 is answered
+abbrev pub answer : Kernel → Which → (a0 a1 a2 : ℕ) → Option ℕ
+answer kernel which a0 a1 a2 =
+    answer_in (serve (setup_of locking_guest) kernel 0 (record { which = which; a0 = a0; a1 = a1; a2 = a2; a3 = 0 }))
+
+-- ---- threads
+
+-- a thread at a place, of registers 0
+abbrev pub cpu_at : ℕ → Cpu
+cpu_at pc = record { registers = replicate 31 0; pc = pc }
+
+-- what it does next there, where one word stands at 10000 and zeros elsewhere
+abbrev pub next_of : (word pc : ℕ) → Next
+next_of word pc = next (layout_of locking_guest) all_backed (stored (λ a. 0) 0x10000 (bytes_of 4 word)) (cpu_at pc)

@@ -1,0 +1,97 @@
+//! Rows at the edges of what is allowed, and of what comes next.
+ghost use Rattle.std.specs.Prelude.{◌≡◌, true, false, [], ◌∷◌, ◌++◌, length, Some, None};
+ghost use Rattle.std.specs.List.{filter};
+ghost use Rattle.ro_journal.specs.declared.Did.TheVariants.{Served, Blocked};
+ghost use Rattle.ro_journal.specs.declared.How.TheVariants.{Exit, Deadlock, Limit};
+ghost use Rattle.ro_journal.specs.declared.Entry.TheVariants.{Take, Put, Vote, Free, End};
+ghost use Rattle.ro_journal.specs.Plan.{plan_of};
+ghost use Rattle.ro_plain.specs.Machine.{AllEnd};
+ghost use Rattle.ro_core.specs.declared.actions.Action.TheVariants as act;
+ghost use Rattle.ro_core.specs.Core.{opening_core, may_free};
+ghost use Rattle.ro_core.specs.Legal.{Legal, IsAllowed, replay, output_of};
+ghost use Rattle.ro_core.specs.Action.{next_action, IsNext};
+ghost use Rattle.ro_simulation.specs.Theorem.{CannotDiffer};
+ghost use Rattle.ro_simulation.specs.Guests.{exit_guest};
+ghost use Rattle.ro_simulation.specs.Rows.{flip_a0};
+ghost use Rattle.ro_simulation.specs.Drives.{driven};
+ghost use Rattle.ro_rows.specs.Exit.{exit_job};
+ghost use Rattle.ro_rows.specs.Rows.{decisions, deadlock_job, deadlock_before};
+ghost use Rattle.ro_rows.specs.Edges.{small_job, waiters_job, two_wait, unlocked, letter_job, all_hits, is_vote, page_limit_job, before_free, exit_runs};
+
+/// A row: no execution of the guest that exits with 7 has more than three steps, and one has more than two.
+pub fn length_row()
+    ensures three { AllEnd exit_job.program 3 }
+    ensures not_two { AllEnd exit_job.program 2 → ⊥ }
+{}
+
+/// A row: of three drivers number 2 may take a lease, and there is no number 3; and replica 1 may be taken first, but the core
+/// takes replica 0.
+pub fn take_row()
+    ensures last { IsAllowed exit_job (opening_core exit_job) (Take 2 0 0) }
+    ensures no_such { IsAllowed exit_job (opening_core exit_job) (Take 3 0 0) → ⊥ }
+    ensures any_first { IsAllowed exit_job (opening_core exit_job) (Take 0 1 0) }
+    ensures next { IsNext exit_job (opening_core exit_job) (Take 0 0 0) }
+    ensures not_next { IsNext exit_job (opening_core exit_job) (Take 0 1 0) → ⊥ }
+{}
+
+/// A row: a run that came back at no stop before its quantum was over is not allowed, nor one of more instructions than
+/// there are before the stop, nor one that another driver gives back, nor one that says that a fault was struck.
+pub fn put_row()
+    ensures at_stop { IsAllowed exit_job (replay exit_job (Take 0 0 0 ∷ [])) (Put 0 0 0 2 0) }
+    ensures early { IsAllowed exit_job (replay exit_job (Take 0 0 0 ∷ [])) (Put 0 0 0 1 0) → ⊥ }
+    ensures late { IsAllowed exit_job (replay exit_job (Take 0 0 0 ∷ [])) (Put 0 0 0 3 0) → ⊥ }
+    ensures another { IsAllowed exit_job (replay exit_job (Take 0 0 0 ∷ [])) (Put 1 0 0 2 0) → ⊥ }
+    ensures unstruck { IsAllowed exit_job (replay exit_job (Take 0 0 0 ∷ [])) (Put 0 0 0 2 1) → ⊥ }
+{}
+
+/// A row: three replicas cannot come to a difference of two, and two of them can only where there is a fault.
+pub fn differ_row()
+    ensures three { CannotDiffer (small_job exit_guest (flip_a0 1 ∷ []) 3 1000000000) }
+    ensures two { CannotDiffer (small_job exit_guest [] 2 1000000000) }
+    ensures struck { CannotDiffer (small_job exit_guest (flip_a0 1 ∷ []) 2 1000000000) → ⊥ }
+{}
+
+/// A row: a deadlock may end the journal where nothing can be voted on, freed or lent, and not before: not at the
+/// opening, not while a vote can still be held, and not while a lease is out.
+pub fn stuck_row()
+    ensures stuck { IsAllowed deadlock_job (replay deadlock_job deadlock_before) (End Deadlock) }
+    ensures not_opening { IsAllowed deadlock_job (opening_core deadlock_job) (End Deadlock) → ⊥ }
+    ensures not_going { IsAllowed exit_job (replay exit_job exit_runs) (End Deadlock) → ⊥ }
+    ensures not_lent { IsAllowed exit_job (replay exit_job (Take 0 0 0 ∷ [])) (End Deadlock) → ⊥ }
+{}
+
+/// A row: a vote that takes the plan to its limit is allowed, and one more step is a limit's end, with the plan's length and
+/// what the vote would have added; so it is with a free.
+pub fn limit_row()
+    ensures vote_fits { IsAllowed (small_job exit_guest [] 3 3) (replay (small_job exit_guest [] 3 3) exit_runs) (Vote 0 2 0 None Served) }
+    ensures no_limit { IsAllowed (small_job exit_guest [] 3 3) (replay (small_job exit_guest [] 3 3) exit_runs) (End (Limit 0 3)) → ⊥ }
+    ensures vote_passes { IsAllowed (small_job exit_guest [] 3 2) (replay (small_job exit_guest [] 3 2) exit_runs) (Vote 0 2 0 None Served) → ⊥ }
+    ensures limit { IsAllowed (small_job exit_guest [] 3 2) (replay (small_job exit_guest [] 3 2) exit_runs) (End (Limit 0 3)) }
+    ensures free_fits { IsAllowed (page_limit_job 18) (replay (page_limit_job 18) before_free) (Free 0) }
+    ensures no_free_limit { IsAllowed (page_limit_job 18) (replay (page_limit_job 18) before_free) (End (Limit 17 1)) → ⊥ }
+    ensures free_passes { IsAllowed (page_limit_job 17) (replay (page_limit_job 17) before_free) (Free 0) → ⊥ }
+    ensures free_limit { IsAllowed (page_limit_job 17) (replay (page_limit_job 17) before_free) (End (Limit 17 1)) }
+{}
+
+/// A row: a copy lets a second thread stand in every replica at the moment at which a first one may be freed. The free comes
+/// before that vote.
+pub fn free_first_row()
+    ensures decides { decisions (driven 200 letter_job) ≡ Vote 0 6 0 None Served ∷ Vote 0 3 0 None Served ∷ Vote 0 3 0 None Blocked ∷ Vote 1 4 0 None Served ∷ Vote 1 4 0 None Served ∷ Vote 1 2 0 None Served ∷ Vote 1 2 0 (Some 2) Served ∷ Free 0 ∷ Vote 2 4 0 None Served ∷ Vote 0 2 0 None Blocked ∷ Vote 2 4 0 None Served ∷ Vote 2 2 0 None Served ∷ Vote 2 2 0 None Served ∷ Free 0 ∷ Vote 0 2 0 None Served ∷ End (Exit 0) ∷ [] }
+    ensures legal { Legal letter_job (driven 200 letter_job) }
+    ensures votes { length (filter is_vote (driven 200 letter_job)) ≡ 13 }
+    ensures hits { all_hits (driven 200 letter_job) ≡ 1 }
+    ensures steps { length (plan_of (driven 200 letter_job)) ≡ 53 }
+    ensures output { output_of letter_job (driven 200 letter_job) ≡ 65 ∷ 66 ∷ [] }
+{}
+
+/// A row: two threads wait for a mutex, the higher one for longer. Neither may be freed before the unlock and both may be
+/// behind it, and the lower one is.
+pub fn waiters_row()
+    ensures legal { Legal waiters_job unlocked }
+    ensures wait { may_free waiters_job (replay waiters_job two_wait) 1 ≡ false }
+    ensures wait_too { may_free waiters_job (replay waiters_job two_wait) 2 ≡ false }
+    ensures may { may_free waiters_job (replay waiters_job unlocked) 1 ≡ true }
+    ensures may_too { may_free waiters_job (replay waiters_job unlocked) 2 ≡ true }
+    ensures lowest { next_action waiters_job (replay waiters_job unlocked) ≡ act.Free 1 }
+    ensures then_waits { may_free waiters_job (replay waiters_job (unlocked ++ Free 1 ∷ [])) 2 ≡ false }
+{}

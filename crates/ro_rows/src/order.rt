@@ -1,0 +1,56 @@
+//! Rows of the order of steps: what each step of a small guest means for it, and which bytes it accesses.
+ghost use Rattle.std.specs.Prelude.{◌≡◌, ℕ, [], ◌∷◌, ◌++◌, length, replicate};
+ghost use Rattle.ro_journal.specs.Plan.{plan_of};
+ghost use Rattle.ro_plain.specs.Order.{Sync, Unlocks, Locks, Makes, Joins, Exits, Nothing, HappensBefore, RaceFree, accesses_at};
+ghost use Rattle.ro_simulation.specs.Drives.{driven};
+ghost use Rattle.ro_simulation.specs.Guests.{locking_guest, usual_job};
+ghost use Rattle.ro_rows.specs.Order.{locking_plan, syncs_from, bytes, none, calls_guest, calls_plan, racing_guest, created_guest, joined_guest, locked_guest};
+
+/// A row: the plan of the locking guest has 53 steps, and of them two create, two lock and unlock the mutex at 100E8,
+/// two exit, two join, and no other means anything for the order.
+pub fn sync_row()
+    ensures plan { plan_of (driven 200 (usual_job locking_guest [])) ≡ locking_plan }
+    ensures steps { length locking_plan ≡ 53 }
+    ensures syncs { syncs_from locking_guest locking_plan 0 53 ≡ replicate 6 Nothing ++ Makes 1 ∷ replicate 3 Nothing ++ Makes 2 ∷ replicate 7 Nothing ++ Locks 0x100E8 ∷ replicate 7 Nothing ++ Unlocks 0x100E8 ∷ replicate 2 Nothing ++ Exits ∷ Joins 1 ∷ replicate 6 Nothing ++ Locks 0x100E8 ∷ replicate 7 Nothing ++ Unlocks 0x100E8 ∷ replicate 2 Nothing ++ Exits ∷ Joins 2 ∷ replicate 3 Nothing }
+{}
+
+/// A row: the first thread's write comes before the second's, by its unlock and the second's lock; what created a thread
+/// comes before its first step, and its exit before what follows its join. The second write is not before the first.
+pub fn before_row()
+    ensures chain { HappensBefore locking_guest locking_plan 23 42 }
+    ensures creation { HappensBefore locking_guest locking_plan 6 14 }
+    ensures join { HappensBefore locking_guest locking_plan 29 31 }
+    ensures not_back { HappensBefore locking_guest locking_plan 42 23 → ⊥ }
+{}
+
+/// A row: a creation stores four bytes, a lock accesses nothing, a write reads its instruction and its payload, and a join
+/// with no place for a value accesses nothing. A call at its address is not fetched.
+pub fn accesses_row()
+    ensures create { accesses_at locking_guest locking_plan 6 ≡ record { reads = []; writes = bytes 0x100E0 4 ∷ [] } }
+    ensures lock { accesses_at locking_guest locking_plan 18 ≡ record { reads = []; writes = none ∷ [] } }
+    ensures write { accesses_at locking_guest locking_plan 23 ≡ record { reads = bytes 0x100EC 1 ∷ bytes 0x100B8 4 ∷ []; writes = none ∷ [] } }
+    ensures join { accesses_at locking_guest locking_plan 30 ≡ record { reads = []; writes = none ∷ [] } }
+{}
+
+/// A row: a trylock that is answered 0 locks, and one that is answered 16 means nothing, nor an unlock or a join that is
+/// answered an error. A read stores what it read, a join stores the exit value; a write that is answered an error, and a
+/// trap, access nothing but their instruction.
+pub fn calls_row()
+    ensures syncs { syncs_from calls_guest calls_plan 0 37 ≡ replicate 3 Nothing ++ Locks 0x100E4 ∷ replicate 5 Nothing ++ Unlocks 0x100E4 ∷ replicate 20 Nothing ++ Makes 1 ∷ Exits ∷ replicate 3 Nothing ++ Joins 1 ∷ Nothing ∷ [] }
+    ensures read { accesses_at calls_guest calls_plan 17 ≡ record { reads = bytes 0x10088 4 ∷ []; writes = bytes 0x100E8 2 ∷ [] } }
+    ensures write { accesses_at calls_guest calls_plan 20 ≡ record { reads = bytes 0x10094 4 ∷ []; writes = none ∷ [] } }
+    ensures load { accesses_at calls_guest calls_plan 21 ≡ record { reads = bytes 0x100E8 4 ∷ bytes 0x10098 4 ∷ []; writes = none ∷ [] } }
+    ensures store { accesses_at calls_guest calls_plan 22 ≡ record { reads = none ∷ bytes 0x1009C 4 ∷ []; writes = bytes 0x100EC 2 ∷ [] } }
+    ensures exit { accesses_at calls_guest calls_plan 31 ≡ record { reads = []; writes = none ∷ [] } }
+    ensures join { accesses_at calls_guest calls_plan 35 ≡ record { reads = []; writes = bytes 0x100E0 4 ∷ [] } }
+    ensures trap { accesses_at calls_guest calls_plan 36 ≡ record { reads = bytes 0x100C4 4 ∷ []; writes = [] } }
+{}
+
+/// A row: of two threads that store to one byte, a program in which nothing orders the stores has races, and one in which a
+/// creation, a join or a mutex alone orders them has none, in whatever order its threads step.
+pub fn races_row()
+    ensures races { RaceFree racing_guest → ⊥ }
+    ensures by_creation { RaceFree created_guest }
+    ensures by_join { RaceFree joined_guest }
+    ensures by_mutex { RaceFree locked_guest }
+{}

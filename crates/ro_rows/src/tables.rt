@@ -1,0 +1,81 @@
+//! Rows of tables: instructions, checks of files, names, limits, errors, traps and the registers of new threads.
+ghost use Rattle.std.specs.Prelude.{◌≡◌, ◌-◌, ◌^◌, true, false, [], ◌∷◌, ◌++◌, length, map, Some, None, Ok, Err, replicate};
+ghost use Rattle.ro_decode.specs.Table.{instruction_of, word_of};
+ghost use Rattle.ro_event.specs.declared.calls.Which.TheVariants.{System, Create, Join, Exit, ThreadSelf, MutexInit, MutexDestroy, Lock, TryLock, Unlock};
+ghost use Rattle.ro_event.specs.declared.stops.Stop.TheVariants.{Trap};
+ghost use Rattle.ro_event.specs.Table.{call_at};
+ghost use Rattle.ro_region.specs.declared.Kind.TheVariants.{Write, Execute};
+ghost use Rattle.ro_region.specs.Permission.{permits_of};
+ghost use Rattle.ro_exec.specs.Next.{Stands};
+ghost use Rattle.ro_exec.specs.Threads.{first_cpu, made_cpu};
+ghost use Rattle.ro_kernel.specs.declared.Life.TheVariants.{Live};
+ghost use Rattle.ro_sym.specs.Calls.{table_with};
+ghost use Rattle.ro_sym.specs.Symbols.{symbol_in};
+ghost use Rattle.ro_image.specs.Executable.{bad_code};
+ghost use Rattle.ro_settings.specs.Ranges.{default_settings};
+ghost use Rattle.ro_simulation.specs.Guests.{exit_guest};
+ghost use Rattle.ro_rows.specs.Exit.{exit_file};
+ghost use Rattle.ro_rows.specs.Tables.{instructions, assembled, results, changed, header, two_headers, strings, function, nine, four, kernel_with, two_held, unheld, answer, next_of};
+
+/// A row: the words of the 48 instructions are those of an assembler, and give the instructions back.
+pub fn instructions_row()
+    ensures count { length instructions ≡ 48 }
+    ensures words { map word_of instructions ≡ assembled }
+    ensures back { map instruction_of assembled ≡ map Some instructions }
+{}
+
+/// A row: the high halves of products, and quotients and remainders by 0, by -1 and of negative numbers.
+pub fn results_row()
+    ensures values { results ≡ 0x00000000 ∷ 0xFFFFFFFE ∷ 0xFFFFFFFB ∷ 0x00000006 ∷ 0x3FFFFFFF ∷ 0xC0000000 ∷ 0xFFFFFFFD ∷ 0xFFFFFFFF ∷ 0xFFFFFFFD ∷ 0x00000001 ∷ 0x7FFFFFFC ∷ 0x00000001 ∷ 0xFFFFFFFF ∷ 0xFFFFFFFF ∷ 0x00000007 ∷ 0x00000007 ∷ 0x80000000 ∷ 0x00000000 ∷ [] }
+{}
+
+/// A row: of two checks that a file fails the first one names the code, for each pair of neighbours. The flags RVC, RVE and
+/// of the float ABI are refused, and no others.
+pub fn checks_row()
+    ensures headers { map bad_code ((0 ∷ []) ∷ changed exit_file ((0, 0x7E) ∷ (4, 2) ∷ []) ∷ changed exit_file ((4, 2) ∷ (5, 2) ∷ []) ∷ changed exit_file ((5, 2) ∷ (6, 0) ∷ []) ∷ changed exit_file ((20, 2) ∷ (16, 3) ∷ []) ∷ changed exit_file ((16, 3) ∷ (18, 0xF2) ∷ []) ∷ changed exit_file ((18, 0xF2) ∷ (36, 1) ∷ []) ∷ changed exit_file ((36, 1) ∷ (44, 0) ∷ []) ∷ changed exit_file ((42, 31) ∷ (28, 0x41) ∷ []) ∷ changed exit_file ((44, 2) ∷ (52, 2) ∷ []) ∷ []) ≡ Some 1 ∷ Some 2 ∷ Some 3 ∷ Some 4 ∷ Some 5 ∷ Some 6 ∷ Some 7 ∷ Some 8 ∷ Some 9 ∷ Some 10 ∷ [] }
+    ensures segments { map bad_code (two_headers (header 1 0 0x10000 97 96 5) (header 2 0 0 0 0 0) ∷ two_headers (header 1 0 0x1000 96 96 5) (header 1 0 0x20000 97 96 5) ∷ two_headers (header 1 0 0x1000 96 96 5) (header 1 0 0x20000 96 96 5) ∷ two_headers (header 1 0 0x20000 96 96 5) (header 1 0 0x30000 0 0x400001 6) ∷ changed exit_file ((32, 1) ∷ (48, 1) ∷ (72, 1) ∷ (74, 0x40) ∷ []) ∷ changed exit_file ((32, 1) ∷ (48, 1) ∷ []) ∷ []) ≡ Some 11 ∷ Some 12 ∷ Some 13 ∷ Some 14 ∷ Some 15 ∷ Some 16 ∷ [] }
+    ensures flags { map bad_code (changed exit_file ((36, 1) ∷ []) ∷ changed exit_file ((36, 2) ∷ []) ∷ changed exit_file ((36, 4) ∷ []) ∷ changed exit_file ((36, 8) ∷ []) ∷ changed exit_file ((36, 0xF0) ∷ []) ∷ []) ≡ Some 8 ∷ Some 8 ∷ Some 8 ∷ Some 8 ∷ None ∷ [] }
+    ensures sizes { map bad_code (changed exit_file ((72, 0) ∷ (74, 0x40) ∷ []) ∷ changed exit_file ((72, 1) ∷ (74, 0x40) ∷ []) ∷ two_headers (header 1 0 0x10000 96 96 5) (header 1 0 0x20000 0 0x3FFFA0 6) ∷ two_headers (header 1 0 0x10000 96 96 5) (header 1 0 0x20000 0 0x3FFFA1 6) ∷ []) ≡ None ∷ Some 15 ∷ None ∷ Some 15 ∷ [] }
+    ensures symbols { map (λ symbols. table_with strings (map symbol_in symbols)) ((function 0 0x10000 ∷ function 15 0x10000 ∷ function 157 0x10004 ∷ []) ∷ (function 0 0x10000 ∷ function 15 0x10000 ∷ []) ∷ (function 0 0x10000 ∷ function 0 0x10004 ∷ []) ∷ []) ≡ Err 16 ∷ Err 17 ∷ Err 17 ∷ [] }
+{}
+
+/// A row: each of the nine functions stands where the symbol with its name says.
+pub fn names_row()
+    ensures table { table_with strings (map symbol_in nine) ≡ Ok (record { addresses = Some 0x10000 ∷ Some 0x10008 ∷ Some 0x10004 ∷ Some 0x10020 ∷ Some 0x10010 ∷ Some 0x1000C ∷ Some 0x10014 ∷ Some 0x10018 ∷ Some 0x1001C ∷ [] }) }
+    ensures calls { map (call_at (record { addresses = Some 0x10000 ∷ Some 0x10008 ∷ Some 0x10004 ∷ Some 0x10020 ∷ Some 0x10010 ∷ Some 0x1000C ∷ Some 0x10014 ∷ Some 0x10018 ∷ Some 0x1001C ∷ [] })) (0x10000 ∷ 0x10004 ∷ 0x10008 ∷ 0x1000C ∷ 0x10010 ∷ 0x10014 ∷ 0x10018 ∷ 0x1001C ∷ 0x10020 ∷ 0x10024 ∷ []) ≡ Some Create ∷ Some Exit ∷ Some Join ∷ Some MutexDestroy ∷ Some MutexInit ∷ Some Lock ∷ Some TryLock ∷ Some Unlock ∷ Some ThreadSelf ∷ None ∷ [] }
+{}
+
+/// A row: the settings that hold where none are given.
+pub fn settings_row()
+    ensures replicas { default_settings.replicas ≡ 3 }
+    ensures drivers { default_settings.drivers ≡ 3 }
+    ensures watchdog { default_settings.watchdog ≡ 10000 }
+    ensures quantum { default_settings.quantum ≡ 4096 }
+    ensures limit { default_settings.limit ≡ 1000000000 }
+{}
+
+/// A row: the errors of calls, by their numbers: EPERM 1, ESRCH 3, EBADF 9, EAGAIN 11, EFAULT 14, EBUSY 16, EINVAL 22,
+/// EDEADLK 35, ENOSYS 38. A system call answers them as negative numbers.
+pub fn errors_row()
+    ensures system { answer (kernel_with four []) (System 63) 1 0x100E0 1 ∷ answer (kernel_with four []) (System 64) 0 0x100E0 1 ∷ answer (kernel_with four []) (System 63) 0 0 1 ∷ answer (kernel_with four []) (System 64) 2 0 1 ∷ answer (kernel_with four []) (System 57) 0 0 0 ∷ [] ≡ Some (2 ^ 32 - 9) ∷ Some (2 ^ 32 - 9) ∷ Some (2 ^ 32 - 14) ∷ Some (2 ^ 32 - 14) ∷ Some (2 ^ 32 - 38) ∷ [] }
+    ensures create { answer (kernel_with four []) Create 0x100E0 1 0x10098 ∷ answer (kernel_with four []) Create 0x100E0 0 0x10099 ∷ answer (kernel_with four []) Create 0 0 0x10098 ∷ answer (kernel_with (replicate 16 Live) []) Create 0x100E0 0 0x10098 ∷ answer (kernel_with (replicate 15 Live) []) Create 0x100E0 0 0x10098 ∷ [] ≡ Some 22 ∷ Some 22 ∷ Some 14 ∷ Some 11 ∷ Some 0 ∷ [] }
+    ensures join { answer (kernel_with four []) Join 4 0 0 ∷ answer (kernel_with four []) Join 0 0 0 ∷ answer (kernel_with four []) Join 3 0 0 ∷ answer (kernel_with four []) Join 2 2 0 ∷ answer (kernel_with four []) Join 1 0 0 ∷ answer (kernel_with four []) Join 2 0 0 ∷ [] ≡ Some 3 ∷ Some 35 ∷ Some 3 ∷ Some 14 ∷ None ∷ Some 0 ∷ [] }
+    ensures mutex { answer (kernel_with four two_held) Lock 0 0 0 ∷ answer (kernel_with four two_held) Lock 0x100E4 0 0 ∷ answer (kernel_with four two_held) Lock 0x100E0 0 0 ∷ answer (kernel_with four two_held) TryLock 0x100E0 0 0 ∷ answer (kernel_with four two_held) TryLock 0x100E4 0 0 ∷ answer (kernel_with four two_held) Unlock 0x100E0 0 0 ∷ answer (kernel_with four two_held) Unlock 0x100E8 0 0 ∷ answer (kernel_with four two_held) Unlock 0x100E4 0 0 ∷ [] ≡ Some 14 ∷ Some 35 ∷ None ∷ Some 16 ∷ Some 16 ∷ Some 1 ∷ Some 1 ∷ Some 0 ∷ [] }
+    ensures full { answer (kernel_with four (unheld 256)) Lock 0x100E0 0 0 ∷ answer (kernel_with four (unheld 256)) TryLock 0x100E0 0 0 ∷ answer (kernel_with four (unheld 255)) Lock 0x100E0 0 0 ∷ [] ≡ Some 11 ∷ Some 11 ∷ Some 0 ∷ [] }
+{}
+
+/// A row: the nine traps: a misaligned pc, a fetch that is not permitted, no instruction, a misaligned target, a
+/// misaligned and a forbidden load, a misaligned and a forbidden store, EBREAK.
+pub fn traps_row()
+    ensures traps { next_of 0 0x10002 ∷ next_of 0 0x70000000 ∷ next_of 0 0x10000 ∷ next_of 0x0020006F 0x10000 ∷ next_of 0x00102283 0x10000 ∷ next_of 0x00002283 0x10000 ∷ next_of 0x00002123 0x10000 ∷ next_of 0x00002023 0x10000 ∷ next_of 0x00100073 0x10000 ∷ [] ≡ map (λ code. Stands (Trap code)) (1 ∷ 2 ∷ 3 ∷ 4 ∷ 5 ∷ 6 ∷ 7 ∷ 8 ∷ 9 ∷ []) }
+{}
+
+/// A row: thread 0 begins with its stack, and a thread that is made with its stack, its creator's gp, its number, its argument
+/// and a place to return to.
+pub fn threads_row()
+    ensures first { first_cpu 0x10054 ≡ record { registers = 0 ∷ 0x7000FFF0 ∷ replicate 29 0; pc = 0x10054 } }
+    ensures made { made_cpu (record { start = 0x10098; argument = 7; creator = 1 }) (record { registers = 1 ∷ 2 ∷ 0x12345 ∷ replicate 28 9; pc = 0x10060 }) 2 ≡ record { registers = 0x7FFFFFF0 ∷ 0x7004FFF0 ∷ 0x12345 ∷ 2 ∷ replicate 5 0 ++ 7 ∷ replicate 21 0; pc = 0x10098 } }
+    ensures stacks { map (λ a. permits_of exit_guest.image.ranges Write a 1) (0x6FFFFFFF ∷ 0x70000000 ∷ 0x7000FFFF ∷ 0x70010000 ∷ 0x701E0000 ∷ 0x701EFFFF ∷ 0x701F0000 ∷ 0x70200000 ∷ []) ≡ false ∷ true ∷ true ∷ false ∷ true ∷ true ∷ false ∷ false ∷ [] }
+    ensures heap { map (λ a. permits_of exit_guest.image.ranges Write a 1) (0x10FFF ∷ 0x11000 ∷ 0x110FFF ∷ 0x111000 ∷ []) ≡ false ∷ true ∷ true ∷ false ∷ [] }
+    ensures none_executes { permits_of exit_guest.image.ranges Execute 0x11000 4 ∷ permits_of exit_guest.image.ranges Execute 0x70000000 4 ∷ permits_of exit_guest.image.ranges Write 0x10000 4 ∷ [] ≡ false ∷ false ∷ false ∷ [] }
+{}

@@ -1,0 +1,5 @@
+pub mod Lists
+pub mod Notes
+pub mod Hands
+pub mod Moves
+pub mod Closing

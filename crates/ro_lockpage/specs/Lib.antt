@@ -1,0 +1,4 @@
+pub mod Rows
+pub mod Hands
+pub mod Seats
+pub mod Pages

@@ -28,7 +28,7 @@ impl Replica {
 }
 
 /// Backs the pages that an effect backs, and stores its bytes.
-fn store(pages: &mut Pages, effect: &Effect)
+pub fn store(pages: &mut Pages, effect: &Effect)
     requires few { length effect.now.bytes ≤ 4096 }
     requires within { effect.now.place + length effect.now.bytes ≤ 2 ^ 32 }
     requires page { IfSome effect.now.page (λ page. page < 2 ^ 20) }

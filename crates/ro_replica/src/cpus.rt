@@ -27,7 +27,7 @@ fn with_stack(thread: u32, pc: u32) -> Cpu
 
 /// The first thread at the opening.
 #[tactic(auto, unfolding(ro_exec::specs::Threads::first_cpu))]
-pub(crate) fn first_cpu(entry: u32) -> Cpu
+pub fn first_cpu(entry: u32) -> Cpu
     ensures { result ≡ first entry }
 {
     with_stack(0, entry)
@@ -35,7 +35,7 @@ pub(crate) fn first_cpu(entry: u32) -> Cpu
 
 /// A thread of this number that another one makes.
 #[tactic(auto, unfolding(ro_exec::specs::Threads::made_cpu))]
-pub(crate) fn made_cpu(made: &Made, creator: &Cpu, thread: u32) -> Cpu
+pub fn made_cpu(made: &Made, creator: &Cpu, thread: u32) -> Cpu
     requires { thread < 16 }
     ensures { result ≡ made_of made.now creator.now thread }
 {
@@ -59,7 +59,7 @@ fn next_pc(goes: Goes, cpu: &Cpu) -> u32
 }
 
 /// Does what an effect does to a thread's registers and pc.
-pub(crate) fn change(cpu: &mut Cpu, effect: &Effect)
+pub fn change(cpu: &mut Cpu, effect: &Effect)
     ensures { cpu.new ≡ cpu_after effect.now cpu.old }
 {
     let pc = next_pc(effect.goes, cpu);

@@ -91,7 +91,7 @@ fn faults_of(alloc: Global, faults: &[Fault], number: u32) -> Result<Vec<Fault>,
 }
 
 /// The memory of a program at its opening: each page that holds a byte of its file is backed.
-fn pages_of(alloc: Global, pieces: &[FilePiece]) -> Result<Pages, AllocError>
+pub fn pages_of(alloc: Global, pieces: &[FilePiece]) -> Result<Pages, AllocError>
     requires { All LiesLow (pieces_in pieces.now) }
     ensures bytes { IfOk result (λ pages. memory_in pages.pages ≡ memory_of (pieces_in pieces.now)) }
     ensures backed { IfOk result (λ pages. has_page pages.pages ≡ holds_file_byte (pieces_in pieces.now)) }

@@ -1,0 +1,176 @@
+-- Parts of a plan, one after another.
+use Rattle.std.specs.Prelude.{◌≡◌, ℕ, zero, suc, drop, Result, Ok, Err, IfOk, ◌+◌, ◌<◌, ◌≤◌, List, [], ◌∷◌, ◌++◌, length, take, replicate, ◌-◌, Option, Some}
+use Rattle.std.specs.Option.{option_and_then}
+use Rattle.std.proofs.Common.{refl, sym, ap, ◌∙◌, subst, arith, inl, inr, append_assoc, append-nil, length-append, get_or}
+use Rattle.std.proofs.lemmas.List.{replicate-append-replicate}
+use Rattle.ro_journal.specs.declared.Entry.{Entry}
+use Rattle.ro_journal.specs.Plan.{entry_plan, plan_of}
+use Rattle.ro_io.specs.Outside.{Rose, more}
+use Rattle.ro_plain.specs.Machine.{run}
+use Rattle.ro_plain.proofs.Swap.{run-append}
+use Rattle.ro_machine.specs.declared.errors.PlanErr.{PlanErr}
+use Rattle.ro_machine.specs.declared.errors.PlanErr.TheVariants.{NoStep, SinkFailed, NoMemory}
+use Rattle.ro_machine.specs.Seen.{PlainOf, machine_of, Steps, HasNoStep}
+use Rattle.ro_machine.specs.Parts.{Plays, Played, LacksOne, BreaksIn, StopsIn, Halts}
+use Rattle.ro_machine.proofs.Sends.{more-more, more-none}
+
+-- no step
+pub plays-none : (old : PlainOf) → Plays old [] old []
+plays-none old = record { program = refl; runs = λ output. ap (λ o. Some (machine_of old o)) (sym (append-nil output)) }
+
+-- one part and another
+pub plays-join : (old mid new : PlainOf) (xs ys b c : List ℕ) → Plays old xs mid b → Plays mid ys new c → Plays old (xs ++ ys) new (b ++ c)
+plays-join old mid new xs ys b c p q = record {
+  program = q.program ∙ p.program;
+  runs = λ output.
+      run-append old.program (machine_of old output) xs ys
+      ∙ (ap (option_and_then (λ m. run old.program m ys)) (p.runs output)
+      ∙ (ap (λ r. run r (machine_of mid (output ++ b)) ys) (sym p.program)
+      ∙ (q.runs (output ++ b)
+      ∙ ap (λ o. Some (machine_of new o)) (append_assoc output b c))));
+}
+
+-- no step yet
+pub played-none : (old : PlainOf) (held : Option (List ℕ)) (steps count : ℕ) → Played old [] old held held steps steps count count
+played-none old held steps count = record { bytes = []; plays = plays-none old; held = sym (more-none held); steps_are = omega arith; bytes_are = omega arith }
+
+module _ (old mid : PlainOf) (xs ys : List ℕ) (h g k : Option (List ℕ)) (s t u a b c : ℕ) (p : Played old xs mid h g s t a b) where
+  pub played-join : (new : PlainOf) → Played mid ys new g k t u b c → Played old (xs ++ ys) new h k s u a c
+  played-join new q = record {
+    bytes = p.bytes ++ q.bytes;
+    plays = plays-join old mid new xs ys p.bytes q.bytes p.plays q.plays;
+    held = q.held ∙ (ap (λ x. more x q.bytes) p.held ∙ more-more h p.bytes q.bytes);
+    steps_are = omega (arith, p.steps_are, q.steps_are, length-append xs ys);
+    bytes_are = omega (arith, p.bytes_are, q.bytes_are, length-append p.bytes q.bytes);
+  }
+
+  rose : (before between after : ℕ) → before ≤ between → Rose between after → Rose before after
+  rose before between after less (inl e) = inl (omega arith)
+  rose before between after less (inr e) = inr e
+
+  -- a part was run, and the next one halts
+  pub halts-later : (before between after : ℕ) (e : PlanErr) → before ≤ between → Halts mid ys g k t between after e → Halts old (xs ++ ys) h k s before after e
+  halts-later before between after (NoStep place) less q = record {
+    played = xs ++ q.played;
+    thread = q.thread;
+    rest = q.rest;
+    mid = q.mid;
+    bytes = p.bytes ++ q.bytes;
+    all = ap (λ r. xs ++ r) q.all ∙ sym (append_assoc xs q.played (q.thread ∷ q.rest));
+    plays = plays-join old mid q.mid xs q.played p.bytes q.bytes p.plays q.plays;
+    none = q.none;
+    place_is = omega (arith, p.steps_are, q.place_is, length-append xs q.played);
+    held = q.held ∙ (ap (λ x. more x q.bytes) p.held ∙ more-more h p.bytes q.bytes);
+  }
+  halts-later before between after (SinkFailed taken) less (q, r) = (
+    record {
+      played = xs ++ q.played;
+      thread = q.thread;
+      rest = q.rest;
+      mid = q.mid;
+      after = q.after;
+      bytes = p.bytes ++ q.bytes;
+      all = ap (λ r. xs ++ r) q.all ∙ sym (append_assoc xs q.played (q.thread ∷ q.rest));
+      plays = plays-join old mid q.mid xs q.played p.bytes q.bytes p.plays q.plays;
+      steps = q.steps;
+      short = q.short;
+      held = q.held ∙ (ap (λ x. more x (q.bytes ++ take taken q.after.written)) p.held ∙ (more-more h p.bytes (q.bytes ++ take taken q.after.written) ∙ ap (more h) (sym (append_assoc p.bytes q.bytes (take taken q.after.written)))));
+    },
+    rose before between after less r,
+  )
+  halts-later before between after NoMemory less q = record {
+    played = xs ++ q.played;
+    rest = q.rest;
+    mid = q.mid;
+    bytes = p.bytes ++ q.bytes;
+    all = ap (λ r. xs ++ r) q.all ∙ sym (append_assoc xs q.played q.rest);
+    plays = plays-join old mid q.mid xs q.played p.bytes q.bytes p.plays q.plays;
+    held = q.held ∙ (ap (λ x. more x q.bytes) p.held ∙ more-more h p.bytes q.bytes);
+  }
+
+-- a part halts, whatever comes after it
+pub halts-sooner : (old : PlainOf) (xs ys : List ℕ) (h k : Option (List ℕ)) (s before after : ℕ) (e : PlanErr) → Halts old xs h k s before after e → Halts old (xs ++ ys) h k s before after e
+halts-sooner old xs ys h k s before after (NoStep place) q = record {
+  played = q.played;
+  thread = q.thread;
+  rest = q.rest ++ ys;
+  mid = q.mid;
+  bytes = q.bytes;
+  all = ap (λ r. r ++ ys) q.all ∙ append_assoc q.played (q.thread ∷ q.rest) ys;
+  plays = q.plays;
+  none = q.none;
+  place_is = q.place_is;
+  held = q.held;
+}
+halts-sooner old xs ys h k s before after (SinkFailed taken) (q, r) = (
+  record {
+    played = q.played;
+    thread = q.thread;
+    rest = q.rest ++ ys;
+    mid = q.mid;
+    after = q.after;
+    bytes = q.bytes;
+    all = ap (λ r. r ++ ys) q.all ∙ append_assoc q.played (q.thread ∷ q.rest) ys;
+    plays = q.plays;
+    steps = q.steps;
+    short = q.short;
+    held = q.held;
+  },
+  r,
+)
+halts-sooner old xs ys h k s before after NoMemory q = record {
+  played = q.played;
+  rest = q.rest ++ ys;
+  mid = q.mid;
+  bytes = q.bytes;
+  all = ap (λ r. r ++ ys) q.all ∙ append_assoc q.played q.rest ys;
+  plays = q.plays;
+  held = q.held;
+}
+
+-- the first step halts
+pub lacks-first : (old : PlainOf) (thread : ℕ) (h : Option (List ℕ)) (s : ℕ) → HasNoStep old thread → LacksOne old (thread ∷ []) h h s s
+lacks-first old thread h s none = record { played = []; thread = thread; rest = []; mid = old; bytes = []; all = refl; plays = plays-none old; none = none; place_is = omega arith; held = sym (more-none h) }
+
+pub stops-first : (old : PlainOf) (thread : ℕ) (h : Option (List ℕ)) → StopsIn old (thread ∷ []) h h
+stops-first old thread h = record { played = []; rest = thread ∷ []; mid = old; bytes = []; all = refl; plays = plays-none old; held = sym (more-none h) }
+
+pub breaks-first : (old after : PlainOf) (thread taken : ℕ) (h k : Option (List ℕ)) → Steps old thread after → taken < length after.written → k ≡ more h (take taken after.written) → BreaksIn old (thread ∷ []) h k taken
+breaks-first old after thread taken h k steps short held = record { played = []; thread = thread; rest = []; mid = old; after = after; bytes = []; all = refl; plays = plays-none old; steps = steps; short = short; held = held }
+
+-- one of a thread's many steps halts
+pub halts-all : (old : PlainOf) (thread done count : ℕ) (h k : Option (List ℕ)) (s before after : ℕ) (e : PlanErr) → done < count → Halts old (replicate done thread ++ thread ∷ []) h k s before after e → Halts old (replicate count thread) h k s before after e
+halts-all old thread done count h k s before after e less q =
+    let one : replicate done thread ++ thread ∷ [] ≡ replicate (done + 1) thread = replicate-append-replicate done 1 thread in
+    let whole : replicate (done + 1) thread ++ replicate (count - (done + 1)) thread ≡ replicate count thread =
+    replicate-append-replicate (done + 1) (count - (done + 1)) thread ∙ ap (λ n. replicate n thread) (let m : (done + 1) + (count - (done + 1)) ≡ count = omega arith in m) in
+    subst (λ (xs : List ℕ). Halts old xs h k s before after e) whole (halts-sooner old (replicate (done + 1) thread) (replicate (count - (done + 1)) thread) h k s before after e (subst (λ (xs : List ℕ). Halts old xs h k s before after e) one q))
+
+pub if-ok : {T E : Type 0} (r : Result T E) (P Q : T → Type 0) → ((x : T) → P x → Q x) → IfOk r P → IfOk r Q
+if-ok (Ok x) P Q f h = f x h
+if-ok (Err e) P Q f h = h
+
+-- a journal's plan at an entry
+pub plan-split : (journal : List Entry) (i : ℕ) (d : Entry) → i < length journal → plan_of journal ≡ plan_of (take i journal) ++ (entry_plan (get_or journal i d) ++ plan_of (drop (suc i) journal))
+plan-split [] i d h = absurd (omega arith)
+plan-split (e ∷ journal) zero d h = refl
+plan-split (e ∷ journal) (suc i) d h = ap (λ r. entry_plan e ++ r) (plan-split journal i d (omega arith)) ∙ sym (append_assoc (entry_plan e) (plan_of (take i journal)) (entry_plan (get_or journal i d) ++ plan_of (drop (suc i) journal)))
+
+plan-next-suc : (journal : List Entry) (i : ℕ) (d : Entry) → i < length journal → plan_of (take i journal) ++ entry_plan (get_or journal i d) ≡ plan_of (take (suc i) journal)
+plan-next-suc [] i d h = absurd (omega arith)
+plan-next-suc (e ∷ journal) zero d h = sym (append-nil (entry_plan e))
+plan-next-suc (e ∷ journal) (suc i) d h = append_assoc (entry_plan e) (plan_of (take i journal)) (entry_plan (get_or journal i d)) ∙ ap (λ r. entry_plan e ++ r) (plan-next-suc journal i d (omega arith))
+
+pub plan-next : (journal : List Entry) (i : ℕ) (d : Entry) → i < length journal → plan_of (take i journal) ++ entry_plan (get_or journal i d) ≡ plan_of (take (i + 1) journal)
+plan-next journal i d h = plan-next-suc journal i d h ∙ ap (λ n. plan_of (take n journal)) (let e : suc i ≡ i + 1 = omega arith in e)
+
+-- an entry's steps are among those of the plan
+pub plan-room : (journal : List Entry) (i : ℕ) (d : Entry) (most steps : ℕ) → i < length journal → length (plan_of journal) ≤ most → steps ≡ length (plan_of (take i journal)) → steps + length (entry_plan (get_or journal i d)) ≤ most
+plan-room journal i d most steps h few is =
+    omega (arith, ap length (plan-split journal i d h), length-append (plan_of (take i journal)) (entry_plan (get_or journal i d) ++ plan_of (drop (suc i) journal)), length-append (entry_plan (get_or journal i d)) (plan_of (drop (suc i) journal)))
+
+-- an entry halts, and so does the plan
+pub halts-plan : (old : PlainOf) (journal : List Entry) (i : ℕ) (d : Entry) (h k : Option (List ℕ)) (s before after : ℕ) (e : PlanErr) → i < length journal → Halts old (plan_of (take i journal) ++ entry_plan (get_or journal i d)) h k s before after e → Halts old (plan_of journal) h k s before after e
+halts-plan old journal i d h k s before after e less q =
+    subst (λ (xs : List ℕ). Halts old xs h k s before after e) (append_assoc (plan_of (take i journal)) (entry_plan (get_or journal i d)) (plan_of (drop (suc i) journal)) ∙ sym (plan-split journal i d less))
+    (halts-sooner old (plan_of (take i journal) ++ entry_plan (get_or journal i d)) (plan_of (drop (suc i) journal)) h k s before after e q)

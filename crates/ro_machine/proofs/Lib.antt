@@ -1,0 +1,7 @@
+pub mod Effects
+pub mod Faults
+pub mod Joined
+pub mod Planned
+pub mod Sends
+pub mod Serving
+pub mod Stepping

@@ -1,0 +1,37 @@
+use Rattle.std.proofs.Common.{ap, sym, ◌∙◌, length}
+use Rattle.ro_pages.specs.Bytes.{stored}
+use Rattle.ro_pages.specs.Held.{memory_of}
+use Rattle.ro_kernel.specs.Serve.{payload_of}
+use Rattle.ro_machine.proofs.Serving.{known, ended-lives, threads-after, served-so}
+use Rattle.ro_machine.proofs.calls.serve.Goals as goal
+
+pub apply-requires-clause-thread : goal.apply-requires-clause-thread
+apply-requires-clause-thread c = (known c.args.kernel.now c.serve.new.self c.args.thread (length c.args.cpus.now.items) c.args.call _ c.in-Done.effect c.requires.live c.requires.made c.in-Done.is c.in_ok-effect.ensures.served).made
+
+pub apply-requires-clause-creator : goal.apply-requires-clause-creator
+apply-requires-clause-creator c = (known c.args.kernel.now c.serve.new.self c.args.thread (length c.args.cpus.now.items) c.args.call _ c.in-Done.effect c.requires.live c.requires.made c.in-Done.is c.in_ok-effect.ensures.served).creator
+
+pub apply-requires-clause-few : goal.apply-requires-clause-few
+apply-requires-clause-few c = (known c.args.kernel.now c.serve.new.self c.args.thread (length c.args.cpus.now.items) c.args.call _ c.in-Done.effect c.requires.live c.requires.made c.in-Done.is c.in_ok-effect.ensures.served).few
+
+pub apply-requires-clause-within : goal.apply-requires-clause-within
+apply-requires-clause-within c = (known c.args.kernel.now c.serve.new.self c.args.thread (length c.args.cpus.now.items) c.args.call _ c.in-Done.effect c.requires.live c.requires.made c.in-Done.is c.in_ok-effect.ensures.served).within
+
+pub apply-requires-clause-page : goal.apply-requires-clause-page
+apply-requires-clause-page c = (known c.args.kernel.now c.serve.new.self c.args.thread (length c.args.cpus.now.items) c.args.call _ c.in-Done.effect c.requires.live c.requires.made c.in-Done.is c.in_ok-effect.ensures.served).page
+
+pub returns-in-Done-clause-made : goal.returns-in-Done-clause-made
+returns-in-Done-clause-made c =
+    let facts = known c.args.kernel.now c.serve.new.self c.args.thread (length c.args.cpus.now.items) c.args.call _ c.in-Done.effect c.requires.live c.requires.made c.in-Done.is c.in_ok-effect.ensures.served in
+    threads-after c.in-Done.effect c.args.cpus.now.items c.apply.new.cpus.items facts.made c.apply.ensures.cpus ∙ sym facts.lives
+
+pub returns-in-Done-clause-served : goal.returns-in-Done-clause-served
+returns-in-Done-clause-served c cpu output there =
+    let facts = known c.args.kernel.now c.serve.new.self c.args.thread (length c.args.cpus.now.items) c.args.call _ c.in-Done.effect c.requires.live c.requires.made c.in-Done.is c.in_ok-effect.ensures.served in
+    served-so c.args.pages.now c.apply.new.pages c.args.cpus.now.items c.apply.new.cpus.items c.args.kernel.now c.serve.new.self output c.put_payload.new.written.items _ c.args.thread c.args.call c.in-Done.effect cpu facts there
+    (c.apply.ensures.bytes ∙ ap (λ p. stored (memory_of p) c.in-Done.effect.place c.in-Done.effect.bytes) c.reserve.ensures.pages)
+    c.apply.ensures.cpus
+    (c.put_payload.ensures.bytes ∙ ap (λ p. payload_of c.args.regions.now (memory_of p) c.args.call) c.reserve.ensures.pages)
+
+pub returns-in-Ends-clause-made : goal.returns-in-Ends-clause-made
+returns-in-Ends-clause-made c = c.requires.made ∙ sym (ended-lives c.args.kernel.now c.serve.new.self c.args.thread c.args.call _ c.in-Ends.how c.in-Ends.is c.in_ok-effect.ensures.served)

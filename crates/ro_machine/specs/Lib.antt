@@ -1,0 +1,5 @@
+pub mod Pages
+pub mod Seen
+pub mod Lengths
+pub mod Parts
+pub mod Plans

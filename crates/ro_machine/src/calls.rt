@@ -1,0 +1,145 @@
+//! Serving a call: what it does to the one memory and the threads.
+ghost use Rattle.std.specs.Prelude.{ℕ, List, [], ◌≡◌, ◌+◌, ◌^◌, ◌<◌, ◌≤◌, ◌++◌, None, Some, true, IfOk, IfErr, IfSome, OnErr, length, slice_get, slice_set, vec_capacity};
+ghost use Rattle.ro_pages.specs.Bytes.{bytes_at, stored};
+ghost use Rattle.ro_pages.specs.Held.{memory_of};
+ghost use Rattle.ro_exec.specs.declared.Cpu.{Cpu as CpuSeen};
+ghost use Rattle.ro_exec.specs.Threads.{cpu_after};
+ghost use Rattle.ro_kernel.specs.Kernel.{lives_on};
+ghost use Rattle.ro_kernel.specs.Serve.{serve as serve_of, payload_of};
+ghost use Rattle.ro_plain.specs.Machine.{with_made, called};
+ghost use Rattle.ro_machine.specs.Seen.{machine_with, RefusesCall};
+
+use crate::errors::StepErr;
+use ro_event::{Call, Effect, Made};
+use ro_exec::Cpu;
+use ro_journal::How;
+use ro_kernel::{Kernel, Served, payload_len};
+use ro_pages::Pages;
+use ro_region::Regions;
+use ro_replica::{change, made_cpu, store};
+
+/// How many pages an effect may back: those of 4,096 bytes, and one.
+const SPARE_PAGES: u32 = 3;
+
+/// Serves a call of a live thread, with its effect on the memory and the threads. It answers how the program ends, if it
+/// does, and leaves what the call wrote in `written`.
+///
+/// # Errors
+/// `NoStep` where the call blocks, and `NoMemory`. Nothing has changed then.
+#[allow(clippy::too_many_arguments)]
+pub(crate) fn serve(
+    kernel: &mut Kernel,
+    pages: &mut Pages,
+    cpus: &mut Vec<Cpu>,
+    written: &mut Vec<u8>,
+    regions: &Regions,
+    thread: u32,
+    call: Call,
+) -> Result<Option<How>, StepErr>
+    requires live { lives_on kernel.old.kernel thread ≡ true }
+    requires regions { regions.now ≡ kernel.old.setup.ranges }
+    requires made { length cpus.old.items ≡ length kernel.old.kernel.lives }
+    requires threads { 16 ≤ vec_capacity cpus.old }
+    requires room { 4096 ≤ vec_capacity written.old }
+    requires empty { written.old.items ≡ [] }
+    ensures setup { kernel.new.setup ≡ kernel.old.setup }
+    ensures made { length cpus.new.items ≡ length kernel.new.kernel.lives }
+    ensures threads { vec_capacity cpus.old ≤ vec_capacity cpus.new }
+    ensures room { vec_capacity written.old ≤ vec_capacity written.new }
+    ensures little { length written.new.items ≤ 4096 }
+    ensures served { IfOk result (λ how. (cpu : CpuSeen) (output : List ℕ) → slice_get cpus.old.items thread ≡ Some cpu → called (machine_with pages.old cpus.old.items kernel.old.kernel output None) cpu (payload_of regions.now (memory_of pages.old.pages) call) (serve_of kernel.old.setup kernel.old.kernel thread call) ≡ Some (machine_with pages.new cpus.new.items kernel.new.kernel (output ++ written.new.items) how)) }
+    ensures refused { IfErr result (RefusesCall (serve_of kernel.old.setup kernel.old.kernel thread call)) }
+    ensures kernel { OnErr result (kernel.new ≡ kernel.old) }
+    ensures memory { OnErr result (memory_of pages.new.pages ≡ memory_of pages.old.pages) }
+    ensures cpus { OnErr result (cpus.new.items ≡ cpus.old.items) }
+    ensures nothing { OnErr result (written.new.items ≡ []) }
+{
+    pages.reserve(SPARE_PAGES)?;
+    match kernel.serve(thread, call)? {
+        Served::Done(effect) => {
+            put_payload(pages, regions, call, written);
+            apply(pages, cpus, &effect);
+            Ok(None)
+        }
+        Served::Blocked => Err(StepErr::NoStep),
+        Served::Ends(how) => Ok(Some(how)),
+    }
+}
+
+/// Puts the bytes that a call writes to the output into an empty list with room for them.
+fn put_payload(pages: &Pages, regions: &Regions, call: Call, written: &mut Vec<u8>)
+    requires empty { written.old.items ≡ [] }
+    requires room { 4096 ≤ vec_capacity written.old }
+    ensures bytes { written.new.items ≡ payload_of regions.now (memory_of pages.now.pages) call }
+    ensures little { length written.new.items ≤ 4096 }
+    ensures room { vec_capacity written.old ≤ vec_capacity written.new }
+{
+    put_bytes(pages, call.a1, payload_len(regions, call), written);
+}
+
+/// Puts so many bytes of memory into an empty list with room for them.
+fn put_bytes(pages: &Pages, address: u32, len: u32, written: &mut Vec<u8>)
+    requires most { len ≤ 4096 }
+    requires within { 0 < len → address + len ≤ 2 ^ 32 }
+    requires empty { written.old.items ≡ [] }
+    requires room { 4096 ≤ vec_capacity written.old }
+    ensures bytes { written.new.items ≡ bytes_at (memory_of pages.now.pages) address len }
+    ensures little { length written.new.items ≤ 4096 }
+    ensures room { vec_capacity written.old ≤ vec_capacity written.new }
+{
+    if len > 0 {
+        put_some(pages, address, len, written);
+    }
+}
+
+/// The same for one byte or more.
+fn put_some(pages: &Pages, address: u32, len: u32, written: &mut Vec<u8>)
+    requires most { len ≤ 4096 }
+    requires within { address + len ≤ 2 ^ 32 }
+    requires empty { written.old.items ≡ [] }
+    requires room { 4096 ≤ vec_capacity written.old }
+    ensures bytes { written.new.items ≡ bytes_at (memory_of pages.now.pages) address len }
+    ensures little { length written.new.items ≤ 4096 }
+    ensures room { vec_capacity written.old ≤ vec_capacity written.new }
+{
+    let mut bytes = [0; 4096];
+    let bytes = &mut bytes[..len as usize];
+    pages.read_bytes(address, bytes);
+    if written.extend_from_slice(bytes).is_err() {
+        unreachable!()
+    }
+}
+
+/// Does what an effect does to the memory and the threads.
+fn apply(pages: &mut Pages, cpus: &mut Vec<Cpu>, effect: &Effect)
+    requires thread { effect.now.thread < length cpus.old.items }
+    requires creator { IfSome effect.now.made (λ made. (made.creator < length cpus.old.items) × (length cpus.old.items < 16)) }
+    requires few { length effect.now.bytes ≤ 4096 }
+    requires within { effect.now.place + length effect.now.bytes ≤ 2 ^ 32 }
+    requires page { effect.now.page ≡ None }
+    requires spare { 3 ≤ pages.old.spare }
+    requires threads { 16 ≤ vec_capacity cpus.old }
+    ensures bytes { memory_of pages.new.pages ≡ stored (memory_of pages.old.pages) effect.now.place effect.now.bytes }
+    ensures cpus { (cpu : CpuSeen) → slice_get cpus.old.items effect.now.thread ≡ Some cpu → cpus.new.items ≡ with_made effect.now.made cpu (slice_set cpus.old.items effect.now.thread (cpu_after effect.now cpu)) }
+    ensures threads { vec_capacity cpus.old ≤ vec_capacity cpus.new }
+{
+    store(pages, effect);
+    change(&mut cpus[effect.thread as usize], effect);
+    make(cpus, effect.made);
+}
+
+/// Makes a thread, if one is to be made; there is a place for it.
+fn make(cpus: &mut Vec<Cpu>, made: Option<Made>)
+    requires creator { IfSome made (λ made. (made.creator < length cpus.old.items) × (length cpus.old.items < 16)) }
+    requires threads { 16 ≤ vec_capacity cpus.old }
+    ensures items { (cpu : CpuSeen) → cpus.new.items ≡ with_made made cpu cpus.old.items }
+    ensures threads { vec_capacity cpus.old ≤ vec_capacity cpus.new }
+{
+    let Some(made) = made else {
+        return;
+    };
+    let cpu = made_cpu(&made, &cpus[made.creator as usize], cpus.len() as u32);
+    if cpus.push(cpu).is_err() {
+        unreachable!()
+    }
+}

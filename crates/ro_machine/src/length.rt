@@ -1,0 +1,40 @@
+//! How long a journal's plan is.
+ghost use Rattle.std.specs.Prelude.{◌≡◌, ◌≤◌, ◌<◌, IfOk, IfErr, length};
+ghost use Rattle.ro_journal.specs.Plan.{entry_plan, plan_of};
+ghost use Rattle.ro_machine.specs.Lengths.{IsLength, IsTooLong};
+
+use crate::errors::TooLong;
+use ro_journal::Entry;
+
+/// How many steps a plan has at most that is run.
+pub const MOST_STEPS: u64 = 1_000_000_000;
+
+/// How many steps the plan of a journal has, where these are at most `MOST_STEPS`.
+///
+/// # Errors
+/// `TooLong` at the first entry that takes the plan past that.
+pub fn plan_steps(journal: &[Entry]) -> Result<u64, TooLong>
+    ensures steps { IfOk result (λ steps. IsLength journal.now steps) }
+    ensures long { IfErr result (IsTooLong journal.now) }
+{
+    let mut steps = 0;
+    for entry in journal {
+        let next = entry_steps(entry);
+        if next > MOST_STEPS - steps {
+            return Err(TooLong { steps, next });
+        }
+        steps += next;
+    }
+    Ok(steps)
+}
+
+/// How many steps an entry adds to the plan.
+fn entry_steps(entry: &Entry) -> u64
+    ensures { result ≡ length (entry_plan entry.now) }
+{
+    match entry {
+        Entry::Vote { count, did, .. } => u64::from(*count) + did.steps(),
+        Entry::Free { .. } => 1,
+        Entry::Take { .. } | Entry::Put { .. } | Entry::End { .. } => 0,
+    }
+}

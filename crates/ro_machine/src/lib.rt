@@ -1,0 +1,19 @@
+//! The unreplicated machine, run: what a journal's plan comes to with one memory, no votes and no faults.
+#![tactic(auto)]
+
+mod backing;
+mod calls;
+mod errors;
+mod length;
+mod plain;
+mod playing;
+mod running;
+mod sending;
+
+pub use errors::{PlainEnd, PlanErr, StepErr, TooLong};
+pub use length::{MOST_STEPS, plan_steps};
+pub use plain::Plain;
+pub use running::run_plan;
+
+#[cfg(test)]
+mod tests;

@@ -1,0 +1,191 @@
+//! The machine.
+ghost use Rattle.std.specs.Prelude.{◌≡◌, [], None, IfOk, IfErr, OnErr, OnOk, length, true, ◌∷◌, ◌≤◌, vec_capacity};
+ghost use Rattle.ro_exec.specs.Threads.{first_cpu as first};
+ghost use Rattle.ro_kernel.specs.Kernel.{lives_on};
+ghost use Rattle.ro_plain.specs.Machine.{opening};
+ghost use Rattle.ro_machine.specs.Seen.{machine_of, Steps, Refuses, SameMachine, StepsFrom, RefusesAt};
+
+use crate::backing::execute;
+use crate::calls::serve;
+use crate::errors::StepErr;
+use ro_event::Stop;
+use ro_exec::{Cpu, Step};
+use ro_image::Executable;
+use ro_journal::How;
+use ro_kernel::Kernel;
+use ro_pages::Pages;
+use ro_region::Regions;
+use ro_replica::{first_cpu, pages_of};
+use std::alloc::{AllocError, Global};
+use std::marker::Model;
+use std::sync::Arc;
+
+/// How many threads can be made.
+const THREADS: usize = 16;
+
+/// How many bytes one step can write.
+const MOST_WRITTEN: usize = 4096;
+
+/// The unreplicated machine of a program and an input: one memory, whose pages are backed as they are touched, and threads
+/// that step in any order.
+#[derive(Drop)]
+pub struct Plain {
+    image: Executable,
+    regions: Arc<Regions>,
+    pages: Pages,
+    cpus: Vec<Cpu>,
+    kernel: Kernel,
+    ended: Option<How>,
+    /// What the last step wrote.
+    written: Vec<u8>,
+}
+
+impl Model for Plain {
+    ghost use Rattle.std.specs.Arc.{arc_value};
+    ghost use Rattle.std.specs.Prelude.{vec_capacity};
+    ghost use Rattle.std.specs.Coded.{codes};
+    ghost use Rattle.ro_pages.specs.Held.{coded_held};
+    ghost use Rattle.ro_machine.specs.Seen.{PlainOf, IsWhole};
+
+    ghost Value = { PlainOf };
+
+    ghost coded = { Prim.hlevel (codes, coded_held) };
+
+    ghost view = { λ p. record { program = record { image = p.image; input = p.kernel.setup.input }; held = p.pages; cpus = p.cpus.items; kernel = p.kernel.kernel; ended = p.ended; written = p.written.items } };
+
+    ghost invariant = { λ p. IsWhole p.image (arc_value p.regions) p.kernel p.cpus.items p.written.items (vec_capacity p.cpus) (vec_capacity p.written) };
+}
+
+impl Plain {
+    /// The machine at the opening of a program.
+    ///
+    /// # Errors
+    /// Where there is no memory.
+    pub fn begin(alloc: Global, image: Executable, input: &[u8]) -> Result<Plain, AllocError>
+        ensures program { IfOk result (λ p. p.program ≡ record { image = image; input = input.now }) }
+        ensures opening { IfOk result (λ p. machine_of p [] ≡ opening (record { image = image; input = input.now })) }
+        ensures written { IfOk result (λ p. p.written ≡ []) }
+    {
+        let regions = Arc::new(alloc, Regions::new(alloc, image.ranges())?)?;
+        let pages = pages_of(alloc, image.pieces())?;
+        let cpus = first_cpus(alloc, image.entry())?;
+        let kernel = Kernel::new(alloc, image.heap(), Arc::try_clone(&regions)?, input)?;
+        let written = Vec::with_capacity(alloc, MOST_WRITTEN)?;
+        Ok(Plain {
+            image,
+            regions,
+            pages,
+            cpus,
+            kernel,
+            ended: None,
+            written,
+        })
+    }
+
+    /// How the program ended, if it has: by an exit or a trap.
+    pub fn ended(&self) -> Option<How>
+        ensures { result ≡ self.now.ended }
+    {
+        self.ended
+    }
+
+    /// The number of threads that were ever made.
+    pub fn made(&self) -> u32
+        ensures { result ≡ length self.now.cpus }
+    {
+        self.kernel.made()
+    }
+
+    /// The bytes that the last step wrote.
+    pub fn written(&self) -> &[u8]
+        ensures bytes { result.now ≡ self.now.written }
+        ensures most { length result.now ≤ 4096 }
+    {
+        self.written.as_slice()
+    }
+
+    /// Takes a step of a thread: one instruction, a whole call, or the trap at which it stands.
+    ///
+    /// # Errors
+    /// `NoStep` where there is no such step: the program has ended, the thread does not live, or its call blocks; and
+    /// `NoMemory`. It is the same machine then.
+    pub fn step(&mut self, thread: u32) -> Result<(), StepErr>
+        ensures program { self.new.program ≡ self.old.program }
+        ensures steps { OnOk result (Steps self.old thread self.new) }
+        ensures refused { IfErr result (Refuses self.old thread) }
+        ensures same { OnErr result (SameMachine self.new self.old) }
+        ensures nothing { OnErr result (self.new.written ≡ []) }
+    {
+        self.written.truncate(0);
+        if self.ended.is_some() || !self.kernel.lives_on(thread) {
+            return Err(StepErr::NoStep);
+        }
+        self.go_on(thread)
+    }
+
+    // The same where the program has not ended and the thread lives.
+    fn go_on(&mut self, thread: u32) -> Result<(), StepErr>
+        requires going { self.old.ended ≡ None }
+        requires live { lives_on self.old.kernel thread ≡ true }
+        requires empty { self.old.written ≡ [] }
+        ensures program { self.new.program ≡ self.old.program }
+        ensures steps { OnOk result (Steps self.old thread self.new) }
+        ensures refused { IfErr result (Refuses self.old thread) }
+        ensures same { OnErr result (SameMachine self.new self.old) }
+        ensures nothing { OnErr result (self.new.written ≡ []) }
+    {
+        let done = execute(
+            &mut self.cpus[thread as usize],
+            &mut self.pages,
+            &self.regions,
+            self.image.calls(),
+        )?;
+        match done {
+            Step::Did => Ok(()),
+            Step::Stopped(stop) => self.stand(thread, stop),
+        }
+    }
+
+    // The step of a thread that stands at this stop.
+    fn stand(&mut self, thread: u32, stop: Stop) -> Result<(), StepErr>
+        requires going { self.old.ended ≡ None }
+        requires live { lives_on self.old.kernel thread ≡ true }
+        requires empty { self.old.written ≡ [] }
+        ensures program { self.new.program ≡ self.old.program }
+        ensures steps { OnOk result (StepsFrom self.old thread stop self.new) }
+        ensures refused { IfErr result (RefusesAt self.old thread stop) }
+        ensures same { OnErr result (SameMachine self.new self.old) }
+        ensures nothing { OnErr result (self.new.written ≡ []) }
+    {
+        match stop {
+            Stop::Calls(call) => {
+                self.ended = serve(
+                    &mut self.kernel,
+                    &mut self.pages,
+                    &mut self.cpus,
+                    &mut self.written,
+                    &self.regions,
+                    thread,
+                    call,
+                )?;
+                Ok(())
+            }
+            Stop::Trap(cause) => {
+                self.ended = Some(How::Trap(cause));
+                Ok(())
+            }
+            // The machine has neither of these.
+            Stop::PageFault(_) | Stop::Watchdog => Err(StepErr::NoStep),
+        }
+    }
+}
+
+/// The first thread, with places for the others.
+fn first_cpus(alloc: Global, entry: u32) -> Result<Vec<Cpu>, AllocError>
+    ensures first { IfOk result (λ cpus. cpus.items ≡ first entry ∷ []) }
+    ensures places { IfOk result (λ cpus. 16 ≤ vec_capacity cpus) }
+{
+    let mut cpus = Vec::with_capacity(alloc, THREADS)?;
+    cpus.push(first_cpu(entry))?;
+    Ok(cpus)
+}

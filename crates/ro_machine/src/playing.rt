@@ -1,0 +1,139 @@
+//! Running steps, with what they write going to a sink as it is written.
+ghost use Rattle.std.specs.Prelude.{ℕ, ◌≡◌, ◌+◌, ◌*◌, ◌≤◌, ◌∷◌, ◌++◌, [], IfOk, IfErr, length, replicate};
+ghost use Rattle.ro_journal.specs.Plan.{entry_plan, plan_of};
+ghost use Rattle.ro_machine.specs.Parts.{Played, Halts};
+
+use crate::errors::{PlanErr, StepErr};
+use crate::plain::Plain;
+use crate::sending::send;
+use ro_io::Sink;
+use ro_journal::Entry;
+
+/// How far a plan has come.
+#[derive(Clone, Copy, Debug, PartialEq, Eq)]
+pub(crate) struct Progress {
+    /// How many steps were taken.
+    pub steps: u64,
+    /// How many bytes they wrote.
+    pub bytes: u64,
+}
+
+/// Takes a step of a thread, and sends what it writes.
+pub(crate) fn play_one<K: Sink>(
+    plain: &mut Plain,
+    thread: u32,
+    progress: Progress,
+    out: &mut K,
+) -> Result<Progress, PlanErr>
+    requires steps { progress.steps + 1 ≤ 1000000000 }
+    requires bytes { progress.bytes ≤ 4096 * progress.steps }
+    ensures bytes { IfOk result (λ p. p.bytes ≤ 4096 * p.steps) }
+    ensures faults { K.faults out.old ≤ K.faults out.new }
+    ensures played { IfOk result (λ p. Played plain.old (thread ∷ []) plain.new (K.held out.old) (K.held out.new) progress.steps p.steps progress.bytes p.bytes) }
+    ensures halts { IfErr result (Halts plain.old (thread ∷ []) (K.held out.old) (K.held out.new) progress.steps (K.faults out.old) (K.faults out.new)) }
+{
+    match plain.step(thread) {
+        Ok(()) => {}
+        Err(StepErr::NoStep) => {
+            return Err(PlanErr::NoStep {
+                place: progress.steps,
+            });
+        }
+        Err(StepErr::NoMemory) => return Err(PlanErr::NoMemory),
+    }
+    let written = plain.written();
+    if let Some(taken) = send(out, written) {
+        return Err(PlanErr::SinkFailed { taken });
+    }
+    Ok(Progress {
+        steps: progress.steps + 1,
+        bytes: progress.bytes + written.len() as u64,
+    })
+}
+
+/// Takes so many steps of a thread.
+fn play<K: Sink>(
+    plain: &mut Plain,
+    thread: u32,
+    count: u64,
+    progress: Progress,
+    out: &mut K,
+) -> Result<Progress, PlanErr>
+    requires steps { progress.steps + count ≤ 1000000000 }
+    requires bytes { progress.bytes ≤ 4096 * progress.steps }
+    ensures bytes { IfOk result (λ p. p.bytes ≤ 4096 * p.steps) }
+    ensures faults { K.faults out.old ≤ K.faults out.new }
+    ensures played { IfOk result (λ p. Played plain.old (replicate count thread) plain.new (K.held out.old) (K.held out.new) progress.steps p.steps progress.bytes p.bytes) }
+    ensures halts { IfErr result (Halts plain.old (replicate count thread) (K.held out.old) (K.held out.new) progress.steps (K.faults out.old) (K.faults out.new)) }
+{
+    let mut now = progress;
+    for done in 0..count {
+        now = play_one(plain, thread, now, out)?;
+    }
+    Ok(now)
+}
+
+/// Takes the steps of a journal's entry: those that a vote's thread had retired, and one where its event was served or a trap
+/// taken; and one where a call was freed.
+fn play_entry<K: Sink>(
+    plain: &mut Plain,
+    entry: &Entry,
+    progress: Progress,
+    out: &mut K,
+) -> Result<Progress, PlanErr>
+    requires steps { progress.steps + length (entry_plan entry.now) ≤ 1000000000 }
+    requires bytes { progress.bytes ≤ 4096 * progress.steps }
+    ensures bytes { IfOk result (λ p. p.bytes ≤ 4096 * p.steps) }
+    ensures faults { K.faults out.old ≤ K.faults out.new }
+    ensures played { IfOk result (λ p. Played plain.old (entry_plan entry.now) plain.new (K.held out.old) (K.held out.new) progress.steps p.steps progress.bytes p.bytes) }
+    ensures halts { IfErr result (Halts plain.old (entry_plan entry.now) (K.held out.old) (K.held out.new) progress.steps (K.faults out.old) (K.faults out.new)) }
+{
+    match entry {
+        Entry::Vote {
+            thread,
+            count,
+            did,
+            ..
+        } => play_vote(plain, *thread, *count, did.steps(), progress, out),
+        Entry::Free { thread } => play_one(plain, *thread, progress, out),
+        Entry::Take { .. } | Entry::Put { .. } | Entry::End { .. } => Ok(progress),
+    }
+}
+
+/// Takes so many steps of a thread, and then those of its event.
+fn play_vote<K: Sink>(
+    plain: &mut Plain,
+    thread: u32,
+    count: u32,
+    event: u64,
+    progress: Progress,
+    out: &mut K,
+) -> Result<Progress, PlanErr>
+    requires steps { progress.steps + (count + event) ≤ 1000000000 }
+    requires bytes { progress.bytes ≤ 4096 * progress.steps }
+    ensures bytes { IfOk result (λ p. p.bytes ≤ 4096 * p.steps) }
+    ensures faults { K.faults out.old ≤ K.faults out.new }
+    ensures played { IfOk result (λ p. Played plain.old (replicate count thread ++ replicate event thread) plain.new (K.held out.old) (K.held out.new) progress.steps p.steps progress.bytes p.bytes) }
+    ensures halts { IfErr result (Halts plain.old (replicate count thread ++ replicate event thread) (K.held out.old) (K.held out.new) progress.steps (K.faults out.old) (K.faults out.new)) }
+{
+    let now = play(plain, thread, u64::from(count), progress, out)?;
+    play(plain, thread, event, now, out)
+}
+
+/// Takes the steps of all entries.
+pub(crate) fn play_all<K: Sink>(
+    plain: &mut Plain,
+    journal: &[Entry],
+    out: &mut K,
+) -> Result<Progress, PlanErr>
+    requires { length (plan_of journal.now) ≤ 1000000000 }
+    ensures faults { K.faults out.old ≤ K.faults out.new }
+    ensures played { IfOk result (λ p. Played plain.old (plan_of journal.now) plain.new (K.held out.old) (K.held out.new) 0 p.steps 0 p.bytes) }
+    ensures halts { IfErr result (Halts plain.old (plan_of journal.now) (K.held out.old) (K.held out.new) 0 (K.faults out.old) (K.faults out.new)) }
+{
+    let mut now = Progress { steps: 0, bytes: 0 };
+    for entry in journal {
+        now = play_entry(plain, entry, now, out)?;
+    }
+    Ok(now)
+}

@@ -1,0 +1,61 @@
+//! Running the plan of a journal.
+ghost use Rattle.std.specs.Prelude.{ℕ, List, ◌≤◌, IfOk, IfErr, length};
+ghost use Rattle.ro_journal.specs.Plan.{plan_of};
+ghost use Rattle.ro_machine.specs.Seen.{machine_of};
+ghost use Rattle.ro_machine.specs.Plans.{RunsPlan, Fails, EndsAs};
+
+use crate::errors::{PlainEnd, PlanErr, StepErr};
+use crate::plain::Plain;
+use crate::playing::play_all;
+use ro_image::Executable;
+use ro_io::Sink;
+use ro_journal::{Entry, How};
+use std::alloc::{AllocError, Global};
+
+/// Runs the plan of a journal on the unreplicated machine of a program and an input. What a step writes goes to the sink
+/// before the next step is taken. The plan is never spelled out: it takes no memory.
+///
+/// # Errors
+/// `NoStep` at the plan's first step that does not exist, `SinkFailed` where the sink failed, and `NoMemory`. The steps
+/// before it were taken, and the sink has what they wrote.
+pub fn run_plan<K: Sink>(
+    alloc: Global,
+    image: Executable,
+    input: &[u8],
+    journal: &[Entry],
+    out: &mut K,
+) -> Result<PlainEnd, PlanErr>
+    requires { length (plan_of journal.now) ≤ 1000000000 }
+    ensures runs { IfOk result (λ end. RunsPlan (record { image = image; input = input.now }) (plan_of journal.now) (K.held out.old) (K.held out.new) end.how end.bytes) }
+    ensures fails { IfErr result (Fails (record { image = image; input = input.now }) (plan_of journal.now) (K.held out.old) (K.held out.new) (K.faults out.old) (K.faults out.new)) }
+    ensures faults { K.faults out.old ≤ K.faults out.new }
+{
+    let Ok(mut plain) = Plain::begin(alloc, image, input) else {
+        return Err(PlanErr::NoMemory);
+    };
+    let progress = play_all(&mut plain, journal, out)?;
+    match end_of(plain) {
+        Ok(how) => Ok(PlainEnd {
+            how,
+            bytes: progress.bytes,
+        }),
+        Err(AllocError) => Err(PlanErr::NoMemory),
+    }
+}
+
+/// How a machine has ended, or how it is left: by a deadlock where no thread has a step.
+fn end_of(mut plain: Plain) -> Result<Option<How>, AllocError>
+    ensures { IfOk result (λ how. (output : List ℕ) → EndsAs plain.program (machine_of plain output) plain.ended how) }
+{
+    if let Some(how) = plain.ended() {
+        return Ok(Some(how));
+    }
+    for thread in 0..plain.made() {
+        match plain.step(thread) {
+            Ok(()) => return Ok(None),
+            Err(StepErr::NoStep) => {}
+            Err(StepErr::NoMemory) => return Err(AllocError),
+        }
+    }
+    Ok(Some(How::Deadlock))
+}

@@ -123,7 +123,7 @@ static void load_symbols(Machine *machine, Bytes file) {
 
 static Machine *open_machine(Bytes file, Bytes input) {
     Machine *machine = calloc(1, sizeof *machine);
-    machine->memory.table = calloc(PAGES, sizeof(uint8_t *));
+    machine->memory = new_memory();
     machine->input = input;
     load_segments(machine, file);
     load_symbols(machine, file);
@@ -136,8 +136,10 @@ static void close_machine(Machine *machine) {
     for (uint32_t page = 0; page < PAGES; page++)
         free(machine->memory.table[page]);
     free(machine->memory.table);
-    for (int kind = 0; kind < KINDS; kind++)
+    for (int kind = 0; kind < KINDS; kind++) {
+        free(machine->memory.places[kind]);
         free(machine->regions.windows[kind]);
+    }
     free(machine);
 }
 

@@ -15,7 +15,7 @@ int main(int argc, char **argv) {
         return 2;
     const uint32_t *words = !strcmp(argv[1], "mix") ? MIX : !strcmp(argv[1], "stack") ? STACK : BYTES;
     size_t size = words == MIX ? sizeof MIX : words == STACK ? sizeof STACK : sizeof BYTES;
-    Memory memory = {calloc(PAGES, sizeof(uint8_t *))};
+    Memory memory = new_memory();
     memory.table[0x10] = calloc(1, PAGE);
     memory.table[0x11] = calloc(1, PAGE);
     memory.table[0x7000F] = calloc(1, PAGE);

@@ -1,6 +1,6 @@
-// A machine of RV32IM in plain C, in the design of Romain's: each step looks the pc up among nine calls behind a filter,
-// checks the permission of each access by a window for the page with the exact test of each byte behind it, finds pages
-// in a table, and decodes the word anew. A page is kept as bytes.
+// A machine of RV32IM in plain C, as quick as a plain interpreter is: it decodes each word anew, keeps a stretch of code
+// that may be executed and has no call in it while the pc stays there, and checks the permission of each access by the
+// window of its page, with the exact test of each byte behind it. A page is kept as bytes.
 #ifndef STEP_H
 #define STEP_H
 
@@ -20,7 +20,9 @@ typedef struct { uint32_t start, length; bool allows[KINDS]; } Range;
 typedef struct { uint16_t from, to; } Window;
 typedef struct { Range ranges[RANGES]; Window *windows[KINDS]; } Regions;
 typedef struct { uint32_t addresses[NAMES]; uint64_t filter; } Calls;
-typedef struct { uint8_t **table; } Memory;
+// What is known of a page for accesses of one kind: its bytes, and the window of those that are permitted; at first none.
+typedef struct { uint8_t *bytes; Window window; } Place;
+typedef struct { uint8_t **table; Place *places[KINDS]; } Memory;
 
 static bool permits_byte(const Regions *regions, uint64_t address, enum Kind kind) {
     for (int i = 0; i < RANGES; i++) {
@@ -44,7 +46,7 @@ static inline bool permits(const Regions *regions, uint32_t address, uint32_t le
     return (window.from <= offset && offset + length <= window.to) || permits_each(regions, address, length, kind);
 }
 
-static inline bool is_call(const Calls *calls, uint32_t pc) {
+static bool is_call(const Calls *calls, uint32_t pc) {
     if (!(calls->filter >> (pc / 4 % 64) & 1))
         return false;
     for (int i = 0; i < NAMES; i++)
@@ -59,172 +61,189 @@ static inline uint32_t load(const uint8_t *at, uint32_t size) {
     return value;
 }
 
-static inline enum Did find(const Memory *memory, const Regions *regions, uint32_t address, uint32_t size, enum Kind kind, uint8_t **at) {
+// The bytes of an access that its page's place doesn't show: tests each of them, and shows the page from then on.
+static __attribute__((noinline, cold)) enum Did look(Memory *memory, const Regions *regions, uint32_t address, uint32_t size, enum Kind kind, uint8_t **at) {
     if (address % size || !permits(regions, address, size, kind))
         return TRAP;
-    uint8_t *page = memory->table[address / PAGE];
+    uint32_t number = address / PAGE;
+    uint8_t *page = memory->table[number];
     if (!page)
         return PAGE_FAULT;
+    memory->places[kind][number] = (Place){page, regions->windows[kind][number]};
     *at = page + address % PAGE;
     return DID;
 }
 
-static inline enum Did step(Cpu *cpu, Memory *memory, const Regions *regions, const Calls *calls) {
-    uint32_t pc = cpu->pc, *x = cpu->x;
+static inline enum Did find(Memory *memory, const Regions *regions, uint32_t address, uint32_t size, enum Kind kind, uint8_t **at) {
+    const Place *place = &memory->places[kind][address / PAGE];
+    uint32_t offset = address % PAGE;
+    if (address % size || offset < place->window.from || offset + size > place->window.to)
+        return look(memory, regions, address, size, kind, at);
+    *at = place->bytes + offset;
+    return DID;
+}
+
+// Words of one page of code in a row that may be executed and are no call's, round a place; none where that isn't so.
+typedef struct { const uint8_t *bytes; uint32_t from, size; } Stretch;
+
+static __attribute__((noinline, cold)) enum Did code_at(Memory *memory, const Regions *regions, const Calls *calls, uint32_t pc, Stretch *stretch) {
     if (pc % 4)
         return TRAP;
     if (pc == RETURNS_TO || is_call(calls, pc))
         return CALL;
     uint8_t *at;
-    enum Did did = find(memory, regions, pc, 4, EXECUTE, &at);
+    enum Did did = look(memory, regions, pc, 4, EXECUTE, &at);
     if (did)
         return did;
-    uint32_t word = load(at, 4);
-    uint32_t rd = word >> 7 & 31, funct3 = word >> 12 & 7, rs1 = word >> 15 & 31, rs2 = word >> 20 & 31, funct7 = word >> 25;
-    uint32_t imm = (int32_t)word >> 20, a = x[rs1], b = x[rs2], next = pc + 4, value;
-    switch (word & 0x7F) {
-    case 0x37: value = word & 0xFFFFF000; break;
-    case 0x17: value = pc + (word & 0xFFFFF000); break;
-    case 0x6F: {
-        uint32_t target = pc + (((uint32_t)((int32_t)word >> 31) << 20) | (word & 0xFF000) | (word >> 20 & 1) << 11 | (word >> 21 & 0x3FF) << 1);
-        if (target % 4)
-            return TRAP;
-        value = next, next = target;
-        break;
-    }
-    case 0x67: {
-        uint32_t target = (a + imm) & ~1u;
-        if (funct3 || target % 4)
-            return TRAP;
-        value = next, next = target;
-        break;
-    }
-    case 0x63: {
-        bool taken;
-        switch (funct3) {
-        case 0: taken = a == b; break;
-        case 1: taken = a != b; break;
-        case 4: taken = (int32_t)a < (int32_t)b; break;
-        case 5: taken = (int32_t)a >= (int32_t)b; break;
-        case 6: taken = a < b; break;
-        case 7: taken = a >= b; break;
-        default: return TRAP;
-        }
-        if (taken) {
-            next = pc + (((uint32_t)((int32_t)word >> 31) << 12) | (word >> 7 & 1) << 11 | (word >> 25 & 63) << 5 | (word >> 8 & 15) << 1);
-            if (next % 4)
-                return TRAP;
-        }
-        cpu->pc = next;
-        return DID;
-    }
-    case 0x03: {
-        uint32_t size;
-        switch (funct3) {
-        case 0: case 4: size = 1; break;
-        case 1: case 5: size = 2; break;
-        case 2: size = 4; break;
-        default: return TRAP;
-        }
-        if ((did = find(memory, regions, a + imm, size, READ, &at)))
-            return did;
-        switch (funct3) {
-        case 0: value = (int8_t)load(at, 1); break;
-        case 1: value = (int16_t)load(at, 2); break;
-        case 2: value = load(at, 4); break;
-        case 4: value = load(at, 1); break;
-        default: value = load(at, 2);
-        }
-        break;
-    }
-    case 0x23: {
-        uint32_t address = a + (((uint32_t)((int32_t)word >> 25) << 5) | rd), size;
-        switch (funct3) {
-        case 0: size = 1; break;
-        case 1: size = 2; break;
-        case 2: size = 4; break;
-        default: return TRAP;
-        }
-        if ((did = find(memory, regions, address, size, WRITE, &at)))
-            return did;
-        switch (funct3) {
-        case 0: memcpy(at, &b, 1); break;
-        case 1: memcpy(at, &b, 2); break;
-        default: memcpy(at, &b, 4);
-        }
-        cpu->pc = next;
-        return DID;
-    }
-    case 0x13:
-        switch (funct3) {
-        case 0: value = a + imm; break;
-        case 1: if (funct7) return TRAP; value = a << rs2; break;
-        case 2: value = (int32_t)a < (int32_t)imm; break;
-        case 3: value = a < imm; break;
-        case 4: value = a ^ imm; break;
-        case 5:
-            if (funct7 == 0) value = a >> rs2;
-            else if (funct7 == 0x20) value = (int32_t)a >> rs2;
-            else return TRAP;
-            break;
-        case 6: value = a | imm; break;
-        default: value = a & imm;
-        }
-        break;
-    case 0x33:
-        if (funct7 == 0) {
-            switch (funct3) {
-            case 0: value = a + b; break;
-            case 1: value = a << (b & 31); break;
-            case 2: value = (int32_t)a < (int32_t)b; break;
-            case 3: value = a < b; break;
-            case 4: value = a ^ b; break;
-            case 5: value = a >> (b & 31); break;
-            case 6: value = a | b; break;
-            default: value = a & b;
-            }
-        } else if (funct7 == 1) {
-            switch (funct3) {
-            case 0: value = a * b; break;
-            case 1: value = (int64_t)(int32_t)a * (int32_t)b >> 32; break;
-            case 2: value = (int64_t)(int32_t)a * (int64_t)b >> 32; break;
-            case 3: value = (uint64_t)a * b >> 32; break;
-            case 4: value = !b ? ~0u : a == 0x80000000 && b == ~0u ? a : (uint32_t)((int32_t)a / (int32_t)b); break;
-            case 5: value = !b ? ~0u : a / b; break;
-            case 6: value = !b ? a : a == 0x80000000 && b == ~0u ? 0 : (uint32_t)((int32_t)a % (int32_t)b); break;
-            default: value = !b ? a : a % b;
-            }
-        } else if (funct7 == 0x20) {
-            if (funct3 == 0) value = a - b;
-            else if (funct3 == 5) value = (int32_t)a >> (b & 31);
-            else return TRAP;
-        } else {
-            return TRAP;
-        }
-        break;
-    case 0x0F:
-        if (funct3)
-            return TRAP;
-        cpu->pc = next;
-        return DID;
-    default:
-        return word == 0x73 ? CALL : TRAP;
-    }
-    x[rd] = value;
-    x[0] = 0;
-    cpu->pc = next;
+    uint32_t first = pc & -(uint32_t)PAGE;
+    Window window = regions->windows[EXECUTE][pc / PAGE];
+    *stretch = (Stretch){at, pc, 4};
+    while (stretch->from - 4 >= first + window.from && stretch->from > first && !is_call(calls, stretch->from - 4))
+        stretch->from -= 4, stretch->bytes -= 4, stretch->size += 4;
+    while (stretch->from - first + stretch->size + 4 <= window.to && !is_call(calls, stretch->from + stretch->size))
+        stretch->size += 4;
     return DID;
 }
 
-// Steps until one stops, adds to the count how many came before, and answers what it was that stopped.
+#define RD (word >> 7 & 31)
+#define FUNCT3 (word >> 12 & 7)
+#define FUNCT7 (word >> 25)
+#define A x[word >> 15 & 31]
+#define B x[word >> 20 & 31]
+#define SHAMT (word >> 20 & 31)
+#define I_FORM ((uint32_t)((int32_t)word >> 20))
+#define S_FORM (((uint32_t)((int32_t)word >> 20) & ~31u) | RD)
+#define B_FORM (((uint32_t)((int32_t)word >> 19) & 0xFFFFF000) | (word << 4 & 0x800) | (word >> 20 & 0x7E0) | (word >> 7 & 0x1E))
+#define J_FORM (((uint32_t)((int32_t)word >> 11) & 0xFFF00000) | (word & 0xFF000) | (word >> 9 & 0x800) | (word >> 20 & 0x7FE))
+#define FIND(size, kind, address) do { if ((did = find(memory, regions, address, size, kind, &at))) goto stop; } while (0)
+#define STOP(why) do { did = (why); goto stop; } while (0)
+
+// Steps until one stops, adds to the count how many came before, and answers what it was that stopped. Each word is
+// decoded anew, by one jump on its opcode and one on what tells its instruction.
 static __attribute__((noinline)) enum Did run(Cpu *cpu, Memory *memory, const Regions *regions, const Calls *calls, uint64_t *count) {
-    for (uint64_t more = 0;; more++) {
-        enum Did did = step(cpu, memory, regions, calls);
-        if (did) {
-            *count += more;
-            return did;
+    uint32_t *x = cpu->x, pc = cpu->pc;
+    Stretch code = {0};
+    uint64_t more = 0;
+    uint8_t *at;
+    enum Did did;
+    for (;; more++) {
+        if (pc - code.from >= code.size && (did = code_at(memory, regions, calls, pc, &code)))
+            goto stop;
+        uint32_t word = load(code.bytes + (pc - code.from), 4), next = pc + 4, target;
+        if ((word & 3) != 3)
+            STOP(TRAP);
+        switch (word >> 2 & 31) {
+        case 0x37 >> 2: x[RD] = word & 0xFFFFF000; break;
+        case 0x17 >> 2: x[RD] = pc + (word & 0xFFFFF000); break;
+        case 0x6F >> 2:
+            target = pc + J_FORM;
+            if (target % 4)
+                STOP(TRAP);
+            x[RD] = next, next = target;
+            break;
+        case 0x67 >> 2:
+            target = (A + I_FORM) & ~1u;
+            if (FUNCT3 || target % 4)
+                STOP(TRAP);
+            x[RD] = next, next = target;
+            break;
+        case 0x63 >> 2: {
+            bool taken;
+            switch (FUNCT3) {
+            case 0: taken = A == B; break;
+            case 1: taken = A != B; break;
+            case 4: taken = (int32_t)A < (int32_t)B; break;
+            case 5: taken = (int32_t)A >= (int32_t)B; break;
+            case 6: taken = A < B; break;
+            case 7: taken = A >= B; break;
+            default: STOP(TRAP);
+            }
+            if (taken) {
+                next = pc + B_FORM;
+                if (next % 4)
+                    STOP(TRAP);
+            }
+            break;
         }
+        case 0x03 >> 2:
+            switch (FUNCT3) {
+            case 0: FIND(1, READ, A + I_FORM); x[RD] = (int8_t)load(at, 1); break;
+            case 1: FIND(2, READ, A + I_FORM); x[RD] = (int16_t)load(at, 2); break;
+            case 2: FIND(4, READ, A + I_FORM); x[RD] = load(at, 4); break;
+            case 4: FIND(1, READ, A + I_FORM); x[RD] = load(at, 1); break;
+            case 5: FIND(2, READ, A + I_FORM); x[RD] = load(at, 2); break;
+            default: STOP(TRAP);
+            }
+            break;
+        case 0x23 >> 2:
+            switch (FUNCT3) {
+            case 0: FIND(1, WRITE, A + S_FORM); memcpy(at, &B, 1); break;
+            case 1: FIND(2, WRITE, A + S_FORM); memcpy(at, &B, 2); break;
+            case 2: FIND(4, WRITE, A + S_FORM); memcpy(at, &B, 4); break;
+            default: STOP(TRAP);
+            }
+            break;
+        case 0x13 >> 2:
+            switch (FUNCT3) {
+            case 0: x[RD] = A + I_FORM; break;
+            case 1: if (FUNCT7) STOP(TRAP); x[RD] = A << SHAMT; break;
+            case 2: x[RD] = (int32_t)A < (int32_t)I_FORM; break;
+            case 3: x[RD] = A < I_FORM; break;
+            case 4: x[RD] = A ^ I_FORM; break;
+            case 5:
+                if (FUNCT7 == 0) x[RD] = A >> SHAMT;
+                else if (FUNCT7 == 0x20) x[RD] = (int32_t)A >> SHAMT;
+                else STOP(TRAP);
+                break;
+            case 6: x[RD] = A | I_FORM; break;
+            default: x[RD] = A & I_FORM;
+            }
+            break;
+        case 0x33 >> 2:
+            switch (FUNCT7 << 3 | FUNCT3) {
+            case 0: x[RD] = A + B; break;
+            case 1: x[RD] = A << (B & 31); break;
+            case 2: x[RD] = (int32_t)A < (int32_t)B; break;
+            case 3: x[RD] = A < B; break;
+            case 4: x[RD] = A ^ B; break;
+            case 5: x[RD] = A >> (B & 31); break;
+            case 6: x[RD] = A | B; break;
+            case 7: x[RD] = A & B; break;
+            case 8: x[RD] = A * B; break;
+            case 9: x[RD] = (int64_t)(int32_t)A * (int32_t)B >> 32; break;
+            case 10: x[RD] = (int64_t)(int32_t)A * (int64_t)B >> 32; break;
+            case 11: x[RD] = (uint64_t)A * B >> 32; break;
+            case 12: x[RD] = !B ? ~0u : A == 0x80000000 && B == ~0u ? A : (uint32_t)((int32_t)A / (int32_t)B); break;
+            case 13: x[RD] = !B ? ~0u : A / B; break;
+            case 14: x[RD] = !B ? A : A == 0x80000000 && B == ~0u ? 0 : (uint32_t)((int32_t)A % (int32_t)B); break;
+            case 15: x[RD] = !B ? A : A % B; break;
+            case 0x20 << 3: x[RD] = A - B; break;
+            case 0x20 << 3 | 5: x[RD] = (int32_t)A >> (B & 31); break;
+            default: STOP(TRAP);
+            }
+            break;
+        case 0x0F >> 2:
+            if (FUNCT3)
+                STOP(TRAP);
+            break;
+        default:
+            STOP(word == 0x73 ? CALL : TRAP);
+        }
+        x[0] = 0;
+        pc = next;
     }
+stop:
+    cpu->pc = pc;
+    *count += more;
+    return did;
+}
+
+// A memory with no page.
+static Memory new_memory(void) {
+    Memory memory = {calloc(PAGES, sizeof(uint8_t *)), {0}};
+    for (int kind = 0; kind < KINDS; kind++)
+        memory.places[kind] = calloc(PAGES, sizeof(Place));
+    return memory;
 }
 
 static inline uint32_t smaller(uint32_t a, uint32_t b) { return a < b ? a : b; }

@@ -1,43 +1,16 @@
-// What a guest of Romain may ask of its kernel: four system calls here, and nine functions of POSIX threads, whose stubs
-// stand in stubs.S. There is no C library. docs/GUESTS.md says what each call answers.
+// All that a guest of Romain may ask of its kernel: four system calls, and nine functions of POSIX threads. The names of
+// the standard are in the headers of the standard's names, which this one stands above. docs/GUESTS.md says what each call
+// answers; there is no C library.
 #ifndef ROMAIN_H
 #define ROMAIN_H
 
-typedef __SIZE_TYPE__ size_t;
-typedef __UINT8_TYPE__ uint8_t;
-typedef __UINT32_TYPE__ uint32_t;
-typedef __INT32_TYPE__ int32_t;
-typedef __UINTPTR_TYPE__ uintptr_t;
+#include <pthread.h>
+#include <stddef.h>
+#include <stdint.h>
+#include <string.h>
+#include <unistd.h>
 
-#define NULL ((void *)0)
-
-// What one read or write moves at most.
-enum { ROMAIN_PIECE = 4096 };
-
-// A call of the kernel by its number: up to three words in, one word out. A negative answer is an error.
-static inline int32_t romain_call(int32_t number, uint32_t first, uint32_t second, uint32_t third)
-{
-    register uint32_t a0 __asm__("a0") = first;
-    register uint32_t a1 __asm__("a1") = second;
-    register uint32_t a2 __asm__("a2") = third;
-    register int32_t a7 __asm__("a7") = number;
-    __asm__ volatile("ecall" : "+r"(a0) : "r"(a1), "r"(a2), "r"(a7) : "memory");
-    return (int32_t)a0;
-}
-
-// At most 4,096 of the input's next bytes, from descriptor 0: how many came, 0 at the input's end.
-static inline int32_t read(int descriptor, void *place, size_t length)
-{
-    return romain_call(63, (uint32_t)descriptor, (uint32_t)(uintptr_t)place, length);
-}
-
-// At most 4,096 bytes to the output, by descriptor 1 or 2: how many went.
-static inline int32_t write(int descriptor, const void *place, size_t length)
-{
-    return romain_call(64, (uint32_t)descriptor, (uint32_t)(uintptr_t)place, length);
-}
-
-// The end of the whole program, all threads included, with the low eight bits of a status.
+// The end of the whole program, as _exit: there is nothing to be run behind main.
 __attribute__((noreturn)) static inline void exit(int status)
 {
     romain_call(93, (uint32_t)status, 0, 0);
@@ -78,29 +51,11 @@ static inline int32_t write_all(const void *place, size_t length)
     return 0;
 }
 
-typedef uint32_t pthread_t;
-typedef struct { uint32_t word; } pthread_mutex_t; // the kernel goes by its address and never looks into it
-typedef struct pthread_attr pthread_attr_t; // there are no attributes: always NULL
-typedef struct pthread_mutexattr pthread_mutexattr_t;
+// What the linker script names: data that begins as 0, the end of all data, and the heap, whose first byte is brk(NULL)'s.
+extern uint8_t __bss_start[], _end[], __heap_start[], __heap_end[];
 
-#define PTHREAD_MUTEX_INITIALIZER { 0 }
-
-int pthread_create(pthread_t *number, const pthread_attr_t *attributes, void *(*start)(void *), void *argument);
-int pthread_join(pthread_t thread, void **value);
-__attribute__((noreturn)) void pthread_exit(void *value);
-pthread_t pthread_self(void);
-int pthread_mutex_init(pthread_mutex_t *mutex, const pthread_mutexattr_t *attributes);
-int pthread_mutex_destroy(pthread_mutex_t *mutex);
-int pthread_mutex_lock(pthread_mutex_t *mutex);
-int pthread_mutex_trylock(pthread_mutex_t *mutex);
-int pthread_mutex_unlock(pthread_mutex_t *mutex);
-
-// memory.c: a compiler may call these four by itself.
-void *memcpy(void *to, const void *from, size_t length);
-void *memmove(void *to, const void *from, size_t length);
-void *memset(void *to, int value, size_t length);
-int memcmp(const void *left, const void *right, size_t length);
-
+#ifndef __cplusplus
 int main(void);
+#endif
 
 #endif

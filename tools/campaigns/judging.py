@@ -1,0 +1,115 @@
+"""What becomes of a struck run, by its report.
+
+Comparison with the one run without faults is sound for programs whose output and status don't depend on the order of their
+threads; a campaign looks whether another order shows, and takes no program where it does. For others a run would have to be
+replayed: the votes and frees of its journal name one execution without faults, and what that writes is what is wanted.
+`wanted` is the place for it.
+"""
+from journals import Put, Vote, read_report
+
+# What may become of a run that is replicated, and of one that is not. `differs` may not be.
+FATES = ["vanished", "overwritten", "stopped", "no majority", "outvoted", "not reached", "differs"]
+FATES_ALONE = ["vanished", "silent corruption", "crash", "hang", "not reached"]
+
+
+def wanted(job, report):
+    """The status and output that the run should have had. `report` is for a replay."""
+    return job["status"], job["output"]
+
+
+def strikes(report):
+    """The turns in which faults were struck, each with its place in the journal."""
+    return [(place, entry) for place, entry in enumerate(report.entries) if isinstance(entry, Put) and entry.struck]
+
+
+def stay_apart(report):
+    """Whether the journal shows that the faults stayed apart: where two turns struck two replicas, the first became a copy
+    before the second began. It may be so without showing: a struck bit may have been written over."""
+    struck = strikes(report)
+    for place, first in struck:
+        for at, second in struck:
+            if at > place and second.replica != first.replica and not any(
+                    isinstance(entry, Vote) and entry.loser == first.replica
+                    for entry in report.entries[place:second.taken]):
+                return False
+    return True
+
+
+def latency(report, replica, strike, until):
+    """Instructions that a replica which wasn't struck retired, of all its threads, from the strike's moment to the entry at
+    `until`. The struck one may have stopped at once, and waited."""
+    _, thread, moment = strike
+    total, own, begun = 0, 0, False
+    for entry in report.entries[:until]:
+        if not isinstance(entry, Put) or entry.replica != replica:
+            continue
+        if begun:
+            total += entry.retired
+        elif entry.thread == thread:
+            own += entry.retired
+            if own >= moment:
+                begun, total = True, own - moment
+    return total if begun else None
+
+
+def judge(job, done):
+    """The row of a run: its fate, the vote that found it, the latency, and what is wrong, if anything."""
+    if done is None:
+        alone = job["machine"] == "unreplicated"
+        return {"fate": "hang" if alone else "differs", "trouble": "" if alone else "it doesn't come to its end"}
+    status, output, text = done
+    report = read_report(text)
+    row = {"status": status, "answer": report.answer, "struck": report.summary.get("struck", 0)}
+    judged = judge_alone if job["machine"] == "unreplicated" else judge_replicas
+    return row | judged(job, status, output, report)
+
+
+def judge_alone(job, status, output, report):
+    """Two replicas that are struck alike: what one machine does that nobody compares."""
+    if report.summary.get("struck", 0) == 0:
+        return {"fate": "not reached"}
+    if report.answer.startswith(("limit", "deadlock")):
+        return {"fate": "hang"}
+    if report.answer.startswith("exit"):
+        return {"fate": "vanished" if (status, output) == wanted(job, report) else "silent corruption"}
+    if report.answer.startswith("trap"):
+        return {"fate": "crash"}
+    return {"fate": "crash", "trouble": f"two replicas struck alike end with {report.answer}"}
+
+
+def judge_replicas(job, status, output, report):
+    """Replicas that are compared."""
+    losses = report.losses()
+    trouble = trouble_of(job, status, output, report, losses)
+    apart = len(job["replicas_struck"]) == 1 or stay_apart(report)
+    if trouble and apart:
+        return {"fate": "differs", "trouble": trouble}
+    strike = job["strike"]
+    if report.answer == "differ":
+        return {"fate": "stopped", "vote": "differ", "latency": latency(report, 1 - strike[0], strike, len(report.entries))}
+    if report.answer == "no-majority":
+        return {"fate": "no majority"}
+    if trouble:
+        return {"fate": "outvoted"}
+    if losses:
+        place, vote = next(((at, vote) for at, vote in losses if vote.loser == strike[0]), losses[0])
+        return {"fate": "overwritten", "vote": vote.did, "latency": latency(report, vote.winner, strike, place)}
+    return {"fate": "not reached" if report.summary.get("struck", 0) == 0 else "vanished"}
+
+
+def trouble_of(job, status, output, report, losses):
+    """What is not as without faults, or nothing."""
+    want_status, want_output = wanted(job, report)
+    struck = report.summary.get("struck", 0)
+    if report.answer == "differ" and job["replicas"] == 2 and struck:
+        return "" if want_output.startswith(output) else "what was written is no front of the output"
+    if status != want_status:
+        return f"status {status}, not {want_status}; answer {report.answer}"
+    if output != want_output:
+        return "another output"
+    others = [vote.loser for _, vote in losses if vote.loser not in job["replicas_struck"]]
+    if others:
+        return f"replica {others[0]} lost, which wasn't struck"
+    if losses and not struck:
+        return "a vote has a loser, and nothing was struck"
+    return ""

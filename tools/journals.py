@@ -1,0 +1,80 @@
+"""Reports of Romain and their journals, as docs/USING.md gives them."""
+import dataclasses
+
+
+@dataclasses.dataclass
+class Put:
+    """A driver brought thread `thread` of replica `replica` back, `retired` instructions later, `struck` faults in it."""
+    driver: int
+    replica: int
+    thread: int
+    retired: int
+    struck: int
+    taken: int = 0  # the place in the journal of its `take`
+
+
+@dataclasses.dataclass
+class Vote:
+    """Thread `thread` was compared, `steps` instructions behind its event before; `loser` is None where all agreed."""
+    thread: int
+    steps: int
+    winner: int
+    loser: int | None
+    did: str
+
+
+@dataclasses.dataclass
+class Free:
+    """A call that waited was served."""
+    thread: int
+
+
+@dataclasses.dataclass
+class End:
+    """How the run ended, in the answer's words."""
+    how: str
+
+
+@dataclasses.dataclass
+class Report:
+    entries: list  # Put, Vote, Free, End in their order; without --journal none
+    summary: dict  # votes, copies, struck, steps, bytes; empty where nothing ran
+    answer: str
+
+    def retired(self):
+        """By thread, how many instructions replica 0 retired."""
+        counts = {}
+        for entry in self.entries:
+            if isinstance(entry, Put) and entry.replica == 0:
+                counts[entry.thread] = counts.get(entry.thread, 0) + entry.retired
+        return counts
+
+    def losses(self):
+        """The votes that had a loser, each with its place in the journal."""
+        return [(place, entry) for place, entry in enumerate(self.entries)
+                if isinstance(entry, Vote) and entry.loser is not None]
+
+
+def read_report(text):
+    """What a report says; the journal's `take` lines are kept as the place where a put's turn began."""
+    entries, summary, answer, takes = [], {}, "none", {}
+    for line in text.splitlines():
+        kind, *words = line.split(" ")
+        if kind == "take":
+            takes[tuple(words)] = len(entries)
+        elif kind == "put":
+            driver, replica, thread, retired, struck = map(int, words)
+            entries.append(Put(driver, replica, thread, retired, struck, takes.get(tuple(words[:3]), len(entries))))
+        elif kind == "vote":
+            loser = None if words[3] == "-" else int(words[3])
+            entries.append(Vote(int(words[0]), int(words[1]), int(words[2]), loser, words[4]))
+        elif kind == "free":
+            entries.append(Free(int(words[0])))
+        elif kind == "end":
+            entries.append(End(" ".join(words)))
+        elif kind == "votes":
+            pairs = line.split(" ")
+            summary = dict(zip(pairs[::2], map(int, pairs[1::2])))
+        elif kind == "answer":
+            answer = " ".join(words)
+    return Report(entries, summary, answer)

@@ -1,0 +1,377 @@
+#!/usr/bin/env python3
+"""Draws the journal of a run as a picture in SVG, or as a page in HTML where the file's name ends so.
+
+    ./romain run guests/built/hello --faults one --drivers 1 --journal 2>journal
+    tools/timeline.py journal --faults one -o run.svg
+
+There is a lane for each thread of each replica. A bar is a run of instructions; time goes on by instructions, each replica
+for itself up to the vote that waits for it. A line is a vote, an arrow a copy, a flash a strike; long runs that would take
+too much room are cut, and short ones get a least width, so a line of a long journal holds some dozens of votes. With the
+fault list, strikes stand where they struck; without, at the end of their turn. `-` is standard input, and standard output
+where no -o is given.
+"""
+import argparse
+import bisect
+import dataclasses
+import html
+import pathlib
+import statistics
+import sys
+
+from journals import End, Free, Put, Vote, read_report
+
+LEFT, RIGHT, WIDTH = 96, 24, 1100  # margins and the whole width, in pixels
+LANE, BAR, GAP, HEAD, FOOT = 18, 10, 10, 22, 26  # a lane's height, a bar's, between threads, above and below a line's lanes
+LEAST, MOST, MIDDLE = 10, 180, 48  # widths of what lies between two marks: the least, the most, that of the median
+STRETCH, END = 8, 80  # how much wider a run of few marks is drawn, and the room for its end's words
+COLOURS = {"served": "#2171b5", "blocked": "#e6890a", "mapped": "#6a51a3", "watch": "#8c8c8c", "trapped": "#a50f15",
+           "free": "#238b45"}
+MEANS = {"served": "call served", "blocked": "call waits", "mapped": "page needed", "watch": "watchdog", "trapped": "trap",
+         "free": "a waiting call served"}
+RED, GREY, RUNS, LOST = "#d62728", "#666666", "#9ecae1", "#f4a6a6"
+OVERVIEW = 34  # the height of the overview
+
+
+@dataclasses.dataclass
+class Bar:
+    lane: tuple  # replica, thread
+    start: int
+    end: int
+    lost: bool = False  # behind a strike, before a copy
+
+
+@dataclasses.dataclass
+class Mark:
+    what: str  # a vote's result, or free
+    at: int
+    thread: int
+    title: str
+    copy: tuple = None  # winner and loser
+
+
+@dataclasses.dataclass
+class Strike:
+    lane: tuple
+    at: int
+    title: str
+
+
+@dataclasses.dataclass
+class Drawing:
+    bars: list
+    marks: list
+    strikes: list
+    lanes: list
+    end: str
+    length: int
+
+
+def read_faults(path):
+    """Moments of the fault list's lines by replica and thread, and the lines."""
+    faults = {}
+    for line in path.read_text().splitlines() if path else []:
+        replica, thread, moment, *_ = line.split(" ")
+        faults.setdefault((int(replica), int(thread)), []).append((int(moment), line))
+    return {lane: sorted(some, key=lambda fault: fault[0]) for lane, some in faults.items()}
+
+
+class Clock:
+    """Where each lane is, in instructions. A replica's threads run beside each other, and replicas too; a vote of a thread
+    comes when its last replica stands there, and no vote comes before the one before it."""
+
+    def __init__(self, faults):
+        self.faults = faults
+        self.at, self.retired, self.struck = {}, {}, set()
+        self.now = 0
+        self.bars, self.marks, self.strikes = [], [], []
+
+    def put(self, entry):
+        lane = entry.replica, entry.thread
+        start = self.at.setdefault(lane, self.now)
+        before = self.retired.get(lane, 0)
+        self.at[lane] = start + entry.retired
+        self.retired[lane] = before + entry.retired
+        for at, title in self.strikes_of(lane, entry, start, before):
+            self.strikes.append(Strike(lane, at, title))
+            self.bars.append(Bar(lane, start, at, entry.replica in self.struck))
+            self.struck.add(entry.replica)
+            start = at
+        self.bars.append(Bar(lane, start, self.at[lane], entry.replica in self.struck))
+
+    def strikes_of(self, lane, entry, start, before):
+        """Of a turn in which faults were struck: where, and what they are."""
+        known = [fault for fault in self.faults.get(lane, []) if before <= fault[0] <= before + entry.retired]
+        if len(known) < entry.struck:
+            known = [(before + entry.retired, f"{entry.struck} struck in this turn")] if entry.struck else []
+        for moment, line in known[:entry.struck] if entry.struck else []:
+            if self.faults.get(lane) and (moment, line) in self.faults[lane]:
+                self.faults[lane].remove((moment, line))
+            yield start + moment - before, f"fault {line}"
+
+    def vote(self, entry):
+        stand = [at for (_, thread), at in self.at.items() if thread == entry.thread]
+        self.now = max([self.now, *stand])
+        copy = None
+        title = f"vote on thread {entry.thread}: {MEANS.get(entry.did, entry.did)}"
+        if entry.loser is not None:
+            copy = entry.winner, entry.loser
+            title += f"; replica {entry.loser} lost and is a copy of replica {entry.winner}"
+            self.take_over(*copy)
+        self.marks.append(Mark(entry.did, self.now, entry.thread, title, copy))
+        self.wait(entry.thread)
+
+    def take_over(self, winner, loser):
+        """The loser stands where the winner does, with all its threads."""
+        self.struck.discard(loser)
+        for replica, thread in list(self.at):
+            if replica == winner:
+                self.at[loser, thread] = self.at[winner, thread]
+                self.retired[loser, thread] = self.retired.get((winner, thread), 0)
+
+    def wait(self, thread):
+        for lane in self.at:
+            if lane[1] == thread:
+                self.at[lane] = self.now
+
+    def free(self, entry):
+        self.marks.append(Mark("free", self.now, entry.thread, f"thread {entry.thread}: {MEANS['free']}"))
+        self.wait(entry.thread)
+
+
+def layout(report, faults):
+    """The journal as bars and marks over instructions."""
+    clock, end = Clock(faults), ""
+    for entry in report.entries:
+        if isinstance(entry, Put):
+            clock.put(entry)
+        elif isinstance(entry, Vote):
+            clock.vote(entry)
+        elif isinstance(entry, Free):
+            clock.free(entry)
+        elif isinstance(entry, End):
+            end = entry.how
+    lanes = sorted({bar.lane for bar in clock.bars}, key=lambda lane: (lane[1], lane[0]))
+    length = max([clock.now, *clock.at.values()])
+    return Drawing(clock.bars, clock.marks, clock.strikes, lanes, end, length)
+
+
+class Scale:
+    """Instructions to pixels: between two neighbouring marks to scale, but no narrower than LEAST and no wider than MOST;
+    then cut into lines that fit."""
+
+    def __init__(self, drawing):
+        points = sorted({0, drawing.length, *(mark.at for mark in drawing.marks)})
+        gaps = [b - a for a, b in zip(points, points[1:])]
+        self.factor = MIDDLE / max(1, statistics.median(gaps)) if gaps else 1.0
+        self.points, self.places, self.lines, self.cuts = points, {0: (0, 0.0)}, [0], []
+        widths = [min(MOST, max(LEAST, gap * self.factor)) for gap in gaps]
+        # a short run gets more room
+        stretch = max(1.0, min(STRETCH, (WIDTH - LEFT - RIGHT - END) / max(1.0, sum(widths))))
+        line, x = 0, 0.0
+        for a, b, width in zip(points, points[1:], widths):
+            width *= stretch
+            if x + width > WIDTH - LEFT - RIGHT:
+                line, x = line + 1, 0.0
+                self.lines.append(a)
+            if (b - a) * self.factor > MOST:
+                self.cuts.append((line, x + width / 2, b - a))
+            self.places[b] = line, x + width
+            x += width
+
+    def gaps_of(self, start, end):
+        """The parts of a range between marks: line, from, to in pixels."""
+        at = max(0, bisect.bisect_right(self.points, start) - 1)
+        while at + 1 < len(self.points) and (self.points[at] < end or start == end):
+            a, b = self.points[at], self.points[at + 1]
+            line, right = self.places[b]
+            left = self.places[a][1] if self.places[a][0] == line else 0.0
+            part = (right - left) / (b - a)
+            yield line, left + (max(a, start) - a) * part, left + (min(b, end) - a) * part
+            at += 1
+            if start == end:
+                return
+
+    def place(self, at):
+        """Of a mark: line and pixel."""
+        if at in self.places:
+            return self.places[at]
+        return next((line, x) for line, x, _ in self.gaps_of(at, at))
+
+
+def element(name, text=None, **values):
+    words = "".join(f' {key.replace("_", "-")}="{value}"' for key, value in values.items())
+    return f"<{name}{words}/>\n" if text is None else f"<{name}{words}>{text}</{name}>\n"
+
+
+def title(text):
+    return f"<title>{html.escape(text)}</title>"
+
+
+def number(value):
+    return f"{value:.1f}".removesuffix(".0")
+
+
+class Picture:
+    """The picture: a legend, an overview where there are many lines, and the lines, each with the lanes that it needs."""
+
+    def __init__(self, drawing, scale, summary):
+        self.drawing, self.scale, self.summary, self.body = drawing, scale, summary, ""
+        self.parts = [(line, left, right, bar) for bar in drawing.bars if bar.end > bar.start
+                      for line, left, right in scale.gaps_of(bar.start, bar.end)]
+        self.overview = OVERVIEW if len(scale.lines) > 3 else 0
+        self.rows, self.tops, y = [], [], 62 + self.overview
+        for needed in self.lanes_by_line():
+            rows, height = self.rows_of(needed)
+            self.rows.append(rows)
+            self.tops.append(y)
+            y += height
+        self.tops.append(y)
+
+    def lanes_by_line(self):
+        """Of each line the lanes on which something is."""
+        needed = [set() for _ in self.scale.lines]
+        for line, _, _, bar in self.parts:
+            needed[line].add(bar.lane)
+        for strike in self.drawing.strikes:
+            needed[self.scale.place(strike.at)[0]].add(strike.lane)
+        for mark in self.drawing.marks:
+            needed[self.scale.place(mark.at)[0]] |= {lane for lane in self.drawing.lanes if lane[1] == mark.thread}
+        return needed
+
+    def rows_of(self, needed):
+        """Where lanes stand in a line, and the line's height."""
+        rows, y, before = {}, HEAD, None
+        for lane in self.drawing.lanes:
+            if lane in needed:
+                y += GAP if before is not None and lane[1] != before else 0
+                rows[lane], before = y, lane[1]
+                y += LANE
+        return rows, y + FOOT
+
+    def add(self, name, text=None, **values):
+        self.body += element(name, text, **values)
+
+    def text(self, x, y, text, **values):
+        self.add("text", html.escape(text), x=number(x), y=number(y), **values)
+
+    def draw(self):
+        self.legend()
+        if self.overview:
+            self.whole()
+        for line in range(len(self.scale.lines)):
+            self.names(line)
+        for line, left, right, bar in self.parts:
+            self.add("rect", title(f"instructions: {bar.end - bar.start}"), x=number(LEFT + left),
+                     y=number(self.tops[line] + self.rows[line][bar.lane] + 4), width=number(max(0.5, right - left)),
+                     height=BAR, fill=LOST if bar.lost else RUNS)
+        for line, x, length in self.scale.cuts:
+            self.text(LEFT + x, self.tops[line + 1] - FOOT + 10, f"// {length} instructions", text_anchor="middle",
+                      fill=GREY, font_size=9)
+        for mark in self.drawing.marks:
+            self.mark(mark)
+        for strike in self.drawing.strikes:
+            self.strike(strike)
+        self.end()
+        return (f'<svg xmlns="http://www.w3.org/2000/svg" viewBox="0 0 {WIDTH} {self.tops[-1] + 4}" '
+                'font-family="sans-serif" font-size="11">\n<rect width="100%" height="100%" fill="#ffffff"/>\n'
+                f'{self.body}</svg>\n')
+
+    def legend(self):
+        """The summary, and below it what the marks mean, as far as they come."""
+        told = ", ".join(f"{what} {count}" for what, count in self.summary.items())
+        self.text(10, 18, f"{told}; end {self.drawing.end}" if told else f"end {self.drawing.end}")
+        x = 10
+        for what in COLOURS:
+            if any(mark.what == what for mark in self.drawing.marks):
+                self.add("line", x1=number(x + 4), y1=30, x2=number(x + 4), y2=44, stroke=COLOURS[what], stroke_width=2)
+                x = self.label(x + 12, "a waiting call served" if what == "free" else f"vote, {MEANS[what]}")
+        for colour, label in (RUNS, "runs"), (LOST, "runs behind a strike"):
+            if colour == RUNS or self.drawing.strikes:
+                self.add("rect", x=number(x), y=33, width=14, height=BAR, fill=colour)
+                x = self.label(x + 18, label)
+
+    def label(self, x, text):
+        self.text(x, 41, text)
+        return x + 14 + 5.3 * len(text)
+
+    def whole(self):
+        """All of the run in one strip to scale: votes by their colour, strikes and copies above it."""
+        room = WIDTH - LEFT - RIGHT
+        self.text(LEFT - 8, 76, "the whole run", text_anchor="end", font_size=9)
+        self.add("rect", x=LEFT, y=66, width=room, height=14, fill="#f2f2f2")
+        pixel = {int(room * mark.at / max(1, self.drawing.length)): mark for mark in self.drawing.marks
+                 if mark.what in ("watch", "served")}
+        pixel |= {int(room * mark.at / max(1, self.drawing.length)): mark for mark in self.drawing.marks
+                  if mark.what not in ("watch", "served")}
+        for x, mark in pixel.items():
+            self.add("rect", x=LEFT + x, y=66, width=1, height=14, fill=COLOURS.get(mark.what, "#000000"))
+        for at, what in [*((strike.at, strike.title) for strike in self.drawing.strikes),
+                         *((mark.at, mark.title) for mark in self.drawing.marks if mark.copy)]:
+            x = number(LEFT + room * at / max(1, self.drawing.length))
+            self.add("path", title(what), d=f"M{x} 65 l-4 -7 h8 z", fill=RED)
+
+    def names(self, line):
+        top = self.tops[line]
+        for (replica, thread), y in self.rows[line].items():
+            self.text(LEFT - 8, top + y + 12, f"replica {replica}, thread {thread}", text_anchor="end", font_size=9)
+            self.add("line", x1=LEFT, y1=number(top + y + 9), x2=WIDTH - RIGHT, y2=number(top + y + 9), stroke="#eeeeee")
+        self.text(LEFT, self.tops[line + 1] - 6, f"from {self.scale.lines[line]} instructions on", fill=GREY, font_size=9)
+
+    def mark(self, mark):
+        """A line over the lanes of its thread; a copy is an arrow beside it, with both replicas' ends."""
+        line, x = self.scale.place(mark.at)
+        x, rows = x + LEFT, [y for lane, y in self.rows[line].items() if lane[1] == mark.thread]
+        low, high = self.tops[line] + min(rows) + 1, self.tops[line] + max(rows) + LANE - 1
+        dashes = {"stroke_dasharray": "3 2"} if mark.what in ("blocked", "watch") else {}
+        self.add("line", title(mark.title), x1=number(x), y1=number(low), x2=number(x), y2=number(high),
+                 stroke=COLOURS.get(mark.what, "#000000"), stroke_width=2, **dashes)
+        if mark.copy:
+            winner, loser = (self.tops[line] + self.rows[line][replica, mark.thread] + 9 for replica in mark.copy)
+            self.add("path", title(mark.title), d=f"M{number(x)} {number(winner)} h7 V{number(loser)} h-4 l4 -3 v6 l-4 -3",
+                     fill="none", stroke=RED, stroke_width=2)
+            self.text(x + 11, (winner + loser) / 2 + 3, "copy", fill=RED, font_size=9)
+
+    def strike(self, strike):
+        line, x = self.scale.place(strike.at)
+        x, y = LEFT + x, self.tops[line] + self.rows[line][strike.lane]
+        self.add("path", title(strike.title), d=f"M{number(x + 3)} {number(y - 6)} l-6 9 h4 l-3 9 l8 -11 h-4 l4 -7 z",
+                 fill=RED, stroke="#ffffff", stroke_width=0.6)
+
+    def end(self):
+        line, x = self.scale.place(self.drawing.length)
+        self.text(LEFT + x + 4, self.tops[line] + HEAD - 8, f"end {self.drawing.end}", font_weight="bold",
+                  text_anchor="end" if x > WIDTH - LEFT - 160 else "start")
+
+
+def page(picture, name):
+    """The picture in a page of HTML."""
+    return (f'<!DOCTYPE html>\n<html lang="en">\n<meta charset="utf-8">\n<title>{html.escape(name)}</title>\n'
+            f'<body style="margin:0">\n{picture}</body>\n</html>\n')
+
+
+def read_arguments():
+    parser = argparse.ArgumentParser(description=__doc__, formatter_class=argparse.RawDescriptionHelpFormatter)
+    parser.add_argument("journal", help="a report with its journal; - is standard input")
+    parser.add_argument("--faults", type=pathlib.Path, help="the run's fault list")
+    parser.add_argument("-o", "--out", type=pathlib.Path, help="file.svg or file.html (standard output, SVG)")
+    return parser.parse_args()
+
+
+def main():
+    arguments = read_arguments()
+    text = sys.stdin.read() if arguments.journal == "-" else pathlib.Path(arguments.journal).read_text()
+    report = read_report(text)
+    if not report.entries:
+        sys.exit("timeline: there is no journal; run with --journal")
+    drawing = layout(report, read_faults(arguments.faults))
+    picture = Picture(drawing, Scale(drawing), report.summary).draw()
+    if arguments.out and arguments.out.suffix == ".html":
+        picture = page(picture, arguments.journal)
+    if arguments.out:
+        arguments.out.write_text(picture)
+    else:
+        print(picture, end="")
+
+
+if __name__ == "__main__":
+    main()

@@ -3,6 +3,7 @@ pub mod Copies
 pub mod Counted
 pub mod Elements
 pub mod Going
+pub mod Moments
 pub mod Payloads
 pub mod Segments
 pub mod SoFar

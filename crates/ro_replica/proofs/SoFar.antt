@@ -67,17 +67,21 @@ faults_left p faults left are is = subst AreFaults (sym is) (record {
   each = All-filter p (λ fault. is_target fault.target ≡ true) faults are.each;
 })
 
--- a strike, by what each of its parts did
-pub strike_is : (value old inside mid : ReplicaOf) (left : List Fault) (thread hit : ℕ) (x : Thread) → value ≡ old → thread < length old.threads → x ≡ slice_index_or value.threads thread x → inside ≡ mid → mid.waiting ≡ old.waiting
-    → replica_of mid ≡ strikes old.layout.ranges thread (replica_of old) (filter (is_due thread x.done) old.waiting)
-    → hit ≡ length (filter (is_due thread x.done) old.waiting)
-    → left ≡ filter (λ fault. not (is_due thread x.done fault)) inside.waiting
-    → struck old.layout.ranges (replica_of old) thread ≡ record { replica = record (replica_of inside) { waiting = left }; hit = hit }
-strike_is value old inside mid left thread hit x value_is within read inside_is waits struck_is count left_is =
+-- the count of a thread that was read
+pub done_read : (value old : ReplicaOf) (thread : ℕ) (x : Thread) → value ≡ old → thread < length old.threads → x ≡ slice_index_or value.threads thread x → option_map (λ (t : Thread). t.done) (slice_get old.threads thread) ≡ Some x.done
+done_read value old thread x value_is within read =
     let here : x ≡ slice_index_or old.threads thread x = subst (λ (v : ReplicaOf). x ≡ slice_index_or v.threads thread x) value_is read in
-    let there : slice_get old.threads thread ≡ Some x = slice_get_read old.threads (length old.threads) thread x refl within here in
-    let others : List Fault → List Fault = filter (λ fault. not (is_due thread x.done fault)) in
-    struck_all old.layout.ranges (replica_of old) (record (replica_of inside) { waiting = left }) thread x.done hit (ap (option_map (λ (t : Thread). t.done)) there)
+    ap (option_map (λ (t : Thread). t.done)) (slice_get_read old.threads (length old.threads) thread x refl within here)
+
+-- a strike, by what each of its parts did
+pub strike_is : (old inside mid : ReplicaOf) (left : List Fault) (thread done hit : ℕ) → option_map (λ (t : Thread). t.done) (slice_get old.threads thread) ≡ Some done → inside ≡ mid → mid.waiting ≡ old.waiting
+    → replica_of mid ≡ strikes old.layout.ranges thread (replica_of old) (filter (is_due thread done) old.waiting)
+    → hit ≡ length (filter (is_due thread done) old.waiting)
+    → left ≡ filter (λ fault. not (is_due thread done fault)) inside.waiting
+    → struck old.layout.ranges (replica_of old) thread ≡ record { replica = record (replica_of inside) { waiting = left }; hit = hit }
+strike_is old inside mid left thread done hit there inside_is waits struck_is count left_is =
+    let others : List Fault → List Fault = filter (λ fault. not (is_due thread done fault)) in
+    struck_all old.layout.ranges (replica_of old) (record (replica_of inside) { waiting = left }) thread done hit there
     (ap (λ (faults : List Fault). record (replica_of inside) { waiting = faults }) (left_is ∙ ap others (ap (λ (v : ReplicaOf). v.waiting) inside_is ∙ waits))
     ∙ ap (λ (r : Replica). record r { waiting = others old.waiting }) (ap replica_of inside_is ∙ struck_is))
     count

@@ -1,5 +1,5 @@
 -- A replica as contracts see it.
-use Rattle.std.specs.Prelude.{◌≡◌, ◌⊎◌, ℕ, ◌+◌, ◌<◌, ◌≤◌, ◌^◌, IsSome, ◌==◌, if◌then◌else◌, List, length, Option, Some, None, IfSome, slice_get, true}
+use Rattle.std.specs.Prelude.{◌≡◌, ◌⊎◌, ℕ, ◌+◌, ◌<◌, ◌≤◌, ◌^◌, IsSome, ◌==◌, if◌then◌else◌, List, length, Option, Some, None, IfSome, slice_get, slice_index_or, true}
 use Rattle.std.specs.List.{All}
 use Rattle.ro_event.specs.declared.stops.Stop.{Stop}
 use Rattle.ro_event.specs.Effects.{Effect}
@@ -95,3 +95,7 @@ pub record Keeps (old new : ReplicaOf) : Type 0 where
   pub program : SameProgram new old
   pub same : replica_of new ≡ replica_of old
   pub spare : old.held.spare ≤ new.held.spare
+
+-- no fault of a thread comes before the moment that stands beside the thread's number
+abbrev pub AreLater : (moments : List ℕ) → List Fault → Type 0
+AreLater moments faults = All (λ fault. slice_index_or moments fault.thread 0 ≤ fault.at) faults

@@ -13,6 +13,7 @@ ghost use Rattle.ro_replica.specs.Seen.{IsOpening, AreFaults};
 use crate::backing::{back_stretch, pages_over};
 use crate::cpus::first_cpu;
 use crate::replicas::Replica;
+use crate::waiting::Waiting;
 use ro_event::CallTable;
 use ro_exec::Cpu;
 use ro_faults::Fault;
@@ -24,7 +25,7 @@ use std::alloc::{AllocError, Global};
 use std::sync::Arc;
 
 /// How many threads a replica has places for.
-const PLACES: usize = 16;
+pub(crate) const PLACES: usize = 16;
 
 impl Replica {
     /// A replica of this number at the opening of a program, with the faults of a list that are its own.
@@ -52,7 +53,7 @@ impl Replica {
             watchdog,
             pages,
             threads,
-            waiting,
+            waiting: Waiting::new(waiting),
         })
     }
 }

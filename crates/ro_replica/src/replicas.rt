@@ -4,8 +4,8 @@ ghost use Rattle.ro_replica.specs.Replica.{stop_of};
 ghost use Rattle.ro_replica.specs.Views.{is_unstopped};
 ghost use Rattle.ro_replica.specs.Seen.{replica_of, Keeps};
 
+use crate::waiting::Waiting;
 use ro_event::{CallTable, Stop};
-use ro_faults::Fault;
 use ro_pages::Pages;
 use ro_region::Regions;
 use ro_thread::Thread;
@@ -21,7 +21,7 @@ pub struct Replica {
     pub(crate) watchdog: u32,
     pub(crate) pages: Pages,
     pub(crate) threads: Vec<Thread>,
-    pub(crate) waiting: Vec<Fault>,
+    pub(crate) waiting: Waiting,
 }
 
 impl Model for Replica {
@@ -35,9 +35,9 @@ impl Model for Replica {
 
     ghost coded = { Prim.hlevel (codes, coded_held) };
 
-    ghost view = { λ r. record { layout = record { ranges = arc_value r.regions; calls = r.calls }; watchdog = r.watchdog; held = r.pages; threads = r.threads.items; waiting = r.waiting.items } };
+    ghost view = { λ r. record { layout = record { ranges = arc_value r.regions; calls = r.calls }; watchdog = r.watchdog; held = r.pages; threads = r.threads.items; waiting = r.waiting } };
 
-    ghost invariant = { λ r. IsReplica r.watchdog r.threads.items (vec_capacity r.threads) r.waiting.items };
+    ghost invariant = { λ r. IsReplica r.watchdog r.threads.items (vec_capacity r.threads) r.waiting };
 }
 
 impl Replica {

@@ -7,6 +7,7 @@ ghost use Rattle.ro_replica.specs.Views.{is_unstopped};
 ghost use Rattle.ro_replica.specs.Seen.{replica_of, SameProgram, CanCount, Runs};
 
 use crate::replicas::Replica;
+use crate::waiting::Waiting;
 use ro_event::Stop;
 use ro_faults::Fault;
 
@@ -83,7 +84,7 @@ impl Replica {
         ensures leads { Leads self.old.layout self.old.watchdog thread most (replica_of self.old) (replica_of self.new) result.count 0 result.stop }
     {
         let mut state = self.threads[thread as usize];
-        let until = until_due(self.waiting.as_slice(), thread, state.done, most);
+        let until = until_due(&self.waiting, thread, state.done, most);
         let ran = ro_thread::run(
             &mut state,
             &mut self.pages,
@@ -107,7 +108,20 @@ impl Replica {
 }
 
 // For how many of so many instructions no fault of a thread is due that has retired `done`.
-fn until_due(waiting: &[Fault], thread: u32, done: u128, most: u32) -> u32
+fn until_due(waiting: &Waiting, thread: u32, done: u128, most: u32) -> u32
+    ensures most { result ≤ most }
+    ensures free { (k : ℕ) → k < result → filter (is_due thread (done + k)) waiting.now ≡ [] }
+    ensures some { filter (is_due thread done) waiting.now ≡ [] → 0 < most → 0 < result }
+{
+    let moment = waiting.moment(thread);
+    if done < moment && u128::from(most) <= moment - done {
+        return most;
+    }
+    until_first(waiting.as_slice(), thread, done, most)
+}
+
+// The same, by a look at each fault.
+fn until_first(waiting: &[Fault], thread: u32, done: u128, most: u32) -> u32
     ensures most { result ≤ most }
     ensures free { (k : ℕ) → k < result → filter (is_due thread (done + k)) waiting.now ≡ [] }
     ensures some { filter (is_due thread done) waiting.now ≡ [] → 0 < most → 0 < result }

@@ -1,5 +1,5 @@
 //! Striking the faults that are due.
-ghost use Rattle.std.specs.Prelude.{◌≡◌, ◌+◌, ◌<◌, ◌≤◌, true, not, length, filter, fold};
+ghost use Rattle.std.specs.Prelude.{◌≡◌, ◌+◌, ◌<◌, ◌≤◌, true, Some, length, filter, fold, option_map, slice_get};
 ghost use Rattle.ro_faults.specs.Texts.{is_target};
 ghost use Rattle.ro_faults.specs.Flips.{flipped};
 ghost use Rattle.ro_exec.specs.Registers.{register, with_register};
@@ -7,8 +7,9 @@ ghost use Rattle.ro_replica.specs.Runs.{struck_by, is_due, struck};
 ghost use Rattle.ro_replica.specs.Seen.{replica_of, SameProgram};
 
 use crate::replicas::Replica;
+use crate::waiting::is_due;
 use ro_exec::Cpu;
-use ro_faults::{Fault, Target};
+use ro_faults::Target;
 use ro_pages::Memory;
 
 impl Replica {
@@ -22,8 +23,24 @@ impl Replica {
         ensures threads { length self.new.threads ≡ length self.old.threads }
     {
         let done = self.threads[thread as usize].done;
+        if done < self.waiting.moment(thread) {
+            return 0;
+        }
+        self.strike_due(thread, done)
+    }
+
+    // The same, where a fault may be due.
+    fn strike_due(&mut self, thread: u32, done: u128) -> u32
+        requires thread { thread < length self.old.threads }
+        requires done { option_map (λ x. x.done) (slice_get self.old.threads thread) ≡ Some done }
+        ensures program { SameProgram self.new self.old }
+        ensures struck { struck self.old.layout.ranges (replica_of self.old) thread ≡ record { replica = replica_of self.new; hit = result } }
+        ensures fewer { result + length self.new.waiting ≡ length self.old.waiting }
+        ensures few { result + length self.new.waiting ≤ 256 }
+        ensures threads { length self.new.threads ≡ length self.old.threads }
+    {
         let hit = self.strike_all(thread, done);
-        forget(&mut self.waiting, thread, done);
+        self.waiting.forget(thread, done);
         hit
     }
 
@@ -38,7 +55,7 @@ impl Replica {
     {
         let mut hit = 0;
         for i in 0..self.waiting.len() {
-            let fault = self.waiting[i];
+            let fault = self.waiting.at(i);
             if is_due(&fault, thread, done) {
                 self.strike_at(thread, fault.target);
                 hit += 1;
@@ -68,20 +85,6 @@ impl Replica {
             }
         }
     }
-}
-
-// The faults that are due wait no longer.
-fn forget(waiting: &mut Vec<Fault>, thread: u32, done: u128)
-    ensures { waiting.new.items ≡ filter (λ fault. not (is_due thread done fault)) waiting.old.items }
-{
-    waiting.retain(|fault| !is_due(fault, thread, done));
-}
-
-/// Whether a fault is one of a thread that has retired so many instructions.
-fn is_due(fault: &Fault, thread: u32, done: u128) -> bool
-    ensures { result ≡ is_due thread done fault.now }
-{
-    fault.thread == thread && u128::from(fault.at) == done
 }
 
 fn flip(number: u32, bit: u8) -> u32

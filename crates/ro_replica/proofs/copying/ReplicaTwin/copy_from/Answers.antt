@@ -9,7 +9,7 @@ invariant_of-self c =
     let threads = with_items_is c.self.inside.threads c.copy_threads.new.losers (omega arith) ∙ (c.copy_threads.ensures ∙ ap₂ copied_threads c.as_slice.ensures.value c.as_mut_slice.ensures.value) in
     let watchdog = ap (λ v. v.watchdog) c.other.view_is ∙ (c.requires.program.watchdog ∙ sym (ap (λ v. v.watchdog) c.self.view_is)) in
     let long = ap (λ v. length v.threads) c.other.view_is ∙ (c.requires.threads ∙ sym (ap (λ v. length v.threads) c.self.view_is)) in
-    copied_holds c.self.inside.watchdog c.other.inside.watchdog c.self.inside.threads.cap c.other.inside.threads.cap c.self.inside.waiting.items c.other.inside.waiting.items c.other.inside.threads.items c.self.inside.threads.items _ threads watchdog long c.other.invariant c.self.invariant
+    copied_holds c.self.inside.watchdog c.other.inside.watchdog c.self.inside.threads.cap c.other.inside.threads.cap _ _ c.other.inside.threads.items c.self.inside.threads.items _ threads watchdog long c.other.invariant c.self.invariant
 
 pub returns : goal.returns
 returns c =

@@ -1,4 +1,4 @@
-use Rattle.std.proofs.Common.{◌≡◌, ◌<◌, length, ap, arith}
+use Rattle.std.proofs.Common.{◌≡◌, ◌<◌, length, refl, ap, arith}
 use Rattle.ro_replica.specs.Seen.{ReplicaOf}
 use Rattle.ro_replica.proofs.Going.{advanced, advanced_countable, replica_kept, with_ranges}
 use Rattle.ro_replica.proofs.replicas.Replica.advance.Goals as goal
@@ -6,7 +6,7 @@ use Rattle.ro_replica.proofs.replicas.Replica.advance.Goals as goal
 pub returns-clause-leads : goal.returns-clause-leads
 returns-clause-leads c =
     advanced _ _ c.args.thread c.args.most c.until_due-until.result c.run-ran.result.count c.index.result.now c.run-ran.new.thread c.run-ran.new.memory c.run-ran.result.stop _
-    c.self.view_is c.requires.thread c.index.ensures c.as_slice.ensures.value c.requires.struck c.until_due-until.ensures.most c.requires.some
+    c.self.view_is c.requires.thread c.index.ensures refl c.requires.struck c.until_due-until.ensures.most c.requires.some
     c.until_due-until.ensures.free c.until_due-until.ensures.some (with_ranges _ _ _ _ _ _ _ _ _ _ c.deref.ensures c.run-ran.ensures.run) c.run-ran.ensures.pages
 
 pub returns-clause-countable : goal.returns-clause-countable

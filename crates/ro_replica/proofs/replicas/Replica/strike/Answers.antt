@@ -1,24 +1,18 @@
-use Rattle.std.proofs.Common.{◌≡◌, ◌≤◌, length, ap, arith}
-use Rattle.ro_replica.specs.Seen.{ReplicaOf}
-use Rattle.ro_replica.proofs.SoFar.{faults_left, strike_is, fewer}
+use Rattle.std.proofs.Common.{◌≡◌, ap, subst, List}
+use Rattle.std.specs.Prelude.{[]}
+use Rattle.std.specs.List.{filter}
+use Rattle.ro_faults.specs.declared.Fault.{Fault}
+use Rattle.ro_replica.specs.Runs.{is_due}
+use Rattle.ro_replica.specs.Seen.{ReplicaOf, replica_of}
+use Rattle.ro_replica.proofs.Strikes.{struck_none}
+use Rattle.ro_replica.proofs.SoFar.{done_read}
 use Rattle.ro_replica.proofs.replicas.Replica.strike.Goals as goal
 
-pub invariant_of-self : goal.invariant_of-self
-invariant_of-self c =
-    let i = c.self-2.invariant in
-    record { first = i.first; few = i.few; room = i.room; watched = i.watched; faults = faults_left _ _ _ i.faults c.forget.ensures }
+pub strike_due-requires-clause-done : goal.strike_due-requires-clause-done
+strike_due-requires-clause-done c = done_read _ _ c.args.thread c.index.result.now c.self.view_is c.requires c.index.ensures
 
-pub returns-clause-struck : goal.returns-clause-struck
-returns-clause-struck c =
-    strike_is _ _ _ _ _ c.args.thread _ c.index.result.now c.self.view_is c.requires c.index.ensures c.self-2.view_is c.strike_all-hit.ensures.waiting c.strike_all-hit.ensures.struck c.strike_all-hit.ensures.hit c.forget.ensures
-
-pub returns-clause-fewer : goal.returns-clause-fewer
-returns-clause-fewer c =
-    fewer c.args.self.now _ _ _ c.args.thread _ _ c.self-2.view_is c.strike_all-hit.ensures.waiting c.strike_all-hit.ensures.hit c.forget.ensures
-
-pub returns-clause-few : goal.returns-clause-few
-returns-clause-few c =
-    let all = fewer c.args.self.now _ _ _ c.args.thread _ _ c.self-2.view_is c.strike_all-hit.ensures.waiting c.strike_all-hit.ensures.hit c.forget.ensures in
-    let first : length c.self.inside.waiting.items ≤ 256 = c.self.invariant.faults.few in
-    let same : length c.self.inside.waiting.items ≡ length c.args.self.now.waiting = ap (λ (v : ReplicaOf). length v.waiting) c.self.view_is in
-    omega (arith, all)
+pub returns-then-done-moment-clause-struck : goal.returns-then-done-moment-clause-struck
+returns-then-done-moment-clause-struck c =
+    struck_none c.args.self.now.layout.ranges (replica_of c.args.self.now) c.args.thread c.index.result.now.done
+    (done_read _ _ c.args.thread c.index.result.now c.self.view_is c.requires c.index.ensures)
+    (subst (λ (faults : List Fault). filter (is_due c.args.thread c.index.result.now.done) faults ≡ []) (ap (λ (v : ReplicaOf). v.waiting) c.self.view_is) (c.moment.ensures c.index.result.now.done c.if-done-moment.true))

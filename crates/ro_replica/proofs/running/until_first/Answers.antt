@@ -3,7 +3,7 @@ use Rattle.ro_faults.specs.declared.Fault.{Fault}
 use Rattle.ro_faults.specs.declared.Target.TheVariants.{Register}
 use Rattle.ro_replica.specs.Runs.{is_due}
 use Rattle.ro_replica.proofs.Strikes.{none_more, none_less}
-use Rattle.ro_replica.proofs.running.until_due.Goals as goal
+use Rattle.ro_replica.proofs.running.until_first.Goals as goal
 
 pub loop-fault-preserved : goal.loop-fault-preserved
 loop-fault-preserved c =

@@ -1,7 +1,7 @@
 use Rattle.std.proofs.Common.{◌≡◌, ◌+◌, ◌<◌, ◌≤◌, ℕ, [], take}
 use Rattle.std.specs.List.{filter}
 use Rattle.ro_replica.specs.Runs.{is_due}
-use Rattle.ro_replica.proofs.running.until_due.Given as goal
+use Rattle.ro_replica.proofs.running.until_first.Given as goal
 
 abbrev pub invariant-loop-fault : goal.invariant-loop-fault
 invariant-loop-fault l = record {

@@ -1,5 +1,5 @@
 //! The core: a sequential machine whose journal only grows.
-ghost use Rattle.std.specs.Prelude.{◌≡◌, ◌≢◌, ◌⊎◌, [], Some, length};
+ghost use Rattle.std.specs.Prelude.{◌≡◌, ◌≢◌, ◌⊎◌, [], Some, None, IsSome, length};
 ghost use Rattle.ro_journal.specs.declared.How.{How as HowOf};
 ghost use Rattle.ro_journal.specs.declared.How.TheVariants.{Differ, NoMajority};
 ghost use Rattle.ro_journal.specs.declared.Entry.TheVariants.{End};
@@ -116,6 +116,7 @@ impl<K: Sink> Core<K> {
         ensures journal { result.journal.items ≡ self.journal }
         ensures bytes { result.bytes ≡ length (sent self) }
         ensures legal { Legal self.job self.journal }
+        ensures open { IsSome self.failed → outcome_of self.journal ≡ None }
         ensures sink { (K.held result.out ≡ self.held) × (K.faults result.out ≡ self.faults) }
     {
         let Core {

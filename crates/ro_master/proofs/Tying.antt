@@ -28,7 +28,7 @@ use Rattle.ro_master.specs.Passes.{CountOf, PassOf, Knew, counted, added, shown,
 use Rattle.ro_master.specs.Driven.{CanRun, HasRun, IsDriven, Goes, KeepsLast}
 use Rattle.ro_lease.specs.Loans.{LentOf, BackOf, Gives}
 use Rattle.ro_master.specs.Desks.{DeskOf, Names, Tied, seen_core, seen_state, AtRest, MayGiveBack, Rests, IsOver, Moved, Looked, IsLoan, Decides, votes, frees, ends, TurnIs, PutIs, AnswersOver, TakesMemory}
-use Rattle.ro_master.proofs.Turns.{calm_state, lend_calm, driven_more, leases_with, goes_quiet, goes_none, goes_on, stays_state, stays_goes, stays_driven, stays_next}
+use Rattle.ro_master.proofs.Turns.{calm_state, lend_calm, driven_more, leases_with, not_failed, goes_quiet, goes_none, goes_on, stays_state, stays_goes, stays_driven, stays_next}
 use Rattle.ro_master.proofs.Deciding.{vote_going, vote_calm, free_going, free_calm, voted_driven, voted_goes, freed_driven, freed_goes, end_driven, end_goes}
 use Rattle.ro_master.proofs.LastViews.{going_open, none_last, more_open, stays_open, voted_last, freed_last, end_open, end_last}
 use Rattle.ro_master.proofs.Leases.{still_idle, one_each, idle_after_put, idle_after, owned_snoc, within_snoc, journal_snoc}
@@ -120,7 +120,7 @@ tied_take start core mid new count count' number driver replica thread t s a q m
     let open_ = stays_open core mid (going_open core t.driven (lend_is_next core.job (state core) replica thread next).0) s in
     tied_more start core new count count' number (Take driver replica thread) t (record { job = a.job ∙ s.job; journal = a.journal ∙ ap (λ (js : List Entry). js ++ Take driver replica thread ∷ []) s.journal }) c same less
     (driven_more mid new (Take driver replica thread) (stays_driven core mid s t.driven) a (subst (λ (x : Core). MayTake mid.job x driver replica thread) at may) (ap (next_action mid.job) (sym at) ∙ next'))
-    (goes_on core mid new (stays_goes core mid s) (goes_quiet mid new (Take driver replica thread) a q (λ taken e. absurd (let f : None ≡ Some (Sink taken) = e in cc))))
+    (goes_on core mid new (stays_goes core mid s) (goes_quiet mid new (Take driver replica thread) a q (λ taken e. absurd (let f : None ≡ Some (Sink taken) = e in cc)) (λ failed. absurd (not_failed mid calm open_ failed))))
     (none_last new.job new.journal new.views (more_open mid new (Take driver replica thread) open_ a refl))
 
 -- a vote
@@ -217,7 +217,7 @@ module _ (start core : CoreOf) (count : CountOf) (p : PassOf) (back : BackOf) (t
     tied_put count' c =
         tied_more start core new count count' p.number put_entry t put_appends c may.driver k.number
         (driven_more core new put_entry t.driven put_appends put_allowed tt)
-        (goes_quiet core new put_entry put_appends q (λ taken e. absurd (let f : None ≡ Some (Sink taken) = e in cc)))
+        (goes_quiet core new put_entry put_appends q (λ taken e. absurd (let f : None ≡ Some (Sink taken) = e in cc)) (λ failed. absurd (not_failed core put_calm put_open failed)))
         (none_last new.job new.journal new.views (more_open core new put_entry put_open put_appends refl))
 
     -- what the put did, told by the pass's number

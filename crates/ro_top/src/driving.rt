@@ -1,6 +1,7 @@
 //! The run by as many drivers as are asked for.
-ghost use Rattle.std.specs.Prelude.{◌≡◌, [], None};
+ghost use Rattle.std.specs.Prelude.{◌≡◌, [], None, IsSome};
 ghost use Rattle.ro_journal.specs.declared.How.{How as HowOf};
+ghost use Rattle.ro_journal.specs.Plan.{outcome_of};
 ghost use Rattle.ro_core.specs.declared.actions.Action.TheVariants as act;
 ghost use Rattle.ro_core.specs.Legal.{output_of};
 ghost use Rattle.ro_core.specs.Action.{next_action};
@@ -33,6 +34,7 @@ pub(crate) fn drive<R: Threads + Wait + Sync, K: Sink + Send, G: Gate + Sync>(
     ensures last { KeepsLast result.job result.journal result.views }
     ensures home { IsHome result }
     ensures all_sent { sent result ≡ output_of result.job result.journal }
+    ensures ended { IsSome result.failed → IsSome (outcome_of result.journal) }
 {
     match Opened::new(alloc) {
         Ok(opened) => drive_named::<R, K, G, Brand>(rt, alloc, core, opened, gate),
@@ -58,6 +60,7 @@ fn drive_named<R: Threads + Wait + Sync, K: Sink + Send, G: Gate + Sync, N: Nami
     ensures last { KeepsLast result.job result.journal result.views }
     ensures home { IsHome result }
     ensures all_sent { sent result ≡ output_of result.job result.journal }
+    ensures ended { IsSome result.failed → IsSome (outcome_of result.journal) }
 {
     let (master, mut drivers) = match Master::<K, N>::start(alloc, core, opened) {
         Ok(started) => started,
@@ -81,6 +84,7 @@ fn settled<K: Sink>(mut core: Core<K>) -> Core<K>
     ensures last { KeepsLast result.job result.journal result.views }
     ensures home { IsHome result }
     ensures all_sent { sent result ≡ output_of result.job result.journal }
+    ensures ended { IsSome result.failed → IsSome (outcome_of result.journal) }
 {
     match core.next_action() {
         Action::End(_) => {
@@ -101,6 +105,7 @@ fn end<K: Sink>(core: &mut Core<K>)
     ensures last { KeepsLast core.new.job core.new.journal core.new.views }
     ensures home { IsHome core.new }
     ensures all_sent { sent core.new ≡ output_of core.new.job core.new.journal }
+    ensures calm { core.new.failed ≡ None }
 {
     core.end();
 }

@@ -1,0 +1,275 @@
+"""What docs/USING.md and docs/GUESTS.md say of files and words: which are accepted, and why another one isn't. Written after
+the pages, not after the program, so that one shows an error of the other."""
+import dataclasses
+import re
+import struct
+
+# ---- Executables
+
+LOWEST, HIGHEST = 0x10000, 0x40000000
+MOST_MEMORY = 4 << 20
+NAMES = [b"pthread_" + name for name in (b"create", b"join", b"exit", b"self", b"mutex_init", b"mutex_destroy", b"mutex_lock",
+                                         b"mutex_trylock", b"mutex_unlock")]
+
+
+def half(data, place):
+    return struct.unpack_from("<H", data, place)[0]
+
+
+def word(data, place):
+    return struct.unpack_from("<I", data, place)[0]
+
+
+@dataclasses.dataclass
+class Segment:
+    """A program header."""
+    kind: int
+    offset: int
+    address: int
+    file_size: int
+    size: int
+    flags: int
+
+    @property
+    def end(self):
+        return self.address + self.size
+
+
+def header_code(data):
+    """The code of the first check of the header that fails, 1 to 10."""
+    if len(data) < 52:
+        return 1
+    checks = [
+        (2, data[:4] == b"\x7fELF"),
+        (3, data[4] == 1),
+        (4, data[5] == 1),
+        (5, data[6] == 1 and word(data, 20) == 1),
+        (6, half(data, 16) == 2),
+        (7, half(data, 18) == 243),
+        (8, word(data, 36) & 15 == 0),
+        (9, half(data, 42) == 32 and 1 <= half(data, 44) <= 32),
+        (10, word(data, 28) + 32 * half(data, 44) <= len(data)),
+    ]
+    return next((code for code, holds in checks if not holds), None)
+
+
+def program_headers(data):
+    for place in range(word(data, 28), word(data, 28) + 32 * half(data, 44), 32):
+        kind, offset, address, _, file_size, size, flags, _ = struct.unpack_from("<8I", data, place)
+        yield Segment(kind, offset, address, file_size, size, flags)
+
+
+def segments_code(data, headers):
+    """The code of the first check of the program headers that fails, 11 to 15."""
+    loaded = [header for header in headers if header.kind == 1]
+    segments = [header for header in loaded if header.size > 0]
+    entry = word(data, 24)
+
+    def apart(one, other):
+        return one.end <= other.address or other.end <= one.address
+
+    def executes(address):
+        return any(segment.flags & 1 and segment.address <= address < segment.end for segment in segments)
+
+    checks = [
+        (11, all(header.kind not in (2, 3, 7) for header in headers)),
+        (12, all(header.offset + header.file_size <= len(data) and header.file_size <= header.size for header in loaded)),
+        (13, all(LOWEST <= segment.address and segment.end <= HIGHEST for segment in segments)
+         and all(apart(one, other) for i, one in enumerate(segments) for other in segments[:i])),
+        (14, entry % 4 == 0 and all(executes(entry + i) for i in range(4))),
+        (15, sum(segment.size for segment in segments) <= MOST_MEMORY),
+    ]
+    return next((code for code, holds in checks if not holds), None)
+
+
+def symbols_code(data):
+    """Where the functions of POSIX threads are, by their names; or the code, 16 or 17."""
+    place, size, count = word(data, 32), half(data, 46), half(data, 48)
+    if place == 0 or count == 0:
+        return {}
+    if size != 40 or place + 40 * count > len(data):
+        return 16
+    sections = [struct.unpack_from("<10I", data, place + 40 * i)[1:8] for i in range(count)]
+    table = next((section for section in sections if section[0] == 2), None)
+    if table is None:
+        return {}
+    _, _, _, start, length, link, _ = table
+    if start + length > len(data) or length % 16 or link >= count:
+        return 16
+    kind, _, _, texts, texts_length, _, _ = sections[link]
+    if kind != 3 or texts + texts_length > len(data):
+        return 16
+    return names_of(data[start:start + length], data[texts:texts + texts_length])
+
+
+def names_of(symbols, strings):
+    """The same of symbols and strings."""
+    values = {}
+    for name, value, _, info, _, section in struct.iter_unpack("<IIIBBH", symbols):
+        if info & 15 == 2 and section:
+            end = strings.find(b"\0", name)
+            if end < 0:
+                return 16
+            values.setdefault(strings[name:end], set()).add(value)
+    ours = {name: values[name] for name in NAMES if name in values}
+    addresses = set().union(*ours.values())
+    if any(len(found) > 1 for found in ours.values()) or len(addresses) < len(ours):
+        return 17
+    return {name: found.pop() for name, found in ours.items()}
+
+
+def executable_of(data):
+    """The code by which a file is refused, or None; and where the functions of POSIX threads are, if it is accepted."""
+    code = header_code(data)
+    if code is None:
+        code = segments_code(data, list(program_headers(data)))
+    if code is not None:
+        return code, {}
+    found = symbols_code(data)
+    return (None, found) if isinstance(found, dict) else (found, {})
+
+
+# ---- Fault lists
+
+NUMBER = re.compile(rb"0|[1-9][0-9]*")
+MOST_FAULTS = 256
+
+
+def fault_of(line, replicas):
+    """The fault of a line without its end, or the code by which it is refused."""
+    words = line.split(b" ")
+    kind, count = (words[3], {b"reg": 6, b"pc": 5, b"mem": 6}.get(words[3])) if len(words) > 3 else (None, None)
+    numbers = words[:3] + words[4:]
+    if len(words) != count or not all(map(NUMBER.fullmatch, numbers)):
+        return 1
+    replica, thread, moment, *where = map(int, numbers)
+    fits = {
+        b"reg": lambda: 1 <= where[0] <= 31 and where[1] <= 31,
+        b"pc": lambda: where[0] <= 31,
+        b"mem": lambda: where[0] <= 0xFFFFFFFF and where[1] <= 7,
+    }[kind]()
+    if not fits or replica >= replicas or thread > 15 or moment > 10**12:
+        return 2
+    return replica, thread, moment, kind, where
+
+
+def faults_of(data, replicas):
+    """The faults of a list and None, or the first bad line and its code."""
+    faults, lines = [], data.split(b"\n")
+    for number, line in enumerate(lines, 1):
+        last = number == len(lines)
+        if last and line == b"":
+            break
+        fault = 3 if number > MOST_FAULTS else 1 if last else fault_of(line, replicas)
+        if isinstance(fault, int):
+            return [], (number, fault)
+        faults.append(fault)
+    return faults, None
+
+
+# ---- Words
+
+RANGES = {"replicas": (2, 3, 3), "drivers": (1, 8, 3), "watchdog": (100, 1_000_000, 10_000), "quantum": (1, 65_536, 4_096),
+          "limit": (1, 10**12, 10**9)}
+VALUED = ["input", "faults", *RANGES]
+
+
+def number_of(text, least, most):
+    """The number that a text writes, in its range; or None."""
+    if not re.fullmatch(r"\+?[0-9]+", text, re.ASCII):
+        return None
+    value = int(text)
+    return value if least <= value <= most else None
+
+
+def run_of(words):
+    """What the words behind the program's name ask for, by name; or None where they are no command."""
+    try:
+        words = [word.decode() for word in words]
+    except UnicodeDecodeError:
+        return None
+    if words[:1] != ["run"]:
+        return None
+    given, rest = {}, iter(words[1:])
+    for word in rest:
+        if word == "" or word[0] != "-":
+            name, value = "exe", word
+        elif not word.startswith("--"):
+            return None
+        else:
+            name, equals, value = word[2:].partition("=")
+            if name == "journal" and not equals:
+                value = "true"
+            elif name not in VALUED:
+                return None
+            elif not equals:
+                value = next(rest, "")
+        if value == "" or value[0] == "-" or name in given:
+            return None
+        given[name] = value
+    for name, (least, most, usual) in RANGES.items():
+        given[name] = number_of(given[name], least, most) if name in given else usual
+        if given[name] is None:
+            return None
+    return given if "exe" in given else None
+
+
+# ---- Journals
+
+DIDS = [b"served", b"blocked", b"mapped", b"watch", b"trapped"]
+HOWS = {b"exit": [(0, 255)], b"deadlock": [], b"trap": [(1, 9)], b"limit": [(0, 10**12)] * 2, b"differ": [], b"no-majority": [],
+        b"sink": [(0, 4095)]}
+DRIVER, REPLICA, THREAD = (0, 7), (0, 2), (0, 15)
+ENTRIES = {b"take": [DRIVER, REPLICA, THREAD], b"put": [DRIVER, REPLICA, THREAD, (0, 65_536), (0, 256)],
+           b"vote": [THREAD, (0, 1_000_000), REPLICA], b"free": [THREAD]}
+
+
+def fields_code(fields, ranges):
+    """The code by which the numbers are refused, or None."""
+    if len(fields) != len(ranges) or not all(map(NUMBER.fullmatch, fields)):
+        return 1
+    fit = all(least <= int(field) <= most for field, (least, most) in zip(fields, ranges))
+    return None if fit else 2
+
+
+def entry_code(words):
+    """The code by which a journal's line is refused, or None."""
+    kind, fields = words[0], words[1:]
+    if kind == b"end":
+        return fields_code(fields[1:], HOWS[fields[0]]) if fields and fields[0] in HOWS else 1
+    if kind not in ENTRIES:
+        return 1
+    ranges = ENTRIES[kind]
+    if kind == b"vote":
+        if len(fields) != 5 or fields[4] not in DIDS:
+            return 1
+        loser = [] if fields[3] == b"-" else [fields[3]]
+        fields, ranges = fields[:3] + loser, ranges + [REPLICA] * len(loser)
+    return fields_code(fields, ranges)
+
+
+def journal_of(data):
+    """The words of a journal's lines up to its end and None, or the first bad line and its code."""
+    lines, entries = data.split(b"\n"), []
+    if lines[0] != b"romain 1" or len(lines) < 2:
+        return [], (1, 1)
+    for number, line in enumerate(lines[1:], 2):
+        last = number == len(lines)
+        if last and line == b"":
+            break
+        code = 1 if last else entry_code(line.split(b" "))
+        if code is not None:
+            return [], (number, code)
+        entries.append(line.split(b" "))
+        if entries[-1][0] == b"end":
+            break
+    return entries, None
+
+
+def plan_of(entries):
+    """The steps of a journal: pairs of a thread and how many steps of it follow each other."""
+    for kind, *fields in entries:
+        if kind == b"vote":
+            yield int(fields[0]), int(fields[1]) + (fields[4] in (b"served", b"trapped"))
+        elif kind == b"free":
+            yield int(fields[0]), 1

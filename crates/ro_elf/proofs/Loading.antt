@@ -1,12 +1,13 @@
 -- The segments of a file that passes its checks.
-use Rattle.std.proofs.Common.{◌≡◌, ℕ, ◌+◌, ◌≤◌, ◌⊎◌, inl, inr, Bool, true, false, cond, ◌&&◌, ◌||◌, nat_lt, List, [], ◌∷◌, None, refl, sym, ap, ◌∙◌, arith, ltb-true, leb-true, map, filter}
+use Rattle.std.proofs.Common.{◌≡◌, ℕ, zero, suc, ◌+◌, ◌%◌, ◌<◌, ◌≤◌, ◌⊎◌, inl, inr, Bool, true, false, cond, ◌&&◌, ◌||◌, nat_lt, List, [], ◌∷◌, None, refl, sym, ap, ◌∙◌, arith, ltb-true, lt-ltb, leb-true, map, filter}
 use Rattle.std.specs.List.{All, AllPairs, list_all}
 use Rattle.std.proofs.lemmas.List.Elements.{All-cons}
 use Rattle.std.proofs.lemmas.List.Kept.{AllPairs-cons}
-use Rattle.std.specs.Prelude.{nat_le}
+use Rattle.std.proofs.lemmas.List.Sums.{sum_by-cons}
+use Rattle.std.specs.Prelude.{nat_le, ◌==◌, sum_by}
 use Rattle.ro_elf.specs.Checks.{first_failing}
-use Rattle.ro_elf.specs.Segments.{is_load, is_segment, is_within, end_of, is_apart, are_apart, has_bytes, is_static, lie_among, segment_of, segments_of, segment_checks}
-use Rattle.ro_elf.specs.Elf.{IsLoaded, SharesNone}
+use Rattle.ro_elf.specs.Segments.{is_load, is_segment, is_within, end_of, is_apart, are_apart, has_bytes, is_static, lie_among, segment_of, segments_of, segment_checks, loaded_size, executes, starts_at, fits_memory}
+use Rattle.ro_elf.specs.Elf.{IsLoaded, SharesNone, memory_of}
 use Rattle.ro_elf.specs.declared.segments.ProgramHeader.{ProgramHeader}
 use Rattle.ro_elf.specs.declared.segments.Segment.{Segment}
 use Rattle.ro_elf.proofs.Checking.{passes}
@@ -94,3 +95,41 @@ checked_loaded size entry headers e =
     let has = passes (list_all (has_bytes size) headers) _ 12 static.1 in
     let well = passes (lie_among (segments_of headers)) _ 13 has.1 in
     all_loaded size headers has.0 (parts (list_all is_within (segments_of headers)) (are_apart (segments_of headers)) well.0).0
+
+-- headers load what their segments have
+sized : (b : Bool) (m : ℕ) (header : ProgramHeader) (rest : List ProgramHeader) → m ≡ header.memory_size
+    → cond b m 0 + memory_of (map segment_of rest) ≡ memory_of (map segment_of (cond (b && nat_lt 0 m) (header ∷ rest) rest))
+sized false m header rest e = omega arith
+sized true zero header rest e = omega arith
+sized true (suc m) header rest e =
+    ap (λ (n : ℕ). n + memory_of (map segment_of rest)) e
+    ∙ sym (sum_by-cons (λ (s : Segment). s.memory_size) (segment_of header) (map segment_of rest))
+    ∙ ap (λ (b : Bool). memory_of (map segment_of (cond b (header ∷ rest) rest))) (sym (lt-ltb 0 (suc m) (omega arith)))
+
+loaded-memory : (headers : List ProgramHeader) → sum_by loaded_size headers ≡ memory_of (segments_of headers)
+loaded-memory [] = refl
+loaded-memory (header ∷ headers) =
+    sum_by-cons loaded_size header headers
+    ∙ ap (λ (n : ℕ). loaded_size header + n) (loaded-memory headers)
+    ∙ sized (is_load header) header.memory_size header (filter is_segment headers) refl
+
+-- where an address may be executed, there is a byte
+some-byte : (size address : ℕ) (segments : List Segment) → All (IsLoaded size) segments → executes segments address ≡ true → 0 < memory_of segments
+some-byte size address [] loaded e = absurd (cc)
+some-byte size address (segment ∷ segments) loaded e =
+    let here : IsLoaded size segment = loaded 0 segment (omega arith) in
+    let more = sum_by-cons (λ (s : Segment). s.memory_size) segment segments in
+    omega (arith, here.some, more)
+
+-- the segments of a file whose program headers pass have 1 byte to 4 MiB
+pub checked_memory : (size entry : ℕ) (headers : List ProgramHeader) → first_failing (segment_checks size entry headers) ≡ None
+    → (0 < memory_of (segments_of headers)) × (memory_of (segments_of headers) ≤ 4194304)
+checked_memory size entry headers e =
+    let static = passes (list_all is_static headers) _ 11 e in
+    let has = passes (list_all (has_bytes size) headers) _ 12 static.1 in
+    let well = passes (lie_among (segments_of headers)) _ 13 has.1 in
+    let starts = passes (starts_at (segments_of headers) entry) _ 14 well.1 in
+    let fits = passes (fits_memory headers) _ 15 starts.1 in
+    let ends = parts (entry % 4 == 0 && executes (segments_of headers) entry && executes (segments_of headers) (entry + 1) && executes (segments_of headers) (entry + 2)) (executes (segments_of headers) (entry + 3)) starts.0 in
+    let few : sum_by loaded_size headers ≤ 4194304 = leb-true (sum_by loaded_size headers) 4194304 fits.0 in
+    (some-byte size (entry + 3) (segments_of headers) (checked_loaded size entry headers e) ends.1, omega (arith, few, loaded-memory headers))

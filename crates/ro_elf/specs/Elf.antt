@@ -1,5 +1,5 @@
 -- What the headers of an executable say, and the code by which a file is refused.
-use Rattle.std.specs.Prelude.{◌+◌, ◌≤◌, ◌<◌, ◌++◌, ℕ, List, Option, length}
+use Rattle.std.specs.Prelude.{◌+◌, ◌≤◌, ◌<◌, ◌++◌, ℕ, List, Option, length, sum_by}
 use Rattle.ro_elf.specs.Checks.{first_failing}
 use Rattle.ro_elf.specs.Header.{header_checks, entry_in, section_table_of}
 use Rattle.ro_elf.specs.Segments.{headers_of, segments_of, segment_checks}
@@ -33,3 +33,7 @@ Holds segment address = (segment.address ≤ address) × (address < segment.addr
 -- no address is that of bytes of both
 abbrev pub SharesNone : Segment → Segment → Type 0
 SharesNone a b = (address : ℕ) → Holds a address → Holds b address → ⊥
+
+-- how many bytes of memory segments have
+abbrev pub memory_of : List Segment → ℕ
+memory_of segments = sum_by (λ segment. segment.memory_size) segments

@@ -1,6 +1,6 @@
 //! Reading the headers of a file.
-ghost use Rattle.std.specs.Prelude.{◌≡◌, IfOk, IfErr, Some, None, All, AllPairs, length};
-ghost use Rattle.ro_elf.specs.Elf.{bad_headers, elf_of, IsLoaded, SharesNone};
+ghost use Rattle.std.specs.Prelude.{◌≡◌, ◌<◌, ◌≤◌, IfOk, IfErr, Some, None, All, AllPairs, length};
+ghost use Rattle.ro_elf.specs.Elf.{memory_of, bad_headers, elf_of, IsLoaded, SharesNone};
 
 use crate::header::{
     E_ENTRY, E_PHNUM, E_PHOFF, MOST_PROGRAM_HEADERS, SectionTable, bad_header, section_table,
@@ -71,6 +71,10 @@ pub fn read_elf(bytes: &[u8]) -> Result<Elf, BadExe>
     // Each segment has its bytes in the file, and its place in memory, which is its own.
     ensures loaded { IfOk result (λ elf. All (IsLoaded (length bytes.now)) elf.segments) }
     ensures apart { IfOk result (λ elf. AllPairs SharesNone elf.segments) }
+
+    // They have 1 byte to 4 MiB of memory together.
+    ensures some { IfOk result (λ elf. 0 < memory_of elf.segments) }
+    ensures few { IfOk result (λ elf. memory_of elf.segments ≤ 4194304) }
 {
     if let Some(code) = bad_header(bytes) {
         return Err(BadExe { code });

@@ -1,11 +1,11 @@
 //! Reading an executable file in full.
 ghost use Rattle.std.specs.Prelude.{◌≡◌, IfOk, IfErr, None, All};
-ghost use Rattle.ro_image.specs.Image.{LiesLow};
+ghost use Rattle.ro_image.specs.Image.{LiesLow, AreSegments, segments_in};
 ghost use Rattle.ro_image.specs.Pieces.{pieces_in};
 ghost use Rattle.ro_image.specs.Executable.{bad_code, image_of, Refuses};
 
 use crate::errors::ImageError;
-use crate::layout::{heap_start, program_ranges};
+use crate::layout::{DATA_RANGES, heap_start, program_ranges};
 use crate::pieces::{FilePiece, file_pieces};
 use ro_elf::read_elf;
 use ro_event::CallTable;
@@ -27,14 +27,14 @@ pub struct Executable {
 
 impl Model for Executable {
     ghost use Rattle.std.specs.Prelude.{All};
-    ghost use Rattle.ro_image.specs.Image.{Image, LiesLow};
+    ghost use Rattle.ro_image.specs.Image.{Image, LiesLow, HasSegments};
     ghost use Rattle.ro_image.specs.Pieces.{pieces_in};
 
     ghost Value = { Image };
 
     ghost view = { λ e. record { pieces = pieces_in e.pieces.items; ranges = e.ranges.items; calls = e.calls; entry = e.entry; heap = e.heap } };
 
-    ghost invariant = { λ e. All LiesLow (pieces_in e.pieces.items) };
+    ghost invariant = { λ e. All LiesLow (pieces_in e.pieces.items) × HasSegments e.ranges.items };
 }
 
 impl Executable {
@@ -51,6 +51,15 @@ impl Executable {
         ensures { result.now ≡ self.now.ranges }
     {
         self.ranges.as_slice()
+    }
+
+    /// The ranges of the segments alone, in the order of their headers: 1 byte to 4 MiB together.
+    pub fn segments(&self) -> &[Range]
+        ensures segments { result.now ≡ segments_in self.now.ranges }
+        ensures bounded { AreSegments result.now }
+    {
+        let ranges = self.ranges.as_slice();
+        &ranges[..ranges.len() - DATA_RANGES]
     }
 
     /// The addresses of the functions of POSIX threads.

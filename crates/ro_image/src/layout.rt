@@ -16,6 +16,9 @@ const HEAP_SIZE: u32 = 0x10_0000;
 /// How many stacks there are.
 const STACKS: u32 = 16;
 
+/// How many ranges stand behind those of the segments: the heap and the stacks.
+pub(crate) const DATA_RANGES: usize = 1 + STACKS as usize;
+
 /// Where the first stack stands, how far the next is from it, and the size of each in bytes.
 const FIRST_STACK: u32 = 0x7000_0000;
 
@@ -65,7 +68,7 @@ fn segment_ranges(alloc: Global, segments: &[Segment]) -> Result<Vec<Range>, All
     requires { length segments.now ≤ 32 }
     ensures { IfOk result (λ ranges. ranges.items ≡ map range_of segments.now) }
 {
-    let mut ranges = Vec::with_capacity(alloc, segments.len() + 1 + STACKS as usize)?;
+    let mut ranges = Vec::with_capacity(alloc, segments.len() + DATA_RANGES)?;
     for segment in segments {
         ranges.push(segment_range(segment))?;
     }

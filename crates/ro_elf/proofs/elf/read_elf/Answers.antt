@@ -1,12 +1,12 @@
-use Rattle.std.proofs.Common.{◌≡◌, List, None, length, sym, ap, ◌∙◌, subst}
+use Rattle.std.proofs.Common.{◌≡◌, ◌<◌, ◌≤◌, List, None, length, sym, ap, ◌∙◌, subst}
 use Rattle.std.specs.List.{All, AllPairs}
 use Rattle.ro_elf.specs.Checks.{first_failing}
 use Rattle.ro_elf.specs.Header.{header_checks}
 use Rattle.ro_elf.specs.Segments.{headers_of, segments_of}
-use Rattle.ro_elf.specs.Elf.{IsLoaded, SharesNone}
+use Rattle.ro_elf.specs.Elf.{IsLoaded, SharesNone, memory_of}
 use Rattle.ro_elf.specs.declared.segments.Segment.{Segment}
 use Rattle.ro_elf.proofs.Checking.{bad_headers_first, bad_headers_second, elf_is, headers_of_is}
-use Rattle.ro_elf.proofs.Loading.{checked_loaded, checked_apart}
+use Rattle.ro_elf.proofs.Loading.{checked_loaded, checked_apart, checked_memory}
 use Rattle.ro_elf.proofs.elf.read_elf.Goals as goal
 
 pub returns-in-Some-clause-refused : goal.returns-in-Some-clause-refused
@@ -45,3 +45,15 @@ returns-in-None-clause-apart c =
     let all : AllPairs SharesNone (segments_of c.as_slice-2.result.now) = checked_apart (length c.args.bytes.now) c.word_at-entry.result c.as_slice-2.result.now (sym (c.in-None.ensures)) in
     let same : segments_of c.as_slice-2.result.now ≡ c.segments_in-segments.result.items = ap segments_of (c.as_slice-2.ensures.value ∙ sym c.as_slice.ensures.value) ∙ sym c.segments_in-segments.ensures in
     subst (λ (ss : List Segment). AllPairs SharesNone ss) same all
+
+pub returns-in-None-clause-some : goal.returns-in-None-clause-some
+returns-in-None-clause-some c =
+    let both = checked_memory (length c.args.bytes.now) c.word_at-entry.result c.as_slice-2.result.now (sym (c.in-None.ensures)) in
+    let same : segments_of c.as_slice-2.result.now ≡ c.segments_in-segments.result.items = ap segments_of (c.as_slice-2.ensures.value ∙ sym c.as_slice.ensures.value) ∙ sym c.segments_in-segments.ensures in
+    subst (λ (ss : List Segment). 0 < memory_of ss) same both.0
+
+pub returns-in-None-clause-few : goal.returns-in-None-clause-few
+returns-in-None-clause-few c =
+    let both = checked_memory (length c.args.bytes.now) c.word_at-entry.result c.as_slice-2.result.now (sym (c.in-None.ensures)) in
+    let same : segments_of c.as_slice-2.result.now ≡ c.segments_in-segments.result.items = ap segments_of (c.as_slice-2.ensures.value ∙ sym c.as_slice.ensures.value) ∙ sym c.segments_in-segments.ensures in
+    subst (λ (ss : List Segment). memory_of ss ≤ 4194304) same both.1

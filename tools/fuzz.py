@@ -33,7 +33,7 @@ PROGRAM = ROMAIN if "ROMAIN" in os.environ else str(ROOT / "crates/romain/out/ro
 def read_arguments():
     parser = argparse.ArgumentParser(description=__doc__, formatter_class=argparse.RawDescriptionHelpFormatter)
     parser.add_argument("--kinds", default=",".join(kinds.KINDS), help="parted by commas (all)")
-    parser.add_argument("--count", type=int, default=800, help="cases of each kind (800)")
+    parser.add_argument("--count", type=int, default=600, help="cases of each kind (600)")
     parser.add_argument("--seed", type=int, default=1, help="of the draws (1)")
     parser.add_argument("--only", type=int, metavar="N", help="case N alone, which is kept")
     parser.add_argument("--seconds", type=float, default=20, help="that one run may take (20)")

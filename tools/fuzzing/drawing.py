@@ -56,8 +56,47 @@ def copy_part(draw, data, place):
     data[place:place + size] = data[other:other + size]
 
 
+OPCODES = [0x03, 0x0F, 0x13, 0x17, 0x23, 0x33, 0x33, 0x37, 0x63, 0x67, 0x6F, 0x73]
+
+
+def change_word_of_code(draw, data, place):
+    """An instruction gets another bit, becomes another one of the code, or any."""
+    how, old = draw.randrange(4), int.from_bytes(data[place:place + 4], "little")
+    if how == 0:
+        new = old ^ 1 << draw.randrange(32)
+    elif how == 1:
+        new = draw.getrandbits(32) & ~0x7F | draw.choice(OPCODES)
+    elif how == 2:
+        new = old & ~0xFE000000 | draw.choice((0, 1, 32)) << 25
+    else:
+        other = place + 4 * draw.randrange(-20, 20)
+        new = int.from_bytes(data[other:other + 4], "little") if 0 <= other else 0
+    data[place:place + 4] = new.to_bytes(4, "little")[:len(data) - place]
+
+
+def code_of(data):
+    """Where the entry's segment stands in the file: its place, its size, and the entry's place."""
+    entry, place = struct.unpack_from("<II", data, 24)
+    for at in range(place, place + 32 * struct.unpack_from("<H", data, 44)[0], 32):
+        kind, offset, address, _, size, _, _, _ = struct.unpack_from("<8I", data, at)
+        if kind == 1 and address <= entry < address + size:
+            return offset, size, offset + entry - address
+    return 0, len(data), 0
+
+
+def mutated_code(draw, data):
+    """An executable with one to eight changes of its code."""
+    (start, size, entry), data = code_of(data), bytearray(data)
+    for _ in range(draw.choice((1, 1, 2, 4, 8))):
+        from_entry = min(entry + 4 * draw.randrange(60), start + size - 4)
+        change_word_of_code(draw, data, draw.choice((from_entry, start + 4 * draw.randrange(size // 4))))
+    return bytes(data)
+
+
 def mutated(draw, data):
-    """An executable with one to six changes, mostly of its headers, symbols and strings."""
+    """An executable with one to six changes, mostly of its headers, symbols and strings; or of its code."""
+    if draw.randrange(3) == 0:
+        return mutated_code(draw, data)
     places, data = regions(data), bytearray(data)
     changes = [change_field] * 8 + [cut_out, put_in, copy_part, copy_part]
     for _ in range(draw.choice((1, 1, 1, 2, 2, 3, 6))):

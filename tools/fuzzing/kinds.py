@@ -4,7 +4,7 @@ import dataclasses
 import os
 import pathlib
 
-from fuzzing import drawing, readers
+from fuzzing import drawing, machine, readers
 
 ROOT = pathlib.Path(__file__).resolve().parent.parent.parent
 GUESTS = ROOT / "guests"
@@ -89,28 +89,40 @@ def run_troubles(case, came, answer):
 
 
 class Executables:
-    """Changed executables. Which are refused, and by which code, is known; of those that run, that a guest with one thread
-    has neither copies nor replicas that differ."""
+    """Changed executables. Which are refused, and by which code, is known; what the others come to, too, as long as they have one
+    thread: output, answer, votes and steps, whatever the number of replicas and drivers and the quantum."""
 
     def __init__(self):
         files = [*sorted((GUESTS / "built").iterdir()), *sorted(SMALL.iterdir())]
         self.real = [file.read_bytes() for file in files]
 
     def draw(self, draw):
-        data = drawing.mutated(draw, draw.choice(self.real))
-        replicas = draw.choice((b"2", b"3"))
-        code, functions = readers.executable_of(data)
-        words = [b"run", b"guest", b"--input", b"input", b"--limit", b"50000", b"--replicas", replicas, b"--drivers", b"1"]
-        return Case(words, {"guest": data, "input": draw.randbytes(draw.randrange(200))},
-                    None if code is None else f"exe {code}", functions)
+        file, data = drawing.mutated(draw, draw.choice(self.real)), draw.randbytes(draw.choice((0, 1, 100, 5000)))
+        options = {"limit": draw.choice((200, 2_000, 10_000)), "watchdog": draw.choice((100, 128, 1_000, 10_000)),
+                   "quantum": draw.choice((1, 7, 128, 4_096)), "replicas": draw.choice((2, 3)), "drivers": draw.choice((1, 1, 2, 3))}
+        words = [b"run", b"guest", b"--input", b"input"]
+        for name, number in options.items():
+            words += [b"--" + name.encode(), str(number).encode()]
+        code, functions = readers.executable_of(file)
+        ran, wanted = None, f"exe {code}"
+        if code is None:
+            ran = machine.Machine(file, functions, data, options["watchdog"], options["limit"])
+            wanted = ran.run()
+        return Case(words, {"guest": file, "input": data}, wanted, ran)
 
     def troubles(self, case, came):
-        answer = came.answer() or ""
-        if case.wanted is None and answer.split(" ")[0] in (*REFUSALS, "unended", "no-step"):
-            yield f"it is accepted by the pages, and the answer is {answer}"
-        alone = b"pthread_create" not in case.about
-        if case.wanted is None and alone and (answer in ("differ", "no-majority", "deadlock") or came.summary().get("copies")):
-            yield f"one thread and no faults, and the report is {came.report[-200:]!r}"
+        ran = case.about
+        if ran is None:
+            return
+        if case.wanted is None:
+            if (came.answer() or "").split(" ")[0] in (*REFUSALS, "unended", "no-step"):
+                yield f"it is accepted by the pages, and the answer is {came.answer()}"
+            return
+        report = f"votes {ran.votes} copies 0 struck 0 steps {ran.steps} bytes {len(ran.output)}\nanswer {case.wanted}\n"
+        if came.report != report.encode():
+            yield f"{came.report!r} is reported, not {report!r}"
+        if came.output != ran.output:
+            yield f"{came.output[:80]!r}.., {len(came.output)} bytes came, not {bytes(ran.output[:80])!r}.., {len(ran.output)} bytes"
 
 
 class Faults:

@@ -1,0 +1,271 @@
+"""The machine of docs/GUESTS.md for programs with one thread, written after that page: what a program writes, how it ends and
+after how many votes and steps."""
+from fuzzing import readers
+
+WORD = 0xFFFFFFFF
+PAGE = 4096
+HEAP_SIZE = 1 << 20
+STACKS, STACK_SIZE, STACK_STEP, THREADS = 0x70000000, 0x10000, 0x20000, 16
+RETURN = 0x7FFFFFF0
+MOST_MUTEXES, MOST_BYTES = 256, 4096
+READ, WRITE, EXECUTE = 4, 2, 1
+EPERM, ESRCH, EBADF, EAGAIN, EFAULT, EBUSY, EINVAL, EDEADLK, ENOSYS = 1, 3, 9, 11, 14, 16, 22, 35, 38
+
+
+class Ended(Exception):
+    """The program has ended, with this answer."""
+
+
+class Several(Exception):
+    """A second thread would be made."""
+
+
+def signed(value):
+    return value - (1 << 32) if value >> 31 else value
+
+
+def extended(value, bits):
+    """A field's value with its sign."""
+    return (value ^ 1 << bits - 1) - (1 << bits - 1)
+
+
+def quotient(a, b):
+    return abs(a) // abs(b) * (1 if (a < 0) == (b < 0) else -1)
+
+
+def divided(a, b):
+    return WORD if b == 0 else quotient(signed(a), signed(b))
+
+
+def remains(a, b):
+    return a if b == 0 else signed(a) - quotient(signed(a), signed(b)) * signed(b)
+
+
+# By funct7 and funct3: of two registers.
+OPERATIONS = {
+    (0, 0): lambda a, b: a + b, (32, 0): lambda a, b: a - b, (0, 1): lambda a, b: a << (b & 31),
+    (0, 2): lambda a, b: signed(a) < signed(b), (0, 3): lambda a, b: a < b, (0, 4): lambda a, b: a ^ b,
+    (0, 5): lambda a, b: a >> (b & 31), (32, 5): lambda a, b: signed(a) >> (b & 31), (0, 6): lambda a, b: a | b,
+    (0, 7): lambda a, b: a & b,
+    (1, 0): lambda a, b: a * b, (1, 1): lambda a, b: signed(a) * signed(b) >> 32, (1, 2): lambda a, b: signed(a) * b >> 32,
+    (1, 3): lambda a, b: a * b >> 32, (1, 4): divided, (1, 5): lambda a, b: a // b if b else WORD, (1, 6): remains,
+    (1, 7): lambda a, b: a % b if b else a,
+}
+BRANCHES = {0: lambda a, b: a == b, 1: lambda a, b: a != b, 4: lambda a, b: signed(a) < signed(b),
+            5: lambda a, b: signed(a) >= signed(b), 6: lambda a, b: a < b, 7: lambda a, b: a >= b}
+
+
+class Machine:
+    def __init__(self, file, functions, data, watchdog, limit):
+        self.registers, self.pc = [0] * 32, readers.word(file, 24)
+        self.calls = {address: name for name, address in functions.items()}
+        self.input, self.output = data, bytearray()
+        self.pages, self.ranges = {}, []
+        self.owners = {}
+        self.watchdog, self.limit = watchdog, limit
+        self.since, self.steps, self.votes = 0, 0, 0
+        self.load(file)
+        self.registers[2] = STACKS + STACK_SIZE - 16
+
+    def load(self, file):
+        top = 0
+        for segment in readers.program_headers(file):
+            if segment.kind == 1 and segment.size:
+                self.ranges.append((segment.address, segment.end, segment.flags))
+                top = max(top, segment.end)
+                self.fill(segment.address, file[segment.offset:segment.offset + segment.file_size])
+        self.heap = self.broken = -(-top // PAGE) * PAGE
+        self.ranges.append((self.heap, self.heap + HEAP_SIZE, READ | WRITE))
+        self.ranges += [(STACKS + STACK_STEP * i, STACKS + STACK_STEP * i + STACK_SIZE, READ | WRITE) for i in range(THREADS)]
+
+    # ---- Memory
+
+    def fill(self, address, data):
+        """Stores bytes; their pages are there then."""
+        for place, byte in enumerate(data, address):
+            self.pages.setdefault(place // PAGE, bytearray(PAGE))[place % PAGE] = byte
+
+    def bytes_at(self, address, size):
+        return bytes(self.pages[place // PAGE][place % PAGE] if place // PAGE in self.pages else 0
+                     for place in range(address, address + size))
+
+    def permits(self, address, size, kind):
+        """Whether each of the bytes may be read, written or executed."""
+        end = address + size
+        while address < end:
+            reached = next((range_end for start, range_end, flags in self.ranges if flags & kind and start <= address < range_end),
+                           None)
+            if reached is None:
+                return False
+            address = reached
+        return True
+
+    def place(self, address):
+        """The page of an address, and where it is in it. The first time it is needed its replicas stop there, for a vote."""
+        while address // PAGE not in self.pages:
+            self.vote(0)
+            self.pages[address // PAGE] = bytearray(PAGE)
+        return self.pages[address // PAGE], address % PAGE
+
+    # ---- Votes
+
+    def vote(self, served):
+        """The replicas are compared; so many steps lie behind them since the vote before, and one more where it serves."""
+        more = self.since + served
+        if self.steps + more > self.limit:
+            raise Ended(f"limit {self.steps} {more}")
+        self.steps, self.since, self.votes = self.steps + more, 0, self.votes + 1
+
+    def trap(self, cause):
+        self.vote(1)
+        raise Ended(f"trap {cause}")
+
+    # ---- Calls
+
+    def system_call(self, number, a0, a1, a2):
+        """What it answers; an error is negative."""
+        if number in (63, 64):
+            fits, kind = (a0 == 0, WRITE) if number == 63 else (a0 in (1, 2), READ)
+            size = min(a2, MOST_BYTES)
+            if not fits:
+                return -EBADF
+            if size == 0:
+                return 0
+            if not self.permits(a1, size, kind):
+                return -EFAULT
+            if number == 64:
+                self.output += self.bytes_at(a1, size)
+                return size
+            came, self.input = self.input[:size], self.input[size:]
+            self.fill(a1, came)
+            return len(came)
+        if number in (93, 94):
+            raise Ended(f"exit {a0 & 255}")
+        if number == 214:
+            self.broken = a0 if self.heap <= a0 <= self.heap + HEAP_SIZE else self.broken
+            return self.broken
+        return -ENOSYS
+
+    def room(self, place):
+        return place % 4 == 0 and self.permits(place, 4, WRITE)
+
+    def thread_call(self, name, a0, a1, a2):
+        """What it answers to the one thread there is."""
+        if name == b"pthread_exit":
+            raise Ended("exit 0")
+        if name == b"pthread_self":
+            return 0
+        if name == b"pthread_join":
+            return EDEADLK if a0 == 0 else ESRCH
+        if name == b"pthread_create":
+            if a1 or a2 % 4:
+                return EINVAL
+            if not self.room(a0):
+                return EFAULT
+            raise Several
+        if not self.room(a0):
+            return EFAULT
+        held = self.owners.get(a0, False)
+        if name in (b"pthread_mutex_lock", b"pthread_mutex_trylock"):
+            if held:
+                return EDEADLK if name == b"pthread_mutex_lock" else EBUSY
+            if a0 not in self.owners and len(self.owners) == MOST_MUTEXES:
+                return EAGAIN
+            self.owners[a0] = True
+        elif name == b"pthread_mutex_unlock":
+            if not held:
+                return EPERM
+            self.owners[a0] = False
+        return 0
+
+    # ---- Steps
+
+    def run(self):
+        """How it ends, in the answer's words; None where it makes a second thread."""
+        try:
+            while True:
+                if self.since == self.watchdog:
+                    self.vote(0)
+                self.step()
+        except Ended as end:
+            return str(end)
+        except Several:
+            return None
+
+    def step(self):
+        pc, x = self.pc, self.registers
+        if pc % 4:
+            self.trap(1)
+        name = b"pthread_exit" if pc == RETURN else self.calls.get(pc)
+        if name:
+            self.vote(1)
+            x[10] = self.thread_call(name, x[10], x[11], x[12])
+            self.pc = x[1]
+            return
+        if not self.permits(pc, 4, EXECUTE):
+            self.trap(2)
+        page, at = self.place(pc)
+        word = int.from_bytes(page[at:at + 4], "little")
+        if word == 0x00000073:
+            self.vote(1)
+            x[10] = self.system_call(x[17], x[10], x[11], x[12]) & WORD
+            self.pc = (pc + 4) & WORD
+            return
+        if word == 0x00100073:
+            self.trap(9)
+        register, value, after = self.instruction(word, pc, x) or self.trap(3)
+        if register:
+            x[register] = value & WORD
+        self.pc, self.since = after & WORD, self.since + 1
+
+    def instruction(self, word, pc, x):
+        """The register that gets a value, the value, and the next pc; None where the word is no instruction."""
+        opcode, rd, funct3, funct7 = word & 127, word >> 7 & 31, word >> 12 & 7, word >> 25
+        a, b, after, immediate = x[word >> 15 & 31], x[word >> 20 & 31], pc + 4, extended(word >> 20, 12)
+        if opcode == 0x37:
+            return rd, word & 0xFFFFF000, after
+        if opcode == 0x17:
+            return rd, pc + (word & 0xFFFFF000), after
+        if opcode == 0x6F:
+            by = (word >> 31) << 20 | (word >> 12 & 0xFF) << 12 | (word >> 20 & 1) << 11 | (word >> 21 & 0x3FF) << 1
+            return rd, after, self.target(pc + extended(by, 21))
+        if opcode == 0x67 and funct3 == 0:
+            return rd, after, self.target((a + immediate) & ~1)
+        if opcode == 0x63 and funct3 in BRANCHES:
+            by = (word >> 31) << 12 | (word >> 7 & 1) << 11 | (word >> 25 & 63) << 5 | (word >> 8 & 15) << 1
+            return 0, 0, self.target(pc + extended(by, 13)) if BRANCHES[funct3](a, b) else after
+        if opcode == 0x03 and funct3 in (0, 1, 2, 4, 5):
+            return rd, self.loaded((a + immediate) & WORD, 1 << (funct3 & 3), funct3 < 4), after
+        if opcode == 0x23 and funct3 < 3:
+            self.store((a + extended(funct7 << 5 | rd, 12)) & WORD, 1 << funct3, b)
+            return 0, 0, after
+        if opcode == 0x13:
+            operation = OPERATIONS.get((funct7 if funct3 in (1, 5) else 0, funct3)) if funct7 != 1 or funct3 not in (1, 5) else None
+            other = word >> 20 & 31 if funct3 in (1, 5) else immediate & WORD
+            return (rd, int(operation(a, other)), after) if operation else None
+        if opcode == 0x33 and (funct7, funct3) in OPERATIONS:
+            return rd, int(OPERATIONS[funct7, funct3](a, b)), after
+        if opcode == 0x0F and funct3 == 0:
+            return 0, 0, after
+        return None
+
+    def target(self, address):
+        if address % 4:
+            self.trap(4)
+        return address
+
+    def loaded(self, address, size, is_signed):
+        if address % size:
+            self.trap(5)
+        if not self.permits(address, size, READ):
+            self.trap(6)
+        page, at = self.place(address)
+        return int.from_bytes(page[at:at + size], "little", signed=is_signed)
+
+    def store(self, address, size, value):
+        if address % size:
+            self.trap(7)
+        if not self.permits(address, size, WRITE):
+            self.trap(8)
+        page, at = self.place(address)
+        page[at:at + size] = (value & (1 << 8 * size) - 1).to_bytes(size, "little")

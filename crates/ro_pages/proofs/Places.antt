@@ -1,138 +1,172 @@
--- The map that a table of places makes.
-use Rattle.std.proofs.Common.{◌≡◌, ℕ, suc, zero, ◌+◌, ◌<◌, ◌≤◌, List, [], ◌∷◌, ◌++◌, length, set, refl, ap, sym, ◌∙◌, arith, Option, Some, None, cond, true, false, inl, inr, get_or, is_some}
+-- The map that pages at places make.
+use Rattle.std.specs.Prelude.{◌≡◌, ◌≢◌, ℕ, zero, suc, ◌+◌, ◌<◌, ◌≤◌, ◌||◌, ◌==◌, true, false, List, [], ◌∷◌, ◌++◌, length, drop, Option, Some, None, is_some}
+use Rattle.std.specs.List.{slice_get}
 use Rattle.std.specs.Option.{option_map}
-use Rattle.std.proofs.lemmas.Bool.{cases_order, cases_eq, cases_lt}
-use Rattle.std.specs.Ordering.{nat_cmp, eq_by_cmp}
+use Rattle.std.proofs.Common.{refl, sym, ap, ◌∙◌, inl, inr, arith, get_or, set}
+use Rattle.std.proofs.lemmas.Bool.{cases_eq, cases_lt, true≢false, eq-eqb, ne_eqb, or_parts}
+use Rattle.std.proofs.lemmas.Option.{get_or_from_slice_get, slice_get-get_or, slice_get_past}
+use Rattle.std.proofs.lemmas.List.{drop_more, length-set}
+use Rattle.std.specs.Ordering.{nat_cmp}
 use Rattle.std.specs.Cmp.{nat_cmp_total}
 use Rattle.std.specs.FinMap as map
-use Rattle.std.specs.FinMap.{gets, same_map, nat_cmp-IsAntisymmetric}
-use Rattle.std.proofs.lemmas.Bool.Decides.{nat_tests}
-use Rattle.ro_pages.specs.Held.{pages_from, has_page}
+use Rattle.std.specs.FinMap.{FinMap, gets, same_map, nat_cmp-IsAntisymmetric}
+use Rattle.ro_pages.specs.Directories.{IsEntry, is_listed}
+use Rattle.ro_pages.specs.Held.{pages_of, has_page}
+use Rattle.ro_pages.proofs.Entries.{listed_at}
+use Rattle.ro_pages.proofs.PageBytes.{same_get, other_get}
 
--- what stands at place i
-abbrev pub place : {X : Type 0} → (X → List ℕ) → List (Option X) → ℕ → Option (List ℕ)
-place v [] i = None
-place v (None ∷ xs) zero = None
-place v (Some x ∷ xs) zero = Some (v x)
-place v (o ∷ xs) (suc i) = place v xs i
+later : (n q e : ℕ) (ns : List ℕ) → IsEntry (n ∷ ns) q (suc e) → IsEntry ns q e
+later n q e ns h = record {
+  found = λ l. h.found (omega arith);
+  only = λ other g. let k : suc other ≡ suc e = h.only (suc other) g in omega arith;
+}
 
-pub pages_from_push_none : {X : Type 0} (v : X → List ℕ) (k : ℕ) (xs : List (Option X)) → pages_from v k (xs ++ None ∷ []) ≡ pages_from v k xs
-pages_from_push_none v k [] = refl
-pages_from_push_none v k (None ∷ xs) = pages_from_push_none v (k + 1) xs
-pages_from_push_none v k (Some x ∷ xs) = ap (λ m. map.insert m k (v x)) (pages_from_push_none v (k + 1) xs)
+first_is_other : (n q e : ℕ) (ns : List ℕ) → IsEntry (n ∷ ns) q (suc e) → q ≢ n
+first_is_other n q e ns h same = let k : 0 ≡ suc e = h.only 0 (ap Some (sym same)) in absurd (omega arith)
 
-same_key : (k : ℕ) → eq_by_cmp nat_cmp k k ≡ true
-same_key k = grind (arith, nat_tests)
+-- what the map has for a page is what stands at its entry
+pub get_pages : {X : Type 0} (v : X → List ℕ) (ns : List ℕ) (xs : List X) (q e : ℕ) → length ns ≡ length xs → IsEntry ns q e → map.get (pages_of v ns xs) q ≡ option_map v (slice_get xs e)
+get_pages v [] [] q e l h = grind (arith, gets)
+get_pages v [] (x ∷ xs) q e l h = absurd (omega arith)
+get_pages v (n ∷ ns) [] q e l h = absurd (omega arith)
+get_pages v (n ∷ ns) (x ∷ xs) q zero l h =
+    let is : n ≡ q = get_or_from_slice_get (n ∷ ns) 0 q 0 (h.found (omega arith)) in
+    ap (map.get (map.insert (pages_of v ns xs) n (v x))) (sym is) ∙ same_get (pages_of v ns xs) n (v x)
+get_pages v (n ∷ ns) (x ∷ xs) q (suc e) l h =
+    other_get (pages_of v ns xs) n q (v x) (first_is_other n q e ns h) ∙ get_pages v ns xs q e (omega arith) (later n q e ns h)
 
-other_key : (q k : ℕ) → k < q → eq_by_cmp nat_cmp q k ≡ false
-other_key q k h = grind (arith, nat_tests)
-
-below_key : (q k : ℕ) → q < k → eq_by_cmp nat_cmp q k ≡ false
-below_key q k h = grind (arith, nat_tests)
-
-apart_key : (q k : ℕ) → (q ≡ k → ⊥) → eq_by_cmp nat_cmp q k ≡ false
-apart_key q k h = elim (cases_lt q k) [ inl l ↦ below_key q k l | inr l ↦ other_key q k (omega arith) ]
-
-pub get-pages_from_below : {X : Type 0} (v : X → List ℕ) (k : ℕ) (xs : List (Option X)) (q : ℕ) → q < k → map.get (pages_from v k xs) q ≡ None
-get-pages_from_below v k [] q h = grind (arith, gets)
-get-pages_from_below v k (None ∷ xs) q h = get-pages_from_below v (k + 1) xs q (omega arith)
-get-pages_from_below v k (Some x ∷ xs) q h = map.get-insert nat_cmp_total _ k (v x) q ∙ ap (λ b. cond b (Some (v x)) (map.get (pages_from v (k + 1) xs) q)) (below_key q k h) ∙ get-pages_from_below v (k + 1) xs q (omega arith)
-
-pub get-pages_from : {X : Type 0} (v : X → List ℕ) (k : ℕ) (xs : List (Option X)) (i q : ℕ) → q ≡ k + i → map.get (pages_from v k xs) q ≡ place v xs i
-get-pages_from v k [] i q e = grind (arith, gets)
-get-pages_from v k (None ∷ xs) zero q e = get-pages_from_below v (k + 1) xs q (omega arith)
-get-pages_from v k (None ∷ xs) (suc i) q e = get-pages_from v (k + 1) xs i q (omega arith)
-get-pages_from v k (Some x ∷ xs) zero q e = let same : q ≡ k = omega arith in map.get-insert nat_cmp_total _ k (v x) q ∙ ap (λ b. cond b (Some (v x)) (map.get (pages_from v (k + 1) xs) q)) (ap (λ n. eq_by_cmp nat_cmp n k) same ∙ same_key k)
-get-pages_from v k (Some x ∷ xs) (suc i) q e = map.get-insert nat_cmp_total _ k (v x) q ∙ ap (λ b. cond b (Some (v x)) (map.get (pages_from v (k + 1) xs) q)) (other_key q k (omega arith)) ∙ get-pages_from v (k + 1) xs i q (omega arith)
-
-pub place-set_same : {X : Type 0} (v : X → List ℕ) (xs : List (Option X)) (i : ℕ) (y : X) → i < length xs → place v (set xs i (Some y)) i ≡ Some (v y)
-place-set_same v [] i y h = absurd (omega arith)
-place-set_same v (None ∷ xs) zero y h = refl
-place-set_same v (Some x ∷ xs) zero y h = refl
-place-set_same v (None ∷ xs) (suc i) y h = place-set_same v xs i y (omega arith)
-place-set_same v (Some x ∷ xs) (suc i) y h = place-set_same v xs i y (omega arith)
-
-pub place-set_other : {X : Type 0} (v : X → List ℕ) (xs : List (Option X)) (i j : ℕ) (o : Option X) → (j ≡ i → ⊥) → place v (set xs i o) j ≡ place v xs j
-place-set_other v [] i j o h = refl
-place-set_other v (x ∷ xs) zero zero o h = absurd (h refl)
-place-set_other v (None ∷ xs) zero (suc j) None h = refl
-place-set_other v (None ∷ xs) zero (suc j) (Some y) h = refl
-place-set_other v (Some x ∷ xs) zero (suc j) None h = refl
-place-set_other v (Some x ∷ xs) zero (suc j) (Some y) h = refl
-place-set_other v (None ∷ xs) (suc i) zero o h = refl
-place-set_other v (Some x ∷ xs) (suc i) zero o h = refl
-place-set_other v (None ∷ xs) (suc i) (suc j) o h = place-set_other v xs i j o (λ e. h (omega arith))
-place-set_other v (Some x ∷ xs) (suc i) (suc j) o h = place-set_other v xs i j o (λ e. h (omega arith))
-
--- a page that is put at its place
-pub pages_from_set : {X : Type 0} (v : X → List ℕ) (xs : List (Option X)) (i : ℕ) (y : X) → i < length xs → pages_from v 0 (set xs i (Some y)) ≡ map.insert (pages_from v 0 xs) i (v y)
-pages_from_set v xs i y h = same_map nat_cmp_total nat_cmp-IsAntisymmetric _ _ (λ q. get-pages_from v 0 _ q q (omega arith) ∙ by_cases q ∙ sym (map.get-insert nat_cmp_total _ i (v y) q))
+-- the pages that the map has are those of the list
+pub has_listed : {X : Type 0} (v : X → List ℕ) (ns : List ℕ) (xs : List X) (q : ℕ) → length ns ≡ length xs → has_page (pages_of v ns xs) q ≡ is_listed ns q
+has_listed v [] [] q l = ap is_some none
   where
-    by_cases : (q : ℕ) → place v (set xs i (Some y)) q ≡ cond (eq_by_cmp nat_cmp q i) (Some (v y)) (map.get (pages_from v 0 xs) q)
-    by_cases q = elim (cases_order q i) [
-      | inl e ↦ ap (place v (set xs i (Some y))) e ∙ place-set_same v xs i y h ∙ ap (λ b. cond b (Some (v y)) (map.get (pages_from v 0 xs) q)) (sym (ap (λ n. eq_by_cmp nat_cmp n i) e ∙ same_key i))
-      | inr (inl l) ↦ place-set_other v xs i q (Some y) (λ e. absurd (omega arith)) ∙ sym (get-pages_from v 0 xs q q (omega arith)) ∙ ap (λ b. cond b (Some (v y)) (map.get (pages_from v 0 xs) q)) (sym (below_key q i l))
-      | inr (inr l) ↦ place-set_other v xs i q (Some y) (λ e. absurd (omega arith)) ∙ sym (get-pages_from v 0 xs q q (omega arith)) ∙ ap (λ b. cond b (Some (v y)) (map.get (pages_from v 0 xs) q)) (sym (other_key q i l))
-    ]
-
-pub place-get_or : {X : Type 0} (v : X → List ℕ) (xs : List (Option X)) (i : ℕ) (d : Option X) → i < length xs → place v xs i ≡ option_map v (get_or xs i d)
-place-get_or v [] i d h = absurd (omega arith)
-place-get_or v (None ∷ xs) zero d h = refl
-place-get_or v (Some x ∷ xs) zero d h = refl
-place-get_or v (None ∷ xs) (suc i) d h = place-get_or v xs i d (omega arith)
-place-get_or v (Some x ∷ xs) (suc i) d h = place-get_or v xs i d (omega arith)
-
--- what the map has at a place that was read
-pub get_pages_from_read : {X : Type 0} (v : X → List ℕ) (xs : List (Option X)) (i : ℕ) (o : Option X) → i < length xs → o ≡ get_or xs i o → map.get (pages_from v 0 xs) i ≡ option_map v o
-get_pages_from_read v xs i o h e = get-pages_from v 0 xs i i (omega arith) ∙ place-get_or v xs i o h ∙ ap (option_map v) (sym e)
-
--- the same, for one that is backed or not
-pub has_page_read : {X : Type 0} (v : X → List ℕ) (xs : List (Option X)) (i : ℕ) (o : Option X) → i < length xs → o ≡ get_or xs i o → has_page (pages_from v 0 xs) i ≡ is_some (option_map v o)
-has_page_read v xs i o h e = ap is_some (get_pages_from_read v xs i o h e)
-
-pub is_some_map : {X : Type 0} (v : X → List ℕ) (o : Option X) → is_some (option_map v o) ≡ is_some o
-is_some_map v None = refl
-is_some_map v (Some x) = refl
-
-pub place_read : {X : Type 0} (v : X → List ℕ) (xs : List (Option X)) (i : ℕ) (o : Option X) → i < length xs → o ≡ get_or xs i o → place v xs i ≡ option_map v o
-place_read v xs i o h e = place-get_or v xs i o h ∙ ap (option_map v) (sym e)
-
-pub place-set_here : {X : Type 0} (v : X → List ℕ) (xs : List (Option X)) (i : ℕ) (o : Option X) → i < length xs → place v (set xs i o) i ≡ option_map v o
-place-set_here v [] i o h = absurd (omega arith)
-place-set_here v (x ∷ xs) zero None h = refl
-place-set_here v (x ∷ xs) zero (Some y) h = refl
-place-set_here v (None ∷ xs) (suc i) o h = place-set_here v xs i o (omega arith)
-place-set_here v (Some x ∷ xs) (suc i) o h = place-set_here v xs i o (omega arith)
-
--- one more place is as the other table's
-pub backed_more : {X : Type 0} (v : X → List ℕ) (xs ys : List (Option X)) (i : ℕ) (o : Option X) → i < length xs → option_map v o ≡ place v ys i → ((j : ℕ) → is_some (place v xs j) ≡ is_some (place v ys j)) → (j : ℕ) → is_some (place v (set xs i o) j) ≡ is_some (place v ys j)
-backed_more v xs ys i o l e h j = elim (cases_eq j i) [
-  | inl same ↦ ap (λ k. is_some (place v (set xs i o) k)) same ∙ ap is_some (place-set_here v xs i o l ∙ e) ∙ ap (λ k. is_some (place v ys k)) (sym same)
-  | inr other ↦ ap is_some (place-set_other v xs i j o other) ∙ h j
+    none : map.get (pages_of v [] []) q ≡ None
+    none = grind (arith, gets)
+has_listed v [] (x ∷ xs) q l = absurd (omega arith)
+has_listed v (n ∷ ns) [] q l = absurd (omega arith)
+has_listed v (n ∷ ns) (x ∷ xs) q l = elim (cases_eq q n) [
+  | inl same ↦
+      ap (has_page (map.insert (pages_of v ns xs) n (v x))) same ∙ ap is_some (same_get (pages_of v ns xs) n (v x))
+      ∙ sym (ap (λ b. b || is_listed ns q) (eq-eqb n q (sym same)))
+  | inr other ↦
+      ap is_some (other_get (pages_of v ns xs) n q (v x) other) ∙ has_listed v ns xs q (omega arith)
+      ∙ sym (ap (λ b. b || is_listed ns q) (ne_eqb n q (λ e. other (sym e))))
 ]
 
-pub copied_more : {X : Type 0} (v : X → List ℕ) (xs ys : List (Option X)) (i : ℕ) (o : Option X) → i < length xs → option_map v o ≡ place v ys i → ((j : ℕ) → j < i → place v xs j ≡ place v ys j) → (j : ℕ) → j < i + 1 → place v (set xs i o) j ≡ place v ys j
-copied_more v xs ys i o l e h j below = elim (cases_eq j i) [
-  | inl same ↦ ap (λ k. place v (set xs i o) k) same ∙ place-set_here v xs i o l ∙ e ∙ ap (λ k. place v ys k) (sym same)
-  | inr other ↦ place-set_other v xs i j o other ∙ h j (omega arith)
+set_elsewhere : {X : Type 0} (v : X → List ℕ) (ns : List ℕ) (xs : List X) (q e k : ℕ) (y : X) → slice_get ns e ≡ Some q → k ≢ q → map.get (pages_of v ns (set xs e y)) k ≡ map.get (pages_of v ns xs) k
+set_elsewhere v [] xs q e k y h other = refl
+set_elsewhere v (n ∷ ns) [] q e k y h other = refl
+set_elsewhere v (n ∷ ns) (x ∷ xs) q zero k y h other =
+    let is : n ≡ q = get_or_from_slice_get (n ∷ ns) 0 q 0 h in
+    other_get (pages_of v ns xs) n k (v y) (λ e. other (e ∙ is)) ∙ sym (other_get (pages_of v ns xs) n k (v x) (λ e. other (e ∙ is)))
+set_elsewhere v (n ∷ ns) (x ∷ xs) q (suc e) k y h other = elim (cases_eq k n) [
+  | inl same ↦
+      ap (map.get (map.insert (pages_of v ns (set xs e y)) n (v x))) same ∙ same_get _ n (v x)
+      ∙ sym (ap (map.get (map.insert (pages_of v ns xs) n (v x))) same ∙ same_get (pages_of v ns xs) n (v x))
+  | inr apart ↦
+      other_get (pages_of v ns (set xs e y)) n k (v x) apart ∙ set_elsewhere v ns xs q e k y h other
+      ∙ sym (other_get (pages_of v ns xs) n k (v x) apart)
 ]
 
-pub place_past : {X : Type 0} (v : X → List ℕ) (xs : List (Option X)) (j : ℕ) → length xs ≤ j → place v xs j ≡ None
-place_past v [] j h = refl
-place_past v (x ∷ xs) zero h = absurd (omega arith)
-place_past v (None ∷ xs) (suc j) h = place_past v xs j (omega arith)
-place_past v (Some x ∷ xs) (suc j) h = place_past v xs j (omega arith)
+set_here : {X : Type 0} (xs : List X) (e : ℕ) (y : X) → e < length xs → slice_get (set xs e y) e ≡ Some y
+set_here [] e y l = absurd (omega arith)
+set_here (x ∷ xs) zero y l = refl
+set_here (x ∷ xs) (suc e) y l = set_here xs e y (omega arith)
 
--- tables that agree at each place are one map
-pub same_places : {X : Type 0} (v : X → List ℕ) (xs ys : List (Option X)) → length xs ≡ length ys → ((j : ℕ) → j < length xs → place v xs j ≡ place v ys j) → pages_from v 0 xs ≡ pages_from v 0 ys
-same_places v xs ys l h = same_map nat_cmp_total nat_cmp-IsAntisymmetric _ _ (λ q. get-pages_from v 0 xs q q (omega arith) ∙ at q ∙ sym (get-pages_from v 0 ys q q (omega arith)))
+-- maps that have the same at one page, and at each other one
+by_page : (m n : FinMap nat_cmp (List ℕ)) (q : ℕ) → map.get m q ≡ map.get n q → ((k : ℕ) → k ≢ q → map.get m k ≡ map.get n k) → m ≡ n
+by_page m n q same others = same_map nat_cmp_total nat_cmp-IsAntisymmetric m n (λ k. elim (cases_eq k q) [
+  | inl is ↦ ap (map.get m) is ∙ same ∙ sym (ap (map.get n) is)
+  | inr other ↦ others k other
+])
+
+-- another page at the place of a page
+pub pages_of_set : {X : Type 0} (v : X → List ℕ) (ns : List ℕ) (xs : List X) (q e : ℕ) (y : X) → length ns ≡ length xs → IsEntry ns q e → e < length ns → pages_of v ns (set xs e y) ≡ map.insert (pages_of v ns xs) q (v y)
+pages_of_set v ns xs q e y l h within =
+    by_page _ _ q
+    (get_pages v ns (set xs e y) q e (l ∙ sym (length-set xs e y)) h ∙ ap (option_map v) (set_here xs e y (omega arith)) ∙ sym (same_get (pages_of v ns xs) q (v y)))
+    (λ k other. set_elsewhere v ns xs q e k y (h.found within) other ∙ sym (other_get (pages_of v ns xs) q k (v y) other))
+
+push_elsewhere : {X : Type 0} (v : X → List ℕ) (ns : List ℕ) (xs : List X) (q k : ℕ) (y : X) → length ns ≡ length xs → k ≢ q → map.get (pages_of v (ns ++ q ∷ []) (xs ++ y ∷ [])) k ≡ map.get (pages_of v ns xs) k
+push_elsewhere v [] [] q k y l other = other_get map.empty q k (v y) other
+push_elsewhere v [] (x ∷ xs) q k y l other = absurd (omega arith)
+push_elsewhere v (n ∷ ns) [] q k y l other = absurd (omega arith)
+push_elsewhere v (n ∷ ns) (x ∷ xs) q k y l other = elim (cases_eq k n) [
+  | inl same ↦
+      ap (map.get (map.insert (pages_of v (ns ++ q ∷ []) (xs ++ y ∷ [])) n (v x))) same ∙ same_get _ n (v x)
+      ∙ sym (ap (map.get (map.insert (pages_of v ns xs) n (v x))) same ∙ same_get (pages_of v ns xs) n (v x))
+  | inr apart ↦
+      other_get (pages_of v (ns ++ q ∷ []) (xs ++ y ∷ [])) n k (v x) apart ∙ push_elsewhere v ns xs q k y (omega arith) other
+      ∙ sym (other_get (pages_of v ns xs) n k (v x) apart)
+]
+
+push_here : {X : Type 0} (v : X → List ℕ) (ns : List ℕ) (xs : List X) (q : ℕ) (y : X) → length ns ≡ length xs → is_listed ns q ≡ false → map.get (pages_of v (ns ++ q ∷ []) (xs ++ y ∷ [])) q ≡ Some (v y)
+push_here v [] [] q y l h = same_get map.empty q (v y)
+push_here v [] (x ∷ xs) q y l h = absurd (omega arith)
+push_here v (n ∷ ns) [] q y l h = absurd (omega arith)
+push_here v (n ∷ ns) (x ∷ xs) q y l h =
+    let parts = or_parts (n == q) (is_listed ns q) h in
+    other_get (pages_of v (ns ++ q ∷ []) (xs ++ y ∷ [])) n q (v x) (λ e. true≢false (sym (eq-eqb n q (sym e)) ∙ parts.0)) ∙ push_here v ns xs q y (omega arith) parts.1
+
+-- a page behind the others
+pub pages_of_push : {X : Type 0} (v : X → List ℕ) (ns : List ℕ) (xs : List X) (q : ℕ) (y : X) → length ns ≡ length xs → is_listed ns q ≡ false → pages_of v (ns ++ q ∷ []) (xs ++ y ∷ []) ≡ map.insert (pages_of v ns xs) q (v y)
+pages_of_push v ns xs q y l h =
+    by_page _ _ q (push_here v ns xs q y l h ∙ sym (same_get (pages_of v ns xs) q (v y)))
+    (λ k other. push_elsewhere v ns xs q k y l other ∙ sym (other_get (pages_of v ns xs) q k (v y) other))
+
+-- a page that the map has stands at its entry
+pub stands : {X : Type 0} (v : X → List ℕ) (m : FinMap nat_cmp (List ℕ)) (ns : List ℕ) (xs : List X) (q e : ℕ) → pages_of v ns xs ≡ m → length ns ≡ length xs → IsEntry ns q e → has_page m q ≡ true → e < length xs
+stands v m ns xs q e is l h backed = elim (cases_lt e (length xs)) [
+  | inl low ↦ low
+  | inr past ↦
+      absurd (true≢false (sym backed ∙ ap is_some (ap (λ k. map.get k q) (sym is) ∙ get_pages v ns xs q e l h ∙ ap (option_map v) (slice_get_past xs e past))))
+]
+
+-- and is read there
+pub read_at : {X : Type 0} (v : X → List ℕ) (m : FinMap nat_cmp (List ℕ)) (ns : List ℕ) (xs : List X) (q e : ℕ) (x : X) → pages_of v ns xs ≡ m → length ns ≡ length xs → IsEntry ns q e → e < length xs → x ≡ get_or xs e x → map.get m q ≡ Some (v x)
+read_at v m ns xs q e x is l h within at =
+    ap (λ k. map.get k q) (sym is) ∙ get_pages v ns xs q e l h ∙ ap (option_map v) (slice_get-get_or xs e x within) ∙ ap (λ y. Some (v y)) (sym at)
+
+pub unread : {X : Type 0} (v : X → List ℕ) (m : FinMap nat_cmp (List ℕ)) (ns : List ℕ) (xs : List X) (q e : ℕ) → pages_of v ns xs ≡ m → length ns ≡ length xs → IsEntry ns q e → length xs ≤ e → map.get m q ≡ None
+unread v m ns xs q e is l h past = ap (λ k. map.get k q) (sym is) ∙ get_pages v ns xs q e l h ∙ ap (option_map v) (slice_get_past xs e past)
+
+-- a page is written at its place
+pub written_at : {X : Type 0} (v : X → List ℕ) (m : FinMap nat_cmp (List ℕ)) (ns : List ℕ) (xs : List X) (q e : ℕ) (y : X) → pages_of v ns xs ≡ m → length ns ≡ length xs → IsEntry ns q e → e < length xs → pages_of v ns (set xs e y) ≡ map.insert m q (v y)
+written_at v m ns xs q e y is l h within = pages_of_set v ns xs q e y l h (omega arith) ∙ ap (λ k. map.insert k q (v y)) is
+
+-- maps that have the same pages backed have neither where none is listed
+pub unlisted_same : (m n : FinMap nat_cmp (List ℕ)) (q : ℕ) → has_page m q ≡ false → has_page n q ≡ false → map.get m q ≡ map.get n q
+unlisted_same m n q h g = is_none (map.get m q) h ∙ sym (is_none (map.get n q) g)
   where
-    at : (q : ℕ) → place v xs q ≡ place v ys q
-    at q = elim (cases_lt q (length xs)) [
-      | inl low ↦ h q low
-      | inr high ↦ place_past v xs q high ∙ sym (place_past v ys q (omega arith))
+    is_none : (o : Option (List ℕ)) → is_some o ≡ false → o ≡ None
+    is_none None e = refl
+    is_none (Some x) e = absurd (true≢false e)
+
+-- one page more is copied
+pub copied_more : (l m n : FinMap nat_cmp (List ℕ)) (ns : List ℕ) (i : ℕ) (z : List ℕ) → i < length ns → l ≡ map.insert m (get_or ns i 0) z → map.get n (get_or ns i 0) ≡ Some z
+    → ((q : ℕ) → is_listed (drop i ns) q ≡ false → map.get m q ≡ map.get n q) → (q : ℕ) → is_listed (drop (i + 1) ns) q ≡ false → map.get l q ≡ map.get n q
+copied_more l m n ns i z low is theirs h q rest =
+    let p = get_or ns i 0 in
+    ap (λ k. map.get k q) is
+    ∙ elim (cases_eq q p) [
+      | inl same ↦ ap (map.get (map.insert m p z)) same ∙ same_get m p z ∙ sym (ap (map.get n) same ∙ theirs)
+      | inr other ↦
+          other_get m p q z other
+          ∙ h q (ap (λ xs. is_listed xs q) (drop_more ns i 0 low) ∙ ap (λ b. b || is_listed (drop (i + 1) ns) q) (ne_eqb p q (λ e. other (sym e))) ∙ rest)
     ]
 
--- which pages are backed, by places
-pub backed_places : {X : Type 0} (v : X → List ℕ) (xs : List (Option X)) (j : ℕ) → has_page (pages_from v 0 xs) j ≡ is_some (place v xs j)
-backed_places v xs j = ap is_some (get-pages_from v 0 xs j j (omega arith))
+-- maps that have the same for each page
+pub same_pages : (m n : FinMap nat_cmp (List ℕ)) → ((q : ℕ) → map.get m q ≡ map.get n q) → m ≡ n
+same_pages m n h = same_map nat_cmp_total nat_cmp-IsAntisymmetric m n h
+
+-- an item of the list is backed, and stands at its entry
+pub theirs_stand : {X : Type 0} (v : X → List ℕ) (m : FinMap nat_cmp (List ℕ)) (ns : List ℕ) (xs : List X) (items : List ℕ) (i e : ℕ) → pages_of v ns xs ≡ m → length ns ≡ length xs → items ≡ ns → i < length items → IsEntry ns (get_or items i 0) e → (has_page m (get_or items i 0) ≡ true) × (e < length xs)
+theirs_stand v m ns xs items i e is l same within h =
+    let q = get_or items i 0 in
+    let listed : is_listed ns q ≡ true = ap (λ ks. is_listed ks q) (sym same) ∙ listed_at items i q (slice_get-get_or items i 0 within) in
+    let backed : has_page m q ≡ true = ap (λ k. has_page k q) (sym is) ∙ has_listed v ns xs q l ∙ listed in
+    (backed, stands v m ns xs q e is l h backed)
+
+-- and so it does among other pages with the same numbers
+pub mine_stand : {X : Type 0} (v : X → List ℕ) (ns ks : List ℕ) (xs ys : List X) (q e : ℕ) → length ns ≡ length xs → length ks ≡ length ys → ns ≡ ks → has_page (pages_of v ks ys) q ≡ true → IsEntry ns q e → e < length xs
+mine_stand v ns ks xs ys q e l k same backed h =
+    stands v (pages_of v ns xs) ns xs q e refl l h (has_listed v ns xs q l ∙ ap (λ js. is_listed js q) same ∙ sym (has_listed v ks ys q k) ∙ backed)

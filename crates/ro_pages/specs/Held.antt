@@ -1,19 +1,22 @@
 -- What a memory of pages holds.
-use Rattle.std.specs.Prelude.{◌≡◌, ℕ, ◌+◌, ◌/◌, ◌%◌, ◌^◌, ◌<◌, ◌==◌, List, [], ◌∷◌, Option, Some, None, Bool, false, slice_index, is_some, replicate, refl}
-use Rattle.std.specs.List.{All, list_any}
+use Rattle.std.specs.Prelude.{ℕ, ◌/◌, ◌%◌, List, [], ◌∷◌, Option, Some, None, Bool, slice_index, is_some, replicate, refl}
 use Rattle.std.specs.Ordering.{nat_cmp}
 use Rattle.std.specs.FinMap as map
 use Rattle.std.specs.FinMap.{FinMap}
 use Rattle.std.specs.Coded.{Coded, code_by, coded×, coded_ℕ, coded_list}
 use Rattle.ro_pages.specs.Bytes.{Memory}
 
--- the bytes of the backed pages, by the pages' numbers, and how many more can be backed with no more memory
+-- the bytes of the backed pages, by the pages' numbers, how many more can be backed with no more memory, and the numbers
+-- of the backed pages in the order in which they were backed
 pub record Held : Type 0 where
   pub pages : FinMap nat_cmp (List ℕ)
   pub spare : ℕ
+  pub numbers : List ℕ
 
 abbrev pub coded_held : Coded Held
-coded_held = code_by (FinMap nat_cmp (List ℕ) × ℕ) (coded× (map.code coded_ℕ (coded_list coded_ℕ)) coded_ℕ) (λ h. (h.pages, h.spare)) (λ p. record { pages = p.0; spare = p.1 }) (λ _. refl)
+coded_held =
+    code_by (FinMap nat_cmp (List ℕ) × (ℕ × List ℕ)) (coded× (map.code coded_ℕ (coded_list coded_ℕ)) (coded× coded_ℕ (coded_list coded_ℕ)))
+    (λ h. (h.pages, (h.spare, h.numbers))) (λ p. record { pages = p.0; spare = p.1.0; numbers = p.1.1 }) (λ _. refl)
 
 -- the bytes of a page that has just been backed
 unfoldable pub zeros : List ℕ
@@ -31,16 +34,8 @@ memory_of pages a = byte_in (map.get pages (a / 4096)) (a % 4096)
 abbrev pub has_page : FinMap nat_cmp (List ℕ) → ℕ → Bool
 has_page pages page = is_some (map.get pages page)
 
--- the pages of a row of places, the first of which has number k
-abbrev pub pages_from : {X : Type 0} → (X → List ℕ) → ℕ → List (Option X) → FinMap nat_cmp (List ℕ)
-pages_from v k [] = map.empty
-pages_from v k (None ∷ places) = pages_from v (k + 1) places
-pages_from v k (Some x ∷ places) = map.insert (pages_from v (k + 1) places) k (v x)
-
-abbrev pub is_listed : List ℕ → ℕ → Bool
-is_listed numbers page = list_any (λ n. n == page) numbers
-
--- a list that has the number of every backed page, and none past the last page
-pub record Lists (numbers : List ℕ) (pages : FinMap nat_cmp (List ℕ)) : Type 0 where
-  pub low : All (λ page. page < 2 ^ 20) numbers
-  pub complete : (page : ℕ) → is_listed numbers page ≡ false → has_page pages page ≡ false
+-- pages by the numbers that stand at their places
+abbrev pub pages_of : {X : Type 0} → (X → List ℕ) → (numbers : List ℕ) → List X → FinMap nat_cmp (List ℕ)
+pages_of v [] xs = map.empty
+pages_of v (n ∷ numbers) [] = map.empty
+pages_of v (n ∷ numbers) (x ∷ xs) = map.insert (pages_of v numbers xs) n (v x)

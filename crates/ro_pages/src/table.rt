@@ -1,4 +1,4 @@
-//! Pages in a table, found by their numbers.
+//! Pages that are found by their numbers.
 ghost use Rattle.std.specs.Prelude.{ℕ, ◌≡◌, ◌+◌, ◌*◌, ◌/◌, ◌^◌, ◌<◌, ◌≤◌, OnOk, OnErr, IfOk, MatchOption, Some, None, vec_len, vec_capacity, true, false, ◌==◌, ◌||◌, [], ◌∷◌, ◌++◌, length, slice_index};
 ghost use Rattle.std.specs.FinMap as map;
 ghost use Rattle.std.specs.List.{All};
@@ -8,53 +8,51 @@ ghost use Rattle.ro_pages.specs.Held.{memory_of, has_page, zeros};
 ghost use Rattle.ro_pages.specs.Words.{bytes_in};
 
 use crate::access::Memory;
+use crate::directory::Directory;
 use crate::words::{load_from, read_from, store_in, write_to};
-use crate::{PAGE_SIZE, PAGE_WORDS, PAGES};
+use crate::{PAGE_SIZE, PAGE_WORDS};
 use std::alloc::{AllocError, Global};
 use std::marker::Model;
 
 /// The words of a backed page.
 type Page = Box<[u32; PAGE_WORDS]>;
 
-/// Pages that are backed, by their numbers, and zeroed pages to back more with.
+/// Pages that are backed, in the order in which they were, and zeroed pages to back more with.
 #[derive(Drop)]
 pub struct Pages {
-    table: Vec<Option<Page>>,
-    /// The numbers of the backed pages, with places for those of the spare ones.
-    numbers: Vec<u32>,
+    /// The place of each backed page, with room for the spare ones.
+    directory: Directory,
+    /// The backed pages, with room for the spare ones.
+    backed: Vec<Page>,
     spare: Vec<Page>,
     alloc: Global,
 }
 
 impl Model for Pages {
-    ghost use Rattle.std.specs.Prelude.{◌≡◌, ◌+◌, ◌≤◌, vec_len, vec_capacity};
+    ghost use Rattle.std.specs.Prelude.{◌≡◌, ◌+◌, ◌≤◌, length, vec_len, vec_capacity};
     ghost use Rattle.std.specs.List.{All};
-    ghost use Rattle.ro_pages.specs.Held.{Held, Lists, coded_held, pages_from, zeros};
+    ghost use Rattle.ro_pages.specs.Held.{Held, coded_held, pages_of, zeros};
     ghost use Rattle.ro_pages.specs.Words.{bytes_in};
 
     ghost Value = { Held };
 
     ghost coded = { coded_held };
 
-    ghost view = { λ s. record { pages = pages_from (λ b. bytes_in b.value) 0 s.table.items; spare = vec_len s.spare } };
+    ghost view = { λ s. record { pages = pages_of (λ b. bytes_in b.value) s.directory.numbers s.backed.items; spare = vec_len s.spare; numbers = s.directory.numbers } };
 
-    ghost invariant = { λ s. (vec_len s.table ≡ 1048576) × All (λ b. bytes_in b.value ≡ zeros) s.spare.items × Lists s.numbers.items (pages_from (λ b. bytes_in b.value) 0 s.table.items) × (vec_len s.numbers + vec_len s.spare ≤ vec_capacity s.numbers) };
+    ghost invariant = { λ s. (length s.directory.numbers ≡ length s.backed.items) × All (λ b. bytes_in b.value ≡ zeros) s.spare.items × (vec_len s.backed + vec_len s.spare ≤ vec_capacity s.backed) × (vec_len s.spare ≤ s.directory.room) };
 }
 
 impl Pages {
-    /// A memory with no page backed and none to spare. It fails only for want of memory; its table takes 16 MiB.
-    #[tactic(auto, using(crate::proofs::Places::pages_from_push_none))]
+    /// A memory with no page backed and none to spare. It fails only for want of memory.
     pub fn new(alloc: Global) -> Result<Pages, AllocError>
         ensures pages { IfOk result (λ m. m.pages ≡ map.empty) }
         ensures spare { IfOk result (λ m. m.spare ≡ 0) }
     {
-        let mut table = Vec::with_capacity(alloc, PAGES as usize)?;
-        for _ in 0..PAGES {
-            table.push(None)?;
-        }
+        let directory = Directory::new(alloc)?;
         Ok(Pages {
-            table,
-            numbers: Vec::new(alloc),
+            directory,
+            backed: Vec::new(alloc),
             spare: Vec::new(alloc),
             alloc,
         })
@@ -67,7 +65,8 @@ impl Pages {
         ensures kept { OnOk result (self.old.spare ≤ self.new.spare) }
         ensures err { OnErr result (self.new ≡ self.old) }
     {
-        self.numbers.reserve(count as usize)?;
+        self.backed.reserve(count as usize)?;
+        self.directory.reserve(count)?;
         let before = self.spare.len();
         for _ in 0..count {
             if self.spare.len() >= count as usize {
@@ -82,7 +81,7 @@ impl Pages {
     }
 
     /// Backs a page, with zeros, by a spare one. It takes no memory, and no byte changes.
-    #[tactic(auto, using(crate::proofs::Places::pages_from_set, crate::proofs::Backed::same_memory, crate::proofs::Backed::one_more))]
+    #[tactic(auto, using(crate::proofs::Places::pages_of_push, crate::proofs::Backed::same_memory, crate::proofs::Backed::one_more))]
     pub fn back(&mut self, page: u32)
         requires page { page < 2 ^ 20 }
         requires unbacked { has_page self.old.pages page ≡ false }
@@ -93,8 +92,8 @@ impl Pages {
         ensures spare { self.new.spare + 1 ≡ self.old.spare }
     {
         if let Some(fresh) = self.spare.pop() {
-            self.table[page as usize] = Some(fresh);
-            add_number(&mut self.numbers, page);
+            self.directory.add(page);
+            self.backed.push_reserved(fresh);
         }
     }
 
@@ -102,7 +101,7 @@ impl Pages {
     pub fn has_page(&self, page: u32) -> bool
         ensures { result ≡ has_page self.now.pages page }
     {
-        (page as usize) < self.table.len() && self.backed(page)
+        self.directory.has(page)
     }
 
     /// Takes over the bytes of another memory in which the same pages are backed.
@@ -111,11 +110,10 @@ impl Pages {
         ensures pages { self.new.pages ≡ other.now.pages }
         ensures spare { self.new.spare ≡ self.old.spare }
     {
-        for page in &other.numbers {
-            copy_place(
-                &mut self.table[*page as usize],
-                &other.table[*page as usize],
-            );
+        for page in other.directory.numbers() {
+            let mine = self.directory.entry(*page);
+            let theirs = other.directory.entry(*page);
+            copy_page(&mut self.backed[mine], &other.backed[theirs]);
         }
     }
 
@@ -185,10 +183,8 @@ impl Pages {
         ensures pages { has_page self.new.pages ≡ has_page self.old.pages }
         ensures spare { self.new.spare ≡ self.old.spare }
     {
-        let Some(page) = &mut self.table[page as usize] else {
-            unreachable!()
-        };
-        let words: &mut [u32; PAGE_WORDS] = page;
+        let place = self.directory.entry(page);
+        let words: &mut [u32; PAGE_WORDS] = &mut self.backed[place];
         write_to(words, offset, bytes);
     }
 
@@ -198,7 +194,7 @@ impl Pages {
         requires { page < 2 ^ 20 }
         ensures { MatchOption result (map.get self.now.pages page ≡ None) (λ words. map.get self.now.pages page ≡ Some (bytes_in words.now)) }
     {
-        let page = self.table[page as usize].as_ref()?;
+        let page = self.backed.get(self.directory.entry(page))?;
         let words: &[u32; PAGE_WORDS] = page;
         Some(words)
     }
@@ -217,18 +213,14 @@ impl Memory for Pages {
     #[tactic(auto, using(crate::proofs::PageBytes::number_in_words, crate::proofs::PageBytes::aligned_within))]
     #[inline(always)]
     fn load(&self, address: u32, size: u32) -> u32 {
-        let Some(words) = self.page(address / PAGE_SIZE) else {
-            unreachable!()
-        };
+        let words: &[u32; PAGE_WORDS] = &self.backed[self.directory.entry(address / PAGE_SIZE)];
         load_from(words, address % PAGE_SIZE, size)
     }
 
     #[inline(always)]
     fn store(&mut self, address: u32, size: u32, value: u32) {
-        let Some(page) = &mut self.table[(address / PAGE_SIZE) as usize] else {
-            unreachable!()
-        };
-        let words: &mut [u32; PAGE_WORDS] = page;
+        let place = self.directory.entry(address / PAGE_SIZE);
+        let words: &mut [u32; PAGE_WORDS] = &mut self.backed[place];
         store_in(words, address % PAGE_SIZE, size, value);
     }
 }
@@ -239,18 +231,6 @@ fn zero_page(alloc: Global) -> Result<Page, AllocError>
     ensures { IfOk result (λ b. bytes_in b.value ≡ zeros) }
 {
     Ok(Box::new(alloc, [0u32; PAGE_WORDS])?)
-}
-
-/// Adds a number for which there is a place.
-fn add_number(numbers: &mut Vec<u32>, number: u32)
-    requires { vec_len numbers.old < vec_capacity numbers.old }
-    ensures items { numbers.new.items ≡ numbers.old.items ++ number ∷ [] }
-    ensures len { vec_len numbers.new ≡ vec_len numbers.old + 1 }
-    ensures capacity { vec_capacity numbers.old ≤ vec_capacity numbers.new }
-{
-    if numbers.push(number).is_err() {
-        unreachable!()
-    }
 }
 
 /// Adds a page of zeros to the spare ones.
@@ -264,17 +244,12 @@ fn add_spare(alloc: Global, spare: &mut Vec<Page>) -> Result<(), AllocError>
     Ok(())
 }
 
-/// Takes over the bytes of a page, if it is backed. It is written only where they differ.
-fn copy_place(mine: &mut Option<Page>, theirs: &Option<Page>)
-    requires { is_some mine.old ≡ is_some theirs.now }
-    ensures { option_map (λ b. bytes_in b.value) mine.new ≡ option_map (λ b. bytes_in b.value) theirs.now }
+/// Takes over the bytes of a page, which is written only where they differ.
+fn copy_page(mine: &mut Page, theirs: &Page)
+    ensures { bytes_in mine.new.value ≡ bytes_in theirs.now.value }
 {
-    if let Some(theirs) = theirs {
-        if let Some(mine) = mine {
-            if **mine != **theirs {
-                **mine = **theirs;
-            }
-        }
+    if **mine != **theirs {
+        **mine = **theirs;
     }
 }
 

@@ -1,23 +1,20 @@
-use Rattle.std.proofs.Common.{arith, ap, sym, ◌∙◌, ◌≡◌, Some, None}
+use Rattle.std.proofs.Common.{ap, sym, subst, ◌∙◌, ◌≡◌, ◌<◌, ◌≤◌, length, get_or, None, Some}
+use Rattle.std.proofs.lemmas.Bool.{ltb-true, ltb-false}
 use Rattle.std.specs.FinMap as map
-use Rattle.std.specs.Option.{option_map}
 use Rattle.ro_pages.specs.Words.{bytes_in}
-use Rattle.ro_pages.proofs.Places.{get_pages_from_read}
+use Rattle.ro_pages.proofs.Places.{read_at, unread}
 use Rattle.ro_pages.proofs.table.Pages.page.Goals as goal
 
 pub returns : goal.returns
 returns c =
-    let read : c.index.result.now ≡ Some c.in_ok-page.page.now = sym c.in_ok-page.ensures.value in
-    ap (λ h. map.get h.pages c.args.page) (sym c.self.view_is)
-    ∙ get_pages_from_read (λ b. bytes_in b.value) c.self.inside.table.items c.args.page c.index.result.now (omega arith) c.index.ensures
-    ∙ ap (option_map (λ b. bytes_in b.value)) read
+    read_at (λ b. bytes_in b.value) c.args.self.now.pages c.self.inside.directory.numbers c.self.inside.backed.items c.args.page c.entry.result c.in_ok-page.page.now (ap (λ h. h.pages) c.self.view_is) c.self.invariant.0 c.entry.ensures
+    (subst (λ xs. c.entry.result < length xs) c.deref.ensures.value (ltb-true c.entry.result (length c.deref.result.now) (sym c.in_ok-page.ensures.lookup.0)))
+    (subst (λ xs. c.in_ok-page.page.now ≡ get_or xs c.entry.result c.in_ok-page.page.now) c.deref.ensures.value c.in_ok-page.ensures.lookup.1)
     ∙ ap (λ words. Some (bytes_in words)) (sym c.deref-words.ensures)
 
 pub returns-in_err-page : goal.returns-in_err-page
 returns-in_err-page c =
-    let read : c.index.result.now ≡ None = sym c.in_err-page.ensures.value in
     let absent : map.get c.args.self.now.pages c.args.page ≡ None =
-    ap (λ h. map.get h.pages c.args.page) (sym c.self.view_is)
-    ∙ get_pages_from_read (λ b. bytes_in b.value) c.self.inside.table.items c.args.page c.index.result.now (omega arith) c.index.ensures
-    ∙ ap (option_map (λ b. bytes_in b.value)) read in
+    unread (λ b. bytes_in b.value) c.args.self.now.pages c.self.inside.directory.numbers c.self.inside.backed.items c.args.page c.entry.result (ap (λ h. h.pages) c.self.view_is) c.self.invariant.0 c.entry.ensures
+    (subst (λ xs. length xs ≤ c.entry.result) c.deref.ensures.value (ltb-false c.entry.result (length c.deref.result.now) (sym c.in_err-page.ensures.lookup.0))) in
     rw c.from_residual.ensures absent

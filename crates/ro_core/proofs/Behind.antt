@@ -1,7 +1,7 @@
 -- The fields of a core behind an event: a vote or a free.
-use Rattle.std.proofs.Common.{◌≡◌, ◌≢◌, ◌⊎◌, inl, inr, ℕ, zero, suc, ◌+◌, ◌*◌, ◌<◌, ◌≤◌, Bool, true, false, true≢false, cond, List, [], ◌∷◌, ◌++◌, length, take, length-take, length-append, Option, Some, None, refl, sym, ap, ◌∙◌, subst, arith, eqb-true}
-use Rattle.std.specs.Prelude.{◌==◌, ◌^◌, if◌then◌else◌, is_none, IfSome, slice_get, slice_set, unwrap_or}
-use Rattle.std.proofs.lemmas.Bool.{eq-eqb, and_from}
+use Rattle.std.proofs.Common.{◌≡◌, ◌≢◌, inl, ℕ, zero, suc, ◌+◌, ◌*◌, ◌<◌, ◌≤◌, Bool, true, false, true≢false, cond, List, [], ◌∷◌, ◌++◌, length, length-append, Option, Some, None, refl, sym, ap, ◌∙◌, subst, arith, eqb-true}
+use Rattle.std.specs.Prelude.{◌==◌, ◌^◌, if◌then◌else◌, IfSome, slice_get, slice_set}
+use Rattle.std.proofs.lemmas.Bool.{eq-eqb}
 use Rattle.std.proofs.lemmas.List.{length-set}
 use Rattle.ro_journal.specs.declared.How.{How}
 use Rattle.ro_journal.specs.declared.How.TheVariants.{Exit, Trap, Deadlock, Limit, Differ, NoMajority, Sink}
@@ -12,17 +12,18 @@ use Rattle.ro_event.specs.declared.effects.Made.{Made}
 use Rattle.ro_event.specs.Effects.{Effect}
 use Rattle.ro_replica.specs.Replica.{Replica}
 use Rattle.ro_replica.specs.Seen.{ReplicaOf, replica_of, CanApply}
-use Rattle.ro_core.specs.Core.{Job, Core, is_going}
+use Rattle.ro_core.specs.Core.{Job, Core}
 use Rattle.ro_core.specs.Event.{Event, all_applied, core_after}
-use Rattle.ro_core.specs.Legal.{after, IsAllowed}
+use Rattle.ro_core.specs.Legal.{after, IsAllowed, replay}
 use Rattle.ro_core.specs.Sound.{IsOver}
 use Rattle.ro_core.specs.Seen.{sent_of}
 use Rattle.ro_core.specs.Grouped.{AreGrouped}
-use Rattle.ro_core.specs.Fields.{failed_of, AreSeated, AreHome, AreSpared, CanTake, one_end, due_behind, Fields, core_in, blocked_at, CountsBytes, Holds}
+use Rattle.ro_core.specs.Fields.{failed_of, AreSeated, AreHome, AreSpared, CanTake, one_end, Fields, core_in, blocked_at, CountsBytes, Holds}
 use Rattle.ro_core.proofs.Happens.{Happens}
 use Rattle.ro_core.proofs.Journals.{outcome_of-append}
+use Rattle.ro_core.proofs.Homes.{replay_more}
 use Rattle.ro_core.proofs.Tests.{seated-home}
-use Rattle.ro_core.proofs.Held.{no-views, no-outcome, holds-step}
+use Rattle.ro_core.proofs.Held.{Goes, no-views, no-outcome, holds-step}
 
 -- one thread's call is set
 blocked-set : (blocked : List (Option Call)) (thread t : ℕ) (call : Option Call) → thread < length blocked → blocked_at (slice_set blocked thread call) t ≡ (if t == thread then call else blocked_at blocked t)
@@ -57,23 +58,6 @@ blocked-set (b ∷ blocked) (suc thread) (suc t) call less = blocked-set blocked
             not-by false g = refl
             not-by true g = absurd (true≢false (sym (eq-eqb m n (let k : suc m ≡ suc n = eqb-true (suc m) (suc n) g in omega arith)) ∙ e))
 
--- the bytes that left of a payload
-abbrev pub bytes-by : Option ℕ → List ℕ → List ℕ
-bytes-by None payload = payload
-bytes-by (Some n) payload = take n payload
-
-pub bytes-count : (o : Option ℕ) (payload : List ℕ) → ((n : ℕ) → o ≡ Some n → n < length payload) → length (bytes-by o payload) ≡ unwrap_or o (length payload)
-bytes-count None payload part = refl
-bytes-count (Some n) payload part = let less : n < length payload = part n refl in let k = length-take n payload in omega arith
-
-pub bytes-fewer : (o : Option ℕ) (payload : List ℕ) → length (bytes-by o payload) ≤ length payload
-bytes-fewer None payload = omega arith
-bytes-fewer (Some n) payload = let k = length-take n payload in omega arith
-
--- an end by a failing sink, or the event's
-pub record SinkWell (event : Event) (failed : Option ℕ) : Type 0 where
-  pub part : (bytes : ℕ) → failed ≡ Some bytes → (bytes < length event.payload) × (event.due ≡ None)
-
 over-not-sink : (how : How) (bytes : ℕ) → IsOver how → how ≡ Sink bytes → ⊥
 over-not-sink (Exit status) bytes h e = let f : Exit status ≡ Sink bytes = e in cc
 over-not-sink (Trap code) bytes h e = let f : Trap code ≡ Sink bytes = e in cc
@@ -83,42 +67,48 @@ over-not-sink Differ bytes h e = elim h [ ]
 over-not-sink NoMajority bytes h e = elim h [ ]
 over-not-sink (Sink other) bytes h e = elim h [ ]
 
--- the bytes that an event makes leave
-pub record Sent (f f' : Fields) (count : ℕ) (event : Event) (failed : Option ℕ) : Type 0 where
-  pub few : length event.payload ≤ 4096 * event_steps event.did
-  pub sent : f'.sent ≡ f.sent + length (bytes-by failed event.payload)
-  pub bytes : sent_of f.job f'.journal (failed_of f'.due) ≡ sent_of f.job f.journal (failed_of f.due) ++ bytes-by failed event.payload
+-- the end of an event is none by a sink
+pub over-unfailed : (o : Option How) → ((how : How) → o ≡ Some how → IsOver how) → failed_of o ≡ None
+over-unfailed None h = refl
+over-unfailed (Some how) h = by how (h how refl)
+  where
+    by : (how : How) → IsOver how → failed_of (Some how) ≡ None
+    by (Exit status) o = refl
+    by (Trap code) o = refl
+    by Deadlock o = refl
+    by (Limit steps next) o = refl
+    by Differ o = refl
+    by NoMajority o = refl
+    by (Sink bytes) o = elim o [ ]
 
-module _ (f f' : Fields) (h : Holds f) (entry : Entry) (allowed : IsAllowed f.job (core_in f) entry) (thread count : ℕ) (replicas : List Replica) (event : Event) (failed : Option ℕ) (came : after f.job (core_in f) entry ≡ core_after (core_in f) thread count replicas event)
-    (still : f.ended ≡ None) (alone : f.leases ≡ []) (happens : Happens (core_in f).kernel thread event) (well : SinkWell event failed) (few : thread < 16) where
+module _ (f f' : Fields) (h : Holds f) (entry : Entry) (allowed : IsAllowed f.job (core_in f) entry) (thread count : ℕ) (replicas : List Replica) (event : Event) (came : after f.job (core_in f) entry ≡ core_after (core_in f) thread count replicas event)
+    (goes : Goes f) (alone : f.leases ≡ []) (happens : Happens (core_in f).kernel thread event) (few : thread < 16) (journal : f'.journal ≡ f.journal ++ entry ∷ []) where
   core_alone : (core_in f).leases ≡ []
   core_alone = sym h.leases_are ∙ alone
 
-  due-by : (o : Option ℕ) → failed ≡ o → (due_behind event.due failed ≡ event.due) ⊎ ((bytes : ℕ) × (due_behind event.due failed ≡ Some (Sink bytes)))
-  due-by None e = inl (ap (due_behind event.due) e)
-  due-by (Some bytes) e = inr (bytes, ap (due_behind event.due) e)
+  new-core : replay f.job f'.journal ≡ core_after (core_in f) thread count replicas event
+  new-core = ap (replay f.job) journal ∙ replay_more f.job f.journal entry ∙ came
 
-  going-after : event.due ≡ None → is_going (core_after (core_in f) thread count replicas event) ≡ true
-  going-after e = and_from _ _ (ap is_none e) (ap is_none (sym h.ended_is ∙ still))
+  pub happened-unfailed : f'.due ≡ event.due → failed_of f'.due ≡ None
+  happened-unfailed due = ap failed_of due ∙ over-unfailed event.due happens.ends_well
 
-  not-sink : (bytes : ℕ) (o : Option ℕ) → failed ≡ o → due_behind event.due failed ≡ Some (Sink bytes) → (bytes < length event.payload) × (is_going (core_after (core_in f) thread count replicas event) ≡ true)
-  not-sink bytes None e g = absurd (over-not-sink (Sink bytes) bytes (happens.ends_well (Sink bytes) (sym (ap (due_behind event.due) e) ∙ g)) refl)
-  not-sink bytes (Some n) e g =
-      let p = well.part n e in
-      let same : n ≡ bytes = (let k : Some (Sink n) ≡ Some (Sink bytes) = sym (ap (due_behind event.due) e) ∙ g in cc) in
-      (subst (λ (m : ℕ). m < length event.payload) same p.0, going-after p.1)
+  -- all that it writes counts as sent
+  pub happened-sent : f'.due ≡ event.due → sent_of f.job f'.journal (failed_of f'.due) ≡ sent_of f.job f.journal (failed_of f.due) ++ event.payload
+  happened-sent due =
+      ap (sent_of f.job f'.journal) (happened-unfailed due) ∙ ap (λ (c : Core). c.output) new-core
+      ∙ ap (λ (xs : List ℕ). xs ++ event.payload) (sym (ap (sent_of f.job f.journal) goes.not_failed))
 
-  sent-counts : Sent f f' count event failed → f'.steps ≡ f.steps + count + event_steps event.did → CountsBytes f'.sent f'.steps (sent_of f.job f'.journal (failed_of f'.due))
-  sent-counts s steps = record {
-    sent_are = s.sent ∙ ap (λ (n : ℕ). n + length (bytes-by failed event.payload)) h.counts.sent_are ∙ sym (length-append (sent_of f.job f.journal (failed_of f.due)) (bytes-by failed event.payload)) ∙ ap length (sym s.bytes);
-    few = let a = s.few in let b = s.sent in let d = h.counts.few in let e = bytes-fewer failed event.payload in omega arith;
+  counts : length event.payload ≤ 4096 * event_steps event.did → f'.sent ≡ f.sent + length event.payload → f'.due ≡ event.due → f'.steps ≡ f.steps + count + event_steps event.did → CountsBytes f'.sent f'.steps (sent_of f.job f'.journal (failed_of f'.due))
+  counts written sent due steps = record {
+    sent_are = sent ∙ ap (λ (n : ℕ). n + length event.payload) h.counts.sent_are ∙ sym (length-append (sent_of f.job f.journal (failed_of f.due)) event.payload) ∙ ap length (sym (happened-sent due));
+    few = let d = h.counts.few in omega arith;
   }
 
   -- the fields behind the event
-  pub happened-holds : f'.job ≡ f.job → f'.journal ≡ f.journal ++ entry ∷ [] → AreHome f.job f'.seats (all_applied event.effect replicas) → AreGrouped (all_applied event.effect replicas) f'.groups → f'.leases ≡ f.leases → f'.kernel.setup ≡ f.kernel.setup → f'.kernel.kernel ≡ event.kernel
-      → f'.blocked ≡ slice_set f.blocked thread event.blocked → f'.steps ≡ f.steps + count + event_steps event.did → f'.due ≡ due_behind event.due failed → f'.ended ≡ f.ended → length f'.views ≡ length f'.seats → Sent f f' count event failed
-      → outcome_of (entry ∷ []) ≡ None → 1 ≤ f'.places → Holds f'
-  happened-holds job journal home groups leases setup kernel blocked steps due ended views sent no_end room = holds-step f f' entry h allowed (record {
+  pub happened-holds : f'.job ≡ f.job → AreHome f.job f'.seats (all_applied event.effect replicas) → AreGrouped (all_applied event.effect replicas) f'.groups → f'.leases ≡ f.leases → f'.kernel.setup ≡ f.kernel.setup → f'.kernel.kernel ≡ event.kernel
+      → f'.blocked ≡ slice_set f.blocked thread event.blocked → f'.steps ≡ f.steps + count + event_steps event.did → f'.due ≡ event.due → f'.ended ≡ f.ended → length f'.views ≡ length f'.seats
+      → length event.payload ≤ 4096 * event_steps event.did → f'.sent ≡ f.sent + length event.payload → outcome_of (entry ∷ []) ≡ None → 1 ≤ f'.places → Holds f'
+  happened-holds job home groups leases setup kernel blocked steps due ended views written sent no_end room = holds-step f f' entry h allowed (record {
     job = job;
     journal = journal;
     leases = leases ∙ h.leases_are ∙ sym (ap (λ (c : Core). c.leases) came);
@@ -128,21 +118,16 @@ module _ (f f' : Fields) (h : Holds f) (entry : Entry) (allowed : IsAllowed f.jo
     blocked = λ t. ap (λ (bs : List (Option Call)). blocked_at bs t) blocked ∙ blocked-set f.blocked thread t event.blocked (let n = h.blocked_count in omega arith)
         ∙ ap (λ (o : Option Call). if t == thread then event.blocked else o) (h.blocked_are t) ∙ sym (ap (λ (c : Core). c.blocked t) came);
     steps = steps ∙ ap (λ (n : ℕ). n + count + event_steps event.did) h.steps_are ∙ sym (ap (λ (c : Core). c.steps) came);
-    counts = sent-counts sent steps;
-    due = due-final (due-by failed refl);
-    not_sink = λ bytes e. let n = not-sink bytes failed refl (sym due ∙ e) in
-        (subst (λ (c : Core). bytes < c.wrote) (sym came) n.0, ap is_going came ∙ n.1);
+    counts = counts written sent due steps;
+    due = inl (due ∙ sym (ap (λ (c : Core). c.due) came));
+    not_sink = λ bytes e. absurd (over-not-sink (Sink bytes) bytes (happens.ends_well (Sink bytes) (sym due ∙ e)) refl);
     ended = ended ∙ h.ended_is ∙ sym (ap (λ (c : Core). c.ended) came);
     seats = subst (λ (c : Core). AreSeated f.job c f'.seats) (sym came) (seated-home f.job (core_after (core_in f) thread count replicas event) f'.seats home core_alone);
     groups = subst (λ (c : Core). AreGrouped c.replicas f'.groups) (sym came) groups;
     views_count = views;
-    views_kept = no-views f.job _ f'.views (outcome_of-append f.journal (entry ∷ []) (no-outcome f h still) ∙ no_end);
-    room = let none : length f'.leases ≡ 0 = ap length (leases ∙ alone) in let one : one_end f'.ended ≡ 1 = ap one_end (ended ∙ still) in omega arith;
+    views_kept = no-views f.job _ f'.views (outcome_of-append f.journal (entry ∷ []) (no-outcome f h goes.not_ended) ∙ no_end);
+    room = let none : length f'.leases ≡ 0 = ap length (leases ∙ alone) in let one : one_end f'.ended ≡ 1 = ap one_end (ended ∙ goes.not_ended) in omega arith;
   })
-    where
-      due-final : (due_behind event.due failed ≡ event.due) ⊎ ((bytes : ℕ) × (due_behind event.due failed ≡ Some (Sink bytes))) → (f'.due ≡ (after f.job (core_in f) entry).due) ⊎ ((bytes : ℕ) × (f'.due ≡ Some (Sink bytes)))
-      due-final (inl e) = inl (due ∙ e ∙ sym (ap (λ (c : Core). c.due) came))
-      due-final (inr e) = inr (e.0, due ∙ e.1)
 
 -- ---- the event can be given to each replica
 

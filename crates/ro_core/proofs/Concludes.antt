@@ -1,16 +1,18 @@
 -- An end in the place of a vote or a free, in the fields of a core.
-use Rattle.std.proofs.Common.{◌≡◌, ◌≢◌, inl, ℕ, ◌+◌, ◌<◌, true, List, [], ◌∷◌, ◌++◌, length, Option, Some, None, refl, sym, ap, ◌∙◌, subst, arith}
+use Rattle.std.proofs.Common.{◌≡◌, ◌≢◌, inl, ℕ, ◌+◌, ◌<◌, true, List, [], ◌∷◌, ◌++◌, length, Option, Some, None, refl, sym, ap, ◌∙◌, subst, arith, append-nil}
 use Rattle.ro_journal.specs.declared.How.{How}
 use Rattle.ro_journal.specs.declared.How.TheVariants.{Exit, Deadlock, Trap, Limit, Differ, NoMajority, Sink}
 use Rattle.ro_journal.specs.declared.Entry.{Entry}
 use Rattle.ro_journal.specs.declared.Entry.TheVariants.{End}
 use Rattle.ro_event.specs.declared.calls.Call.{Call}
 use Rattle.ro_kernel.specs.State.{State}
-use Rattle.ro_core.specs.Core.{Core, is_going}
-use Rattle.ro_core.specs.Legal.{after, MayEnd, cut_output}
-use Rattle.ro_core.specs.Seen.{sent_of, KeepsViews}
+use Rattle.ro_core.specs.declared.runs.Run.{Run}
+use Rattle.ro_core.specs.Core.{Job, Core, is_going}
+use Rattle.ro_core.specs.Legal.{after, MayEnd, replay, cut_output}
+use Rattle.ro_core.specs.Seen.{sent_of, Appends, Quiet, KeepsViews}
 use Rattle.ro_core.specs.Fields.{failed_of, AreSeated, one_end, Fields, core_in, state_in, blocked_at, Holds}
 use Rattle.ro_core.specs.Grouped.{AreGrouped}
+use Rattle.ro_core.specs.Runs.{fields_of, job_of, sent_in, WithAnySink, LastWrote}
 use Rattle.ro_core.proofs.Homes.{replay_more}
 use Rattle.ro_core.proofs.Held.{Goes, goes, same-counts, holds-step}
 use Rattle.ro_core.proofs.Entries.{end-seated}
@@ -68,3 +70,17 @@ module _ (f : Fields) (h : Holds f) (how : How) (going : is_going (state_in f) �
     views_kept = subst (KeepsViews f.job (f.journal ++ End how ∷ [])) (sym views) kept;
     room = let k = h.room in let one : one_end f.ended ≡ 1 = ap one_end concluding.not_ended in let none : one_end f'.ended ≡ 0 = ap one_end ended in let n : length f'.leases ≡ length f.leases = ap length leases in omega arith;
   })
+
+-- an end writes nothing
+pub ended-wrote : (old new : Run) (how : How) → WithAnySink (λ o n. Appends o n (End how)) old new → WithAnySink Quiet old new → LastWrote (fields_of new) (sent_in (fields_of old)) []
+unfolding after
+ended-wrote old new how appends quiet =
+    let a = appends None 0 in
+    let q = quiet None 0 in
+    record {
+      few = omega arith;
+      sent = q.sent ∙ sym (append-nil (sent_in (fields_of old)));
+      wrote = ap (λ (j : Job). (replay j new.journal.items).wrote) a.job ∙ ap (λ (js : List Entry). (replay (job_of old) js).wrote) a.journal ∙ ap (λ (c : Core). c.wrote) (replay_more (job_of old) old.journal.items (End how));
+      not_failed = q.failed;
+      goes_on = λ some. absurd (omega arith);
+    }

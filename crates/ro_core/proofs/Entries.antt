@@ -22,7 +22,7 @@ use Rattle.ro_core.specs.Core.{Job, Core, is_out}
 use Rattle.ro_core.specs.Legal.{is_lease, lease_run, core_after_put, after, IsAllowed, MayTake, MayPut, MayEnd, alone, EndsAlone, replay, replay_with, cut_output, output_of}
 use Rattle.ro_core.specs.declared.actions.Action.TheVariants.{End as DoEnd}
 use Rattle.ro_core.specs.Action.{next_action, IsNext}
-use Rattle.ro_core.specs.Seen.{CoreOf, sent, sent_of, Quiet, Appends, IsOfJob}
+use Rattle.ro_core.specs.Seen.{CoreOf, sent_of, IsOfJob, lease_of}
 use Rattle.ro_core.specs.Sound.{IsOver, exits, traps, IsOrdered, Counts}
 use Rattle.ro_core.specs.Fields.{failed_of, spare_of, Seated, AreSeated, IsSeat, one_end, Fields, core_in, state_in, blocked_at, Holds}
 use Rattle.ro_core.proofs.Homes.{replay_more, AtHome, lendable_there, seat_there, take_seated, put_seated, seat_within, fewer}
@@ -53,6 +53,13 @@ found_driver driver (l ∷ leases) lease e = by (l.driver == driver) refl e (λ 
     by : (b : Bool) → (l.driver == driver) ≡ b → cond b (Some l) (find (λ x. x.driver == driver) leases) ≡ Some lease → (find (λ x. x.driver == driver) leases ≡ Some lease → lease.driver ≡ driver) → lease.driver ≡ driver
     by true f g rest = let same : l ≡ lease = (let x : Some l ≡ Some lease = g in cc) in ap (λ (x : Lease). x.driver) (sym same) ∙ eqb-true l.driver driver f
     by false f g rest = rest g
+
+-- the lease that a driver holds stands among those that the fields have, and no other
+pub held-lease : (f : Fields) → Holds f → (driver : ℕ) (lease : Lease) → lease_of (state_in f) driver ≡ Some lease → find (λ l. l.driver == driver) f.leases ≡ Some lease
+held-lease f h driver lease e = ap (find (λ (l : Lease). l.driver == driver)) (h.leases_are ∙ sym (with-leases f.job f.journal (failed_of f.due))) ∙ e
+
+pub same-lease : (f : Fields) → Holds f → (driver : ℕ) (held found : Lease) → lease_of (state_in f) driver ≡ Some held → find (λ l. l.driver == driver) f.leases ≡ Some found → held ≡ found
+same-lease f h driver held found e g = let k : Some held ≡ Some found = sym (held-lease f h driver held e) ∙ g in cc
 
 -- what neither a take nor a put changes
 pub record Rest (f f' : Fields) : Type 0 where
@@ -255,14 +262,11 @@ module _ (f : Fields) (h : Holds f) (driver replica thread count hit : ℕ) (all
         room = let k = h.room in let one : one_end f'.ended ≡ one_end f.ended = ap one_end r.ended in let n : length f'.leases ≡ length (filter (λ l. not (is_lease driver replica thread l)) f.leases) = ap length leases in omega (arith, put-fewer);
       })
 
--- ---- what has left
+-- ---- the old core of a call
 
-pub quiet-of : {inside old new : CoreOf} → inside ≡ old → new.failed ≡ None → sent new ≡ sent inside → new.held ≡ inside.held → new.faults ≡ inside.faults → Quiet old new
-quiet-of {inside} {old} {new} is failed same held faults =
-    subst (λ (v : CoreOf). Quiet v new) is (record { failed = failed; sent = same; held = held; faults = faults })
-
-pub appends-of : {inside old new : CoreOf} {entry : Entry} → inside ≡ old → new.job ≡ inside.job → new.journal ≡ inside.journal ++ entry ∷ [] → Appends old new entry
-appends-of {inside} {old} {new} {entry} is job more = subst (λ (v : CoreOf). Appends v new entry) is (record { job = job; journal = more })
+-- what holds of the core that was opened holds of the one that was given
+pub with-old : (R : CoreOf → CoreOf → Type 0) {inside old new : CoreOf} → inside ≡ old → R inside new → R old new
+with-old R {inside} {old} {new} is r = subst (λ (v : CoreOf). R v new) is r
 
 -- ---- an end
 

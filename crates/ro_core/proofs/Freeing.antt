@@ -1,37 +1,40 @@
 -- A blocked call that is served, in the fields of a core.
-use Rattle.std.proofs.Common.{◌≡◌, ℕ, ◌+◌, ◌<◌, ◌≤◌, true, List, [], ◌∷◌, ◌++◌, length, Option, Some, None, refl, sym, ap, ◌∙◌, subst, arith, append-nil}
-use Rattle.std.specs.Prelude.{◌^◌, IfSome, slice_get}
+use Rattle.std.proofs.Common.{◌≡◌, ℕ, ◌+◌, ◌<◌, ◌≤◌, Bool, true, false, List, [], length, Option, Some, None, refl, sym, ap, ◌∙◌, subst, arith}
+use Rattle.std.specs.Prelude.{◌^◌, if◌then◌else◌, IfSome, slice_get}
 use Rattle.ro_journal.specs.declared.How.TheVariants.{Limit}
 use Rattle.ro_journal.specs.declared.Did.TheVariants.{Served as WasServed}
 use Rattle.ro_journal.specs.declared.Entry.TheVariants.{Free}
 use Rattle.ro_event.specs.declared.calls.Call.{Call}
+use Rattle.ro_event.specs.declared.stops.Stop.TheVariants.{Calls}
+use Rattle.ro_journal.specs.Plan.{event_steps}
 use Rattle.ro_kernel.specs.Kernel.{Setup, Kernel, lives_on}
-use Rattle.ro_kernel.specs.Serve.{Served, Done, Blocked, Ends, serve}
+use Rattle.ro_kernel.specs.Serve.{serve}
 use Rattle.ro_plain.specs.Machine.{setup_of}
 use Rattle.ro_replica.specs.Replica.{Replica}
-use Rattle.ro_core.specs.Core.{Core, may_free}
-use Rattle.ro_core.specs.Event.{Event, call_event, core_after}
+use Rattle.ro_core.specs.declared.runs.Run.{Run}
+use Rattle.ro_core.specs.declared.events.Event.{Event as Happening}
+use Rattle.ro_core.specs.Core.{Job, Core, is_going, may_free}
+use Rattle.ro_core.specs.Event.{Event, call_event, event_of, core_after}
 use Rattle.ro_core.specs.Legal.{core_after_event, after, MayFree, MayEnd, for_free, EndsFree}
-use Rattle.ro_core.specs.Seen.{sent_of}
-use Rattle.ro_core.specs.Fields.{failed_of, AreHome, Fields, blocked_at, core_in, state_in, Holds}
+use Rattle.ro_core.specs.Fields.{AreSpared, Fields, blocked_at, core_in, state_in, Holds}
 use Rattle.ro_core.specs.Grouped.{AreMade}
-use Rattle.ro_core.proofs.Homes.{replay_more}
+use Rattle.ro_core.specs.Seated.{Stands}
+use Rattle.ro_core.specs.Runs.{IsAmid, MakesRoom, CanOccur, event_by}
 use Rattle.ro_core.proofs.Held.{Goes, goes}
 use Rattle.ro_core.proofs.Happens.{Happens, call-happens}
 use Rattle.ro_core.proofs.Ordered.{FreeParts, free-parts, freed-is, freed-steps, ordered}
-use Rattle.ro_core.proofs.Behind.{SinkWell}
-use Rattle.ro_core.proofs.Holding.{lives-within, no-page, over-unfailed}
+use Rattle.ro_core.proofs.Holding.{lives-within, no-page, same-state}
 use Rattle.ro_core.proofs.Served.{serve-tidy}
-use Rattle.ro_core.proofs.Tests.{all-home}
-
-pub payload-none : (kernel : Kernel) (thread : ℕ) (call : Call) (served : Served) → (call_event kernel thread call [] served).payload ≡ []
-payload-none kernel thread call (Done after effect) = refl
-payload-none kernel thread call Blocked = refl
-payload-none kernel thread call (Ends after how) = refl
 
 module _ (f : Fields) (h : Holds f) (thread : ℕ) (may : may_free f.job (state_in f) thread ≡ true) where
   state-parts : FreeParts f.job (state_in f) thread
   state-parts = free-parts f.job (state_in f) thread may
+
+  pub free-going : is_going (state_in f) ≡ true
+  free-going = state-parts.going
+
+  pub free-not-over : (state_in f).ended ≡ None
+  free-not-over = state-parts.not_ended
 
   pub free-goes : Goes f
   free-goes = goes f h state-parts.going
@@ -63,9 +66,6 @@ module _ (f : Fields) (h : Holds f) (thread : ℕ) (may : may_free f.job (state_
 
   pub free-steps : f.steps ≤ f.job.settings.limit
   free-steps = let e = h.steps_are in let l = (ordered f.job f.journal h.legal).within_limit in omega arith
-
-  pub free-home : AreHome f.job f.seats (core_in f).replicas
-  free-home = all-home f.job (core_in f) f.seats h.seats_are parts.alone
 
   pub free-threads : (number : ℕ) (replica : Replica) → slice_get (core_in f).replicas number ≡ Some replica → length replica.threads ≡ length (core_in f).kernel.lives
   free-threads number replica e = ((ordered f.job f.journal h.legal).sound number replica e).all_made
@@ -110,12 +110,46 @@ module _ (f : Fields) (h : Holds f) (thread : ℕ) (may : may_free f.job (state_
     pub free-allowed : f.steps + 1 ≤ f.job.settings.limit → MayFree f.job (core_in f) thread
     free-allowed fits = record { may = free-may; fits = let e = h.steps_are in omega arith }
 
-    pub free-well : SinkWell the-event None
-    free-well = record { part = λ bytes e. absurd (let g : None ≡ Some bytes = e in cc) }
+    -- the event that the code has for it can be done
+    pub free-can : (r : Run) (e : Happening) (threads : ℕ) → the-event ≡ event_by e r.kernel.kernel (if e.writes then [] else []) → f.steps + 1 ≤ f.job.settings.limit → IsAmid f r → Stands f.job r.seats (core_in f).replicas → AreSpared r.seats.homes.items → threads ≡ length f.kernel.kernel.lives
+        → CanOccur r thread e (Free thread) 1 None threads
+    unfolding event_of
+    free-can r e threads is fits amid stands spared threads_are = record {
+      before = f;
+      holds = h;
+      going = free-going;
+      alone = free-alone;
+      amid = amid;
+      count = 0;
+      replicas = (core_in f).replicas;
+      allowed = free-allowed fits;
+      came = free-came ∙ ap (core_after (core_in f) thread 0 (core_in f).replicas) is-by;
+      no_end = refl;
+      stop = Calls call;
+      shown = [];
+      few = omega arith;
+      event_is = is-by;
+      live = free-live;
+      own = sym (ap (λ (x : Event). x.effect.thread) is) ∙ free-happens.thread_is;
+      low = subst (λ (o : Option ℕ). IfSome o (λ page. page < 2 ^ 20)) (ap (λ (x : Event). x.effect.page) is) free-low;
+      stands = stands;
+      spared = spared;
+      made = λ number replica g. free-made-all number replica g ∙ sym threads_are;
+      threads_are = threads_are;
+      counted = let k : 1 ≡ event_steps e.did = ap event_steps (sym free-did ∙ ap (λ (x : Event). x.did) is) in omega arith;
+      writes = tt;
+    }
+      where
+        nothing : List ℕ
+        nothing = []
 
-    pub free-sent : sent_of f.job (f.journal ++ Free thread ∷ []) (failed_of the-event.due) ≡ sent_of f.job f.journal (failed_of f.due)
-    free-sent =
-        ap (sent_of f.job (f.journal ++ Free thread ∷ [])) (over-unfailed the-event.due free-happens.ends_well)
-        ∙ ap (λ (c : Core). c.output) (replay_more f.job f.journal (Free thread) ∙ free-came)
-        ∙ ap (λ (xs : List ℕ). (core_in f).output ++ xs) (payload-none f.kernel.kernel thread call (serve f.kernel.setup f.kernel.kernel thread call)) ∙ append-nil (core_in f).output
-        ∙ sym (ap (sent_of f.job f.journal) free-goes.not_failed)
+        none : (b : Bool) → (if b then nothing else nothing) ≡ nothing
+        none true = refl
+        none false = refl
+
+        is-by : the-event ≡ event_by e r.kernel.kernel []
+        is-by = is ∙ ap (event_by e r.kernel.kernel) (none e.writes)
+
+-- a call that can be served stays so where room is made
+pub free-room : (f f' : Fields) (thread : ℕ) → may_free f.job (state_in f) thread ≡ true → MakesRoom f f' → may_free f'.job (state_in f') thread ≡ true
+free-room f f' thread may m = ap (λ (j : Job). may_free j (state_in f') thread) m.job ∙ ap (λ (c : Core). may_free f.job c thread) (same-state f f' m) ∙ may

@@ -3,6 +3,7 @@ use Rattle.std.proofs.Common.{◌≡◌, ◌⊎◌, inl, inr, ℕ, ◌+◌, ◌<
 use Rattle.ro_journal.specs.declared.How.{How}
 use Rattle.ro_journal.specs.declared.How.TheVariants.{Exit, Deadlock, Trap, Limit, Differ, NoMajority, Sink}
 use Rattle.ro_journal.specs.declared.Entry.{Entry}
+use Rattle.ro_journal.specs.declared.Entry.TheVariants.{End}
 use Rattle.ro_journal.specs.Plan.{outcome_of}
 use Rattle.ro_event.specs.Views.{View}
 use Rattle.ro_settings.specs.Ranges.{InRange}
@@ -12,6 +13,7 @@ use Rattle.ro_core.specs.Legal.{after, IsAllowed, Legal, replay, replay_with}
 use Rattle.ro_core.specs.Seen.{KeepsViews, sent_of}
 use Rattle.ro_core.specs.Fields.{failed_of, AreSeated, one_end, Fields, core_in, state_in, blocked_at, CountsBytes, Holds}
 use Rattle.ro_core.specs.Grouped.{AreGrouped}
+use Rattle.ro_core.proofs.Journals.{outcome_of-append}
 use Rattle.ro_core.proofs.Homes.{replay_more, legal_more}
 use Rattle.ro_core.proofs.Ordered.{going-parts}
 use Rattle.ro_core.proofs.Outcomes.{ended_is_outcome}
@@ -152,3 +154,12 @@ same-counts f f' h sent steps bytes = record {
 -- the journal goes on where the core has not ended
 pub no-outcome : (f : Fields) → Holds f → f.ended ≡ None → outcome_of f.journal ≡ None
 no-outcome f h e = sym (ended_is_outcome f.job f.journal h.legal) ∙ sym h.ended_is ∙ e
+
+-- the fields have the outcome of their journal
+pub fields-outcome : (f : Fields) → Holds f → f.ended ≡ outcome_of f.journal
+fields-outcome f h = h.ended_is ∙ ended_is_outcome f.job f.journal h.legal
+
+-- an end at the limit is not by views
+pub limit-keeps : (f : Fields) → Holds f → f.ended ≡ None → (steps next : ℕ) → KeepsViews f.job (f.journal ++ End (Limit steps next) ∷ []) f.views
+limit-keeps f h still steps next =
+    not-split f.job (f.journal ++ End (Limit steps next) ∷ []) f.views (Limit steps next) (outcome_of-append f.journal (End (Limit steps next) ∷ []) (no-outcome f h still)) (λ (e : Limit steps next ≡ Differ). cc) (λ (e : Limit steps next ≡ NoMajority). cc)

@@ -1,8 +1,8 @@
 -- Replicas in their seats that are changed one at a time.
-use Rattle.std.proofs.Common.{◌≡◌, ◌≢◌, ℕ, zero, suc, ◌≤◌, List, [], ◌∷◌, Option, Some, None, get_or, refl, sym, ap, ◌∙◌, subst}
+use Rattle.std.proofs.Common.{◌≡◌, ◌≢◌, ℕ, zero, suc, ◌<◌, ◌≤◌, List, [], ◌∷◌, length, Option, Some, None, get_or, refl, sym, ap, ◌∙◌, subst}
 use Rattle.std.specs.Prelude.{slice_get, slice_set}
 use Rattle.std.specs.Option.{option_map_or}
-use Rattle.std.proofs.lemmas.Option.{get_or_from_slice_get}
+use Rattle.std.proofs.lemmas.Option.{get_or_from_slice_get, slice_get_within}
 use Rattle.ro_kernel.proofs.Kept.{slice_get-set_other}
 use Rattle.ro_plain.proofs.Calls.{some-injective}
 use Rattle.ro_replica.specs.Replica.{Replica, recovered}
@@ -11,7 +11,18 @@ use Rattle.ro_core.specs.Core.{Job}
 use Rattle.ro_event.specs.Effects.{Effect}
 use Rattle.ro_core.specs.Event.{all_applied, with_recovered}
 use Rattle.ro_core.specs.Seen.{IsOfJob}
-use Rattle.ro_core.specs.Fields.{AreHome, AreSpared}
+use Rattle.ro_core.specs.Fields.{IsSeat, AreHome, AreSpared}
+
+pub home-count : (job : Job) (seats : List (Option ReplicaOf)) (replicas : List Replica) → AreHome job seats replicas → length seats ≡ length replicas
+home-count job [] [] h = refl
+home-count job [] (r ∷ replicas) h = absurd h
+home-count job (None ∷ seats) replicas h = absurd h
+home-count job (Some value ∷ seats) [] h = absurd h
+home-count job (Some value ∷ seats) (r ∷ replicas) h = ap suc (home-count job seats replicas h.2)
+
+-- a seat is one of the seats
+pub seat-within : (seats : List (Option ReplicaOf)) (place : ℕ) → IsSeat seats place → place < length seats
+seat-within seats place s = slice_get_within seats place (Some s.0) s.1
 
 -- a seat at home has its replica
 pub home-get : (job : Job) (seats : List (Option ReplicaOf)) (replicas : List Replica) (i : ℕ) (value : ReplicaOf) → AreHome job seats replicas → slice_get seats i ≡ Some (Some value) → IsOfJob job value × (slice_get replicas i ≡ Some (replica_of value))

@@ -1,6 +1,7 @@
 -- What the core's tests say, from its fields.
 use Rattle.std.proofs.Common.{◌≡◌, ℕ, zero, suc, ◌+◌, ◌-◌, ◌<◌, Bool, true, false, true≢false, not, cond, ◌&&◌, ◌||◌, List, [], ◌∷◌, length, Option, Some, None, refl, sym, ap, ◌∙◌, subst, arith}
-use Rattle.std.specs.Prelude.{◌==◌, is_none, is_some, slice_get}
+use Rattle.std.specs.Prelude.{◌==◌, is_none, is_some, slice_get, slice_index_or}
+use Rattle.std.proofs.lemmas.Option.{slice_get-get_or}
 use Rattle.std.specs.List.{list_all, list_any}
 use Rattle.std.specs.Option.{option_map_or}
 use Rattle.ro_event.specs.declared.calls.Call.{Call}
@@ -174,12 +175,20 @@ module _ (f : Fields) (h : Holds f) where
           ∙ ap (λ (k : Kernel). is_home (state_in f) replica && lives_on k thread && is_unstopped thread (replica_of value)) (sym kernel-is)
           ∙ ap (λ (o : Option Replica). is_home (state_in f) replica && lives_on (state_in f).kernel thread && option_map_or (is_unstopped thread) o false) (sym (ap (λ (rs : List Replica). slice_get rs replica) replicas-are ∙ s.2))
 
+  -- the run is over where its fields say so
+  pub over-is : (b : Bool) → b ≡ is_some f.ended → is_some (state_in f).ended ≡ b
+  over-is b e = ap is_some (with-ended f.job f.journal (failed_of f.due) ∙ sym h.ended_is) ∙ sym e
+
   -- a replica of the core has a seat
   pub seat-within : (replica : ℕ) → replica < length (state_in f).replicas → replica < length f.seats
   seat-within replica less = let e : length (state_in f).replicas ≡ length (core_in f).replicas = ap length replicas-are in let c = h.seats_are.count in omega arith
 
   pub made-is : threads_made (state_in f) ≡ length f.kernel.kernel.lives
   made-is = ap (λ (k : Kernel). length k.lives) kernel-is
+
+  -- and of a lease, by the seat in its place
+  pub lendable-at : (replica thread : ℕ) → replica < length (state_in f).replicas → (seat_unstopped thread (slice_index_or f.seats replica None) && lives_on f.kernel.kernel thread) ≡ is_lendable (state_in f) replica thread
+  lendable-at replica thread less = is-lendable-is replica thread (slice_index_or f.seats replica None) (slice_get-get_or f.seats replica None (seat-within replica less))
 
   -- there are as many replicas as settings say
   pub count-is : length (state_in f).replicas ≡ f.job.settings.replicas

@@ -1,6 +1,6 @@
 -- The views of a vote, in the fields of a core.
 use Rattle.std.proofs.Common.{◌≡◌, ◌⊎◌, inl, inr, ℕ, true, List, length, None, Result, Ok, Err, sym, ap, ◌∙◌, arith}
-use Rattle.std.specs.Prelude.{OnOk, IfOk}
+use Rattle.std.specs.Prelude.{OnErr}
 use Rattle.std.specs.List.{list_all, filter_map}
 use Rattle.std.proofs.lemmas.Bool.{and_parts, cases_eq}
 use Rattle.ro_event.specs.Views.{View}
@@ -33,13 +33,10 @@ viewed-holds f views h still same = record {
   room = h.room;
 }
 
-pub on-ok : {X E : Type 0} {A B : Type 0} (r : Result X E) → (A → B) → OnOk r A → OnOk r B
-on-ok (Ok x) f h = f h
-on-ok (Err e) f h = tt
-
-pub on-if-ok : {X E : Type 0} {A B : X → Type 0} (r : Result X E) → ((x : X) → A x → B x) → IfOk r A → IfOk r B
-on-if-ok (Ok x) f h = f x h
-on-if-ok (Err e) f h = tt
+-- what holds anyway holds of an error
+pub always-on-err : {X E P : Type 0} (r : Result X E) → P → OnErr r P
+always-on-err (Ok x) p = tt
+always-on-err (Err e) p = p
 
 module _ (f : Fields) (h : Holds f) (thread : ℕ) (may : may_vote (state_in f) thread ≡ true) where
   pub view-may : may_vote (core_in f) thread ≡ true

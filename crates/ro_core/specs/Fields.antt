@@ -71,6 +71,7 @@ pub record Fields : Type 0 where
   pub ended : Option How
   pub views : List View
   pub places : ℕ
+  pub lease_places : ℕ
 
 -- the core that their journal leaves, without the end that a failing sink makes due, and with it
 abbrev pub core_in : Fields → Core
@@ -145,11 +146,6 @@ CanRecover seats won lost = (winner loser : ReplicaOf) → slice_get seats won �
 abbrev pub IsEvent : Setup → (old new : Kernel) → (thread : ℕ) → Stop → (did : Did) → Effect → (blocked : Option Call) → (due : Option How) → (writes : Bool) → Type 0
 IsEvent setup old new thread stop did effect blocked due writes =
     (payload : List ℕ) → event_of setup old thread stop payload ≡ record { did = did; kernel = new; effect = effect; payload = if writes then payload else []; blocked = blocked; due = due }
-
--- the end that is due behind a write
-abbrev pub due_behind : (due : Option How) → (failed : Option ℕ) → Option How
-due_behind due None = due
-due_behind due (Some bytes) = Some (Sink bytes)
 
 -- the same of a call
 abbrev pub IsCallEvent : Setup → (old new : Kernel) → (thread : ℕ) → Call → (did : Did) → Effect → (blocked : Option Call) → (due : Option How) → (writes : Bool) → Type 0

@@ -2,20 +2,20 @@
 ghost use Rattle.std.specs.Prelude.{◌≡◌, ◌<◌, ◌&&◌, length};
 ghost use Rattle.ro_core.specs.Core.{is_going, nothing_lent, is_lendable, may_vote, may_free};
 ghost use Rattle.ro_core.specs.Action.{lowest_below, threads_made, lend_next, first_action, next_action as next};
-ghost use Rattle.ro_core.specs.Seen.{state};
+ghost use Rattle.ro_core.specs.Fields.{Holds};
+ghost use Rattle.ro_core.specs.Runs.{fields_of, job_of, state_of};
 
 use crate::actions::Action;
-use crate::cores::Core;
-use crate::seats::is_unstopped;
+use crate::runs::Run;
 use ro_event::Call;
-use ro_io::Sink;
 use ro_journal::How;
 
-impl<K: Sink> Core<K> {
+impl Run {
     /// What comes next: an end that is due; else, where nothing is lent, the lowest thread is freed or voted on; else the
     /// lowest thread of the lowest replica is lent.
     pub fn next_action(&self) -> Action
-        ensures next { result ≡ next self.now.job (state self.now) }
+        requires holds { Holds (fields_of self.now) }
+        ensures next { result ≡ next (job_of self.now) (state_of self.now) }
     {
         if self.ended.is_some() {
             return Action::Over;
@@ -37,7 +37,8 @@ impl<K: Sink> Core<K> {
 
     // The first of what can be done.
     fn first_action(&self) -> Option<Action>
-        ensures { result ≡ first_action self.now.job (state self.now) }
+        requires holds { Holds (fields_of self.now) }
+        ensures { result ≡ first_action (job_of self.now) (state_of self.now) }
     {
         if let Some(thread) = self.lowest_to_free() {
             return Some(Action::Free(thread));
@@ -49,7 +50,8 @@ impl<K: Sink> Core<K> {
     }
 
     fn lowest_to_free(&self) -> Option<u32>
-        ensures { result ≡ lowest_below (threads_made (state self.now)) (may_free self.now.job (state self.now)) }
+        requires holds { Holds (fields_of self.now) }
+        ensures { result ≡ lowest_below (threads_made (state_of self.now)) (may_free (job_of self.now) (state_of self.now)) }
     {
         for thread in 0..self.kernel.made() {
             if self.may_free(thread) {
@@ -60,7 +62,8 @@ impl<K: Sink> Core<K> {
     }
 
     fn lowest_to_vote(&self) -> Option<u32>
-        ensures { result ≡ lowest_below (threads_made (state self.now)) (may_vote (state self.now)) }
+        requires holds { Holds (fields_of self.now) }
+        ensures { result ≡ lowest_below (threads_made (state_of self.now)) (may_vote (state_of self.now)) }
     {
         for thread in 0..self.kernel.made() {
             if self.may_vote(thread) {
@@ -71,7 +74,8 @@ impl<K: Sink> Core<K> {
     }
 
     fn lowest_to_lend(&self) -> Option<Action>
-        ensures { result ≡ lend_next (state self.now) }
+        requires holds { Holds (fields_of self.now) }
+        ensures { result ≡ lend_next (state_of self.now) }
     {
         for replica in 0..self.settings.replicas {
             if let Some(thread) = self.lowest_lendable(replica) {
@@ -83,8 +87,9 @@ impl<K: Sink> Core<K> {
 
     // The lowest thread that can be lent in a replica.
     fn lowest_lendable(&self, replica: u32) -> Option<u32>
-        requires { replica < length (state self.now).replicas }
-        ensures { result ≡ lowest_below (threads_made (state self.now)) (is_lendable (state self.now) replica) }
+        requires holds { Holds (fields_of self.now) }
+        requires replica { replica < length (state_of self.now).replicas }
+        ensures { result ≡ lowest_below (threads_made (state_of self.now)) (is_lendable (state_of self.now) replica) }
     {
         for thread in 0..self.kernel.made() {
             if self.is_lendable(replica, thread) {
@@ -95,14 +100,16 @@ impl<K: Sink> Core<K> {
     }
 
     fn is_going(&self) -> bool
-        ensures { result ≡ is_going (state self.now) }
+        requires holds { Holds (fields_of self.now) }
+        ensures { result ≡ is_going (state_of self.now) }
     {
         self.due.is_none() && self.ended.is_none()
     }
 
     // The call on which a thread is blocked, if it is.
     fn blocked_call(&self, thread: u32) -> Option<Call>
-        ensures { result ≡ (state self.now).blocked thread }
+        requires holds { Holds (fields_of self.now) }
+        ensures { result ≡ (state_of self.now).blocked thread }
     {
         match self.blocked.get(thread as usize) {
             Some(call) => *call,
@@ -112,27 +119,30 @@ impl<K: Sink> Core<K> {
 
     // Whether the core goes on and nothing is lent.
     fn is_idle(&self) -> bool
-        ensures { result ≡ (is_going (state self.now) && nothing_lent (state self.now)) }
+        requires holds { Holds (fields_of self.now) }
+        ensures { result ≡ (is_going (state_of self.now) && nothing_lent (state_of self.now)) }
     {
         self.is_going() && self.leases.is_empty()
     }
 
     // Whether a thread stands still in every replica, and is not blocked.
     fn may_vote(&self, thread: u32) -> bool
-        ensures { result ≡ may_vote (state self.now) thread }
+        requires holds { Holds (fields_of self.now) }
+        ensures { result ≡ may_vote (state_of self.now) thread }
     {
         if !self.is_idle() || !self.kernel.lives_on(thread) {
             return false;
         }
         match self.blocked_call(thread) {
             Some(_) => false,
-            None => self.groups.ready(thread),
+            None => self.seats.ready(thread),
         }
     }
 
     // Whether the call on which a thread is blocked no longer blocks.
     fn may_free(&self, thread: u32) -> bool
-        ensures { result ≡ may_free self.now.job (state self.now) thread }
+        requires holds { Holds (fields_of self.now) }
+        ensures { result ≡ may_free (job_of self.now) (state_of self.now) thread }
     {
         if !self.is_idle() {
             return false;
@@ -145,9 +155,10 @@ impl<K: Sink> Core<K> {
 
     // Whether a thread may be lent in a replica.
     fn is_lendable(&self, replica: u32, thread: u32) -> bool
-        requires { replica < length (state self.now).replicas }
-        ensures { result ≡ is_lendable (state self.now) replica thread }
+        requires holds { Holds (fields_of self.now) }
+        requires replica { replica < length (state_of self.now).replicas }
+        ensures { result ≡ is_lendable (state_of self.now) replica thread }
     {
-        is_unstopped(&self.seats[replica as usize], thread) && self.kernel.lives_on(thread)
+        self.seats.is_unstopped(replica, thread) && self.kernel.lives_on(thread)
     }
 }

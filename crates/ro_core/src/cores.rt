@@ -1,85 +1,46 @@
-//! The core: a sequential machine whose journal only grows.
-ghost use Rattle.std.specs.Prelude.{◌≡◌, ◌≢◌, ◌⊎◌, [], Some, None, IsSome, length};
+//! The core: a sequential machine whose journal only grows. It is a run and the sink of its bytes.
+ghost use Rattle.std.specs.Prelude.{◌≡◌, ◌≢◌, ◌⊎◌, [], ℕ, List, Some, None, IsSome, IfOk, IfErr, OnErr, OnOk, IsTrue, length};
 ghost use Rattle.ro_journal.specs.declared.How.{How as HowOf};
 ghost use Rattle.ro_journal.specs.declared.How.TheVariants.{Differ, NoMajority};
-ghost use Rattle.ro_journal.specs.declared.Entry.TheVariants.{End};
+ghost use Rattle.ro_journal.specs.declared.Entry.TheVariants.{Take, End};
 ghost use Rattle.ro_journal.specs.Plan.{outcome_of};
+ghost use Rattle.ro_settings.specs.Ranges.{InRange};
+ghost use Rattle.ro_replica.specs.Seen.{AreFaults};
 ghost use Rattle.ro_core.specs.declared.actions.Action.TheVariants as act;
+ghost use Rattle.ro_core.specs.Core.{may_vote, may_free, views_of};
 ghost use Rattle.ro_core.specs.Legal.{IsAllowed, Legal, replay};
 ghost use Rattle.ro_core.specs.Action.{next_action as next, IsNext};
-ghost use Rattle.ro_core.specs.Seen.{state, sent, Appends, Quiet, KeepsViews};
+ghost use Rattle.ro_core.specs.Seen.{state, sent, Opens, Appends, Quiet, Sends, IsOfMajority, Stays, DecidesVote, DecidesFree, IsSplit, KeepsViews, HasRoom, IsLent, MayReturn, ReturnIs};
 
-use crate::actions::Lease;
-use ro_event::{Call, View};
+use crate::actions::Action;
+use crate::runs::Run;
+use crate::sending::send;
+use ro_event::View;
 use ro_faults::Fault;
-use ro_group::Groups;
 use ro_image::Executable;
 use ro_io::Sink;
 use ro_journal::{Entry, How};
-use ro_kernel::Kernel;
-use ro_replica::Replica;
+use ro_replica::{Ran, Replica};
 use ro_settings::Settings;
-use std::alloc::Global;
+use std::alloc::{AllocError, Global};
 use std::marker::Model;
 
 /// The core of a run. It keeps what it was opened with beside its journal.
 pub struct Core<K: Sink> {
-    pub(crate) image: Executable,
-    pub(crate) faults: Vec<Fault>,
-    pub(crate) settings: Settings,
-    pub(crate) journal: Vec<Entry>,
-    /// The replicas, where they are not lent.
-    pub(crate) seats: Vec<Option<Replica>>,
-    /// Which threads stand still, in the replicas as they were when they left.
-    pub(crate) groups: Groups,
-    pub(crate) leases: Vec<Lease>,
-    pub(crate) kernel: Kernel,
-    /// Of each thread the voted call on which it is blocked.
-    pub(crate) blocked: [Option<Call>; 16],
-    /// The length of the plan so far.
-    pub(crate) steps: u64,
-    /// How many bytes left.
-    pub(crate) sent: u64,
-    pub(crate) due: Option<How>,
-    pub(crate) ended: Option<How>,
-    /// Room for the views of a vote, one for each replica.
-    pub(crate) views: Vec<View>,
+    pub(crate) run: Run,
     pub(crate) out: K,
-    pub(crate) alloc: Global,
 }
 
 impl<K: Sink> Model for Core<K> {
-    ghost use Rattle.std.specs.Prelude.{◌-◌, vec_len, vec_capacity};
     ghost use Rattle.ro_core.specs.Seen.{CoreOf};
-    ghost use Rattle.ro_core.specs.Fields.{Holds, spare_of, failed_of};
+    ghost use Rattle.ro_core.specs.Fields.{Holds};
+    ghost use Rattle.ro_core.specs.Runs.{fields_of, core_of};
 
     ghost Value = { CoreOf };
 
-    ghost view = { λ c. record {
-      job = record { program = record { image = c.image; input = c.kernel.setup.input }; faults = c.faults.items; settings = c.settings };
-      journal = c.journal.items;
-      failed = failed_of c.due;
-      room = spare_of (vec_capacity c.journal - vec_len c.journal) (vec_capacity c.leases - vec_len c.leases);
-      views = c.views.items;
-      held = K.held c.out;
-      faults = K.faults c.out;
-    } };
+    ghost view = { λ c. core_of (fields_of c.run) (K.held c.out) (K.faults c.out) };
 
-    ghost invariant = { λ c. Holds (record {
-      job = record { program = record { image = c.image; input = c.kernel.setup.input }; faults = c.faults.items; settings = c.settings };
-      journal = c.journal.items;
-      seats = c.seats.items;
-      groups = c.groups;
-      leases = c.leases.items;
-      kernel = c.kernel;
-      blocked = c.blocked;
-      steps = c.steps;
-      sent = c.sent;
-      due = c.due;
-      ended = c.ended;
-      views = c.views.items;
-      places = vec_capacity c.journal - vec_len c.journal;
-    }) };
+    ghost invariant = { λ c. Holds (fields_of c.run) };
 }
 
 /// What a core leaves behind.
@@ -95,16 +56,109 @@ pub struct Finished<K> {
 }
 
 impl<K: Sink> Core<K> {
+    /// Opens a core for the program of an image, an input and faults to be struck.
+    ///
+    /// # Errors
+    /// Where there is no memory; the sink comes back.
+    pub fn begin(
+        alloc: Global,
+        image: Executable,
+        input: &[u8],
+        faults: &[Fault],
+        settings: Settings,
+        out: K,
+    ) -> Result<Core<K>, K>
+        requires settings { InRange settings }
+        requires faults { AreFaults faults.now }
+        ensures opens { IfOk result (λ c. Opens (record { program = record { image = image; input = input.now }; faults = faults.now; settings = settings }) (K.held out) (K.faults out) c) }
+        ensures back { IfErr result (λ k. k ≡ out) }
+    {
+        match Run::begin(alloc, image, input, faults, settings) {
+            Ok(run) => Ok(Core { run, out }),
+            Err(_) => Err(out),
+        }
+    }
+
+    /// What comes next: an end that is due; else, where nothing is lent, the lowest thread is freed or voted on; else the
+    /// lowest thread of the lowest replica is lent.
+    pub fn next_action(&self) -> Action
+        ensures next { result ≡ next self.now.job (state self.now) }
+    {
+        self.run.next_action()
+    }
+
+    /// Makes room for a take, its put, the puts of the leases that are out, and the end.
+    ///
+    /// # Errors
+    /// Where there is no memory.
+    pub fn room(&mut self) -> Result<(), AllocError>
+        ensures stays { Stays self.old self.new }
+        ensures room { OnOk result (HasRoom self.new) }
+    {
+        self.run.room()
+    }
+
+    /// Lends a replica's thread to a driver.
+    pub fn take(&mut self, driver: u32, replica: u32, thread: u32) -> Replica
+        requires allowed { IsAllowed self.old.job (state self.old) (Take driver replica thread) }
+        requires room { HasRoom self.old }
+        ensures entry { Appends self.old self.new (Take driver replica thread) }
+        ensures quiet { Quiet self.old self.new }
+        ensures lent { IsLent self.old replica thread result }
+    {
+        self.run.take(driver, replica, thread)
+    }
+
+    /// Puts a replica back that a driver has run.
+    pub fn put(&mut self, driver: u32, lent: Replica, ran: Ran)
+        requires { MayReturn self.old driver lent ran.count ran.hit }
+        ensures entry { ReturnIs self.old self.new driver ran.count ran.hit }
+        ensures quiet { Quiet self.old self.new }
+    {
+        self.run.put(driver, lent, ran);
+    }
+
+    /// Votes on a thread that stands still in every replica: its event is done once, and the entry that was
+    /// appended is answered. Where the views have no majority, or the limit of steps would be passed, that is an end.
+    ///
+    /// # Errors
+    /// Where there is no memory; nothing has changed then.
+    pub fn vote(&mut self, thread: u32) -> Result<Entry, AllocError>
+        requires { IsTrue (may_vote (state self.old) thread) }
+        ensures entry { IfOk result (λ entry. IsAllowed self.old.job (state self.old) entry × DecidesVote self.old.job (state self.old) thread entry × Appends self.old self.new entry) }
+        ensures sends { OnOk result ((bytes : List ℕ) × Sends self.old self.new bytes × ((bytes ≡ []) ⊎ IsOfMajority (views_of self.old.job (state self.old) thread) bytes)) }
+        ensures shown { IfOk result (λ entry. IsSplit entry → self.new.views ≡ views_of self.old.job (state self.old) thread) }
+        ensures err { OnErr result (Stays self.old self.new) }
+    {
+        let voted = self.run.vote(thread)?;
+        let payload = self.run.payload(voted.writer);
+        let count = payload.len();
+        let failed = send(&mut self.out, payload);
+        self.run.note(failed, count);
+        Ok(voted.entry)
+    }
+
+    /// Serves the call on which a thread is blocked, and answers the entry that was appended. Where the limit of steps would
+    /// be passed, that is an end.
+    ///
+    /// # Errors
+    /// Where there is no memory; nothing has changed then.
+    pub fn free(&mut self, thread: u32) -> Result<Entry, AllocError>
+        requires { IsTrue (may_free self.old.job (state self.old) thread) }
+        ensures entry { IfOk result (λ entry. IsAllowed self.old.job (state self.old) entry × DecidesFree self.old.job (state self.old) thread entry × Appends self.old self.new entry) }
+        ensures quiet { OnOk result (Quiet self.old self.new) }
+        ensures err { OnErr result (Stays self.old self.new) }
+    {
+        self.run.free(thread)
+    }
+
     /// Ends the run, where an end is due or nothing can be done any more.
     pub fn end(&mut self)
         requires { (how : HowOf) × (next self.old.job (state self.old) ≡ act.End how) }
         ensures entry { (how : HowOf) → next self.old.job (state self.old) ≡ act.End how → IsAllowed self.old.job (replay self.old.job self.old.journal) (End how) × IsNext self.old.job (replay self.old.job self.old.journal) (End how) × Appends self.old self.new (End how) }
         ensures quiet { Quiet self.old self.new }
     {
-        let how = self.due.unwrap_or(How::Deadlock);
-        self.journal.push_reserved(Entry::End { how });
-        self.due = None;
-        self.ended = Some(how);
+        self.run.end();
     }
 
     /// Hands out how the run ended, if it did, the views of a vote that came to nothing, the journal and the sink.
@@ -119,13 +173,13 @@ impl<K: Sink> Core<K> {
         ensures open { IsSome self.failed → outcome_of self.journal ≡ None }
         ensures sink { (K.held result.out ≡ self.held) × (K.faults result.out ≡ self.faults) }
     {
-        let Core {
+        let Core { run, out } = self;
+        let Run {
             image: _,
             faults: _,
             settings: _,
             journal,
             seats: _,
-            groups: _,
             leases: _,
             kernel: _,
             blocked: _,
@@ -134,9 +188,8 @@ impl<K: Sink> Core<K> {
             due: _,
             ended,
             views,
-            out,
             alloc,
-        } = self;
+        } = run;
         Finished {
             how: ended,
             views: kept_views(alloc, ended, views),

@@ -3,25 +3,26 @@ ghost use Rattle.std.specs.Prelude.{◌≡◌, ◌<◌, ◌==◌, ◌∷◌, OnO
 ghost use Rattle.std.specs.List.{filter, find};
 ghost use Rattle.ro_journal.specs.declared.Entry.TheVariants.{Take};
 ghost use Rattle.ro_core.specs.Legal.{IsAllowed, is_lease};
-ghost use Rattle.ro_core.specs.Seen.{state, Appends, Quiet, Stays, HasRoom, IsLent, MayReturn, ReturnIs};
+ghost use Rattle.ro_core.specs.Seen.{Appends, Quiet, Stays, HasRoom, IsLent, MayReturn, ReturnIs};
+ghost use Rattle.ro_core.specs.Fields.{Holds};
+ghost use Rattle.ro_core.specs.Runs.{fields_of, job_of, state_of, silent, WithAnySink};
 
 use crate::actions::Lease;
-use crate::cores::Core;
-use crate::grouping::note_return;
-use crate::seats::{come_home, leave};
-use ro_io::Sink;
+use crate::runs::Run;
 use ro_journal::Entry;
 use ro_replica::{Ran, Replica};
 use std::alloc::AllocError;
 
-impl<K: Sink> Core<K> {
+impl Run {
     /// Makes room for a take, its put, the puts of the leases that are out, and the end.
     ///
     /// # Errors
     /// Where there is no memory.
     pub fn room(&mut self) -> Result<(), AllocError>
-        ensures stays { Stays self.old self.new }
-        ensures room { OnOk result (HasRoom self.new) }
+        requires holds { Holds (fields_of self.old) }
+        ensures holds { Holds (fields_of self.new) }
+        ensures stays { WithAnySink Stays self.old self.new }
+        ensures room { OnOk result (HasRoom (silent self.new)) }
     {
         self.leases.reserve(1)?;
         self.journal.reserve(self.leases.len() + 3)
@@ -29,11 +30,13 @@ impl<K: Sink> Core<K> {
 
     /// Lends a replica's thread to a driver.
     pub fn take(&mut self, driver: u32, replica: u32, thread: u32) -> Replica
-        requires allowed { IsAllowed self.old.job (state self.old) (Take driver replica thread) }
-        requires room { HasRoom self.old }
-        ensures entry { Appends self.old self.new (Take driver replica thread) }
-        ensures quiet { Quiet self.old self.new }
-        ensures lent { IsLent self.old replica thread result }
+        requires holds { Holds (fields_of self.old) }
+        requires allowed { IsAllowed (job_of self.old) (state_of self.old) (Take driver replica thread) }
+        requires room { HasRoom (silent self.old) }
+        ensures holds { Holds (fields_of self.new) }
+        ensures entry { WithAnySink (λ old new. Appends old new (Take driver replica thread)) self.old self.new }
+        ensures quiet { WithAnySink Quiet self.old self.new }
+        ensures lent { IsLent (silent self.old) replica thread result }
     {
         self.journal.push_reserved(Entry::Take {
             driver,
@@ -48,14 +51,16 @@ impl<K: Sink> Core<K> {
                 thread,
             },
         );
-        leave(self.seats.as_mut_slice(), replica as usize)
+        self.seats.leave(replica)
     }
 
     /// Puts a replica back that a driver has run.
     pub fn put(&mut self, driver: u32, lent: Replica, ran: Ran)
-        requires { MayReturn self.old driver lent ran.count ran.hit }
-        ensures entry { ReturnIs self.old self.new driver ran.count ran.hit }
-        ensures quiet { Quiet self.old self.new }
+        requires holds { Holds (fields_of self.old) }
+        requires returns { MayReturn (silent self.old) driver lent ran.count ran.hit }
+        ensures holds { Holds (fields_of self.new) }
+        ensures entry { WithAnySink (λ old new. ReturnIs old new driver ran.count ran.hit) self.old self.new }
+        ensures quiet { WithAnySink Quiet self.old self.new }
     {
         let Some(lease) = lease_of(self.leases.as_slice(), driver) else {
             unreachable!()
@@ -68,8 +73,7 @@ impl<K: Sink> Core<K> {
             hit: ran.hit,
         });
         give_back(&mut self.leases, lease);
-        note_return(&mut self.groups, lease.replica, lease.thread, &lent);
-        come_home(self.seats.as_mut_slice(), lease.replica as usize, lent);
+        self.seats.come_home(lease.replica, lease.thread, lent);
     }
 }
 

@@ -1,7 +1,8 @@
-//! The seats of the replicas, each empty while its replica is lent.
-ghost use Rattle.std.specs.Prelude.{ℕ, ◌≡◌, ◌≢◌, ◌≤◌, ◌⊎◌, ◌<◌, ◌∷◌, [], List, Some, None, true, OnOk, length, slice_get, slice_set};
+//! The replicas in their seats, each empty while its replica is lent, and which threads stand still.
+ghost use Rattle.std.specs.Prelude.{ℕ, ◌≡◌, ◌≢◌, ◌≤◌, ◌⊎◌, ◌<◌, ◌∷◌, [], List, Some, None, true, is_some, IfSome, OnOk, length, slice_get, slice_index_or, slice_set};
 ghost use Rattle.std.specs.List.{list_all, filter_map};
-ghost use Rattle.ro_replica.specs.Replica.{Replica as ReplicaSeen};
+ghost use Rattle.ro_group.specs.Groups.{is_ready};
+ghost use Rattle.ro_replica.specs.Replica.{Replica as ReplicaSeen, stop_of};
 ghost use Rattle.ro_replica.specs.Views.{view_of};
 ghost use Rattle.ro_replica.specs.Seen.{ReplicaOf, replica_of, CanApply, AreTwins, Recovers};
 ghost use Rattle.ro_vote.specs.Verdict.{verdict_of};
@@ -9,9 +10,12 @@ ghost use Rattle.ro_vote.specs.Votes.{verdict_of_three};
 ghost use Rattle.ro_core.specs.Core.{Job};
 ghost use Rattle.ro_core.specs.Event.{all_applied, with_recovered};
 ghost use Rattle.ro_core.specs.Fields.{IsSeat, AreHome, AreSpared, CanTake, KeepsSeat, CanRecover, seat_unstopped};
-ghost use Rattle.ro_core.specs.Grouped.{seat_stopped};
+ghost use Rattle.ro_core.specs.Grouped.{AreMade, Returns, seat_stopped};
+ghost use Rattle.ro_core.specs.Seated.{Stands};
 
+use crate::grouping::{copy_stops, note_return, regroup};
 use ro_event::{Effect, View};
+use ro_group::Groups;
 use ro_recover::recover;
 use ro_replica::Replica;
 use ro_vote::{Pair, Won, vote2, vote3};
@@ -20,8 +24,113 @@ use std::alloc::AllocError;
 /// How many pages an event backs in a replica at most.
 const MOST_PAGES: u32 = 3;
 
-/// Takes a replica out of its seat.
-pub(crate) fn leave(seats: &mut [Option<Replica>], place: usize) -> Replica
+/// The seats of the replicas.
+#[derive(Drop)]
+pub(crate) struct Seats {
+    /// The replicas, where they are not lent.
+    pub homes: Vec<Option<Replica>>,
+    /// Which threads stand still, in the replicas as they were when they left.
+    pub groups: Groups,
+}
+
+impl Seats {
+    /// Whether a thread stands still in every replica.
+    pub fn ready(&self, thread: u32) -> bool
+        requires { thread < 16 }
+        ensures { result ≡ is_ready self.now.groups thread }
+    {
+        self.groups.ready(thread)
+    }
+
+    /// Whether a replica is at home, and a thread of it not stopped.
+    pub fn is_unstopped(&self, replica: u32, thread: u32) -> bool
+        requires { replica < length self.now.homes.items }
+        ensures { result ≡ seat_unstopped thread (slice_index_or self.now.homes.items replica None) }
+    {
+        is_unstopped(&self.homes[replica as usize], thread)
+    }
+
+    /// Takes a replica out of its seat.
+    pub fn leave(&mut self, replica: u32) -> Replica
+        requires { IsSeat self.old.homes.items replica }
+        ensures replica { slice_get self.old.homes.items replica ≡ Some (Some result) }
+        ensures homes { self.new.homes.items ≡ slice_set self.old.homes.items replica None }
+        ensures groups { self.new.groups ≡ self.old.groups }
+    {
+        leave(self.homes.as_mut_slice(), replica as usize)
+    }
+
+    /// Puts a replica that was lent for a thread back into its seat.
+    pub fn come_home(&mut self, replica: u32, thread: u32, lent: Replica)
+        requires home { replica < length self.old.homes.items }
+        requires replica { replica < length self.old.groups }
+        requires thread { thread < 16 }
+        ensures homes { self.new.homes.items ≡ slice_set self.old.homes.items replica (Some lent) }
+        ensures groups { Returns replica thread (is_some (stop_of (replica_of lent) thread)) self.old.groups self.new.groups }
+    {
+        note_return(&mut self.groups, replica, thread, &lent);
+        come_home(self.homes.as_mut_slice(), replica as usize, lent);
+    }
+
+    /// Shows a thread that stands still in every replica, each of which is at home.
+    pub fn show(&self, thread: u32, views: &mut [View])
+        requires stopped { list_all (seat_stopped thread) self.now.homes.items ≡ true }
+        requires count { length views.old ≡ length self.now.homes.items }
+        ensures views { (job : Job) (replicas : List ReplicaSeen) → AreHome job self.now.homes.items replicas → views.new ≡ filter_map (view_of job.program.image.ranges thread) replicas }
+        ensures count { length views.new ≡ length views.old }
+    {
+        show_all(self.homes.as_slice(), thread, views);
+    }
+
+    /// Makes sure that each replica can be given an event with no more memory; all are at home.
+    ///
+    /// # Errors
+    /// Where there is no memory; the replicas are as they were.
+    pub fn reserve(&mut self) -> Result<(), AllocError>
+        requires home { (job : Job) × (replicas : List ReplicaSeen) × AreHome job self.old.homes.items replicas }
+        ensures kept { (job : Job) (replicas : List ReplicaSeen) → AreHome job self.old.homes.items replicas → AreHome job self.new.homes.items replicas }
+        ensures spared { OnOk result (AreSpared self.new.homes.items) }
+        ensures groups { self.new.groups ≡ self.old.groups }
+    {
+        reserve_pages(self.homes.as_mut_slice())
+    }
+
+    /// The loser, if there is one, becomes as the winner.
+    pub fn heal(&mut self, won: &Won, threads: u32)
+        requires home { (job : Job) × (replicas : List ReplicaSeen) × Stands job self.old replicas }
+        requires won { IsSeat self.old.homes.items won.now.won }
+        requires lost { (lost : ℕ) → won.now.lost ≡ Some lost → IsSeat self.old.homes.items lost × (won.now.won ≢ lost) × CanRecover self.old.homes.items won.now.won lost }
+        requires threads { threads ≤ 16 }
+        ensures stands { (job : Job) (replicas : List ReplicaSeen) → Stands job self.old replicas → AreMade threads replicas → Stands job self.new (with_recovered won.now.won won.now.lost replicas) }
+        ensures spared { AreSpared self.old.homes.items → AreSpared self.new.homes.items }
+    {
+        recover_loser(self.homes.as_mut_slice(), won);
+        copy_stops(&mut self.groups, won, threads);
+    }
+
+    /// Does what an event does to every replica; each is at home.
+    pub fn apply(&mut self, effect: &Effect, threads: u32)
+        requires home { (job : Job) × (replicas : List ReplicaSeen) × Stands job self.old replicas }
+        requires few { length self.old.homes.items ≤ 3 }
+        requires can { CanTake effect.now self.old.homes.items }
+        requires thread { effect.now.thread < 16 }
+        requires threads { threads ≤ 16 }
+        ensures stands { (job : Job) (replicas : List ReplicaSeen) → Stands job self.old replicas → AreMade threads replicas → Stands job self.new (all_applied effect.now replicas) }
+    {
+        apply_to_all(self.homes.as_mut_slice(), effect);
+        let replicas = self.homes.len() as u32;
+        regroup(
+            self.homes.as_slice(),
+            &mut self.groups,
+            effect,
+            replicas,
+            threads,
+        );
+    }
+}
+
+// Takes a replica out of its seat.
+fn leave(seats: &mut [Option<Replica>], place: usize) -> Replica
     requires { IsSeat seats.old place }
     ensures replica { slice_get seats.old place ≡ Some (Some result) }
     ensures seats { seats.new ≡ slice_set seats.old place None }
@@ -32,8 +141,8 @@ pub(crate) fn leave(seats: &mut [Option<Replica>], place: usize) -> Replica
     replica
 }
 
-/// Puts a replica into its seat.
-pub(crate) fn come_home(seats: &mut [Option<Replica>], place: usize, replica: Replica)
+// Puts a replica into its seat.
+fn come_home(seats: &mut [Option<Replica>], place: usize, replica: Replica)
     requires { place < length seats.old }
     ensures { seats.new ≡ slice_set seats.old place (Some replica) }
 {
@@ -50,8 +159,8 @@ pub(crate) fn is_stopped(seat: &Option<Replica>, thread: u32) -> bool
     }
 }
 
-/// Whether a replica is at home, and a thread of it not stopped.
-pub(crate) fn is_unstopped(seat: &Option<Replica>, thread: u32) -> bool
+// Whether a replica is at home, and a thread of it not stopped.
+fn is_unstopped(seat: &Option<Replica>, thread: u32) -> bool
     ensures { result ≡ seat_unstopped thread seat.now }
 {
     match seat {
@@ -60,8 +169,8 @@ pub(crate) fn is_unstopped(seat: &Option<Replica>, thread: u32) -> bool
     }
 }
 
-/// Shows a thread that stands still in every replica, each of which is at home.
-pub(crate) fn show_all(seats: &[Option<Replica>], thread: u32, views: &mut [View])
+// Shows a thread that stands still in every replica, each of which is at home.
+fn show_all(seats: &[Option<Replica>], thread: u32, views: &mut [View])
     requires stopped { list_all (seat_stopped thread) seats.now ≡ true }
     requires count { length views.old ≡ length seats.now }
     ensures views { (job : Job) (replicas : List ReplicaSeen) → AreHome job seats.now replicas → views.new ≡ filter_map (view_of job.program.image.ranges thread) replicas }
@@ -101,11 +210,8 @@ pub(crate) fn verdict(views: &[View]) -> Option<Won>
     }
 }
 
-/// Makes sure that each replica can be given an event with no more memory.
-///
-/// # Errors
-/// Where there is no memory; the replicas are as they were.
-pub(crate) fn reserve_pages(seats: &mut [Option<Replica>]) -> Result<(), AllocError>
+// Makes sure that each replica can be given an event with no more memory. Where there is none, the replicas are as they were.
+fn reserve_pages(seats: &mut [Option<Replica>]) -> Result<(), AllocError>
     ensures kept { (job : Job) (replicas : List ReplicaSeen) → AreHome job seats.old replicas → AreHome job seats.new replicas }
     ensures spared { OnOk result (AreSpared seats.new) }
 {
@@ -126,8 +232,8 @@ fn reserve_in(seat: &mut Option<Replica>) -> Result<(), AllocError>
     }
 }
 
-/// Overwrites the loser, if there is one, with the winner.
-pub(crate) fn recover_loser(seats: &mut [Option<Replica>], won: &Won)
+// Overwrites the loser, if there is one, with the winner.
+fn recover_loser(seats: &mut [Option<Replica>], won: &Won)
     requires { (lost : ℕ) → won.now.lost ≡ Some lost → IsSeat seats.old won.now.won × IsSeat seats.old lost × (won.now.won ≢ lost) × CanRecover seats.old won.now.won lost }
     ensures recovered { (job : Job) (replicas : List ReplicaSeen) → AreHome job seats.old replicas → AreHome job seats.new (with_recovered won.now.won won.now.lost replicas) }
     ensures spared { AreSpared seats.old → AreSpared seats.new }
@@ -161,8 +267,8 @@ fn recover_in(winner: &Replica, seat: &mut Option<Replica>)
     }
 }
 
-/// Does what an event does to every replica.
-pub(crate) fn apply_to_all(seats: &mut [Option<Replica>], effect: &Effect)
+// Does what an event does to every replica.
+fn apply_to_all(seats: &mut [Option<Replica>], effect: &Effect)
     requires { CanTake effect.now seats.old }
     ensures { (job : Job) (replicas : List ReplicaSeen) → AreHome job seats.old replicas → AreHome job seats.new (all_applied effect.now replicas) }
 {

@@ -1,82 +1,106 @@
 //! Votes, and the calls that are served after one.
-ghost use Rattle.std.specs.Prelude.{◌≡◌, ◌≢◌, ◌⊎◌, ◌∷◌, ◌++◌, ℕ, List, [], Some, None, true, IfOk, OnErr, OnOk, IsTrue, if◌then◌else◌, unwrap_or};
-ghost use Rattle.ro_journal.specs.declared.How.{How as HowOf};
-ghost use Rattle.ro_journal.specs.declared.How.TheVariants.{Sink as BySink};
-ghost use Rattle.ro_journal.specs.declared.Entry.TheVariants.{End};
-ghost use Rattle.ro_vote.specs.Verdict.{verdict_of, Won as IsWon, Split};
-ghost use Rattle.ro_core.specs.Core.{may_vote, may_free, views_of, is_going};
-ghost use Rattle.ro_core.specs.Legal.{IsAllowed, MayEnd};
-ghost use Rattle.ro_core.specs.Fields.{due_behind as behind, split_end};
-ghost use Rattle.ro_core.specs.Seen.{state, Appends, Quiet, Sends, IsOfMajority, Stays, DecidesVote, DecidesFree, IsSplit, KeepsViews};
+ghost use Rattle.std.specs.Prelude.{◌≡◌, ◌⊎◌, ◌<◌, ◌≤◌, ◌∷◌, ◌++◌, ℕ, List, [], Some, None, true, IfOk, IfSome, OnErr, OnOk, if◌then◌else◌, length};
+ghost use Rattle.ro_vote.specs.Verdict.{verdict_of, Split};
+ghost use Rattle.ro_core.specs.Core.{may_vote, may_free, views_of};
+ghost use Rattle.ro_core.specs.Legal.{IsAllowed, output_of};
+ghost use Rattle.ro_core.specs.Fields.{Holds, AreSpared, split_end};
+ghost use Rattle.ro_core.specs.Seen.{Appends, Quiet, IsOfMajority, Stays, DecidesVote, DecidesFree, IsSplit};
+ghost use Rattle.ro_core.specs.Runs.{fields_of, job_of, state_of, sent_in, payload_by, bytes_by, WithAnySink, MakesRoom, IsHeld, CanOccur, LastWrote, Notes};
 
-use crate::cores::Core;
-use crate::events::{did_of, happen, serve};
-use crate::grouping::{copy_stops, regroup};
-use crate::seats::{apply_to_all, recover_loser, reserve_pages, show_all, verdict};
-use crate::sending::send;
-use ro_event::View;
-use ro_io::Sink;
+use crate::events::{Event, did_of, happen, serve};
+use crate::runs::Run;
+use crate::seats::verdict;
 use ro_journal::{Entry, How};
 use ro_vote::Won;
 use std::alloc::AllocError;
 
-impl<K: Sink> Core<K> {
-    /// Votes on a thread that stands still in every replica: its event is done once, and the entry that was
-    /// appended is answered. Where the views have no majority, or the limit of steps would be passed, that is an end.
+/// What a vote decided: its entry, and the replica whose payload is to be written, if any is.
+#[derive(Clone, Copy)]
+pub(crate) struct Voted {
+    pub entry: Entry,
+    pub writer: Option<u32>,
+}
+
+impl Run {
+    /// Votes on a thread that stands still in every replica: its event is done once. Where the views have no majority, or
+    /// the limit of steps would be passed, that is an end. What is to be written counts as sent until `note` says otherwise.
     ///
     /// # Errors
     /// Where there is no memory; nothing has changed then.
-    pub fn vote(&mut self, thread: u32) -> Result<Entry, AllocError>
-        requires { IsTrue (may_vote (state self.old) thread) }
-        ensures entry { IfOk result (λ entry. IsAllowed self.old.job (state self.old) entry × DecidesVote self.old.job (state self.old) thread entry × Appends self.old self.new entry) }
-        ensures sends { OnOk result ((bytes : List ℕ) × Sends self.old self.new bytes × ((bytes ≡ []) ⊎ IsOfMajority (views_of self.old.job (state self.old) thread) bytes)) }
-        ensures shown { IfOk result (λ entry. IsSplit entry → self.new.views ≡ views_of self.old.job (state self.old) thread) }
-        ensures err { OnErr result (Stays self.old self.new) }
+    pub fn vote(&mut self, thread: u32) -> Result<Voted, AllocError>
+        requires holds { Holds (fields_of self.old) }
+        requires may { may_vote (state_of self.old) thread ≡ true }
+        ensures holds { Holds (fields_of self.new) }
+        ensures entry { IfOk result (λ voted. IsAllowed (job_of self.old) (state_of self.old) voted.entry × DecidesVote (job_of self.old) (state_of self.old) thread voted.entry × WithAnySink (λ old new. Appends old new voted.entry) self.old self.new) }
+        ensures writer { IfOk result (λ voted. IfSome voted.writer (λ number. number < length self.new.views.items)) }
+        ensures wrote { IfOk result (λ voted. LastWrote (fields_of self.new) (sent_in (fields_of self.old)) (payload_by self.new.views.items voted.writer)) }
+        ensures majority { IfOk result (λ voted. (payload_by self.new.views.items voted.writer ≡ []) ⊎ IsOfMajority (views_of (job_of self.old) (state_of self.old) thread) (payload_by self.new.views.items voted.writer)) }
+        ensures shown { IfOk result (λ voted. IsSplit voted.entry → self.new.views.items ≡ views_of (job_of self.old) (state_of self.old) thread) }
+        ensures err { OnErr result (WithAnySink Stays self.old self.new) }
     {
-        show_all(self.seats.as_slice(), thread, self.views.as_mut_slice());
+        self.seats.show(thread, self.views.as_mut_slice());
         match verdict(self.views.as_slice()) {
             Some(won) => self.hold(thread, won),
-            None => Ok(self.split()),
+            None => Ok(Voted {
+                entry: self.split(thread),
+                writer: None,
+            }),
         }
     }
 
+    /// The payload of the replica that writes.
+    pub fn payload(&self, writer: Option<u32>) -> &[u8]
+        requires { IfSome writer (λ number. number < length self.now.views.items) }
+        ensures { result.now ≡ payload_by self.now.views.items writer }
+    {
+        match writer {
+            Some(number) => self.views[number as usize].payload(),
+            None => &[],
+        }
+    }
+
+    /// Notes what a sink took of the last write: the end by a failing one is due where that was not all.
+    pub fn note(&mut self, failed: Option<u32>, count: usize)
+        requires holds { Holds (fields_of self.old) }
+        requires wrote { (before : List ℕ) × (bytes : List ℕ) × LastWrote (fields_of self.old) before bytes × (count ≡ length bytes) × IfSome failed (λ taken. taken < length bytes) }
+        ensures holds { Holds (fields_of self.new) }
+        ensures sent { (before bytes : List ℕ) → LastWrote (fields_of self.old) before bytes → sent_in (fields_of self.new) ≡ before ++ bytes_by failed bytes }
+        ensures noted { Notes (fields_of self.old) (fields_of self.new) failed }
+    {
+        let Some(taken) = failed else {
+            return;
+        };
+        self.sent -= (count - taken as usize) as u64;
+        self.due = Some(How::Sink(taken));
+    }
+
     // The run ends by views that have no majority.
-    fn split(&mut self) -> Entry
-        requires { (thread : ℕ) × (may_vote (state self.old) thread ≡ true) × (self.old.views ≡ views_of self.old.job (state self.old) thread) × (verdict_of self.old.views ≡ Split) }
-        ensures entry { (thread : ℕ) → may_vote (state self.old) thread ≡ true → self.old.views ≡ views_of self.old.job (state self.old) thread → verdict_of self.old.views ≡ Split → IsAllowed self.old.job (state self.old) result × DecidesVote self.old.job (state self.old) thread result × Appends self.old self.new result }
-        ensures quiet { Quiet self.old self.new }
-        ensures views { self.new.views ≡ self.old.views }
+    fn split(&mut self, thread: u32) -> Entry
+        requires holds { Holds (fields_of self.old) }
+        requires may { may_vote (state_of self.old) thread ≡ true }
+        requires views { self.old.views.items ≡ views_of (job_of self.old) (state_of self.old) thread }
+        requires verdict { verdict_of self.old.views.items ≡ Split }
+        ensures holds { Holds (fields_of self.new) }
+        ensures allowed { IsAllowed (job_of self.old) (state_of self.old) result }
+        ensures decides { DecidesVote (job_of self.old) (state_of self.old) thread result }
+        ensures appends { WithAnySink (λ old new. Appends old new result) self.old self.new }
+        ensures wrote { LastWrote (fields_of self.new) (sent_in (fields_of self.old)) [] }
+        ensures views { self.new.views.items ≡ self.old.views.items }
     {
         let how = split_of(self.views.len());
         self.conclude(how)
     }
 
-    // The run ends in the place of a vote or a free.
-    fn conclude(&mut self, how: How) -> Entry
-        requires going { is_going (state self.old) ≡ true }
-        requires allowed { MayEnd self.old.job (state self.old) how }
-        requires views { KeepsViews self.old.job (self.old.journal ++ End how ∷ []) self.old.views }
-        requires not_sink { (bytes : ℕ) → how ≢ BySink bytes }
-        ensures entry { result ≡ End how }
-        ensures appends { Appends self.old self.new (End how) }
-        ensures quiet { Quiet self.old self.new }
-        ensures views { self.new.views ≡ self.old.views }
-    {
-        let entry = Entry::End { how };
-        self.journal.push_reserved(entry);
-        self.ended = Some(how);
-        entry
-    }
-
     // A vote that was won: the limit of steps, then all memory, then the copy and the event.
-    fn hold(&mut self, thread: u32, won: Won) -> Result<Entry, AllocError>
-        requires may { may_vote (state self.old) thread ≡ true }
-        requires views { self.old.views ≡ views_of self.old.job (state self.old) thread }
-        requires won { verdict_of self.old.views ≡ IsWon won.won won.lost }
-        ensures entry { IfOk result (λ entry. IsAllowed self.old.job (state self.old) entry × DecidesVote self.old.job (state self.old) thread entry × Appends self.old self.new entry) }
-        ensures sends { OnOk result ((bytes : List ℕ) × Sends self.old self.new bytes × ((bytes ≡ []) ⊎ IsOfMajority self.old.views bytes)) }
-        ensures won { IfOk result (λ entry. IsSplit entry → ⊥) }
-        ensures err { OnErr result (Stays self.old self.new) }
+    fn hold(&mut self, thread: u32, won: Won) -> Result<Voted, AllocError>
+        requires held { IsHeld (fields_of self.old) thread won.won won.lost }
+        ensures holds { Holds (fields_of self.new) }
+        ensures entry { IfOk result (λ voted. IsAllowed (job_of self.old) (state_of self.old) voted.entry × DecidesVote (job_of self.old) (state_of self.old) thread voted.entry × WithAnySink (λ old new. Appends old new voted.entry) self.old self.new) }
+        ensures writer { IfOk result (λ voted. IfSome voted.writer (λ number. number < length self.new.views.items)) }
+        ensures wrote { IfOk result (λ voted. LastWrote (fields_of self.new) (sent_in (fields_of self.old)) (payload_by self.new.views.items voted.writer)) }
+        ensures majority { IfOk result (λ voted. (payload_by self.new.views.items voted.writer ≡ []) ⊎ IsOfMajority self.old.views.items (payload_by self.new.views.items voted.writer)) }
+        ensures won { IfOk result (λ voted. IsSplit voted.entry → ⊥) }
+        ensures err { OnErr result (WithAnySink Stays self.old self.new) }
     {
         let view = &self.views[won.won as usize];
         let (count, stop) = (view.since(), *view.stop());
@@ -84,25 +108,16 @@ impl<K: Sink> Core<K> {
         let next = u64::from(count) + did.steps();
         if next > self.settings.limit - self.steps {
             let steps = self.steps;
-            return Ok(self.conclude(How::Limit { steps, next }));
+            let entry = self.conclude(How::Limit { steps, next });
+            return Ok(Voted {
+                entry,
+                writer: None,
+            });
         }
-        self.journal.reserve(2)?;
-        reserve_pages(self.seats.as_mut_slice())?;
+        self.prepare()?;
         let threads = self.kernel.made();
         let event = happen(self.alloc, &mut self.kernel, thread, &stop)?;
-        recover_loser(self.seats.as_mut_slice(), &won);
-        copy_stops(&mut self.groups, &won, threads);
-        apply_to_all(self.seats.as_mut_slice(), &event.effect);
-        regroup(
-            self.seats.as_slice(),
-            &mut self.groups,
-            &event.effect,
-            self.settings.replicas,
-            threads,
-        );
-        let payload = written(event.writes, &self.views[won.won as usize]);
-        let failed = send(&mut self.out, payload);
-        let taken = taken_of(failed, payload.len());
+        self.seats.heal(&won, threads);
         let entry = Entry::Vote {
             thread,
             count,
@@ -110,12 +125,9 @@ impl<K: Sink> Core<K> {
             lost: won.lost,
             did,
         };
-        self.journal.push_reserved(entry);
-        self.blocked[thread as usize] = event.blocked;
-        self.steps += next;
-        self.sent += taken;
-        self.due = due_behind(event.due, failed);
-        Ok(entry)
+        let writer = writer_of(event.writes, won.won);
+        self.occur(thread, event, entry, next, writer, threads);
+        Ok(Voted { entry, writer })
     }
 
     /// Serves the call on which a thread is blocked, and answers the entry that was appended. Where the limit of steps would
@@ -124,10 +136,12 @@ impl<K: Sink> Core<K> {
     /// # Errors
     /// Where there is no memory; nothing has changed then.
     pub fn free(&mut self, thread: u32) -> Result<Entry, AllocError>
-        requires { IsTrue (may_free self.old.job (state self.old) thread) }
-        ensures entry { IfOk result (λ entry. IsAllowed self.old.job (state self.old) entry × DecidesFree self.old.job (state self.old) thread entry × Appends self.old self.new entry) }
-        ensures quiet { OnOk result (Quiet self.old self.new) }
-        ensures err { OnErr result (Stays self.old self.new) }
+        requires holds { Holds (fields_of self.old) }
+        requires may { may_free (job_of self.old) (state_of self.old) thread ≡ true }
+        ensures holds { Holds (fields_of self.new) }
+        ensures entry { IfOk result (λ entry. IsAllowed (job_of self.old) (state_of self.old) entry × DecidesFree (job_of self.old) (state_of self.old) thread entry × WithAnySink (λ old new. Appends old new entry) self.old self.new) }
+        ensures quiet { OnOk result (WithAnySink Quiet self.old self.new) }
+        ensures err { OnErr result (WithAnySink Stays self.old self.new) }
     {
         let Some(call) = self.blocked[thread as usize] else {
             unreachable!()
@@ -136,24 +150,51 @@ impl<K: Sink> Core<K> {
             let steps = self.steps;
             return Ok(self.conclude(How::Limit { steps, next: 1 }));
         }
-        self.journal.reserve(2)?;
-        reserve_pages(self.seats.as_mut_slice())?;
+        self.prepare()?;
         let threads = self.kernel.made();
         let event = serve(self.alloc, &mut self.kernel, thread, call)?;
-        apply_to_all(self.seats.as_mut_slice(), &event.effect);
-        regroup(
-            self.seats.as_slice(),
-            &mut self.groups,
-            &event.effect,
-            self.settings.replicas,
-            threads,
-        );
         let entry = Entry::Free { thread };
+        self.occur(thread, event, entry, 1, None, threads);
+        Ok(entry)
+    }
+
+    // Makes room for an entry and the end, and for an event in every replica, each of which is at home.
+    fn prepare(&mut self) -> Result<(), AllocError>
+        requires holds { Holds (fields_of self.old) }
+        requires alone { self.old.leases.items ≡ [] }
+        ensures makes { MakesRoom (fields_of self.old) (fields_of self.new) }
+        ensures room { OnOk result (2 ≤ (fields_of self.new).places) }
+        ensures spared { OnOk result (AreSpared self.new.seats.homes.items) }
+    {
+        self.journal.reserve(2)?;
+        self.seats.reserve()?;
+        Ok(())
+    }
+
+    // An event that has changed the kernel is done in every replica and noted, with so many steps and what it writes.
+    fn occur(
+        &mut self,
+        thread: u32,
+        event: Event,
+        entry: Entry,
+        steps: u64,
+        writer: Option<u32>,
+        threads: u32,
+    )
+        requires can { CanOccur self.old thread event entry steps writer threads }
+        ensures holds { Holds (fields_of self.new) }
+        ensures job { job_of self.new ≡ job_of self.old }
+        ensures journal { self.new.journal.items ≡ self.old.journal.items ++ entry ∷ [] }
+        ensures wrote { LastWrote (fields_of self.new) (output_of (job_of self.old) self.old.journal.items) (payload_by self.old.views.items writer) }
+        ensures views { self.new.views.items ≡ self.old.views.items }
+    {
+        let written = self.payload(writer).len();
+        self.seats.apply(&event.effect, threads);
         self.journal.push_reserved(entry);
         self.blocked[thread as usize] = event.blocked;
-        self.steps += 1;
+        self.steps += steps;
+        self.sent += written as u64;
         self.due = event.due;
-        Ok(entry)
     }
 }
 
@@ -168,29 +209,9 @@ fn split_of(replicas: usize) -> How
     }
 }
 
-// What is written of a view's payload.
-fn written(writes: bool, view: &View) -> &[u8]
-    ensures { result.now ≡ (if writes then view.now.payload else []) }
+// The replica whose payload is written, where one is.
+fn writer_of(writes: bool, won: u32) -> Option<u32>
+    ensures { result ≡ (if writes then Some won else None) }
 {
-    if writes { view.payload() } else { &[] }
-}
-
-// How many bytes of a payload left: all of them, or those that a failing sink took.
-fn taken_of(failed: Option<u32>, all: usize) -> u64
-    ensures { result ≡ unwrap_or failed all }
-{
-    match failed {
-        Some(bytes) => u64::from(bytes),
-        None => all as u64,
-    }
-}
-
-// The end that is due behind a write: a failing sink's comes first.
-fn due_behind(due: Option<How>, failed: Option<u32>) -> Option<How>
-    ensures { result ≡ behind due failed }
-{
-    match failed {
-        Some(bytes) => Some(How::Sink(bytes)),
-        None => due,
-    }
+    if writes { Some(won) } else { None }
 }

@@ -1,0 +1,6 @@
+use Rattle.ro_core.specs.Seen.{Stays}
+use Rattle.ro_core.proofs.Entries.{with-old}
+use Rattle.ro_core.proofs.cores.Core.room.Goals as goal
+
+pub returns-clause-stays : goal.returns-clause-stays
+returns-clause-stays g c = with-old Stays c.self.view_is (c.room.ensures.stays (g.K.Sink.held c.self.inside.out) (g.K.Sink.faults c.self.inside.out))

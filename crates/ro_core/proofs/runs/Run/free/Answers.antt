@@ -1,0 +1,91 @@
+use Rattle.std.proofs.Common.{◌≡◌, ◌++◌, ◌∷◌, [], List, Option, refl, sym, ap, ◌∙◌, subst, arith, append-nil}
+use Rattle.ro_event.specs.declared.calls.Call.{Call}
+use Rattle.ro_journal.specs.declared.Entry.{Entry}
+use Rattle.ro_journal.specs.declared.Entry.TheVariants.{Free}
+use Rattle.ro_kernel.specs.Kernel.{Setup}
+use Rattle.ro_core.specs.declared.runs.Run.{Run}
+use Rattle.ro_core.specs.Core.{Job, Core}
+use Rattle.ro_core.specs.Legal.{IsAllowed, MayFree, output_of}
+use Rattle.ro_core.specs.Seen.{sent_of, Appends, DecidesFree}
+use Rattle.ro_core.specs.Fields.{Fields, blocked_at}
+use Rattle.ro_core.specs.Runs.{fields_of, state_of, WithAnySink}
+use Rattle.ro_core.proofs.Held.{limit-keeps}
+use Rattle.ro_core.proofs.Holding.{ready-stands}
+use Rattle.ro_core.proofs.Freeing.{free-goes, free-not-over, free-alone, free-live, free-steps, free-ends, free-may-end, free-allowed, free-can, free-room}
+use Rattle.ro_core.proofs.runs.Run.free.Goals as goal
+
+pub conclude-requires-clause-allowed : goal.conclude-requires-clause-allowed
+conclude-requires-clause-allowed c = free-may-end (fields_of c.args.self.now) c.requires.holds c.args.thread c.requires.may c.if-self.true
+
+pub conclude-requires-clause-views : goal.conclude-requires-clause-views
+conclude-requires-clause-views c = limit-keeps (fields_of c.args.self.now) c.requires.holds (free-goes (fields_of c.args.self.now) c.requires.holds c.args.thread c.requires.may).not_ended c.args.self.now.steps 1
+
+pub returns-then-self-clause-entry : goal.returns-then-self-clause-entry
+returns-then-self-clause-entry c =
+    let f : Fields = fields_of c.args.self.now in
+    subst (λ (e : Entry). IsAllowed f.job (state_of c.args.self.now) e × DecidesFree f.job (state_of c.args.self.now) c.args.thread e × WithAnySink (λ old new. Appends old new e) c.args.self.now c.conclude.new.self) (sym c.conclude.ensures.entry) (
+      (free-not-over f c.requires.holds c.args.thread c.requires.may, free-may-end f c.requires.holds c.args.thread c.requires.may c.if-self.true),
+      free-ends f c.requires.holds c.args.thread c.requires.may c.if-self.true,
+      c.conclude.ensures.appends,
+    )
+
+pub serve-requires : goal.serve-requires
+serve-requires c =
+    let m = c.prepare.ensures.makes in
+    free-live (fields_of c.prepare.new.self) m.holds c.args.thread (free-room (fields_of c.args.self.now) (fields_of c.prepare.new.self) c.args.thread c.requires.may m)
+
+pub occur-requires : goal.occur-requires
+occur-requires c =
+    let old : Fields = fields_of c.args.self.now in
+    let f : Fields = fields_of c.prepare.new.self in
+    let m = c.prepare.ensures.makes in
+    let may = free-room old f c.args.thread c.requires.may m in
+    let low = free-steps old c.requires.holds c.args.thread c.requires.may in
+    let other = c.if-self.false in
+    let limit : f.job.settings.limit ≡ old.job.settings.limit = ap (λ (j : Job). j.settings.limit) m.job in
+    let steps = m.steps in
+    let setup = c.serve.ensures.setup in
+    let r : Run = record c.prepare.new.self { kernel = c.serve.new.kernel } in
+    record {
+      can = free-can f m.holds c.args.thread may c.in-Some.call (ap (λ (bs : List (Option Call)). blocked_at bs c.args.thread) m.blocked ∙ c.in-Some.is) r c.in_ok-event.event c.made-threads.result (c.in_ok-event.ensures.event []) (omega arith)
+          (record {
+            job = ap (λ (x : Setup). record { program = record { image = c.prepare.new.self.image; input = x.input }; faults = c.prepare.new.self.faults.items; settings = c.prepare.new.self.settings }) setup;
+            journal = refl;
+            leases = refl;
+            setup = setup;
+            blocked = refl;
+            steps = refl;
+            sent = refl;
+            ended = refl;
+            views = refl;
+            room = c.in_ok-prepare.ensures.room;
+          })
+          (ready-stands c.prepare.new.self m.holds (free-alone f m.holds c.args.thread may)) c.in_ok-prepare.ensures.spared c.made-threads.ensures.made;
+    }
+
+pub returns-clause-entry : goal.returns-clause-entry
+returns-clause-entry c =
+    let f : Fields = fields_of c.args.self.now in
+    let m = c.prepare.ensures.makes in
+    let low = free-steps f c.requires.holds c.args.thread c.requires.may in
+    let other = c.if-self.false in (
+      subst (λ (k : Core). MayFree f.job k c.args.thread) (sym (free-goes f c.requires.holds c.args.thread c.requires.may).same) (free-allowed f c.requires.holds c.args.thread c.requires.may c.in-Some.call c.in-Some.is (omega arith)),
+      refl,
+      λ held faults. record {
+        job = c.occur.ensures.job ∙ ap (λ (x : Setup). record { program = record { image = c.prepare.new.self.image; input = x.input }; faults = c.prepare.new.self.faults.items; settings = c.prepare.new.self.settings }) c.serve.ensures.setup ∙ m.job;
+        journal = c.occur.ensures.journal ∙ ap (λ (js : List Entry). js ++ Free c.args.thread ∷ []) m.journal;
+      },
+    )
+
+pub returns-clause-quiet : goal.returns-clause-quiet
+returns-clause-quiet c held faults =
+    let f : Fields = fields_of c.args.self.now in
+    let m = c.prepare.ensures.makes in
+    let job = ap (λ (x : Setup). record { program = record { image = c.prepare.new.self.image; input = x.input }; faults = c.prepare.new.self.faults.items; settings = c.prepare.new.self.settings }) c.serve.ensures.setup ∙ m.job in
+    let wrote = c.occur.ensures.wrote in
+    record {
+      failed = wrote.not_failed;
+      sent = wrote.sent ∙ append-nil _ ∙ ap (λ (j : Job). output_of j c.prepare.new.self.journal.items) job ∙ ap (output_of f.job) m.journal ∙ sym (ap (sent_of f.job f.journal) (free-goes f c.requires.holds c.args.thread c.requires.may).not_failed);
+      held = refl;
+      faults = refl;
+    }

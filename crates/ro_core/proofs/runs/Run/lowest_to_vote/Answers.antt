@@ -1,0 +1,11 @@
+use Rattle.std.proofs.Common.{◌<◌, sym, arith}
+use Rattle.ro_core.specs.Core.{may_vote}
+use Rattle.ro_core.specs.Action.{threads_made}
+use Rattle.ro_core.specs.Runs.{fields_of, state_of}
+use Rattle.ro_core.proofs.Tests.{lowest-found, made-is}
+use Rattle.ro_core.proofs.runs.Run.lowest_to_vote.Goals as goal
+
+pub returns-then-may_vote : goal.returns-then-may_vote
+returns-then-may_vote c =
+    let less : c.loop-thread.thread < threads_made (state_of c.args.self.now) = omega (arith, made-is (fields_of c.args.self.now) c.requires.holds, c.made-thread-end.ensures.made, c.loop-thread-test.true) in
+    sym (lowest-found (may_vote (state_of c.args.self.now)) c.loop-thread.thread (threads_made (state_of c.args.self.now)) less c.loop-thread.invariant (sym c.if-may_vote.ensures))

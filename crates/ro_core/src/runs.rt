@@ -1,0 +1,80 @@
+//! The run of a core: all that a core is but its sink.
+ghost use Rattle.std.specs.Prelude.{◌≡◌, ◌≢◌, ◌++◌, ◌∷◌, [], ℕ, true};
+ghost use Rattle.ro_journal.specs.declared.How.{How as HowOf};
+ghost use Rattle.ro_journal.specs.declared.How.TheVariants.{Sink as BySink};
+ghost use Rattle.ro_journal.specs.declared.Entry.TheVariants.{End};
+ghost use Rattle.ro_core.specs.declared.actions.Action.TheVariants as act;
+ghost use Rattle.ro_core.specs.Core.{is_going};
+ghost use Rattle.ro_core.specs.Legal.{IsAllowed, MayEnd, replay};
+ghost use Rattle.ro_core.specs.Action.{next_action as next, IsNext};
+ghost use Rattle.ro_core.specs.Seen.{Appends, Quiet, KeepsViews};
+ghost use Rattle.ro_core.specs.Fields.{Holds};
+ghost use Rattle.ro_core.specs.Runs.{fields_of, job_of, state_of, WithAnySink};
+
+use crate::actions::Lease;
+use crate::seats::Seats;
+use ro_event::{Call, View};
+use ro_faults::Fault;
+use ro_image::Executable;
+use ro_journal::{Entry, How};
+use ro_kernel::Kernel;
+use ro_settings::Settings;
+use std::alloc::Global;
+
+/// A run: what it was opened with, its journal, and what that journal leaves.
+pub(crate) struct Run {
+    pub image: Executable,
+    pub faults: Vec<Fault>,
+    pub settings: Settings,
+    pub journal: Vec<Entry>,
+    pub seats: Seats,
+    pub leases: Vec<Lease>,
+    pub kernel: Kernel,
+    /// Of each thread the voted call on which it is blocked.
+    pub blocked: [Option<Call>; 16],
+    /// The length of the plan so far.
+    pub steps: u64,
+    /// How many bytes left.
+    pub sent: u64,
+    pub due: Option<How>,
+    pub ended: Option<How>,
+    /// Room for the views of a vote, one for each replica.
+    pub views: Vec<View>,
+    pub alloc: Global,
+}
+
+impl Run {
+    /// Ends the run, where an end is due or nothing can be done any more.
+    pub fn end(&mut self)
+        requires holds { Holds (fields_of self.old) }
+        requires next { (how : HowOf) × (next (job_of self.old) (state_of self.old) ≡ act.End how) }
+        ensures holds { Holds (fields_of self.new) }
+        ensures allowed { (how : HowOf) → next (job_of self.old) (state_of self.old) ≡ act.End how → IsAllowed (job_of self.old) (replay (job_of self.old) self.old.journal.items) (End how) × IsNext (job_of self.old) (replay (job_of self.old) self.old.journal.items) (End how) }
+        ensures appends { (how : HowOf) → next (job_of self.old) (state_of self.old) ≡ act.End how → WithAnySink (λ old new. Appends old new (End how)) self.old self.new }
+        ensures quiet { WithAnySink Quiet self.old self.new }
+    {
+        let how = self.due.unwrap_or(How::Deadlock);
+        self.journal.push_reserved(Entry::End { how });
+        self.due = None;
+        self.ended = Some(how);
+    }
+
+    /// Ends the run in the place of a vote or a free.
+    pub fn conclude(&mut self, how: How) -> Entry
+        requires holds { Holds (fields_of self.old) }
+        requires going { is_going (state_of self.old) ≡ true }
+        requires allowed { MayEnd (job_of self.old) (state_of self.old) how }
+        requires views { KeepsViews (job_of self.old) (self.old.journal.items ++ End how ∷ []) self.old.views.items }
+        requires not_sink { (bytes : ℕ) → how ≢ BySink bytes }
+        ensures holds { Holds (fields_of self.new) }
+        ensures entry { result ≡ End how }
+        ensures appends { WithAnySink (λ old new. Appends old new (End how)) self.old self.new }
+        ensures quiet { WithAnySink Quiet self.old self.new }
+        ensures views { self.new.views.items ≡ self.old.views.items }
+    {
+        let entry = Entry::End { how };
+        self.journal.push_reserved(entry);
+        self.ended = Some(how);
+        entry
+    }
+}

@@ -74,6 +74,7 @@ pub fn store<M: Memory>(memory: &mut M, op: StoreOp, address: u32, value: u32)
     requires backed { M.backing memory.old (address / 4096) ≡ true }
     ensures bytes { M.memory memory.new ≡ stored (M.memory memory.old) address (bytes_of (store_size_of op) value) }
     ensures pages { M.backing memory.new ≡ M.backing memory.old }
+    ensures kept { M.kept memory.new ≡ M.kept memory.old }
 {
     match op {
         StoreOp::Sb => memory.store(address, 1, value),
@@ -176,6 +177,7 @@ fn execute_store<M: Memory>(
     requires rs2 { rs2 < 32 }
     ensures step { let instr = Instr.Store op rs1 rs2 imm in IsStep (unless_stop (instruction_stop regions.now (M.backing memory.old) cpu.old instr) (Executes instr)) result cpu.old cpu.new (M.memory memory.old) (M.memory memory.new) }
     ensures pages { M.backing memory.new ≡ M.backing memory.old }
+    ensures kept { M.kept memory.new ≡ M.kept memory.old }
 {
     let address = cpu.get(rs1).wrapping_add(imm);
     match check_access(
@@ -205,6 +207,7 @@ pub fn execute<M: Memory>(instr: Instr, cpu: &mut Cpu, memory: &mut M, regions: 
     requires { InRange instr }
     ensures step { IsStep (unless_stop (instruction_stop regions.now (M.backing memory.old) cpu.old instr) (Executes instr)) result cpu.old cpu.new (M.memory memory.old) (M.memory memory.new) }
     ensures pages { M.backing memory.new ≡ M.backing memory.old }
+    ensures kept { M.kept memory.new ≡ M.kept memory.old }
 {
     let pc = cpu.pc;
     match instr {

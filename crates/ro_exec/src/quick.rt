@@ -7,7 +7,7 @@ ghost use Rattle.ro_exec.specs.Registers.{with_register};
 ghost use Rattle.ro_exec.specs.Meaning.{load_size as load_size_of, store_size as store_size_of};
 ghost use Rattle.ro_exec.specs.Next.{Executes, instruction_stop, unless_stop, next_at, next, jump_stop};
 ghost use Rattle.ro_exec.specs.Steps.{IsQuick};
-ghost use Rattle.ro_exec.specs.Stretches.{IsClear};
+ghost use Rattle.ro_exec.specs.Stretches.{IsClear, IsKept};
 
 use crate::bank::Bank;
 use crate::execution::{load, load_size, store, store_size};
@@ -92,6 +92,7 @@ fn execute<M: Memory>(
     requires { InRange instr }
     ensures step { IsQuick result (unless_stop (instruction_stop regions.now (M.backing memory.old) (record { registers = registers.old; pc = pc.old }) instr) (Executes instr)) (record { registers = registers.old; pc = pc.old }) (record { registers = registers.new; pc = pc.new }) (M.memory memory.old) (M.memory memory.new) }
     ensures pages { M.backing memory.new ≡ M.backing memory.old }
+    ensures kept { M.kept memory.new ≡ M.kept memory.old }
 {
     let place = *pc;
     match instr {
@@ -169,6 +170,7 @@ fn read_and_execute<M: Memory>(
 ) -> bool
     ensures step { IsQuick result (next_at regions.now (M.backing memory.old) (record { registers = registers.old; pc = pc.old }) (instruction_of word)) (record { registers = registers.old; pc = pc.old }) (record { registers = registers.new; pc = pc.new }) (M.memory memory.old) (M.memory memory.new) }
     ensures pages { M.backing memory.new ≡ M.backing memory.old }
+    ensures kept { M.kept memory.new ≡ M.kept memory.old }
 {
     match rows::row(word) {
         0x0D | 0x2D | 0x4D | 0x6D | 0x8D | 0xAD | 0xCD | 0xED => execute(
@@ -444,11 +446,14 @@ pub fn quick_step<M: Memory>(
     requires aligned { stretch.from % 4 ≡ 0 }
     requires bounded { stretch.from + 4 * stretch.words ≤ 2 ^ 32 }
     requires clear { IsClear (record { ranges = regions.now; calls = calls.now }) (M.backing memory.old) stretch }
+    requires kept { IsKept (M.kept memory.old) stretch }
     ensures step { IsQuick result (next (record { ranges = regions.now; calls = calls.now }) (M.backing memory.old) (M.memory memory.old) (record { registers = registers.old; pc = pc.old })) (record { registers = registers.old; pc = pc.old }) (record { registers = registers.new; pc = pc.new }) (M.memory memory.old) (M.memory memory.new) }
     ensures pages { M.backing memory.new ≡ M.backing memory.old }
+    ensures kept { M.kept memory.new ≡ M.kept memory.old }
 {
     if !stretch.holds(*pc) {
         return false;
     }
-    read_and_execute(memory.load(*pc, 4), registers, pc, memory, regions)
+    let word = memory.load_at(stretch.place, *pc);
+    read_and_execute(word, registers, pc, memory, regions)
 }

@@ -19,6 +19,7 @@ use ro_region::Regions;
 pub fn step<M: Memory>(cpu: &mut Cpu, memory: &mut M, regions: &Regions, calls: &CallTable) -> Step
     ensures step { IsStep (next (record { ranges = regions.now; calls = calls.now }) (M.backing memory.old) (M.memory memory.old) cpu.old) result cpu.old cpu.new (M.memory memory.old) (M.memory memory.new) }
     ensures pages { M.backing memory.new ≡ M.backing memory.old }
+    ensures kept { M.kept memory.new ≡ M.kept memory.old }
 {
     match fetch(cpu, memory, regions, calls) {
         Ok(word) => match decode(word) {

@@ -1,6 +1,6 @@
 //! Stretches of code that a run keeps.
 ghost use Rattle.std.specs.Prelude.{ℕ, ◌≡◌, ◌+◌, ◌*◌, ◌/◌, ◌%◌, ◌^◌, ◌<◌, ◌≤◌, true};
-ghost use Rattle.ro_exec.specs.Stretches.{IsIn, IsClear};
+ghost use Rattle.ro_exec.specs.Stretches.{IsIn, IsClear, IsKept};
 ghost use Rattle.ro_region.specs.Permission.{permits_byte, permits_of};
 ghost use Rattle.ro_region.specs.declared.Kind.TheVariants.{Execute};
 
@@ -16,6 +16,8 @@ pub struct Stretch {
     pub from: u32,
     /// How many words it has.
     pub words: u32,
+    /// The place of its page.
+    pub place: usize,
 }
 
 impl Stretch {
@@ -39,17 +41,23 @@ impl Stretch {
 #[tactic(auto, unfolding(crate::specs::Next::fetch_stop))]
 pub fn stretch_at<M: Memory>(pc: u32, memory: &M, regions: &Regions, calls: &CallTable) -> Stretch
     ensures clear { IsClear (record { ranges = regions.now; calls = calls.now }) (M.backing memory.now) result }
+    ensures kept { IsKept (M.kept memory.now) result }
     ensures aligned { result.from % 4 ≡ 0 }
     ensures bounded { result.from + 4 * result.words ≤ 2 ^ 32 }
 {
     let page = pc / 4096;
     if page >= EXIT_PLACE / 4096 || !memory.backed(page) {
-        return Stretch { from: 0, words: 0 };
+        return Stretch {
+            from: 0,
+            words: 0,
+            place: 0,
+        };
     }
     let (from, to) = regions.code_in_page(page);
     let (from, to) = calls.clear_around(pc, from, to);
     Stretch {
         from,
         words: (to - from) / 4,
+        place: memory.place(page),
     }
 }

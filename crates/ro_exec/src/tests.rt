@@ -62,7 +62,8 @@ fn keeps_code(rt: HostRuntime) -> Result<(), Fail> {
         first,
         Stretch {
             from: CODE,
-            words: 0x101
+            words: 0x101,
+            place: 0
         }
     );
     for (pc, want) in [
@@ -81,7 +82,8 @@ fn keeps_code(rt: HostRuntime) -> Result<(), Fail> {
         second,
         Stretch {
             from: CALL + 4,
-            words: 0x106
+            words: 0x106,
+            place: 0
         }
     );
     for pc in [DATA, UNBACKED, 0x7FFF_FFF0u32, 0xFFFF_FFFC] {

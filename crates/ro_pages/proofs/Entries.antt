@@ -176,3 +176,7 @@ unlisted_past fs es ns q h past = sym (listed_within ns q (length ns) (record {
   found = λ l. absurd (omega arith);
   only = λ i g. let low = h.low i q g in absurd (omega arith);
 })) ∙ le-ltb (length ns) (length ns) (omega arith)
+
+-- a listed page stands at one place
+pub once : (fs es ns : List ℕ) (page place : ℕ) → Finds fs es ns → slice_get ns place ≡ Some page → IsEntry ns page place
+once fs es ns page place h g = record { found = λ _. g; only = λ other e. sym (h.here other page e) ∙ h.here place page g }

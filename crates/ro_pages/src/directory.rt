@@ -1,6 +1,6 @@
 //! Where each page stands, found in two tables.
-ghost use Rattle.std.specs.Prelude.{ℕ, ◌≡◌, ◌≢◌, ◌+◌, ◌*◌, ◌^◌, ◌<◌, ◌≤◌, OnOk, OnErr, IfOk, length, slice_index, vec_len, vec_capacity, [], ◌∷◌, ◌++◌, false};
-ghost use Rattle.std.specs.List.{All};
+ghost use Rattle.std.specs.Prelude.{ℕ, ◌≡◌, ◌≢◌, ◌+◌, ◌*◌, ◌^◌, ◌<◌, ◌≤◌, OnOk, OnErr, IfOk, length, slice_index, vec_len, vec_capacity, [], ◌∷◌, ◌++◌, Some, false};
+ghost use Rattle.std.specs.List.{All, slice_get};
 ghost use Rattle.ro_pages.specs.Directories.{IsEntry, IsLonger, Tables, entry_of, is_listed};
 
 use crate::PAGES;
@@ -74,6 +74,14 @@ impl Directory {
         ensures { IsEntry self.now.numbers page result }
     {
         self.entries[self.firsts[(page / SPAN) as usize] + (page % SPAN) as usize]
+    }
+
+    /// No page stands at two places.
+    #[inline(always)]
+    pub fn each_once(&self)
+        ensures { (page place : ℕ) → slice_get self.now.numbers place ≡ Some page → IsEntry self.now.numbers page place }
+    {
+        let _room = self.room;
     }
 
     /// Adds a page behind the others. It takes no memory.

@@ -1,7 +1,7 @@
 //! Pages that are found by their numbers.
 ghost use Rattle.std.specs.Prelude.{ℕ, ◌≡◌, ◌+◌, ◌*◌, ◌/◌, ◌^◌, ◌<◌, ◌≤◌, OnOk, OnErr, IfOk, MatchOption, Some, None, vec_len, vec_capacity, true, false, ◌==◌, ◌||◌, [], ◌∷◌, ◌++◌, length, slice_index};
 ghost use Rattle.std.specs.FinMap as map;
-ghost use Rattle.std.specs.List.{All};
+ghost use Rattle.std.specs.List.{All, slice_get};
 ghost use Rattle.std.specs.Option.{option_map, is_some};
 ghost use Rattle.ro_pages.specs.Bytes.{bytes_at, stored, covers_page};
 ghost use Rattle.ro_pages.specs.Held.{memory_of, has_page, zeros};
@@ -205,6 +205,8 @@ impl Memory for Pages {
 
     ghost backing = { λ m. has_page m.pages };
 
+    ghost kept = { λ m. slice_get m.numbers };
+
     #[inline(always)]
     fn backed(&self, page: u32) -> bool {
         self.page(page).is_some()
@@ -215,6 +217,18 @@ impl Memory for Pages {
     fn load(&self, address: u32, size: u32) -> u32 {
         let words: &[u32; PAGE_WORDS] = &self.backed[self.directory.entry(address / PAGE_SIZE)];
         load_from(words, address % PAGE_SIZE, size)
+    }
+
+    #[inline(always)]
+    fn place(&self, page: u32) -> usize {
+        self.directory.entry(page)
+    }
+
+    #[inline(always)]
+    fn load_at(&self, place: usize, address: u32) -> u32 {
+        self.directory.each_once();
+        let words: &[u32; PAGE_WORDS] = &self.backed[place];
+        load_from(words, address % PAGE_SIZE, 4)
     }
 
     #[inline(always)]

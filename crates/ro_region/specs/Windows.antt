@@ -1,5 +1,5 @@
 -- What the windows of the pages say.
-use Rattle.std.specs.Prelude.{ℕ, ◌≡◌, ◌+◌, ◌*◌, ◌<◌, ◌≤◌, true, List, length, slice_get, Some}
+use Rattle.std.specs.Prelude.{ℕ, ◌≡◌, ◌+◌, ◌*◌, ◌/◌, ◌%◌, ◌^◌, ◌<◌, ◌≤◌, Bool, true, ◌&&◌, nat_lt, List, length, slice_get, slice_index, Some}
 use Rattle.ro_region.specs.declared.Kind.{Kind}
 use Rattle.ro_region.specs.declared.Range.{Range}
 use Rattle.ro_region.specs.declared.windows.Window.{Window}
@@ -11,9 +11,32 @@ pub record IsOpen (ranges : List Range) (kind : Kind) (page : ℕ) (window : Win
   pub within : window.to ≤ 4096
   pub permitted : (k : ℕ) → window.from ≤ k → k < window.to → permits_byte ranges kind (4096 * page + k) ≡ true
 
-abbrev pub AreOpen : List Range → Kind → List Window → Type 0
-AreOpen ranges kind windows = (page : ℕ) (window : Window) → slice_get windows page ≡ Some window → IsOpen ranges kind page window
+-- each 1,024 pages have a second table
+pub record AreTables (firsts : List ℕ) (windows : List Window) : Type 0 where
+  pub all : length firsts ≡ 1024
+  pub within : (t : ℕ) → t < 1024 → slice_index firsts t + 1024 ≤ length windows
+
+-- the window that the two tables have for a page is open
+abbrev pub AreOpen : List Range → Kind → (firsts : List ℕ) → List Window → Type 0
+AreOpen ranges kind firsts windows = (page : ℕ) (window : Window) → page < 2 ^ 20 → slice_get windows (slice_index firsts (page / 1024) + page % 1024) ≡ Some window → IsOpen ranges kind page window
 
 -- there is one for each page
-abbrev pub AreAll : List Range → Kind → List Window → Type 0
-AreAll ranges kind windows = (length windows ≡ 1048576) × AreOpen ranges kind windows
+pub record AreAll (ranges : List Range) (kind : Kind) (firsts : List ℕ) (windows : List Window) : Type 0 where
+  pub tables : AreTables firsts windows
+  pub sound : AreOpen ranges kind firsts windows
+
+-- the first 1,024 windows have no byte
+pub record AreClosed (windows : List Window) : Type 0 where
+  pub some : 1024 ≤ length windows
+  pub closed : (i : ℕ) → i < 1024 → slice_get windows i ≡ Some (record { from = 0; to = 0 })
+
+-- the windows of 1,024 pages stand from a place on, and those before stay
+pub record IsTable (ranges : List Range) (kind : Kind) (table first : ℕ) (new old : List Window) : Type 0 where
+  pub longer : length old ≤ length new
+  pub within : first + 1024 ≤ length new
+  pub same : (i : ℕ) → i < length old → slice_get new i ≡ slice_get old i
+  pub sound : (k : ℕ) (window : Window) → k < 1024 → slice_get new (first + k) ≡ Some window → IsOpen ranges kind (1024 * table + k) window
+
+-- whether a range has a byte in so many pages from one on
+abbrev pub meets : Range → (page count : ℕ) → Bool
+meets range page count = nat_lt range.start (4096 * (page + count)) && nat_lt (4096 * page) (range.start + range.length)

@@ -3,7 +3,7 @@ ghost use Rattle.std.specs.Prelude.{ℕ, ◌≡◌, ◌+◌, ◌-◌, ◌*◌, �
 ghost use Rattle.ro_region.specs.Permission.{is_mapped, permits_byte, permits_each, permits_of};
 ghost use Rattle.ro_region.specs.Windows.{IsOpen};
 
-use crate::windows::{Window, windows_of};
+use crate::windows::{Window, Windows};
 use crate::{Kind, PAGE_SIZE, Range};
 use std::alloc::{AllocError, Global};
 use std::marker::Model;
@@ -12,9 +12,9 @@ use std::marker::Model;
 #[derive(Drop)]
 pub struct Regions {
     ranges: Vec<Range>,
-    read: Vec<Window>,
-    write: Vec<Window>,
-    execute: Vec<Window>,
+    read: Windows,
+    write: Windows,
+    execute: Windows,
 }
 
 impl Model for Regions {
@@ -27,18 +27,18 @@ impl Model for Regions {
 
     ghost view = { λ s. s.ranges.items };
 
-    ghost invariant = { λ s. AreAll s.ranges.items Read s.read.items × AreAll s.ranges.items Write s.write.items × AreAll s.ranges.items Execute s.execute.items };
+    ghost invariant = { λ s. AreAll s.ranges.items Read s.read.firsts.items s.read.windows.items × AreAll s.ranges.items Write s.write.firsts.items s.write.windows.items × AreAll s.ranges.items Execute s.execute.firsts.items s.execute.windows.items };
 }
 
 impl Regions {
-    /// The regions of these ranges. It fails only for want of memory; it takes about 12 MiB.
+    /// The regions of these ranges. It fails only for want of memory.
     pub fn new(alloc: Global, list: &[Range]) -> Result<Regions, AllocError>
         ensures { IfOk result (λ regions. regions ≡ list.now) }
     {
         let ranges = list.to_vec(alloc)?;
-        let read = windows_of(alloc, list, Kind::Read)?;
-        let write = windows_of(alloc, list, Kind::Write)?;
-        let execute = windows_of(alloc, list, Kind::Execute)?;
+        let read = Windows::new(alloc, list, Kind::Read)?;
+        let write = Windows::new(alloc, list, Kind::Write)?;
+        let execute = Windows::new(alloc, list, Kind::Execute)?;
         Ok(Regions {
             ranges,
             read,
@@ -101,9 +101,9 @@ impl Regions {
         ensures { IsOpen self.now kind page result }
     {
         match kind {
-            Kind::Read => self.read[page as usize],
-            Kind::Write => self.write[page as usize],
-            Kind::Execute => self.execute[page as usize],
+            Kind::Read => self.read.at(page),
+            Kind::Write => self.write.at(page),
+            Kind::Execute => self.execute.at(page),
         }
     }
 

@@ -1,10 +1,19 @@
 //! For each page a window: bytes of it, one after another, that are all permitted.
-ghost use Rattle.std.specs.Prelude.{ℕ, ◌≡◌, IsTrue, ◌↔◌, ◌+◌, ◌*◌, ◌^◌, ◌<◌, ◌≤◌, ◌⊎◌, length, vec_len, slice_index, IfOk};
+ghost use Rattle.std.specs.Prelude.{ℕ, ◌≡◌, IsTrue, ◌↔◌, ◌+◌, ◌*◌, ◌^◌, ◌<◌, ◌≤◌, ◌⊎◌, ◌&&◌, List, length, IfOk};
+ghost use Rattle.std.specs.List.{list_any};
 ghost use Rattle.ro_region.specs.Permission.{allows};
-ghost use Rattle.ro_region.specs.Windows.{IsOpen, AreOpen};
+ghost use Rattle.ro_region.specs.declared.Kind.{Kind as KindOf};
+ghost use Rattle.ro_region.specs.declared.Range.{Range as RangeOf};
+ghost use Rattle.ro_region.specs.Windows.{IsOpen, IsTable, AreClosed, AreTables, AreOpen, AreAll, meets};
 
 use crate::{Kind, PAGE_SIZE, PAGES, Range};
 use std::alloc::{AllocError, Global};
+
+/// How many pages a second table is for.
+const SPAN: u32 = 1024;
+
+/// A window of no byte.
+const CLOSED: Window = Window { from: 0, to: 0 };
 
 /// The bytes of a page from offset `from` to before offset `to`.
 #[derive(Clone, Copy, Debug)]
@@ -62,35 +71,101 @@ fn joined(a: Window, b: Window) -> Window
     }
 }
 
-/// Opens the windows of the pages of one range, if it permits this kind.
-fn open(windows: &mut [Window], ranges: &[Range], i: usize, kind: Kind)
-    requires pages { length windows.old ≡ 1048576 }
+/// A window of a page with what one range adds to it, if it permits this kind.
+fn widened(window: Window, ranges: &[Range], i: usize, kind: Kind, page: u32) -> Window
+    requires page { page < 2 ^ 20 }
     requires index { i < length ranges.now }
-    requires sound { AreOpen ranges.now kind windows.old }
-    ensures { AreOpen ranges.now kind windows.new }
+    requires sound { IsOpen ranges.now kind page window }
+    ensures { IsOpen ranges.now kind page result }
 {
     let range = &ranges[i];
-    if !range.allows(kind) {
-        return;
+    if !range.allows(kind) || !meets(range, page, 1) {
+        return window;
     }
-    let end = (u64::from(range.start) + u64::from(range.length)).div_ceil(u64::from(PAGE_SIZE));
-    for page in range.start / PAGE_SIZE..end.min(u64::from(PAGES)) as u32 {
-        let window = joined(windows[page as usize], part_of(range, page));
-        windows[page as usize] = window;
-    }
+    joined(window, part_of(range, page))
 }
 
-/// A window for each page, for accesses of one kind.
-pub fn windows_of(alloc: Global, ranges: &[Range], kind: Kind) -> Result<Vec<Window>, AllocError>
-    ensures pages { IfOk result (λ windows. vec_len windows ≡ 1048576) }
-    ensures sound { IfOk result (λ windows. AreOpen ranges.now kind windows.items) }
+/// Whether a range has a byte in so many pages from one on.
+fn meets(range: &Range, page: u32, count: u32) -> bool
+    ensures { result ≡ meets range.now page count }
 {
-    let mut windows = Vec::with_capacity(alloc, PAGES as usize)?;
-    for _ in 0..PAGES {
-        windows.push(Window { from: 0, to: 0 })?;
-    }
+    let size = u64::from(PAGE_SIZE);
+    let first = size * u64::from(page);
+    u64::from(range.start) < first + size * u64::from(count)
+        && first < u64::from(range.start) + u64::from(range.length)
+}
+
+/// The window of a page for accesses of one kind.
+fn window_of(ranges: &[Range], kind: Kind, page: u32) -> Window
+    requires { page < 2 ^ 20 }
+    ensures { IsOpen ranges.now kind page result }
+{
+    let mut window = CLOSED;
     for i in 0..ranges.len() {
-        open(&mut windows, ranges, i, kind);
+        window = widened(window, ranges, i, kind, page);
     }
-    Ok(windows)
+    window
+}
+
+/// The place of the windows of 1,024 pages, which are added where a range meets them.
+fn table_of(
+    windows: &mut Vec<Window>,
+    ranges: &[Range],
+    kind: Kind,
+    table: u32,
+) -> Result<usize, AllocError>
+    requires table { table < 1024 }
+    requires closed { AreClosed windows.old.items }
+    ensures { IfOk result (λ first. IsTable ranges.now kind table first windows.new.items windows.old.items) }
+{
+    let first = windows.len();
+    if !is_met(ranges, kind, SPAN * table, SPAN) {
+        return Ok(0);
+    }
+    for place in 0..SPAN {
+        windows.push(window_of(ranges, kind, SPAN * table + place))?;
+    }
+    Ok(first)
+}
+
+/// Whether a range that permits this kind has a byte in so many pages from one on.
+fn is_met(ranges: &[Range], kind: Kind, page: u32, count: u32) -> bool
+    ensures { result ≡ list_any (λ range. allows range kind && meets range page count) ranges.now }
+{
+    ranges
+        .iter()
+        .any(|range| range.allows(kind) && meets(range, page, count))
+}
+
+/// A window for each page, for accesses of one kind, found in two tables.
+#[derive(Drop)]
+pub struct Windows {
+    /// For each 1,024 pages the place of their second table.
+    pub firsts: Vec<usize>,
+    /// The second tables, one behind another. All pages that no range meets share the one at 0.
+    pub windows: Vec<Window>,
+}
+
+impl Windows {
+    /// The windows of these ranges. It fails only for want of memory.
+    pub fn new(alloc: Global, ranges: &[Range], kind: Kind) -> Result<Windows, AllocError>
+        ensures { IfOk result (λ w. AreAll ranges.now kind w.firsts.items w.windows.items) }
+    {
+        let mut firsts = Vec::with_capacity(alloc, (PAGES / SPAN) as usize)?;
+        let mut windows = vec![in alloc; CLOSED; SPAN as usize]?;
+        for table in 0..PAGES / SPAN {
+            firsts.push(table_of(&mut windows, ranges, kind, table)?)?;
+        }
+        Ok(Windows { firsts, windows })
+    }
+
+    /// The window of a page.
+    #[inline(always)]
+    pub fn at(&self, page: u32) -> Window
+        requires page { page < 2 ^ 20 }
+        requires tables { AreTables self.now.firsts.items self.now.windows.items }
+        ensures { (ranges : List RangeOf) (kind : KindOf) → AreOpen ranges kind self.now.firsts.items self.now.windows.items → IsOpen ranges kind page result }
+    {
+        self.windows[self.firsts[(page / SPAN) as usize] + (page % SPAN) as usize]
+    }
 }

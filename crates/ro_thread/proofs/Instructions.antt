@@ -8,7 +8,7 @@ use Rattle.ro_exec.specs.declared.outcome.Step.{Step}
 use Rattle.ro_exec.specs.declared.outcome.Step.TheVariants.{Did}
 use Rattle.ro_exec.specs.Next.{Layout, Backed, Next, Stands, Executes, next}
 use Rattle.ro_exec.specs.Steps.{IsStep, IsQuick}
-use Rattle.ro_exec.specs.Stretches.{IsClear}
+use Rattle.ro_exec.specs.Stretches.{IsClear, IsKept}
 use Rattle.ro_exec.specs.declared.stretch.Stretch.{Stretch}
 use Rattle.ro_thread.specs.declared.Thread.{Thread}
 use Rattle.ro_thread.specs.Runs.{Running, after_next, one_instruction, instructions}
@@ -79,6 +79,9 @@ renamed from thread count registers pc after memory stored a p b e =
 pub kept : (layout : Layout) (now before : Backed) (stretch found : Stretch) → now ≡ before → stretch ≡ found → IsClear layout before found → IsClear layout now stretch
 kept layout now before stretch found a b h =
     subst (λ (s : Stretch). IsClear layout now s) (sym b) (subst (λ (k : Backed). IsClear layout k found) (sym a) h)
+
+pub kept_page : (now before : ℕ → Option ℕ) (stretch found : Stretch) → now ≡ before → stretch ≡ found → IsKept before found → IsKept now stretch
+kept_page now before stretch found a b h = subst (λ (s : Stretch). IsKept now s) (sym b) (subst (λ (k : ℕ → Option ℕ). IsKept k found) (sym a) h)
 
 pub kept_aligned : (stretch found : Stretch) → stretch ≡ found → found.from % 4 ≡ 0 → stretch.from % 4 ≡ 0
 kept_aligned stretch found b h = subst (λ (s : Stretch). s.from % 4 ≡ 0) (sym b) h

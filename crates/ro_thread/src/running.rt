@@ -94,6 +94,7 @@ fn slow_step<M: Memory>(
 ) -> Step
     ensures step { IsStep (next (record { ranges = regions.now; calls = calls.now }) (M.backing memory.old) (M.memory memory.old) (record { registers = registers.old; pc = pc.old })) result (record { registers = registers.old; pc = pc.old }) (record { registers = registers.new; pc = pc.new }) (M.memory memory.old) (M.memory memory.new) }
     ensures pages { M.backing memory.new ≡ M.backing memory.old }
+    ensures kept { M.kept memory.new ≡ M.kept memory.old }
 {
     let mut cpu = Cpu {
         registers: registers.registers(),

@@ -1,5 +1,4 @@
 use Rattle.ro_exec.proofs.quick.quick_step.Goals as goal
 
-pub load-requires-clause-backed : goal.load-requires-clause-backed
-load-requires-clause-backed g c =
-    (c.requires.clear (record { registers = c.args.registers.now; pc = c.args.pc.now }) (c.holds.ensures c.if-not-holds.false)).1
+pub load_at-word-requires-clause-kept : goal.load_at-word-requires-clause-kept
+load_at-word-requires-clause-kept g c = c.requires.kept c.args.pc.now (c.holds.ensures c.if-not-holds.false)

@@ -1,5 +1,5 @@
 use Rattle.std.proofs.Common.{◌≡◌, ◌≤◌, ◌+◌, ◌*◌, ◌%◌, ◌^◌, Some}
-use Rattle.ro_exec.specs.Stretches.{IsClear}
+use Rattle.ro_exec.specs.Stretches.{IsClear, IsKept}
 use Rattle.ro_thread.specs.Runs.{instructions}
 use Rattle.ro_thread.proofs.Instructions.{ran_on}
 use Rattle.ro_thread.proofs.running.run.Given as goal
@@ -11,5 +11,6 @@ invariant-loop-count g l = record {
   aligned : l.stretch.from % 4 ≡ 0;
   bounded : l.stretch.from + 4 * l.stretch.words ≤ 2 ^ 32;
   clear : IsClear (record { ranges = l.regions; calls = l.calls }) (g.M.Memory.backing l.memory) l.stretch;
+  page : IsKept (g.M.Memory.kept l.memory) l.stretch;
   ran : instructions (record { ranges = l.regions; calls = l.calls }) l.watchdog (g.M.Memory.backing l.fn.memory) l.count (record { thread = l.fn.thread; memory = g.M.Memory.memory l.fn.memory }) ≡ Some (ran_on l.fn.thread l.count (record { registers = l.registers; pc = l.pc }) (g.M.Memory.memory l.memory));
 }

@@ -9,6 +9,7 @@ mod gates;
 mod mem_sink;
 mod mem_store;
 mod out_sink;
+mod sending;
 mod sinks;
 mod stores;
 
@@ -17,6 +18,7 @@ pub use gates::{Gate, OpenGate};
 pub use mem_sink::{Act, MemSink};
 pub use mem_store::MemStore;
 pub use out_sink::OutSink;
+pub use sending::send;
 pub use sinks::{Failed, Sink};
 pub use stores::{FetchError, Store};
 

@@ -2,7 +2,7 @@
 use Rattle.std.specs.Prelude.{◌≡◌, ℕ, zero, suc, drop, Result, Ok, Err, IfOk, ◌+◌, ◌<◌, ◌≤◌, List, [], ◌∷◌, ◌++◌, length, take, replicate, ◌-◌, Option, Some}
 use Rattle.std.specs.Option.{option_and_then}
 use Rattle.std.proofs.Common.{refl, sym, ap, ◌∙◌, subst, arith, inl, inr, append_assoc, append-nil, length-append, get_or}
-use Rattle.std.proofs.lemmas.List.{replicate-append-replicate}
+use Rattle.std.proofs.lemmas.List.{replicate-append-replicate, length-replicate}
 use Rattle.ro_journal.specs.declared.Entry.{Entry}
 use Rattle.ro_journal.specs.Plan.{entry_plan, plan_of}
 use Rattle.ro_io.specs.Outside.{Rose, more}
@@ -12,7 +12,7 @@ use Rattle.ro_machine.specs.declared.errors.PlanErr.{PlanErr}
 use Rattle.ro_machine.specs.declared.errors.PlanErr.TheVariants.{NoStep, SinkFailed, NoMemory}
 use Rattle.ro_machine.specs.Seen.{PlainOf, machine_of, Steps, HasNoStep}
 use Rattle.ro_machine.specs.Parts.{Plays, Played, LacksOne, BreaksIn, StopsIn, Halts}
-use Rattle.ro_machine.proofs.Sends.{more-more, more-none}
+use Rattle.ro_io.proofs.Sends.{more-more, more-none}
 
 -- no step
 pub plays-none : (old : PlainOf) → Plays old [] old []
@@ -33,6 +33,21 @@ plays-join old mid new xs ys b c p q = record {
 -- no step yet
 pub played-none : (old : PlainOf) (held : Option (List ℕ)) (steps count : ℕ) → Played old [] old held held steps steps count count
 played-none old held steps count = record { bytes = []; plays = plays-none old; held = sym (more-none held); steps_are = omega arith; bytes_are = omega arith }
+
+-- instructions that write nothing
+pub played-plain : (old new : PlainOf) (thread count : ℕ) (held : Option (List ℕ)) (steps after bytes : ℕ) → after ≡ steps + count → Plays old (replicate count thread) new [] → Played old (replicate count thread) new held held steps after bytes bytes
+played-plain old new thread count held steps after bytes is plays = record {
+  bytes = [];
+  plays = plays;
+  held = sym (more-none held);
+  steps_are = let n = length-replicate count thread in omega (arith, is, n);
+  bytes_are = omega arith;
+}
+
+-- so many steps of a thread, and more
+pub more-of : (thread from mid to : ℕ) → from ≤ mid → mid ≤ to → replicate (mid - from) thread ++ replicate (to - mid) thread ≡ replicate (to - from) thread
+more-of thread from mid to one other =
+    replicate-append-replicate (mid - from) (to - mid) thread ∙ ap (λ n. replicate n thread) (let e : (mid - from) + (to - mid) ≡ to - from = omega arith in e)
 
 module _ (old mid : PlainOf) (xs ys : List ℕ) (h g k : Option (List ℕ)) (s t u a b c : ℕ) (p : Played old xs mid h g s t a b) where
   pub played-join : (new : PlainOf) → Played mid ys new g k t u b c → Played old (xs ++ ys) new h k s u a c
@@ -145,6 +160,28 @@ halts-all old thread done count h k s before after e less q =
     let whole : replicate (done + 1) thread ++ replicate (count - (done + 1)) thread ≡ replicate count thread =
     replicate-append-replicate (done + 1) (count - (done + 1)) thread ∙ ap (λ n. replicate n thread) (let m : (done + 1) + (count - (done + 1)) ≡ count = omega arith in m) in
     subst (λ (xs : List ℕ). Halts old xs h k s before after e) whole (halts-sooner old (replicate (done + 1) thread) (replicate (count - (done + 1)) thread) h k s before after e (subst (λ (xs : List ℕ). Halts old xs h k s before after e) one q))
+
+-- instructions and one step more, by the counts of steps
+pub part-counted : (old new : PlainOf) (thread ran : ℕ) (h k : Option (List ℕ)) (s t a b : ℕ) → Played old (replicate ran thread ++ thread ∷ []) new h k s t a b → Played old (replicate (t - s) thread) new h k s t a b
+part-counted old new thread ran h k s t a b p =
+    let one : replicate ran thread ++ thread ∷ [] ≡ replicate (ran + 1) thread = replicate-append-replicate ran 1 thread in
+    let count : ran + 1 ≡ t - s = let n = ap length one in let m = length-replicate (ran + 1) thread in omega (arith, p.steps_are, n, m) in
+    subst (λ (xs : List ℕ). Played old xs new h k s t a b) (one ∙ ap (λ n. replicate n thread) count) p
+
+-- the part that was run, by the counts of steps, and what is left of all steps
+pub halts-left : (old mid : PlainOf) (thread count : ℕ) (h g k : Option (List ℕ)) (s t a b before between after : ℕ) (e : PlanErr) → s ≤ t → t ≤ s + count
+    → Played old (replicate (t - s) thread) mid h g s t a b → before ≤ between → Halts mid (replicate ((s + count) - t) thread) g k t between after e → Halts old (replicate count thread) h k s before after e
+halts-left old mid thread count h g k s t a b before between after e one other p less q =
+    let whole : replicate (t - s) thread ++ replicate ((s + count) - t) thread ≡ replicate count thread =
+    more-of thread s t (s + count) one other ∙ ap (λ n. replicate n thread) (let m : (s + count) - s ≡ count = omega arith in m) in
+    subst (λ (xs : List ℕ). Halts old xs h k s before after e) whole
+    (halts-later old mid (replicate (t - s) thread) (replicate ((s + count) - t) thread) h g k s t 0 a b 0 p before between after e less q)
+
+-- one part more of many steps
+pub played-more : (old mid new : PlainOf) (thread : ℕ) (h g k : Option (List ℕ)) (s t u a b c : ℕ) → s ≤ t → t ≤ u
+    → Played old (replicate (t - s) thread) mid h g s t a b → Played mid (replicate (u - t) thread) new g k t u b c → Played old (replicate (u - s) thread) new h k s u a c
+played-more old mid new thread h g k s t u a b c one other p q =
+    subst (λ (xs : List ℕ). Played old xs new h k s u a c) (more-of thread s t u one other) (played-join old mid (replicate (t - s) thread) (replicate (u - t) thread) h g k s t u a b c p new q)
 
 pub if-ok : {T E : Type 0} (r : Result T E) (P Q : T → Type 0) → ((x : T) → P x → Q x) → IfOk r P → IfOk r Q
 if-ok (Ok x) P Q f h = f x h

@@ -2,6 +2,6 @@ pub mod Effects
 pub mod Faults
 pub mod Joined
 pub mod Planned
-pub mod Sends
+pub mod Plains
 pub mod Serving
 pub mod Stepping

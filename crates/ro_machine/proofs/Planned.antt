@@ -14,7 +14,7 @@ use Rattle.ro_machine.specs.declared.errors.PlanErr.TheVariants.{NoStep, SinkFai
 use Rattle.ro_machine.specs.Seen.{PlainOf, machine_of, Steps, HasNoStep, SameMachine}
 use Rattle.ro_machine.specs.Parts.{Plays, Played, Halts}
 use Rattle.ro_machine.specs.Plans.{Reaches, EndsAs, RunsPlan, LacksStep, StopsShort, Fails}
-use Rattle.ro_machine.proofs.Sends.{more-none}
+use Rattle.ro_io.proofs.Sends.{more-none}
 
 at-seam : (xs : List ℕ) (y : ℕ) (ys : List ℕ) → slice_index (xs ++ y ∷ ys) (length xs) ≡ y
 at-seam [] y ys = refl

@@ -8,7 +8,6 @@ mod length;
 mod plain;
 mod playing;
 mod running;
-mod sending;
 
 pub use errors::{PlainEnd, PlanErr, StepErr, TooLong};
 pub use length::{MOST_STEPS, plan_steps};

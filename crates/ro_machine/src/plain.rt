@@ -1,8 +1,9 @@
 //! The machine.
-ghost use Rattle.std.specs.Prelude.{◌≡◌, [], None, IfOk, IfErr, OnErr, OnOk, length, true, ◌∷◌, ◌≤◌, vec_capacity};
+ghost use Rattle.std.specs.Prelude.{◌≡◌, [], None, IfOk, IfErr, OnErr, OnOk, length, replicate, true, ◌∷◌, ◌≤◌, vec_capacity};
 ghost use Rattle.ro_exec.specs.Threads.{first_cpu as first};
 ghost use Rattle.ro_kernel.specs.Kernel.{lives_on};
 ghost use Rattle.ro_plain.specs.Machine.{opening};
+ghost use Rattle.ro_machine.specs.Parts.{Plays};
 ghost use Rattle.ro_machine.specs.Seen.{machine_of, Steps, Refuses, SameMachine, StepsFrom, RefusesAt};
 
 use crate::backing::execute;
@@ -16,6 +17,7 @@ use ro_kernel::Kernel;
 use ro_pages::Pages;
 use ro_region::Regions;
 use ro_replica::{first_cpu, pages_of};
+use ro_thread::{Thread, run};
 use std::alloc::{AllocError, Global};
 use std::marker::Model;
 use std::sync::Arc;
@@ -45,6 +47,7 @@ impl Model for Plain {
     ghost use Rattle.std.specs.Prelude.{vec_capacity};
     ghost use Rattle.std.specs.Coded.{codes};
     ghost use Rattle.ro_pages.specs.Held.{coded_held};
+    ghost use Rattle.ro_machine.specs.Parts.{Plays};
     ghost use Rattle.ro_machine.specs.Seen.{PlainOf, IsWhole};
 
     ghost Value = { PlainOf };
@@ -123,7 +126,44 @@ impl Plain {
         self.go_on(thread)
     }
 
+    /// Takes plain instructions of a thread, `most` at most, up to the next step that is none, or that needs a page which is
+    /// not backed; answers how many it took.
+    pub(crate) fn run_on(&mut self, thread: u32, most: u32) -> u32
+        ensures count { result ≤ most }
+        ensures plays { Plays self.old (replicate result thread) self.new [] }
+    {
+        if !self.kernel.lives_on(thread) || self.ended.is_some() {
+            return 0;
+        }
+        self.run_some(thread, most)
+    }
+
     // The same where the program has not ended and the thread lives.
+    fn run_some(&mut self, thread: u32, most: u32) -> u32
+        requires going { self.old.ended ≡ None }
+        requires live { lives_on self.old.kernel thread ≡ true }
+        ensures count { result ≤ most }
+        ensures plays { Plays self.old (replicate result thread) self.new [] }
+    {
+        let mut running = Thread {
+            cpu: self.cpus[thread as usize],
+            since: 0,
+            done: 0,
+            stop: None,
+        };
+        let ran = run(
+            &mut running,
+            &mut self.pages,
+            &self.regions,
+            self.image.calls(),
+            most,
+            u32::MAX,
+        );
+        self.cpus[thread as usize] = running.cpu;
+        ran.count
+    }
+
+    // A step where the program has not ended and the thread lives.
     fn go_on(&mut self, thread: u32) -> Result<(), StepErr>
         requires going { self.old.ended ≡ None }
         requires live { lives_on self.old.kernel thread ≡ true }

@@ -1,12 +1,11 @@
 //! Running steps, with what they write going to a sink as it is written.
-ghost use Rattle.std.specs.Prelude.{ℕ, ◌≡◌, ◌+◌, ◌*◌, ◌≤◌, ◌∷◌, ◌++◌, [], IfOk, IfErr, length, replicate};
+ghost use Rattle.std.specs.Prelude.{ℕ, ◌≡◌, ◌+◌, ◌-◌, ◌*◌, ◌<◌, ◌≤◌, ◌∷◌, ◌++◌, [], IfOk, IfErr, length, replicate};
 ghost use Rattle.ro_journal.specs.Plan.{entry_plan, plan_of};
 ghost use Rattle.ro_machine.specs.Parts.{Played, Halts};
 
 use crate::errors::{PlanErr, StepErr};
 use crate::plain::Plain;
-use crate::sending::send;
-use ro_io::Sink;
+use ro_io::{Sink, send};
 use ro_journal::Entry;
 
 /// How far a plan has come.
@@ -51,6 +50,36 @@ pub(crate) fn play_one<K: Sink>(
     })
 }
 
+/// Takes steps of a thread, at least one and at most so many: the plain instructions up to the next step that is none or
+/// needs a page that is not backed, and that step.
+fn play_part<K: Sink>(
+    plain: &mut Plain,
+    thread: u32,
+    most: u32,
+    progress: Progress,
+    out: &mut K,
+) -> Result<Progress, PlanErr>
+    requires some { 0 < most }
+    requires steps { progress.steps + most ≤ 1000000000 }
+    requires bytes { progress.bytes ≤ 4096 * progress.steps }
+    ensures some { IfOk result (λ p. progress.steps < p.steps) }
+    ensures most { IfOk result (λ p. p.steps ≤ progress.steps + most) }
+    ensures bytes { IfOk result (λ p. p.bytes ≤ 4096 * p.steps) }
+    ensures faults { K.faults out.old ≤ K.faults out.new }
+    ensures played { IfOk result (λ p. Played plain.old (replicate (p.steps - progress.steps) thread) plain.new (K.held out.old) (K.held out.new) progress.steps p.steps progress.bytes p.bytes) }
+    ensures halts { IfErr result (Halts plain.old (replicate most thread) (K.held out.old) (K.held out.new) progress.steps (K.faults out.old) (K.faults out.new)) }
+{
+    let ran = plain.run_on(thread, most);
+    let now = Progress {
+        steps: progress.steps + u64::from(ran),
+        bytes: progress.bytes,
+    };
+    if ran == most {
+        return Ok(now);
+    }
+    play_one(plain, thread, now, out)
+}
+
 /// Takes so many steps of a thread.
 fn play<K: Sink>(
     plain: &mut Plain,
@@ -66,9 +95,10 @@ fn play<K: Sink>(
     ensures played { IfOk result (λ p. Played plain.old (replicate count thread) plain.new (K.held out.old) (K.held out.new) progress.steps p.steps progress.bytes p.bytes) }
     ensures halts { IfErr result (Halts plain.old (replicate count thread) (K.held out.old) (K.held out.new) progress.steps (K.faults out.old) (K.faults out.new)) }
 {
+    let end = progress.steps + count;
     let mut now = progress;
-    for done in 0..count {
-        now = play_one(plain, thread, now, out)?;
+    while now.steps < end {
+        now = play_part(plain, thread, (end - now.steps) as u32, now, out)?;
     }
     Ok(now)
 }

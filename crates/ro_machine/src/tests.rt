@@ -3,7 +3,7 @@ use super::*;
 use ro_image::{Executable, read_executable};
 use ro_io::{Act, MemSink};
 use ro_journal::{Did, Entry, How};
-use ro_make::image_bytes;
+use ro_make::{bench_image, image_bytes};
 use std::alloc::{AllocError, Global};
 use std::process::Abort;
 use std::test::Fail;
@@ -175,6 +175,53 @@ fn two_threads(rt: HostRuntime) -> Result<(), Fail> {
     };
     assert_eq!(rt; end, Ok(want));
     assert_eq!(rt; out.bytes(), b"AB".as_slice());
+    Ok(())
+}
+
+// What a guest writes whose threads go on in turns, each up to a step that it does not have.
+fn written_in_turns(
+    rt: &impl Abort,
+    alloc: Global,
+    image: Executable,
+) -> Result<Vec<u8>, AllocError> {
+    let mut plain = match Plain::begin(alloc, image, &[]) {
+        Ok(plain) => plain,
+        Err(error) => return Err(error),
+    };
+    let mut text = Vec::new(alloc);
+    for _ in 0..100_000 {
+        for thread in 0..plain.made() {
+            for _ in 0..1_000 {
+                match plain.step(thread) {
+                    Ok(()) => text.extend_from_slice(plain.written())?,
+                    Err(StepErr::NoStep) => break,
+                    Err(StepErr::NoMemory) => return Err(AllocError),
+                }
+            }
+        }
+        if plain.ended().is_some() {
+            break;
+        }
+    }
+    assert_eq!(rt; plain.ended(), Some(How::Exit(0)));
+    Ok(text)
+}
+
+// The guest that measures writes its sum.
+#[test]
+fn measured(rt: HostRuntime) -> Result<(), Fail> {
+    for (seed, size, want) in [
+        (1, 1, "00000009\n"),
+        (5, 100, "00023604\n"),
+        (13, 2_000, "0e55e430\n"),
+    ] {
+        let file = bench_image(rt.alloc(), seed, size)?;
+        let Ok(image) = read_executable(rt.alloc(), file.as_slice()) else {
+            panic!(rt; "it is accepted");
+        };
+        let text = written_in_turns(&rt, rt.alloc(), image)?;
+        assert_eq!(rt; text.as_slice(), want.as_bytes());
+    }
     Ok(())
 }
 

@@ -1,14 +1,15 @@
 //! Sending bytes to a sink.
-ghost use Rattle.std.specs.Prelude.{◌≡◌, ◌<◌, ◌≤◌, None, IfSome, length, take};
+ghost use Rattle.std.specs.Prelude.{◌≡◌, ◌^◌, ◌<◌, ◌≤◌, None, IfSome, length, take};
 ghost use Rattle.ro_io.specs.Outside.{Rose, more};
 
-use ro_io::{Failed, Sink};
+use crate::sinks::{Failed, Sink};
 
 /// Gives bytes to a sink, piece by piece, until it has taken all or fails; answers how many it took where it failed.
-pub(crate) fn send<K: Sink>(out: &mut K, bytes: &[u8]) -> Option<u32>
-    requires { length bytes.now ≤ 4096 }
+pub fn send<K: Sink>(out: &mut K, bytes: &[u8]) -> Option<u32>
+    requires { length bytes.now < 2 ^ 32 }
     ensures whole { result ≡ None → K.held out.new ≡ more (K.held out.old) bytes.now }
     ensures part { IfSome result (λ n. (n < length bytes.now) × (K.held out.new ≡ more (K.held out.old) (take n bytes.now)) × Rose (K.faults out.old) (K.faults out.new)) }
+    ensures calm { result ≡ None → K.faults out.new ≡ K.faults out.old }
     ensures faults { K.faults out.old ≤ K.faults out.new }
 {
     let mut sent = 0;

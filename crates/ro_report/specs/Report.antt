@@ -4,9 +4,10 @@ use Rattle.ro_journal.specs.declared.Entry.{Entry}
 use Rattle.ro_journal.specs.declared.Entry.TheVariants.{Put, Vote}
 use Rattle.ro_journal.specs.Plan.{plan_of}
 use Rattle.ro_journal_text.specs.Texts.{journal_text}
+use Rattle.ro_journal_text.specs.Reading.{code_of as plan_code_of}
 use Rattle.ro_faults.specs.Texts.{code_of}
 use Rattle.ro_report.specs.declared.answers.Answer.{Answer}
-use Rattle.ro_report.specs.declared.answers.Answer.TheVariants.{Exit, Deadlock, Trap, Differ, NoMajority, Limit, SinkFailed, StoreFailed, BadExe, BadFaults, BadWords, TooLong, NoMemory}
+use Rattle.ro_report.specs.declared.answers.Answer.TheVariants.{Exit, Deadlock, Trap, Unended, Differ, NoMajority, Limit, SinkFailed, StoreFailed, BadExe, BadFaults, BadPlan, NoStep, BadWords, TooLong, NoMemory}
 
 abbrev pub is_vote : Entry → Bool
 is_vote (Vote thread count won lost did) = true
@@ -44,11 +45,16 @@ summary_text journal bytes =
     ++ codes " bytes " ++ decimal bytes
     ++ codes "\n"
 
+-- the line of a plan that was run to its end: its steps, and the bytes that they wrote
+abbrev pub plain_text : (steps bytes : ℕ) → List ℕ
+plain_text steps bytes = codes "steps " ++ decimal steps ++ codes " bytes " ++ decimal bytes ++ codes "\n"
+
 -- the answer line
 abbrev pub answer_text : Answer → List ℕ
 answer_text (Exit status) = codes "answer exit " ++ decimal status ++ codes "\n"
 answer_text Deadlock = codes "answer deadlock\n"
 answer_text (Trap cause) = codes "answer trap " ++ decimal cause ++ codes "\n"
+answer_text Unended = codes "answer unended\n"
 answer_text Differ = codes "answer differ\n"
 answer_text NoMajority = codes "answer no-majority\n"
 answer_text (Limit steps next) = codes "answer limit " ++ decimal steps ++ codes " " ++ decimal next ++ codes "\n"
@@ -56,6 +62,8 @@ answer_text (SinkFailed taken) = codes "answer sink " ++ decimal taken ++ codes 
 answer_text StoreFailed = codes "answer store\n"
 answer_text (BadExe code) = codes "answer exe " ++ decimal code ++ codes "\n"
 answer_text (BadFaults line code) = codes "answer faults " ++ decimal line ++ codes " " ++ decimal (code_of code) ++ codes "\n"
+answer_text (BadPlan line code) = codes "answer plan " ++ decimal line ++ codes " " ++ decimal (plan_code_of code) ++ codes "\n"
+answer_text (NoStep place) = codes "answer no-step " ++ decimal place ++ codes "\n"
 answer_text BadWords = codes "answer words\n"
 answer_text (TooLong kind) = codes "answer too-long\n"
 answer_text NoMemory = codes "answer no-memory\n"

@@ -3,6 +3,7 @@ ghost use Rattle.std.specs.Prelude.{◌≡◌, ◌≤◌, ◌++◌, length, code
 ghost use Rattle.ro_report.specs.Report.{answer_text};
 
 use ro_faults::FaultsCode;
+use ro_journal_text::JournalCode;
 use ro_text::{Line, Text};
 
 /// A file that a command names.
@@ -14,6 +15,8 @@ pub enum FileKind {
     Input,
     /// The list of faults.
     Faults,
+    /// The journal whose plan is to be run.
+    Plan,
 }
 
 /// How a command ended.
@@ -25,11 +28,14 @@ pub enum Answer {
     Deadlock,
     /// The program could not go on, for the cause of this number.
     Trap(u8),
+    /// The plan was run, and the program has not ended and could go on.
+    Unended,
     /// Two replicas differed.
     Differ,
     /// No view of three had a majority.
     NoMajority,
-    /// The run had so many steps, and those that would have come next would have passed the limit.
+    /// The run had so many steps, and those that would have come next would have passed the limit; or a plan has too many,
+    /// so many before an entry, and so many more by that entry.
     Limit { steps: u64, next: u64 },
     /// The output's sink failed, and took so many bytes of the last write.
     SinkFailed { taken: u32 },
@@ -39,6 +45,10 @@ pub enum Answer {
     BadExe(u8),
     /// The list of faults is bad in this line.
     BadFaults { line: u32, code: FaultsCode },
+    /// The journal of a plan is bad in this line.
+    BadPlan { line: u64, code: JournalCode },
+    /// The plan's step at this place, counted from 0, does not exist.
+    NoStep { place: u64 },
     /// The words are of no command.
     BadWords,
     /// A file has more bytes than are read.
@@ -55,6 +65,7 @@ pub fn answer_line(answer: &Answer) -> Line
         Answer::Exit(status) => numbered("answer exit ", u64::from(status)),
         Answer::Deadlock => fixed("answer deadlock"),
         Answer::Trap(cause) => numbered("answer trap ", u64::from(cause)),
+        Answer::Unended => fixed("answer unended"),
         Answer::Differ => fixed("answer differ"),
         Answer::NoMajority => fixed("answer no-majority"),
         Answer::Limit { steps, next } => twice_numbered("answer limit ", steps, next),
@@ -64,6 +75,10 @@ pub fn answer_line(answer: &Answer) -> Line
         Answer::BadFaults { line, code } => {
             twice_numbered("answer faults ", u64::from(line), u64::from(code.code()))
         }
+        Answer::BadPlan { line, code } => {
+            twice_numbered("answer plan ", line, u64::from(code.code()))
+        }
+        Answer::NoStep { place } => numbered("answer no-step ", place),
         Answer::BadWords => fixed("answer words"),
         Answer::TooLong(_) => fixed("answer too-long"),
         Answer::NoMemory => fixed("answer no-memory"),

@@ -1,7 +1,7 @@
 //! The summary of a run's journal.
 ghost use Rattle.std.specs.Prelude.{◌≡◌, ◌+◌, ◌^◌, ◌<◌, ◌≤◌, ◌++◌, length, decimal};
 ghost use Rattle.ro_journal.specs.Plan.{entry_plan};
-ghost use Rattle.ro_report.specs.Report.{is_vote, is_copy, hits_of, votes_in, copies_in, struck_in, steps_in, summary_text};
+ghost use Rattle.ro_report.specs.Report.{is_vote, is_copy, hits_of, votes_in, copies_in, struck_in, steps_in, summary_text, plain_text};
 
 use ro_journal::Entry;
 use ro_text::{Line, ROOM, Text};
@@ -18,6 +18,16 @@ pub fn summary(journal: &[Entry], bytes: u64) -> Line
     push_field(&mut text, " copies ", copies(journal));
     push_field(&mut text, " struck ", struck(journal));
     push_field(&mut text, " steps ", steps(journal));
+    push_field(&mut text, " bytes ", bytes);
+    text.end()
+}
+
+/// The line of a plan that was run to its end: its steps, and the bytes that they wrote.
+pub fn plain_line(steps: u64, bytes: u64) -> Line
+    ensures { result ≡ plain_text steps bytes }
+{
+    let mut text = Text::new();
+    push_field(&mut text, "steps ", steps);
     push_field(&mut text, " bytes ", bytes);
     text.end()
 }

@@ -32,6 +32,22 @@ fn answers(rt: HostRuntime) {
             },
             "answer faults 257 3\n",
         ),
+        (
+            Answer::BadPlan {
+                line: u64::MAX,
+                code: JournalCode::Range,
+            },
+            "answer plan 18446744073709551615 2\n",
+        ),
+        (
+            Answer::BadPlan {
+                line: 1,
+                code: JournalCode::Form,
+            },
+            "answer plan 1 1\n",
+        ),
+        (Answer::NoStep { place: 3 }, "answer no-step 3\n"),
+        (Answer::Unended, "answer unended\n"),
         (Answer::BadWords, "answer words\n"),
         (Answer::TooLong(FileKind::Input), "answer too-long\n"),
         (Answer::NoMemory, "answer no-memory\n"),
@@ -91,6 +107,15 @@ fn copies_and_frees(rt: HostRuntime) {
     let line = summary(&journal, 4096);
     let want = "votes 3 copies 2 struck 3 steps 125 bytes 4096\n";
     assert_eq!(rt; line.as_bytes(), want.as_bytes());
+}
+
+#[test]
+fn plan_done(rt: HostRuntime) {
+    let line = plain_line(1_000_000_000, 4_096);
+    assert_eq!(rt;
+        line.as_bytes(),
+        b"steps 1000000000 bytes 4096\n".as_slice()
+    );
 }
 
 #[test]

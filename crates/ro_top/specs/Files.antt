@@ -1,28 +1,36 @@
--- The files that a command names, and the job that it asks for.
-use Rattle.std.specs.Prelude.{◌≡◌, ℕ, ◌*◌, ◌≤◌, Bool, false, List, [], length, Option, Some, None, Ok, IfSome}
-use Rattle.std.specs.Option.{option_map_or}
+-- The files that a command names, and the job or the plan that it asks for.
+use Rattle.std.specs.Prelude.{◌≡◌, ℕ, ◌*◌, ◌≤◌, List, [], length, Option, Some, None, Ok, IfSome}
 use Rattle.ro_io.specs.Outside.{Files}
 use Rattle.ro_image.specs.Image.{Image}
 use Rattle.ro_image.specs.Executable.{bad_code, image_of}
 use Rattle.ro_faults.specs.declared.Fault.{Fault}
 use Rattle.ro_faults.specs.Texts.{file_faults}
 use Rattle.ro_report.specs.declared.answers.FileKind.{FileKind}
-use Rattle.ro_report.specs.declared.answers.FileKind.TheVariants.{Exe, Input, Faults}
+use Rattle.ro_report.specs.declared.answers.FileKind.TheVariants.{Exe, Input, Faults, Plan}
 use Rattle.ro_settings.specs.declared.Settings.{Settings}
 use Rattle.ro_core.specs.Core.{Job}
-use Rattle.ro_words.specs.Commands.{Asked, command_of}
+use Rattle.ro_words.specs.Commands.{Asked, AskedPlain, AskedRun, to_plain, to_run}
+use Rattle.ro_journal.specs.declared.Entry.{Entry}
+use Rattle.ro_journal_text.specs.Reading.{file_journal}
+use Rattle.ro_plain.specs.Machine.{Program}
 
 -- how many bytes a file may have
 abbrev pub most_of : FileKind → ℕ
 most_of Exe = 8 * 1024 * 1024
 most_of Input = 1024 * 1024
 most_of Faults = 64 * 1024
+most_of Plan = 16 * 1024 * 1024
 
 -- the name of a file in a command, if it names one
 abbrev pub name_in : Asked → FileKind → Option (List ℕ)
-name_in asked Exe = Some asked.executable
-name_in asked Input = asked.input
-name_in asked Faults = asked.faults
+name_in (to_run run) Exe = Some run.executable
+name_in (to_run run) Input = run.input
+name_in (to_run run) Faults = run.faults
+name_in (to_run run) Plan = None
+name_in (to_plain plain) Exe = Some plain.executable
+name_in (to_plain plain) Input = plain.input
+name_in (to_plain plain) Faults = None
+name_in (to_plain plain) Plan = Some plain.plan
 
 -- the file of that name has this content, where the store tells
 abbrev pub IsFile : Option Files → (name content : List ℕ) → Type 0
@@ -36,8 +44,8 @@ IsContent files kind (Some name) content = IsFile files name content × (length 
 abbrev pub job_of : Image → (input : List ℕ) → List Fault → Settings → Job
 job_of image input faults settings = record { program = record { image = image; input = input }; faults = faults; settings = settings }
 
--- The job that a command asks for: its files may be read, its executable is accepted, and its faults are those of its list.
-pub record IsJobOf (files : Option Files) (asked : Asked) (job : Job) : Type 0 where
+-- The job that a run asks for: its files may be read, its executable is accepted, and its faults are those of its list.
+pub record IsJobOf (files : Option Files) (asked : AskedRun) (job : Job) : Type 0 where
   pub executable : List ℕ
   pub executable_is : IsContent files Exe (Some asked.executable) executable
   pub accepted : bad_code executable ≡ None
@@ -49,12 +57,14 @@ pub record IsJobOf (files : Option Files) (asked : Asked) (job : Job) : Type 0 w
   pub faults_are : file_faults asked.settings.replicas list ≡ Ok faults
   pub job_is : job ≡ job_of (image_of executable) input faults asked.settings
 
--- the words spell a command, and this is the job that it asks for
-pub record IsAskedJob (files : Option Files) (words : List (List ℕ)) (job : Job) : Type 0 where
-  pub asked : Asked
-  pub command_is : command_of words ≡ Some asked
-  pub job_is : IsJobOf files asked job
-
--- whether the words ask for the journal
-abbrev pub wants_journal : List (List ℕ) → Bool
-wants_journal words = option_map_or (λ asked. asked.journal) (command_of words) false
+-- What a plan's run is asked for: its files may be read, its executable is accepted, and its journal is that of its text.
+pub record IsPlanOf (files : Option Files) (asked : AskedPlain) (program : Program) (journal : List Entry) : Type 0 where
+  pub executable : List ℕ
+  pub executable_is : IsContent files Exe (Some asked.executable) executable
+  pub accepted : bad_code executable ≡ None
+  pub input : List ℕ
+  pub input_is : IsContent files Input asked.input input
+  pub text : List ℕ
+  pub text_is : IsContent files Plan (Some asked.plan) text
+  pub journal_is : file_journal text ≡ Ok journal
+  pub program_is : program ≡ record { image = image_of executable; input = input }

@@ -4,9 +4,11 @@ use Rattle.ro_io.specs.Outside.{Files, Rose}
 use Rattle.ro_image.specs.Executable.{bad_code}
 use Rattle.ro_faults.specs.declared.errors.FaultsError.TheVariants.{Bad}
 use Rattle.ro_faults.specs.Texts.{file_faults}
+use Rattle.ro_journal_text.specs.declared.errors.JournalError.TheVariants.{Bad as BadLine}
+use Rattle.ro_journal_text.specs.Reading.{file_journal}
 use Rattle.ro_report.specs.declared.answers.FileKind.{FileKind}
 use Rattle.ro_report.specs.declared.answers.Answer.{Answer}
-use Rattle.ro_report.specs.declared.answers.Answer.TheVariants.{StoreFailed, BadExe, BadFaults, BadWords, TooLong, NoMemory}
+use Rattle.ro_report.specs.declared.answers.Answer.TheVariants.{StoreFailed, BadExe, BadFaults, BadPlan, BadWords, TooLong, NoMemory}
 use Rattle.ro_words.specs.Commands.{command_of}
 use Rattle.ro_top.specs.Files.{most_of, IsFile}
 
@@ -39,3 +41,9 @@ abbrev pub RefusesList : (replicas : ℕ) → (bytes : List ℕ) → Answer → 
 RefusesList replicas bytes (BadFaults line code) = file_faults replicas bytes ≡ Err (Bad line code)
 RefusesList replicas bytes NoMemory = ⊤
 RefusesList replicas bytes answer = ⊥
+
+-- it is no text of a journal
+abbrev pub RefusesPlan : (bytes : List ℕ) → Answer → Type 0
+RefusesPlan bytes (BadPlan line code) = file_journal bytes ≡ Err (BadLine line code)
+RefusesPlan bytes NoMemory = ⊤
+RefusesPlan bytes answer = ⊥

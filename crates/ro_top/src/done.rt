@@ -20,7 +20,7 @@ pub struct Done<K> {
     pub answer: Answer,
     /// Whether that was reported.
     pub told: Told,
-    /// The journal of the run.
+    /// The journal of the run, or nothing where there was none.
     pub journal: Vec<Entry>,
     /// Where it ended by a vote of views that had no majority, those views in the order of the replicas.
     pub views: Vec<View>,
@@ -29,7 +29,7 @@ pub struct Done<K> {
 }
 
 impl<K> Done<K> {
-    /// The status with which a process ends: that of the program where it ended by an exit, else one from 240 on.
+    /// The status with which a process ends: that of the program where it ended by an exit, else one from 239 on.
     pub fn status(&self) -> u8
         ensures { result ≡ status_of self.now.told self.now.answer }
     {
@@ -38,6 +38,7 @@ impl<K> Done<K> {
         }
         match self.answer {
             Answer::Exit(status) => status,
+            Answer::Unended => 239,
             Answer::Deadlock => 240,
             Answer::Trap(_) => 241,
             Answer::Differ => 242,
@@ -50,6 +51,8 @@ impl<K> Done<K> {
             Answer::BadWords => 249,
             Answer::NoMemory => 250,
             Answer::TooLong(_) => 252,
+            Answer::BadPlan { .. } => 253,
+            Answer::NoStep { .. } => 254,
         }
     }
 }

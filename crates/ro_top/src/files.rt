@@ -3,12 +3,15 @@ ghost use Rattle.std.specs.Prelude.{◌≡◌, ◌<◌, ◌≤◌, IfOk, IfErr, 
 ghost use Rattle.std.specs.Option.{option_map};
 ghost use Rattle.ro_image.specs.Executable.{bad_code, image_of};
 ghost use Rattle.ro_faults.specs.Texts.{file_faults};
+ghost use Rattle.ro_journal_text.specs.Reading.{file_journal};
 ghost use Rattle.ro_top.specs.Files.{most_of, IsFile, IsContent};
-ghost use Rattle.ro_top.specs.Refusals.{RefusesFile, RefusesContent, RefusesExe, RefusesList};
+ghost use Rattle.ro_top.specs.Refusals.{RefusesFile, RefusesContent, RefusesExe, RefusesList, RefusesPlan};
 
 use ro_faults::{Fault, FaultsError, read_faults};
 use ro_image::{Executable, ImageError, read_executable};
 use ro_io::{FetchError, Store};
+use ro_journal::Entry;
+use ro_journal_text::{JournalError, read_journal};
 use ro_report::{Answer, FileKind};
 use std::alloc::Global;
 
@@ -20,6 +23,7 @@ fn most_bytes(kind: FileKind) -> usize
         FileKind::Exe => 8 * 1024 * 1024,
         FileKind::Input => 1024 * 1024,
         FileKind::Faults => 64 * 1024,
+        FileKind::Plan => 16 * 1024 * 1024,
     }
 }
 
@@ -86,5 +90,17 @@ pub(crate) fn faults(alloc: Global, bytes: &[u8], replicas: u32) -> Result<Vec<F
         Ok(faults) => Ok(faults),
         Err(FaultsError::Bad { line, code }) => Err(Answer::BadFaults { line, code }),
         Err(FaultsError::NoMemory) => Err(Answer::NoMemory),
+    }
+}
+
+// The journal of a text.
+pub(crate) fn journal(alloc: Global, bytes: &[u8]) -> Result<Vec<Entry>, Answer>
+    ensures journal { IfOk result (λ journal. file_journal bytes.now ≡ Ok journal.items) }
+    ensures refused { IfErr result (RefusesPlan bytes.now) }
+{
+    match read_journal(alloc, bytes) {
+        Ok(journal) => Ok(journal),
+        Err(JournalError::Bad { line, code }) => Err(Answer::BadPlan { line, code }),
+        Err(JournalError::NoMemory) => Err(Answer::NoMemory),
     }
 }

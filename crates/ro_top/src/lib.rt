@@ -6,12 +6,13 @@ mod asking;
 mod done;
 mod driving;
 mod files;
+mod playing;
 mod reports;
 mod running;
 mod top;
 
 pub use done::{Done, Told};
-pub use ro_report::{Answer, FileKind};
+pub use ro_report::{Answer, FileKind, JournalCode};
 pub use top::romain;
 
 #[cfg(test)]

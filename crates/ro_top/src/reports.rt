@@ -1,15 +1,16 @@
-//! The report: the journal, where it is to be shown, a line that sums it up, where there is one, and the answer's line.
+//! The report of a run: the journal, where it is to be shown, a line that sums it up, where there is one, and the answer's line.
+//! Of a plan's run: its steps and what they wrote, where it was run to its end, and the answer's line.
 ghost use Rattle.std.specs.Prelude.{◌≡◌, ◌<◌, ◌≤◌, ◌^◌, OnOk, OnErr};
 ghost use Rattle.ro_io.specs.Outside.{Rose, more};
 ghost use Rattle.ro_journal_text.specs.Texts.{entries_text};
-ghost use Rattle.ro_report.specs.Report.{struck_in, steps_in, journal_part, report_text, report_of};
-ghost use Rattle.ro_top.specs.Top.{TakesFront, IsTold, summary_part};
+ghost use Rattle.ro_report.specs.Report.{answer_text, struck_in, steps_in, journal_part, report_text, report_of};
+ghost use Rattle.ro_top.specs.Top.{TakesFront, IsTold, is_whole, plain_part, plain_report, summary_part};
 ghost use Rattle.ro_top.specs.declared.done.Told.TheVariants as told;
 
 use crate::done::Told;
 use ro_io::{Failed, Sink};
 use ro_journal::Entry;
-use ro_report::{Answer, answer_line, entry_text, header, summary};
+use ro_report::{Answer, answer_line, entry_text, header, plain_line, summary};
 
 // Tells the report of a run that wrote so many bytes.
 pub(crate) fn tell<E: Sink>(
@@ -28,6 +29,66 @@ pub(crate) fn tell<E: Sink>(
         Ok(()) => Told::Whole,
         Err(Failed) => Told::Failed,
     }
+}
+
+// Tells the report of a plan's run.
+pub(crate) fn tell_plan<E: Sink>(report: &mut E, steps: u64, bytes: u64, answer: &Answer) -> Told
+    ensures told { IsTold result (E.held report.old) (E.held report.new) (plain_report steps bytes answer.now) }
+    ensures cause { result ≡ told.Failed → Rose (E.faults report.old) (E.faults report.new) }
+{
+    match give_plan(report, steps, bytes, answer) {
+        Ok(()) => Told::Whole,
+        Err(Failed) => Told::Failed,
+    }
+}
+
+// Tells an answer.
+pub(crate) fn tell_answer<E: Sink>(report: &mut E, answer: &Answer) -> Told
+    ensures told { IsTold result (E.held report.old) (E.held report.new) (answer_text answer.now) }
+    ensures cause { result ≡ told.Failed → Rose (E.faults report.old) (E.faults report.new) }
+{
+    match give_all(report, answer_line(answer).as_bytes()) {
+        Ok(()) => Told::Whole,
+        Err(Failed) => Told::Failed,
+    }
+}
+
+fn give_plan<E: Sink>(report: &mut E, steps: u64, bytes: u64, answer: &Answer) -> Result<(), Failed>
+    ensures ok { OnOk result (E.held report.new ≡ more (E.held report.old) (plain_report steps bytes answer.now)) }
+    ensures err { OnErr result (TakesFront (E.held report.old) (E.held report.new) (plain_report steps bytes answer.now)) }
+    ensures cause { OnErr result (Rose (E.faults report.old) (E.faults report.new)) }
+{
+    give_steps(report, steps, bytes, answer)?;
+    give_all(report, answer_line(answer).as_bytes())
+}
+
+// The steps and the bytes of a plan, where it was run to its end.
+fn give_steps<E: Sink>(
+    report: &mut E,
+    steps: u64,
+    bytes: u64,
+    answer: &Answer,
+) -> Result<(), Failed>
+    ensures ok { OnOk result (E.held report.new ≡ more (E.held report.old) (plain_part steps bytes answer.now)) }
+    ensures err { OnErr result (TakesFront (E.held report.old) (E.held report.new) (plain_part steps bytes answer.now)) }
+    ensures cause { OnErr result (Rose (E.faults report.old) (E.faults report.new)) }
+    ensures faults { E.faults report.old ≤ E.faults report.new }
+{
+    if is_whole(answer) {
+        give_all(report, plain_line(steps, bytes).as_bytes())
+    } else {
+        Ok(())
+    }
+}
+
+// Whether it is the answer of a plan that was run to its end.
+fn is_whole(answer: &Answer) -> bool
+    ensures { result ≡ is_whole answer.now }
+{
+    matches!(
+        answer,
+        Answer::Exit(_) | Answer::Deadlock | Answer::Trap(_) | Answer::Unended
+    )
 }
 
 fn give_report<E: Sink>(

@@ -67,7 +67,6 @@ pub(crate) fn run<R: Threads + Wait + Sync, K: Sink + Send, G: Gate + Sync>(
         input,
         faults,
         settings,
-        journal: _journal,
     } = job;
     let core = match Core::begin(
         alloc,
@@ -99,7 +98,7 @@ pub(crate) fn run<R: Threads + Wait + Sync, K: Sink + Send, G: Gate + Sync>(
 }
 
 // The answer of a run that ended so, or for which there was no memory.
-fn answer_of(how: Option<How>) -> Answer
+pub(crate) fn answer_of(how: Option<How>) -> Answer
     ensures answer { IsOutcome result how }
     ensures program { IsRefusal result → ⊥ }
 {

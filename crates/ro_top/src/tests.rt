@@ -164,10 +164,273 @@ fn failing_sinks(rt: HostRuntime) -> Result<(), Fail> {
     Ok(())
 }
 
+/// The journal of a run of `seven`, as it is reported.
+const SEVEN: &str = "romain 1
+take 0 0 0
+put 0 0 0 2 0
+take 0 1 0
+put 0 1 0 2 0
+take 0 2 0
+put 0 2 0 2 0
+vote 0 2 0 - served
+end exit 7
+votes 1 copies 0 struck 0 steps 3 bytes 0
+answer exit 7
+";
+
+/// A command that runs a plan, and what it comes to.
+struct Plan {
+    words: &'static [&'static str],
+    acts: &'static [Act],
+    answer: Answer,
+    status: u8,
+    held: &'static str,
+    reported: &'static str,
+}
+
+const PLANS: &[Plan] = &[
+    Plan {
+        words: &["plain", "seven", "--plan", "journal"],
+        acts: &[],
+        answer: Answer::Exit(7),
+        status: 7,
+        held: "",
+        reported: "steps 3 bytes 0\nanswer exit 7\n",
+    },
+    // The exit was not served.
+    Plan {
+        words: &["plain", "seven", "--plan", "watched"],
+        acts: &[],
+        answer: Answer::Unended,
+        status: 239,
+        held: "",
+        reported: "steps 2 bytes 0\nanswer unended\n",
+    },
+    // The third step ended the program.
+    Plan {
+        words: &["plain", "--plan=four", "seven"],
+        acts: &[],
+        answer: Answer::NoStep { place: 3 },
+        status: 254,
+        held: "",
+        reported: "answer no-step 3\n",
+    },
+    Plan {
+        words: &["plain", "seven", "--plan", "header"],
+        acts: &[],
+        answer: Answer::BadPlan {
+            line: 1,
+            code: JournalCode::Form,
+        },
+        status: 253,
+        held: "",
+        reported: "answer plan 1 1\n",
+    },
+    Plan {
+        words: &["plain", "seven", "--plan", "range"],
+        acts: &[],
+        answer: Answer::BadPlan {
+            line: 2,
+            code: JournalCode::Range,
+        },
+        status: 253,
+        held: "",
+        reported: "answer plan 2 2\n",
+    },
+    Plan {
+        words: &["plain", "seven", "--plan", "empty"],
+        acts: &[],
+        answer: Answer::Unended,
+        status: 239,
+        held: "",
+        reported: "steps 0 bytes 0\nanswer unended\n",
+    },
+    Plan {
+        words: &["plain", "seven", "--plan", "nothere"],
+        acts: &[],
+        answer: Answer::StoreFailed,
+        status: 246,
+        held: "",
+        reported: "answer store\n",
+    },
+    Plan {
+        words: &["plain", "seven"],
+        acts: &[],
+        answer: Answer::BadWords,
+        status: 249,
+        held: "",
+        reported: "answer words\n",
+    },
+    Plan {
+        words: &["plain", "journal", "--plan", "header"],
+        acts: &[],
+        answer: Answer::BadExe(2),
+        status: 247,
+        held: "",
+        reported: "answer exe 2\n",
+    },
+    Plan {
+        words: &["plain", "hello", "--plan", "hello-plan"],
+        acts: &[],
+        answer: Answer::Exit(0),
+        status: 0,
+        held: "hello",
+        reported: "steps 9 bytes 5\nanswer exit 0\n",
+    },
+    // What was written before the plan's end stays.
+    Plan {
+        words: &["plain", "hello", "--plan", "hello-late"],
+        acts: &[Act::Take(1)],
+        answer: Answer::NoStep { place: 9 },
+        status: 254,
+        held: "hello",
+        reported: "answer no-step 9\n",
+    },
+    Plan {
+        words: &["plain", "hello", "--plan", "hello-plan"],
+        acts: &[Act::Take(2), Act::Fail],
+        answer: Answer::SinkFailed { taken: 2 },
+        status: 245,
+        held: "he",
+        reported: "answer sink 2\n",
+    },
+    Plan {
+        words: &["plain", "hello", "--plan", "hello-plan"],
+        acts: &[Act::Fail],
+        answer: Answer::SinkFailed { taken: 0 },
+        status: 245,
+        held: "",
+        reported: "answer sink 0\n",
+    },
+    // The input is read.
+    Plan {
+        words: &["plain", "read", "--plan", "read-plan", "--input", "header"],
+        acts: &[],
+        answer: Answer::Exit(4),
+        status: 4,
+        held: "",
+        reported: "steps 7 bytes 0\nanswer exit 4\n",
+    },
+];
+
+#[test]
+fn plans(rt: HostRuntime) -> Result<(), Fail> {
+    for row in PLANS {
+        let words = words_of(rt.alloc(), row.words)?;
+        let mut store = store(&rt, rt.alloc())?;
+        let mut report = sink(rt.alloc(), &[])?;
+        let out = sink(rt.alloc(), row.acts)?;
+        let done = romain(
+            &rt,
+            rt.alloc(),
+            words.as_slice(),
+            &mut store,
+            out,
+            &mut report,
+            &OpenGate,
+        );
+        assert_eq!(rt; done.answer, row.answer, "of {:?}", row.words);
+        assert_eq!(rt; done.status(), row.status, "of {:?}", row.words);
+        assert_eq!(rt; done.out.bytes(), row.held.as_bytes(), "of {:?}", row.words);
+        assert_eq!(rt;
+            report.bytes(),
+            row.reported.as_bytes(),
+            "of {:?}",
+            row.words
+        );
+        assert!(rt; done.journal.is_empty() && done.views.is_empty());
+    }
+    Ok(())
+}
+
+// A plan of more than 10^9 steps is not run.
+#[test]
+fn longest_plan(rt: HostRuntime) -> Result<(), Fail> {
+    let mut plan = Vec::from_slice(rt.alloc(), b"romain 1\n")?;
+    for _ in 0..1_001 {
+        plan.extend_from_slice(b"vote 0 1000000 0 - watch\n")?;
+    }
+    let words = words_of(rt.alloc(), &["plain", "seven", "--plan", "long"])?;
+    let mut store = store(&rt, rt.alloc())?;
+    store.put("long", plan.as_slice())?;
+    let mut report = sink(rt.alloc(), &[])?;
+    let out = sink(rt.alloc(), &[])?;
+    let done = romain(
+        &rt,
+        rt.alloc(),
+        words.as_slice(),
+        &mut store,
+        out,
+        &mut report,
+        &OpenGate,
+    );
+    let limit = Answer::Limit {
+        steps: 1_000_000_000,
+        next: 1_000_000,
+    };
+    assert_eq!(rt; done.answer, limit);
+    assert_eq!(rt; done.status(), 244);
+    assert_eq!(rt;
+        report.bytes(),
+        b"answer limit 1000000000 1000000\n".as_slice()
+    );
+    Ok(())
+}
+
+// Each call of the store of a command fails in turn, and each call of its sinks.
+#[test]
+fn failing_in_turn(rt: HostRuntime) -> Result<(), Fail> {
+    let command = ["plain", "hello", "--plan", "hello-plan", "--input", "one"];
+    for call in 1..4 {
+        let words = words_of(rt.alloc(), &command)?;
+        let mut store = store(&rt, rt.alloc())?;
+        store.fail_at(call)?;
+        let mut report = sink(rt.alloc(), &[])?;
+        let out = sink(rt.alloc(), &[])?;
+        let done = romain(
+            &rt,
+            rt.alloc(),
+            words.as_slice(),
+            &mut store,
+            out,
+            &mut report,
+            &OpenGate,
+        );
+        assert_eq!(rt; done.answer, Answer::StoreFailed, "at {call}");
+        assert!(rt; done.out.bytes().is_empty());
+    }
+    let acts: [&[Act]; 3] = [
+        &[Act::Fail],
+        &[Act::Take(3), Act::Fail],
+        &[Act::Take(100), Act::Fail],
+    ];
+    let told = ["", "ste", "steps 9 bytes 5\n"];
+    for (acts, told) in acts.iter().zip(told) {
+        let words = words_of(rt.alloc(), &command)?;
+        let mut store = store(&rt, rt.alloc())?;
+        let mut report = sink(rt.alloc(), acts)?;
+        let out = sink(rt.alloc(), &[])?;
+        let done = romain(
+            &rt,
+            rt.alloc(),
+            words.as_slice(),
+            &mut store,
+            out,
+            &mut report,
+            &OpenGate,
+        );
+        assert_eq!(rt; done.answer, Answer::Exit(0));
+        assert_eq!(rt; done.told, Told::Failed);
+        assert_eq!(rt; done.status(), 251);
+        assert_eq!(rt; report.bytes(), told.as_bytes());
+    }
+    Ok(())
+}
+
 // Files of as many bytes as they may have, and of one more; and which call of the store fails.
 #[test]
 fn long_files(rt: HostRuntime) -> Result<(), Fail> {
-    let cases: [(&[&str], usize, Answer); 4] = [
+    let cases: [(&[&str], usize, Answer); 6] = [
         (
             &["run", "read", "--input", "long"],
             1024 * 1024,
@@ -187,6 +450,19 @@ fn long_files(rt: HostRuntime) -> Result<(), Fail> {
             &["run", "long"],
             8 * 1024 * 1024 + 1,
             Answer::TooLong(FileKind::Exe),
+        ),
+        (
+            &["plain", "seven", "--plan", "long"],
+            16 * 1024 * 1024,
+            Answer::BadPlan {
+                line: 1,
+                code: JournalCode::Form,
+            },
+        ),
+        (
+            &["plain", "seven", "--plan", "long"],
+            16 * 1024 * 1024 + 1,
+            Answer::TooLong(FileKind::Plan),
         ),
     ];
     for (command, size, answer) in cases {
@@ -260,8 +536,26 @@ const GUESTS: &[(&str, &[u32])] = &[
     ),
 ];
 
-/// Lists of faults.
-const LISTS: &[(&str, &str)] = &[
+/// Lists of faults, and journals.
+const TEXTS: &[(&str, &str)] = &[
+    ("journal", SEVEN),
+    ("watched", "romain 1\nvote 0 2 0 - watch\n"),
+    ("four", "romain 1\nvote 0 4 0 - served\n"),
+    ("header", "romain 9\nvote 0 2 0 - served\n"),
+    ("range", "romain 1\nvote 16 2 0 - served\n"),
+    ("empty", "romain 1\n"),
+    (
+        "hello-plan",
+        "romain 1\nvote 0 5 0 - served\nvote 0 2 0 - served\nend exit 0\n",
+    ),
+    (
+        "hello-late",
+        "romain 1\nvote 0 5 0 - served\nvote 0 2 0 - served\nfree 0\n",
+    ),
+    (
+        "read-plan",
+        "romain 1\nvote 0 4 0 - served\nvote 0 1 0 - served\n",
+    ),
     ("one", "1 0 1 reg 10 0\n"),
     ("unlike", "0 0 1 reg 10 0\n1 0 1 reg 10 1\n"),
 ];
@@ -274,7 +568,7 @@ fn store(rt: &impl Abort, alloc: Global) -> Result<MemStore, Fail> {
         let file = image_bytes(alloc, words, 5, &[])?;
         store.put(name, file.as_slice())?;
     }
-    for (name, text) in LISTS {
+    for (name, text) in TEXTS {
         store.put(name, text.as_bytes())?;
     }
     Ok(store)

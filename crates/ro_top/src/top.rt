@@ -1,31 +1,40 @@
 //! The call that does it all.
-ghost use Rattle.std.specs.Prelude.{◌≡◌, ◌≢◌, ◌⊎◌, ℕ, [], None};
+ghost use Rattle.std.specs.Prelude.{◌≡◌, ◌≢◌, ◌⊎◌, ℕ, [], None, Some};
 ghost use Rattle.ro_io.specs.Outside.{Rose};
 ghost use Rattle.ro_journal.specs.Plan.{outcome_of};
-ghost use Rattle.ro_report.specs.Report.{report_of};
+ghost use Rattle.ro_report.specs.Report.{answer_text, report_of};
 ghost use Rattle.ro_report.specs.declared.answers.Answer.TheVariants as a;
-ghost use Rattle.ro_words.specs.Commands.{command_of};
+ghost use Rattle.ro_settings.specs.Ranges.{InRange};
+ghost use Rattle.ro_words.specs.Commands.{AskedPlain, AskedRun, command_of, plain_by, run_by, to_plain, to_run};
 ghost use Rattle.ro_words.specs.Uses.{texts_of};
+ghost use Rattle.ro_words.specs.declared.commands.WordsError.TheVariants as w;
 ghost use Rattle.ro_top.specs.Driven.{AreCounts};
-ghost use Rattle.ro_top.specs.Files.{wants_journal};
-ghost use Rattle.ro_top.specs.Causes.{IsRefusal, RefusalCause, IsOutcome};
-ghost use Rattle.ro_top.specs.Top.{OfItsJob, RanAs, IsRunOf, IsTold};
+ghost use Rattle.ro_top.specs.Causes.{IsRefusal, RefusalCause, JobCause, IsOutcome};
+ghost use Rattle.ro_top.specs.Top.{OfItsJob, OfItsPlan, RanAs, IsRunOf, IsTold, plain_report};
 ghost use Rattle.ro_top.specs.declared.done.Told.TheVariants as t;
 
-use crate::asking::asked_job;
+use crate::asking::{job_from, replay_from};
 use crate::done::Done;
-use crate::reports::tell;
+use crate::playing::{Played, play, unplayed};
+use crate::reports::{tell, tell_answer, tell_plan};
 use crate::running::{Ran, nothing, run};
 use ro_io::{Gate, Sink, Store};
+use ro_report::Answer;
+use ro_words::{Command, PlainCommand, RunCommand, WordsError, parse_words};
 use std::alloc::Global;
 use std::sync::Wait;
 use std::thread::Threads;
 
-/// Runs a command: its words begin with the program's name, and then stand `run`, the name of an executable and options.
+/// Does what a command asks for: its words begin with the program's name, and then stand the command's name, its arguments and
+/// its options.
 ///
-/// The files that it names are fetched from `store`, the executable first, then the input, then the faults. The program
-/// runs as two or three replicas, and what it writes goes to `out`. The report goes to `report`: the journal, where that
-/// is asked for, a line that sums it up, where anything ran, and the answer's line. Each lease passes the gate before it runs.
+/// The files that it names are fetched from `store`, the executable first, then the input, then the faults or the plan.
+///
+/// - `run`: the program runs as two or three replicas, and what it writes goes to `out`. The report goes to `report`: the
+///   journal, where that is asked for, a line that sums it up, where anything ran, and the answer's line. Each lease passes the
+///   gate before it runs.
+/// - `plain`: the plan of a journal runs on the unreplicated machine, and what it writes goes to `out`. The report has a line of
+///   its steps and bytes, where it was run to its end, and the answer's line.
 pub fn romain<'a, R: Threads + Wait + Sync, S: Store, K: Sink + Send, E: Sink, G: Gate + Sync>(
     rt: &R,
     alloc: Global,
@@ -35,25 +44,80 @@ pub fn romain<'a, R: Threads + Wait + Sync, S: Store, K: Sink + Send, E: Sink, G
     report: &mut E,
     gate: &G,
 ) -> Done<K>
-    ensures run { (bytes : ℕ) × OfItsJob (S.told store.old) (texts_of words.now) result.journal.items (IsRunOf (record { journal = result.journal.items; answer = result.answer; views = result.views.items; bytes = bytes; held_before = K.held out; held_after = K.held result.out; faults_before = K.faults out; faults_after = K.faults result.out })) × IsTold result.told (E.held report.old) (E.held report.new) (report_of (wants_journal (texts_of words.now)) result.journal.items bytes result.answer) }
+    ensures run { (asked : AskedRun) → command_of (texts_of words.now) ≡ Some (to_run asked) → (bytes : ℕ) × OfItsJob (S.told store.old) asked result.journal.items (IsRunOf (record { journal = result.journal.items; answer = result.answer; views = result.views.items; bytes = bytes; held_before = K.held out; held_after = K.held result.out; faults_before = K.faults out; faults_after = K.faults result.out })) × IsTold result.told (E.held report.old) (E.held report.new) (report_of asked.journal result.journal.items bytes result.answer) }
+    ensures answer { (asked : AskedRun) → command_of (texts_of words.now) ≡ Some (to_run asked) → IsOutcome result.answer (outcome_of result.journal.items) }
+    ensures nothing_run { (asked : AskedRun) → command_of (texts_of words.now) ≡ Some (to_run asked) → result.journal.items ≡ [] → (K.held result.out ≡ K.held out) × (K.faults result.out ≡ K.faults out) }
+    ensures plain { (asked : AskedPlain) → command_of (texts_of words.now) ≡ Some (to_plain asked) → (steps : ℕ) × (bytes : ℕ) × OfItsPlan (S.told store.old) asked (record { answer = result.answer; steps = steps; bytes = bytes; held_before = K.held out; held_after = K.held result.out; faults_before = K.faults out; faults_after = K.faults result.out }) × IsTold result.told (E.held report.old) (E.held report.new) (plain_report steps bytes result.answer) }
+    ensures plain_journal { (asked : AskedPlain) → command_of (texts_of words.now) ≡ Some (to_plain asked) → result.journal.items ≡ [] }
+    ensures words { command_of (texts_of words.now) ≡ None → (result.answer ≡ a.BadWords) ⊎ (result.answer ≡ a.NoMemory) }
+    ensures words_told { command_of (texts_of words.now) ≡ None → (result.journal.items ≡ []) × IsTold result.told (E.held report.old) (E.held report.new) (answer_text result.answer) }
+    ensures words_out { command_of (texts_of words.now) ≡ None → (K.held result.out ≡ K.held out) × (K.faults result.out ≡ K.faults out) }
+    ensures no_views { result.answer ≢ a.Differ → result.answer ≢ a.NoMajority → result.views.items ≡ [] }
+    ensures told { result.told ≡ t.Failed → Rose (E.faults report.old) (E.faults report.new) }
+    ensures refused { IsRefusal result.answer → result.journal.items ≡ [] }
+    ensures untouched { IsRefusal result.answer → (K.held result.out ≡ K.held out) × (K.faults result.out ≡ K.faults out) }
+    ensures refusal { IsRefusal result.answer → RefusalCause (S.told store.old) (texts_of words.now) (S.faults store.old) (S.faults store.new) result.answer }
+    ensures files { S.told store.new ≡ S.told store.old }
+{
+    match parse_words(alloc, words) {
+        Ok(Command::Run(command)) => run_command(rt, alloc, &command, store, out, report, gate),
+        Ok(Command::Plain(command)) => plain_command(alloc, &command, store, out, report),
+        Err(error) => refuse(alloc, error, out, report),
+    }
+}
+
+// The words spell no command, or there was no memory to read them.
+fn refuse<K, E: Sink>(alloc: Global, error: WordsError, out: K, report: &mut E) -> Done<K>
+    ensures bad { error ≡ w.Bad → result.answer ≡ a.BadWords }
+    ensures memory { error ≡ w.NoMemory → result.answer ≡ a.NoMemory }
+    ensures journal { result.journal.items ≡ [] }
+    ensures views { result.views.items ≡ [] }
+    ensures text { IsTold result.told (E.held report.old) (E.held report.new) (answer_text result.answer) }
+    ensures told { result.told ≡ t.Failed → Rose (E.faults report.old) (E.faults report.new) }
+    ensures out { result.out ≡ out }
+{
+    let answer = match error {
+        WordsError::Bad => Answer::BadWords,
+        WordsError::NoMemory => Answer::NoMemory,
+    };
+    let told = tell_answer(report, &answer);
+    Done {
+        answer,
+        told,
+        journal: Vec::new(alloc),
+        views: Vec::new(alloc),
+        out,
+    }
+}
+
+// Runs an executable as replicas, and tells what came of it.
+fn run_command<R: Threads + Wait + Sync, S: Store, K: Sink + Send, E: Sink, G: Gate + Sync>(
+    rt: &R,
+    alloc: Global,
+    command: &RunCommand<'_>,
+    store: &mut S,
+    out: K,
+    report: &mut E,
+    gate: &G,
+) -> Done<K>
+    requires { InRange command.now.settings }
+    ensures run { (bytes : ℕ) × OfItsJob (S.told store.old) (run_by command.now) result.journal.items (IsRunOf (record { journal = result.journal.items; answer = result.answer; views = result.views.items; bytes = bytes; held_before = K.held out; held_after = K.held result.out; faults_before = K.faults out; faults_after = K.faults result.out })) × IsTold result.told (E.held report.old) (E.held report.new) (report_of command.now.journal result.journal.items bytes result.answer) }
     ensures answer { IsOutcome result.answer (outcome_of result.journal.items) }
     ensures nothing_run { result.journal.items ≡ [] → (K.held result.out ≡ K.held out) × (K.faults result.out ≡ K.faults out) }
     ensures no_views { result.answer ≢ a.Differ → result.answer ≢ a.NoMajority → result.views.items ≡ [] }
     ensures told { result.told ≡ t.Failed → Rose (E.faults report.old) (E.faults report.new) }
     ensures refused { IsRefusal result.answer → result.journal.items ≡ [] }
-    ensures refusal { IsRefusal result.answer → RefusalCause (S.told store.old) (texts_of words.now) (S.faults store.old) (S.faults store.new) result.answer }
-    ensures words { command_of (texts_of words.now) ≡ None → (result.answer ≡ a.BadWords) ⊎ (result.answer ≡ a.NoMemory) }
+    ensures refusal { IsRefusal result.answer → JobCause (S.told store.old) (to_run (run_by command.now)) (S.faults store.old) (S.faults store.new) result.answer }
     ensures files { S.told store.new ≡ S.told store.old }
 {
-    let (shown, ran) = command(rt, alloc, words, store, out, gate);
     let Ran {
         answer,
         journal,
         views,
         bytes,
         out,
-    } = ran;
-    let told = tell(report, shown, journal.as_slice(), bytes, &answer);
+    } = ran(rt, alloc, command, store, out, gate);
+    let told = tell(report, command.journal, journal.as_slice(), bytes, &answer);
     Done {
         answer,
         told,
@@ -63,28 +127,77 @@ pub fn romain<'a, R: Threads + Wait + Sync, S: Store, K: Sink + Send, E: Sink, G
     }
 }
 
-// Does what the words ask for, and says whether they ask for the journal.
-fn command<'a, R: Threads + Wait + Sync, S: Store, K: Sink + Send, G: Gate + Sync>(
+// Runs the job of a command.
+fn ran<R: Threads + Wait + Sync, S: Store, K: Sink + Send, G: Gate + Sync>(
     rt: &R,
     alloc: Global,
-    words: &'a [&'a str],
+    command: &RunCommand<'_>,
     store: &mut S,
     out: K,
     gate: &G,
-) -> (bool, Ran<K>)
-    ensures run { OfItsJob (S.told store.old) (texts_of words.now) result.1.journal.items (RanAs (record { journal = result.1.journal.items; answer = result.1.answer; views = result.1.views.items; bytes = result.1.bytes; held_before = K.held out; held_after = K.held result.1.out; faults_before = K.faults out; faults_after = K.faults result.1.out })) }
-    ensures counts { AreCounts result.1.journal.items }
-    ensures shown { (result.1.journal.items ≡ []) ⊎ (result.0 ≡ wants_journal (texts_of words.now)) }
-    ensures answer { IsOutcome result.1.answer (outcome_of result.1.journal.items) }
-    ensures nothing_run { result.1.journal.items ≡ [] → (K.held result.1.out ≡ K.held out) × (K.faults result.1.out ≡ K.faults out) }
-    ensures no_views { result.1.answer ≢ a.Differ → result.1.answer ≢ a.NoMajority → result.1.views.items ≡ [] }
-    ensures refused { IsRefusal result.1.answer → result.1.journal.items ≡ [] }
-    ensures refusal { IsRefusal result.1.answer → RefusalCause (S.told store.old) (texts_of words.now) (S.faults store.old) (S.faults store.new) result.1.answer }
-    ensures words { command_of (texts_of words.now) ≡ None → (result.1.answer ≡ a.BadWords) ⊎ (result.1.answer ≡ a.NoMemory) }
+) -> Ran<K>
+    requires { InRange command.now.settings }
+    ensures run { OfItsJob (S.told store.old) (run_by command.now) result.journal.items (RanAs (record { journal = result.journal.items; answer = result.answer; views = result.views.items; bytes = result.bytes; held_before = K.held out; held_after = K.held result.out; faults_before = K.faults out; faults_after = K.faults result.out })) }
+    ensures counts { AreCounts result.journal.items }
+    ensures answer { IsOutcome result.answer (outcome_of result.journal.items) }
+    ensures nothing_run { result.journal.items ≡ [] → (K.held result.out ≡ K.held out) × (K.faults result.out ≡ K.faults out) }
+    ensures no_views { result.answer ≢ a.Differ → result.answer ≢ a.NoMajority → result.views.items ≡ [] }
+    ensures refused { IsRefusal result.answer → result.journal.items ≡ [] }
+    ensures refusal { IsRefusal result.answer → JobCause (S.told store.old) (to_run (run_by command.now)) (S.faults store.old) (S.faults store.new) result.answer }
     ensures files { S.told store.new ≡ S.told store.old }
 {
-    match asked_job(alloc, words, store) {
-        Ok(job) => (job.journal, run(rt, alloc, job, out, gate)),
-        Err(answer) => (false, nothing(alloc, answer, out)),
+    match job_from(alloc, command, store) {
+        Ok(job) => run(rt, alloc, job, out, gate),
+        Err(answer) => nothing(alloc, answer, out),
+    }
+}
+
+// Runs the plan of a journal, and tells what came of it.
+fn plain_command<S: Store, K: Sink, E: Sink>(
+    alloc: Global,
+    command: &PlainCommand<'_>,
+    store: &mut S,
+    out: K,
+    report: &mut E,
+) -> Done<K>
+    ensures plain { (steps : ℕ) × (bytes : ℕ) × OfItsPlan (S.told store.old) (plain_by command.now) (record { answer = result.answer; steps = steps; bytes = bytes; held_before = K.held out; held_after = K.held result.out; faults_before = K.faults out; faults_after = K.faults result.out }) × IsTold result.told (E.held report.old) (E.held report.new) (plain_report steps bytes result.answer) }
+    ensures journal { result.journal.items ≡ [] }
+    ensures views { result.views.items ≡ [] }
+    ensures told { result.told ≡ t.Failed → Rose (E.faults report.old) (E.faults report.new) }
+    ensures untouched { IsRefusal result.answer → (K.held result.out ≡ K.held out) × (K.faults result.out ≡ K.faults out) }
+    ensures refusal { IsRefusal result.answer → JobCause (S.told store.old) (to_plain (plain_by command.now)) (S.faults store.old) (S.faults store.new) result.answer }
+    ensures files { S.told store.new ≡ S.told store.old }
+{
+    let mut out = out;
+    let Played {
+        answer,
+        steps,
+        bytes,
+    } = played(alloc, command, store, &mut out);
+    let told = tell_plan(report, steps, bytes, &answer);
+    Done {
+        answer,
+        told,
+        journal: Vec::new(alloc),
+        views: Vec::new(alloc),
+        out,
+    }
+}
+
+// Runs the plan of a command.
+fn played<S: Store, K: Sink>(
+    alloc: Global,
+    command: &PlainCommand<'_>,
+    store: &mut S,
+    out: &mut K,
+) -> Played
+    ensures plain { OfItsPlan (S.told store.old) (plain_by command.now) (record { answer = result.answer; steps = result.steps; bytes = result.bytes; held_before = K.held out.old; held_after = K.held out.new; faults_before = K.faults out.old; faults_after = K.faults out.new }) }
+    ensures untouched { IsRefusal result.answer → (K.held out.new ≡ K.held out.old) × (K.faults out.new ≡ K.faults out.old) }
+    ensures refusal { IsRefusal result.answer → JobCause (S.told store.old) (to_plain (plain_by command.now)) (S.faults store.old) (S.faults store.new) result.answer }
+    ensures files { S.told store.new ≡ S.told store.old }
+{
+    match replay_from(alloc, command, store) {
+        Ok(replay) => play(alloc, replay, out),
+        Err(answer) => unplayed(answer),
     }
 }

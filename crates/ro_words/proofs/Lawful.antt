@@ -1,6 +1,7 @@
 -- Laws of the command that words spell.
 use Rattle.std.proofs.Common.{◌≡◌, ◌∙◌, ℕ, Bool, true, false, not, ◌&&◌, ◌||◌, List, [], ◌∷◌, ◌++◌, Option, Some, None, refl, ap, ap₂, sym, subst, arith, codes, inl, inr}
 use Rattle.std.specs.Prelude.{find, option_and_then, option_map, if◌then◌else◌}
+use Rattle.std.specs.List.{list_all}
 use Rattle.std.specs.Str.{bytes_eq}
 use Rattle.std.proofs.lemmas.Bool.{cases_Bool}
 use Rattle.std.proofs.lemmas.List.{append_assoc}
@@ -11,15 +12,16 @@ use Rattle.clap.specs.declared.builder.value_parser.ValueParser.TheVariants as v
 use Rattle.clap.proofs.ValueTestLemmas.{accepts-Accepts}
 use Rattle.ro_settings.specs.declared.Settings.{Settings}
 use Rattle.ro_settings.specs.Ranges.{InRange, IsFrom}
-use Rattle.ro_words.specs.Commands.{Asked, asked_from, asked_given, asked_of, command_of, number_or, run_of, settings_from, settings_of, usual_run}
-use Rattle.ro_words.specs.Uses.{Text, Use, is_argument, is_once, is_used, option_uses, takes_value, text_of, uses_from, with_use}
-use Rattle.ro_words.proofs.Names.{IsValued, flagged, known, takes_one, unmet}
+use Rattle.ro_words.specs.Commands.{Asked, Fits, Spelling, asked_of, command_of, number_or, plain_from, plain_given, plain_spelling, plan_syntax, run_from, run_given, run_spelling, run_syntax, settings_from, settings_of, spelling_of, to_run, usual_run}
+use Rattle.ro_words.specs.Uses.{Syntax, Text, Use, is_argument, is_once, is_used, is_whole, option_uses, required_of, takes_value, text_of, uses_from, with_use}
+use Rattle.ro_words.proofs.Names.{Grammar, IsValued, by_key, flagged, takes_one, unmet}
+use Rattle.ro_words.proofs.Grammars.{plan_grammar, run_grammar}
 use Rattle.ro_words.proofs.Once.{differ_twice, or_true, same_twice, twice, used-append}
 
 pub some_same : {X : Type 0} (x y : X) → ◌≡◌ {A = Option X} (Some x) (Some y) → x ≡ y
 some_same x y e = cc
 
-pub usual : (program exe : Text) → is_argument exe ≡ true → command_of (program ∷ codes "run" ∷ exe ∷ []) ≡ Some (usual_run exe)
+pub usual : (program exe : Text) → is_argument exe ≡ true → command_of (program ∷ codes "run" ∷ exe ∷ []) ≡ Some (to_run (usual_run exe))
 usual program exe plain = rw plain refl
 
 pub ruleset usual_law = (usual)
@@ -65,31 +67,44 @@ settings_fit given s is =
       limit = from_number 1000000000 1 1000000000000 s.limit (given (codes "limit")) (omega arith, omega arith) parts.4;
     }
 
-asked_fits : (exe : Option Text) (settings : Option Settings) (given : Text → Option Text) (journal : Bool) (asked : Asked)
-    → asked_from exe settings given journal ≡ Some asked → settings ≡ Some asked.settings
-asked_fits None settings given journal asked is = cc
-asked_fits (Some exe) None given journal asked is = cc
-asked_fits (Some exe) (Some settings) given journal asked is = ap (λ (a : Asked). Some a.settings) (some_same _ asked is)
+run_from_fits : (exe : Option Text) (settings : Option Settings) (given : Text → Option Text) (journal : Bool) (asked : Asked)
+    → ((s : Settings) → settings ≡ Some s → InRange s) → run_from exe settings given journal ≡ Some asked → Fits asked
+run_from_fits None settings given journal asked ranged is = cc
+run_from_fits (Some exe) None given journal asked ranged is = cc
+run_from_fits (Some exe) (Some settings) given journal asked ranged is = subst Fits (some_same _ asked is) (ranged settings refl)
 
-run_fits : (uses : List Use) (asked : Asked) → run_of uses ≡ Some asked → InRange asked.settings
-run_fits uses asked is = elim (cases_Bool (is_once uses)) [
-  | inl once ↦
-      let given : asked_of uses ≡ Some asked = rw once at is in
-      settings_fit (text_of uses) asked.settings (asked_fits _ _ (text_of uses) _ asked given)
-  | inr twice ↦ let bad : None ≡ Some asked = rw twice at is in cc
-]
+run_fits : (given : Text → Option Text) (journal : Bool) (asked : Asked) → run_given given journal ≡ Some asked → Fits asked
+run_fits given journal asked is = run_from_fits (given (codes "exe")) (settings_of given) given journal asked (λ s e. settings_fit given s e) is
 
-read_fits : (read : Option (List Use)) (asked : Asked) → option_and_then run_of read ≡ Some asked → InRange asked.settings
-read_fits None asked is = cc
-read_fits (Some uses) asked is = run_fits uses asked is
+plain_from_fits : (exe plan input : Option Text) (asked : Asked) → plain_from exe plan input ≡ Some asked → Fits asked
+plain_from_fits None plan input asked is = cc
+plain_from_fits (Some exe) None input asked is = cc
+plain_from_fits (Some exe) (Some plan) input asked is = subst Fits (some_same _ asked is) tt
 
-pub words_fit : (words : List Text) (asked : Asked) → command_of words ≡ Some asked → InRange asked.settings
+plain_fits : (given : Text → Option Text) (journal : Bool) (asked : Asked) → plain_given given journal ≡ Some asked → Fits asked
+plain_fits given journal asked is = plain_from_fits (given (codes "exe")) (given (codes "plan")) (given (codes "input")) asked is
+
+module _ (s : Spelling) (fits : (given : Text → Option Text) (journal : Bool) (asked : Asked) → s.given given journal ≡ Some asked → Fits asked) where
+  uses_fit : (uses : List Use) (asked : Asked) → asked_of s uses ≡ Some asked → Fits asked
+  uses_fit uses asked is = elim (cases_Bool (is_whole s.syntax uses)) [
+    | inl whole ↦ let given : s.given (text_of uses) (is_used (codes "journal") uses) ≡ Some asked = rw whole at is in fits (text_of uses) _ asked given
+    | inr part ↦ let bad : None ≡ Some asked = rw part at is in cc
+  ]
+
+  read_fits : (read : Option (List Use)) (asked : Asked) → option_and_then (asked_of s) read ≡ Some asked → Fits asked
+  read_fits None asked is = cc
+  read_fits (Some uses) asked is = uses_fit uses asked is
+
+abbrev FitsBehind : Text → List Text → Asked → Text → Type 0
+FitsBehind program words asked command = command_of (program ∷ command ∷ words) ≡ Some asked → Fits asked
+
+pub words_fit : (words : List Text) (asked : Asked) → command_of words ≡ Some asked → Fits asked
 words_fit [] asked is = cc
 words_fit (program ∷ []) asked is = cc
-words_fit (program ∷ command ∷ words) asked is = elim (cases_Bool (bytes_eq command (codes "run"))) [
-  | inl same ↦ read_fits (uses_from words None) asked (rw same at is)
-  | inr other ↦ let bad : None ≡ Some asked = rw other at is in cc
-]
+words_fit (program ∷ command ∷ words) asked is =
+    by_key (FitsBehind program words asked) (codes "run") command (λ same. subst (FitsBehind program words asked) same (read_fits run_spelling run_fits (uses_from run_syntax words run_syntax.places None) asked)) (λ a.
+    by_key (FitsBehind program words asked) (codes "plain") command (λ same. subst (FitsBehind program words asked) same (read_fits plain_spelling plain_fits (uses_from plan_syntax words plan_syntax.places None) asked)) (λ b.
+    λ e. let bad : None ≡ Some asked = rw (a, b) at e in cc)) is
 
 -- ---- order
 
@@ -136,13 +151,19 @@ find_swap name (w ∷ before) u v behind differ = elim (cases_Bool (bytes_eq w.0
   | inr none ↦ rw none (find_swap name before u v behind differ)
 ]
 
-asked_swap : (before : List Use) (u v : Use) (behind : List Use) → bytes_eq u.0 v.0 ≡ false
-    → asked_of (before ++ u ∷ v ∷ behind) ≡ asked_of (before ++ v ∷ u ∷ behind)
-asked_swap before u v behind differ =
+asked_swap : (s : Spelling) (before : List Use) (u v : Use) (behind : List Use) → bytes_eq u.0 v.0 ≡ false
+    → s.given (text_of (before ++ u ∷ v ∷ behind)) (is_used (codes "journal") (before ++ u ∷ v ∷ behind))
+    ≡ s.given (text_of (before ++ v ∷ u ∷ behind)) (is_used (codes "journal") (before ++ v ∷ u ∷ behind))
+asked_swap s before u v behind differ =
     let texts : (name : Text) → text_of (before ++ u ∷ v ∷ behind) name ≡ text_of (before ++ v ∷ u ∷ behind) name =
     λ name. ap (option_map (λ (w : Use). w.1)) (find_swap name before u v behind differ) in
     let given : text_of (before ++ u ∷ v ∷ behind) ≡ text_of (before ++ v ∷ u ∷ behind) = λ i name. texts name i in
-    ap₂ asked_given given (used_swap (codes "journal") before u v behind)
+    ap₂ s.given given (used_swap (codes "journal") before u v behind)
+
+all_swap : (names : List Text) (before : List Use) (u v : Use) (behind : List Use)
+    → list_all (λ n. is_used n (before ++ u ∷ v ∷ behind)) names ≡ list_all (λ n. is_used n (before ++ v ∷ u ∷ behind)) names
+all_swap [] before u v behind = refl
+all_swap (name ∷ names) before u v behind = ap₂ (λ (a b : Bool). a && b) (used_swap name before u v behind) (all_swap names before u v behind)
 
 -- two uses of one name
 not_once : (before : List Use) (u v : Use) (behind : List Use) → bytes_eq u.0 v.0 ≡ true → is_once (before ++ u ∷ v ∷ behind) ≡ false
@@ -150,41 +171,56 @@ not_once before u v behind same =
     let used : is_used v.0 (before ++ u ∷ []) ≡ true = used-append v.0 before (u ∷ []) ∙ rw same (or_true (is_used v.0 before)) in
     ap is_once (sym (append_assoc before (u ∷ []) (v ∷ behind))) ∙ twice (before ++ u ∷ []) behind v used
 
-pub swapped : (before : List Use) (u v : Use) (behind : List Use) → run_of (before ++ u ∷ v ∷ behind) ≡ run_of (before ++ v ∷ u ∷ behind)
-swapped before u v behind = elim (cases_Bool (bytes_eq u.0 v.0)) [
+pub swapped : (s : Spelling) (before : List Use) (u v : Use) (behind : List Use) → asked_of s (before ++ u ∷ v ∷ behind) ≡ asked_of s (before ++ v ∷ u ∷ behind)
+swapped s before u v behind = elim (cases_Bool (bytes_eq u.0 v.0)) [
   | inl same ↦ rw (not_once before u v behind same, not_once before v u behind (same_twice u.0 v.0 same)) refl
-  | inr differ ↦ ap₂ (λ (b : Bool) (o : Option Asked). if b then o else None) (once_swap before u v behind differ) (asked_swap before u v behind differ)
+  | inr differ ↦ ap₂ (λ (b : Bool) (o : Option Asked). if b then o else None)
+      (ap₂ (λ (a b : Bool). a && b) (once_swap before u v behind differ) (all_swap (required_of s.syntax) before u v behind)) (asked_swap s before u v behind differ)
 ]
 
 pub ruleset order_law = (swapped)
 
 -- ---- spelling
 
-together : (name value : Text) (words : List Text) → IsValued name → is_argument value ≡ true
-    → option_uses name (Some value) (λ next. uses_from words next) ≡ with_use (name, value) (uses_from words None)
-together name value words valued fits = rw (valued.takes, fits) refl
+module _ (g : Grammar) (name value : Text) (words left : List Text) where
+  together : IsValued g.syntax g.rules name → is_argument value ≡ true
+      → option_uses g.syntax name (Some value) (λ next. uses_from g.syntax words left next) ≡ with_use (name, value) (uses_from g.syntax words left None)
+  together valued fits = rw (valued.takes, fits) refl
 
-apart : (name value : Text) (words : List Text) → IsValued name → is_argument value ≡ true
-    → option_uses name None (λ next. uses_from (value ∷ words) next) ≡ with_use (name, value) (uses_from words None)
-apart name value words valued fits = rw (valued.takes, fits) refl
+  apart : IsValued g.syntax g.rules name → is_argument value ≡ true
+      → option_uses g.syntax name None (λ next. uses_from g.syntax (value ∷ words) left next) ≡ with_use (name, value) (uses_from g.syntax words left None)
+  apart valued fits = rw (valued.takes, fits) refl
 
-agree : (name value : Text) (words : List Text) → IsValued name → is_argument value ≡ true
-    → uses_from ((45 ∷ 45 ∷ (name ++ 61 ∷ value)) ∷ words) None ≡ uses_from ((45 ∷ 45 ∷ name) ∷ value ∷ words) None
-agree name value words valued fits =
-    let one : uses_from ((45 ∷ 45 ∷ (name ++ 61 ∷ value)) ∷ words) None ≡ with_use (name, value) (uses_from words None) =
-    ap (option_and_then (λ (p : Text × Option Text). option_uses p.0 p.1 (λ next. uses_from words next))) (valued.cut value)
-    ∙ together name value words valued fits in
-    let two : uses_from ((45 ∷ 45 ∷ name) ∷ value ∷ words) None ≡ with_use (name, value) (uses_from words None) =
-    ap (option_and_then (λ (p : Text × Option Text). option_uses p.0 p.1 (λ next. uses_from (value ∷ words) next))) valued.alone
-    ∙ apart name value words valued fits in
-    one ∙ sym two
+  agree : IsValued g.syntax g.rules name → is_argument value ≡ true
+      → uses_from g.syntax ((45 ∷ 45 ∷ (name ++ 61 ∷ value)) ∷ words) left None ≡ uses_from g.syntax ((45 ∷ 45 ∷ name) ∷ value ∷ words) left None
+  agree valued fits =
+      let one : uses_from g.syntax ((45 ∷ 45 ∷ (name ++ 61 ∷ value)) ∷ words) left None ≡ with_use (name, value) (uses_from g.syntax words left None) =
+      ap (option_and_then (λ (p : Text × Option Text). option_uses g.syntax p.0 p.1 (λ next. uses_from g.syntax words left next))) (valued.cut value)
+      ∙ together valued fits in
+      let two : uses_from g.syntax ((45 ∷ 45 ∷ name) ∷ value ∷ words) left None ≡ with_use (name, value) (uses_from g.syntax words left None) =
+      ap (option_and_then (λ (p : Text × Option Text). option_uses g.syntax p.0 p.1 (λ next. uses_from g.syntax (value ∷ words) left next))) valued.alone
+      ∙ apart valued fits in
+      one ∙ sym two
 
-pub spelled_alike : (name value : Text) (words : List Text) → takes_value name ≡ true → is_argument value ≡ true
-    → uses_from ((45 ∷ 45 ∷ (name ++ 61 ∷ value)) ∷ words) None ≡ uses_from ((45 ∷ 45 ∷ name) ∷ value ∷ words) None
-spelled_alike name value words takes fits = elim (known name) [
-  | takes_one valued ↦ agree name value words valued fits
-  | flagged is ↦ let bad : false ≡ true = subst (λ (n : Text). takes_value n ≡ true) (sym is) takes in cc
-  | unmet none flag unknown ↦ let bad : false ≡ true = sym none ∙ takes in cc
-]
+  alike_in : takes_value g.syntax name ≡ true → is_argument value ≡ true
+      → uses_from g.syntax ((45 ∷ 45 ∷ (name ++ 61 ∷ value)) ∷ words) left None ≡ uses_from g.syntax ((45 ∷ 45 ∷ name) ∷ value ∷ words) left None
+  alike_in takes fits = elim (g.known name) [
+    | takes_one valued ↦ agree valued fits
+    | flagged may is ↦ let bad : false ≡ true = sym g.unvalued ∙ subst (λ (n : Text). takes_value g.syntax n ≡ true) (sym is) takes in cc
+    | unmet none flag unknown ↦ let bad : false ≡ true = sym none ∙ takes in cc
+  ]
 
-pub ruleset spelling_law = (spelled_alike)
+abbrev AlikeIn : Text → Text → List Text → List Text → Syntax → Type 0
+AlikeIn name value words left s = takes_value s name ≡ true → is_argument value ≡ true
+    → uses_from s ((45 ∷ 45 ∷ (name ++ 61 ∷ value)) ∷ words) left None ≡ uses_from s ((45 ∷ 45 ∷ name) ∷ value ∷ words) left None
+
+abbrev AlikeAt : Text → Text → List Text → List Text → Spelling → Text → Type 0
+AlikeAt name value words left s command = spelling_of command ≡ Some s → AlikeIn name value words left s.syntax
+
+pub spelled_alike : (command : Text) (s : Spelling) (name value : Text) (words left : List Text) → spelling_of command ≡ Some s → AlikeIn name value words left s.syntax
+spelled_alike command s name value words left is =
+    by_key (AlikeAt name value words left s) (codes "run") command (λ same. subst (AlikeAt name value words left s) same (λ e.
+    subst (λ (x : Spelling). AlikeIn name value words left x.syntax) (some_same run_spelling s e) (alike_in run_grammar name value words left))) (λ a.
+    by_key (AlikeAt name value words left s) (codes "plain") command (λ same. subst (AlikeAt name value words left s) same (λ e.
+    subst (λ (x : Spelling). AlikeIn name value words left x.syntax) (some_same plain_spelling s e) (alike_in (plan_grammar (codes "plain")) name value words left))) (λ b.
+    λ e. let bad : None ≡ Some s = rw (a, b) at e in cc)) is

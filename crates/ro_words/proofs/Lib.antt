@@ -2,6 +2,7 @@ pub mod Ends
 pub mod Failing
 pub mod Forms
 pub mod Found
+pub mod Grammars
 pub mod Grown
 pub mod Lawful
 pub mod Looks

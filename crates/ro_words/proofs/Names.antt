@@ -1,79 +1,86 @@
--- Which argument of `run` a name belongs to.
-use Rattle.std.proofs.Common.{◌≡◌, ◌∷◌, ◌++◌, true, false, Some, None, refl, subst, codes, inl, inr}
+-- What is known of a command's arguments: which one a name belongs to, and which one a place.
+use Rattle.std.proofs.Common.{◌≡◌, ◌∙◌, ℕ, ◌+◌, Bool, true, false, not, ◌&&◌, ◌∷◌, ◌++◌, List, [], Option, Some, None, refl, sym, subst, codes, inl, inr}
+use Rattle.std.specs.Prelude.{fold, min}
+use Rattle.std.specs.List.{list_all, list_any}
 use Rattle.std.specs.Str.{bytes_eq}
 use Rattle.std.proofs.lemmas.Slice.Eq.{bytes_eq-Decides}
 use Rattle.std.proofs.lemmas.Bool.{cases_Bool}
-use Rattle.clap.specs.Lexer.{long_of}
-use Rattle.clap.specs.Walk.{Text, arg_by_id, arg_by_long}
-use Rattle.ro_words.specs.Uses.{is_flag, takes_value}
-use Rattle.ro_words.proofs.Rules.{built_rules, option_built}
+use Rattle.clap.specs.Lexer.{long_of, usize_max}
+use Rattle.clap.specs.Walk.{Row, Rule, Text, arg_by_id, arg_by_index, arg_by_long, with_default}
+use Rattle.clap.specs.Faults.{defaults_fault}
+use Rattle.clap.specs.Takes.{is_given}
+use Rattle.ro_words.specs.Uses.{Syntax, is_flag, required_of, takes_value}
+use Rattle.ro_words.proofs.Rules.{journal_built, option_built, place_built}
 
 -- an option that takes a value
-pub record IsValued (name : Text) : Type 0 where
-  pub takes : takes_value name ≡ true
-  pub flag : is_flag name ≡ false
+pub record IsValued (s : Syntax) (rules : List Rule) (name : Text) : Type 0 where
+  pub required : Bool
+  pub takes : takes_value s name ≡ true
+  pub flag : is_flag s name ≡ false
   pub journal : bytes_eq name (codes "journal") ≡ false
-  pub exe : bytes_eq name (codes "exe") ≡ false
   pub alone : long_of (45 ∷ 45 ∷ name) ≡ Some (name, None)
   pub cut : (value : Text) → long_of (45 ∷ 45 ∷ (name ++ 61 ∷ value)) ≡ Some (name, Some value)
-  pub by_long : arg_by_long built_rules name ≡ Some (option_built name)
-  pub by_id : arg_by_id built_rules name ≡ Some (option_built name)
+  pub by_long : arg_by_long rules name ≡ Some (option_built name required)
+  pub by_id : arg_by_id rules name ≡ Some (option_built name required)
 
-pub data Known (name : Text) : Type 0 where
-  takes_one : IsValued name → Known name
-  flagged : codes "journal" ≡ name → Known name
-  unmet : takes_value name ≡ false → is_flag name ≡ false → arg_by_long built_rules name ≡ None → Known name
+pub data Known (s : Syntax) (rules : List Rule) (name : Text) : Type 0 where
+  takes_one : IsValued s rules name → Known s rules name
+  flagged : s.journal ≡ true → codes "journal" ≡ name → Known s rules name
+  unmet : takes_value s name ≡ false → is_flag s name ≡ false → arg_by_long rules name ≡ None → Known s rules name
 
-pub valued_input : IsValued (codes "input")
-unfolding built_rules
-valued_input = record { takes = refl; flag = refl; journal = refl; exe = refl; alone = refl; cut = λ value. refl; by_long = refl; by_id = refl }
+-- an argument at a place, behind which these places are left
+pub record IsPlace (s : Syntax) (rules : List Rule) (name : Text) (place : ℕ) (left : List Text) : Type 0 where
+  pub by_index : arg_by_index rules place ≡ Some (place_built name place)
+  pub by_id : arg_by_id rules name ≡ Some (place_built name place)
+  pub takes : takes_value s name ≡ false
+  pub journal : bytes_eq (codes "journal") name ≡ false
+  pub later : list_any (bytes_eq name) left ≡ false
+  pub next : min (place + 1) usize_max ≡ place + 1
 
-pub valued_faults : IsValued (codes "faults")
-unfolding built_rules
-valued_faults = record { takes = refl; flag = refl; journal = refl; exe = refl; alone = refl; cut = λ value. refl; by_long = refl; by_id = refl }
+-- these are the arguments from a place on
+abbrev pub AreFrom : Syntax → List Rule → List Text → ℕ → Type 0
+AreFrom s rules [] place = arg_by_index rules place ≡ None
+AreFrom s rules (name ∷ left) place = IsPlace s rules name place left × AreFrom s rules left (place + 1)
 
-pub valued_replicas : IsValued (codes "replicas")
-unfolding built_rules
-valued_replicas = record { takes = refl; flag = refl; journal = refl; exe = refl; alone = refl; cut = λ value. refl; by_long = refl; by_id = refl }
+-- where `--journal` may be there and was not, it has its default
+abbrev pub with_journal : Bool → List Row → List Row
+with_journal false xs = xs
+with_journal true xs = with_default xs journal_built
 
-pub valued_drivers : IsValued (codes "drivers")
-unfolding built_rules
-valued_drivers = record { takes = refl; flag = refl; journal = refl; exe = refl; alone = refl; cut = λ value. refl; by_long = refl; by_id = refl }
-
-pub valued_watchdog : IsValued (codes "watchdog")
-unfolding built_rules
-valued_watchdog = record { takes = refl; flag = refl; journal = refl; exe = refl; alone = refl; cut = λ value. refl; by_long = refl; by_id = refl }
-
-pub valued_quantum : IsValued (codes "quantum")
-unfolding built_rules
-valued_quantum = record { takes = refl; flag = refl; journal = refl; exe = refl; alone = refl; cut = λ value. refl; by_long = refl; by_id = refl }
-
-pub valued_limit : IsValued (codes "limit")
-unfolding built_rules
-valued_limit = record { takes = refl; flag = refl; journal = refl; exe = refl; alone = refl; cut = λ value. refl; by_long = refl; by_id = refl }
-
-pub none_known : (name : Text) → bytes_eq (codes "input") name ≡ false → bytes_eq (codes "faults") name ≡ false
-    → bytes_eq (codes "replicas") name ≡ false → bytes_eq (codes "drivers") name ≡ false
-    → bytes_eq (codes "watchdog") name ≡ false → bytes_eq (codes "quantum") name ≡ false
-    → bytes_eq (codes "limit") name ≡ false → bytes_eq (codes "journal") name ≡ false → Known name
-unfolding built_rules
-none_known name a b c d e f g h = unmet (rw (a, b, c, d, e, f, g) refl) h (rw (a, b, c, d, e, f, g, h) refl)
+-- a command, with the arguments that are built of it
+pub record Grammar : Type 0 where
+  pub name : Text
+  pub syntax : Syntax
+  pub rules : List Rule
+  pub known : (option : Text) → Known syntax rules option
+  pub from : AreFrom syntax rules syntax.places 1
+  pub unvalued : takes_value syntax (codes "journal") ≡ false
+  pub flag : syntax.journal ≡ true → arg_by_long rules (codes "journal") ≡ Some journal_built
+  pub passes : (xs : List Row) → defaults_fault xs rules ≡ []
+  pub ends : (xs : List Row) → fold with_default xs rules ≡ with_journal syntax.journal xs
+  pub check : (xs : List Row) → list_any (λ a. a.required && not (is_given a.id xs)) rules ≡ not (list_all (λ n. is_given n xs) (required_of syntax))
+  pub apart : list_any (bytes_eq (codes "journal")) (required_of syntax) ≡ false
 
 -- by whether a name is this key
-by_key : (key name : Text) → (key ≡ name → Known name) → (bytes_eq key name ≡ false → Known name) → Known name
-by_key key name same other =
+pub by_key : (P : Text → Type 0) (key name : Text) → (key ≡ name → P name) → (bytes_eq key name ≡ false → P name) → P name
+by_key P key name same other =
     elim (cases_Bool (bytes_eq key name)) [ inl is ↦ same ((bytes_eq-Decides key name).0 is) | inr is ↦ other is ]
 
-is_valued : (key name : Text) → IsValued key → key ≡ name → Known name
-is_valued key name facts e = subst (λ (n : Text). Known n) e (takes_one facts)
+pub is_valued : (s : Syntax) (rules : List Rule) (key name : Text) → IsValued s rules key → key ≡ name → Known s rules name
+is_valued s rules key name facts e = subst (λ (n : Text). Known s rules n) e (takes_one facts)
 
-pub known : (name : Text) → Known name
-known name =
-    by_key (codes "input") name (is_valued _ name valued_input) (λ a.
-    by_key (codes "faults") name (is_valued _ name valued_faults) (λ b.
-    by_key (codes "replicas") name (is_valued _ name valued_replicas) (λ d.
-    by_key (codes "drivers") name (is_valued _ name valued_drivers) (λ e.
-    by_key (codes "watchdog") name (is_valued _ name valued_watchdog) (λ f.
-    by_key (codes "quantum") name (is_valued _ name valued_quantum) (λ g.
-    by_key (codes "limit") name (is_valued _ name valued_limit) (λ h.
-    by_key (codes "journal") name (λ is. flagged is) (λ i. none_known name a b d e f g h i))))))))
+-- no option with a value has the name of a place that is left
+pub valued_apart : (s : Syntax) (rules : List Rule) (left : List Text) (place : ℕ) (name : Text) → AreFrom s rules left place → takes_value s name ≡ true
+    → list_any (bytes_eq name) left ≡ false
+valued_apart s rules [] place name from takes = refl
+valued_apart s rules (key ∷ left) place name from takes = elim (cases_Bool (bytes_eq name key)) [
+  | inl same ↦
+      let other : takes_value s name ≡ false = subst (λ (n : Text). takes_value s n ≡ false) (sym ((bytes_eq-Decides name key).0 same)) from.0.takes in
+      let bad : true ≡ false = sym takes ∙ other in cc
+  | inr differ ↦ rw differ (valued_apart s rules left (place + 1) name from.1 takes)
+]
+
+pub journal_apart : (s : Syntax) (rules : List Rule) (left : List Text) (place : ℕ) → AreFrom s rules left place
+    → list_any (bytes_eq (codes "journal")) left ≡ false
+journal_apart s rules [] place from = refl
+journal_apart s rules (key ∷ left) place from = rw from.0.journal (journal_apart s rules left (place + 1) from.1)

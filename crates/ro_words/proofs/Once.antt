@@ -11,10 +11,6 @@ use Rattle.ro_words.specs.Uses.{Text, Use, is_once, is_used}
 abbrev pub flag_text : Use → Bool
 flag_text u = not (bytes_eq u.0 (codes "journal")) || bytes_eq u.1 (codes "true")
 
--- a run has its executable, and each name at most once
-abbrev pub is_whole : List Use → Bool
-is_whole uses = is_once uses && is_used (codes "exe") uses
-
 pub or_true : (b : Bool) → (b || true) ≡ true
 or_true true = refl
 or_true false = refl

@@ -10,8 +10,8 @@ use Rattle.clap.specs.Lexer.{long_of}
 use Rattle.clap.specs.Values.{kind_of}
 use Rattle.clap.specs.Kinds.{HasKind, IsAmong, Kinds}
 use Rattle.clap.specs.declared.error.Error.{Error}
-use Rattle.ro_words.specs.Commands.{command_of, refusal_of, run_of}
-use Rattle.ro_words.specs.Uses.{Text, Use, is_argument, is_flag, is_word, option_uses, takes_value, uses_from, word_uses}
+use Rattle.ro_words.specs.Commands.{Spelling, asked_in_words, asked_of, command_of, refusal_of, spelling_of}
+use Rattle.ro_words.specs.Uses.{Syntax, Text, Use, is_argument, is_flag, is_word, option_uses, place_uses, takes_value, uses_from, word_uses}
 use Rattle.ro_words.specs.declared.commands.WordsError.{WordsError}
 use Rattle.ro_words.specs.declared.commands.WordsError.TheVariants.{NoMemory}
 use Rattle.ro_words.proofs.Once.{and_false}
@@ -19,39 +19,49 @@ use Rattle.ro_words.proofs.Once.{and_false}
 abbrev After : Type 0
 After = Option Text → Option (List Use)
 
+abbrev AfterPlaces : Type 0
+AfterPlaces = List Text → Option Text → Option (List Use)
+
 -- ---- where the words that follow are refused
 
-option_stops : (name : Text) (value : Option Text) (after : After) → ((w : Option Text) → after w ≡ None) → option_uses name value after ≡ None
-option_stops name None after none = elim (cases_Bool (takes_value name)) [
+option_stops : (s : Syntax) (name : Text) (value : Option Text) (after : After) → ((w : Option Text) → after w ≡ None) → option_uses s name value after ≡ None
+option_stops s name None after none = elim (cases_Bool (takes_value s name)) [
   | inl takes ↦ rw takes (none (Some name))
-  | inr other ↦ elim (cases_Bool (is_flag name)) [ inl flag ↦ rw (other, flag, none None) refl | inr unknown ↦ rw (other, unknown) refl ]
+  | inr other ↦ elim (cases_Bool (is_flag s name)) [ inl flag ↦ rw (other, flag, none None) refl | inr unknown ↦ rw (other, unknown) refl ]
 ]
-option_stops name (Some value) after none =
-    elim (cases_Bool (takes_value name && is_argument value)) [ inl takes ↦ rw (takes, none None) refl | inr other ↦ rw other refl ]
+option_stops s name (Some value) after none =
+    elim (cases_Bool (takes_value s name && is_argument value)) [ inl takes ↦ rw (takes, none None) refl | inr other ↦ rw other refl ]
 
-maybe_stops : (o : Option (Text × Option Text)) (after : After) → ((w : Option Text) → after w ≡ None)
-    → option_and_then (λ p. option_uses p.0 p.1 after) o ≡ None
-maybe_stops None after none = refl
-maybe_stops (Some p) after none = option_stops p.0 p.1 after none
+maybe_stops : (s : Syntax) (o : Option (Text × Option Text)) (after : After) → ((w : Option Text) → after w ≡ None)
+    → option_and_then (λ p. option_uses s p.0 p.1 after) o ≡ None
+maybe_stops s None after none = refl
+maybe_stops s (Some p) after none = option_stops s p.0 p.1 after none
 
-word_stops : (word : Text) (waiting : Option Text) (after : After) → ((w : Option Text) → after w ≡ None) → word_uses word waiting after ≡ None
-word_stops word None after none =
-    elim (cases_Bool (is_argument word)) [ inl plain ↦ rw (plain, none None) refl | inr other ↦ rw other (maybe_stops (long_of word) after none) ]
-word_stops word (Some name) after none =
-    elim (cases_Bool (is_argument word)) [ inl plain ↦ rw (plain, none None) refl | inr other ↦ rw other refl ]
+place_stops : (left : List Text) (word : Text) (after : List Text → Option (List Use)) → ((places : List Text) → after places ≡ None) → place_uses left word after ≡ None
+place_stops [] word after none = refl
+place_stops (place ∷ left) word after none = rw (none left) refl
+
+word_stops : (s : Syntax) (word : Text) (left : List Text) (waiting : Option Text) (after : AfterPlaces) → ((places : List Text) (w : Option Text) → after places w ≡ None)
+    → word_uses s word left waiting after ≡ None
+word_stops s word left None after none = elim (cases_Bool (is_argument word)) [
+  | inl plain ↦ rw plain (place_stops left word (λ places. after places None) (λ places. none places None))
+  | inr other ↦ rw other (maybe_stops s (long_of word) (after left) (none left))
+]
+word_stops s word left (Some name) after none =
+    elim (cases_Bool (is_argument word)) [ inl plain ↦ rw (plain, none left None) refl | inr other ↦ rw other refl ]
 
 -- ---- where the word itself is
 
 abbrev looks : Option (Text × Option Text) → Bool → Bool
 looks o plain = option_map_or (λ p. option_map_or is_argument p.1 true) o plain
 
-bad_option : (name : Text) (value : Option Text) (after : After) → option_map_or is_argument value true ≡ false → option_uses name value after ≡ None
-bad_option name None after bad = cc
-bad_option name (Some value) after bad = rw (bad, and_false (takes_value name)) refl
+bad_option : (s : Syntax) (name : Text) (value : Option Text) (after : After) → option_map_or is_argument value true ≡ false → option_uses s name value after ≡ None
+bad_option s name None after bad = cc
+bad_option s name (Some value) after bad = rw (bad, and_false (takes_value s name)) refl
 
-bad_maybe : (o : Option (Text × Option Text)) (after : After) → looks o false ≡ false → option_and_then (λ p. option_uses p.0 p.1 after) o ≡ None
-bad_maybe None after bad = refl
-bad_maybe (Some p) after bad = bad_option p.0 p.1 after bad
+bad_maybe : (s : Syntax) (o : Option (Text × Option Text)) (after : After) → looks o false ≡ false → option_and_then (λ p. option_uses s p.0 p.1 after) o ≡ None
+bad_maybe s None after bad = refl
+bad_maybe s (Some p) after bad = bad_option s p.0 p.1 after bad
 
 -- an argument is no option
 plain_long : (word : Text) → is_argument word ≡ true → long_of word ≡ None
@@ -69,35 +79,48 @@ bad_is_no_argument word bad = elim (cases_Bool (is_argument word)) [
   | inr other ↦ other
 ]
 
-bad_word : (word : Text) (waiting : Option Text) (after : After) → is_word word ≡ false → word_uses word waiting after ≡ None
-bad_word word None after bad =
+bad_word : (s : Syntax) (word : Text) (left : List Text) (waiting : Option Text) (after : AfterPlaces) → is_word word ≡ false → word_uses s word left waiting after ≡ None
+bad_word s word left None after bad =
     let other = bad_is_no_argument word bad in
-    rw other (bad_maybe (long_of word) after (sym (ap (looks (long_of word)) other) ∙ bad))
-bad_word word (Some name) after bad = rw (bad_is_no_argument word bad) refl
+    rw other (bad_maybe s (long_of word) (after left) (sym (ap (looks (long_of word)) other) ∙ bad))
+bad_word s word left (Some name) after bad = rw (bad_is_no_argument word bad) refl
 
 -- ---- all words
 
-bad_words : (words : List Text) (waiting : Option Text) → list_all is_word words ≡ false → uses_from words waiting ≡ None
-bad_words [] waiting bad = cc
-bad_words (word ∷ words) waiting bad = elim (cases_Bool (is_word word)) [
+bad_words : (s : Syntax) (words : List Text) (left : List Text) (waiting : Option Text) → list_all is_word words ≡ false → uses_from s words left waiting ≡ None
+bad_words s [] left waiting bad = cc
+bad_words s (word ∷ words) left waiting bad = elim (cases_Bool (is_word word)) [
   | inl good ↦
       let rest : list_all is_word words ≡ false = rw good at bad in
-      word_stops word waiting (λ next. uses_from words next) (λ w. bad_words words w rest)
-  | inr ill ↦ bad_word word waiting (λ next. uses_from words next) ill
+      word_stops s word left waiting (λ places next. uses_from s words places next) (λ places w. bad_words s words places w rest)
+  | inr ill ↦ bad_word s word left waiting (λ places next. uses_from s words places next) ill
 ]
 
-run_refused : (program command : Text) (words : List Text) → command ≡ codes "run" → (is_word command && list_all is_word words) ≡ false
-    → command_of (program ∷ command ∷ words) ≡ None
-run_refused program command words is bad =
-    let rest : list_all is_word words ≡ false = subst (λ (c : Text). (is_word c && list_all is_word words) ≡ false) is bad in
-    subst (λ (c : Text). command_of (program ∷ c ∷ words) ≡ None) (sym is) (ap (option_and_then run_of) (bad_words words None rest))
+-- words of which one is bad ask for nothing
+bad_asked : (words : List Text) → list_all is_word words ≡ false → (found : Option Spelling) → option_and_then (λ s. asked_in_words s words) found ≡ None
+bad_asked words bad None = refl
+bad_asked words bad (Some s) = ap (option_and_then (asked_of s)) (bad_words s.syntax words s.syntax.places None bad)
+
+-- nor does a bad name of a command
+bad_command : (command : Text) → is_word command ≡ false → spelling_of command ≡ None
+bad_command command bad =
+    let other : (key : Text) → is_word key ≡ true → bytes_eq key command ≡ false = λ key good. elim (cases_Bool (bytes_eq key command)) [
+      | inl same ↦ let ill : true ≡ false = sym good ∙ subst (λ (c : Text). is_word c ≡ false) (sym ((bytes_eq-Decides key command).0 same)) bad in cc
+      | inr differ ↦ differ
+    ] in
+    rw (other (codes "run") refl, other (codes "plain") refl) refl
 
 pub refused : (words : List Text) → list_all is_word (drop 1 words) ≡ false → command_of words ≡ None
 refused [] bad = refl
 refused (program ∷ []) bad = refl
-refused (program ∷ command ∷ words) bad = elim (cases_Bool (bytes_eq command (codes "run"))) [
-  | inl same ↦ run_refused program command words ((bytes_eq-Decides command (codes "run")).0 same) bad
-  | inr other ↦ rw other refl
+refused (program ∷ command ∷ words) bad = elim (cases_Bool (list_all is_word words)) [
+  | inl good ↦
+      let ill : is_word command ≡ false = elim (cases_Bool (is_word command)) [
+        | inl fine ↦ let wrong : true ≡ false = rw (fine, good) at bad in cc
+        | inr ill ↦ ill
+      ] in
+      ap (option_and_then (λ (s : Spelling). asked_in_words s words)) (bad_command command ill)
+  | inr ill ↦ bad_asked words ill (spelling_of command)
 ]
 
 -- ---- what a parse that failed says

@@ -1,11 +1,11 @@
--- The arguments of `run` as `clap` builds them, and how it finds each.
-use Rattle.std.proofs.Common.{◌≡◌, ℕ, Bool, true, false, List, [], ◌∷◌, Option, Some, None, refl, codes}
-use Rattle.clap.specs.Walk.{Rule, Text, arg_by_id, arg_by_index, arg_by_long}
-use Rattle.clap.specs.Simple.{Shape, built, filled_from, is_simple, new_rule}
+-- The arguments of a command as `clap` builds them.
+use Rattle.std.proofs.Common.{◌≡◌, ℕ, Bool, true, false, List, [], ◌∷◌, ◌++◌, Option, Some, None, refl, codes}
+use Rattle.clap.specs.Walk.{Rule, Text}
+use Rattle.clap.specs.Simple.{Shape, is_simple, new_rule, new_shape}
 use Rattle.clap.specs.Faults.{is_simple_and_free}
 use Rattle.clap.specs.declared.builder.action.ArgAction.TheVariants.{Set, SetTrue}
 use Rattle.clap.specs.declared.builder.value_parser.ValueParser.TheVariants as vp
-use Rattle.ro_words.specs.Grammar.{romain_app, run_rules, run_shape}
+use Rattle.ro_words.specs.Grammar.{romain_app}
 
 -- an argument with one value of any text
 abbrev pub value_rule : Text → Option Text → Option ℕ → Bool → Rule
@@ -18,11 +18,13 @@ value_rule name long index required = record (new_rule name) {
   required = required;
 }
 
-abbrev pub exe_built : Rule
-exe_built = value_rule (codes "exe") None (Some 1) true
+-- an argument without an option's name, by its place
+abbrev pub place_built : Text → ℕ → Rule
+place_built name index = value_rule name None (Some index) true
 
-abbrev pub option_built : Text → Rule
-option_built name = value_rule name (Some name) None false
+-- an option
+abbrev pub option_built : Text → (required : Bool) → Rule
+option_built name required = value_rule name (Some name) None required
 
 abbrev pub journal_built : Rule
 journal_built = record (new_rule (codes "journal")) {
@@ -34,50 +36,28 @@ journal_built = record (new_rule (codes "journal")) {
   parser = Some vp.Bool;
 }
 
-unfoldable pub built_rules : List Rule
-built_rules = exe_built ∷ option_built (codes "input") ∷ option_built (codes "faults")
-    ∷ option_built (codes "replicas") ∷ option_built (codes "drivers") ∷ option_built (codes "watchdog")
-    ∷ option_built (codes "quantum") ∷ option_built (codes "limit") ∷ journal_built ∷ []
+unfoldable pub run_values : List Rule
+run_values = place_built (codes "exe") 1 ∷ option_built (codes "input") false ∷ option_built (codes "faults") false
+    ∷ option_built (codes "replicas") false ∷ option_built (codes "drivers") false ∷ option_built (codes "watchdog") false
+    ∷ option_built (codes "quantum") false ∷ option_built (codes "limit") false ∷ []
 
-pub rules_are : filled_from 1 run_rules ≡ built_rules
-unfolding built_rules
-rules_are = refl
+unfoldable pub run_built : List Rule
+run_built = run_values ++ journal_built ∷ []
 
--- `run` as it is built
-abbrev pub leaf : Shape
-leaf = record run_shape {
-  rules = built_rules;
+unfoldable pub plan_built : List Rule
+plan_built = place_built (codes "exe") 1 ∷ option_built (codes "plan") true ∷ option_built (codes "input") false ∷ []
+
+-- a command as it is built
+abbrev pub leaf : Text → List Rule → Shape
+leaf name rules = record (new_shape name) {
+  rules = rules;
   disable_help_flag = true;
   disable_help_subcommand = true;
   is_built = true;
 }
-
-pub leaf_is : (built romain_app).subs ≡ leaf ∷ []
-unfolding built_rules
-leaf_is = refl
 
 pub is_plain : is_simple romain_app ≡ true
 is_plain = refl
 
 pub is_plain_and_free : is_simple_and_free romain_app ≡ true
 is_plain_and_free = refl
-
-pub exe_at : arg_by_index built_rules 1 ≡ Some exe_built
-unfolding built_rules
-exe_at = refl
-
-pub none_at : arg_by_index built_rules 2 ≡ None
-unfolding built_rules
-none_at = refl
-
-pub exe_by_id : arg_by_id built_rules (codes "exe") ≡ Some exe_built
-unfolding built_rules
-exe_by_id = refl
-
-pub journal_by_id : arg_by_id built_rules (codes "journal") ≡ Some journal_built
-unfolding built_rules
-journal_by_id = refl
-
-pub journal_by_long : arg_by_long built_rules (codes "journal") ≡ Some journal_built
-unfolding built_rules
-journal_by_long = refl

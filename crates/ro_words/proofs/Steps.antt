@@ -1,34 +1,18 @@
--- One word of the walk that `clap` makes over the words behind `run`.
-use Rattle.std.proofs.Common.{◌≡◌, ℕ, false, ◌==◌, List, [], ◌∷◌, Option, Some, None, refl, codes, inl, inr}
+-- One word of the walk that `clap` makes over the words behind a command's name.
+use Rattle.std.proofs.Common.{◌≡◌, ℕ, ◌+◌, true, false, ◌==◌, List, [], ◌∷◌, Option, Some, None, refl, codes, inl, inr}
 use Rattle.std.specs.Prelude.{fold}
 use Rattle.std.proofs.lemmas.Bool.{cases_Bool}
 use Rattle.std.proofs.lemmas.Slice.Eq.{bytes_eq-Decides}
 use Rattle.clap.specs.Lexer.{name_and_value, short_of}
-use Rattle.clap.specs.Walk.{Held, Row, Text, Waiting, Walk, after_step, arg_by_long, finished, idle, is_pending, long_word, nothing_held, option, pushed, reacted, settled, walked}
+use Rattle.clap.specs.Walk.{Held, Row, Text, Waiting, Walk, after_step, arg_by_index, arg_by_long, finished, idle, is_pending, long_word, nothing_held, option, pushed, reacted, settled, walked}
 use Rattle.clap.specs.Faults.{check_fault, defaults_fault, level_fault, long_fault, settle_fault, step_fault, turn_fault, use_fault, walk_fault}
 use Rattle.clap.specs.Kinds.{Kinds, or_else}
 use Rattle.clap.specs.declared.error.kind.ErrorKind.TheVariants as kind
-use Rattle.ro_words.proofs.Names.{IsValued}
-use Rattle.ro_words.proofs.Rules.{built_rules, exe_at, exe_built, journal_built, journal_by_long, leaf, none_at, option_built}
+use Rattle.ro_words.proofs.Names.{Grammar, IsPlace, IsValued}
+use Rattle.ro_words.proofs.Rules.{journal_built, leaf, option_built, place_built}
 
 abbrev pub at : Waiting → ℕ → Held → Walk
 at waiting position h = record { held = h; waiting = waiting; position = position; is_trailing = false; stopped = None }
-
--- what fails after the walk
-abbrev pub after_fault : Held → Kinds
-after_fault h = or_else (settle_fault built_rules false h)
-    (or_else (defaults_fault (settled built_rules h).rows built_rules) (check_fault leaf (finished built_rules h) false))
-
--- what fails from here on
-abbrev pub tail_fault : Walk → List Text → Kinds
-tail_fault w words = or_else (walk_fault leaf [] w words) (after_fault (fold (walked built_rules []) w words).held)
-
--- the rows at the end of the walk from here
-abbrev pub end_rows : Walk → List Text → List Row
-end_rows w words = finished built_rules (fold (walked built_rules []) w words).held
-
-pub level_is : (words : List Text) → level_fault leaf [] nothing_held words false [] ≡ tail_fault (at idle 1 nothing_held) words
-level_is words = refl
 
 pub or_else-assoc : (a b c : Kinds) → or_else (or_else a b) c ≡ or_else a (or_else b c)
 or_else-assoc [] b c = refl
@@ -38,115 +22,133 @@ pub or_else-nil : (a : Kinds) → or_else a [] ≡ a
 or_else-nil [] = refl
 or_else-nil (k ∷ ks) = refl
 
-pub tail_more : (w : Walk) (word : Text) (words : List Text)
-    → tail_fault w (word ∷ words) ≡ or_else (turn_fault leaf [] w word) (tail_fault (walked built_rules [] w word) words)
-unfolding walk_fault
-tail_more w word words = or_else-assoc (turn_fault leaf [] w word) _ _
-
-pub tail_end : (w : Walk) → tail_fault w [] ≡ after_fault w.held
-unfolding walk_fault
-tail_end w = refl
-
--- ---- a word that begins with no `-`
-
+-- a word that begins with no `-`
 pub short_none : (x : ℕ) (xs : Text) → (x == 45) ≡ false → short_of (x ∷ xs) ≡ None
 short_none x xs plain = rw plain refl
 
-pub exe_turn : (h : Held) (x : ℕ) (xs : Text) → (x == 45) ≡ false
-    → turn_fault leaf [] (at idle 1 h) (x ∷ xs) ≡ settle_fault built_rules false h
-exe_turn h x xs plain = elim (cases_Bool (is_pending exe_built h.pending)) [
-  | inl some ↦ rw (plain, short_none x xs plain, exe_at, some) refl
-  | inr none ↦ rw (plain, short_none x xs plain, exe_at, none) refl
-]
+module _ (g : Grammar) where
+  -- what fails after the walk
+  abbrev pub after_fault : Held → Kinds
+  after_fault h = or_else (settle_fault g.rules false h)
+      (or_else (defaults_fault (settled g.rules h).rows g.rules) (check_fault (leaf g.name g.rules) (finished g.rules h) false))
 
-pub exe_walked : (h : Held) (x : ℕ) (xs : Text) → (x == 45) ≡ false
-    → walked built_rules [] (at idle 1 h) (x ∷ xs) ≡ at idle 2 (pushed (codes "exe") (x ∷ xs) (settled built_rules h))
-unfolding walked
-exe_walked h x xs plain = elim (cases_Bool (is_pending exe_built h.pending)) [
-  | inl some ↦ rw (plain, short_none x xs plain, exe_at, some) refl
-  | inr none ↦ rw (plain, short_none x xs plain, exe_at, none) refl
-]
+  -- what fails from here on
+  abbrev pub tail_fault : Walk → List Text → Kinds
+  tail_fault w words = or_else (walk_fault (leaf g.name g.rules) [] w words) (after_fault (fold (walked g.rules []) w words).held)
 
-pub stray_turn : (h : Held) (x : ℕ) (xs : Text) → (x == 45) ≡ false
-    → turn_fault leaf [] (at idle 2 h) (x ∷ xs) ≡ kind.UnknownArgument ∷ []
-stray_turn h x xs plain = rw (plain, short_none x xs plain, none_at) refl
+  -- the rows at the end of the walk from here
+  abbrev pub end_rows : Walk → List Text → List Row
+  end_rows w words = finished g.rules (fold (walked g.rules []) w words).held
 
-pub value_turn : (name : Text) (p : ℕ) (h : Held) (x : ℕ) (xs : Text) → (x == 45) ≡ false
-    → turn_fault leaf [] (at (option name) p h) (x ∷ xs) ≡ []
-value_turn name p h x xs plain = rw (plain, short_none x xs plain) refl
+  pub level_is : (words : List Text) → level_fault (leaf g.name g.rules) [] nothing_held words false [] ≡ tail_fault (at idle 1 nothing_held) words
+  level_is words = refl
 
-pub value_walked : (name : Text) (p : ℕ) (h : Held) (x : ℕ) (xs : Text) → IsValued name → (x == 45) ≡ false
-    → h.pending ≡ Some (name, [])
-    → walked built_rules [] (at (option name) p h) (x ∷ xs) ≡ at idle p (record h { pending = Some (name, (x ∷ xs) ∷ []) })
-unfolding walked
-value_walked name p h x xs valued plain pending =
-    rw (plain, short_none x xs plain, valued.by_id, pending, (bytes_eq-Decides name name).1 refl) refl
+  pub tail_more : (w : Walk) (word : Text) (words : List Text)
+      → tail_fault w (word ∷ words) ≡ or_else (turn_fault (leaf g.name g.rules) [] w word) (tail_fault (walked g.rules [] w word) words)
+  unfolding walk_fault
+  tail_more w word words = or_else-assoc (turn_fault (leaf g.name g.rules) [] w word) _ _
 
--- ---- `--name` and `--name=value`
+  pub tail_end : (w : Walk) → tail_fault w [] ≡ after_fault w.held
+  unfolding walk_fault
+  tail_end w = refl
 
-abbrev name_in : ℕ → Text → Text
-name_in y ys = (name_and_value (y ∷ ys)).0
+  -- ---- a word that begins with no `-`
 
-abbrev value_in : ℕ → Text → Option Text
-value_in y ys = (name_and_value (y ∷ ys)).1
+  pub place_turn : (p : ℕ) (h : Held) (x : ℕ) (xs : Text) (name : Text) (left : List Text) → (x == 45) ≡ false → IsPlace g.syntax g.rules name p left
+      → turn_fault (leaf g.name g.rules) [] (at idle p h) (x ∷ xs) ≡ settle_fault g.rules false h
+  place_turn p h x xs name left plain place = elim (cases_Bool (is_pending (place_built name p) h.pending)) [
+    | inl some ↦ rw (plain, short_none x xs plain, place.by_index, some) refl
+    | inr none ↦ rw (plain, short_none x xs plain, place.by_index, none) refl
+  ]
 
--- what fails at such a word
-abbrev pub option_fault_at : ℕ → Waiting → Text → Text → Option Text → Held → Kinds
-option_fault_at p waiting word name value h = or_else (long_fault built_rules false (arg_by_long built_rules name) value h)
-    (step_fault leaf p (long_word built_rules waiting word name value h).0 (long_word built_rules waiting word name value h).1)
+  pub place_walked : (p : ℕ) (h : Held) (x : ℕ) (xs : Text) (name : Text) (left : List Text) → (x == 45) ≡ false → IsPlace g.syntax g.rules name p left
+      → walked g.rules [] (at idle p h) (x ∷ xs) ≡ at idle (p + 1) (pushed name (x ∷ xs) (settled g.rules h))
+  unfolding walked
+  place_walked p h x xs name left plain place = elim (cases_Bool (is_pending (place_built name p) h.pending)) [
+    | inl some ↦ rw (plain, short_none x xs plain, place.by_index, some, place.next) refl
+    | inr none ↦ rw (plain, short_none x xs plain, place.by_index, none, place.next) refl
+  ]
 
-abbrev pub option_walked_at : ℕ → Waiting → Text → Text → Option Text → Held → Walk
-option_walked_at p waiting word name value h = after_step built_rules word (at waiting p h)
-    (long_word built_rules waiting word name value h).0 (long_word built_rules waiting word name value h).1
+  pub stray_turn : (p : ℕ) (h : Held) (x : ℕ) (xs : Text) → (x == 45) ≡ false → arg_by_index g.rules p ≡ None
+      → turn_fault (leaf g.name g.rules) [] (at idle p h) (x ∷ xs) ≡ kind.UnknownArgument ∷ []
+  stray_turn p h x xs plain none = rw (plain, short_none x xs plain, none) refl
 
-pub option_turn : (p : ℕ) (h : Held) (y : ℕ) (ys : Text) → turn_fault leaf [] (at idle p h) (45 ∷ 45 ∷ y ∷ ys)
-    ≡ option_fault_at p idle (45 ∷ 45 ∷ y ∷ ys) (name_in y ys) (value_in y ys) h
-option_turn p h y ys = refl
+  pub value_turn : (name : Text) (p : ℕ) (h : Held) (x : ℕ) (xs : Text) → (x == 45) ≡ false
+      → turn_fault (leaf g.name g.rules) [] (at (option name) p h) (x ∷ xs) ≡ []
+  value_turn name p h x xs plain = rw (plain, short_none x xs plain) refl
 
-pub option_after_turn : (waiting : Text) (p : ℕ) (h : Held) (y : ℕ) (ys : Text)
-    → turn_fault leaf [] (at (option waiting) p h) (45 ∷ 45 ∷ y ∷ ys)
-    ≡ option_fault_at p (option waiting) (45 ∷ 45 ∷ y ∷ ys) (name_in y ys) (value_in y ys) h
-option_after_turn waiting p h y ys = refl
+  pub value_walked : (name : Text) (p : ℕ) (h : Held) (x : ℕ) (xs : Text) → IsValued g.syntax g.rules name → (x == 45) ≡ false
+      → h.pending ≡ Some (name, [])
+      → walked g.rules [] (at (option name) p h) (x ∷ xs) ≡ at idle p (record h { pending = Some (name, (x ∷ xs) ∷ []) })
+  unfolding walked
+  value_walked name p h x xs valued plain pending =
+      rw (plain, short_none x xs plain, valued.by_id, pending, (bytes_eq-Decides name name).1 refl) refl
 
-pub option_walked : (p : ℕ) (h : Held) (y : ℕ) (ys : Text) → walked built_rules [] (at idle p h) (45 ∷ 45 ∷ y ∷ ys)
-    ≡ option_walked_at p idle (45 ∷ 45 ∷ y ∷ ys) (name_in y ys) (value_in y ys) h
-unfolding walked
-option_walked p h y ys = refl
+  -- ---- `--name` and `--name=value`
 
--- the argument is unknown
-pub unknown_fault : (p : ℕ) (waiting : Waiting) (word name : Text) (value : Option Text) (h : Held)
-    → arg_by_long built_rules name ≡ None → option_fault_at p waiting word name value h ≡ kind.UnknownArgument ∷ []
-unknown_fault p waiting word name value h unknown = rw unknown refl
+  abbrev name_in : ℕ → Text → Text
+  name_in y ys = (name_and_value (y ∷ ys)).0
 
--- an option with its value
-pub valued_fault : (p : ℕ) (waiting : Waiting) (word name value : Text) (h : Held) → IsValued name
-    → option_fault_at p waiting word name (Some value) h
-    ≡ or_else (settle_fault built_rules false h) (use_fault false (option_built name) (value ∷ []) (settled built_rules h).rows)
-valued_fault p waiting word name value h valued = rw valued.by_long (or_else-nil _)
+  abbrev value_in : ℕ → Text → Option Text
+  value_in y ys = (name_and_value (y ∷ ys)).1
 
-pub valued_walked : (p : ℕ) (word name value : Text) (h : Held) → IsValued name
-    → option_walked_at p idle word name (Some value) h ≡ at idle p (reacted built_rules (option_built name) (value ∷ []) h)
-valued_walked p word name value h valued = rw valued.by_long refl
+  -- what fails at such a word
+  abbrev pub option_fault_at : ℕ → Waiting → Text → Text → Option Text → Held → Kinds
+  option_fault_at p waiting word name value h = or_else (long_fault g.rules false (arg_by_long g.rules name) value h)
+      (step_fault (leaf g.name g.rules) p (long_word g.rules waiting word name value h).0 (long_word g.rules waiting word name value h).1)
 
--- an option whose value follows
-pub waiting_fault : (p : ℕ) (waiting : Waiting) (word name : Text) (h : Held) → IsValued name
-    → option_fault_at p waiting word name None h ≡ settle_fault built_rules false h
-waiting_fault p waiting word name h valued = rw valued.by_long (or_else-nil _)
+  abbrev pub option_walked_at : ℕ → Waiting → Text → Text → Option Text → Held → Walk
+  option_walked_at p waiting word name value h = after_step g.rules word (at waiting p h)
+      (long_word g.rules waiting word name value h).0 (long_word g.rules waiting word name value h).1
 
-pub waiting_walked : (p : ℕ) (word name : Text) (h : Held) → IsValued name
-    → option_walked_at p idle word name None h ≡ at (option name) p (record (settled built_rules h) { pending = Some (name, []) })
-waiting_walked p word name h valued = rw valued.by_long refl
+  pub option_turn : (p : ℕ) (h : Held) (y : ℕ) (ys : Text) → turn_fault (leaf g.name g.rules) [] (at idle p h) (45 ∷ 45 ∷ y ∷ ys)
+      ≡ option_fault_at p idle (45 ∷ 45 ∷ y ∷ ys) (name_in y ys) (value_in y ys) h
+  option_turn p h y ys = refl
 
--- the flag
-pub flag_fault : (p : ℕ) (waiting : Waiting) (word : Text) (h : Held)
-    → option_fault_at p waiting word (codes "journal") None h
-    ≡ or_else (settle_fault built_rules false h) (use_fault false journal_built [] (settled built_rules h).rows)
-flag_fault p waiting word h = rw journal_by_long (or_else-nil _)
+  pub option_after_turn : (waiting : Text) (p : ℕ) (h : Held) (y : ℕ) (ys : Text)
+      → turn_fault (leaf g.name g.rules) [] (at (option waiting) p h) (45 ∷ 45 ∷ y ∷ ys)
+      ≡ option_fault_at p (option waiting) (45 ∷ 45 ∷ y ∷ ys) (name_in y ys) (value_in y ys) h
+  option_after_turn waiting p h y ys = refl
 
-pub flag_walked : (p : ℕ) (word : Text) (h : Held)
-    → option_walked_at p idle word (codes "journal") None h ≡ at idle p (reacted built_rules journal_built [] h)
-flag_walked p word h = rw journal_by_long refl
+  pub option_walked : (p : ℕ) (h : Held) (y : ℕ) (ys : Text) → walked g.rules [] (at idle p h) (45 ∷ 45 ∷ y ∷ ys)
+      ≡ option_walked_at p idle (45 ∷ 45 ∷ y ∷ ys) (name_in y ys) (value_in y ys) h
+  unfolding walked
+  option_walked p h y ys = refl
 
-pub flag_value_fault : (p : ℕ) (waiting : Waiting) (word value : Text) (h : Held)
-    → option_fault_at p waiting word (codes "journal") (Some value) h ≡ kind.TooManyValues ∷ []
-flag_value_fault p waiting word value h = rw journal_by_long refl
+  -- the argument is unknown
+  pub unknown_fault : (p : ℕ) (waiting : Waiting) (word name : Text) (value : Option Text) (h : Held)
+      → arg_by_long g.rules name ≡ None → option_fault_at p waiting word name value h ≡ kind.UnknownArgument ∷ []
+  unknown_fault p waiting word name value h unknown = rw unknown refl
+
+  -- an option with its value
+  pub valued_fault : (p : ℕ) (waiting : Waiting) (word name value : Text) (h : Held) (valued : IsValued g.syntax g.rules name)
+      → option_fault_at p waiting word name (Some value) h
+      ≡ or_else (settle_fault g.rules false h) (use_fault false (option_built name valued.required) (value ∷ []) (settled g.rules h).rows)
+  valued_fault p waiting word name value h valued = rw valued.by_long (or_else-nil _)
+
+  pub valued_walked : (p : ℕ) (word name value : Text) (h : Held) (valued : IsValued g.syntax g.rules name)
+      → option_walked_at p idle word name (Some value) h ≡ at idle p (reacted g.rules (option_built name valued.required) (value ∷ []) h)
+  valued_walked p word name value h valued = rw valued.by_long refl
+
+  -- an option whose value follows
+  pub waiting_fault : (p : ℕ) (waiting : Waiting) (word name : Text) (h : Held) → IsValued g.syntax g.rules name
+      → option_fault_at p waiting word name None h ≡ settle_fault g.rules false h
+  waiting_fault p waiting word name h valued = rw valued.by_long (or_else-nil _)
+
+  pub waiting_walked : (p : ℕ) (word name : Text) (h : Held) → IsValued g.syntax g.rules name
+      → option_walked_at p idle word name None h ≡ at (option name) p (record (settled g.rules h) { pending = Some (name, []) })
+  waiting_walked p word name h valued = rw valued.by_long refl
+
+  -- the flag
+  pub flag_fault : (may : g.syntax.journal ≡ true) (p : ℕ) (waiting : Waiting) (word : Text) (h : Held)
+      → option_fault_at p waiting word (codes "journal") None h
+      ≡ or_else (settle_fault g.rules false h) (use_fault false journal_built [] (settled g.rules h).rows)
+  flag_fault may p waiting word h = rw (g.flag may) (or_else-nil _)
+
+  pub flag_walked : (may : g.syntax.journal ≡ true) (p : ℕ) (word : Text) (h : Held)
+      → option_walked_at p idle word (codes "journal") None h ≡ at idle p (reacted g.rules journal_built [] h)
+  flag_walked may p word h = rw (g.flag may) refl
+
+  pub flag_value_fault : (may : g.syntax.journal ≡ true) (p : ℕ) (waiting : Waiting) (word value : Text) (h : Held)
+      → option_fault_at p waiting word (codes "journal") (Some value) h ≡ kind.TooManyValues ∷ []
+  flag_value_fault may p waiting word value h = rw (g.flag may) refl

@@ -1,14 +1,17 @@
--- The command that words spell: `run EXE` with its options anywhere behind `run`, each at most once.
-use Rattle.std.specs.Prelude.{ℕ, ◌-◌, ◌^◌, Bool, false, List, ◌∷◌, Option, Some, None, codes}
-use Rattle.std.specs.Prelude.{if◌then◌else◌, option_and_then, option_map}
+-- The command that words spell: its name, then its arguments in their order, with its options anywhere among them, each at most
+-- once.
+use Rattle.std.specs.Prelude.{ℕ, ◌-◌, ◌^◌, Bool, true, false, List, [], ◌∷◌, Option, Some, None, codes}
+use Rattle.std.specs.Prelude.{if◌then◌else◌, option_and_then, option_map, find}
+use denote.Bor.{Bor}
 use Rattle.std.specs.Str.{bytes_eq}
 use Rattle.std.specs.Str.Parse.{digits_value, without_leading_plus}
 use Rattle.clap.specs.ValueTests.{is_unsigned_in}
 use Rattle.ro_settings.specs.declared.Settings.{Settings}
-use Rattle.ro_settings.specs.Ranges.{default_settings}
-use Rattle.ro_words.specs.Uses.{Text, Use, is_once, is_used, text_of, uses_from}
+use Rattle.ro_settings.specs.Ranges.{InRange, default_settings}
+use Rattle.ro_words.specs.Uses.{Text, Use, Syntax, is_used, is_whole, text_of, uses_from}
 use Rattle.ro_words.specs.declared.commands.Command.{Command}
-use Rattle.ro_words.specs.declared.commands.Command.TheVariants.{Run}
+use Rattle.ro_words.specs.declared.commands.Command.TheVariants.{Run, Plain}
+use Rattle.ro_words.specs.declared.commands.PlainCommand.{PlainCommand}
 use Rattle.ro_words.specs.declared.commands.RunCommand.{RunCommand}
 use Rattle.ro_words.specs.declared.commands.WordsError.{WordsError}
 use Rattle.ro_words.specs.declared.commands.WordsError.TheVariants.{Bad, NoMemory}
@@ -58,15 +61,26 @@ unranged given = settings_from
 -- ---- commands
 
 -- a run that is asked for
-pub record Asked : Type 0 where
+pub record AskedRun : Type 0 where
   pub executable : Text
   pub input : Option Text
   pub faults : Option Text
   pub settings : Settings
   pub journal : Bool
 
+-- the plan of a journal that is to be run on the unreplicated machine
+pub record AskedPlain : Type 0 where
+  pub executable : Text
+  pub plan : Text
+  pub input : Option Text
+
+-- what is asked for
+pub data Asked : Type 0 where
+  to_run : AskedRun → Asked
+  to_plain : AskedPlain → Asked
+
 -- the run of an executable for which nothing else is asked
-abbrev pub usual_run : Text → Asked
+abbrev pub usual_run : Text → AskedRun
 usual_run executable = record {
   executable = executable;
   input = None;
@@ -75,48 +89,101 @@ usual_run executable = record {
   journal = false;
 }
 
-abbrev pub asked_from : Option Text → Option Settings → (Text → Option Text) → Bool → Option Asked
-asked_from (Some executable) (Some settings) given journal = Some (record {
+-- ---- what each asks for, from the texts that are given under the names, and whether `--journal` is
+
+abbrev pub run_from : Option Text → Option Settings → (Text → Option Text) → Bool → Option Asked
+run_from (Some executable) (Some settings) given journal = Some (to_run (record {
   executable = executable;
   input = given (codes "input");
   faults = given (codes "faults");
   settings = settings;
   journal = journal;
-})
-asked_from _ _ given journal = None
+}))
+run_from _ _ given journal = None
 
--- the run, from the texts that are given under the names
-abbrev pub asked_given : (Text → Option Text) → Bool → Option Asked
-asked_given given journal = asked_from (given (codes "exe")) (settings_of given) given journal
+abbrev pub run_given : (Text → Option Text) → Bool → Option Asked
+run_given given journal = run_from (given (codes "exe")) (settings_of given) given journal
 
--- the run that the uses ask for
-abbrev pub asked_of : List Use → Option Asked
-asked_of uses = asked_given (text_of uses) (is_used (codes "journal") uses)
+abbrev pub plain_from : Option Text → Option Text → Option Text → Option Asked
+plain_from (Some executable) (Some plan) input = Some (to_plain (record { executable = executable; plan = plan; input = input }))
+plain_from _ _ input = None
 
-abbrev pub run_of : List Use → Option Asked
-run_of uses = if is_once uses then asked_of uses else None
+abbrev pub plain_given : (Text → Option Text) → Bool → Option Asked
+plain_given given journal = plain_from (given (codes "exe")) (given (codes "plan")) (given (codes "input"))
+
+-- ---- how each is spelled
+
+-- a command's name, what may stand behind it, and what it asks for
+pub record Spelling : Type 0 where
+  pub name : Text
+  pub syntax : Syntax
+  pub given : (Text → Option Text) → Bool → Option Asked
+
+abbrev pub run_syntax : Syntax
+run_syntax = record {
+  places = codes "exe" ∷ [];
+  needed = [];
+  valued = codes "input" ∷ codes "faults" ∷ codes "replicas" ∷ codes "drivers" ∷ codes "watchdog" ∷ codes "quantum"
+      ∷ codes "limit" ∷ [];
+  journal = true;
+}
+
+-- an executable and a journal whose plan it is to follow
+abbrev pub plan_syntax : Syntax
+plan_syntax = record { places = codes "exe" ∷ []; needed = codes "plan" ∷ []; valued = codes "input" ∷ []; journal = false }
+
+abbrev pub run_spelling : Spelling
+run_spelling = record { name = codes "run"; syntax = run_syntax; given = run_given }
+
+abbrev pub plain_spelling : Spelling
+plain_spelling = record { name = codes "plain"; syntax = plan_syntax; given = plain_given }
+
+abbrev pub spellings : List Spelling
+spellings = run_spelling ∷ plain_spelling ∷ []
+
+-- what the uses ask for, where they are whole
+abbrev pub asked_of : Spelling → List Use → Option Asked
+asked_of s uses = if is_whole s.syntax uses then s.given (text_of uses) (is_used (codes "journal") uses) else None
+
+-- what the words behind the command's name ask for
+abbrev pub asked_in_words : Spelling → List Text → Option Asked
+asked_in_words s words = option_and_then (asked_of s) (uses_from s.syntax words s.syntax.places None)
+
+-- the command of this name
+abbrev pub spelling_of : Text → Option Spelling
+spelling_of command = find (λ s. bytes_eq s.name command) spellings
 
 -- the command that the words spell, of which the first is the program's name
 abbrev pub command_of : List Text → Option Asked
-command_of (program ∷ command ∷ words) =
-    if bytes_eq command (codes "run") then option_and_then run_of (uses_from words None) else None
+command_of (program ∷ command ∷ words) = option_and_then (λ s. asked_in_words s words) (spelling_of command)
 command_of words = None
 
--- what a command of the code asks for
-abbrev pub asked_by : RunCommand → Asked
-asked_by run = record {
+-- ---- the commands of the code
+
+abbrev pub text_in : Option (Bor Text) → Option Text
+text_in = option_map (λ name. name.now)
+
+abbrev pub run_by : RunCommand → AskedRun
+run_by run = record {
   executable = run.executable.now;
-  input = option_map (λ name. name.now) run.input;
-  faults = option_map (λ name. name.now) run.faults;
+  input = text_in run.input;
+  faults = text_in run.faults;
   settings = run.settings;
   journal = run.journal;
 }
 
-abbrev pub asked_in : Command → Asked
-asked_in (Run run) = asked_by run
+abbrev pub plain_by : PlainCommand → AskedPlain
+plain_by plain = record { executable = plain.executable.now; plan = plain.plan.now; input = text_in plain.input }
 
-abbrev pub settings_in : Command → Settings
-settings_in (Run run) = run.settings
+-- what a command of the code asks for
+abbrev pub asked_by : Command → Asked
+asked_by (Run run) = to_run (run_by run)
+asked_by (Plain plain) = to_plain (plain_by plain)
+
+-- the numbers of what is asked for lie in their ranges
+abbrev pub Fits : Asked → Type 0
+Fits (to_run run) = InRange run.settings
+Fits (to_plain plain) = Unit {0}
 
 -- what a parse that failed says of the words
 abbrev pub refusal_of : ErrorKind → WordsError

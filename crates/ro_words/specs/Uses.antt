@@ -1,7 +1,7 @@
--- How the words behind `run` are read: as uses of names, each with its text.
-use Rattle.std.specs.Prelude.{ℕ, Bool, true, false, not, find, ◌&&◌, ◌==◌, List, [], ◌∷◌, map, Option, Some, None, codes}
+-- How the words behind a command's name are read: as uses of names, each with its text.
+use Rattle.std.specs.Prelude.{ℕ, Bool, true, false, not, find, ◌&&◌, ◌==◌, List, [], ◌∷◌, ◌++◌, map, Option, Some, None, codes}
 use Rattle.std.specs.Prelude.{if◌then◌else◌, option_map, option_and_then}
-use Rattle.std.specs.List.{list_any}
+use Rattle.std.specs.List.{list_all, list_any}
 use Rattle.std.specs.Option.{option_map_or}
 use Rattle.std.specs.Str.{bytes_eq}
 use Rattle.clap.specs.Lexer.{long_of, strip_byte}
@@ -27,43 +27,55 @@ after_dashes word = option_and_then (strip_byte 45) (strip_byte 45 word)
 abbrev pub is_word : Text → Bool
 is_word word = option_map_or (λ option. option_map_or is_argument option.1 true) (long_of word) (is_argument word)
 
--- a name that was used, with its text: EXE stands under `exe`, an option under its own name, and `--journal` with `true`
+-- what may stand behind a command's name
+pub record Syntax : Type 0 where
+  pub places : List Text  -- what the arguments without an option's name are, in their order; each must be there
+  pub needed : List Text  -- the options with a value that must be there
+  pub valued : List Text  -- the options with a value that need not
+  pub journal : Bool  -- whether `--journal` may be there
+
+-- what must be there
+abbrev pub required_of : Syntax → List Text
+required_of s = s.places ++ s.needed
+
+-- a name that was used, with its text: an argument without an option's name stands under its place's name, an option under
+-- its own, and `--journal` with `true`
 abbrev pub Use : Type 0
 Use = Text × Text
 
--- the options that take a value
-abbrev pub valued : List Text
-valued = codes "input" ∷ codes "faults" ∷ codes "replicas" ∷ codes "drivers" ∷ codes "watchdog" ∷ codes "quantum"
-    ∷ codes "limit" ∷ []
+abbrev pub takes_value : Syntax → Text → Bool
+takes_value s name = list_any (λ option. bytes_eq option name) (s.needed ++ s.valued)
 
-abbrev pub takes_value : Text → Bool
-takes_value name = list_any (λ option. bytes_eq option name) valued
-
-abbrev pub is_flag : Text → Bool
-is_flag name = bytes_eq (codes "journal") name
+abbrev pub is_flag : Syntax → Text → Bool
+is_flag s name = s.journal && bytes_eq (codes "journal") name
 
 -- the use, and then those that follow
 abbrev pub with_use : Use → Option (List Use) → Option (List Use)
 with_use first = option_map (λ uses. first ∷ uses)
 
 -- `--name` or `--name=value`; `after waiting` are the uses in the words that follow
-abbrev pub option_uses : Text → Option Text → (Option Text → Option (List Use)) → Option (List Use)
-option_uses name None after = if takes_value name then after (Some name)
-    else (if is_flag name then with_use (name, codes "true") (after None) else None)
-option_uses name (Some value) after =
-    if takes_value name && is_argument value then with_use (name, value) (after None) else None
+abbrev pub option_uses : Syntax → Text → Option Text → (Option Text → Option (List Use)) → Option (List Use)
+option_uses s name None after = if takes_value s name then after (Some name)
+    else (if is_flag s name then with_use (name, codes "true") (after None) else None)
+option_uses s name (Some value) after =
+    if takes_value s name && is_argument value then with_use (name, value) (after None) else None
 
--- a word, where the option `waiting` has yet to get its value
-abbrev pub word_uses : Text → Option Text → (Option Text → Option (List Use)) → Option (List Use)
-word_uses word (Some name) after = if is_argument word then with_use (name, word) (after None) else None
-word_uses word None after = if is_argument word then with_use (codes "exe", word) (after None)
-    else option_and_then (λ option. option_uses option.0 option.1 after) (long_of word)
+-- an argument without an option's name, where these places are left; `after left` are the uses in the words that follow
+abbrev pub place_uses : List Text → Text → (List Text → Option (List Use)) → Option (List Use)
+place_uses [] word after = None
+place_uses (place ∷ left) word after = with_use (place, word) (after left)
 
--- the uses in the words, where the option `waiting` has yet to get its value
-abbrev pub uses_from : List Text → Option Text → Option (List Use)
-uses_from [] None = Some []
-uses_from [] (Some name) = None
-uses_from (word ∷ words) waiting = word_uses word waiting (λ next. uses_from words next)
+-- a word, where these places are left, and the option `waiting` has yet to get its value
+abbrev pub word_uses : Syntax → Text → (left : List Text) → (waiting : Option Text) → (List Text → Option Text → Option (List Use)) → Option (List Use)
+word_uses s word left (Some name) after = if is_argument word then with_use (name, word) (after left None) else None
+word_uses s word left None after = if is_argument word then place_uses left word (λ places. after places None)
+    else option_and_then (λ option. option_uses s option.0 option.1 (after left)) (long_of word)
+
+-- the uses in the words, where these places are left, and the option `waiting` has yet to get its value
+abbrev pub uses_from : Syntax → List Text → (left : List Text) → (waiting : Option Text) → Option (List Use)
+uses_from s [] left None = Some []
+uses_from s [] left (Some name) = None
+uses_from s (word ∷ words) left waiting = word_uses s word left waiting (λ places next. uses_from s words places next)
 
 abbrev pub is_used : Text → List Use → Bool
 is_used name uses = list_any (λ u. bytes_eq u.0 name) uses
@@ -72,6 +84,10 @@ is_used name uses = list_any (λ u. bytes_eq u.0 name) uses
 abbrev pub is_once : List Use → Bool
 is_once [] = true
 is_once (u ∷ uses) = not (is_used u.0 uses) && is_once uses
+
+-- each name at most once, and what must be there
+abbrev pub is_whole : Syntax → List Use → Bool
+is_whole s uses = is_once uses && list_all (λ name. is_used name uses) (required_of s)
 
 -- the text under a name
 abbrev pub text_of : List Use → Text → Option Text

@@ -4,11 +4,10 @@ ghost use Rattle.clap.specs.Matches.{first_value, found_of, one_text};
 ghost use Rattle.clap.specs.Simple.{subcommand_of, subcommand_rows_of};
 ghost use Rattle.clap.specs.Values.{bool_text, kind_of};
 ghost use Rattle.clap.specs.Walk.{Row, first_of, one_of};
-ghost use Rattle.ro_settings.specs.Ranges.{InRange};
-ghost use Rattle.ro_words.specs.Commands.{asked_given, asked_in, command_of, refusal_of, settings_in};
+ghost use Rattle.ro_words.specs.Commands.{Fits, asked_by, command_of, plain_given, refusal_of, run_given};
 ghost use Rattle.ro_words.specs.Grammar.{romain_app};
 ghost use Rattle.ro_words.specs.Uses.{texts_of};
-ghost use Rattle.std.specs.Prelude.{◌≡◌, ◌≢◌, ◌⊎◌, Bool, List, IfErr, IfOk, IfSome, None, Some, [], codes, option_map};
+ghost use Rattle.std.specs.Prelude.{◌≡◌, ◌≢◌, ◌⊎◌, Bool, List, IfErr, IfOk, IfSome, None, Some, [], codes, false, option_map};
 
 use crate::grammar::grammar;
 use crate::settings::settings_of;
@@ -23,6 +22,8 @@ use std::alloc::{AllocError, Global};
 pub enum Command<'a> {
     /// To run an executable as replicas.
     Run(RunCommand<'a>),
+    /// To run the plan of a journal on the unreplicated machine.
+    Plain(PlainCommand<'a>),
 }
 
 /// A run that is asked for.
@@ -37,6 +38,17 @@ pub struct RunCommand<'a> {
     pub settings: Settings,
     /// Whether the journal is to be reported.
     pub journal: bool,
+}
+
+/// The plan of a journal that is to be run on the unreplicated machine.
+#[derive(Clone, Copy, PartialEq, Eq, Debug)]
+pub struct PlainCommand<'a> {
+    /// The name of the executable.
+    pub executable: &'a str,
+    /// The name of the file with the journal.
+    pub plan: &'a str,
+    /// The name of the file with the input, if there is any.
+    pub input: Option<&'a str>,
 }
 
 /// Why words give no command.
@@ -71,9 +83,9 @@ impl From<clap::Error> for WordsError {
 
 /// The command that the words spell, of which the first is the program's name.
 pub fn parse_words<'a>(alloc: Global, words: &'a [&'a str]) -> Result<Command<'a>, WordsError>
-    ensures spelled { IfOk result (λ command. command_of (texts_of words.entry.now) ≡ Some (asked_in command)) }
+    ensures spelled { IfOk result (λ command. command_of (texts_of words.entry.now) ≡ Some (asked_by command)) }
     ensures refused { IfErr result (λ error. (error ≡ WordsError.NoMemory) ⊎ (command_of (texts_of words.entry.now) ≡ None)) }
-    ensures in_range { IfOk result (λ command. InRange (settings_in command)) }
+    ensures in_range { IfOk result (λ command. Fits (asked_by command)) }
 {
     if !are_words(words) {
         return Err(WordsError::Bad);
@@ -95,19 +107,25 @@ fn matches_of<'a>(alloc: Global, words: &'a [&'a str]) -> Result<ArgMatches<'a>,
 
 // The command that the matches ask for.
 fn command_in<'a>(matches: &ArgMatches<'a>) -> Option<Command<'a>>
-    ensures asked { (rows : List Row) (journal : Bool) → subcommand_rows_of matches.now ≡ Some (codes "run", rows)
+    ensures run { (rows : List Row) (journal : Bool) → subcommand_rows_of matches.now ≡ Some (codes "run", rows)
         → one_of (codes "journal") rows ≡ Some (bool_text journal)
-        → option_map asked_in result ≡ asked_given (λ name. first_of name rows) journal }
-    ensures in_range { IfSome result (λ command. InRange (settings_in command)) }
+        → option_map asked_by result ≡ run_given (λ name. first_of name rows) journal }
+    ensures plain { (rows : List Row) → subcommand_rows_of matches.now ≡ Some (codes "plain", rows)
+        → option_map asked_by result ≡ plain_given (λ name. first_of name rows) false }
+    ensures in_range { IfSome result (λ command. Fits (asked_by command)) }
 {
-    run_command(matches.subcommand_matches("run")?)
+    if let Some(run) = matches.subcommand_matches("run") {
+        run_command(run)
+    } else {
+        plain_command(matches.subcommand_matches("plain")?)
+    }
 }
 
 // The run that the matches ask for.
 fn run_command<'a>(matches: &ArgMatches<'a>) -> Option<Command<'a>>
     ensures asked { (journal : Bool) → one_text (found_of matches.now) (codes "journal") ≡ Some (bool_text journal)
-        → option_map asked_in result ≡ asked_given (first_value (found_of matches.now)) journal }
-    ensures in_range { IfSome result (λ command. InRange (settings_in command)) }
+        → option_map asked_by result ≡ run_given (first_value (found_of matches.now)) journal }
+    ensures in_range { IfSome result (λ command. Fits (asked_by command)) }
 {
     Some(Command::Run(RunCommand {
         executable: matches.get_str("exe")?,
@@ -115,5 +133,17 @@ fn run_command<'a>(matches: &ArgMatches<'a>) -> Option<Command<'a>>
         faults: matches.get_str("faults"),
         settings: settings_of(matches)?,
         journal: matches.get_flag("journal"),
+    }))
+}
+
+// The run of a plan that the matches ask for.
+fn plain_command<'a>(matches: &ArgMatches<'a>) -> Option<Command<'a>>
+    ensures asked { option_map asked_by result ≡ plain_given (first_value (found_of matches.now)) false }
+    ensures in_range { IfSome result (λ command. Fits (asked_by command)) }
+{
+    Some(Command::Plain(PlainCommand {
+        executable: matches.get_str("exe")?,
+        plan: matches.get_str("plan")?,
+        input: matches.get_str("input"),
     }))
 }

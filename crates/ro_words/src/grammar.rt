@@ -1,6 +1,7 @@
 //! What `clap` is asked to read.
-ghost use Rattle.ro_words.specs.Grammar.{Reads, exe_rule, journal_rule, option_rule, romain_app, run_app};
-ghost use Rattle.std.specs.Prelude.{◌≡◌, false, IfOk};
+ghost use Rattle.ro_words.specs.Grammar.{Reads, app_of_shape, journal_rule, needed_rule, option_rule, place_rule, romain_app, shape_of};
+ghost use Rattle.ro_words.specs.Commands.{plan_syntax, run_syntax};
+ghost use Rattle.std.specs.Prelude.{◌≡◌, false, codes, IfOk};
 ghost use Rattle.clap.specs.Words.{rule_of};
 
 use clap::{Arg, ArgAction, Command};
@@ -14,15 +15,16 @@ pub(crate) fn grammar<'a>(alloc: Global) -> Result<Command<'a>, AllocError>
         .disable_help_flag(true)
         .disable_help_subcommand(true)
         .subcommand_required(true)
-        .subcommand(run_grammar(alloc)?)
+        .subcommand(run_grammar(alloc)?)?
+        .subcommand(plan_grammar(alloc, "plain")?)
 }
 
 // `run EXE` and its options.
 fn run_grammar<'a>(alloc: Global) -> Result<Command<'a>, AllocError>
-    ensures { IfOk result (Reads run_app) }
+    ensures { IfOk result (Reads (app_of_shape (shape_of (codes "run") run_syntax))) }
 {
     Command::new(alloc, "run")
-        .arg(executable(alloc))?
+        .arg(place(alloc, "exe"))?
         .arg(option(alloc, "input"))?
         .arg(option(alloc, "faults"))?
         .arg(option(alloc, "replicas"))?
@@ -33,6 +35,16 @@ fn run_grammar<'a>(alloc: Global) -> Result<Command<'a>, AllocError>
         .arg(journal(alloc))
 }
 
+// A command `NAME EXE --plan F`, and its option.
+fn plan_grammar<'a>(alloc: Global, name: &'a str) -> Result<Command<'a>, AllocError>
+    ensures { IfOk result (Reads (app_of_shape (shape_of name.entry.now plan_syntax))) }
+{
+    Command::new(alloc, name)
+        .arg(place(alloc, "exe"))?
+        .arg(needed(alloc, "plan"))?
+        .arg(option(alloc, "input"))
+}
+
 // An option that takes a value.
 fn option<'a>(alloc: Global, name: &'a str) -> Arg<'a>
     ensures rule { rule_of result ≡ option_rule name.entry.now }
@@ -41,12 +53,20 @@ fn option<'a>(alloc: Global, name: &'a str) -> Arg<'a>
     Arg::new(alloc, name).long(name).action(ArgAction::Set)
 }
 
-// The executable's name, which has no option's name before it.
-fn executable<'a>(alloc: Global) -> Arg<'a>
-    ensures rule { rule_of result ≡ exe_rule }
+// One that must be there.
+fn needed<'a>(alloc: Global, name: &'a str) -> Arg<'a>
+    ensures rule { rule_of result ≡ needed_rule name.entry.now }
     ensures local { result.global ≡ false }
 {
-    Arg::new(alloc, "exe").required(true)
+    option(alloc, name).required(true)
+}
+
+// An argument that has no option's name before it.
+fn place<'a>(alloc: Global, name: &'a str) -> Arg<'a>
+    ensures rule { rule_of result ≡ place_rule name.entry.now }
+    ensures local { result.global ≡ false }
+{
+    Arg::new(alloc, name).required(true)
 }
 
 // The flag that asks for the journal.

@@ -2,7 +2,7 @@ use Rattle.std.proofs.Common.{rules, sym, ◌∙◌, ap, subst, arith}
 use Rattle.std.specs.Prelude.{option_map}
 use Rattle.ro_image.specs.Executable.{bad_code}
 use Rattle.ro_report.specs.declared.answers.FileKind.TheVariants.{Input, Faults}
-use Rattle.ro_words.specs.Commands.{asked_by}
+use Rattle.ro_words.specs.Commands.{run_by, to_run}
 use Rattle.ro_top.specs.Files.{IsContent}
 use Rattle.ro_top.specs.Refusals.{RefusesContent}
 use Rattle.ro_top.specs.Causes.{IsAccepted, HasInput}
@@ -11,23 +11,23 @@ use Rattle.ro_top.proofs.asking.job_from.Goals as goal
 
 pub returns-in_err-input-clause-refused : goal.returns-in_err-input-clause-refused
 returns-in_err-input-clause-refused g c =
-    let accepted : IsAccepted (g.S.Store.told c.args.store.now) (asked_by c.args.command.now) = record {
+    let accepted : IsAccepted (g.S.Store.told c.args.store.now) (to_run (run_by c.args.command.now)) = record {
       executable = c.in_ok-file.file.items;
       executable_is = (c.in_ok-file.ensures.content, c.in_ok-file.ensures.short);
       accepted = ap bad_code (sym c.as_slice.ensures.value) ∙ c.in_ok-image.ensures.accepted;
     } in
     let refused = subst (λ t. RefusesContent t Input (option_map (λ n. n.now) c.args.command.now.input) (g.S.Store.faults c.fetch.new.store) (g.S.Store.faults c.fetch_named.new.store) c.in_err-input.field-0.0) c.fetch.ensures.told c.in_err-input.ensures.refused in
-    let cause = input_cause _ (asked_by c.args.command.now) (g.S.Store.faults c.args.store.now) (g.S.Store.faults c.fetch.new.store) (g.S.Store.faults c.fetch_named.new.store) c.fetch.ensures.faults accepted c.in_err-input.field-0.0 refused in
+    let cause = input_cause _ (to_run (run_by c.args.command.now)) (g.S.Store.faults c.args.store.now) (g.S.Store.faults c.fetch.new.store) (g.S.Store.faults c.fetch_named.new.store) c.fetch.ensures.faults accepted c.in_err-input.field-0.0 refused in
     search (cause, rules)
 
 pub returns-in_err-list-clause-refused : goal.returns-in_err-list-clause-refused
 returns-in_err-list-clause-refused g c =
-    let accepted : IsAccepted (g.S.Store.told c.args.store.now) (asked_by c.args.command.now) = record {
+    let accepted : IsAccepted (g.S.Store.told c.args.store.now) (to_run (run_by c.args.command.now)) = record {
       executable = c.in_ok-file.file.items;
       executable_is = (c.in_ok-file.ensures.content, c.in_ok-file.ensures.short);
       accepted = ap bad_code (sym c.as_slice.ensures.value) ∙ c.in_ok-image.ensures.accepted;
     } in
-    let input : HasInput (g.S.Store.told c.args.store.now) (asked_by c.args.command.now) = record {
+    let input : HasInput (g.S.Store.told c.args.store.now) (to_run (run_by c.args.command.now)) = record {
       input = c.in_ok-input.input.items;
       input_is = subst (λ t. IsContent t Input (option_map (λ n. n.now) c.args.command.now.input) c.in_ok-input.input.items) c.fetch.ensures.told c.in_ok-input.ensures.content;
     } in
@@ -35,17 +35,17 @@ returns-in_err-list-clause-refused g c =
     let refused = subst (λ t. RefusesContent t Faults (option_map (λ n. n.now) c.args.command.now.faults) (g.S.Store.faults c.fetch_named.new.store) (g.S.Store.faults c.fetch_named-2.new.store) c.in_err-list.field-0.0) told c.in_err-list.ensures.refused in
     let later = c.fetch.ensures.faults in
     let more = c.fetch_named.ensures.faults in
-    let cause = list_cause _ (asked_by c.args.command.now) (g.S.Store.faults c.args.store.now) (g.S.Store.faults c.fetch_named.new.store) (g.S.Store.faults c.fetch_named-2.new.store) (omega (arith, later, more)) accepted input c.in_err-list.field-0.0 refused in
+    let cause = list_cause _ (to_run (run_by c.args.command.now)) (g.S.Store.faults c.args.store.now) (g.S.Store.faults c.fetch_named.new.store) (g.S.Store.faults c.fetch_named-2.new.store) (omega (arith, later, more)) accepted input c.in_err-list.field-0.0 refused in
     search (cause, rules)
 
 pub returns-in_err-faults-clause-refused : goal.returns-in_err-faults-clause-refused
 returns-in_err-faults-clause-refused g c =
-    let accepted : IsAccepted (g.S.Store.told c.args.store.now) (asked_by c.args.command.now) = record {
+    let accepted : IsAccepted (g.S.Store.told c.args.store.now) (to_run (run_by c.args.command.now)) = record {
       executable = c.in_ok-file.file.items;
       executable_is = (c.in_ok-file.ensures.content, c.in_ok-file.ensures.short);
       accepted = ap bad_code (sym c.as_slice.ensures.value) ∙ c.in_ok-image.ensures.accepted;
     } in
-    let input : HasInput (g.S.Store.told c.args.store.now) (asked_by c.args.command.now) = record {
+    let input : HasInput (g.S.Store.told c.args.store.now) (to_run (run_by c.args.command.now)) = record {
       input = c.in_ok-input.input.items;
       input_is = subst (λ t. IsContent t Input (option_map (λ n. n.now) c.args.command.now.input) c.in_ok-input.input.items) c.fetch.ensures.told c.in_ok-input.ensures.content;
     } in

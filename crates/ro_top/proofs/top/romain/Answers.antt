@@ -1,20 +1,18 @@
-use Rattle.std.proofs.Common.{ap, ◌∙◌, subst}
-use Rattle.std.specs.Prelude.{List}
-use Rattle.ro_journal.specs.declared.Entry.{Entry}
+use Rattle.std.proofs.Common.{◌≡◌, Some, ap, subst, ◌∙◌}
 use Rattle.ro_report.specs.Report.{report_of}
+use Rattle.ro_words.specs.Commands.{AskedRun, asked_by, run_by}
+use Rattle.ro_words.specs.declared.commands.Command.{Command}
 use Rattle.ro_words.specs.Uses.{texts_of}
-use Rattle.ro_top.specs.Files.{wants_journal}
 use Rattle.ro_top.specs.Top.{IsTold}
-use Rattle.ro_top.proofs.Claims.{of_job, is_run, same_report}
+use Rattle.ro_top.proofs.Asked.{one_run}
+use Rattle.ro_top.proofs.Claims.{same_job}
 use Rattle.ro_top.proofs.top.romain.Goals as goal
 
-pub returns-clause-run : goal.returns-clause-run
-returns-clause-run g c =
-    let ran = c.command-shown.result.1 in
-    let wants = wants_journal (texts_of c.args.words.now) in (
-      ran.bytes,
-      of_job _ _ _ _ _ c.command-shown.ensures.run (λ job r. is_run _ job c.command-shown.ensures.answer r),
-      subst (IsTold c.tell-told.result _ _)
-          (ap (λ (js : List Entry). report_of c.command-shown.result.0 js ran.bytes ran.answer) c.as_slice.ensures.value ∙ same_report c.command-shown.result.0 wants ran.journal.items ran.bytes ran.answer c.command-shown.ensures.shown)
-          c.tell-told.ensures.told,
+pub returns-in-Ok-Run-clause-run : goal.returns-in-Ok-Run-clause-run
+returns-in-Ok-Run-clause-run g c = λ asked is.
+    let same : run_by c.in-Ok-Run.command ≡ asked = one_run (texts_of c.args.words.now) (run_by c.in-Ok-Run.command) asked (c.in-Ok-Run.ensures.spelled ∙ ap (λ (x : Command). Some (asked_by x)) c.in-Ok-Run.field-0-is) is in
+    let run = c.run_command.ensures.run in (
+      run.0,
+      same_job _ _ _ _ _ same run.1,
+      subst (λ (x : AskedRun). IsTold c.run_command.result.told (g.E.Sink.held c.args.report.now) (g.E.Sink.held c.run_command.new.report) (report_of x.journal c.run_command.result.journal.items run.0 c.run_command.result.answer)) same run.2,
     )

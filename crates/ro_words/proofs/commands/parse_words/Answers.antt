@@ -1,7 +1,7 @@
 use Rattle.std.proofs.Common.{◌≡◌, ◌∙◌, sym, inr, option_map}
 use Rattle.clap.specs.Simple.{subcommand_rows_of}
 use Rattle.clap.proofs.TakesLemmas.{passed_up}
-use Rattle.ro_words.specs.Commands.{asked_in, command_of}
+use Rattle.ro_words.specs.Commands.{asked_by, command_of}
 use Rattle.ro_words.specs.Uses.{texts_of}
 use Rattle.ro_words.proofs.Found.{given_ok, given_refused, read_as_spelled, refused_error}
 use Rattle.ro_words.proofs.Refused.{refused}
@@ -20,13 +20,13 @@ returns-in_err-matches-clause-refused c =
 pub returns-clause-spelled : goal.returns-clause-spelled
 returns-clause-spelled c =
     let spelled = spells (texts_of c.args.words.now) (sym c.are_words.ensures ∙ c.if-not-are_words.false) in
-    let is : option_map asked_in c.command_in.result ≡ command_of (texts_of c.args.words.now) =
-    read_as_spelled _ _ (subcommand_rows_of c.in_ok-matches.matches) _ _ spelled c.in_ok-matches.ensures.parsed c.in_ok-matches.ensures.rows c.command_in.ensures.asked in
+    let is : option_map asked_by c.command_in.result ≡ command_of (texts_of c.args.words.now) =
+    read_as_spelled _ _ (subcommand_rows_of c.in_ok-matches.matches) _ _ spelled c.in_ok-matches.ensures.parsed c.in_ok-matches.ensures.rows (record { run = c.command_in.ensures.run; plain = c.command_in.ensures.plain }) in
     given_ok c.command_in.result c.ok_or.result _ c.ok_or.ensures.ok_part is
 
 pub returns-clause-refused : goal.returns-clause-refused
 returns-clause-refused c =
     let spelled = spells (texts_of c.args.words.now) (sym c.are_words.ensures ∙ c.if-not-are_words.false) in
-    let is : option_map asked_in c.command_in.result ≡ command_of (texts_of c.args.words.now) =
-    read_as_spelled _ _ (subcommand_rows_of c.in_ok-matches.matches) _ _ spelled c.in_ok-matches.ensures.parsed c.in_ok-matches.ensures.rows c.command_in.ensures.asked in
+    let is : option_map asked_by c.command_in.result ≡ command_of (texts_of c.args.words.now) =
+    read_as_spelled _ _ (subcommand_rows_of c.in_ok-matches.matches) _ _ spelled c.in_ok-matches.ensures.parsed c.in_ok-matches.ensures.rows (record { run = c.command_in.ensures.run; plain = c.command_in.ensures.plain }) in
     given_refused c.command_in.result c.ok_or.result _ c.ok_or.ensures.ok_part is

@@ -5,4 +5,5 @@ use Rattle.ro_words.proofs.grammar.grammar.Goals as goal
 pub returns : goal.returns
 returns c =
     let top = is_top _ _ _ _ _ (c.new.ensures.app, c.new.ensures.local) c.disable_help_flag.ensures c.disable_help_subcommand.ensures c.subcommand_required.ensures in
-    IfOk-weaker c.subcommand.result _ _ (λ command added. adds_subcommand _ command _ _ _ added top c.in_ok-run_grammar.ensures) c.subcommand.ensures
+    let run = adds_subcommand _ _ _ _ _ c.in_ok-subcommand.ensures top c.in_ok-run_grammar.ensures in
+    IfOk-weaker c.subcommand-2.result _ _ (λ command added. adds_subcommand _ command _ _ _ added run c.in_ok-plan_grammar.ensures) c.subcommand-2.ensures

@@ -4,7 +4,7 @@ use Rattle.ro_words.proofs.grammar.run_grammar.Goals as goal
 
 pub returns : goal.returns
 returns c =
-    let none = adds_arg _ _ _ _ _ c.in_ok-arg.ensures (c.new.ensures.app, c.new.ensures.local) c.executable.ensures.rule c.executable.ensures.local in
+    let none = adds_arg _ _ _ _ _ c.in_ok-arg.ensures (c.new.ensures.app, c.new.ensures.local) c.place.ensures.rule c.place.ensures.local in
     let a = adds_arg _ _ _ _ _ c.in_ok-arg-2.ensures none c.option.ensures.rule c.option.ensures.local in
     let b = adds_arg _ _ _ _ _ c.in_ok-arg-3.ensures a c.option-2.ensures.rule c.option-2.ensures.local in
     let d = adds_arg _ _ _ _ _ c.in_ok-arg-4.ensures b c.option-3.ensures.rule c.option-3.ensures.local in

@@ -1,0 +1,19 @@
+use Rattle.std.proofs.Common.{ℕ, List, subst}
+use Rattle.ro_journal.specs.declared.Entry.{Entry}
+use Rattle.ro_journal.specs.Plan.{plan_of}
+use Rattle.ro_machine.specs.Lengths.{IsLength}
+use Rattle.ro_machine.specs.Plans.{RunsPlan}
+use Rattle.ro_top.proofs.Plays.{whole_cause}
+use Rattle.ro_top.proofs.playing.play.Goals as goal
+
+pub returns-in-Ok-run_plan : goal.returns-in-Ok-run_plan
+returns-in-Ok-run_plan g c = record {
+  cause = whole_cause _ _ c.args.replay.journal.items c.in-Ok-run_plan.field-0.how c.answer_behind.result c.answer_behind.ensures (record {
+    length_is = subst (λ (js : List Entry). IsLength js c.in-Ok.steps) c.as_slice.ensures.value c.in-Ok.ensures.steps;
+    runs =
+        subst (λ (js : List Entry). RunsPlan (record { image = c.args.replay.image; input = c.args.replay.input.items }) (plan_of js) (g.K.Sink.held c.args.out.now) (g.K.Sink.held c.run_plan.new.out) c.in-Ok-run_plan.field-0.how c.in-Ok-run_plan.field-0.bytes)
+        c.as_slice-3.ensures.value
+        (subst (λ (bytes : List ℕ). RunsPlan (record { image = c.args.replay.image; input = bytes }) (plan_of c.as_slice-3.result.now) (g.K.Sink.held c.args.out.now) (g.K.Sink.held c.run_plan.new.out) c.in-Ok-run_plan.field-0.how c.in-Ok-run_plan.field-0.bytes)
+        c.as_slice-2.ensures.value c.in-Ok-run_plan.ensures.runs);
+  });
+}

@@ -1,0 +1,181 @@
+-- The commands as they are built.
+use Rattle.std.proofs.Common.{◌≡◌, ◌∙◌, Bool, true, false, not, ◌&&◌, ◌||◌, List, [], ◌∷◌, ◌++◌, Some, None, refl, ap, codes, inl, inr}
+use Rattle.std.specs.Prelude.{fold, if◌then◌else◌}
+use Rattle.std.specs.List.{list_all, list_any}
+use Rattle.std.specs.Str.{bytes_eq}
+use Rattle.std.proofs.lemmas.Bool.{cases_Bool}
+use Rattle.clap.specs.Walk.{Row, Rule, Text, arg_by_long, has_row, with_default}
+use Rattle.clap.specs.Faults.{default_fault, defaults_fault}
+use Rattle.clap.specs.Takes.{is_given}
+use Rattle.clap.specs.Simple.{App, Shape, built}
+use Rattle.ro_words.specs.Commands.{plan_syntax, run_syntax}
+use Rattle.ro_words.specs.Grammar.{romain_app}
+use Rattle.ro_words.specs.Uses.{required_of}
+use Rattle.ro_words.proofs.Once.{and_parts}
+use Rattle.ro_words.proofs.Rules.{journal_built, leaf, plan_built, run_built, run_values}
+use Rattle.ro_words.proofs.Names.{AreFrom, Grammar, IsPlace, IsValued, Known, by_key, flagged, is_valued, unmet, with_journal}
+
+pub subs_are : (built romain_app).subs ≡ leaf (codes "run") run_built ∷ leaf (codes "plain") plan_built ∷ []
+unfolding run_built run_values plan_built
+subs_are = refl
+
+-- ---- defaults, and what is required
+
+abbrev is_none : List Text → Bool
+is_none [] = true
+is_none (x ∷ xs) = false
+
+none_of : (xs : List Text) → is_none xs ≡ true → xs ≡ []
+none_of [] e = refl
+none_of (x ∷ xs) e = cc
+
+default_passes : (xs : List Row) (a : Rule) → is_none a.defaults ≡ true → default_fault xs a ≡ []
+default_passes xs a none = elim (cases_Bool (has_row a.id xs)) [ inl some ↦ rw some refl | inr other ↦ rw (other, none_of a.defaults none) refl ]
+
+default_keeps : (xs : List Row) (a : Rule) → is_none a.defaults ≡ true → with_default xs a ≡ xs
+default_keeps xs a none = elim (cases_Bool (has_row a.id xs)) [ inl some ↦ rw some refl | inr other ↦ rw (other, none_of a.defaults none) refl ]
+
+default_flag : (xs : List Row) → default_fault xs journal_built ≡ []
+default_flag xs = elim (cases_Bool (has_row (codes "journal") xs)) [ inl some ↦ rw some refl | inr none ↦ rw none refl ]
+
+one_passes : (xs : List Row) (a : Rule) (rest : List Rule) → default_fault xs a ≡ [] → ((ys : List Row) → defaults_fault ys rest ≡ [])
+    → defaults_fault xs (a ∷ rest) ≡ []
+unfolding defaults_fault
+one_passes xs a rest here after = rw (here, after (with_default xs a)) refl
+
+pub no_defaults : (xs : List Row) → defaults_fault xs [] ≡ []
+unfolding defaults_fault
+no_defaults xs = refl
+
+flag_passes : (xs : List Row) → defaults_fault xs (journal_built ∷ []) ≡ []
+flag_passes xs = one_passes xs journal_built [] (default_flag xs) no_defaults
+
+-- arguments without a default
+abbrev lack_defaults : List Rule → Bool
+lack_defaults values = list_all (λ a. is_none a.defaults) values
+
+values_pass : (values rest : List Rule) → lack_defaults values ≡ true → ((ys : List Row) → defaults_fault ys rest ≡ []) → (xs : List Row)
+    → defaults_fault xs (values ++ rest) ≡ []
+values_pass [] rest lack after xs = after xs
+values_pass (a ∷ values) rest lack after xs =
+    let parts = and_parts (is_none a.defaults) (lack_defaults values) lack in
+    one_passes xs a (values ++ rest) (default_passes xs a parts.0) (λ ys. values_pass values rest parts.1 after ys)
+
+values_keep : (values rest : List Rule) → lack_defaults values ≡ true → (xs : List Row) → fold with_default xs (values ++ rest) ≡ fold with_default xs rest
+values_keep [] rest lack xs = refl
+values_keep (a ∷ values) rest lack xs =
+    let parts = and_parts (is_none a.defaults) (lack_defaults values) lack in
+    ap (λ (l : List Row). fold with_default l (values ++ rest)) (default_keeps xs a parts.0) ∙ values_keep values rest parts.1 xs
+
+-- the names of those that must be there
+abbrev names_required : List Rule → List Text
+names_required [] = []
+names_required (a ∷ rules) = if a.required then a.id ∷ names_required rules else names_required rules
+
+or_not : (a b : Bool) → (not a || not b) ≡ not (a && b)
+or_not true b = refl
+or_not false b = refl
+
+required_are : (xs : List Row) (rules : List Rule)
+    → list_any (λ a. a.required && not (is_given a.id xs)) rules ≡ not (list_all (λ n. is_given n xs) (names_required rules))
+required_are xs [] = refl
+required_are xs (a ∷ rules) = elim (cases_Bool a.required) [
+  | inl must ↦ rw must (ap (λ (b : Bool). not (is_given a.id xs) || b) (required_are xs rules) ∙ or_not (is_given a.id xs) (list_all (λ n. is_given n xs) (names_required rules)))
+  | inr may ↦ rw may (required_are xs rules)
+]
+
+-- ---- `run`
+
+pub run_valued : (name : Text) → Known run_syntax run_built name
+unfolding run_built run_values
+run_valued name =
+    let value : (key : Text) → IsValued run_syntax run_built key → key ≡ name → Known run_syntax run_built name = λ key facts e. is_valued run_syntax run_built key name facts e in
+    by_key (Known run_syntax run_built) (codes "input") name (value (codes "input") (record { required = false; takes = refl; flag = refl; journal = refl; alone = refl; cut = λ v. refl; by_long = refl; by_id = refl })) (λ a.
+    by_key (Known run_syntax run_built) (codes "faults") name (value (codes "faults") (record { required = false; takes = refl; flag = refl; journal = refl; alone = refl; cut = λ v. refl; by_long = refl; by_id = refl })) (λ b.
+    by_key (Known run_syntax run_built) (codes "replicas") name (value (codes "replicas") (record { required = false; takes = refl; flag = refl; journal = refl; alone = refl; cut = λ v. refl; by_long = refl; by_id = refl })) (λ d.
+    by_key (Known run_syntax run_built) (codes "drivers") name (value (codes "drivers") (record { required = false; takes = refl; flag = refl; journal = refl; alone = refl; cut = λ v. refl; by_long = refl; by_id = refl })) (λ e.
+    by_key (Known run_syntax run_built) (codes "watchdog") name (value (codes "watchdog") (record { required = false; takes = refl; flag = refl; journal = refl; alone = refl; cut = λ v. refl; by_long = refl; by_id = refl })) (λ f.
+    by_key (Known run_syntax run_built) (codes "quantum") name (value (codes "quantum") (record { required = false; takes = refl; flag = refl; journal = refl; alone = refl; cut = λ v. refl; by_long = refl; by_id = refl })) (λ g.
+    by_key (Known run_syntax run_built) (codes "limit") name (value (codes "limit") (record { required = false; takes = refl; flag = refl; journal = refl; alone = refl; cut = λ v. refl; by_long = refl; by_id = refl })) (λ h.
+    by_key (Known run_syntax run_built) (codes "journal") name (λ is. flagged refl is) (λ i.
+    unmet (rw (a, b, d, e, f, g, h) refl) i (rw (a, b, d, e, f, g, h, i) refl)))))))))
+
+pub run_from_places : AreFrom run_syntax run_built (codes "exe" ∷ []) 1
+unfolding run_built run_values
+run_from_places = (record { by_index = refl; by_id = refl; takes = refl; journal = refl; later = refl; next = refl }, refl)
+
+pub run_flag : arg_by_long run_built (codes "journal") ≡ Some journal_built
+unfolding run_built run_values
+run_flag = refl
+
+pub run_passes : (xs : List Row) → defaults_fault xs run_built ≡ []
+unfolding run_built run_values
+run_passes = values_pass run_values (journal_built ∷ []) refl flag_passes
+
+pub run_ends : (xs : List Row) → fold with_default xs run_built ≡ with_journal true xs
+unfolding run_built run_values
+run_ends = values_keep run_values (journal_built ∷ []) refl
+
+pub run_check : (xs : List Row) → list_any (λ a. a.required && not (is_given a.id xs)) run_built ≡ not (list_all (λ n. is_given n xs) (codes "exe" ∷ []))
+unfolding run_built run_values
+run_check xs = required_are xs run_built
+
+abbrev pub run_grammar : Grammar
+run_grammar = record {
+  name = codes "run";
+  syntax = run_syntax;
+  rules = run_built;
+  known = run_valued;
+  from = run_from_places;
+  unvalued = refl;
+  flag = λ may. run_flag;
+  passes = run_passes;
+  ends = run_ends;
+  check = run_check;
+  apart = refl;
+}
+
+-- ---- `plain`
+
+pub plan_valued : (name : Text) → Known plan_syntax plan_built name
+unfolding plan_built
+plan_valued name =
+    let value : (key : Text) → IsValued plan_syntax plan_built key → key ≡ name → Known plan_syntax plan_built name = λ key facts e. is_valued plan_syntax plan_built key name facts e in
+    by_key (Known plan_syntax plan_built) (codes "plan") name (value (codes "plan") (record { required = true; takes = refl; flag = refl; journal = refl; alone = refl; cut = λ v. refl; by_long = refl; by_id = refl })) (λ a.
+    by_key (Known plan_syntax plan_built) (codes "input") name (value (codes "input") (record { required = false; takes = refl; flag = refl; journal = refl; alone = refl; cut = λ v. refl; by_long = refl; by_id = refl })) (λ b.
+    unmet (rw (a, b) refl) refl (rw (a, b) refl)))
+
+pub plan_from_places : AreFrom plan_syntax plan_built (codes "exe" ∷ []) 1
+unfolding plan_built
+plan_from_places = (record { by_index = refl; by_id = refl; takes = refl; journal = refl; later = refl; next = refl }, refl)
+
+pub plan_passes : (xs : List Row) → defaults_fault xs plan_built ≡ []
+unfolding plan_built
+plan_passes = values_pass plan_built [] refl no_defaults
+
+pub plan_ends : (xs : List Row) → fold with_default xs plan_built ≡ xs
+unfolding plan_built
+plan_ends = values_keep plan_built [] refl
+
+pub plan_check : (xs : List Row) → list_any (λ a. a.required && not (is_given a.id xs)) plan_built ≡ not (list_all (λ n. is_given n xs) (codes "exe" ∷ codes "plan" ∷ []))
+unfolding plan_built
+plan_check xs = required_are xs plan_built
+
+pub none_flagged : (rules : List Rule) → false ≡ true → arg_by_long rules (codes "journal") ≡ Some journal_built
+none_flagged rules may = cc
+
+-- a command that takes an executable and a plan
+abbrev pub plan_grammar : Text → Grammar
+plan_grammar name = record {
+  name = name;
+  syntax = plan_syntax;
+  rules = plan_built;
+  known = plan_valued;
+  from = plan_from_places;
+  unvalued = refl;
+  flag = none_flagged plan_built;
+  passes = plan_passes;
+  ends = plan_ends;
+  check = plan_check;
+  apart = refl;
+}

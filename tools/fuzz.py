@@ -1,5 +1,6 @@
 #!/usr/bin/env python3
-"""Runs romain on drawn damage: executables, fault lists, words and journals that are changed here and there.
+"""Runs romain on drawn damage: executables, fault lists, words and journals that are changed here and there; and on programs of
+drawn instructions.
 
     tools/fuzz.py
     tools/fuzz.py --count 100000 --seed 7
@@ -7,9 +8,10 @@
 
 The first is the short form of the gate. No run may end by a signal, with a status outside the table of docs/USING.md or with
 another one than its report says, or take longer than --seconds. What is refused, and by which answer, is worked out after the
-pages (tools/fuzzing/readers.py) and compared; of what runs, what must hold of it. A case hangs on the seed, its kind and its
-number alone. One that fails is kept in a folder of its own under --keep: its files, the command, and what is wrong; the
-last line of the example runs it again. Status 1 where a case fails. ROMAIN may name another program than ./romain.
+pages (tools/fuzzing/readers.py) and compared, and so is what a program with one thread comes to (tools/fuzzing/machine.py). A
+case hangs on the seed, its kind and its number alone, so that --only runs it again. One that fails is kept in a folder of its
+own under --keep: its files, the command, and what is wrong. Status 1 where a case fails. ROMAIN may name another program than
+./romain.
 """
 import argparse
 import concurrent.futures
@@ -33,7 +35,7 @@ PROGRAM = ROMAIN if "ROMAIN" in os.environ else str(ROOT / "crates/romain/out/ro
 def read_arguments():
     parser = argparse.ArgumentParser(description=__doc__, formatter_class=argparse.RawDescriptionHelpFormatter)
     parser.add_argument("--kinds", default=",".join(kinds.KINDS), help="parted by commas (all)")
-    parser.add_argument("--count", type=int, default=600, help="cases of each kind (600)")
+    parser.add_argument("--count", type=int, default=400, help="cases of each kind (400)")
     parser.add_argument("--seed", type=int, default=1, help="of the draws (1)")
     parser.add_argument("--only", type=int, metavar="N", help="case N alone, which is kept")
     parser.add_argument("--seconds", type=float, default=20, help="that one run may take (20)")

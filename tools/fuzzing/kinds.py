@@ -1,10 +1,10 @@
-"""What is fuzzed: executables, fault lists, words and journals. A kind draws a case, a command and the files beside it, and says
+"""What is fuzzed: executables, programs, fault lists, words and journals. A kind draws a case, a command and the files beside it, and says
 what is wrong with what came of it."""
 import dataclasses
 import os
 import pathlib
 
-from fuzzing import drawing, machine, readers
+from fuzzing import drawing, machine, programs, readers
 
 ROOT = pathlib.Path(__file__).resolve().parent.parent.parent
 GUESTS = ROOT / "guests"
@@ -92,13 +92,18 @@ class Executables:
     """Changed executables. Which are refused, and by which code, is known; what the others come to, too, as long as they have one
     thread: output, answer, votes and steps, whatever the number of replicas and drivers and the quantum."""
 
+    LIMITS = [200, 2_000, 10_000]
+
     def __init__(self):
         files = [*sorted((GUESTS / "built").iterdir()), *sorted(SMALL.iterdir())]
         self.real = [file.read_bytes() for file in files]
 
+    def file(self, draw):
+        return drawing.mutated(draw, draw.choice(self.real))
+
     def draw(self, draw):
-        file, data = drawing.mutated(draw, draw.choice(self.real)), draw.randbytes(draw.choice((0, 1, 100, 5000)))
-        options = {"limit": draw.choice((200, 2_000, 10_000)), "watchdog": draw.choice((100, 128, 1_000, 10_000)),
+        file, data = self.file(draw), draw.randbytes(draw.choice((0, 1, 100, 5000)))
+        options = {"limit": draw.choice(self.LIMITS), "watchdog": draw.choice((100, 128, 1_000, 10_000)),
                    "quantum": draw.choice((1, 7, 128, 4_096)), "replicas": draw.choice((2, 3)), "drivers": draw.choice((1, 1, 2, 3))}
         words = [b"run", b"guest", b"--input", b"input"]
         for name, number in options.items():
@@ -123,6 +128,15 @@ class Executables:
             yield f"{came.report!r} is reported, not {report!r}"
         if came.output != ran.output:
             yield f"{came.output[:80]!r}.., {len(came.output)} bytes came, not {bytes(ran.output[:80])!r}.., {len(ran.output)} bytes"
+
+
+class Programs(Executables):
+    """Programs of drawn instructions, which write what comes of them."""
+
+    LIMITS = [200] + [2_000] * 19
+
+    def file(self, draw):
+        return programs.draw_program(draw, draw.choice((20, 200)))
 
 
 class Faults:
@@ -257,16 +271,17 @@ class Journals:
 
     def troubles(self, case, came):
         kind, *numbers = case.wanted.split(" ")
-        if kind in ("plan", "limit"):
-            wanted = b""
-        else:
-            taken = int(numbers[0]) if kind == "no-step" else sum(steps for _, steps in readers.plan_of(case.about))
-            wanted = Faults.OUTPUT if taken >= self.WRITES else b""
-        if came.output != wanted:
-            yield f"{came.output[:80]!r} came, not {wanted!r}"
+        length = sum(steps for _, steps in readers.plan_of(case.about))
+        taken = 0 if kind in ("plan", "limit") else int(numbers[0]) if kind == "no-step" else length
+        output = Faults.OUTPUT if taken >= self.WRITES else b""
+        summary = f"steps {length} bytes {len(output)}\n" if kind in ("exit", "unended") else ""
+        if came.output != output:
+            yield f"{came.output[:80]!r} came, not {output!r}"
+        if came.report != f"{summary}answer {case.wanted}\n".encode():
+            yield f"{came.report[-80:]!r} is reported, not {summary}answer {case.wanted}"
 
 
-KINDS = {"executables": Executables, "faults": Faults, "words": Words, "journals": Journals}
+KINDS = {"executables": Executables, "programs": Programs, "faults": Faults, "words": Words, "journals": Journals}
 
 
 def write(case, folder):

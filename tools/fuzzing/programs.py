@@ -1,0 +1,85 @@
+"""Drawn programs: each register gets a value, drawn instructions follow, all registers are written out."""
+import struct
+
+BASE, HEADERS, PAGE = 0x10000, 52 + 32, 4096
+POINTER = 31  # the register with an address of the heap, which no drawn instruction changes
+OPERANDS = [0, 1, 2, 31, 32, 0x7FF, 0x800, 0xFFFF, 0x10000, 0x7FFFFFFF, 0x80000000, 0x80000001, 0xFFFF8000, 0xFFFFFFFE, 0xFFFFFFFF]
+# funct7 and funct3 of what two registers give.
+TWO_REGISTERS = [(0, function) for function in range(8)] + [(32, 0), (32, 5)] + [(1, function) for function in range(8)]
+LENGTHS = {0: 1, 1: 2, 2: 4, 4: 1, 5: 2}  # in bytes, of a load or store by its funct3
+
+
+def form_i(value, first, function, register, opcode):
+    return (value & 0xFFF) << 20 | first << 15 | function << 12 | register << 7 | opcode
+
+
+def form_s(value, second, first, function):
+    return (value >> 5 & 127) << 25 | second << 20 | first << 15 | function << 12 | (value & 31) << 7 | 0x23
+
+
+def form_b(by, second, first, function):
+    return ((by >> 12 & 1) << 31 | (by >> 5 & 63) << 25 | second << 20 | first << 15 | function << 12 | (by >> 1 & 15) << 8
+            | (by >> 11 & 1) << 7 | 0x63)
+
+
+def form_j(by, register):
+    return ((by >> 20 & 1) << 31 | (by >> 1 & 0x3FF) << 21 | (by >> 11 & 1) << 20 | (by >> 12 & 0xFF) << 12 | register << 7 | 0x6F)
+
+
+def put(register, value):
+    """LUI and ADDI of a value."""
+    low = (value & 0xFFF) - ((value & 0x800) << 1)
+    return [(value - low) & 0xFFFFF000 | register << 7 | 0x37, form_i(low, register, 0, register, 0x13)]
+
+
+def draw_instructions(draw):
+    """One instruction, or two that belong together. Jumps go ahead, so that programs end."""
+    register, first, second = draw.randrange(POINTER), draw.randrange(32), draw.randrange(32)
+    ahead = 4 * draw.randrange(2, 8) - (2 if draw.randrange(200) == 0 else 0)
+    kind = draw.randrange(12)
+    if kind < 4:
+        high, function = draw.choice(TWO_REGISTERS)
+        return [high << 25 | second << 20 | first << 15 | function << 12 | register << 7 | 0x33]
+    if kind < 6:
+        function = draw.randrange(8)
+        value = draw.randrange(32) | (1024 if function == 5 and draw.randrange(2) else 0) if function in (1, 5) \
+            else draw.choice((0, 1, 2047, -2048, -1, draw.randrange(-2048, 2048)))
+        return [form_i(value, first, function, register, 0x13)]
+    if kind == 6:
+        return [draw.getrandbits(20) << 12 | register << 7 | draw.choice((0x37, 0x17))]
+    if kind < 9:
+        function = draw.choice(list(LENGTHS))
+        place = draw.randrange(-2048, 2048)
+        place -= place % LENGTHS[function] if draw.randrange(200) else 0
+        pointer = POINTER if draw.randrange(400) else first
+        return [form_i(place, pointer, function, register, 0x03)] if kind == 7 else [form_s(place, second, pointer, function % 4)]
+    if kind == 9:
+        return [form_b(ahead, second, first, draw.choice((0, 1, 4, 5, 6, 7)))]
+    if kind == 10:
+        return [form_j(ahead, register)]
+    return draw.choice(([30 << 7 | 0x17, form_i(4 + ahead + draw.randrange(2), 30, 0, register, 0x67)],
+                        [draw.getrandbits(32) & ~0x707F | 0x0F]))
+
+
+def executable(words):
+    """One segment that may be read, written and executed."""
+    size = HEADERS + 4 * len(words)
+    header = b"\x7fELF\1\1\1" + bytes(9) + struct.pack("<HHIIIIIHHHHHH", 2, 243, 1, BASE + HEADERS, 52, 0, 0, 52, 32, 1, 0, 0, 0)
+    return header + struct.pack("<8I", 1, 0, BASE, BASE, size, size, 7, PAGE) + struct.pack(f"<{len(words)}I", *words)
+
+
+def draw_program(draw, length):
+    """An executable of so many drawn instructions and some."""
+    words = []
+    for register in range(1, POINTER):
+        words += put(register, draw.choice((draw.choice(OPERANDS), draw.getrandbits(32))))
+    ends = [form_s(4 * register, register, POINTER, 2) for register in range(32)]
+    ends += [form_i(1, 0, 0, 10, 0x13), form_i(0, POINTER, 0, 11, 0x13), form_i(128, 0, 0, 12, 0x13), form_i(64, 0, 0, 17, 0x13),
+             0x73, form_i(93, 0, 0, 17, 0x13), 0x73]
+    body = []
+    while len(body) < length:
+        body += draw_instructions(draw)
+    body += [0x13] * 8  # where the last jumps go
+    size = HEADERS + 4 * (2 + len(words) + len(body) + len(ends))
+    heap = BASE + -(-size // PAGE) * PAGE
+    return executable(put(POINTER, heap + 2048) + words + body + ends)

@@ -27,3 +27,4 @@ pub mod Strikes
 pub mod RowsWeaker
 pub mod Limits
 pub mod LockingGuest
+pub mod Repeats

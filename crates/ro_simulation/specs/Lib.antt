@@ -4,3 +4,4 @@ pub mod Guests
 pub mod Rows
 pub mod Drives
 pub mod Weaker
+pub mod Repeated

@@ -2,6 +2,7 @@
 #![tactic(auto)]
 
 ghost use Rattle.std.specs.Prelude.{◌≡◌, ℕ, List, [], ◌∷◌, Some};
+ghost use Rattle.ro_journal.specs.declared.How.{How};
 ghost use Rattle.ro_journal.specs.declared.How.TheVariants.{Exit, Limit, NoMajority};
 ghost use Rattle.ro_journal.specs.declared.Entry.{Entry};
 ghost use Rattle.ro_plain.specs.Machine.{Program, AllEnd};
@@ -9,7 +10,8 @@ ghost use Rattle.ro_plain.specs.Order.{RaceFree};
 ghost use Rattle.ro_core.specs.Core.{Job};
 ghost use Rattle.ro_core.specs.Legal.{Legal};
 ghost use Rattle.ro_core.specs.Ideal.{StaysApart};
-ghost use Rattle.ro_simulation.specs.Theorem.{Simulates, TwoOrThree, WritesAsIdeal, AllOfOne, StaysAlone, NeverDiffers, PassedLimit, CannotDiffer, EndsComplete};
+ghost use Rattle.ro_simulation.specs.Theorem.{Simulates, TwoOrThree, WritesAsIdeal, AllOfOne, StaysAlone, NeverDiffers, PassedLimit, CannotDiffer, EndsComplete, IsComplete};
+ghost use Rattle.ro_simulation.specs.Repeated.{IsRepeated};
 ghost use Rattle.ro_simulation.specs.Guests.{exit_guest, locking_guest, usual_job};
 ghost use Rattle.ro_simulation.specs.Rows.{flip_a0, one_struck, two_struck, IsCovered};
 ghost use Rattle.ro_simulation.specs.Drives.{driven};
@@ -26,6 +28,12 @@ pub fn simulation()
 /// outcome, where the run ends by an exit, a trap or a deadlock.
 pub fn headline()
     ensures { (job : Job) (journal : List Entry) → RaceFree job.program → TwoOrThree job → Legal job journal → StaysApart job journal → WritesAsIdeal job journal }
+{}
+
+/// The tie: where a run ends by an exit, a trap or a deadlock, its plan, run on the unreplicated machine, has all its
+/// steps, ends so too, and writes the same.
+pub fn plan_repeats()
+    ensures { (job : Job) (journal : List Entry) → RaceFree job.program → TwoOrThree job → Legal job journal → StaysApart job journal → (how : How) → outcome_of journal ≡ Some how → IsComplete how → IsRepeated job journal how }
 {}
 
 /// One struck replica stays apart: where all faults name one replica, they strike none while another differs.

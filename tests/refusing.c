@@ -28,8 +28,8 @@ static int (*create)(pthread_t *, const pthread_attr_t *, void *(*)(void *), voi
 extern void *dlsym(void *, const char *);
 #define NEXT ((void *)-1l)
 
-/* The pieces of memory that were given and aren't back: those of the program, since what the C library gives itself by calloc isn't
-   among them. */
+/* The pieces of memory that were given and aren't back: those of the program, since what the C library gives itself by calloc
+   isn't among them. */
 enum { PLACES = 1 << 16 };
 static void *pieces[PLACES];
 static long live;

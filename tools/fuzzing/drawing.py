@@ -108,11 +108,12 @@ def mutated(draw, data):
 
 # ---- Texts
 
-NUMBERS = [b"0", b"1", b"2", b"3", b"7", b"8", b"9", b"15", b"16", b"31", b"32", b"255", b"256", b"4095", b"4096", b"65536", b"65537",
-           b"1000000", b"1000001", b"4294967295", b"4294967296", b"1000000000000", b"1000000000001", b"18446744073709551615",
-           b"18446744073709551616", b"340282366920938463463374607431768211456", b"9" * 60, b"00", b"01", b"+1", b"-1", b"-", b"",
-           b"0x1", b"1.0", b"1e3"]
-PIECES = [b" ", b"  ", b"\t", b"\r", b"\n", b"\n\n", b"\0", b"\xff", b"\xc3\xa9", b"0", b"reg", b"pc", b"mem", b"take", b"end", b"-"]
+NUMBERS = [b"0", b"1", b"2", b"3", b"7", b"8", b"9", b"15", b"16", b"31", b"32", b"255", b"256", b"4095", b"4096", b"65536",
+           b"65537", b"1000000", b"1000001", b"4294967295", b"4294967296", b"1000000000000", b"1000000000001",
+           b"18446744073709551615", b"18446744073709551616", b"340282366920938463463374607431768211456", b"9" * 60,
+           b"00", b"01", b"+1", b"-1", b"-", b"", b"0x1", b"1.0", b"1e3"]
+PIECES = [b" ", b"  ", b"\t", b"\r", b"\n", b"\n\n", b"\0", b"\xff", b"\xc3\xa9", b"0", b"reg", b"pc", b"mem", b"take", b"end",
+          b"-"]
 
 
 def change_word(draw, lines):
@@ -157,9 +158,9 @@ def mutated_text(draw, text):
 
 # ---- Words
 
-PARTS = [b"", b"-", b"--", b"=", b"--=", b"---journal", b"-j", b"--journal=", b"--journal=true", b"--help", b"-h", b"-V", b"--version",
-         b"help", b"run", b"--inputs", b"--inpu", b"--INPUT", b"\xff", b"--input=\xff", b"\xc3\xa9", b" ", b"\n", b"guest ", b"x" * 300,
-         b"x" * 5000, b"--limit", b"--limit=", b"--limit=-1", b"--", b"..", b".", b"@faults"]
+PARTS = [b"", b"-", b"--", b"=", b"--=", b"---journal", b"-j", b"--journal=", b"--journal=true", b"--help", b"-h", b"-V",
+         b"--version", b"help", b"run", b"--inputs", b"--inpu", b"--INPUT", b"\xff", b"--input=\xff", b"\xc3\xa9", b" ", b"\n",
+         b"guest ", b"x" * 300, b"x" * 5000, b"--limit", b"--limit=", b"--limit=-1", b"--", b"..", b".", b"@faults"]
 
 
 def change_words(draw, words):

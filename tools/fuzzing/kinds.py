@@ -1,5 +1,5 @@
-"""What is fuzzed: executables, programs, fault lists, words and journals. A kind draws a case, a command and the files beside it, and says
-what is wrong with what came of it."""
+"""What is fuzzed: executables, programs, fault lists, words and journals. A kind draws a case, a command and the files beside
+it, and says what is wrong with what came of it."""
 import dataclasses
 import os
 import pathlib
@@ -104,7 +104,8 @@ class Executables:
     def draw(self, draw):
         file, data = self.file(draw), draw.randbytes(draw.choice((0, 1, 100, 5000)))
         options = {"limit": draw.choice(self.LIMITS), "watchdog": draw.choice((100, 128, 1_000, 10_000)),
-                   "quantum": draw.choice((1, 7, 128, 4_096)), "replicas": draw.choice((2, 3)), "drivers": draw.choice((1, 1, 2, 3))}
+                   "quantum": draw.choice((1, 7, 128, 4_096)), "replicas": draw.choice((2, 3)),
+                   "drivers": draw.choice((1, 1, 2, 3))}
         words = [b"run", b"guest", b"--input", b"input"]
         for name, number in options.items():
             words += [b"--" + name.encode(), str(number).encode()]
@@ -127,7 +128,8 @@ class Executables:
         if came.report != report.encode():
             yield f"{came.report!r} is reported, not {report!r}"
         if came.output != ran.output:
-            yield f"{came.output[:80]!r}.., {len(came.output)} bytes came, not {bytes(ran.output[:80])!r}.., {len(ran.output)} bytes"
+            wanted = bytes(ran.output)
+            yield f"{came.output[:80]!r}.., {len(came.output)} bytes came, not {wanted[:80]!r}.., {len(wanted)} bytes"
 
 
 class Programs(Executables):

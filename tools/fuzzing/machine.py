@@ -93,8 +93,7 @@ class Machine:
         """Whether each of the bytes may be read, written or executed."""
         end = address + size
         while address < end:
-            reached = next((range_end for start, range_end, flags in self.ranges if flags & kind and start <= address < range_end),
-                           None)
+            reached = next((stop for start, stop, flags in self.ranges if flags & kind and start <= address < stop), None)
             if reached is None:
                 return False
             address = reached
@@ -240,9 +239,11 @@ class Machine:
             self.store((a + extended(funct7 << 5 | rd, 12)) & WORD, 1 << funct3, b)
             return 0, 0, after
         if opcode == 0x13:
-            operation = OPERATIONS.get((funct7 if funct3 in (1, 5) else 0, funct3)) if funct7 != 1 or funct3 not in (1, 5) else None
-            other = word >> 20 & 31 if funct3 in (1, 5) else immediate & WORD
-            return (rd, int(operation(a, other)), after) if operation else None
+            shifts = funct3 in (1, 5)
+            if shifts and (funct7 == 1 or (funct7, funct3) not in OPERATIONS):
+                return None
+            operation = OPERATIONS[funct7 if shifts else 0, funct3]
+            return rd, int(operation(a, word >> 20 & 31 if shifts else immediate & WORD)), after
         if opcode == 0x33 and (funct7, funct3) in OPERATIONS:
             return rd, int(OPERATIONS[funct7, funct3](a, b)), after
         if opcode == 0x0F and funct3 == 0:

@@ -3,7 +3,8 @@ import struct
 
 BASE, HEADERS, PAGE = 0x10000, 52 + 32, 4096
 POINTER = 31  # the register with an address of the heap, which no drawn instruction changes
-OPERANDS = [0, 1, 2, 31, 32, 0x7FF, 0x800, 0xFFFF, 0x10000, 0x7FFFFFFF, 0x80000000, 0x80000001, 0xFFFF8000, 0xFFFFFFFE, 0xFFFFFFFF]
+OPERANDS = [0, 1, 2, 31, 32, 0x7FF, 0x800, 0xFFFF, 0x10000, 0x7FFFFFFF, 0x80000000, 0x80000001, 0xFFFF8000, 0xFFFFFFFE,
+            0xFFFFFFFF]
 # funct7 and funct3 of what two registers give.
 TWO_REGISTERS = [(0, function) for function in range(8)] + [(32, 0), (32, 5)] + [(1, function) for function in range(8)]
 LENGTHS = {0: 1, 1: 2, 2: 4, 4: 1, 5: 2}  # in bytes, of a load or store by its funct3
@@ -23,7 +24,8 @@ def form_b(by, second, first, function):
 
 
 def form_j(by, register):
-    return ((by >> 20 & 1) << 31 | (by >> 1 & 0x3FF) << 21 | (by >> 11 & 1) << 20 | (by >> 12 & 0xFF) << 12 | register << 7 | 0x6F)
+    return ((by >> 20 & 1) << 31 | (by >> 1 & 0x3FF) << 21 | (by >> 11 & 1) << 20 | (by >> 12 & 0xFF) << 12
+            | register << 7 | 0x6F)
 
 
 def put(register, value):

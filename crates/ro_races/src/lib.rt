@@ -1,0 +1,9 @@
+//! Races of one run: two steps of different threads that access one byte, one of them writing it, and that nothing orders.
+//!
+//! `check` runs the plan of a journal on the unreplicated machine and tells the first race of it, by vector clocks.
+#![tactic(auto)]
+
+mod laws;
+mod sources;
+
+pub use laws::{known_is_before, one_race_is_first, races_of_executions};

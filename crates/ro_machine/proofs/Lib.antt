@@ -5,3 +5,4 @@ pub mod Planned
 pub mod Plains
 pub mod Serving
 pub mod Stepping
+pub mod Noted

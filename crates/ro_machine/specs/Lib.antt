@@ -3,3 +3,4 @@ pub mod Seen
 pub mod Lengths
 pub mod Parts
 pub mod Plans
+pub mod Watched

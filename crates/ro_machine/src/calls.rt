@@ -8,8 +8,10 @@ ghost use Rattle.ro_kernel.specs.Kernel.{lives_on};
 ghost use Rattle.ro_kernel.specs.Serve.{serve as serve_of, payload_of};
 ghost use Rattle.ro_plain.specs.Machine.{with_made, called};
 ghost use Rattle.ro_machine.specs.Seen.{machine_with, RefusesCall};
+ghost use Rattle.ro_machine.specs.Watched.{Tells};
 
 use crate::errors::StepErr;
+use crate::watching::{NO_BYTES, Stretch};
 use ro_event::{Call, Effect, Made};
 use ro_exec::Cpu;
 use ro_journal::How;
@@ -18,11 +20,23 @@ use ro_pages::Pages;
 use ro_region::Regions;
 use ro_replica::{change, made_cpu, store};
 
+/// What a call that was served came to.
+#[derive(Clone, Copy, Debug, PartialEq, Eq)]
+pub(crate) struct Came {
+    pub call: Call,
+    /// How the program ends, if it does.
+    pub how: Option<How>,
+    /// What the call answered, if it did.
+    pub answer: Option<u32>,
+    /// The bytes that it stored.
+    pub stored: Stretch,
+}
+
 /// How many pages an effect may back: those of 4,096 bytes, and one.
 const SPARE_PAGES: u32 = 3;
 
-/// Serves a call of a live thread, with its effect on the memory and the threads. It answers how the program ends, if it
-/// does, and leaves what the call wrote in `written`.
+/// Serves a call of a live thread, with its effect on the memory and the threads. It answers what the call came to, and leaves
+/// what it wrote in `written`.
 ///
 /// # Errors
 /// `NoStep` where the call blocks, and `NoMemory`. Nothing has changed then.
@@ -35,7 +49,7 @@ pub(crate) fn serve(
     regions: &Regions,
     thread: u32,
     call: Call,
-) -> Result<Option<How>, StepErr>
+) -> Result<Came, StepErr>
     requires live { lives_on kernel.old.kernel thread ≡ true }
     requires regions { regions.now ≡ kernel.old.setup.ranges }
     requires made { length cpus.old.items ≡ length kernel.old.kernel.lives }
@@ -47,7 +61,8 @@ pub(crate) fn serve(
     ensures threads { vec_capacity cpus.old ≤ vec_capacity cpus.new }
     ensures room { vec_capacity written.old ≤ vec_capacity written.new }
     ensures little { length written.new.items ≤ 4096 }
-    ensures served { IfOk result (λ how. (cpu : CpuSeen) (output : List ℕ) → slice_get cpus.old.items thread ≡ Some cpu → called (machine_with pages.old cpus.old.items kernel.old.kernel output None) cpu (payload_of regions.now (memory_of pages.old.pages) call) (serve_of kernel.old.setup kernel.old.kernel thread call) ≡ Some (machine_with pages.new cpus.new.items kernel.new.kernel (output ++ written.new.items) how)) }
+    ensures served { IfOk result (λ came. (cpu : CpuSeen) (output : List ℕ) → slice_get cpus.old.items thread ≡ Some cpu → called (machine_with pages.old cpus.old.items kernel.old.kernel output None) cpu (payload_of regions.now (memory_of pages.old.pages) call) (serve_of kernel.old.setup kernel.old.kernel thread call) ≡ Some (machine_with pages.new cpus.new.items kernel.new.kernel (output ++ written.new.items) came.how)) }
+    ensures told { IfOk result (Tells (serve_of kernel.old.setup kernel.old.kernel thread call) call) }
     ensures refused { IfErr result (RefusesCall (serve_of kernel.old.setup kernel.old.kernel thread call)) }
     ensures kernel { OnErr result (kernel.new ≡ kernel.old) }
     ensures memory { OnErr result (memory_of pages.new.pages ≡ memory_of pages.old.pages) }
@@ -59,10 +74,23 @@ pub(crate) fn serve(
         Served::Done(effect) => {
             put_payload(pages, regions, call, written);
             apply(pages, cpus, &effect);
-            Ok(None)
+            Ok(Came {
+                call,
+                how: None,
+                answer: effect.answer,
+                stored: Stretch {
+                    place: effect.place,
+                    count: effect.bytes.as_slice().len() as u32,
+                },
+            })
         }
         Served::Blocked => Err(StepErr::NoStep),
-        Served::Ends(how) => Ok(Some(how)),
+        Served::Ends(how) => Ok(Came {
+            call,
+            how: Some(how),
+            answer: None,
+            stored: NO_BYTES,
+        }),
     }
 }
 

@@ -5,14 +5,17 @@ mod backing;
 mod calls;
 mod errors;
 mod length;
+mod looking;
 mod plain;
 mod playing;
 mod running;
+mod watching;
 
 pub use errors::{PlainEnd, PlanErr, StepErr, TooLong};
 pub use length::{MOST_STEPS, plan_steps};
 pub use plain::Plain;
 pub use running::run_plan;
+pub use watching::{Relation, Stretch, Watched};
 
 #[cfg(test)]
 mod tests;

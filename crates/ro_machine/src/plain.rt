@@ -1,14 +1,18 @@
 //! The machine.
-ghost use Rattle.std.specs.Prelude.{◌≡◌, [], None, IfOk, IfErr, OnErr, OnOk, length, replicate, true, ◌∷◌, ◌≤◌, vec_capacity};
+ghost use Rattle.std.specs.Prelude.{◌≡◌, ℕ, List, [], None, Some, IfOk, IfErr, OnErr, OnOk, length, replicate, true, ◌∷◌, ◌≤◌, slice_get, vec_capacity};
+ghost use Rattle.ro_exec.specs.declared.Cpu.{Cpu as CpuSeen};
 ghost use Rattle.ro_exec.specs.Threads.{first_cpu as first};
 ghost use Rattle.ro_kernel.specs.Kernel.{lives_on};
-ghost use Rattle.ro_plain.specs.Machine.{opening};
+ghost use Rattle.ro_plain.specs.Machine.{opening, layout_of, next_of};
 ghost use Rattle.ro_machine.specs.Parts.{Plays};
 ghost use Rattle.ro_machine.specs.Seen.{machine_of, Steps, Refuses, SameMachine, StepsFrom, RefusesAt};
+ghost use Rattle.ro_machine.specs.Watched.{LooksAt, Sees, TellsNext, TellsStop};
 
 use crate::backing::execute;
 use crate::calls::serve;
 use crate::errors::StepErr;
+use crate::looking::{Look, NOTHING_SEEN, look_ahead};
+use crate::watching::{Watched, Went, told_of};
 use ro_event::Stop;
 use ro_exec::{Cpu, Step};
 use ro_image::Executable;
@@ -119,6 +123,48 @@ impl Plain {
         ensures same { OnErr result (SameMachine self.new self.old) }
         ensures nothing { OnErr result (self.new.written ≡ []) }
     {
+        self.go(thread)?;
+        Ok(())
+    }
+
+    /// Takes a step of a thread, as `step` does, and tells which bytes it accessed and what it means for the order of the
+    /// threads' steps.
+    ///
+    /// # Errors
+    /// As of `step`.
+    pub fn watch(&mut self, thread: u32) -> Result<Watched, StepErr>
+        ensures program { self.new.program ≡ self.old.program }
+        ensures steps { OnOk result (Steps self.old thread self.new) }
+        ensures sees { IfOk result (λ watched. (output : List ℕ) → Sees self.old.program (machine_of self.old output) thread watched) }
+        ensures refused { IfErr result (Refuses self.old thread) }
+        ensures same { OnErr result (SameMachine self.new self.old) }
+        ensures nothing { OnErr result (self.new.written ≡ []) }
+    {
+        let look = self.look_at(thread);
+        let made = self.kernel.made();
+        let went = self.go(thread)?;
+        Ok(told_of(look, went, made, &self.regions))
+    }
+
+    // What is known of the next step of a thread.
+    fn look_at(&self, thread: u32) -> Look
+        ensures { (cpu : CpuSeen) → slice_get self.now.cpus thread ≡ Some cpu → LooksAt (layout_of self.now.program) (machine_of self.now []).memory cpu result }
+    {
+        match self.cpus.get(thread as usize) {
+            Some(cpu) => look_ahead(cpu, &self.pages, &self.regions, self.image.calls()),
+            None => NOTHING_SEEN,
+        }
+    }
+
+    // A step, and what it was.
+    fn go(&mut self, thread: u32) -> Result<Went, StepErr>
+        ensures program { self.new.program ≡ self.old.program }
+        ensures steps { OnOk result (Steps self.old thread self.new) }
+        ensures told { IfOk result (λ went. (cpu : CpuSeen) → slice_get self.old.cpus thread ≡ Some cpu → TellsNext self.old.program self.old.kernel thread (next_of self.old.program (machine_of self.old []) cpu) went) }
+        ensures refused { IfErr result (Refuses self.old thread) }
+        ensures same { OnErr result (SameMachine self.new self.old) }
+        ensures nothing { OnErr result (self.new.written ≡ []) }
+    {
         self.written.truncate(0);
         if self.ended.is_some() || !self.kernel.lives_on(thread) {
             return Err(StepErr::NoStep);
@@ -164,12 +210,13 @@ impl Plain {
     }
 
     // A step where the program has not ended and the thread lives.
-    fn go_on(&mut self, thread: u32) -> Result<(), StepErr>
+    fn go_on(&mut self, thread: u32) -> Result<Went, StepErr>
         requires going { self.old.ended ≡ None }
         requires live { lives_on self.old.kernel thread ≡ true }
         requires empty { self.old.written ≡ [] }
         ensures program { self.new.program ≡ self.old.program }
         ensures steps { OnOk result (Steps self.old thread self.new) }
+        ensures told { IfOk result (λ went. (cpu : CpuSeen) → slice_get self.old.cpus thread ≡ Some cpu → TellsNext self.old.program self.old.kernel thread (next_of self.old.program (machine_of self.old []) cpu) went) }
         ensures refused { IfErr result (Refuses self.old thread) }
         ensures same { OnErr result (SameMachine self.new self.old) }
         ensures nothing { OnErr result (self.new.written ≡ []) }
@@ -181,25 +228,26 @@ impl Plain {
             self.image.calls(),
         )?;
         match done {
-            Step::Did => Ok(()),
+            Step::Did => Ok(Went::Executed),
             Step::Stopped(stop) => self.stand(thread, stop),
         }
     }
 
     // The step of a thread that stands at this stop.
-    fn stand(&mut self, thread: u32, stop: Stop) -> Result<(), StepErr>
+    fn stand(&mut self, thread: u32, stop: Stop) -> Result<Went, StepErr>
         requires going { self.old.ended ≡ None }
         requires live { lives_on self.old.kernel thread ≡ true }
         requires empty { self.old.written ≡ [] }
         ensures program { self.new.program ≡ self.old.program }
         ensures steps { OnOk result (StepsFrom self.old thread stop self.new) }
+        ensures told { IfOk result (TellsStop self.old.program self.old.kernel thread stop) }
         ensures refused { IfErr result (RefusesAt self.old thread stop) }
         ensures same { OnErr result (SameMachine self.new self.old) }
         ensures nothing { OnErr result (self.new.written ≡ []) }
     {
         match stop {
             Stop::Calls(call) => {
-                self.ended = serve(
+                let came = serve(
                     &mut self.kernel,
                     &mut self.pages,
                     &mut self.cpus,
@@ -208,11 +256,12 @@ impl Plain {
                     thread,
                     call,
                 )?;
-                Ok(())
+                self.ended = came.how;
+                Ok(Went::Called(came))
             }
             Stop::Trap(cause) => {
                 self.ended = Some(How::Trap(cause));
-                Ok(())
+                Ok(Went::Trapped)
             }
             // The machine has neither of these.
             Stop::PageFault(_) | Stop::Watchdog => Err(StepErr::NoStep),

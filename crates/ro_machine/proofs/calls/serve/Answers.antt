@@ -1,7 +1,8 @@
-use Rattle.std.proofs.Common.{ap, sym, ◌∙◌, length}
+use Rattle.std.proofs.Common.{ap, sym, ◌∙◌, length, arith}
 use Rattle.ro_pages.specs.Bytes.{stored}
 use Rattle.ro_pages.specs.Held.{memory_of}
 use Rattle.ro_kernel.specs.Serve.{payload_of}
+use Rattle.ro_machine.proofs.Noted.{tells-done}
 use Rattle.ro_machine.proofs.Serving.{known, ended-lives, threads-after, served-so}
 use Rattle.ro_machine.proofs.calls.serve.Goals as goal
 
@@ -35,3 +36,14 @@ returns-in-Done-clause-served c cpu output there =
 
 pub returns-in-Ends-clause-made : goal.returns-in-Ends-clause-made
 returns-in-Ends-clause-made c = c.requires.made ∙ sym (ended-lives c.args.kernel.now c.serve.new.self c.args.thread c.args.call _ c.in-Ends.how c.in-Ends.is c.in_ok-effect.ensures.served)
+
+pub overflow_cast-result : goal.overflow_cast-result
+overflow_cast-result c =
+    let facts = known c.args.kernel.now c.serve.new.self c.args.thread (length c.args.cpus.now.items) c.args.call _ c.in-Done.effect c.requires.live c.requires.made c.in-Done.is c.in_ok-effect.ensures.served in
+    let count = ap length c.as_slice.ensures.value ∙ ap (λ e. length e.bytes) c.effect.view_is in
+    omega (arith, facts.few, count)
+
+pub returns-in-Done-clause-told : goal.returns-in-Done-clause-told
+returns-in-Done-clause-told c =
+    let facts = known c.args.kernel.now c.serve.new.self c.args.thread (length c.args.cpus.now.items) c.args.call _ c.in-Done.effect c.requires.live c.requires.made c.in-Done.is c.in_ok-effect.ensures.served in
+    tells-done _ c.serve.new.self.kernel c.in-Done.effect c.args.call c.effect.inside.answer c.effect.inside.place (length c.as_slice.result.now) facts.outcome (ap (λ e. e.answer) c.effect.view_is) (ap (λ e. e.place) c.effect.view_is) (ap length c.as_slice.ensures.value ∙ ap (λ e. length e.bytes) c.effect.view_is) facts.few

@@ -3,8 +3,8 @@ use Rattle.std.specs.Prelude.{is_some}
 use Rattle.ro_kernel.specs.Kernel.{lives_on}
 use Rattle.ro_machine.specs.Seen.{machine_of, SameMachine}
 use Rattle.ro_machine.proofs.Stepping.{no-step, on-err}
-use Rattle.ro_machine.proofs.plain.Plain.step.Goals as goal
-use Rattle.ro_machine.proofs.plain.Plain.step.Goals.{then-is_some-via-then-is_some, then-is_some-via-else-is_some+then-not-lives_on}
+use Rattle.ro_machine.proofs.plain.Plain.go.Goals as goal
+use Rattle.ro_machine.proofs.plain.Plain.go.Goals.{then-is_some-via-then-is_some, then-is_some-via-else-is_some+then-not-lives_on}
 
 pub returns-then-is_some-clause-refused : goal.returns-then-is_some-clause-refused
 returns-then-is_some-clause-refused c output =

@@ -1,0 +1,293 @@
+-- What a step did, by its code.
+use Rattle.std.specs.Prelude.{◌≡◌, ℕ, zero, suc, ◌+◌, ◌%◌, ◌<◌, ◌≤◌, ◌||◌, ◌&&◌, not, cond, Bool, true, false, ◌==◌, List, [], ◌∷◌, ◌++◌, length, nat_le, nat_lt, Option, Some, None, is_none, is_some, if◌then◌else◌}
+use Rattle.std.specs.Option.{option_map, option_map_or}
+use Rattle.std.proofs.Common.{refl, sym, ap, ap₂, ◌∙◌, subst, arith}
+use Rattle.std.proofs.lemmas.Bool.{true≢false, false≢true, ltb-true, leb-true, eqb-true, and_parts}
+use Rattle.ro_decode.specs.declared.Instr.{Instr}
+use Rattle.ro_decode.specs.Table.{instruction_of}
+use Rattle.ro_event.specs.declared.calls.Which.{Which}
+use Rattle.ro_event.specs.declared.calls.Call.{Call}
+use Rattle.ro_event.specs.declared.stops.Stop.{Stop}
+use Rattle.ro_event.specs.declared.stops.Stop.TheVariants.{Calls, Trap, PageFault, Watchdog}
+use Rattle.ro_event.specs.Table.{call_at}
+use Rattle.ro_region.specs.declared.Range.{Range}
+use Rattle.ro_region.specs.declared.Kind.TheVariants.{Execute}
+use Rattle.ro_region.specs.Permission.{permits_of}
+use Rattle.ro_pages.specs.Bytes.{Memory, Span, within, bytes_at, number_at}
+use Rattle.ro_exec.specs.declared.Cpu.{Cpu}
+use Rattle.ro_exec.specs.Meaning.{loads, stores}
+use Rattle.ro_exec.specs.Next.{Layout, all_backed, exit_place, Next, Stands, Executes, first, stop_if, fetch_stop, instruction_stop, unless_stop, next_at, next}
+use Rattle.ro_exec.proofs.Frame.{next-fetched, next-stopped}
+use Rattle.ro_kernel.specs.Kernel.{Kernel}
+use Rattle.ro_kernel.specs.Serve.{Served, Done, Blocked, Ends, serve, payload_of, is_write, is_good_write, capped}
+use Rattle.std.proofs.lemmas.Option.{option_and_then_some}
+use Rattle.ro_plain.specs.Machine.{Program, layout_of, setup_of, Machine, next_of, steppable, step, step_by}
+use Rattle.ro_event.specs.Effects.{Effect}
+use Rattle.ro_plain.specs.Accesses.{Accesses, fetches, accesses, accesses_by, touches, payload_span, stored_span}
+use Rattle.ro_plain.specs.Order.{Nothing, sync_of, sync_next, sync_served}
+use Rattle.ro_plain.proofs.Calls.{accesses-at, step-opens}
+use Rattle.ro_machine.specs.declared.calls.Came.{Came}
+use Rattle.ro_machine.specs.declared.watching.Stretch.{Stretch}
+use Rattle.ro_machine.specs.declared.watching.Went.TheVariants.{Executed, Trapped, Called}
+use Rattle.ro_machine.specs.declared.looking.Look.{Look}
+use Rattle.ro_machine.specs.declared.watching.Relation.{Relation}
+use Rattle.ro_machine.specs.declared.watching.Relation.TheVariants.{Nothing as IsNothing}
+use Rattle.ro_machine.specs.Watched.{span_of, sync_of_relation, Tells, TellsNext, code_at, LooksAt, Sees}
+
+-- ---- what is known before a step
+
+-- an instruction that is executed was read, and is what its word spells
+pub record WasRead (layout : Layout) (memory : Memory) (cpu : Cpu) (instr : Instr) : Type 0 where
+  pub fetched : fetch_stop layout all_backed cpu ≡ None
+  pub spelled : instruction_of (number_at memory cpu.pc 4) ≡ Some instr
+
+executes-same : (i j : Instr) → Executes i ≡ Executes j → i ≡ j
+executes-same i j e = cc
+
+pub was-read : (layout : Layout) (memory : Memory) (cpu : Cpu) (instr : Instr) → next layout all_backed memory cpu ≡ Executes instr → WasRead layout memory cpu instr
+was-read layout memory cpu instr e = by (fetch_stop layout all_backed cpu) refl
+  where
+    word : (o : Option Instr) → next_at layout.ranges all_backed cpu o ≡ Executes instr → o ≡ Some instr
+    word None f = absurd (let g : Stands (Trap 3) ≡ Executes instr = f in cc)
+    word (Some other) f = at (instruction_stop layout.ranges all_backed cpu other) f
+      where
+        at : (o : Option Stop) → unless_stop o (Executes other) ≡ Executes instr → Some other ≡ Some instr
+        at None g = ap Some (executes-same other instr g)
+        at (Some stop) g = absurd (let h : Stands stop ≡ Executes instr = g in cc)
+
+    by : (o : Option Stop) → fetch_stop layout all_backed cpu ≡ o → WasRead layout memory cpu instr
+    by (Some stop) f = absurd (let g : Stands stop ≡ Executes instr = sym (next-stopped layout all_backed memory cpu stop f) ∙ e in cc)
+    by None f = record { fetched = f; spelled = word (instruction_of (number_at memory cpu.pc 4)) (sym (next-fetched layout all_backed memory cpu f) ∙ e) }
+
+-- whether an instruction is read, by its four conditions
+rows : (a b p : Bool) (o : Option Which) (f : Which → Stop) (s t u v : Stop) → is_none (first (stop_if (not a) s ∷ stop_if b t ∷ option_map f o ∷ stop_if (not p) u ∷ stop_if false v ∷ [])) ≡ (a && (not b && (is_none o && p)))
+rows false b p o f s t u v = refl
+rows true true p o f s t u v = refl
+rows true false p (Some which) f s t u v = refl
+rows true false true None f s t u v = refl
+rows true false false None f s t u v = refl
+
+pub is-read : (layout : Layout) (cpu : Cpu) → is_none (fetch_stop layout all_backed cpu) ≡ ((cpu.pc % 4 == 0) && (not (cpu.pc == exit_place) && (is_none (call_at layout.calls cpu.pc) && permits_of layout.ranges Execute cpu.pc 4)))
+unfolding fetch_stop
+is-read layout cpu = rows (cpu.pc % 4 == 0) (cpu.pc == exit_place) (permits_of layout.ranges Execute cpu.pc 4) (call_at layout.calls cpu.pc) _ _ _ _ (PageFault 0)
+
+eq-false : (m n : ℕ) → (m ≡ n → ⊥) → (m == n) ≡ false
+eq-false m n h = by (m == n) refl
+  where
+    by : (b : Bool) → (m == n) ≡ b → (m == n) ≡ false
+    by false e = e
+    by true e = absurd (h (eqb-true m n e))
+
+eq-true : (m n : ℕ) → m ≡ n → (m == n) ≡ true
+eq-true m n h = by (m == n) refl
+  where
+    by : (b : Bool) → (m == n) ≡ b → (m == n) ≡ true
+    by true e = e
+    by false e = absurd (grind (arith, e, h))
+
+none-some : (o : Option Which) → is_some o ≡ true → is_none o ≡ false
+none-some None h = absurd (false≢true h)
+none-some (Some which) h = refl
+
+none-none : (o : Option Which) → is_some o ≡ false → is_none o ≡ true
+none-none None h = refl
+none-none (Some which) h = absurd (true≢false h)
+
+module _ (layout : Layout) (cpu : Cpu) where
+  pub unread-place : (cpu.pc % 4 ≡ 0 → ⊥) → false ≡ is_none (fetch_stop layout all_backed cpu)
+  unread-place h = sym (is-read layout cpu ∙ ap (λ a. a && (not (cpu.pc == exit_place) && (is_none (call_at layout.calls cpu.pc) && permits_of layout.ranges Execute cpu.pc 4))) (eq-false (cpu.pc % 4) 0 h))
+
+  pub unread-exit : cpu.pc % 4 ≡ 0 → cpu.pc ≡ exit_place → false ≡ is_none (fetch_stop layout all_backed cpu)
+  unread-exit g h = sym (is-read layout cpu ∙ (ap (λ a. a && (not (cpu.pc == exit_place) && (is_none (call_at layout.calls cpu.pc) && permits_of layout.ranges Execute cpu.pc 4))) (eq-true (cpu.pc % 4) 0 g) ∙ ap (λ b. not b && (is_none (call_at layout.calls cpu.pc) && permits_of layout.ranges Execute cpu.pc 4)) (eq-true cpu.pc exit_place h)))
+
+  module _ (g : cpu.pc % 4 ≡ 0) (h : cpu.pc ≡ exit_place → ⊥) (o : Option Which) (found : o ≡ call_at layout.calls cpu.pc) where
+    so-far : is_none (fetch_stop layout all_backed cpu) ≡ (is_none o && permits_of layout.ranges Execute cpu.pc 4)
+    so-far =
+        is-read layout cpu
+        ∙ (ap (λ a. a && (not (cpu.pc == exit_place) && (is_none (call_at layout.calls cpu.pc) && permits_of layout.ranges Execute cpu.pc 4))) (eq-true (cpu.pc % 4) 0 g)
+        ∙ (ap (λ b. not b && (is_none (call_at layout.calls cpu.pc) && permits_of layout.ranges Execute cpu.pc 4)) (eq-false cpu.pc exit_place h)
+        ∙ ap (λ x. is_none x && permits_of layout.ranges Execute cpu.pc 4) (sym found)))
+
+    pub unread-call : is_some o ≡ true → false ≡ is_none (fetch_stop layout all_backed cpu)
+    unread-call e = sym (so-far ∙ ap (λ b. b && permits_of layout.ranges Execute cpu.pc 4) (none-some o e))
+
+    pub read-permitted : is_some o ≡ false → (p : Bool) → p ≡ permits_of layout.ranges Execute cpu.pc 4 → p ≡ is_none (fetch_stop layout all_backed cpu)
+    read-permitted e p q = q ∙ sym (so-far ∙ ap (λ b. b && permits_of layout.ranges Execute cpu.pc 4) (none-none o e))
+
+-- ---- bytes
+
+pub in-none : (place a : ℕ) → within (record { place = place; count = 0 }) a ≡ false
+in-none place a = by (within (record { place = place; count = 0 }) a) refl
+  where
+    by : (b : Bool) → within (record { place = place; count = 0 }) a ≡ b → within (record { place = place; count = 0 }) a ≡ false
+    by false e = e
+    by true e =
+        let low = leb-true place a (and_parts (nat_le place a) (nat_lt a (place + 0)) e).0 in
+        let high = ltb-true a (place + 0) (and_parts (nat_le place a) (nat_lt a (place + 0)) e).1 in
+        absurd (omega (arith, low, high))
+
+or-none : (b : Bool) → (b || false) ≡ b
+or-none true = refl
+or-none false = refl
+
+-- one stretch
+pub touches-one : (span : Span) (a : ℕ) → touches (span ∷ []) a ≡ within span a
+touches-one span a = or-none (within span a)
+
+or-assoc : (a b c : Bool) → ((a || b) || c) ≡ (a || (b || c))
+or-assoc true b c = refl
+or-assoc false b c = refl
+
+touches-both : (xs ys : List Span) (a : ℕ) → touches (xs ++ ys) a ≡ (touches xs a || touches ys a)
+touches-both [] ys a = refl
+touches-both (x ∷ xs) ys a = ap (λ b. within x a || b) (touches-both xs ys a) ∙ sym (or-assoc (within x a) (touches xs a) (touches ys a))
+
+-- no bytes
+abbrev pub no_bytes : Stretch
+no_bytes = record { place = 0; count = 0 }
+
+module _ (layout : Layout) (memory : Memory) (cpu : Cpu) where
+  code-of : (b : Bool) → is_none (fetch_stop layout all_backed cpu) ≡ b → code_at layout cpu ≡ (if b then record { place = cpu.pc; count = 4 } ∷ [] else [])
+  code-of b e = ap (λ (x : Bool). if x then record { place = cpu.pc; count = 4 } ∷ [] else []) e
+
+  -- a step that reads no instruction
+  pub look-unread : false ≡ is_none (fetch_stop layout all_backed cpu) → LooksAt layout memory cpu (record { code = no_bytes; loads = no_bytes; stores = no_bytes })
+  look-unread h = record {
+    code = λ a. in-none 0 a ∙ sym (ap (λ xs. touches xs a) (code-of false (sym h)));
+    loads_are = λ instr e. absurd (true≢false (ap is_none (sym (was-read layout memory cpu instr e).fetched) ∙ sym h));
+    stores_are = λ instr e. absurd (true≢false (ap is_none (sym (was-read layout memory cpu instr e).fetched) ∙ sym h));
+    code_few = omega arith;
+    loads_few = omega arith;
+    stores_few = omega arith;
+  }
+
+  -- one that reads an instruction
+  pub look-read : (look : Look) → true ≡ is_none (fetch_stop layout all_backed cpu) → span_of look.code ≡ record { place = cpu.pc; count = 4 } → ((instr : Instr) → instruction_of (number_at memory cpu.pc 4) ≡ Some instr → span_of look.loads ≡ loads instr cpu) → ((instr : Instr) → instruction_of (number_at memory cpu.pc 4) ≡ Some instr → span_of look.stores ≡ stores instr cpu)
+      → look.loads.count ≤ 4 → look.stores.count ≤ 4 → LooksAt layout memory cpu look
+  look-read look h code loaded stored few fewer = record {
+    code = λ a. ap (λ (s : Span). within s a) code ∙ sym (ap (λ xs. touches xs a) (code-of true (sym h)) ∙ touches-one (record { place = cpu.pc; count = 4 }) a);
+    loads_are = λ instr e. loaded instr (was-read layout memory cpu instr e).spelled;
+    stores_are = λ instr e. stored instr (was-read layout memory cpu instr e).spelled;
+    code_few = (let e : look.code.count ≡ 4 = ap (λ (s : Span). s.count) code in omega (arith, e));
+    loads_few = few;
+    stores_few = fewer;
+  }
+
+-- ---- what a call came to
+
+pub tells-done : (served : Served) (kernel : Kernel) (effect : Effect) (call : Call) (answer : Option ℕ) (place count : ℕ) → served ≡ Done kernel effect → answer ≡ effect.answer → place ≡ effect.place → count ≡ length effect.bytes → length effect.bytes ≤ 4096 → Tells served call (record { call = call; how = None; answer = answer; stored = record { place = place; count = count } })
+tells-done served kernel effect call answer place count e d f g few = subst (λ (s : Served). Tells s call (record { call = call; how = None; answer = answer; stored = record { place = place; count = count } })) (sym e) (refl, refl, d, f, g, omega arith)
+
+length-bytes_at : (m : Memory) (place n : ℕ) → length (bytes_at m place n) ≡ n
+length-bytes_at m place zero = refl
+length-bytes_at m place (suc n) = ap suc (length-bytes_at m (place + 1) n)
+
+-- as many bytes as a call puts out are its payload's stretch
+pub payload-stretch : (ranges : List Range) (call : Call) (n : ℕ) → ((memory : Memory) → bytes_at memory call.a1 n ≡ payload_of ranges memory call) → (a : ℕ) → within (record { place = call.a1; count = n }) a ≡ touches (payload_span ranges call) a
+unfolding payload_of
+payload-stretch ranges call n h a = by (is_write call.which && is_good_write ranges call) (h (λ _. 0))
+  where
+    by : (b : Bool) → bytes_at (λ _. 0) call.a1 n ≡ cond b (bytes_at (λ _. 0) call.a1 (capped call.a2)) [] → within (record { place = call.a1; count = n }) a ≡ touches (cond b (record { place = call.a1; count = capped call.a2 } ∷ []) []) a
+    by true e =
+        let f : n ≡ capped call.a2 = sym (length-bytes_at (λ _. 0) call.a1 n) ∙ (ap length e ∙ length-bytes_at (λ _. 0) call.a1 (capped call.a2)) in
+        ap (λ k. within (record { place = call.a1; count = k }) a) f ∙ sym (touches-one (record { place = call.a1; count = capped call.a2 }) a)
+    by false e =
+        let f : n ≡ 0 = sym (length-bytes_at (λ _. 0) call.a1 n) ∙ ap length e in
+        ap (λ k. within (record { place = call.a1; count = k }) a) f ∙ in-none call.a1 a
+
+-- ---- what a step did
+
+module _ (program : Program) (machine : Machine) (thread : ℕ) (cpu : Cpu) (live : steppable machine thread ≡ Some cpu) (look : Look) (looks : LooksAt (layout_of program) machine.memory cpu look) (known : thread < 16) where
+  accesses-are : (n : Next) → next_of program machine cpu ≡ n → accesses program machine thread ≡ accesses_by program machine thread cpu n
+  accesses-are n e = accesses-at program machine thread cpu live ∙ ap (accesses_by program machine thread cpu) e
+
+  sync-is : (n : Next) → next_of program machine cpu ≡ n → sync_of program machine thread ≡ sync_next program machine thread n
+  unfolding sync_of
+  sync-is n e =
+      ap (λ o. option_map_or (λ cpu. sync_next program machine thread (next_of program machine cpu)) o Nothing) live
+      ∙ ap (sync_next program machine thread) e
+
+  fetches-are : (a : ℕ) → touches (fetches program cpu) a ≡ within (span_of look.code) a
+  fetches-are a = sym (looks.code a)
+
+  code-little : look.code.count ≤ 4096
+  code-little = let e = looks.code_few in omega arith
+
+  pub sees-executed : TellsNext program machine.kernel thread (next_of program machine cpu) Executed → Sees program machine thread (record { loaded = look.loads; code = look.code; stored = look.stores; relation = IsNothing })
+  sees-executed told = by (next_of program machine cpu) refl told
+    where
+      by : (n : Next) → next_of program machine cpu ≡ n → TellsNext program machine.kernel thread n Executed → Sees program machine thread (record { loaded = look.loads; code = look.code; stored = look.stores; relation = IsNothing })
+      by (Executes instr) e h = record {
+        reads = λ a. ap (λ (x : Accesses). touches x.reads a) (accesses-are (Executes instr) e) ∙ ap₂ (λ (s : Span) (b : Bool). within s a || b) (sym (looks.loads_are instr e)) (fetches-are a);
+        writes = λ a. ap (λ (x : Accesses). touches x.writes a) (accesses-are (Executes instr) e) ∙ (touches-one (stores instr cpu) a ∙ ap (λ (s : Span). within s a) (sym (looks.stores_are instr e)));
+        means = sync-is (Executes instr) e;
+        loaded_few = (let f = looks.loads_few in omega arith);
+        code_few = code-little;
+        stored_few = (let f = looks.stores_few in omega arith);
+        known_thread = known;
+      }
+      by (Stands (Calls call)) e h = absurd h
+      by (Stands (Trap code)) e h = absurd h
+      by (Stands (PageFault page)) e h = absurd h
+      by (Stands Watchdog) e h = absurd h
+
+  pub sees-trapped : TellsNext program machine.kernel thread (next_of program machine cpu) Trapped → Sees program machine thread (record { loaded = no_bytes; code = look.code; stored = no_bytes; relation = IsNothing })
+  sees-trapped told = by (next_of program machine cpu) refl told
+    where
+      by : (n : Next) → next_of program machine cpu ≡ n → TellsNext program machine.kernel thread n Trapped → Sees program machine thread (record { loaded = no_bytes; code = look.code; stored = no_bytes; relation = IsNothing })
+      by (Executes instr) e h = absurd (let f : Trapped ≡ Executed = h in cc)
+      by (Stands (Calls call)) e h = absurd h
+      by (Stands (Trap code)) e h = record {
+        reads = λ a. ap (λ (x : Accesses). touches x.reads a) (accesses-are (Stands (Trap code)) e) ∙ ap₂ (λ (x y : Bool). x || y) (sym (in-none 0 a)) (fetches-are a);
+        writes = λ a. ap (λ (x : Accesses). touches x.writes a) (accesses-are (Stands (Trap code)) e) ∙ sym (in-none 0 a);
+        means = sync-is (Stands (Trap code)) e;
+        loaded_few = omega arith;
+        code_few = code-little;
+        stored_few = omega arith;
+        known_thread = known;
+      }
+      by (Stands (PageFault page)) e h = absurd h
+      by (Stands Watchdog) e h = absurd h
+
+  stored-are : (served : Served) (call : Call) (came : Came) → Tells served call came → (a : ℕ) → touches (stored_span served) a ≡ within (span_of came.stored) a
+  stored-are (Done kernel effect) call came h a = touches-one (record { place = effect.place; count = length effect.bytes }) a ∙ ap₂ (λ (p c : ℕ). within (record { place = p; count = c }) a) (sym h.3) (sym h.4)
+  stored-are Blocked call came h a = absurd h
+  stored-are (Ends kernel how) call came h a = sym (ap (λ (c : ℕ). within (record { place = came.stored.place; count = c }) a) h.2 ∙ in-none came.stored.place a)
+
+  stored-few : (served : Served) (call : Call) (came : Came) → Tells served call came → came.stored.count ≤ 4096
+  stored-few (Done kernel effect) call came h = h.5
+  stored-few Blocked call came h = absurd h
+  stored-few (Ends kernel how) call came h = let e = h.2 in omega arith
+
+  call-same : (served : Served) (call : Call) (came : Came) → Tells served call came → came.call ≡ call
+  call-same (Done kernel effect) call came h = h.0
+  call-same Blocked call came h = absurd h
+  call-same (Ends kernel how) call came h = h.0
+
+  pub sees-called : (came : Came) (loaded : Stretch) (relation : Relation) → TellsNext program machine.kernel thread (next_of program machine cpu) (Called came) → ((a : ℕ) → within (span_of loaded) a ≡ touches (payload_span program.image.ranges came.call) a) → loaded.count ≤ 4096
+      → ((served : Served) → Tells served came.call came → sync_of_relation relation ≡ sync_served machine came.call served)
+      → Sees program machine thread (record { loaded = loaded; code = look.code; stored = came.stored; relation = relation })
+  sees-called came loaded relation told pays few means = by (next_of program machine cpu) refl told
+    where
+      at : (call : Call) → next_of program machine cpu ≡ Stands (Calls call) → Tells (serve (setup_of program) machine.kernel thread call) call came → came.call ≡ call → Sees program machine thread (record { loaded = loaded; code = look.code; stored = came.stored; relation = relation })
+      at call e h same = record {
+        reads = λ a. ap (λ (x : Accesses). touches x.reads a) (accesses-are (Stands (Calls call)) e) ∙ (touches-both (payload_span program.image.ranges call) (fetches program cpu) a ∙ ap₂ (λ (x y : Bool). x || y) (ap (λ (c : Call). touches (payload_span program.image.ranges c) a) (sym same) ∙ sym (pays a)) (fetches-are a));
+        writes = λ a. ap (λ (x : Accesses). touches x.writes a) (accesses-are (Stands (Calls call)) e) ∙ stored-are (serve (setup_of program) machine.kernel thread call) call came h a;
+        means = sync-is (Stands (Calls call)) e ∙ (ap (λ (c : Call). sync_served machine c (serve (setup_of program) machine.kernel thread call)) (sym same) ∙ sym (means (serve (setup_of program) machine.kernel thread call) (subst (λ (c : Call). Tells (serve (setup_of program) machine.kernel thread call) c came) (sym same) h)));
+        loaded_few = few;
+        code_few = code-little;
+        stored_few = stored-few (serve (setup_of program) machine.kernel thread call) call came h;
+        known_thread = known;
+      }
+
+      by : (n : Next) → next_of program machine cpu ≡ n → TellsNext program machine.kernel thread n (Called came) → Sees program machine thread (record { loaded = loaded; code = look.code; stored = came.stored; relation = relation })
+      by (Executes instr) e h = absurd (let f : Called came ≡ Executed = h in cc)
+      by (Stands (Calls call)) e h = at call e h (call-same (serve (setup_of program) machine.kernel thread call) call came h)
+      by (Stands (Trap code)) e h = absurd h
+      by (Stands (PageFault page)) e h = absurd h
+      by (Stands Watchdog) e h = absurd h
+
+-- a step that there is, is of a thread with registers
+pub from-step : (program : Program) (machine : Machine) (thread : ℕ) (after : Machine) (P : Type 0) → step program machine thread ≡ Some after → ((cpu : Cpu) → steppable machine thread ≡ Some cpu → P) → P
+from-step program machine thread after P e f =
+    option_and_then_some (λ cpu. step_by program machine thread cpu (next_of program machine cpu)) (steppable machine thread) after (step-opens program machine thread after e) (λ cpu live g. f cpu live)

@@ -1,0 +1,124 @@
+//! What a step did: which bytes it accessed, and what it means for the order of the threads' steps.
+ghost use Rattle.std.specs.Prelude.{ℕ, ◌≡◌, ◌≤◌, Some, length};
+ghost use Rattle.ro_exec.specs.declared.Cpu.{Cpu as CpuSeen};
+ghost use Rattle.ro_kernel.specs.Serve.{Served};
+ghost use Rattle.ro_plain.specs.Accesses.{touches, payload_span};
+ghost use Rattle.ro_plain.specs.Order.{sync_served};
+ghost use Rattle.ro_plain.specs.Machine.{Program, Machine, layout_of, next_of, steppable};
+ghost use Rattle.ro_pages.specs.Bytes.{within};
+ghost use Rattle.ro_machine.specs.Watched.{span_of, sync_of_relation, Tells, LooksAt, TellsNext, Sees};
+
+use crate::calls::Came;
+use crate::looking::Look;
+use ro_event::{Call, Which};
+use ro_kernel::payload_len;
+use ro_region::Regions;
+
+/// A stretch of bytes; none where `count` is 0.
+#[derive(Clone, Copy, Debug, PartialEq, Eq)]
+pub struct Stretch {
+    /// The address of the first.
+    pub place: u32,
+    /// How many they are.
+    pub count: u32,
+}
+
+/// No bytes.
+pub(crate) const NO_BYTES: Stretch = Stretch { place: 0, count: 0 };
+
+/// What a step means for the order of the threads' steps.
+#[derive(Clone, Copy, Debug, PartialEq, Eq)]
+pub enum Relation {
+    /// It unlocks the mutex at this address.
+    Unlocks(u32),
+    /// It locks the mutex at this address, by a trylock too.
+    Locks(u32),
+    /// It makes the thread of this number.
+    Makes(u32),
+    /// It joins the thread of this number.
+    Joins(u32),
+    /// It ends its thread.
+    Exits,
+    /// It means nothing for the order.
+    Nothing,
+}
+
+/// What a step did besides changing the machine.
+#[derive(Clone, Copy, Debug, PartialEq, Eq)]
+pub struct Watched {
+    /// The bytes that it loaded or put out.
+    pub loaded: Stretch,
+    /// The bytes of its instruction, where it was read.
+    pub code: Stretch,
+    /// The bytes that it stored.
+    pub stored: Stretch,
+    pub relation: Relation,
+}
+
+/// What a step was.
+#[derive(Clone, Copy, Debug, PartialEq, Eq)]
+pub(crate) enum Went {
+    /// One plain instruction.
+    Executed,
+    /// A trap.
+    Trapped,
+    /// A call.
+    Called(Came),
+}
+
+/// What a step did, by what was known of it before and what it was.
+pub(crate) fn told_of(look: Look, went: Went, made: u32, regions: &Regions) -> Watched
+    requires made { made ≤ 16 }
+    ensures sees { (program : Program) (machine : Machine) (thread : ℕ) (cpu : CpuSeen) → regions.now ≡ program.image.ranges → length machine.kernel.lives ≡ made → steppable machine thread ≡ Some cpu → LooksAt (layout_of program) machine.memory cpu look → TellsNext program machine.kernel thread (next_of program machine cpu) went → Sees program machine thread result }
+{
+    match went {
+        Went::Executed => Watched {
+            loaded: look.loads,
+            code: look.code,
+            stored: look.stores,
+            relation: Relation::Nothing,
+        },
+        Went::Trapped => Watched {
+            loaded: NO_BYTES,
+            code: look.code,
+            stored: NO_BYTES,
+            relation: Relation::Nothing,
+        },
+        Went::Called(came) => Watched {
+            loaded: payload_of_call(regions, came.call),
+            code: look.code,
+            stored: came.stored,
+            relation: relation_of(came, made),
+        },
+    }
+}
+
+/// The bytes that a call puts out.
+fn payload_of_call(regions: &Regions, call: Call) -> Stretch
+    ensures bytes { (a : ℕ) → within (span_of result) a ≡ touches (payload_span regions.now call) a }
+    ensures few { result.count ≤ 4096 }
+{
+    Stretch {
+        place: call.a1,
+        count: payload_len(regions, call),
+    }
+}
+
+/// What a call that was served means for the order, where so many threads were made before it.
+fn relation_of(came: Came, made: u32) -> Relation
+    ensures { (machine : Machine) (served : Served) → length machine.kernel.lives ≡ made → Tells served came.call came → sync_of_relation result ≡ sync_served machine came.call served }
+{
+    if came.call.which == Which::Exit {
+        return Relation::Exits;
+    }
+    if came.how.is_some() || came.answer != Some(0) {
+        return Relation::Nothing;
+    }
+    match came.call.which {
+        Which::Unlock => Relation::Unlocks(came.call.a0),
+        Which::Lock | Which::TryLock => Relation::Locks(came.call.a0),
+        Which::Create => Relation::Makes(made),
+        Which::Join => Relation::Joins(came.call.a0),
+        _ => Relation::Nothing,
+    }
+}

@@ -2,3 +2,9 @@ pub mod Before
 pub mod Knowing
 pub mod Deciding
 pub mod Firsts
+pub mod Entries
+pub mod Rows
+pub mod Tables
+pub mod Follow
+pub mod Hits
+pub mod Standing

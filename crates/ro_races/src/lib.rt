@@ -3,7 +3,14 @@
 //! `check` runs the plan of a journal on the unreplicated machine and tells the first race of it, by vector clocks.
 #![tactic(auto)]
 
+mod checking;
+mod found;
 mod laws;
+mod marks;
+mod running;
+mod shadows;
 mod sources;
 
+pub use found::{Found, RacesErr};
 pub use laws::{known_is_before, one_race_is_first, races_of_executions};
+pub use running::check;

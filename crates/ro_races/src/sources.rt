@@ -1,12 +1,108 @@
-//! What a step of a thread learns from, and what it teaches.
+//! What a step of a thread learns from, and to what it passes on what it knows.
+ghost use Rattle.std.specs.Prelude.{ℕ, ◌≡◌, ◌<◌, IfSome, OnOk, length};
+ghost use Rattle.ro_races.specs.Clocks.{learns_from as learns, passes_to as passes};
+ghost use Rattle.ro_races.specs.Seen.{seen_by, is_source, known_by, IsPlace, Passes};
+ghost use Rattle.ro_machine.specs.Watched.{sync_of_relation};
+
+use crate::marks::{Clock, NOTHING};
+use ro_machine::Relation;
+use std::alloc::AllocError;
 
 /// What carries the order of steps from one to a later one.
 #[derive(Clone, Copy, Debug, PartialEq, Eq)]
-pub(crate) enum Source {
+pub enum Source {
     /// The next step of a thread.
     Thread(u32),
     /// The next lock of a mutex, by its address.
     Mutex(u32),
     /// The join of a thread that has exited.
     Exit(u32),
+}
+
+impl Source {
+    /// Whether two sources are one.
+    fn is(self, other: Source) -> bool
+        ensures { result ≡ is_source self other }
+    {
+        match (self, other) {
+            (Source::Thread(one), Source::Thread(two)) => one == two,
+            (Source::Mutex(one), Source::Mutex(two)) => one == two,
+            (Source::Exit(one), Source::Exit(two)) => one == two,
+            _ => false,
+        }
+    }
+}
+
+/// From what, besides its thread's own past, a step learns.
+pub(crate) fn learns_from(relation: Relation) -> Option<Source>
+    ensures { result ≡ learns (sync_of_relation relation) }
+{
+    match relation {
+        Relation::Locks(mutex) => Some(Source::Mutex(mutex)),
+        Relation::Joins(thread) => Some(Source::Exit(thread)),
+        _ => None,
+    }
+}
+
+/// To what, besides its thread's own next step, a step passes on what it knows.
+pub(crate) fn passes_to(thread: u32, relation: Relation) -> Option<Source>
+    ensures { result ≡ passes thread (sync_of_relation relation) }
+{
+    match relation {
+        Relation::Unlocks(mutex) => Some(Source::Mutex(mutex)),
+        Relation::Makes(other) => Some(Source::Thread(other)),
+        Relation::Exits => Some(Source::Exit(thread)),
+        _ => None,
+    }
+}
+
+/// A source with what it knows.
+#[derive(Clone, Copy, Debug, PartialEq, Eq)]
+pub(crate) struct Row {
+    pub source: Source,
+    pub clock: Clock,
+}
+
+/// What a source knows.
+pub(crate) fn known(rows: &[Row], source: Source) -> Clock
+    ensures { (thread : ℕ) → seen_by result thread ≡ known_by rows.now source thread }
+{
+    match place_of(rows, source) {
+        Some(place) => rows[place].clock,
+        None => NOTHING,
+    }
+}
+
+/// Passes on to a source what a clock knows.
+///
+/// # Errors
+/// Where there is no memory.
+pub(crate) fn pass(rows: &mut Vec<Row>, source: Source, past: &Clock) -> Result<(), AllocError>
+    ensures { OnOk result (Passes rows.old.items source past.now rows.new.items) }
+{
+    match place_of(rows.as_slice(), source) {
+        Some(place) => rows[place].clock.join(past),
+        None => rows
+            .push(Row {
+                source,
+                clock: *past,
+            })
+            .map_err(AllocError::from)?,
+    }
+    Ok(())
+}
+
+/// Where a source stands among others, if it does.
+fn place_of(rows: &[Row], source: Source) -> Option<usize>
+    ensures there { IfSome result (λ place. place < length rows.now) }
+    ensures place { IsPlace rows.now source result }
+{
+    let mut place = 0;
+    while place < rows.len() {
+        if rows[place].source.is(source) {
+            return Some(place);
+        }
+        place += 1;
+    }
+    None
 }

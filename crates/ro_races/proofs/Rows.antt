@@ -1,0 +1,125 @@
+-- What sources know, row by row.
+use Rattle.std.specs.Prelude.{◌≡◌, ◌≢◌, ℕ, zero, suc, ◌<◌, max, cond, Bool, true, false, ◌==◌, List, [], ◌∷◌, ◌++◌, Some, None, slice_get, slice_set, slice_index_or, replicate, ◌+◌}
+use Rattle.std.proofs.Common.{refl, sym, ap, ◌∙◌, arith}
+use Rattle.std.proofs.lemmas.Bool.{false≢true, eqb-true}
+use Rattle.std.proofs.lemmas.Option.{get_or_from_slice_get}
+use Rattle.ro_plain.proofs.Calls.{some-injective}
+use Rattle.ro_races.specs.declared.marks.Clock.{Clock}
+use Rattle.ro_races.specs.declared.sources.Source.{Source}
+use Rattle.ro_races.specs.declared.sources.Source.TheVariants.{Thread, Mutex, Exit}
+use Rattle.ro_races.specs.declared.sources.Row.{Row}
+use Rattle.ro_races.specs.Clocks.{IsJoined}
+use Rattle.ro_races.specs.Seen.{seen_by, is_source, known_by, IsPlace, Passes}
+
+pub one-source : (a b : Source) → is_source a b ≡ true → a ≡ b
+one-source (Thread a) (Thread b) h = ap Thread (eqb-true a b h)
+one-source (Mutex a) (Mutex b) h = ap Mutex (eqb-true a b h)
+one-source (Exit a) (Exit b) h = ap Exit (eqb-true a b h)
+one-source (Thread a) (Mutex b) h = absurd (false≢true h)
+one-source (Thread a) (Exit b) h = absurd (false≢true h)
+one-source (Mutex a) (Thread b) h = absurd (false≢true h)
+one-source (Mutex a) (Exit b) h = absurd (false≢true h)
+one-source (Exit a) (Thread b) h = absurd (false≢true h)
+one-source (Exit a) (Mutex b) h = absurd (false≢true h)
+
+same-number : (a : ℕ) → (a == a) ≡ true
+same-number a = grind arith
+
+pub same-source : (a : Source) → is_source a a ≡ true
+same-source (Thread a) = same-number a
+same-source (Mutex a) = same-number a
+same-source (Exit a) = same-number a
+
+other-source : (a b c : Source) → a ≡ b → c ≢ b → is_source a c ≡ false
+other-source a b c e n = by (is_source a c) refl
+  where
+    by : (x : Bool) → is_source a c ≡ x → is_source a c ≡ false
+    by false f = f
+    by true f = absurd (n (sym (one-source a c f) ∙ e))
+
+-- what the first row of a source says
+pub known-at : (rows : List Row) (i : ℕ) (row : Row) (s : Source) (u : ℕ) → slice_get rows i ≡ Some row → is_source row.source s ≡ true → ((k : ℕ) (other : Row) → k < i → slice_get rows k ≡ Some other → is_source other.source s ≡ false) → known_by rows s u ≡ seen_by row.clock u
+known-at [] i row s u there is before = absurd (let e : None ≡ Some row = there in cc)
+known-at (x ∷ rows) zero row s u there is before =
+    let e : x ≡ row = some-injective there in
+    ap (λ (b : Bool). cond b (seen_by x.clock) (known_by rows s) u) (ap (λ (r : Row). is_source r.source s) e ∙ is) ∙ ap (λ (r : Row). seen_by r.clock u) e
+known-at (x ∷ rows) (suc i) row s u there is before =
+    ap (λ (b : Bool). cond b (seen_by x.clock) (known_by rows s) u) (before 0 x (omega arith) refl)
+    ∙ known-at rows i row s u there is (λ k other less h. before (suc k) other (omega arith) h)
+
+-- a source with no row
+pub known-nowhere : (rows : List Row) (s : Source) (u : ℕ) → ((k : ℕ) (row : Row) → slice_get rows k ≡ Some row → is_source row.source s ≡ false) → known_by rows s u ≡ 0
+known-nowhere [] s u none = refl
+known-nowhere (x ∷ rows) s u none =
+    ap (λ (b : Bool). cond b (seen_by x.clock) (known_by rows s) u) (none 0 x refl)
+    ∙ known-nowhere rows s u (λ k row h. none (suc k) row h)
+
+-- another clock in the first row of a source
+set-own : (rows : List Row) (i : ℕ) (old new : Row) (s : Source) (u : ℕ) → slice_get rows i ≡ Some old → is_source new.source s ≡ true → ((k : ℕ) (other : Row) → k < i → slice_get rows k ≡ Some other → is_source other.source s ≡ false) → known_by (slice_set rows i new) s u ≡ seen_by new.clock u
+set-own [] i old new s u there is before = absurd (let e : None ≡ Some old = there in cc)
+set-own (x ∷ rows) zero old new s u there is before = ap (λ (b : Bool). cond b (seen_by new.clock) (known_by rows s) u) is
+set-own (x ∷ rows) (suc i) old new s u there is before =
+    ap (λ (b : Bool). cond b (seen_by x.clock) (known_by (slice_set rows i new) s) u) (before 0 x (omega arith) refl)
+    ∙ set-own rows i old new s u there is (λ k other less h. before (suc k) other (omega arith) h)
+
+either : (f g h : ℕ → ℕ) (u : ℕ) (b : Bool) → g u ≡ h u → cond b f g u ≡ cond b f h u
+either f g h u true e = refl
+either f g h u false e = e
+
+set-other : (rows : List Row) (i : ℕ) (old new : Row) (s : Source) (u : ℕ) → slice_get rows i ≡ Some old → is_source new.source s ≡ false → is_source old.source s ≡ false → known_by (slice_set rows i new) s u ≡ known_by rows s u
+set-other [] i old new s u there is was = absurd (let e : None ≡ Some old = there in cc)
+set-other (x ∷ rows) zero old new s u there is was =
+    let e : x ≡ old = some-injective there in
+    ap (λ (b : Bool). cond b (seen_by new.clock) (known_by rows s) u) is ∙ sym (ap (λ (b : Bool). cond b (seen_by x.clock) (known_by rows s) u) (ap (λ (r : Row). is_source r.source s) e ∙ was))
+set-other (x ∷ rows) (suc i) old new s u there is was = either _ _ _ u (is_source x.source s) (set-other rows i old new s u there is was)
+
+pub passes-at : (rows : List Row) (i : ℕ) (old new : Row) (s : Source) (past : Clock) → slice_get rows i ≡ Some old → new.source ≡ old.source → IsJoined (seen_by old.clock) (seen_by past) (seen_by new.clock) → IsPlace rows s (Some i) → Passes rows s past (slice_set rows i new)
+passes-at rows i old new s past there kept joined place =
+    let is = place.0 old there in
+    let own : old.source ≡ s = one-source old.source s is in
+    record {
+      learnt = λ u. set-own rows i old new s u there (ap (λ (x : Source). is_source x s) kept ∙ is) place.1 ∙ (joined u ∙ ap (λ (n : ℕ). max n (seen_by past u)) (sym (known-at rows i old s u there is place.1)));
+      others = λ other ne u. set-other rows i old new other u there (other-source new.source s other (kept ∙ own) ne) (other-source old.source s other own ne);
+    }
+
+-- one row more
+push-own : (rows : List Row) (new : Row) (s : Source) (u : ℕ) → is_source new.source s ≡ true → ((k : ℕ) (row : Row) → slice_get rows k ≡ Some row → is_source row.source s ≡ false) → known_by (rows ++ new ∷ []) s u ≡ seen_by new.clock u
+push-own [] new s u is none = ap (λ (b : Bool). cond b (seen_by new.clock) (λ _. 0) u) is
+push-own (x ∷ rows) new s u is none =
+    ap (λ (b : Bool). cond b (seen_by x.clock) (known_by (rows ++ new ∷ []) s) u) (none 0 x refl)
+    ∙ push-own rows new s u is (λ k row h. none (suc k) row h)
+
+push-other : (rows : List Row) (new : Row) (s : Source) (u : ℕ) → is_source new.source s ≡ false → known_by (rows ++ new ∷ []) s u ≡ known_by rows s u
+push-other [] new s u is = ap (λ (b : Bool). cond b (seen_by new.clock) (λ _. 0) u) is
+push-other (x ∷ rows) new s u is = either _ _ _ u (is_source x.source s) (push-other rows new s u is)
+
+max-none : (n m : ℕ) → m ≡ 0 → n ≡ max m n
+max-none n m e = grind (arith, e)
+
+pub passes-new : (rows : List Row) (new : Row) (s : Source) (past : Clock) → new.source ≡ s → new.clock ≡ past → IsPlace rows s None → Passes rows s past (rows ++ new ∷ [])
+passes-new rows new s past own clock none = record {
+  learnt = λ u. push-own rows new s u (ap (λ (x : Source). is_source x s) own ∙ same-source s) none ∙ (ap (λ (c : Clock). seen_by c u) clock ∙ max-none (seen_by past u) (known_by rows s u) (known-nowhere rows s u none));
+  others = λ other ne u. push-other rows new other u (other-source new.source s other own ne);
+}
+
+-- the row that stands for none
+abbrev pub blank : Row
+blank = record { source = Thread 0; clock = record { seen = [] } }
+
+pub none-more : (rows : List Row) (s : Source) (place : ℕ) → ((k : ℕ) (row : Row) → k < place → slice_get rows k ≡ Some row → is_source row.source s ≡ false) → is_source (slice_index_or rows place blank).source s ≡ false → (k : ℕ) (row : Row) → k < place + 1 → slice_get rows k ≡ Some row → is_source row.source s ≡ false
+none-more rows s place before here k row less h = by (k == place) refl
+  where
+    by : (b : Bool) → (k == place) ≡ b → is_source row.source s ≡ false
+    by true e =
+        let same : k ≡ place = eqb-true k place e in
+        ap (λ (r : Row). is_source r.source s) (sym (get_or_from_slice_get rows k row blank h) ∙ ap (λ (n : ℕ). slice_index_or rows n blank) same) ∙ here
+    by false e = before k row (grind (arith, e, less)) h
+
+-- an entry of the clock that knows nothing
+pub zero-entry : (u : ℕ) → slice_index_or (replicate 16 zero) u zero ≡ zero
+zero-entry u = zeros 16 u
+  where
+    zeros : (n u : ℕ) → slice_index_or (replicate n zero) u zero ≡ zero
+    zeros zero u = refl
+    zeros (suc n) zero = refl
+    zeros (suc n) (suc u) = zeros n u

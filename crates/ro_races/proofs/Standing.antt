@@ -1,0 +1,63 @@
+-- Where the steps of a journal's entries stand in a run, and what a run comes to at its end.
+use Rattle.std.specs.Prelude.{◌≡◌, ℕ, zero, suc, ◌+◌, ◌<◌, List, [], ◌∷◌, ◌++◌, length, take, get_or, replicate, Some, slice_get}
+use Rattle.std.proofs.Common.{refl, sym, ap, ◌∙◌, subst, arith, length-append, take_all}
+use Rattle.ro_plain.specs.Machine.{Program, opening, run}
+use Rattle.ro_plain.proofs.Calls.{slice_get-append}
+use Rattle.ro_journal.specs.declared.Entry.{Entry}
+use Rattle.ro_journal.specs.Plan.{entry_plan, plan_of}
+use Rattle.ro_machine.proofs.Joined.{plan-next}
+use Rattle.ro_races.specs.declared.checking.Checker.{Checker}
+use Rattle.ro_races.specs.declared.found.Found.{Found}
+use Rattle.ro_races.specs.declared.found.Found.TheVariants.{NoRace, Pair}
+use Rattle.ro_races.specs.Follows.{Follows, StandsAt, Checks, IsFound, IsFoundIn}
+
+same-replicated : (n i x : ℕ) → i < n → slice_get (replicate n x) i ≡ Some x
+same-replicated zero i x h = absurd (omega arith)
+same-replicated (suc n) zero x h = refl
+same-replicated (suc n) (suc i) x h = same-replicated n i x (omega arith)
+
+pub length-replicated : (n x : ℕ) → length (replicate n x) ≡ n
+length-replicated zero x = refl
+length-replicated (suc n) x = ap suc (length-replicated n x)
+
+slice_get-after : (p q : List ℕ) (i x : ℕ) → slice_get q i ≡ Some x → slice_get (p ++ q) (length p + i) ≡ Some x
+slice_get-after [] q i x h = ap (slice_get q) (let e : 0 + i ≡ i = omega arith in e) ∙ h
+slice_get-after (y ∷ p) q i x h = ap (slice_get (y ∷ (p ++ q))) (let e : suc (length p) + i ≡ suc (length p + i) = omega arith in e) ∙ slice_get-after p q i x h
+
+pub stands-step : (threads : List ℕ) (s n done t now : ℕ) → done < n → StandsAt threads s (replicate n t) → now ≡ s + done → slice_get threads now ≡ Some t
+stands-step threads s n done t now less h e = ap (slice_get threads) e ∙ h done t (same-replicated n done t less)
+
+pub stands-left : (threads : List ℕ) (s : ℕ) (p q : List ℕ) → StandsAt threads s (p ++ q) → StandsAt threads s p
+stands-left threads s p q h i x e = h i x (slice_get-append p q i x e)
+
+pub stands-right : (threads : List ℕ) (s now : ℕ) (p q : List ℕ) → StandsAt threads s (p ++ q) → now ≡ s + length p → StandsAt threads now q
+stands-right threads s now p q h same i x e = ap (slice_get threads) (let f : now + i ≡ s + (length p + i) = omega arith in f) ∙ h (length p + i) x (slice_get-after p q i x e)
+
+pub stands-entry : (threads : List ℕ) (journal : List Entry) (i : ℕ) (d : Entry) (s now : ℕ) → i < length journal → StandsAt threads s (plan_of journal) → now ≡ s + length (plan_of (take i journal)) → StandsAt threads now (entry_plan (get_or journal i d))
+stands-entry threads [] i d s now less h e = absurd (omega arith)
+stands-entry threads (entry ∷ journal) zero d s now less h e =
+    let f : s ≡ now = omega (arith, e) in
+    subst (λ (n : ℕ). StandsAt threads n (entry_plan entry)) f (stands-left threads s (entry_plan entry) (plan_of journal) h)
+stands-entry threads (entry ∷ journal) (suc i) d s now less h e =
+    stands-entry threads journal i d (s + length (entry_plan entry)) now (omega arith) (stands-right threads s (s + length (entry_plan entry)) (entry_plan entry) (plan_of journal) h refl)
+    (let f = length-append (entry_plan entry) (plan_of (take i journal)) in omega (arith, e, f))
+
+pub steps-next : (journal : List Entry) (i : ℕ) (d : Entry) (now next : ℕ) → i < length journal → now ≡ length (plan_of (take i journal)) → next ≡ now + length (entry_plan (get_or journal i d)) → next ≡ length (plan_of (take (i + 1) journal))
+steps-next journal i d now next less e f =
+    let g = ap length (plan-next journal i d less) in
+    let h = length-append (plan_of (take i journal)) (entry_plan (get_or journal i d)) in
+    omega (arith, e, f, g, h)
+
+-- the whole run stands at its start
+pub stands-whole : (threads : List ℕ) → StandsAt threads 0 threads
+stands-whole threads i x h = ap (slice_get threads) (let e : 0 + i ≡ i = omega arith in e) ∙ h
+
+found-whole : (program : Program) (threads : List ℕ) (found : Found) → IsFoundIn program threads (length threads) found → IsFound program threads found
+found-whole program threads NoRace h = λ i j byte race. let far = h i j byte race in let near = race.within in omega (arith, far, near)
+found-whole program threads (Pair i j byte) h = h
+
+pub checks-whole : (program : Program) (threads : List ℕ) (c : Checker) → Follows program threads c → c.steps ≡ length threads → Checks program threads c.found
+checks-whole program threads c f e = record {
+  runs = (_, ap (run program (opening program)) (sym (ap (λ (n : ℕ). take n threads) e ∙ take_all (length threads) threads (omega arith))) ∙ f.runs);
+  found_is = found-whole program threads c.found (subst (λ (n : ℕ). IsFoundIn program threads n c.found) e f.found_is);
+}

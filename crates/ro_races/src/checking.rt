@@ -1,0 +1,140 @@
+//! Watching a run for races, step by step.
+ghost use Rattle.std.specs.Prelude.{ℕ, List, ◌≡◌, ◌≤◌, ◌<◌, ◌+◌, ◌^◌, ◌++◌, OnOk, IfOk, IfErr, IfSome, Some, slice_get, length};
+ghost use Rattle.ro_plain.specs.Machine.{Program};
+ghost use Rattle.ro_machine.specs.Watched.{sync_of_relation};
+ghost use Rattle.ro_races.specs.Clocks.{learns_from as learns, passes_to as passes};
+ghost use Rattle.ro_races.specs.Seen.{seen_by, IsPast, PassesOn};
+ghost use Rattle.ro_races.specs.Shadows.{IsTable, IsFirstOf, AnyHit};
+ghost use Rattle.ro_races.specs.Follows.{Follows, Lacks, notes};
+
+use crate::found::{Found, RacesErr};
+use crate::marks::Clock;
+use crate::shadows::{Hit, Table, better, first_hit, mark};
+use crate::sources::{Row, Source, known, learns_from, pass, passes_to};
+use ro_machine::{Plain, Relation, StepErr, Watched};
+use std::alloc::{AllocError, Global};
+
+/// A run that is watched: its machine, what is known of the order of its steps, and who accessed what.
+#[derive(Drop)]
+pub(crate) struct Checker {
+    pub plain: Plain,
+    pub rows: Vec<Row>,
+    /// How far each byte was read.
+    pub reads: Table,
+    /// How far each byte was written.
+    pub writes: Table,
+    /// How many steps were taken.
+    pub steps: u32,
+    pub found: Found,
+}
+
+/// Takes a step of a thread, and looks for its races.
+///
+/// # Errors
+/// `NoStep` where there is no such step, and `NoMemory`.
+pub(crate) fn check_step(alloc: Global, checker: &mut Checker, thread: u32) -> Result<(), RacesErr>
+    requires steps { checker.old.steps + 1 < 2 ^ 32 }
+    requires reads { IsTable checker.old.reads.items }
+    requires writes { IsTable checker.old.writes.items }
+    ensures reads { IsTable checker.new.reads.items }
+    ensures writes { IsTable checker.new.writes.items }
+    ensures steps { OnOk result (checker.new.steps ≡ checker.old.steps + 1) }
+    ensures follows { OnOk result ((program : Program) (threads : List ℕ) → Follows program threads checker.old → slice_get threads checker.old.steps ≡ Some thread → Follows program threads checker.new) }
+    ensures lacks { IfErr result (λ error. (program : Program) (threads : List ℕ) → Follows program threads checker.old → slice_get threads checker.old.steps ≡ Some thread → Lacks program threads error) }
+{
+    let watched = match checker.plain.watch(thread) {
+        Ok(watched) => watched,
+        Err(StepErr::NoStep) => {
+            return Err(RacesErr::NoStep {
+                place: u64::from(checker.steps),
+            });
+        }
+        Err(StepErr::NoMemory) => return Err(RacesErr::NoMemory),
+    };
+    let mut past = past_of(checker.rows.as_slice(), thread, watched.relation);
+    let hit = hit_of(&checker.reads, &checker.writes, &watched, &past);
+    past.advance(thread, checker.steps);
+    mark(
+        alloc,
+        &mut checker.reads,
+        watched.loaded,
+        thread,
+        checker.steps,
+    )?;
+    mark(
+        alloc,
+        &mut checker.reads,
+        watched.code,
+        thread,
+        checker.steps,
+    )?;
+    mark(
+        alloc,
+        &mut checker.writes,
+        watched.stored,
+        thread,
+        checker.steps,
+    )?;
+    pass_on(&mut checker.rows, thread, watched.relation, &past)?;
+    checker.found = noted(checker.found, hit, checker.steps);
+    checker.steps += 1;
+    Ok(())
+}
+
+/// What happens before the next step of a thread, by what it means for the order.
+fn past_of(rows: &[Row], thread: u32, relation: Relation) -> Clock
+    ensures { IsPast rows.now thread (learns (sync_of_relation relation)) result }
+{
+    let mut past = known(rows, Source::Thread(thread));
+    if let Some(source) = learns_from(relation) {
+        past.join(&known(rows, source));
+    }
+    past
+}
+
+/// The first access of those that a step does not know of, and with which it conflicts.
+fn hit_of(reads: &Table, writes: &Table, watched: &Watched, past: &Clock) -> Option<Hit>
+    requires reads { IsTable reads.now.items }
+    requires writes { IsTable writes.now.items }
+    requires loaded { watched.now.loaded.count ≤ 4096 }
+    requires code { watched.now.code.count ≤ 4096 }
+    requires stored { watched.now.stored.count ≤ 4096 }
+    ensures { IsFirstOf (AnyHit reads.now.items writes.now.items watched.now (seen_by past.now)) result }
+{
+    let loaded = first_hit(writes, watched.loaded, past);
+    let code = first_hit(writes, watched.code, past);
+    let stored = first_hit(writes, watched.stored, past);
+    let read = first_hit(reads, watched.stored, past);
+    better(better(loaded, code), better(stored, read))
+}
+
+/// Passes on what a step knows to its thread's next step, and to what else it means.
+fn pass_on(
+    rows: &mut Vec<Row>,
+    thread: u32,
+    relation: Relation,
+    past: &Clock,
+) -> Result<(), AllocError>
+    ensures { OnOk result (PassesOn rows.old.items thread (passes thread (sync_of_relation relation)) past.now rows.new.items) }
+{
+    pass(rows, Source::Thread(thread), past)?;
+    if let Some(source) = passes_to(thread, relation) {
+        pass(rows, source, past)?;
+    }
+    Ok(())
+}
+
+/// What was found, with the hit of the step at a place, if it has one.
+fn noted(found: Found, hit: Option<Hit>, place: u32) -> Found
+    requires { IfSome hit (λ hit. 0 < hit.mark) }
+    ensures { result ≡ notes found hit place }
+{
+    match (found, hit) {
+        (Found::NoRace, Some(hit)) => Found::Pair {
+            i: u64::from(hit.mark - 1),
+            j: u64::from(place),
+            byte: hit.byte,
+        },
+        _ => found,
+    }
+}

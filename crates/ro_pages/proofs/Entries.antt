@@ -157,6 +157,11 @@ finds_same fs es gs new ns h same = record {
   there = λ page l some. let e = same page l in ap (slice_get ns) e ∙ h.there page l (λ z. some (e ∙ z));
 }
 
+-- a page that stands nowhere is not listed
+pub unlisted : (ns : List ℕ) (q : ℕ) → ((i : ℕ) → slice_get ns i ≡ Some q → ⊥) → is_listed ns q ≡ false
+unlisted [] q h = refl
+unlisted (n ∷ ns) q h = ap (λ b. b || is_listed ns q) (ne_eqb n q (λ e. h 0 (ap Some e))) ∙ unlisted ns q (λ i g. h (suc i) g)
+
 -- a page is listed where its entry is a place
 pub listed_within : (ns : List ℕ) (q e : ℕ) → IsEntry ns q e → nat_lt e (length ns) ≡ is_listed ns q
 listed_within ns q e h = elim (cases_lt e (length ns)) [
@@ -165,10 +170,6 @@ listed_within ns q e h = elim (cases_lt e (length ns)) [
       le-ltb e (length ns) past
       ∙ sym (unlisted ns q (λ i g. let is = h.only i g in let w = slice_get_within ns i q g in omega arith))
 ]
-  where
-    unlisted : (ns : List ℕ) (q : ℕ) → ((i : ℕ) → slice_get ns i ≡ Some q → ⊥) → is_listed ns q ≡ false
-    unlisted [] q h = refl
-    unlisted (n ∷ ns) q h = ap (λ b. b || is_listed ns q) (ne_eqb n q (λ e. h 0 (ap Some e))) ∙ unlisted ns q (λ i g. h (suc i) g)
 
 -- none past the last page is
 pub unlisted_past : (fs es ns : List ℕ) (q : ℕ) → Finds fs es ns → 2 ^ 20 ≤ q → is_listed ns q ≡ false

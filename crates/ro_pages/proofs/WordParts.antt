@@ -1,5 +1,5 @@
 -- The bytes of words, and words of which a part is replaced.
-use Rattle.std.specs.Prelude.{◌≡◌, ◌⊎◌, ℕ, zero, suc, ◌+◌, ◌-◌, ◌*◌, ◌/◌, ◌%◌, ◌^◌, ◌<◌, ◌≤◌, ◌==◌, ◌&&◌, cond, List, [], ◌∷◌, ◌++◌, length, take, drop, replicate, slice_index, slice_set, nat_le, nat_lt}
+use Rattle.std.specs.Prelude.{◌≡◌, ◌≢◌, ◌⊎◌, ℕ, zero, suc, ◌+◌, ◌-◌, ◌*◌, ◌/◌, ◌%◌, ◌^◌, ◌<◌, ◌≤◌, ◌==◌, ◌&&◌, cond, List, [], ◌∷◌, ◌++◌, length, take, drop, replicate, slice_index, slice_set, nat_le, nat_lt}
 use Rattle.std.specs.Int.{w32, to_le_bytes}
 use Rattle.std.proofs.Common.{refl, sym, ap, ap₂, ◌∙◌, subst, inl, inr, arith}
 use Rattle.std.proofs.lemmas.Bool.{cases_eq, cases_lt}
@@ -155,3 +155,26 @@ word_put bytes four a k word i l e h =
             ∙ get_or-drop k (drop a bytes) (i - a - 4) 0 ∙ get_or-drop a bytes (k + (i - a - 4)) 0 ∙ ap (slice_index bytes) at)
       ]
     ]
+
+byte_at_place : (words : List ℕ) (i k : ℕ) → k < 4 → slice_index (bytes_in words) (4 * i + k) ≡ slice_index words i / 2 ^ (8 * k) % 2 ^ 8
+byte_at_place words i k l =
+    let at : (4 * i + k) / 4 ≡ i = omega arith in
+    let rest : (4 * i + k) % 4 ≡ k = omega arith in
+    index-bytes_in words (4 * i + k) ∙ ap₂ (λ (q r : ℕ). slice_index words q / 2 ^ (8 * r) % 2 ^ 8) at rest
+
+-- words that differ have other bytes
+pub other_bytes : (xs ys : List ℕ) (i : ℕ) → slice_index xs i < 2 ^ 32 → slice_index ys i < 2 ^ 32 → slice_index xs i ≢ slice_index ys i → bytes_in xs ≢ bytes_in ys
+other_bytes xs ys i low below other e =
+    let byte : (k : ℕ) → k < 4 → slice_index xs i / 2 ^ (8 * k) % 2 ^ 8 ≡ slice_index ys i / 2 ^ (8 * k) % 2 ^ 8 = λ k l. sym (byte_at_place xs i k l) ∙ ap (λ bs. slice_index bs (4 * i + k)) e ∙ byte_at_place ys i k l in
+    let a = byte 0 (omega arith) in
+    let b = byte 1 (omega arith) in
+    let c = byte 2 (omega arith) in
+    let d = byte 3 (omega arith) in
+    other (omega arith)
+
+-- words that are the same one by one
+pub same_words : (xs ys : List ℕ) → length xs ≡ length ys → ((i : ℕ) → i < length xs → slice_index xs i ≡ slice_index ys i) → xs ≡ ys
+same_words [] [] l h = refl
+same_words [] (y ∷ ys) l h = absurd (omega arith)
+same_words (x ∷ xs) [] l h = absurd (omega arith)
+same_words (x ∷ xs) (y ∷ ys) l h = ap₂ (λ (z : ℕ) (zs : List ℕ). z ∷ zs) (h 0 (omega arith)) (same_words xs ys (omega arith) (λ i m. h (suc i) (omega arith)))

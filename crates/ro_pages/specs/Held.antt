@@ -1,5 +1,6 @@
 -- What a memory of pages holds.
-use Rattle.std.specs.Prelude.{ℕ, ◌/◌, ◌%◌, List, [], ◌∷◌, Option, Some, None, Bool, slice_index, is_some, replicate, refl}
+use Rattle.std.specs.Prelude.{◌≡◌, ◌≢◌, ℕ, ◌/◌, ◌%◌, List, [], ◌∷◌, Option, Some, None, Bool, false, length, slice_get, slice_index, is_some, replicate, refl}
+use Rattle.ro_pages.specs.Directories.{is_listed}
 use Rattle.std.specs.Ordering.{nat_cmp}
 use Rattle.std.specs.FinMap as map
 use Rattle.std.specs.FinMap.{FinMap}
@@ -39,3 +40,15 @@ abbrev pub pages_of : {X : Type 0} → (X → List ℕ) → (numbers : List ℕ)
 pages_of v [] xs = map.empty
 pages_of v (n ∷ numbers) [] = map.empty
 pages_of v (n ∷ numbers) (x ∷ xs) = map.insert (pages_of v numbers xs) n (v x)
+
+-- the pages that have other bytes in the one than in the other, each once
+pub record AreUnequal (m n : FinMap nat_cmp (List ℕ)) (pages : List ℕ) : Type 0 where
+  pub once : (i j page : ℕ) → slice_get pages i ≡ Some page → slice_get pages j ≡ Some page → i ≡ j
+  pub unequal : (i page : ℕ) → slice_get pages i ≡ Some page → map.get m page ≢ map.get n page
+  pub all : (page : ℕ) → is_listed pages page ≡ false → map.get m page ≡ map.get n page
+
+-- how many they are
+pub record CountsUnequal (m n : FinMap nat_cmp (List ℕ)) (count : ℕ) : Type 0 where
+  pub pages : List ℕ
+  pub are : AreUnequal m n pages
+  pub counted : length pages ≡ count

@@ -1,10 +1,10 @@
 //! Pages that are found by their numbers.
-ghost use Rattle.std.specs.Prelude.{ℕ, ◌≡◌, ◌+◌, ◌*◌, ◌/◌, ◌^◌, ◌<◌, ◌≤◌, OnOk, OnErr, IfOk, MatchOption, Some, None, vec_len, vec_capacity, true, false, ◌==◌, ◌||◌, [], ◌∷◌, ◌++◌, length, slice_index};
+ghost use Rattle.std.specs.Prelude.{ℕ, ◌≡◌, ◌≢◌, ◌+◌, ◌*◌, ◌/◌, ◌^◌, ◌<◌, ◌≤◌, OnOk, OnErr, IfOk, MatchOption, Some, None, vec_len, vec_capacity, true, false, ◌==◌, ◌||◌, [], ◌∷◌, ◌++◌, length, slice_index};
 ghost use Rattle.std.specs.FinMap as map;
 ghost use Rattle.std.specs.List.{All, slice_get};
 ghost use Rattle.std.specs.Option.{option_map, is_some};
 ghost use Rattle.ro_pages.specs.Bytes.{bytes_at, stored, covers_page};
-ghost use Rattle.ro_pages.specs.Held.{memory_of, has_page, zeros};
+ghost use Rattle.ro_pages.specs.Held.{CountsUnequal, memory_of, has_page, zeros};
 ghost use Rattle.ro_pages.specs.Words.{bytes_in};
 
 use crate::access::Memory;
@@ -104,17 +104,21 @@ impl Pages {
         self.directory.has(page)
     }
 
-    /// Takes over the bytes of another memory in which the same pages are backed.
-    pub fn copy_from(&mut self, other: &Pages)
+    /// Takes over the bytes of another memory in which the same pages are backed, and tells how many pages it wrote: those
+    /// whose bytes were not the same.
+    pub fn copy_from(&mut self, other: &Pages) -> usize
         requires { (page : ℕ) → has_page self.old.pages page ≡ has_page other.now.pages page }
         ensures pages { self.new.pages ≡ other.now.pages }
         ensures spare { self.new.spare ≡ self.old.spare }
+        ensures written { CountsUnequal self.old.pages other.now.pages result }
     {
+        let mut written = 0;
         for page in other.directory.numbers() {
             let mine = self.directory.entry(*page);
             let theirs = other.directory.entry(*page);
-            copy_page(&mut self.backed[mine], &other.backed[theirs]);
+            written += copy_page(&mut self.backed[mine], &other.backed[theirs]);
         }
+        written
     }
 
     /// Reads the bytes from an address on; those of a page that isn't backed are 0.
@@ -258,13 +262,30 @@ fn add_spare(alloc: Global, spare: &mut Vec<Page>) -> Result<(), AllocError>
     Ok(())
 }
 
-/// Takes over the bytes of a page, which is written only where they differ.
-fn copy_page(mine: &mut Page, theirs: &Page)
-    ensures { bytes_in mine.new.value ≡ bytes_in theirs.now.value }
+/// Takes over the bytes of a page, which is written only where they differ, and tells how many pages were: one or none.
+fn copy_page(mine: &mut Page, theirs: &Page) -> usize
+    ensures bytes { bytes_in mine.new.value ≡ bytes_in theirs.now.value }
+    ensures same { result ≡ 0 → bytes_in mine.old.value ≡ bytes_in theirs.now.value }
+    ensures other { result ≢ 0 → (result ≡ 1) × (bytes_in mine.old.value ≢ bytes_in theirs.now.value) }
 {
-    if **mine != **theirs {
-        **mine = **theirs;
+    if has_same_bytes(mine, theirs) {
+        return 0;
     }
+    **mine = **theirs;
+    1
+}
+
+/// Whether two pages have the same bytes.
+fn has_same_bytes(one: &[u32; PAGE_WORDS], other: &[u32; PAGE_WORDS]) -> bool
+    ensures same { result ≡ true → bytes_in one.now ≡ bytes_in other.now }
+    ensures apart { result ≡ false → bytes_in one.now ≢ bytes_in other.now }
+{
+    for i in 0..PAGE_WORDS {
+        if one[i] != other[i] {
+            return false;
+        }
+    }
+    true
 }
 
 #[cfg(test)]
@@ -395,7 +416,9 @@ mod tests {
         to.back(16);
         from.store(0x1_0000, 4, 0x89AB_CDEF);
         to.store(0x1_0004, 4, 1);
-        to.copy_from(&from);
+        let first = to.copy_from(&from);
+        let second = to.copy_from(&from);
+        assert_eq!(rt; (first, second), (1, 0));
         for (address, want) in [
             (0x1_0000, 0xEFu32),
             (0x1_0001, 0xCD),

@@ -1,4 +1,4 @@
-use Rattle.std.proofs.Common.{ap, sym, subst, ◌∙◌}
+use Rattle.std.proofs.Common.{ap, subst, ◌∙◌}
 use Rattle.std.specs.List.{slice_get}
 use Rattle.ro_pages.specs.Directories.{IsEntry}
 use Rattle.ro_pages.proofs.Entries.{once}

@@ -3,12 +3,14 @@ ghost use Rattle.std.specs.Prelude.{ℕ, List, ◌≡◌, ◌<◌, ◌⊎◌, �
 ghost use Rattle.ro_plain.specs.Machine.{Program, IsExecution};
 ghost use Rattle.ro_plain.specs.Order.{sync_at, HappensBefore, RaceFree};
 ghost use Rattle.ro_races.specs.declared.sources.Source.TheVariants.{Thread};
-ghost use Rattle.ro_races.specs.First.{HasNoRace, IsFirstRace};
+ghost use Rattle.ro_races.specs.declared.found.Found.TheVariants.{NoRace};
+ghost use Rattle.ro_races.specs.First.{IsFirstRace};
+ghost use Rattle.ro_races.specs.Follows.{IsFound};
 ghost use Rattle.ro_races.specs.Clocks.{learns_from, Past, PastOf};
 
-/// A program has no races exactly where none of its executions has one.
+/// A program has no races exactly where in none of its executions a race is found.
 pub fn races_of_executions()
-    ensures { (program : Program) → RaceFree program ↔ ((threads : List ℕ) → IsExecution program threads → HasNoRace program threads) }
+    ensures { (program : Program) → RaceFree program ↔ ((threads : List ℕ) → IsExecution program threads → IsFound program threads NoRace) }
 {}
 
 /// What happens before a step of a thread is what its thread's past, and what it learns from, bring.

@@ -25,26 +25,19 @@ use Rattle.ro_core.proofs.Homes.{replay_more}
 use Rattle.ro_core.proofs.Tests.{seated-home}
 use Rattle.ro_core.proofs.Held.{Goes, no-views, no-outcome, holds-step}
 
+different : (m n : ℕ) → m ≢ n → (m == n) ≡ false
+different m n d = by (m == n) refl
+  where
+    by : (c : Bool) → (m == n) ≡ c → c ≡ false
+    by false e = refl
+    by true e = absurd (d (eqb-true m n e))
+
 -- one thread's call is set
 blocked-set : (blocked : List (Option Call)) (thread t : ℕ) (call : Option Call) → thread < length blocked → blocked_at (slice_set blocked thread call) t ≡ (if t == thread then call else blocked_at blocked t)
 blocked-set [] thread t call less = absurd (omega arith)
 blocked-set (b ∷ blocked) zero zero call less = refl
 blocked-set (b ∷ blocked) zero (suc t) call less = sym (ap (λ (c : Bool). cond c call (blocked_at blocked t)) (different (suc t) 0 (λ (e : suc t ≡ 0). omega arith)))
-  where
-    different : (m n : ℕ) → m ≢ n → (m == n) ≡ false
-    different m n d = by (m == n) refl
-      where
-        by : (c : Bool) → (m == n) ≡ c → c ≡ false
-        by false e = refl
-        by true e = absurd (d (eqb-true m n e))
 blocked-set (b ∷ blocked) (suc thread) zero call less = sym (ap (λ (c : Bool). cond c call b) (different 0 (suc thread) (λ (e : 0 ≡ suc thread). omega arith)))
-  where
-    different : (m n : ℕ) → m ≢ n → (m == n) ≡ false
-    different m n d = by (m == n) refl
-      where
-        by : (c : Bool) → (m == n) ≡ c → c ≡ false
-        by false e = refl
-        by true e = absurd (d (eqb-true m n e))
 blocked-set (b ∷ blocked) (suc thread) (suc t) call less = blocked-set blocked thread t call (omega arith) ∙ ap (λ (c : Bool). cond c call (blocked_at blocked t)) (same t thread)
   where
     same : (m n : ℕ) → (m == n) ≡ (suc m == suc n)
@@ -52,11 +45,7 @@ blocked-set (b ∷ blocked) (suc thread) (suc t) call less = blocked-set blocked
       where
         by : (c : Bool) → (m == n) ≡ c → c ≡ (suc m == suc n)
         by true e = sym (eq-eqb (suc m) (suc n) (ap suc (eqb-true m n e)))
-        by false e = not-by (suc m == suc n) refl
-          where
-            not-by : (d : Bool) → (suc m == suc n) ≡ d → false ≡ d
-            not-by false g = refl
-            not-by true g = absurd (true≢false (sym (eq-eqb m n (let k : suc m ≡ suc n = eqb-true (suc m) (suc n) g in omega arith)) ∙ e))
+        by false e = sym (different (suc m) (suc n) (λ g. true≢false (sym (eq-eqb m n (let k : suc m ≡ suc n = g in omega arith)) ∙ e)))
 
 over-not-sink : (how : How) (bytes : ℕ) → IsOver how → how ≡ Sink bytes → ⊥
 over-not-sink (Exit status) bytes h e = let f : Exit status ≡ Sink bytes = e in cc

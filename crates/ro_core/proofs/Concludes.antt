@@ -1,4 +1,4 @@
--- An end in the place of a vote or a free, in the fields of a core.
+-- An end in the place of a vote or a free, in the fields of a run.
 use Rattle.std.proofs.Common.{◌≡◌, ◌≢◌, inl, ℕ, ◌+◌, ◌<◌, true, List, [], ◌∷◌, ◌++◌, length, Option, Some, None, refl, sym, ap, ◌∙◌, subst, arith, append-nil}
 use Rattle.ro_journal.specs.declared.How.{How}
 use Rattle.ro_journal.specs.declared.How.TheVariants.{Exit, Deadlock, Trap, Limit, Differ, NoMajority, Sink}
@@ -15,7 +15,7 @@ use Rattle.ro_core.specs.Grouped.{AreGrouped}
 use Rattle.ro_core.specs.Runs.{fields_of, job_of, sent_in, WithAnySink, LastWrote}
 use Rattle.ro_core.proofs.Homes.{replay_more}
 use Rattle.ro_core.proofs.Held.{Goes, goes, same-counts, holds-step}
-use Rattle.ro_core.proofs.Entries.{end-seated}
+use Rattle.ro_core.proofs.Ends.{end-seated}
 
 -- an end that is not the sink's cuts nothing
 pub cut-none : (core : Core) (how : How) → ((bytes : ℕ) → how ≢ Sink bytes) → cut_output core how ≡ core.output

@@ -1,4 +1,4 @@
--- The fields of a core behind one entry more.
+-- The fields of a run behind one entry more.
 use Rattle.std.proofs.Common.{◌≡◌, ◌⊎◌, inl, inr, ℕ, ◌+◌, ◌<◌, ◌≤◌, true, List, [], ◌∷◌, ◌++◌, length, Option, Some, None, refl, sym, ap, ◌∙◌, subst, arith}
 use Rattle.ro_journal.specs.declared.How.{How}
 use Rattle.ro_journal.specs.declared.How.TheVariants.{Exit, Deadlock, Trap, Limit, Differ, NoMajority, Sink}
@@ -10,7 +10,7 @@ use Rattle.ro_settings.specs.Ranges.{InRange}
 use Rattle.ro_plain.specs.Machine.{setup_of}
 use Rattle.ro_core.specs.Core.{Job, Core, is_going}
 use Rattle.ro_core.specs.Legal.{after, IsAllowed, Legal, replay, replay_with}
-use Rattle.ro_core.specs.Seen.{KeepsViews, sent_of}
+use Rattle.ro_core.specs.Seen.{CoreOf, KeepsViews, sent_of}
 use Rattle.ro_core.specs.Fields.{failed_of, AreSeated, one_end, Fields, core_in, state_in, blocked_at, CountsBytes, Holds}
 use Rattle.ro_core.specs.Grouped.{AreGrouped}
 use Rattle.ro_core.proofs.Journals.{outcome_of-append}
@@ -163,3 +163,7 @@ fields-outcome f h = h.ended_is ∙ ended_is_outcome f.job f.journal h.legal
 pub limit-keeps : (f : Fields) → Holds f → f.ended ≡ None → (steps next : ℕ) → KeepsViews f.job (f.journal ++ End (Limit steps next) ∷ []) f.views
 limit-keeps f h still steps next =
     not-split f.job (f.journal ++ End (Limit steps next) ∷ []) f.views (Limit steps next) (outcome_of-append f.journal (End (Limit steps next) ∷ []) (no-outcome f h still)) (λ (e : Limit steps next ≡ Differ). cc) (λ (e : Limit steps next ≡ NoMajority). cc)
+
+-- what holds of the core that was opened holds of the one that was given
+pub with-old : (R : CoreOf → CoreOf → Type 0) {inside old new : CoreOf} → inside ≡ old → R inside new → R old new
+with-old R {inside} {old} {new} is r = subst (λ (v : CoreOf). R v new) is r

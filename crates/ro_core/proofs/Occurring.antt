@@ -22,7 +22,7 @@ use Rattle.ro_core.proofs.Happens.{Happens, event-happens}
 use Rattle.ro_core.proofs.Ordered.{ordered}
 use Rattle.ro_core.proofs.Sitting.{home-count}
 use Rattle.ro_core.proofs.Behind.{happened-unfailed, happened-sent, happened-holds, all-can-take}
-use Rattle.ro_core.proofs.Holding.{lives-within, live-few, payload-due, payload-few, writes-step, length-applied}
+use Rattle.ro_core.proofs.Votes.{lives-within, live-few, payload-due, payload-few, writes-step, length-applied}
 
 module _ (r : Run) (thread : ℕ) (e : Happening) (entry : Entry) (steps : ℕ) (writer : Option ℕ) (threads : ℕ) (can : CanOccur r thread e entry steps writer threads) where
   abbrev pub f : Fields

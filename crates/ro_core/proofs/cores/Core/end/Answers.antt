@@ -3,7 +3,7 @@ use Rattle.ro_journal.specs.declared.Entry.TheVariants.{End}
 use Rattle.ro_core.specs.Legal.{IsAllowed, replay}
 use Rattle.ro_core.specs.Action.{next_action, IsNext}
 use Rattle.ro_core.specs.Seen.{CoreOf, state, Appends, Quiet}
-use Rattle.ro_core.proofs.Entries.{with-old}
+use Rattle.ro_core.proofs.Held.{with-old}
 use Rattle.ro_core.proofs.cores.Core.end.Goals as goal
 
 pub returns-clause-entry : goal.returns-clause-entry

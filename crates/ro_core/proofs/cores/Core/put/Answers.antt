@@ -1,5 +1,5 @@
 use Rattle.ro_core.specs.Seen.{Quiet, ReturnIs}
-use Rattle.ro_core.proofs.Entries.{with-old}
+use Rattle.ro_core.proofs.Held.{with-old}
 use Rattle.ro_core.proofs.cores.Core.put.Goals as goal
 
 pub returns-clause-entry : goal.returns-clause-entry

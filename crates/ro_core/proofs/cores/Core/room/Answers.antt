@@ -1,5 +1,5 @@
 use Rattle.ro_core.specs.Seen.{Stays}
-use Rattle.ro_core.proofs.Entries.{with-old}
+use Rattle.ro_core.proofs.Held.{with-old}
 use Rattle.ro_core.proofs.cores.Core.room.Goals as goal
 
 pub returns-clause-stays : goal.returns-clause-stays

@@ -1,6 +1,6 @@
 use Rattle.ro_journal.specs.declared.Entry.TheVariants.{Take}
 use Rattle.ro_core.specs.Seen.{Appends, Quiet}
-use Rattle.ro_core.proofs.Entries.{with-old}
+use Rattle.ro_core.proofs.Held.{with-old}
 use Rattle.ro_core.proofs.cores.Core.take.Goals as goal
 
 pub returns-clause-entry : goal.returns-clause-entry

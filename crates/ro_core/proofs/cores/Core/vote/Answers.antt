@@ -3,8 +3,8 @@ use Rattle.ro_core.specs.Core.{views_of}
 use Rattle.ro_core.specs.Legal.{IsAllowed}
 use Rattle.ro_core.specs.Seen.{CoreOf, state, Appends, Sends, Stays, IsOfMajority, DecidesVote}
 use Rattle.ro_core.specs.Runs.{fields_of, sent_in, payload_by, bytes_by}
-use Rattle.ro_core.proofs.Entries.{with-old}
-use Rattle.ro_core.proofs.Viewing.{always-on-err}
+use Rattle.ro_core.proofs.Held.{with-old}
+use Rattle.ro_core.proofs.Views.{always-on-err}
 use Rattle.ro_core.proofs.Sinking.{front-majority, Took, took-sends}
 use Rattle.ro_core.proofs.cores.Core.vote.Goals as goal
 

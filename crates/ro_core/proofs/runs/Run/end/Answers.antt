@@ -3,7 +3,7 @@ use Rattle.ro_journal.specs.declared.How.{How}
 use Rattle.ro_journal.specs.declared.Entry.TheVariants.{End}
 use Rattle.ro_core.specs.Seen.{sent_of}
 use Rattle.ro_core.specs.Runs.{fields_of}
-use Rattle.ro_core.proofs.Entries.{end-how, end-not-over, end-allowed, end-room, end-holds, end-sent}
+use Rattle.ro_core.proofs.Ends.{end-how, end-not-over, end-allowed, end-room, end-holds, end-sent}
 use Rattle.ro_core.proofs.runs.Run.end.Goals as goal
 
 pub push_reserved-requires : goal.push_reserved-requires

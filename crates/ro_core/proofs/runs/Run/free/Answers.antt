@@ -10,8 +10,8 @@ use Rattle.ro_core.specs.Seen.{sent_of, Appends, DecidesFree}
 use Rattle.ro_core.specs.Fields.{Fields, blocked_at}
 use Rattle.ro_core.specs.Runs.{fields_of, state_of, WithAnySink}
 use Rattle.ro_core.proofs.Held.{limit-keeps}
-use Rattle.ro_core.proofs.Holding.{ready-stands}
-use Rattle.ro_core.proofs.Freeing.{free-goes, free-not-over, free-alone, free-live, free-steps, free-ends, free-may-end, free-allowed, free-can, free-room}
+use Rattle.ro_core.proofs.Votes.{ready-stands}
+use Rattle.ro_core.proofs.Frees.{free-goes, free-not-over, free-alone, free-live, free-steps, free-ends, free-may-end, free-allowed, free-can, free-room}
 use Rattle.ro_core.proofs.runs.Run.free.Goals as goal
 
 pub conclude-requires-clause-allowed : goal.conclude-requires-clause-allowed

@@ -17,7 +17,7 @@ use Rattle.ro_core.specs.Grouped.{AreMade}
 use Rattle.ro_core.specs.Runs.{fields_of, job_of, state_of, payload_by, WithAnySink, CanOccur, LastWrote}
 use Rattle.ro_core.proofs.Concludes.{ended-wrote}
 use Rattle.ro_core.proofs.Held.{limit-keeps}
-use Rattle.ro_core.proofs.Holding.{hold-within, hold-there, hold-steps, hold-goes, hold-not-over, hold-alone, hold-home, hold-made-all, hold-recovers, seat-of, hold-over, hold-entry, hold-can, hold-writer, hold-majority, held-room, ready-stands}
+use Rattle.ro_core.proofs.Votes.{hold-within, hold-there, hold-steps, hold-goes, hold-not-over, hold-alone, hold-home, hold-made-all, hold-recovers, seat-of, hold-over, hold-entry, hold-can, hold-writer, hold-majority, held-room, ready-stands}
 use Rattle.ro_core.proofs.runs.Run.hold.Goals as goal
 
 pub index-view-requires : goal.index-view-requires

@@ -1,7 +1,7 @@
 use Rattle.std.proofs.Common.{sym, ◌∙◌}
 use Rattle.ro_core.specs.Runs.{fields_of}
 use Rattle.ro_core.proofs.Tests.{vote-test}
-use Rattle.ro_core.proofs.Holding.{live-few}
+use Rattle.ro_core.proofs.Votes.{live-few}
 use Rattle.ro_core.proofs.runs.Run.may_vote.Goals as goal
 
 pub returns-in-None : goal.returns-in-None

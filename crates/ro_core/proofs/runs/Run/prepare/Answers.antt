@@ -1,6 +1,6 @@
 use Rattle.std.proofs.Common.{refl, arith}
 use Rattle.ro_core.specs.Runs.{fields_of}
-use Rattle.ro_core.proofs.Holding.{made-room, ready-home}
+use Rattle.ro_core.proofs.Votes.{made-room, ready-home}
 use Rattle.ro_core.proofs.runs.Run.prepare.Goals as goal
 
 pub reserve-requires-2 : goal.reserve-requires-2

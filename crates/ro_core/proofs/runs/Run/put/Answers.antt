@@ -11,7 +11,7 @@ use Rattle.ro_core.specs.Seen.{sent_of}
 use Rattle.ro_core.specs.Fields.{Fields, failed_of}
 use Rattle.ro_core.specs.Grouped.{Returns}
 use Rattle.ro_core.specs.Runs.{fields_of}
-use Rattle.ro_core.proofs.Entries.{found_driver, held-lease, same-lease, put-not-due, put-same, put-within, put-group, put-few, put-room, put-holds, put-output}
+use Rattle.ro_core.proofs.Puts.{found_driver, held-lease, same-lease, put-not-due, put-same, put-within, put-group, put-few, put-room, put-holds, put-output}
 use Rattle.ro_core.proofs.runs.Run.put.Goals as goal
 
 pub unreachable-requires : goal.unreachable-requires

@@ -5,7 +5,7 @@ use Rattle.ro_core.specs.Seen.{sent_of}
 use Rattle.ro_core.specs.Fields.{Fields, failed_of}
 use Rattle.ro_core.specs.Runs.{fields_of}
 use Rattle.ro_core.proofs.Held.{with-leases}
-use Rattle.ro_core.proofs.Entries.{spare_parts, take-goes, take-seat, take-holds, take-lent, take-going, take-countable, take-output}
+use Rattle.ro_core.proofs.Takes.{spare_parts, take-goes, take-seat, take-holds, take-lent, take-going, take-countable, take-output}
 use Rattle.ro_core.proofs.runs.Run.take.Goals as goal
 
 pub push_reserved-requires : goal.push_reserved-requires

@@ -7,7 +7,7 @@ use Rattle.ro_vote.specs.Votes.{verdict_of_three}
 use Rattle.ro_core.specs.Seen.{IsOfMajority}
 use Rattle.ro_core.specs.Fields.{Fields, core_in}
 use Rattle.ro_core.specs.Runs.{fields_of, payload_by}
-use Rattle.ro_core.proofs.Viewing.{viewed-holds, view-still, view-home, view-stopped, view-count, view-views}
+use Rattle.ro_core.proofs.Views.{viewed-holds, view-still, view-home, view-stopped, view-count, view-views}
 use Rattle.ro_core.proofs.runs.Run.vote.Goals as goal
 
 pub show-requires-clause-stopped : goal.show-requires-clause-stopped

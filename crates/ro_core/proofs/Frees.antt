@@ -1,4 +1,4 @@
--- A blocked call that is served, in the fields of a core.
+-- A blocked call that is served, in the fields of a run.
 use Rattle.std.proofs.Common.{◌≡◌, ℕ, ◌+◌, ◌<◌, ◌≤◌, Bool, true, false, List, [], length, Option, Some, None, refl, sym, ap, ◌∙◌, subst, arith}
 use Rattle.std.specs.Prelude.{◌^◌, if◌then◌else◌, IfSome, slice_get}
 use Rattle.ro_journal.specs.declared.How.TheVariants.{Limit}
@@ -23,7 +23,7 @@ use Rattle.ro_core.specs.Runs.{IsAmid, MakesRoom, CanOccur, event_by}
 use Rattle.ro_core.proofs.Held.{Goes, goes}
 use Rattle.ro_core.proofs.Happens.{Happens, call-happens}
 use Rattle.ro_core.proofs.Ordered.{FreeParts, free-parts, freed-is, freed-steps, ordered}
-use Rattle.ro_core.proofs.Holding.{lives-within, no-page, same-state}
+use Rattle.ro_core.proofs.Votes.{lives-within, no-page, same-state}
 use Rattle.ro_core.proofs.Served.{serve-tidy}
 
 module _ (f : Fields) (h : Holds f) (thread : ℕ) (may : may_free f.job (state_in f) thread ≡ true) where

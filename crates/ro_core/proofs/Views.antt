@@ -1,4 +1,4 @@
--- The views of a vote, in the fields of a core.
+-- The views of a vote, in the fields of a run.
 use Rattle.std.proofs.Common.{◌≡◌, ◌⊎◌, inl, inr, ℕ, true, List, length, None, Result, Ok, Err, sym, ap, ◌∙◌, arith}
 use Rattle.std.specs.Prelude.{OnErr}
 use Rattle.std.specs.List.{list_all, filter_map}

@@ -1,4 +1,4 @@
--- A vote that was won, in the fields of a core.
+-- A vote that was won, in the fields of a run.
 use Rattle.std.proofs.Common.{◌≡◌, ◌≢◌, ◌⊎◌, inl, inr, ℕ, zero, suc, ◌+◌, ◌*◌, ◌<◌, ◌≤◌, Bool, true, false, true≢false, List, [], ◌∷◌, length, Option, Some, None, get_or, refl, sym, ap, ◌∙◌, subst, arith, append-nil}
 use Rattle.std.specs.Prelude.{◌^◌, if◌then◌else◌, IfSome, is_some, slice_get}
 use Rattle.std.specs.List.{list_all}

@@ -1,0 +1,125 @@
+-- A take, in the fields of a run.
+use Rattle.std.proofs.Common.{◌≡◌, inl, ℕ, zero, suc, ◌+◌, ◌*◌, ◌^◌, ◌<◌, ◌≤◌, Bool, true, false, cond, List, [], ◌∷◌, ◌++◌, length, Option, Some, None, refl, sym, ap, ◌∙◌, subst, arith, lt-ltb}
+use Rattle.std.specs.Prelude.{IfSome, slice_get, slice_set}
+use Rattle.std.specs.Option.{option_map_or}
+use Rattle.std.proofs.lemmas.Bool.{and_parts}
+use Rattle.std.proofs.lemmas.List.{length-set}
+use Rattle.ro_journal.specs.declared.How.{How}
+use Rattle.ro_journal.specs.declared.How.TheVariants.{Sink}
+use Rattle.ro_journal.specs.declared.Entry.{Entry}
+use Rattle.ro_journal.specs.declared.Entry.TheVariants.{Take}
+use Rattle.ro_event.specs.declared.calls.Call.{Call}
+use Rattle.ro_kernel.specs.State.{State}
+use Rattle.ro_thread.specs.declared.Thread.{Thread}
+use Rattle.ro_replica.specs.Replica.{Replica}
+use Rattle.ro_replica.specs.Views.{is_unstopped}
+use Rattle.ro_replica.specs.Seen.{ReplicaOf, replica_of, CanCount}
+use Rattle.ro_core.specs.declared.actions.Lease.{Lease}
+use Rattle.ro_core.specs.Core.{Job, Core}
+use Rattle.ro_core.specs.Legal.{after, IsAllowed, MayTake, output_of}
+use Rattle.ro_core.specs.Seen.{sent_of, IsOfJob}
+use Rattle.ro_core.specs.Sound.{Counts}
+use Rattle.ro_core.specs.Fields.{failed_of, spare_of, Seated, AreSeated, IsSeat, one_end, Fields, core_in, state_in, blocked_at, Holds}
+use Rattle.ro_core.proofs.Homes.{replay_more, AtHome, lendable_there, seat_there, take_seated}
+use Rattle.ro_core.specs.Grouped.{AreGrouped}
+use Rattle.ro_core.proofs.Ordered.{going-parts}
+use Rattle.ro_core.proofs.Counted.{counted}
+use Rattle.ro_core.proofs.Journals.{outcome_of-append}
+use Rattle.ro_core.proofs.Held.{Goes, goes, no-views, no-outcome, same-counts, holds-step}
+
+one-end-le : (o : Option How) → one_end o ≤ 1
+one-end-le None = omega arith
+one-end-le (Some how) = omega arith
+
+-- room is in both places
+pub spare_parts : (n places spare : ℕ) → n + 3 ≤ spare_of places spare → (n + 3 ≤ places) × (0 < spare)
+spare_parts n places zero h = absurd (omega arith)
+spare_parts n places (suc spare) h = (subst (λ (b : Bool). n + 3 ≤ cond b places 0) (lt-ltb 0 (suc spare) (omega arith)) h, omega arith)
+
+-- what neither a take nor a put changes
+pub record Rest (f f' : Fields) : Type 0 where
+  pub job : f'.job ≡ f.job
+  pub kernel : f'.kernel ≡ f.kernel
+  pub blocked : f'.blocked ≡ f.blocked
+  pub steps : f'.steps ≡ f.steps
+  pub sent : f'.sent ≡ f.sent
+  pub due : f'.due ≡ f.due
+  pub ended : f'.ended ≡ f.ended
+  pub views : f'.views ≡ f.views
+
+times-le : (a b n : ℕ) → a ≤ b → a * n ≤ b * n
+times-le a b n h = grind arith
+
+-- a take sends nothing
+pub take-output : (job : Job) (journal : List Entry) (driver replica thread : ℕ) → output_of job (journal ++ Take driver replica thread ∷ []) ≡ output_of job journal
+unfolding after
+take-output job journal driver replica thread = ap (λ (c : Core). c.output) (replay_more job journal (Take driver replica thread))
+
+module _ (f : Fields) (h : Holds f) (driver replica thread : ℕ) (allowed : MayTake f.job (state_in f) driver replica thread) where
+  pub take-goes : Goes f
+  take-goes = goes f h allowed.going
+
+  pub take-allowed : IsAllowed f.job (core_in f) (Take driver replica thread)
+  take-allowed = subst (λ (c : Core). MayTake f.job c driver replica thread) take-goes.same allowed
+
+  at-home : AtHome (core_in f) replica
+  at-home = lendable_there (core_in f) replica thread take-allowed.lendable
+
+  pub take-seat : IsSeat f.seats replica
+  take-seat = seat_there f.job (core_in f) f.seats replica at-home.value h.seats_are at-home.home at-home.there
+
+  -- the fields after the take
+  by-take : (f' : Fields) → f'.journal ≡ f.journal ++ Take driver replica thread ∷ [] → f'.due ≡ f.due → sent_of f.job f'.journal (failed_of f'.due) ≡ sent_of f.job f.journal (failed_of f.due)
+  by-take f' journal due =
+      let none : failed_of f.due ≡ None = ap failed_of take-goes.not_due in
+      ap (λ (js : List Entry). sent_of f.job js (failed_of f'.due)) journal ∙ ap (sent_of f.job (f.journal ++ Take driver replica thread ∷ [])) (ap failed_of due ∙ none)
+      ∙ take-output f.job f.journal driver replica thread ∙ sym (ap (sent_of f.job f.journal) none)
+
+  pub take-holds : (f' : Fields) → Rest f f' → f'.journal ≡ f.journal ++ Take driver replica thread ∷ [] → f'.leases ≡ record { driver = driver; replica = replica; thread = thread } ∷ f.leases
+      → f'.seats ≡ slice_set f.seats replica None → f'.groups ≡ f.groups → length f.leases + 3 ≤ f'.places + 1 → Holds f'
+  unfolding after
+  take-holds f' r journal leases seats groups room = holds-step f f' (Take driver replica thread) h take-allowed (record {
+    job = r.job;
+    journal = journal;
+    leases = leases ∙ ap (λ (ls : List Lease). record { driver = driver; replica = replica; thread = thread } ∷ ls) h.leases_are;
+    setup = ap (λ (k : State). k.setup) r.kernel;
+    kernel = ap (λ (k : State). k.kernel) r.kernel ∙ h.kernel_is;
+    blocked_count = ap length r.blocked ∙ h.blocked_count;
+    blocked = λ t. ap (λ (bs : List (Option Call)). blocked_at bs t) r.blocked ∙ h.blocked_are t;
+    steps = r.steps ∙ h.steps_are;
+    counts = same-counts f f' h r.sent r.steps (by-take f' journal r.due);
+    due = inl (r.due ∙ take-goes.not_due ∙ sym (going-parts (core_in f) take-allowed.going).0);
+    not_sink = λ bytes e. absurd (let g : None ≡ Some (Sink bytes) = sym take-goes.not_due ∙ sym r.due ∙ e in cc);
+    ended = r.ended ∙ h.ended_is;
+    seats = subst (AreSeated f.job (after f.job (core_in f) (Take driver replica thread))) (sym seats) (take_seated f.job (core_in f) f.seats driver replica thread take-seat.0 h.seats_are take-seat.1);
+    groups = subst (AreGrouped (core_in f).replicas) (sym groups) h.groups_are;
+    views_count = ap length r.views ∙ h.views_count ∙ sym (length-set f.seats replica None) ∙ sym (ap length seats);
+    views_kept = no-views f.job _ f'.views (outcome_of-append f.journal (Take driver replica thread ∷ []) (no-outcome f h take-goes.not_ended));
+    room = let one : one_end f'.ended ≤ 1 = one-end-le f'.ended in let n : length f'.leases ≡ suc (length f.leases) = ap length leases in omega arith;
+  })
+
+  -- what leaves its seat is the replica of the core, and its thread can run
+  pub take-lent : (value : ReplicaOf) → slice_get f.seats replica ≡ Some (Some value) → IsOfJob f.job value × (slice_get (core_in f).replicas replica ≡ Some (replica_of value))
+  take-lent value there =
+      let s : Seated f.job (core_in f) replica (Some (Some value)) = subst (λ (o : Option (Option ReplicaOf)). Seated f.job (core_in f) replica o) there (h.seats_are.each replica) in
+      (s.1, s.2)
+
+  pub take-going : (value : ReplicaOf) → slice_get f.seats replica ≡ Some (Some value) → is_unstopped thread (replica_of value) ≡ true
+  take-going value there =
+      let lendable = (and_parts _ _ take-allowed.lendable).1 in
+      ap (λ (o : Option Replica). option_map_or (is_unstopped thread) o false) (sym (take-lent value there).1) ∙ lendable
+
+  -- a thread's count leaves room for a quantum in 128 bits
+  pub take-countable : (value : ReplicaOf) → slice_get f.seats replica ≡ Some (Some value) → length f.journal < 2 ^ 64 → CanCount f.job.settings.quantum value thread
+  take-countable value there short = by (slice_get value.threads thread) refl
+    where
+      counts : Counts (f.job.settings.quantum * length f.journal) (replica_of value)
+      counts = counted f.job f.journal h.legal replica (replica_of value) (take-lent value there).1
+
+      by : (o : Option Thread) → slice_get value.threads thread ≡ o → IfSome o (λ t. t.done + f.job.settings.quantum < 2 ^ 128)
+      by None e = tt
+      by (Some t) e =
+          let c : t.done ≤ f.job.settings.quantum * length f.journal = counts thread t e in
+          let q : f.job.settings.quantum ≤ 65536 = h.in_range.quantum.1 in
+          let m : f.job.settings.quantum * length f.journal ≤ 65536 * length f.journal = times-le f.job.settings.quantum 65536 (length f.journal) q in
+          omega arith

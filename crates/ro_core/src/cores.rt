@@ -20,7 +20,7 @@ use ro_faults::Fault;
 use ro_image::Executable;
 use ro_io::Sink;
 use ro_journal::{Entry, How};
-use ro_replica::{Ran, Replica};
+use ro_replica::{Ran, ReplicaBox};
 use ro_settings::Settings;
 use std::alloc::{AllocError, Global};
 use std::marker::Model;
@@ -99,7 +99,7 @@ impl<K: Sink> Core<K> {
     }
 
     /// Lends a replica's thread to a driver.
-    pub fn take(&mut self, driver: u32, replica: u32, thread: u32) -> Replica
+    pub fn take(&mut self, driver: u32, replica: u32, thread: u32) -> ReplicaBox
         requires allowed { IsAllowed self.old.job (state self.old) (Take driver replica thread) }
         requires room { HasRoom self.old }
         ensures entry { Appends self.old self.new (Take driver replica thread) }
@@ -110,7 +110,7 @@ impl<K: Sink> Core<K> {
     }
 
     /// Puts a replica back that a driver has run.
-    pub fn put(&mut self, driver: u32, lent: Replica, ran: Ran)
+    pub fn put(&mut self, driver: u32, lent: ReplicaBox, ran: Ran)
         requires { MayReturn self.old driver lent ran.count ran.hit }
         ensures entry { ReturnIs self.old self.new driver ran.count ran.hit }
         ensures quiet { Quiet self.old self.new }

@@ -10,11 +10,11 @@ ghost use Rattle.ro_core.specs.Grouped.{AreGrouped, AreMade, Returns, Copies, Co
 use crate::seats::is_stopped;
 use ro_event::Effect;
 use ro_group::Groups;
-use ro_replica::Replica;
+use ro_replica::ReplicaBox;
 use ro_vote::Won;
 
 /// Notes a thread of a replica that comes back, if it came to a stop.
-pub(crate) fn note_return(groups: &mut Groups, replica: u32, thread: u32, lent: &Replica)
+pub(crate) fn note_return(groups: &mut Groups, replica: u32, thread: u32, lent: &ReplicaBox)
     requires replica { replica < length groups.old }
     requires thread { thread < 16 }
     ensures { Returns replica thread (is_some (stop_of (replica_of lent.now) thread)) groups.old groups.new }
@@ -65,7 +65,7 @@ fn copy_stop(groups: &mut Groups, from: u32, to: u32, thread: u32)
 /// What an effect that was applied in every replica did to the threads that stood still: its own may be released, and
 /// page faults may be settled.
 pub(crate) fn regroup(
-    seats: &[Option<Replica>],
+    seats: &[Option<ReplicaBox>],
     groups: &mut Groups,
     effect: &Effect,
     replicas: u32,
@@ -92,7 +92,7 @@ fn release(groups: &mut Groups, effect: &Effect)
 }
 
 // Threads that don't stand still any more are cancelled.
-fn settle(seats: &[Option<Replica>], groups: &mut Groups, replicas: u32, threads: u32)
+fn settle(seats: &[Option<ReplicaBox>], groups: &mut Groups, replicas: u32, threads: u32)
     requires seats { length seats.now ≡ replicas }
     requires groups { length groups.old ≡ replicas }
     requires threads { threads ≤ 16 }
@@ -103,7 +103,7 @@ fn settle(seats: &[Option<Replica>], groups: &mut Groups, replicas: u32, threads
     }
 }
 
-fn settle_seat(seat: &Option<Replica>, groups: &mut Groups, replica: u32, threads: u32)
+fn settle_seat(seat: &Option<ReplicaBox>, groups: &mut Groups, replica: u32, threads: u32)
     requires replica { replica < length groups.old }
     requires threads { threads ≤ 16 }
     ensures { SettlesSeat seat.now replica threads groups.old groups.new }
@@ -113,7 +113,7 @@ fn settle_seat(seat: &Option<Replica>, groups: &mut Groups, replica: u32, thread
     }
 }
 
-fn settle_stop(seat: &Option<Replica>, groups: &mut Groups, replica: u32, thread: u32)
+fn settle_stop(seat: &Option<ReplicaBox>, groups: &mut Groups, replica: u32, thread: u32)
     requires replica { replica < length groups.old }
     requires thread { thread < 16 }
     ensures { SettlesStop seat.now replica thread groups.old groups.new }

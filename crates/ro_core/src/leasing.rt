@@ -10,7 +10,7 @@ ghost use Rattle.ro_core.specs.Runs.{fields_of, job_of, state_of, silent, WithAn
 use crate::actions::Lease;
 use crate::runs::Run;
 use ro_journal::Entry;
-use ro_replica::{Ran, Replica};
+use ro_replica::{Ran, ReplicaBox};
 use std::alloc::AllocError;
 
 impl Run {
@@ -29,7 +29,7 @@ impl Run {
     }
 
     /// Lends a replica's thread to a driver.
-    pub fn take(&mut self, driver: u32, replica: u32, thread: u32) -> Replica
+    pub fn take(&mut self, driver: u32, replica: u32, thread: u32) -> ReplicaBox
         requires holds { Holds (fields_of self.old) }
         requires allowed { IsAllowed (job_of self.old) (state_of self.old) (Take driver replica thread) }
         requires room { HasRoom (silent self.old) }
@@ -55,7 +55,7 @@ impl Run {
     }
 
     /// Puts a replica back that a driver has run.
-    pub fn put(&mut self, driver: u32, lent: Replica, ran: Ran)
+    pub fn put(&mut self, driver: u32, lent: ReplicaBox, ran: Ran)
         requires holds { Holds (fields_of self.old) }
         requires returns { MayReturn (silent self.old) driver lent ran.count ran.hit }
         ensures holds { Holds (fields_of self.new) }

@@ -16,7 +16,7 @@ use ro_group::Groups;
 use ro_image::Executable;
 use ro_kernel::Kernel;
 use ro_region::Regions;
-use ro_replica::Replica;
+use ro_replica::{Replica, ReplicaBox};
 use ro_settings::Settings;
 use std::alloc::{AllocError, Global};
 use std::sync::Arc;
@@ -69,7 +69,7 @@ fn opening_seats(
     regions: &Arc<Regions>,
     faults: &[Fault],
     settings: Settings,
-) -> Result<Vec<Option<Replica>>, AllocError>
+) -> Result<Vec<Option<ReplicaBox>>, AllocError>
     requires regions { arc_value regions.now ≡ image.now.ranges }
     requires faults { AreFaults faults.now }
     ensures first { IfOk result (λ seats. AreFirst image.now faults.now settings.watchdog seats.items) }
@@ -79,7 +79,7 @@ fn opening_seats(
     for number in 0..settings.replicas {
         let regions = Arc::try_clone(regions)?;
         let replica = Replica::new(alloc, image, regions, number, faults, settings.watchdog)?;
-        seats.push(Some(replica))?;
+        seats.push(Some(ReplicaBox::new(alloc, replica)?))?;
     }
     Ok(seats)
 }

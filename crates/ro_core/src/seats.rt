@@ -17,7 +17,7 @@ use crate::grouping::{copy_stops, note_return, regroup};
 use ro_event::{Effect, View};
 use ro_group::Groups;
 use ro_recover::recover;
-use ro_replica::Replica;
+use ro_replica::ReplicaBox;
 use ro_vote::{Pair, Won, vote2, vote3};
 use std::alloc::AllocError;
 
@@ -28,7 +28,7 @@ const MOST_PAGES: u32 = 3;
 #[derive(Drop)]
 pub(crate) struct Seats {
     /// The replicas, where they are not lent.
-    pub homes: Vec<Option<Replica>>,
+    pub homes: Vec<Option<ReplicaBox>>,
     /// Which threads stand still, in the replicas as they were when they left.
     pub groups: Groups,
 }
@@ -51,7 +51,7 @@ impl Seats {
     }
 
     /// Takes a replica out of its seat.
-    pub fn leave(&mut self, replica: u32) -> Replica
+    pub fn leave(&mut self, replica: u32) -> ReplicaBox
         requires { IsSeat self.old.homes.items replica }
         ensures replica { slice_get self.old.homes.items replica ≡ Some (Some result) }
         ensures homes { self.new.homes.items ≡ slice_set self.old.homes.items replica None }
@@ -61,7 +61,7 @@ impl Seats {
     }
 
     /// Puts a replica that was lent for a thread back into its seat.
-    pub fn come_home(&mut self, replica: u32, thread: u32, lent: Replica)
+    pub fn come_home(&mut self, replica: u32, thread: u32, lent: ReplicaBox)
         requires home { replica < length self.old.homes.items }
         requires replica { replica < length self.old.groups }
         requires thread { thread < 16 }
@@ -130,7 +130,7 @@ impl Seats {
 }
 
 // Takes a replica out of its seat.
-fn leave(seats: &mut [Option<Replica>], place: usize) -> Replica
+fn leave(seats: &mut [Option<ReplicaBox>], place: usize) -> ReplicaBox
     requires { IsSeat seats.old place }
     ensures replica { slice_get seats.old place ≡ Some (Some result) }
     ensures seats { seats.new ≡ slice_set seats.old place None }
@@ -142,7 +142,7 @@ fn leave(seats: &mut [Option<Replica>], place: usize) -> Replica
 }
 
 // Puts a replica into its seat.
-fn come_home(seats: &mut [Option<Replica>], place: usize, replica: Replica)
+fn come_home(seats: &mut [Option<ReplicaBox>], place: usize, replica: ReplicaBox)
     requires { place < length seats.old }
     ensures { seats.new ≡ slice_set seats.old place (Some replica) }
 {
@@ -150,7 +150,7 @@ fn come_home(seats: &mut [Option<Replica>], place: usize, replica: Replica)
 }
 
 /// Whether a replica is at home, and a thread of it stands still.
-pub(crate) fn is_stopped(seat: &Option<Replica>, thread: u32) -> bool
+pub(crate) fn is_stopped(seat: &Option<ReplicaBox>, thread: u32) -> bool
     ensures { result ≡ seat_stopped thread seat.now }
 {
     match seat {
@@ -160,7 +160,7 @@ pub(crate) fn is_stopped(seat: &Option<Replica>, thread: u32) -> bool
 }
 
 // Whether a replica is at home, and a thread of it not stopped.
-fn is_unstopped(seat: &Option<Replica>, thread: u32) -> bool
+fn is_unstopped(seat: &Option<ReplicaBox>, thread: u32) -> bool
     ensures { result ≡ seat_unstopped thread seat.now }
 {
     match seat {
@@ -170,7 +170,7 @@ fn is_unstopped(seat: &Option<Replica>, thread: u32) -> bool
 }
 
 // Shows a thread that stands still in every replica, each of which is at home.
-fn show_all(seats: &[Option<Replica>], thread: u32, views: &mut [View])
+fn show_all(seats: &[Option<ReplicaBox>], thread: u32, views: &mut [View])
     requires stopped { list_all (seat_stopped thread) seats.now ≡ true }
     requires count { length views.old ≡ length seats.now }
     ensures views { (job : Job) (replicas : List ReplicaSeen) → AreHome job seats.now replicas → views.new ≡ filter_map (view_of job.program.image.ranges thread) replicas }
@@ -186,7 +186,7 @@ fn show_all(seats: &[Option<Replica>], thread: u32, views: &mut [View])
     show_all(other_seats, thread, other_views);
 }
 
-fn show(seat: &Option<Replica>, thread: u32, view: &mut View)
+fn show(seat: &Option<ReplicaBox>, thread: u32, view: &mut View)
     requires { seat_stopped thread seat.now ≡ true }
     ensures { (value : ReplicaOf) → seat.now ≡ Some value → view_of value.layout.ranges thread (replica_of value) ≡ Some view.new }
 {
@@ -211,7 +211,7 @@ pub(crate) fn verdict(views: &[View]) -> Option<Won>
 }
 
 // Makes sure that each replica can be given an event with no more memory. Where there is none, the replicas are as they were.
-fn reserve_pages(seats: &mut [Option<Replica>]) -> Result<(), AllocError>
+fn reserve_pages(seats: &mut [Option<ReplicaBox>]) -> Result<(), AllocError>
     ensures kept { (job : Job) (replicas : List ReplicaSeen) → AreHome job seats.old replicas → AreHome job seats.new replicas }
     ensures spared { OnOk result (AreSpared seats.new) }
 {
@@ -222,7 +222,7 @@ fn reserve_pages(seats: &mut [Option<Replica>]) -> Result<(), AllocError>
     reserve_pages(others)
 }
 
-fn reserve_in(seat: &mut Option<Replica>) -> Result<(), AllocError>
+fn reserve_in(seat: &mut Option<ReplicaBox>) -> Result<(), AllocError>
     ensures kept { KeepsSeat seat.old seat.new }
     ensures spared { OnOk result ((value : ReplicaOf) → seat.new ≡ Some value → MOST_PAGES ≤ value.held.spare) }
 {
@@ -233,7 +233,7 @@ fn reserve_in(seat: &mut Option<Replica>) -> Result<(), AllocError>
 }
 
 // Overwrites the loser, if there is one, with the winner.
-fn recover_loser(seats: &mut [Option<Replica>], won: &Won)
+fn recover_loser(seats: &mut [Option<ReplicaBox>], won: &Won)
     requires { (lost : ℕ) → won.now.lost ≡ Some lost → IsSeat seats.old won.now.won × IsSeat seats.old lost × (won.now.won ≢ lost) × CanRecover seats.old won.now.won lost }
     ensures recovered { (job : Job) (replicas : List ReplicaSeen) → AreHome job seats.old replicas → AreHome job seats.new (with_recovered won.now.won won.now.lost replicas) }
     ensures spared { AreSpared seats.old → AreSpared seats.new }
@@ -244,7 +244,7 @@ fn recover_loser(seats: &mut [Option<Replica>], won: &Won)
 }
 
 // Overwrites one replica with another.
-fn overwrite(seats: &mut [Option<Replica>], won: usize, lost: usize)
+fn overwrite(seats: &mut [Option<ReplicaBox>], won: usize, lost: usize)
     requires winner { IsSeat seats.old won }
     requires loser { IsSeat seats.old lost }
     requires differ { won ≢ lost }
@@ -257,7 +257,7 @@ fn overwrite(seats: &mut [Option<Replica>], won: usize, lost: usize)
     come_home(seats, won, winner);
 }
 
-fn recover_in(winner: &Replica, seat: &mut Option<Replica>)
+fn recover_in(winner: &ReplicaBox, seat: &mut Option<ReplicaBox>)
     requires there { (value : ReplicaOf) × (seat.old ≡ Some value) }
     requires twins { (value : ReplicaOf) → seat.old ≡ Some value → AreTwins winner.now value }
     ensures { (value : ReplicaOf) → seat.old ≡ Some value → (other : ReplicaOf) × (seat.new ≡ Some other) × Recovers winner.now value other }
@@ -268,7 +268,7 @@ fn recover_in(winner: &Replica, seat: &mut Option<Replica>)
 }
 
 // Does what an event does to every replica.
-fn apply_to_all(seats: &mut [Option<Replica>], effect: &Effect)
+fn apply_to_all(seats: &mut [Option<ReplicaBox>], effect: &Effect)
     requires { CanTake effect.now seats.old }
     ensures { (job : Job) (replicas : List ReplicaSeen) → AreHome job seats.old replicas → AreHome job seats.new (all_applied effect.now replicas) }
 {
@@ -279,7 +279,7 @@ fn apply_to_all(seats: &mut [Option<Replica>], effect: &Effect)
     apply_to_all(others, effect);
 }
 
-fn apply_in(seat: &mut Option<Replica>, effect: &Effect)
+fn apply_in(seat: &mut Option<ReplicaBox>, effect: &Effect)
     requires { CanTake effect.now (seat.old ∷ []) }
     ensures { (job : Job) (replica : ReplicaSeen) → AreHome job (seat.old ∷ []) (replica ∷ []) → AreHome job (seat.new ∷ []) (all_applied effect.now (replica ∷ [])) }
 {

@@ -5,7 +5,7 @@ ghost use Rattle.std.specs.Prelude.{◌≡◌};
 ghost use Rattle.ro_lease.specs.Loans.{CanGo};
 
 use ro_post::Work;
-use ro_replica::{Ran, Replica};
+use ro_replica::{Ran, ReplicaBox};
 use std::marker::Model;
 
 /// A replica that was lent to a driver, and the thread of it that is to run, for at most so many instructions.
@@ -15,7 +15,7 @@ pub struct Lent {
     number: u32,
     thread: u32,
     quantum: u32,
-    replica: Replica,
+    replica: ReplicaBox,
 }
 
 impl Model for Lent {
@@ -34,7 +34,7 @@ impl Model for Lent {
 
 impl Lent {
     /// Lends the replica with this number to a driver, for a run of a thread.
-    pub fn new(driver: u32, number: u32, thread: u32, quantum: u32, replica: Replica) -> Lent
+    pub fn new(driver: u32, number: u32, thread: u32, quantum: u32, replica: ReplicaBox) -> Lent
         requires { CanGo quantum thread replica }
         ensures { result ≡ record { driver = driver; number = number; thread = thread; quantum = quantum; replica = replica } }
     {
@@ -54,7 +54,7 @@ pub struct Back {
     pub driver: u32,
     pub number: u32,
     pub thread: u32,
-    pub replica: Replica,
+    pub replica: ReplicaBox,
     pub ran: Ran,
 }
 

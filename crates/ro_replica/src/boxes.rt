@@ -1,0 +1,106 @@
+//! A replica in a block of its own, so that it moves as one word.
+ghost use Rattle.std.specs.Prelude.{◌≡◌, ◌≤◌, IfOk, IsTrue, OnOk, Some, is_some};
+ghost use Rattle.ro_replica.specs.Replica.{applied, cancelled, stop_of};
+ghost use Rattle.ro_replica.specs.Seen.{replica_of, AreTwins, CanApply, CanCount, Keeps, Recovers, Runs, SameProgram};
+ghost use Rattle.ro_replica.specs.Views.{is_unstopped, view_of};
+
+use crate::replicas::Replica;
+use crate::running::Ran;
+use ro_event::{Effect, Stop, View};
+use ro_recover::Twin;
+use std::alloc::{AllocError, Global};
+use std::marker::Model;
+
+/// A replica in a block of its own.
+#[derive(Drop)]
+pub struct ReplicaBox {
+    replica: Box<Replica>,
+}
+
+impl Model for ReplicaBox {
+    ghost use Rattle.ro_replica.specs.Seen.{ReplicaOf};
+    ghost use Rattle.std.specs.Coded.{codes};
+    ghost use Rattle.ro_pages.specs.Held.{coded_held};
+
+    ghost Value = { ReplicaOf };
+
+    ghost coded = { Prim.hlevel (codes, coded_held) };
+
+    ghost view = { λ b. b.replica.value };
+}
+
+impl ReplicaBox {
+    /// Moves a replica into a block.
+    ///
+    /// # Errors
+    /// Where there is no memory.
+    pub fn new(alloc: Global, replica: Replica) -> Result<ReplicaBox, AllocError>
+        ensures { IfOk result (λ b. b ≡ replica) }
+    {
+        let replica = Box::new(alloc, replica)?;
+        Ok(ReplicaBox { replica })
+    }
+
+    /// Makes sure that so many pages can be backed with no more memory.
+    ///
+    /// # Errors
+    /// Where there is no memory; nothing has changed then.
+    pub fn reserve(&mut self, count: u32) -> Result<(), AllocError>
+        ensures keeps { Keeps self.old self.new }
+        ensures spare { OnOk result (count ≤ self.new.held.spare) }
+    {
+        self.replica.reserve(count)
+    }
+
+    /// Whether a thread was made and is not stopped.
+    pub fn is_unstopped(&self, thread: u32) -> bool
+        ensures { result ≡ is_unstopped thread (replica_of self.now) }
+    {
+        self.replica.is_unstopped(thread)
+    }
+
+    /// The stop at which a thread stands still, if it does.
+    pub fn stop(&self, thread: u32) -> Option<Stop>
+        ensures { result ≡ stop_of (replica_of self.now) thread }
+    {
+        self.replica.stop(thread)
+    }
+
+    /// Shows a thread that stands still.
+    pub fn view(&self, thread: u32, view: &mut View)
+        requires { IsTrue (is_some (stop_of (replica_of self.now) thread)) }
+        ensures { view_of self.now.layout.ranges thread (replica_of self.now) ≡ Some view.new }
+    {
+        self.replica.view(thread, view);
+    }
+
+    /// Does what an event does to a replica, and forgets the page faults that it settles.
+    pub fn apply(&mut self, effect: &Effect)
+        requires { CanApply effect.now self.old }
+        ensures program { SameProgram self.new self.old }
+        ensures applied { replica_of self.new ≡ cancelled (applied effect.now (replica_of self.old)) }
+    {
+        self.replica.apply(effect);
+    }
+
+    /// Runs a thread that is not stopped until it stands at a stop, or for a quantum of instructions. Each fault whose moment
+    /// comes is struck, in the list's order.
+    pub fn run(&mut self, thread: u32, quantum: u32) -> Ran
+        requires going { IsTrue (is_unstopped thread (replica_of self.old)) }
+        requires countable { CanCount quantum self.old thread }
+        ensures program { SameProgram self.new self.old }
+        ensures runs { Runs self.old.layout self.old.watchdog quantum thread (replica_of self.old) (replica_of self.new) result.count result.hit result.stop }
+    {
+        self.replica.run(thread, quantum)
+    }
+}
+
+impl Twin for ReplicaBox {
+    ghost may_become = { λ one other. AreTwins one other };
+
+    ghost became = { λ winner old new. Recovers winner old new };
+
+    fn copy_from(&mut self, other: &ReplicaBox) {
+        self.replica.copy_from(&other.replica);
+    }
+}

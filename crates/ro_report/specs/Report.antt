@@ -1,5 +1,5 @@
 -- The report of a run: its journal, where that is to be shown, a summary of it, and the answer.
-use Rattle.std.specs.Prelude.{ℕ, Bool, true, false, List, [], ◌∷◌, ◌++◌, Some, length, count_by, sum_by, codes, decimal}
+use Rattle.std.specs.Prelude.{ℕ, ◌+◌, ◌*◌, ◌%◌, ◌^◌, Bool, true, false, List, [], ◌∷◌, ◌++◌, Some, length, count_by, sum_by, codes, decimal}
 use Rattle.ro_journal.specs.declared.Entry.{Entry}
 use Rattle.ro_journal.specs.declared.Entry.TheVariants.{Put, Vote}
 use Rattle.ro_journal.specs.Plan.{plan_of}
@@ -48,6 +48,21 @@ summary_text journal bytes =
 -- the line of a plan that was run to its end: its steps, and the bytes that they wrote
 abbrev pub plain_text : (steps bytes : ℕ) → List ℕ
 plain_text steps bytes = codes "steps " ++ decimal steps ++ codes " bytes " ++ decimal bytes ++ codes "\n"
+
+-- the sum of each byte times its place, where the first has this one
+abbrev pub weighed : (place : ℕ) → List ℕ → ℕ
+weighed place [] = 0
+weighed place (byte ∷ bytes) = place * byte + weighed (place + 1) bytes
+
+-- the line of a made executable that exited with this status, and wrote these bytes
+abbrev pub bench_text : (seed size status : ℕ) → (output : List ℕ) → List ℕ
+bench_text seed size status output =
+    codes "bench " ++ decimal seed
+    ++ codes " " ++ decimal size
+    ++ codes " status " ++ decimal status
+    ++ codes " bytes " ++ decimal (length output)
+    ++ codes " sum " ++ decimal (weighed 1 output % 2 ^ 32)
+    ++ codes "\n"
 
 -- the answer line
 abbrev pub answer_text : Answer → List ℕ

@@ -10,7 +10,7 @@ pub use answers::{Answer, FileKind, answer_line};
 pub use laws::shown_line_by_line;
 pub use ro_journal_text::{JournalCode, entry_text, header};
 pub use ro_text::Line;
-pub use summaries::{plain_line, summary};
+pub use summaries::{bench_line, plain_line, summary};
 
 #[cfg(test)]
 mod tests;

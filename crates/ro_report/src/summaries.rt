@@ -1,10 +1,13 @@
 //! The summary of a run's journal.
-ghost use Rattle.std.specs.Prelude.{◌≡◌, ◌+◌, ◌^◌, ◌<◌, ◌≤◌, ◌++◌, length, decimal};
+ghost use Rattle.std.specs.Prelude.{◌≡◌, ◌+◌, ◌*◌, ◌%◌, ◌^◌, ◌<◌, ◌≤◌, ◌++◌, length, decimal};
 ghost use Rattle.ro_journal.specs.Plan.{entry_plan};
-ghost use Rattle.ro_report.specs.Report.{is_vote, is_copy, hits_of, votes_in, copies_in, struck_in, steps_in, summary_text, plain_text};
+ghost use Rattle.ro_report.specs.Report.{is_vote, is_copy, hits_of, votes_in, copies_in, struck_in, steps_in, summary_text, plain_text, bench_text, weighed};
 
 use ro_journal::Entry;
 use ro_text::{Line, ROOM, Text};
+
+/// Sums of bytes are numbers below this one.
+const MODULUS: u64 = 4_294_967_296;
 
 /// The line that sums a journal up: its votes, the copies that followed them, the faults that were struck, the
 /// steps of its plan, and the bytes that the run wrote.
@@ -30,6 +33,44 @@ pub fn plain_line(steps: u64, bytes: u64) -> Line
     push_field(&mut text, "steps ", steps);
     push_field(&mut text, " bytes ", bytes);
     text.end()
+}
+
+/// The line of a made executable, of a seed and a size, that exited with this status and wrote these bytes: how many, and
+/// the sum of each byte times its place from 1 on.
+pub fn bench_line(seed: u64, size: u32, status: u8, output: &[u8]) -> Line
+    ensures { result ≡ bench_text seed size status output.now }
+{
+    let mut text = Text::new();
+    push_field(&mut text, "bench ", seed);
+    push_field(&mut text, " ", u64::from(size));
+    push_field(&mut text, " status ", u64::from(status));
+    push_field(&mut text, " bytes ", output.len() as u64);
+    push_field(&mut text, " sum ", weight(output));
+    text.end()
+}
+
+// The sum of each byte times its place, from 1 on, as a number of 32 bits.
+fn weight(output: &[u8]) -> u64
+    ensures { result ≡ weighed 1 output.now % 2 ^ 32 }
+{
+    let mut sum = 0;
+    let mut place = 1;
+    let mut rest = output;
+    while let Some((byte, behind)) = rest.split_first() {
+        sum = add_weight(sum, place, *byte);
+        place += 1;
+        rest = behind;
+    }
+    sum
+}
+
+// The sum with a byte at its place.
+fn add_weight(sum: u64, place: u64, byte: u8) -> u64
+    requires { sum < 2 ^ 32 }
+    ensures sum { result ≡ (sum + place * byte) % 2 ^ 32 }
+    ensures small { result < 2 ^ 32 }
+{
+    (sum + place % MODULUS * u64::from(byte)) % MODULUS
 }
 
 fn push_field(text: &mut Text, name: &str, number: u64)

@@ -110,6 +110,16 @@ fn copies_and_frees(rt: HostRuntime) {
 }
 
 #[test]
+fn bench_done(rt: HostRuntime) {
+    let line = bench_line(5, 100, 0, b"00023604\n");
+    let want = "bench 5 100 status 0 bytes 9 sum 1909\n";
+    assert_eq!(rt; line.as_bytes(), want.as_bytes());
+    let line = bench_line(u64::MAX, 2_000, 255, b"");
+    let want = "bench 18446744073709551615 2000 status 255 bytes 0 sum 0\n";
+    assert_eq!(rt; line.as_bytes(), want.as_bytes());
+}
+
+#[test]
 fn plan_done(rt: HostRuntime) {
     let line = plain_line(1_000_000_000, 4_096);
     assert_eq!(rt;

@@ -1,6 +1,7 @@
 -- What a sink took of a text.
-use Rattle.std.proofs.Common.{◌≡◌, ℕ, Bool, true, false, true≢false, List, [], ◌∷◌, ◌++◌, ◌-◌, length, take, drop, Option, Some, None, Result, Ok, Err, OnOk, OnErr, arith, refl, sym, ap, ◌∙◌, subst, append_assoc}
-use Rattle.std.proofs.lemmas.List.{append-nil, take-append-drop, take_all, length-drop}
+use Rattle.std.proofs.Common.{◌≡◌, ℕ, Bool, true, false, true≢false, List, [], ◌∷◌, ◌++◌, ◌+◌, ◌-◌, ◌≤◌, length, take, drop, Option, Some, None, Result, Ok, Err, OnOk, OnErr, arith, refl, sym, ap, ◌∙◌, subst, append_assoc}
+use Rattle.std.proofs.lemmas.List.{append-nil, take-append-drop, take-append-le, take_all, length-drop}
+use Rattle.std.proofs.Math.Seq.{take-add}
 use Rattle.ro_io.specs.Outside.{more}
 use Rattle.ro_journal.specs.declared.Entry.{Entry}
 use Rattle.ro_journal_text.specs.Texts.{entry_text, entries_text, journal_text}
@@ -74,3 +75,10 @@ pub shown_journal : (shown : Bool) (journal : List Entry) → shown ≡ true →
 shown_journal false journal is some = absurd (true≢false (sym is))
 shown_journal true [] is some = absurd (some refl)
 shown_journal true (entry ∷ journal) is some = refl
+
+-- the front that was sent, with a piece more
+pub sent_more : (bytes : List ℕ) (sent taken left : ℕ) → taken ≤ length (take left (drop sent bytes)) → take (sent + taken) bytes ≡ take sent bytes ++ take taken (take left (drop sent bytes))
+sent_more bytes sent taken left few =
+    take-add sent taken bytes
+    ∙ ap (λ (xs : List ℕ). take sent bytes ++ xs)
+    (ap (take taken) (sym (take-append-drop left (drop sent bytes))) ∙ take-append-le taken (take left (drop sent bytes)) (drop left (drop sent bytes)) few)

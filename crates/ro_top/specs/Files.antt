@@ -1,7 +1,10 @@
 -- The files that a command names, and the job or the plan that it asks for.
 use Rattle.std.specs.Prelude.{◌≡◌, ℕ, ◌*◌, ◌≤◌, List, [], length, Option, Some, None, Ok, IfSome}
 use Rattle.ro_io.specs.Outside.{Files}
-use Rattle.ro_image.specs.Image.{Image}
+use Rattle.ro_image.specs.Image.{Image, segments_in}
+use Rattle.ro_inject.specs.Draws.{faults_drawn}
+use Rattle.ro_make.specs.Bench.{bench_file}
+use Rattle.ro_settings.specs.Ranges.{default_settings}
 use Rattle.ro_image.specs.Executable.{bad_code, image_of}
 use Rattle.ro_faults.specs.declared.Fault.{Fault}
 use Rattle.ro_faults.specs.Texts.{file_faults}
@@ -9,7 +12,7 @@ use Rattle.ro_report.specs.declared.answers.FileKind.{FileKind}
 use Rattle.ro_report.specs.declared.answers.FileKind.TheVariants.{Exe, Input, Faults, Plan}
 use Rattle.ro_settings.specs.declared.Settings.{Settings}
 use Rattle.ro_core.specs.Core.{Job}
-use Rattle.ro_words.specs.Commands.{Asked, AskedPlain, AskedRun, to_plain, to_run}
+use Rattle.ro_words.specs.Commands.{Asked, AskedBench, AskedInject, AskedPlain, AskedRun, to_bench, to_inject, to_plain, to_run}
 use Rattle.ro_journal.specs.declared.Entry.{Entry}
 use Rattle.ro_journal_text.specs.Reading.{file_journal}
 use Rattle.ro_plain.specs.Machine.{Program}
@@ -31,6 +34,11 @@ name_in (to_plain plain) Exe = Some plain.executable
 name_in (to_plain plain) Input = plain.input
 name_in (to_plain plain) Faults = None
 name_in (to_plain plain) Plan = Some plain.plan
+name_in (to_inject inject) Exe = Some inject.executable
+name_in (to_inject inject) Input = None
+name_in (to_inject inject) Faults = None
+name_in (to_inject inject) Plan = None
+name_in (to_bench bench) kind = None
 
 -- the file of that name has this content, where the store tells
 abbrev pub IsFile : Option Files → (name content : List ℕ) → Type 0
@@ -68,3 +76,14 @@ pub record IsPlanOf (files : Option Files) (asked : AskedPlain) (program : Progr
   pub text_is : IsContent files Plan (Some asked.plan) text
   pub journal_is : file_journal text ≡ Ok journal
   pub program_is : program ≡ record { image = image_of executable; input = input }
+
+-- The faults that a draw is asked for: its executable may be read and is accepted, and they are drawn in its segments.
+pub record AreDrawn (files : Option Files) (asked : AskedInject) (faults : List Fault) : Type 0 where
+  pub executable : List ℕ
+  pub executable_is : IsContent files Exe (Some asked.executable) executable
+  pub accepted : bad_code executable ≡ None
+  pub faults_are : faults ≡ faults_drawn (segments_in (image_of executable).ranges) asked.replica asked.seed asked.count
+
+-- the job of a made executable: no input, no faults, and the usual settings
+abbrev pub bench_job : AskedBench → Job
+bench_job asked = job_of (image_of (bench_file asked.seed asked.size)) [] [] default_settings

@@ -3,13 +3,16 @@
 #![tactic(auto)]
 
 mod asking;
+mod benching;
 mod done;
 mod driving;
 mod files;
+mod injecting;
 mod playing;
 mod reports;
 mod running;
 mod top;
+mod writing;
 
 pub use done::{Done, Told};
 pub use ro_report::{Answer, FileKind, JournalCode};

@@ -343,6 +343,133 @@ fn plans(rt: HostRuntime) -> Result<(), Fail> {
     Ok(())
 }
 
+/// Commands that write a text of their own.
+const TOLD: &[Plan] = &[
+    Plan {
+        words: &["inject", "42", "1", "seven"],
+        acts: &[],
+        answer: Answer::Exit(0),
+        status: 0,
+        held: "0 1 5824 pc 11\n",
+        reported: "answer exit 0\n",
+    },
+    Plan {
+        words: &["inject", "42", "1", "seven", "--replica", "2"],
+        acts: &[Act::Take(1), Act::Take(6)],
+        answer: Answer::Exit(0),
+        status: 0,
+        held: "2 1 5824 pc 11\n",
+        reported: "answer exit 0\n",
+    },
+    Plan {
+        words: &["inject", "42", "1", "seven"],
+        acts: &[Act::Take(1), Act::Take(2), Act::Fail],
+        answer: Answer::SinkFailed { taken: 3 },
+        status: 245,
+        held: "0 1",
+        reported: "answer sink 3\n",
+    },
+    Plan {
+        words: &["inject", "42", "0", "seven"],
+        acts: &[],
+        answer: Answer::BadWords,
+        status: 249,
+        held: "",
+        reported: "answer words\n",
+    },
+    Plan {
+        words: &["inject", "42", "1", "one"],
+        acts: &[],
+        answer: Answer::BadExe(1),
+        status: 247,
+        held: "",
+        reported: "answer exe 1\n",
+    },
+    Plan {
+        words: &["inject", "42", "1", "nothere"],
+        acts: &[],
+        answer: Answer::StoreFailed,
+        status: 246,
+        held: "",
+        reported: "answer store\n",
+    },
+    Plan {
+        words: &["bench", "1", "0"],
+        acts: &[],
+        answer: Answer::BadWords,
+        status: 249,
+        held: "",
+        reported: "answer words\n",
+    },
+];
+
+#[test]
+fn drawn_texts(rt: HostRuntime) -> Result<(), Fail> {
+    for row in TOLD {
+        let words = words_of(rt.alloc(), row.words)?;
+        let mut store = store(&rt, rt.alloc())?;
+        let mut report = sink(rt.alloc(), &[])?;
+        let out = sink(rt.alloc(), row.acts)?;
+        let done = romain(
+            &rt,
+            rt.alloc(),
+            words.as_slice(),
+            &mut store,
+            out,
+            &mut report,
+            &OpenGate,
+        );
+        assert_eq!(rt; done.answer, row.answer, "of {:?}", row.words);
+        assert_eq!(rt; done.status(), row.status, "of {:?}", row.words);
+        assert_eq!(rt; done.out.bytes(), row.held.as_bytes(), "of {:?}", row.words);
+        assert_eq!(rt;
+            report.bytes(),
+            row.reported.as_bytes(),
+            "of {:?}",
+            row.words
+        );
+        assert!(rt; done.journal.is_empty() && done.views.is_empty());
+    }
+    Ok(())
+}
+
+// A made executable, and a sink that fails at the line of its run.
+#[test]
+fn made(rt: HostRuntime) -> Result<(), Fail> {
+    let rows: [(&[Act], Answer, &str); 2] = [
+        (
+            &[],
+            Answer::Exit(0),
+            "bench 1 1 status 0 bytes 9 sum 1890\n",
+        ),
+        (
+            &[Act::Take(5), Act::Fail],
+            Answer::SinkFailed { taken: 5 },
+            "bench",
+        ),
+    ];
+    for (acts, answer, held) in rows {
+        let words = words_of(rt.alloc(), &["bench", "1", "1"])?;
+        let mut store = store(&rt, rt.alloc())?;
+        let mut report = sink(rt.alloc(), &[])?;
+        let out = sink(rt.alloc(), acts)?;
+        let done = romain(
+            &rt,
+            rt.alloc(),
+            words.as_slice(),
+            &mut store,
+            out,
+            &mut report,
+            &OpenGate,
+        );
+        assert_eq!(rt; done.answer, answer);
+        assert_eq!(rt; done.out.bytes(), held.as_bytes());
+        let end = Entry::End { how: How::Exit(0) };
+        assert_eq!(rt; done.journal.last(), Some(&end));
+    }
+    Ok(())
+}
+
 // A plan of more than 10^9 steps is not run.
 #[test]
 fn longest_plan(rt: HostRuntime) -> Result<(), Fail> {

@@ -1,26 +1,30 @@
 //! The call that does it all.
-ghost use Rattle.std.specs.Prelude.{◌≡◌, ◌≢◌, ◌⊎◌, ℕ, [], None, Some};
-ghost use Rattle.ro_io.specs.Outside.{Rose};
+ghost use Rattle.std.specs.Prelude.{◌≡◌, ◌≢◌, ◌⊎◌, ℕ, [], None, Option, Some};
+ghost use Rattle.ro_io.specs.Outside.{Files, Rose};
 ghost use Rattle.ro_journal.specs.Plan.{outcome_of};
 ghost use Rattle.ro_report.specs.Report.{answer_text, report_of};
 ghost use Rattle.ro_report.specs.declared.answers.Answer.TheVariants as a;
 ghost use Rattle.ro_settings.specs.Ranges.{InRange};
-ghost use Rattle.ro_words.specs.Commands.{AskedPlain, AskedRun, command_of, plain_by, run_by, to_plain, to_run};
+ghost use Rattle.ro_words.specs.Commands.{AskedBench, AskedInject, AskedPlain, AskedRun, bench_by, command_of, inject_by, plain_by, run_by, to_bench, to_inject, to_plain, to_run};
 ghost use Rattle.ro_words.specs.Uses.{texts_of};
 ghost use Rattle.ro_words.specs.declared.commands.WordsError.TheVariants as w;
 ghost use Rattle.ro_top.specs.Driven.{AreCounts};
 ghost use Rattle.ro_top.specs.Causes.{IsRefusal, RefusalCause, JobCause, IsOutcome};
-ghost use Rattle.ro_top.specs.Top.{OfItsJob, OfItsPlan, RanAs, IsRunOf, IsTold, plain_report};
+ghost use Rattle.ro_top.specs.Top.{OfItsBench, OfItsDraw, OfItsJob, OfItsPlan, RanAs, IsRunOf, IsTold, plain_report};
 ghost use Rattle.ro_top.specs.declared.done.Told.TheVariants as t;
 
-use crate::asking::{job_from, replay_from};
+use crate::asking::{image_from, job_from, replay_from};
+use crate::benching::{Benched, bench};
 use crate::done::Done;
+use crate::injecting::inject;
 use crate::playing::{Played, play, unplayed};
 use crate::reports::{tell, tell_answer, tell_plan};
 use crate::running::{Ran, nothing, run};
 use ro_io::{Gate, Sink, Store};
 use ro_report::Answer;
-use ro_words::{Command, PlainCommand, RunCommand, WordsError, parse_words};
+use ro_words::{
+    BenchCommand, Command, InjectCommand, PlainCommand, RunCommand, WordsError, parse_words,
+};
 use std::alloc::Global;
 use std::sync::Wait;
 use std::thread::Threads;
@@ -35,6 +39,9 @@ use std::thread::Threads;
 ///   gate before it runs.
 /// - `plain`: the plan of a journal runs on the unreplicated machine, and what it writes goes to `out`. The report has a line of
 ///   its steps and bytes, where it was run to its end, and the answer's line.
+/// - `inject`: faults are drawn for an executable, and their list goes to `out`. The report has the answer's line alone.
+/// - `bench`: a made executable runs as three replicas, with the usual settings, in a sink of its own of 64 bytes. Where it
+///   exits, a line of its status and output goes to `out`. The report has the answer's line alone.
 pub fn romain<'a, R: Threads + Wait + Sync, S: Store, K: Sink + Send, E: Sink, G: Gate + Sync>(
     rt: &R,
     alloc: Global,
@@ -49,6 +56,10 @@ pub fn romain<'a, R: Threads + Wait + Sync, S: Store, K: Sink + Send, E: Sink, G
     ensures nothing_run { (asked : AskedRun) → command_of (texts_of words.now) ≡ Some (to_run asked) → result.journal.items ≡ [] → (K.held result.out ≡ K.held out) × (K.faults result.out ≡ K.faults out) }
     ensures plain { (asked : AskedPlain) → command_of (texts_of words.now) ≡ Some (to_plain asked) → (steps : ℕ) × (bytes : ℕ) × OfItsPlan (S.told store.old) asked (record { answer = result.answer; steps = steps; bytes = bytes; held_before = K.held out; held_after = K.held result.out; faults_before = K.faults out; faults_after = K.faults result.out }) × IsTold result.told (E.held report.old) (E.held report.new) (plain_report steps bytes result.answer) }
     ensures plain_journal { (asked : AskedPlain) → command_of (texts_of words.now) ≡ Some (to_plain asked) → result.journal.items ≡ [] }
+    ensures inject { (asked : AskedInject) → command_of (texts_of words.now) ≡ Some (to_inject asked) → OfItsDraw (S.told store.old) asked (K.held out) (K.held result.out) (K.faults out) (K.faults result.out) result.answer }
+    ensures inject_told { (asked : AskedInject) → command_of (texts_of words.now) ≡ Some (to_inject asked) → (result.journal.items ≡ []) × IsTold result.told (E.held report.old) (E.held report.new) (answer_text result.answer) }
+    ensures bench { (asked : AskedBench) → command_of (texts_of words.now) ≡ Some (to_bench asked) → OfItsBench asked result.journal.items (K.held out) (K.held result.out) (K.faults out) (K.faults result.out) result.answer }
+    ensures bench_told { (asked : AskedBench) → command_of (texts_of words.now) ≡ Some (to_bench asked) → IsTold result.told (E.held report.old) (E.held report.new) (answer_text result.answer) }
     ensures words { command_of (texts_of words.now) ≡ None → (result.answer ≡ a.BadWords) ⊎ (result.answer ≡ a.NoMemory) }
     ensures words_told { command_of (texts_of words.now) ≡ None → (result.journal.items ≡ []) × IsTold result.told (E.held report.old) (E.held report.new) (answer_text result.answer) }
     ensures words_out { command_of (texts_of words.now) ≡ None → (K.held result.out ≡ K.held out) × (K.faults result.out ≡ K.faults out) }
@@ -62,6 +73,8 @@ pub fn romain<'a, R: Threads + Wait + Sync, S: Store, K: Sink + Send, E: Sink, G
     match parse_words(alloc, words) {
         Ok(Command::Run(command)) => run_command(rt, alloc, &command, store, out, report, gate),
         Ok(Command::Plain(command)) => plain_command(alloc, &command, store, out, report),
+        Ok(Command::Inject(command)) => inject_command(alloc, &command, store, out, report),
+        Ok(Command::Bench(command)) => bench_command(rt, alloc, &command, out, report, gate),
         Err(error) => refuse(alloc, error, out, report),
     }
 }
@@ -199,5 +212,85 @@ fn played<S: Store, K: Sink>(
     match replay_from(alloc, command, store) {
         Ok(replay) => play(alloc, replay, out),
         Err(answer) => unplayed(answer),
+    }
+}
+
+// Draws faults, writes their list, and tells what came of it.
+fn inject_command<S: Store, K: Sink, E: Sink>(
+    alloc: Global,
+    command: &InjectCommand<'_>,
+    store: &mut S,
+    out: K,
+    report: &mut E,
+) -> Done<K>
+    ensures draw { OfItsDraw (S.told store.old) (inject_by command.now) (K.held out) (K.held result.out) (K.faults out) (K.faults result.out) result.answer }
+    ensures text { IsTold result.told (E.held report.old) (E.held report.new) (answer_text result.answer) }
+    ensures journal { result.journal.items ≡ [] }
+    ensures views { result.views.items ≡ [] }
+    ensures told { result.told ≡ t.Failed → Rose (E.faults report.old) (E.faults report.new) }
+    ensures untouched { IsRefusal result.answer → (K.held result.out ≡ K.held out) × (K.faults result.out ≡ K.faults out) }
+    ensures refusal { IsRefusal result.answer → JobCause (S.told store.old) (to_inject (inject_by command.now)) (S.faults store.old) (S.faults store.new) result.answer }
+    ensures files { S.told store.new ≡ S.told store.old }
+{
+    let mut out = out;
+    let answer = injected(alloc, command, store, &mut out);
+    let told = tell_answer(report, &answer);
+    Done {
+        answer,
+        told,
+        journal: Vec::new(alloc),
+        views: Vec::new(alloc),
+        out,
+    }
+}
+
+// Draws the faults of a command, and writes their list.
+fn injected<S: Store, K: Sink>(
+    alloc: Global,
+    command: &InjectCommand<'_>,
+    store: &mut S,
+    out: &mut K,
+) -> Answer
+    ensures draw { OfItsDraw (S.told store.old) (inject_by command.now) (K.held out.old) (K.held out.new) (K.faults out.old) (K.faults out.new) result }
+    ensures untouched { IsRefusal result → (K.held out.new ≡ K.held out.old) × (K.faults out.new ≡ K.faults out.old) }
+    ensures refusal { IsRefusal result → JobCause (S.told store.old) (to_inject (inject_by command.now)) (S.faults store.old) (S.faults store.new) result }
+    ensures files { S.told store.new ≡ S.told store.old }
+{
+    match image_from(alloc, command, store) {
+        Ok(image) => inject(alloc, &image, command, out),
+        Err(answer) => answer,
+    }
+}
+
+// Runs a made executable, writes the line of its run, and tells what came of it.
+fn bench_command<R: Threads + Wait + Sync, K: Sink, E: Sink, G: Gate + Sync>(
+    rt: &R,
+    alloc: Global,
+    command: &BenchCommand,
+    out: K,
+    report: &mut E,
+    gate: &G,
+) -> Done<K>
+    ensures bench { OfItsBench (bench_by command.now) result.journal.items (K.held out) (K.held result.out) (K.faults out) (K.faults result.out) result.answer }
+    ensures text { IsTold result.told (E.held report.old) (E.held report.new) (answer_text result.answer) }
+    ensures no_views { result.answer ≢ a.Differ → result.answer ≢ a.NoMajority → result.views.items ≡ [] }
+    ensures told { result.told ≡ t.Failed → Rose (E.faults report.old) (E.faults report.new) }
+    ensures refused { IsRefusal result.answer → result.journal.items ≡ [] }
+    ensures untouched { IsRefusal result.answer → (K.held result.out ≡ K.held out) × (K.faults result.out ≡ K.faults out) }
+    ensures refusal { (files : Option Files) (before after : ℕ) → IsRefusal result.answer → JobCause files (to_bench (bench_by command.now)) before after result.answer }
+{
+    let mut out = out;
+    let Benched {
+        answer,
+        journal,
+        views,
+    } = bench(rt, alloc, command, &mut out, gate);
+    let told = tell_answer(report, &answer);
+    Done {
+        answer,
+        told,
+        journal,
+        views,
+        out,
     }
 }

@@ -1,22 +1,21 @@
 -- The commands as they are built.
-use Rattle.std.proofs.Common.{◌≡◌, ◌∙◌, Bool, true, false, not, ◌&&◌, ◌||◌, List, [], ◌∷◌, ◌++◌, Some, None, refl, ap, codes, inl, inr}
+use Rattle.std.proofs.Common.{◌≡◌, ◌∙◌, Bool, true, false, not, ◌&&◌, ◌||◌, List, [], ◌∷◌, ◌++◌, Some, refl, ap, codes, inl, inr}
 use Rattle.std.specs.Prelude.{fold, if◌then◌else◌}
 use Rattle.std.specs.List.{list_all, list_any}
-use Rattle.std.specs.Str.{bytes_eq}
 use Rattle.std.proofs.lemmas.Bool.{cases_Bool}
 use Rattle.clap.specs.Walk.{Row, Rule, Text, arg_by_long, has_row, with_default}
 use Rattle.clap.specs.Faults.{default_fault, defaults_fault}
 use Rattle.clap.specs.Takes.{is_given}
-use Rattle.clap.specs.Simple.{App, Shape, built}
-use Rattle.ro_words.specs.Commands.{plan_syntax, run_syntax}
+use Rattle.clap.specs.Simple.{built}
+use Rattle.ro_words.specs.Commands.{bench_syntax, inject_syntax, plan_syntax, run_syntax}
 use Rattle.ro_words.specs.Grammar.{romain_app}
-use Rattle.ro_words.specs.Uses.{required_of}
 use Rattle.ro_words.proofs.Once.{and_parts}
-use Rattle.ro_words.proofs.Rules.{journal_built, leaf, plan_built, run_built, run_values}
-use Rattle.ro_words.proofs.Names.{AreFrom, Grammar, IsPlace, IsValued, Known, by_key, flagged, is_valued, unmet, with_journal}
+use Rattle.ro_words.proofs.Rules.{bench_built, inject_built, journal_built, leaf, plan_built, run_built, run_values}
+use Rattle.ro_words.proofs.Names.{AreFrom, Grammar, IsValued, Known, by_key, flagged, is_valued, unmet, with_journal}
 
-pub subs_are : (built romain_app).subs ≡ leaf (codes "run") run_built ∷ leaf (codes "plain") plan_built ∷ []
-unfolding run_built run_values plan_built
+pub subs_are : (built romain_app).subs ≡ leaf (codes "run") run_built ∷ leaf (codes "plain") plan_built ∷ leaf (codes "inject") inject_built
+    ∷ leaf (codes "bench") bench_built ∷ []
+unfolding run_built run_values plan_built inject_built bench_built
 subs_are = refl
 
 -- ---- defaults, and what is required
@@ -177,5 +176,83 @@ plan_grammar name = record {
   passes = plan_passes;
   ends = plan_ends;
   check = plan_check;
+  apart = refl;
+}
+
+-- ---- `inject`
+
+pub inject_valued : (name : Text) → Known inject_syntax inject_built name
+unfolding inject_built
+inject_valued name =
+    let value : (key : Text) → IsValued inject_syntax inject_built key → key ≡ name → Known inject_syntax inject_built name = λ key facts e. is_valued inject_syntax inject_built key name facts e in
+    by_key (Known inject_syntax inject_built) (codes "replica") name (value (codes "replica") (record { required = false; takes = refl; flag = refl; journal = refl; alone = refl; cut = λ v. refl; by_long = refl; by_id = refl })) (λ a.
+    unmet (rw (a) refl) refl (rw (a) refl))
+
+pub inject_from_places : AreFrom inject_syntax inject_built (codes "seed" ∷ codes "count" ∷ codes "exe" ∷ []) 1
+unfolding inject_built
+inject_from_places = (record { by_index = refl; by_id = refl; takes = refl; journal = refl; later = refl; next = refl }, (record { by_index = refl; by_id = refl; takes = refl; journal = refl; later = refl; next = refl }, (record { by_index = refl; by_id = refl; takes = refl; journal = refl; later = refl; next = refl }, refl)))
+
+pub inject_passes : (xs : List Row) → defaults_fault xs inject_built ≡ []
+unfolding inject_built
+inject_passes = values_pass inject_built [] refl no_defaults
+
+pub inject_ends : (xs : List Row) → fold with_default xs inject_built ≡ xs
+unfolding inject_built
+inject_ends = values_keep inject_built [] refl
+
+pub inject_check : (xs : List Row) → list_any (λ a. a.required && not (is_given a.id xs)) inject_built ≡ not (list_all (λ n. is_given n xs) (codes "seed" ∷ codes "count" ∷ codes "exe" ∷ []))
+unfolding inject_built
+inject_check xs = required_are xs inject_built
+
+abbrev pub inject_grammar : Grammar
+inject_grammar = record {
+  name = codes "inject";
+  syntax = inject_syntax;
+  rules = inject_built;
+  known = inject_valued;
+  from = inject_from_places;
+  unvalued = refl;
+  flag = none_flagged inject_built;
+  passes = inject_passes;
+  ends = inject_ends;
+  check = inject_check;
+  apart = refl;
+}
+
+-- ---- `bench`
+
+pub bench_valued : (name : Text) → Known bench_syntax bench_built name
+unfolding bench_built
+bench_valued name =
+    unmet refl refl refl
+
+pub bench_from_places : AreFrom bench_syntax bench_built (codes "seed" ∷ codes "size" ∷ []) 1
+unfolding bench_built
+bench_from_places = (record { by_index = refl; by_id = refl; takes = refl; journal = refl; later = refl; next = refl }, (record { by_index = refl; by_id = refl; takes = refl; journal = refl; later = refl; next = refl }, refl))
+
+pub bench_passes : (xs : List Row) → defaults_fault xs bench_built ≡ []
+unfolding bench_built
+bench_passes = values_pass bench_built [] refl no_defaults
+
+pub bench_ends : (xs : List Row) → fold with_default xs bench_built ≡ xs
+unfolding bench_built
+bench_ends = values_keep bench_built [] refl
+
+pub bench_check : (xs : List Row) → list_any (λ a. a.required && not (is_given a.id xs)) bench_built ≡ not (list_all (λ n. is_given n xs) (codes "seed" ∷ codes "size" ∷ []))
+unfolding bench_built
+bench_check xs = required_are xs bench_built
+
+abbrev pub bench_grammar : Grammar
+bench_grammar = record {
+  name = codes "bench";
+  syntax = bench_syntax;
+  rules = bench_built;
+  known = bench_valued;
+  from = bench_from_places;
+  unvalued = refl;
+  flag = none_flagged bench_built;
+  passes = bench_passes;
+  ends = bench_ends;
+  check = bench_check;
   apart = refl;
 }

@@ -1,6 +1,6 @@
 -- Laws of the command that words spell.
 use Rattle.std.proofs.Common.{◌≡◌, ◌∙◌, ℕ, Bool, true, false, not, ◌&&◌, ◌||◌, List, [], ◌∷◌, ◌++◌, Option, Some, None, refl, ap, ap₂, sym, subst, arith, codes, inl, inr}
-use Rattle.std.specs.Prelude.{find, option_and_then, option_map, if◌then◌else◌}
+use Rattle.std.specs.Prelude.{find, option_and_then, option_map, if◌then◌else◌, IfSome}
 use Rattle.std.specs.List.{list_all}
 use Rattle.std.specs.Str.{bytes_eq}
 use Rattle.std.proofs.lemmas.Bool.{cases_Bool}
@@ -12,10 +12,10 @@ use Rattle.clap.specs.declared.builder.value_parser.ValueParser.TheVariants as v
 use Rattle.clap.proofs.ValueTestLemmas.{accepts-Accepts}
 use Rattle.ro_settings.specs.declared.Settings.{Settings}
 use Rattle.ro_settings.specs.Ranges.{InRange, IsFrom}
-use Rattle.ro_words.specs.Commands.{Asked, Fits, Spelling, asked_of, command_of, number_or, plain_from, plain_given, plain_spelling, plan_syntax, run_from, run_given, run_spelling, run_syntax, settings_from, settings_of, spelling_of, to_run, usual_run}
+use Rattle.ro_words.specs.Commands.{Asked, Fits, Spelling, asked_of, bench_from, bench_given, bench_spelling, bench_syntax, command_of, given_number, inject_from, inject_given, inject_spelling, inject_syntax, maybe_number, number_in, number_or, plain_from, plain_given, plain_spelling, plan_syntax, run_from, run_given, run_spelling, run_syntax, settings_from, settings_of, spelling_of, to_run, usual_run}
 use Rattle.ro_words.specs.Uses.{Syntax, Text, Use, is_argument, is_once, is_used, is_whole, option_uses, required_of, takes_value, text_of, uses_from, with_use}
 use Rattle.ro_words.proofs.Names.{Grammar, IsValued, by_key, flagged, takes_one, unmet}
-use Rattle.ro_words.proofs.Grammars.{plan_grammar, run_grammar}
+use Rattle.ro_words.proofs.Grammars.{bench_grammar, inject_grammar, plan_grammar, run_grammar}
 use Rattle.ro_words.proofs.Once.{differ_twice, or_true, same_twice, twice, used-append}
 
 pub some_same : {X : Type 0} (x y : X) → ◌≡◌ {A = Option X} (Some x) (Some y) → x ≡ y
@@ -28,9 +28,9 @@ pub ruleset usual_law = (usual)
 
 -- ---- ranges
 
-pub from_number : (usual least most n : ℕ) (given : Option Text) → IsFrom least most usual → number_or usual least most given ≡ Some n → IsFrom least most n
-from_number usual least most n None fits is = let same : usual ≡ n = cc in subst (λ (x : ℕ). IsFrom least most x) same fits
-from_number usual least most n (Some text) fits is = elim (cases_Bool (is_unsigned_in least most text)) [
+-- a number that is read lies in its range
+pub in_from : (least most n : ℕ) (text : Text) → number_in least most text ≡ Some n → IsFrom least most n
+in_from least most n text is = elim (cases_Bool (is_unsigned_in least most text)) [
   | inl accepted ↦
       let bounds = accepts-Accepts false (vp.Unsigned least most) text accepted in
       let taken : Some (digits_value 10 (without_leading_plus text)) ≡ Some n = rw accepted at is in
@@ -38,6 +38,10 @@ from_number usual least most n (Some text) fits is = elim (cases_Bool (is_unsign
       subst (λ (x : ℕ). IsFrom least most x) same (bounds.2, bounds.3)
   | inr other ↦ let bad : None ≡ Some n = rw other at is in cc
 ]
+
+pub from_number : (usual least most n : ℕ) (given : Option Text) → IsFrom least most usual → number_or usual least most given ≡ Some n → IsFrom least most n
+from_number usual least most n None fits is = let same : usual ≡ n = cc in subst (λ (x : ℕ). IsFrom least most x) same fits
+from_number usual least most n (Some text) fits is = in_from least most n text is
 
 -- settings are made of five numbers
 pub made_of : (a b c d e : Option ℕ) (s : Settings) → settings_from a b c d e ≡ Some s
@@ -84,6 +88,37 @@ plain_from_fits (Some exe) (Some plan) input asked is = subst Fits (some_same _ 
 plain_fits : (given : Text → Option Text) (journal : Bool) (asked : Asked) → plain_given given journal ≡ Some asked → Fits asked
 plain_fits given journal asked is = plain_from_fits (given (codes "exe")) (given (codes "plan")) (given (codes "input")) asked is
 
+given_from : (least most n : ℕ) (given : Option Text) → given_number least most given ≡ Some n → IsFrom least most n
+given_from least most n None is = cc
+given_from least most n (Some text) is = in_from least most n text is
+
+inject_from_fits : (seed count : Option ℕ) (exe : Option Text) (replica : Option (Option ℕ)) (asked : Asked) → ((n : ℕ) → count ≡ Some n → IsFrom 1 256 n)
+    → ((o : Option ℕ) → replica ≡ Some o → IfSome o (IsFrom 0 2)) → inject_from seed count exe replica ≡ Some asked → Fits asked
+inject_from_fits None count exe replica asked few within is = cc
+inject_from_fits (Some seed) None exe replica asked few within is = cc
+inject_from_fits (Some seed) (Some count) None replica asked few within is = cc
+inject_from_fits (Some seed) (Some count) (Some exe) None asked few within is = cc
+inject_from_fits (Some seed) (Some count) (Some exe) (Some replica) asked few within is = subst Fits (some_same _ asked is) (few count refl, within replica refl)
+
+maybe_from : (given : Option Text) (o : Option ℕ) → maybe_number 0 2 given ≡ Some o → IfSome o (IsFrom 0 2)
+maybe_from None o is = subst (λ (x : Option ℕ). IfSome x (IsFrom 0 2)) (some_same None o is) tt
+maybe_from (Some text) o is = by (number_in 0 2 text) refl is
+  where
+    by : (n : Option ℕ) → number_in 0 2 text ≡ n → option_map (λ x. Some x) n ≡ Some o → IfSome o (IsFrom 0 2)
+    by None e f = cc
+    by (Some n) e f = subst (λ (x : Option ℕ). IfSome x (IsFrom 0 2)) (some_same (Some n) o f) (in_from 0 2 n text e)
+
+inject_fits : (given : Text → Option Text) (journal : Bool) (asked : Asked) → inject_given given journal ≡ Some asked → Fits asked
+inject_fits given journal asked is = inject_from_fits _ _ (given (codes "exe")) _ asked (λ n e. given_from 1 256 n (given (codes "count")) e) (maybe_from (given (codes "replica"))) is
+
+bench_from_fits : (seed size : Option ℕ) (asked : Asked) → ((n : ℕ) → size ≡ Some n → IsFrom 1 2000 n) → bench_from seed size ≡ Some asked → Fits asked
+bench_from_fits None size asked few is = cc
+bench_from_fits (Some seed) None asked few is = cc
+bench_from_fits (Some seed) (Some size) asked few is = subst Fits (some_same _ asked is) (few size refl)
+
+bench_fits : (given : Text → Option Text) (journal : Bool) (asked : Asked) → bench_given given journal ≡ Some asked → Fits asked
+bench_fits given journal asked is = bench_from_fits _ _ asked (λ n e. given_from 1 2000 n (given (codes "size")) e) is
+
 module _ (s : Spelling) (fits : (given : Text → Option Text) (journal : Bool) (asked : Asked) → s.given given journal ≡ Some asked → Fits asked) where
   uses_fit : (uses : List Use) (asked : Asked) → asked_of s uses ≡ Some asked → Fits asked
   uses_fit uses asked is = elim (cases_Bool (is_whole s.syntax uses)) [
@@ -104,7 +139,9 @@ words_fit (program ∷ []) asked is = cc
 words_fit (program ∷ command ∷ words) asked is =
     by_key (FitsBehind program words asked) (codes "run") command (λ same. subst (FitsBehind program words asked) same (read_fits run_spelling run_fits (uses_from run_syntax words run_syntax.places None) asked)) (λ a.
     by_key (FitsBehind program words asked) (codes "plain") command (λ same. subst (FitsBehind program words asked) same (read_fits plain_spelling plain_fits (uses_from plan_syntax words plan_syntax.places None) asked)) (λ b.
-    λ e. let bad : None ≡ Some asked = rw (a, b) at e in cc)) is
+    by_key (FitsBehind program words asked) (codes "inject") command (λ same. subst (FitsBehind program words asked) same (read_fits inject_spelling inject_fits (uses_from inject_syntax words inject_syntax.places None) asked)) (λ c.
+    by_key (FitsBehind program words asked) (codes "bench") command (λ same. subst (FitsBehind program words asked) same (read_fits bench_spelling bench_fits (uses_from bench_syntax words bench_syntax.places None) asked)) (λ d.
+    λ e. let bad : None ≡ Some asked = rw (a, b, c, d) at e in cc)))) is
 
 -- ---- order
 
@@ -223,4 +260,8 @@ spelled_alike command s name value words left is =
     subst (λ (x : Spelling). AlikeIn name value words left x.syntax) (some_same run_spelling s e) (alike_in run_grammar name value words left))) (λ a.
     by_key (AlikeAt name value words left s) (codes "plain") command (λ same. subst (AlikeAt name value words left s) same (λ e.
     subst (λ (x : Spelling). AlikeIn name value words left x.syntax) (some_same plain_spelling s e) (alike_in (plan_grammar (codes "plain")) name value words left))) (λ b.
-    λ e. let bad : None ≡ Some s = rw (a, b) at e in cc)) is
+    by_key (AlikeAt name value words left s) (codes "inject") command (λ same. subst (AlikeAt name value words left s) same (λ e.
+    subst (λ (x : Spelling). AlikeIn name value words left x.syntax) (some_same inject_spelling s e) (alike_in inject_grammar name value words left))) (λ c.
+    by_key (AlikeAt name value words left s) (codes "bench") command (λ same. subst (AlikeAt name value words left s) same (λ e.
+    subst (λ (x : Spelling). AlikeIn name value words left x.syntax) (some_same bench_spelling s e) (alike_in bench_grammar name value words left))) (λ d.
+    λ e. let bad : None ≡ Some s = rw (a, b, c, d) at e in cc)))) is

@@ -47,6 +47,12 @@ run_built = run_values ++ journal_built ∷ []
 unfoldable pub plan_built : List Rule
 plan_built = place_built (codes "exe") 1 ∷ option_built (codes "plan") true ∷ option_built (codes "input") false ∷ []
 
+unfoldable pub inject_built : List Rule
+inject_built = place_built (codes "seed") 1 ∷ place_built (codes "count") 2 ∷ place_built (codes "exe") 3 ∷ option_built (codes "replica") false ∷ []
+
+unfoldable pub bench_built : List Rule
+bench_built = place_built (codes "seed") 1 ∷ place_built (codes "size") 2 ∷ []
+
 -- a command as it is built
 abbrev pub leaf : Text → List Rule → Shape
 leaf name rules = record (new_shape name) {

@@ -1,16 +1,18 @@
 -- The command that words spell: its name, then its arguments in their order, with its options anywhere among them, each at most
 -- once.
 use Rattle.std.specs.Prelude.{ℕ, ◌-◌, ◌^◌, Bool, true, false, List, [], ◌∷◌, Option, Some, None, codes}
-use Rattle.std.specs.Prelude.{if◌then◌else◌, option_and_then, option_map, find}
+use Rattle.std.specs.Prelude.{if◌then◌else◌, option_and_then, option_map, find, IfSome}
 use denote.Bor.{Bor}
 use Rattle.std.specs.Str.{bytes_eq}
 use Rattle.std.specs.Str.Parse.{digits_value, without_leading_plus}
 use Rattle.clap.specs.ValueTests.{is_unsigned_in}
 use Rattle.ro_settings.specs.declared.Settings.{Settings}
-use Rattle.ro_settings.specs.Ranges.{InRange, default_settings}
+use Rattle.ro_settings.specs.Ranges.{InRange, IsFrom, default_settings}
 use Rattle.ro_words.specs.Uses.{Text, Use, Syntax, is_used, is_whole, text_of, uses_from}
 use Rattle.ro_words.specs.declared.commands.Command.{Command}
-use Rattle.ro_words.specs.declared.commands.Command.TheVariants.{Run, Plain}
+use Rattle.ro_words.specs.declared.commands.Command.TheVariants.{Run, Plain, Inject, Bench}
+use Rattle.ro_words.specs.declared.commands.BenchCommand.{BenchCommand}
+use Rattle.ro_words.specs.declared.commands.InjectCommand.{InjectCommand}
 use Rattle.ro_words.specs.declared.commands.PlainCommand.{PlainCommand}
 use Rattle.ro_words.specs.declared.commands.RunCommand.{RunCommand}
 use Rattle.ro_words.specs.declared.commands.WordsError.{WordsError}
@@ -29,6 +31,15 @@ number_in least most text =
 abbrev pub number_or : (usual least most : ℕ) → Option Text → Option ℕ
 number_or usual least most None = Some usual
 number_or usual least most (Some text) = number_in least most text
+
+-- the same of a text that must be given
+abbrev pub given_number : (least most : ℕ) → Option Text → Option ℕ
+given_number least most text = option_and_then (number_in least most) text
+
+-- the same of a text that need not be given
+abbrev pub maybe_number : (least most : ℕ) → Option Text → Option (Option ℕ)
+maybe_number least most None = Some None
+maybe_number least most (Some text) = option_map (λ number. Some number) (number_in least most text)
 
 abbrev pub settings_from : (replicas drivers watchdog quantum limit : Option ℕ) → Option Settings
 settings_from (Some replicas) (Some drivers) (Some watchdog) (Some quantum) (Some limit) = Some (record {
@@ -74,10 +85,24 @@ pub record AskedPlain : Type 0 where
   pub plan : Text
   pub input : Option Text
 
+-- faults that are to be drawn: so many by a seed, for an executable, all in one replica if one is named
+pub record AskedInject : Type 0 where
+  pub seed : ℕ
+  pub count : ℕ
+  pub executable : Text
+  pub replica : Option ℕ
+
+-- the run of a made executable, of a seed and a size
+pub record AskedBench : Type 0 where
+  pub seed : ℕ
+  pub size : ℕ
+
 -- what is asked for
 pub data Asked : Type 0 where
   to_run : AskedRun → Asked
   to_plain : AskedPlain → Asked
+  to_inject : AskedInject → Asked
+  to_bench : AskedBench → Asked
 
 -- the run of an executable for which nothing else is asked
 abbrev pub usual_run : Text → AskedRun
@@ -111,6 +136,22 @@ plain_from _ _ input = None
 abbrev pub plain_given : (Text → Option Text) → Bool → Option Asked
 plain_given given journal = plain_from (given (codes "exe")) (given (codes "plan")) (given (codes "input"))
 
+abbrev pub inject_from : Option ℕ → Option ℕ → Option Text → Option (Option ℕ) → Option Asked
+inject_from (Some seed) (Some count) (Some executable) (Some replica) =
+    Some (to_inject (record { seed = seed; count = count; executable = executable; replica = replica }))
+inject_from _ _ _ _ = None
+
+abbrev pub inject_given : (Text → Option Text) → Bool → Option Asked
+inject_given given journal = inject_from (given_number 0 (2 ^ 64 - 1) (given (codes "seed"))) (given_number 1 256 (given (codes "count")))
+    (given (codes "exe")) (maybe_number 0 2 (given (codes "replica")))
+
+abbrev pub bench_from : Option ℕ → Option ℕ → Option Asked
+bench_from (Some seed) (Some size) = Some (to_bench (record { seed = seed; size = size }))
+bench_from _ _ = None
+
+abbrev pub bench_given : (Text → Option Text) → Bool → Option Asked
+bench_given given journal = bench_from (given_number 0 (2 ^ 64 - 1) (given (codes "seed"))) (given_number 1 2000 (given (codes "size")))
+
 -- ---- how each is spelled
 
 -- a command's name, what may stand behind it, and what it asks for
@@ -132,14 +173,31 @@ run_syntax = record {
 abbrev pub plan_syntax : Syntax
 plan_syntax = record { places = codes "exe" ∷ []; needed = codes "plan" ∷ []; valued = codes "input" ∷ []; journal = false }
 
+abbrev pub inject_syntax : Syntax
+inject_syntax = record {
+  places = codes "seed" ∷ codes "count" ∷ codes "exe" ∷ [];
+  needed = [];
+  valued = codes "replica" ∷ [];
+  journal = false;
+}
+
+abbrev pub bench_syntax : Syntax
+bench_syntax = record { places = codes "seed" ∷ codes "size" ∷ []; needed = []; valued = []; journal = false }
+
 abbrev pub run_spelling : Spelling
 run_spelling = record { name = codes "run"; syntax = run_syntax; given = run_given }
 
 abbrev pub plain_spelling : Spelling
 plain_spelling = record { name = codes "plain"; syntax = plan_syntax; given = plain_given }
 
+abbrev pub inject_spelling : Spelling
+inject_spelling = record { name = codes "inject"; syntax = inject_syntax; given = inject_given }
+
+abbrev pub bench_spelling : Spelling
+bench_spelling = record { name = codes "bench"; syntax = bench_syntax; given = bench_given }
+
 abbrev pub spellings : List Spelling
-spellings = run_spelling ∷ plain_spelling ∷ []
+spellings = run_spelling ∷ plain_spelling ∷ inject_spelling ∷ bench_spelling ∷ []
 
 -- what the uses ask for, where they are whole
 abbrev pub asked_of : Spelling → List Use → Option Asked
@@ -175,15 +233,25 @@ run_by run = record {
 abbrev pub plain_by : PlainCommand → AskedPlain
 plain_by plain = record { executable = plain.executable.now; plan = plain.plan.now; input = text_in plain.input }
 
+abbrev pub inject_by : InjectCommand → AskedInject
+inject_by inject = record { seed = inject.seed; count = inject.count; executable = inject.executable.now; replica = inject.replica }
+
+abbrev pub bench_by : BenchCommand → AskedBench
+bench_by bench = record { seed = bench.seed; size = bench.size }
+
 -- what a command of the code asks for
 abbrev pub asked_by : Command → Asked
 asked_by (Run run) = to_run (run_by run)
 asked_by (Plain plain) = to_plain (plain_by plain)
+asked_by (Inject inject) = to_inject (inject_by inject)
+asked_by (Bench bench) = to_bench (bench_by bench)
 
 -- the numbers of what is asked for lie in their ranges
 abbrev pub Fits : Asked → Type 0
 Fits (to_run run) = InRange run.settings
 Fits (to_plain plain) = Unit {0}
+Fits (to_inject inject) = IsFrom 1 256 inject.count × IfSome inject.replica (IsFrom 0 2)
+Fits (to_bench bench) = IsFrom 1 2000 bench.size
 
 -- what a parse that failed says of the words
 abbrev pub refusal_of : ErrorKind → WordsError

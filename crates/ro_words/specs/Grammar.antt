@@ -3,7 +3,7 @@ use Rattle.std.specs.Prelude.{◌≡◌, List, [], ◌∷◌, ◌++◌, Some, co
 use Rattle.clap.specs.Walk.{Rule, Text}
 use Rattle.clap.specs.Simple.{App, Shape, app_of, new_app, new_rule, new_shape, on_top, with_subcommand}
 use Rattle.ro_words.specs.Uses.{Syntax}
-use Rattle.ro_words.specs.Commands.{plan_syntax, run_syntax}
+use Rattle.ro_words.specs.Commands.{bench_syntax, inject_syntax, plan_syntax, run_syntax}
 use Rattle.clap.specs.declared.builder.action.ArgAction.TheVariants.{Set, SetTrue}
 use Rattle.clap.specs.declared.builder.command.Command.{Command}
 use Rattle.clap.specs.declared.builder.command.Command.TheViews.{out-Command}
@@ -39,8 +39,9 @@ romain_top shape =
     record shape { disable_help_flag = true; disable_help_subcommand = true; subcommand_required = true }
 
 abbrev pub romain_app : App
-romain_app = with_subcommand (with_subcommand (on_top romain_top (new_app (codes "romain")))
-    (shape_of (codes "run") run_syntax)) (shape_of (codes "plain") plan_syntax)
+romain_app = with_subcommand (with_subcommand (with_subcommand (with_subcommand (on_top romain_top (new_app (codes "romain")))
+    (shape_of (codes "run") run_syntax)) (shape_of (codes "plain") plan_syntax)) (shape_of (codes "inject") inject_syntax))
+    (shape_of (codes "bench") bench_syntax)
 
 -- the command is read as the app says, and no argument of it is global
 abbrev pub Reads : App → Command → Type 0

@@ -4,13 +4,13 @@ ghost use Rattle.clap.specs.Matches.{first_value, found_of, one_text};
 ghost use Rattle.clap.specs.Simple.{subcommand_of, subcommand_rows_of};
 ghost use Rattle.clap.specs.Values.{bool_text, kind_of};
 ghost use Rattle.clap.specs.Walk.{Row, first_of, one_of};
-ghost use Rattle.ro_words.specs.Commands.{Fits, asked_by, command_of, plain_given, refusal_of, run_given};
+ghost use Rattle.ro_words.specs.Commands.{Fits, asked_by, bench_given, command_of, inject_given, plain_given, refusal_of, run_given};
 ghost use Rattle.ro_words.specs.Grammar.{romain_app};
 ghost use Rattle.ro_words.specs.Uses.{texts_of};
 ghost use Rattle.std.specs.Prelude.{◌≡◌, ◌≢◌, ◌⊎◌, Bool, List, IfErr, IfOk, IfSome, None, Some, [], codes, false, option_map};
 
 use crate::grammar::grammar;
-use crate::settings::settings_of;
+use crate::settings::{maybe_within, number_in, number_within, settings_of};
 use crate::shapes::are_words;
 use clap::ArgMatches;
 use clap::error::ErrorKind;
@@ -24,6 +24,10 @@ pub enum Command<'a> {
     Run(RunCommand<'a>),
     /// To run the plan of a journal on the unreplicated machine.
     Plain(PlainCommand<'a>),
+    /// To draw faults.
+    Inject(InjectCommand<'a>),
+    /// To run a made executable as replicas.
+    Bench(BenchCommand),
 }
 
 /// A run that is asked for.
@@ -49,6 +53,28 @@ pub struct PlainCommand<'a> {
     pub plan: &'a str,
     /// The name of the file with the input, if there is any.
     pub input: Option<&'a str>,
+}
+
+/// Faults that are to be drawn.
+#[derive(Clone, Copy, PartialEq, Eq, Debug)]
+pub struct InjectCommand<'a> {
+    /// The number that the draws hang on.
+    pub seed: u64,
+    /// How many are to be drawn.
+    pub count: u32,
+    /// The name of the executable in whose bytes they may strike.
+    pub executable: &'a str,
+    /// The replica in which all are to strike, if it is named.
+    pub replica: Option<u32>,
+}
+
+/// A made executable that is to be run.
+#[derive(Clone, Copy, PartialEq, Eq, Debug)]
+pub struct BenchCommand {
+    /// The number by which it is made.
+    pub seed: u64,
+    /// How many rounds each of its threads does.
+    pub size: u32,
 }
 
 /// Why words give no command.
@@ -112,12 +138,20 @@ fn command_in<'a>(matches: &ArgMatches<'a>) -> Option<Command<'a>>
         → option_map asked_by result ≡ run_given (λ name. first_of name rows) journal }
     ensures plain { (rows : List Row) → subcommand_rows_of matches.now ≡ Some (codes "plain", rows)
         → option_map asked_by result ≡ plain_given (λ name. first_of name rows) false }
+    ensures inject { (rows : List Row) → subcommand_rows_of matches.now ≡ Some (codes "inject", rows)
+        → option_map asked_by result ≡ inject_given (λ name. first_of name rows) false }
+    ensures bench { (rows : List Row) → subcommand_rows_of matches.now ≡ Some (codes "bench", rows)
+        → option_map asked_by result ≡ bench_given (λ name. first_of name rows) false }
     ensures in_range { IfSome result (λ command. Fits (asked_by command)) }
 {
     if let Some(run) = matches.subcommand_matches("run") {
         run_command(run)
+    } else if let Some(plain) = matches.subcommand_matches("plain") {
+        plain_command(plain)
+    } else if let Some(inject) = matches.subcommand_matches("inject") {
+        inject_command(inject)
     } else {
-        plain_command(matches.subcommand_matches("plain")?)
+        bench_command(matches.subcommand_matches("bench")?)
     }
 }
 
@@ -145,5 +179,29 @@ fn plain_command<'a>(matches: &ArgMatches<'a>) -> Option<Command<'a>>
         executable: matches.get_str("exe")?,
         plan: matches.get_str("plan")?,
         input: matches.get_str("input"),
+    }))
+}
+
+// The draw that the matches ask for.
+fn inject_command<'a>(matches: &ArgMatches<'a>) -> Option<Command<'a>>
+    ensures asked { option_map asked_by result ≡ inject_given (first_value (found_of matches.now)) false }
+    ensures in_range { IfSome result (λ command. Fits (asked_by command)) }
+{
+    Some(Command::Inject(InjectCommand {
+        seed: number_in(matches.get_str("seed")?)?,
+        count: number_within(matches.get_str("count")?, 1, 256)?,
+        executable: matches.get_str("exe")?,
+        replica: maybe_within(matches.get_str("replica"), 0, 2)?,
+    }))
+}
+
+// The run of a made executable that the matches ask for.
+fn bench_command<'a>(matches: &ArgMatches<'a>) -> Option<Command<'a>>
+    ensures asked { option_map asked_by result ≡ bench_given (first_value (found_of matches.now)) false }
+    ensures in_range { IfSome result (λ command. Fits (asked_by command)) }
+{
+    Some(Command::Bench(BenchCommand {
+        seed: number_in(matches.get_str("seed")?)?,
+        size: number_within(matches.get_str("size")?, 1, 2_000)?,
     }))
 }

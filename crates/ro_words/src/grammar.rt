@@ -1,6 +1,6 @@
 //! What `clap` is asked to read.
 ghost use Rattle.ro_words.specs.Grammar.{Reads, app_of_shape, journal_rule, needed_rule, option_rule, place_rule, romain_app, shape_of};
-ghost use Rattle.ro_words.specs.Commands.{plan_syntax, run_syntax};
+ghost use Rattle.ro_words.specs.Commands.{bench_syntax, inject_syntax, plan_syntax, run_syntax};
 ghost use Rattle.std.specs.Prelude.{◌≡◌, false, codes, IfOk};
 ghost use Rattle.clap.specs.Words.{rule_of};
 
@@ -16,7 +16,9 @@ pub(crate) fn grammar<'a>(alloc: Global) -> Result<Command<'a>, AllocError>
         .disable_help_subcommand(true)
         .subcommand_required(true)
         .subcommand(run_grammar(alloc)?)?
-        .subcommand(plan_grammar(alloc, "plain")?)
+        .subcommand(plan_grammar(alloc, "plain")?)?
+        .subcommand(inject_grammar(alloc)?)?
+        .subcommand(bench_grammar(alloc)?)
 }
 
 // `run EXE` and its options.
@@ -43,6 +45,26 @@ fn plan_grammar<'a>(alloc: Global, name: &'a str) -> Result<Command<'a>, AllocEr
         .arg(place(alloc, "exe"))?
         .arg(needed(alloc, "plan"))?
         .arg(option(alloc, "input"))
+}
+
+// `inject SEED COUNT EXE`, and its option.
+fn inject_grammar<'a>(alloc: Global) -> Result<Command<'a>, AllocError>
+    ensures { IfOk result (Reads (app_of_shape (shape_of (codes "inject") inject_syntax))) }
+{
+    Command::new(alloc, "inject")
+        .arg(place(alloc, "seed"))?
+        .arg(place(alloc, "count"))?
+        .arg(place(alloc, "exe"))?
+        .arg(option(alloc, "replica"))
+}
+
+// `bench SEED SIZE`.
+fn bench_grammar<'a>(alloc: Global) -> Result<Command<'a>, AllocError>
+    ensures { IfOk result (Reads (app_of_shape (shape_of (codes "bench") bench_syntax))) }
+{
+    Command::new(alloc, "bench")
+        .arg(place(alloc, "seed"))?
+        .arg(place(alloc, "size"))
 }
 
 // An option that takes a value.

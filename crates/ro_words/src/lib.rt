@@ -9,7 +9,9 @@ mod laws;
 mod settings;
 mod shapes;
 
-pub use commands::{Command, PlainCommand, RunCommand, WordsError, parse_words};
+pub use commands::{
+    BenchCommand, Command, InjectCommand, PlainCommand, RunCommand, WordsError, parse_words,
+};
 pub use laws::{numbers_lie_in_range, order_is_free, run_alone_is_usual, spellings_agree};
 
 #[cfg(test)]

@@ -1,6 +1,6 @@
-//! The settings that options give.
+//! The settings that options give, and the other numbers of commands.
 ghost use Rattle.clap.specs.Matches.{first_value, found_of};
-ghost use Rattle.ro_words.specs.Commands.{number_in as number_of, number_or, settings_of as settings_in, unranged};
+ghost use Rattle.ro_words.specs.Commands.{number_in as number_of, maybe_number, number_or, settings_of as settings_in, unranged};
 ghost use Rattle.ro_settings.specs.Ranges.{InRange};
 ghost use Rattle.std.specs.Prelude.{◌≡◌, IfSome, option_map};
 
@@ -35,10 +35,31 @@ fn unranged_settings(matches: &ArgMatches<'_>) -> Option<Settings>
 }
 
 // The number that the text writes.
-fn number_in(text: &str) -> Option<u64>
+pub(crate) fn number_in(text: &str) -> Option<u64>
     ensures { result ≡ number_of 0 u64.MAX text.now }
 {
     text.parse::<u64>().ok()
+}
+
+// The number that the text writes, where it lies between the two.
+pub(crate) fn number_within(text: &str, least: u32, most: u32) -> Option<u32>
+    ensures { result ≡ number_of least most text.now }
+{
+    let number = number_in(text)?;
+    if number < u64::from(least) || u64::from(most) < number {
+        return None;
+    }
+    Some(number as u32)
+}
+
+// The same of a text that need not be given.
+pub(crate) fn maybe_within(text: Option<&str>, least: u32, most: u32) -> Option<Option<u32>>
+    ensures { result ≡ maybe_number least most (option_map (λ t. t.now) text.entry) }
+{
+    match text {
+        Some(text) => Some(Some(number_within(text, least, most)?)),
+        None => Some(None),
+    }
 }
 
 // The same, or the usual number where there is no text.

@@ -180,6 +180,69 @@ fn spells(rt: HostRuntime) {
     }
 }
 
+// The other commands.
+const OTHERS: &[(&[&str], Command<'static>)] = &[
+    (
+        &["romain", "plain", "p0", "--plan", "j"],
+        Command::Plain(PlainCommand {
+            executable: "p0",
+            plan: "j",
+            input: None,
+        }),
+    ),
+    (
+        &["romain", "plain", "--input", "f", "--plan=j", "p0"],
+        Command::Plain(PlainCommand {
+            executable: "p0",
+            plan: "j",
+            input: Some("f"),
+        }),
+    ),
+    (
+        &["romain", "inject", "42", "1", "p0"],
+        Command::Inject(InjectCommand {
+            seed: 42,
+            count: 1,
+            executable: "p0",
+            replica: None,
+        }),
+    ),
+    (
+        &[
+            "romain",
+            "inject",
+            "18446744073709551615",
+            "--replica=2",
+            "256",
+            "p0",
+        ],
+        Command::Inject(InjectCommand {
+            seed: u64::MAX,
+            count: 256,
+            executable: "p0",
+            replica: Some(2),
+        }),
+    ),
+    (
+        &["romain", "bench", "+0", "2000"],
+        Command::Bench(BenchCommand {
+            seed: 0,
+            size: 2_000,
+        }),
+    ),
+];
+
+#[test]
+fn spells_others(rt: HostRuntime) {
+    for (words, command) in OTHERS {
+        assert_eq!(rt;
+            parse_words(rt.alloc(), words),
+            Ok(*command),
+            "of {words:?}"
+        );
+    }
+}
+
 const NOT_COMMANDS: &[&[&str]] = &[
     &[],
     &["romain"],
@@ -229,6 +292,23 @@ const NOT_COMMANDS: &[&[&str]] = &[
         "--limit",
         "1234567890123456789012345678901234567890",
     ],
+    &["romain", "run", "p0", "--plan", "j"],
+    &["romain", "plain", "p0"],
+    &["romain", "plain", "--plan", "j"],
+    &["romain", "plain", "p0", "--plan", "j", "--plan", "j"],
+    &["romain", "plain", "p0", "--plan", "j", "--journal"],
+    &["romain", "plain", "p0", "--plan", "j", "q0"],
+    &["romain", "plain", "p0", "--plan", "j", "--faults", "f"],
+    &["romain", "inject", "42", "0", "p0"],
+    &["romain", "inject", "42", "257", "p0"],
+    &["romain", "inject", "42", "1"],
+    &["romain", "inject", "18446744073709551616", "1", "p0"],
+    &["romain", "inject", "p0", "42", "1"],
+    &["romain", "inject", "42", "1", "p0", "--replica", "3"],
+    &["romain", "bench", "1", "0"],
+    &["romain", "bench", "1", "2001"],
+    &["romain", "bench", "1"],
+    &["romain", "bench", "1", "1", "1"],
     &["romain", "run", "p0", "--limit", "many"],
     &["romain", "run", "p0", "--limit", "0x10"],
     &["romain", "run", "p0", "--limit", "1 "],

@@ -14,11 +14,10 @@ ghost use Rattle.ro_core.specs.Seen.{state, sent, Opens, Appends, Quiet, Sends, 
 
 use crate::actions::Action;
 use crate::runs::Run;
-use crate::sending::send;
 use ro_event::View;
 use ro_faults::Fault;
 use ro_image::Executable;
-use ro_io::Sink;
+use ro_io::{Sink, send};
 use ro_journal::{Entry, How};
 use ro_replica::{Ran, ReplicaBox};
 use ro_settings::Settings;

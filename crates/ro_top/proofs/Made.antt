@@ -1,5 +1,5 @@
 -- What comes of a draw, and of a made executable.
-use Rattle.std.proofs.Common.{◌≡◌, ◌⊎◌, inl, inr, ℕ, List, [], ◌++◌, Option, Some, None, refl, sym, ap, ◌∙◌, subst}
+use Rattle.std.proofs.Common.{◌≡◌, ◌⊎◌, inl, inr, ℕ, List, [], Option, Some, None, refl, sym, ap, ◌∙◌, subst}
 use Rattle.ro_io.specs.Outside.{Files, more}
 use Rattle.ro_image.specs.Image.{Image, segments_in}
 use Rattle.ro_image.specs.Executable.{bad_code, image_of}

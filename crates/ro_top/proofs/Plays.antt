@@ -1,5 +1,5 @@
 -- What comes of a plan.
-use Rattle.std.proofs.Common.{◌≡◌, ◌⊎◌, inl, inr, ℕ, List, [], ◌∷◌, Option, Some, None, refl, sym, ap, ◌∙◌, subst}
+use Rattle.std.proofs.Common.{◌≡◌, ℕ, List, [], ◌∷◌, Option, Some, None, refl, sym, ap, ◌∙◌, subst}
 use Rattle.std.specs.Option.{option_and_then}
 use Rattle.ro_event.specs.declared.stops.Stop.TheVariants.{Calls, Trap as AtTrap, PageFault, Watchdog}
 use Rattle.ro_exec.specs.declared.Cpu.{Cpu}
@@ -11,7 +11,7 @@ use Rattle.ro_journal.specs.Plan.{plan_of}
 use Rattle.ro_kernel.specs.Serve.{Served, Done, Blocked, Ends, serve, payload_of}
 use Rattle.ro_kernel.specs.Kernel.{Kernel}
 use Rattle.ro_plain.specs.Machine.{Program, Machine, affected, executed, opening, called, setup_of, step_by, next_of, steppable, step, run}
-use Rattle.ro_core.specs.Sound.{IsOver, exits, traps}
+use Rattle.ro_core.specs.Sound.{IsOver, traps}
 use Rattle.ro_core.proofs.Served.{Tidy, tidy_end, serve-tidy}
 use Rattle.ro_simulation.specs.Theorem.{IsComplete, by_exit, by_trap, by_deadlock}
 use Rattle.ro_machine.specs.Plans.{RunsPlan, EndsAs}

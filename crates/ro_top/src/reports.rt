@@ -24,6 +24,7 @@ pub(crate) fn tell<E: Sink>(
     requires steps { steps_in journal.now < 2 ^ 64 }
     ensures told { IsTold result (E.held report.old) (E.held report.new) (report_of shown journal.now bytes answer.now) }
     ensures cause { result ≡ told.Failed → Rose (E.faults report.old) (E.faults report.new) }
+    ensures calm { result ≡ told.Whole → E.faults report.new ≡ E.faults report.old }
 {
     match give_report(report, shown, journal, bytes, answer) {
         Ok(()) => Told::Whole,
@@ -35,6 +36,7 @@ pub(crate) fn tell<E: Sink>(
 pub(crate) fn tell_plan<E: Sink>(report: &mut E, steps: u64, bytes: u64, answer: &Answer) -> Told
     ensures told { IsTold result (E.held report.old) (E.held report.new) (plain_report steps bytes answer.now) }
     ensures cause { result ≡ told.Failed → Rose (E.faults report.old) (E.faults report.new) }
+    ensures calm { result ≡ told.Whole → E.faults report.new ≡ E.faults report.old }
 {
     match give_plan(report, steps, bytes, answer) {
         Ok(()) => Told::Whole,
@@ -46,6 +48,7 @@ pub(crate) fn tell_plan<E: Sink>(report: &mut E, steps: u64, bytes: u64, answer:
 pub(crate) fn tell_answer<E: Sink>(report: &mut E, answer: &Answer) -> Told
     ensures told { IsTold result (E.held report.old) (E.held report.new) (answer_text answer.now) }
     ensures cause { result ≡ told.Failed → Rose (E.faults report.old) (E.faults report.new) }
+    ensures calm { result ≡ told.Whole → E.faults report.new ≡ E.faults report.old }
 {
     match give_all(report, answer_line(answer).as_bytes()) {
         Ok(()) => Told::Whole,
@@ -57,6 +60,7 @@ fn give_plan<E: Sink>(report: &mut E, steps: u64, bytes: u64, answer: &Answer) -
     ensures ok { OnOk result (E.held report.new ≡ more (E.held report.old) (plain_report steps bytes answer.now)) }
     ensures err { OnErr result (TakesFront (E.held report.old) (E.held report.new) (plain_report steps bytes answer.now)) }
     ensures cause { OnErr result (Rose (E.faults report.old) (E.faults report.new)) }
+    ensures calm { OnOk result (E.faults report.new ≡ E.faults report.old) }
 {
     give_steps(report, steps, bytes, answer)?;
     give_all(report, answer_line(answer).as_bytes())
@@ -72,6 +76,7 @@ fn give_steps<E: Sink>(
     ensures ok { OnOk result (E.held report.new ≡ more (E.held report.old) (plain_part steps bytes answer.now)) }
     ensures err { OnErr result (TakesFront (E.held report.old) (E.held report.new) (plain_part steps bytes answer.now)) }
     ensures cause { OnErr result (Rose (E.faults report.old) (E.faults report.new)) }
+    ensures calm { OnOk result (E.faults report.new ≡ E.faults report.old) }
     ensures faults { E.faults report.old ≤ E.faults report.new }
 {
     if is_whole(answer) {
@@ -103,6 +108,7 @@ fn give_report<E: Sink>(
     ensures ok { OnOk result (E.held report.new ≡ more (E.held report.old) (report_of shown journal.now bytes answer.now)) }
     ensures err { OnErr result (TakesFront (E.held report.old) (E.held report.new) (report_of shown journal.now bytes answer.now)) }
     ensures cause { OnErr result (Rose (E.faults report.old) (E.faults report.new)) }
+    ensures calm { OnOk result (E.faults report.new ≡ E.faults report.old) }
 {
     give_journal(report, shown, journal)?;
     give_lines(report, journal, bytes, answer)
@@ -113,6 +119,7 @@ fn give_journal<E: Sink>(report: &mut E, shown: bool, journal: &[Entry]) -> Resu
     ensures ok { OnOk result (E.held report.new ≡ more (E.held report.old) (journal_part shown journal.now)) }
     ensures err { OnErr result (TakesFront (E.held report.old) (E.held report.new) (journal_part shown journal.now)) }
     ensures cause { OnErr result (Rose (E.faults report.old) (E.faults report.new)) }
+    ensures calm { OnOk result (E.faults report.new ≡ E.faults report.old) }
     ensures faults { E.faults report.old ≤ E.faults report.new }
 {
     if !shown || journal.is_empty() {
@@ -127,6 +134,7 @@ fn give_entries<E: Sink>(report: &mut E, journal: &[Entry]) -> Result<(), Failed
     ensures ok { OnOk result (E.held report.new ≡ more (E.held report.old) (entries_text journal.now)) }
     ensures err { OnErr result (TakesFront (E.held report.old) (E.held report.new) (entries_text journal.now)) }
     ensures cause { OnErr result (Rose (E.faults report.old) (E.faults report.new)) }
+    ensures calm { OnOk result (E.faults report.new ≡ E.faults report.old) }
     ensures faults { E.faults report.old ≤ E.faults report.new }
 {
     let mut rest = journal;
@@ -149,6 +157,7 @@ fn give_lines<E: Sink>(
     ensures ok { OnOk result (E.held report.new ≡ more (E.held report.old) (report_text journal.now bytes answer.now)) }
     ensures err { OnErr result (TakesFront (E.held report.old) (E.held report.new) (report_text journal.now bytes answer.now)) }
     ensures cause { OnErr result (Rose (E.faults report.old) (E.faults report.new)) }
+    ensures calm { OnOk result (E.faults report.new ≡ E.faults report.old) }
 {
     give_summary(report, journal, bytes)?;
     give_all(report, answer_line(answer).as_bytes())
@@ -161,6 +170,7 @@ fn give_summary<E: Sink>(report: &mut E, journal: &[Entry], bytes: u64) -> Resul
     ensures ok { OnOk result (E.held report.new ≡ more (E.held report.old) (summary_part journal.now bytes)) }
     ensures err { OnErr result (TakesFront (E.held report.old) (E.held report.new) (summary_part journal.now bytes)) }
     ensures cause { OnErr result (Rose (E.faults report.old) (E.faults report.new)) }
+    ensures calm { OnOk result (E.faults report.new ≡ E.faults report.old) }
     ensures faults { E.faults report.old ≤ E.faults report.new }
 {
     if journal.is_empty() {
@@ -174,6 +184,7 @@ fn give_all<E: Sink>(sink: &mut E, bytes: &[u8]) -> Result<(), Failed>
     ensures ok { OnOk result (E.held sink.new ≡ more (E.held sink.old) bytes.now) }
     ensures err { OnErr result (TakesFront (E.held sink.old) (E.held sink.new) bytes.now) }
     ensures cause { OnErr result (Rose (E.faults sink.old) (E.faults sink.new)) }
+    ensures calm { OnOk result (E.faults sink.new ≡ E.faults sink.old) }
     ensures faults { E.faults sink.old ≤ E.faults sink.new }
 {
     let mut rest = bytes;

@@ -65,6 +65,7 @@ pub fn romain<'a, R: Threads + Wait + Sync, S: Store, K: Sink + Send, E: Sink, G
     ensures words_out { command_of (texts_of words.now) ≡ None → (K.held result.out ≡ K.held out) × (K.faults result.out ≡ K.faults out) }
     ensures no_views { result.answer ≢ a.Differ → result.answer ≢ a.NoMajority → result.views.items ≡ [] }
     ensures told { result.told ≡ t.Failed → Rose (E.faults report.old) (E.faults report.new) }
+    ensures told_calm { result.told ≡ t.Whole → E.faults report.new ≡ E.faults report.old }
     ensures refused { IsRefusal result.answer → result.journal.items ≡ [] }
     ensures untouched { IsRefusal result.answer → (K.held result.out ≡ K.held out) × (K.faults result.out ≡ K.faults out) }
     ensures refusal { IsRefusal result.answer → RefusalCause (S.told store.old) (texts_of words.now) (S.faults store.old) (S.faults store.new) result.answer }
@@ -87,6 +88,7 @@ fn refuse<K, E: Sink>(alloc: Global, error: WordsError, out: K, report: &mut E) 
     ensures views { result.views.items ≡ [] }
     ensures text { IsTold result.told (E.held report.old) (E.held report.new) (answer_text result.answer) }
     ensures told { result.told ≡ t.Failed → Rose (E.faults report.old) (E.faults report.new) }
+    ensures told_calm { result.told ≡ t.Whole → E.faults report.new ≡ E.faults report.old }
     ensures out { result.out ≡ out }
 {
     let answer = match error {
@@ -119,6 +121,7 @@ fn run_command<R: Threads + Wait + Sync, S: Store, K: Sink + Send, E: Sink, G: G
     ensures nothing_run { result.journal.items ≡ [] → (K.held result.out ≡ K.held out) × (K.faults result.out ≡ K.faults out) }
     ensures no_views { result.answer ≢ a.Differ → result.answer ≢ a.NoMajority → result.views.items ≡ [] }
     ensures told { result.told ≡ t.Failed → Rose (E.faults report.old) (E.faults report.new) }
+    ensures told_calm { result.told ≡ t.Whole → E.faults report.new ≡ E.faults report.old }
     ensures refused { IsRefusal result.answer → result.journal.items ≡ [] }
     ensures refusal { IsRefusal result.answer → JobCause (S.told store.old) (to_run (run_by command.now)) (S.faults store.old) (S.faults store.new) result.answer }
     ensures files { S.told store.new ≡ S.told store.old }
@@ -177,6 +180,7 @@ fn plain_command<S: Store, K: Sink, E: Sink>(
     ensures journal { result.journal.items ≡ [] }
     ensures views { result.views.items ≡ [] }
     ensures told { result.told ≡ t.Failed → Rose (E.faults report.old) (E.faults report.new) }
+    ensures told_calm { result.told ≡ t.Whole → E.faults report.new ≡ E.faults report.old }
     ensures untouched { IsRefusal result.answer → (K.held result.out ≡ K.held out) × (K.faults result.out ≡ K.faults out) }
     ensures refusal { IsRefusal result.answer → JobCause (S.told store.old) (to_plain (plain_by command.now)) (S.faults store.old) (S.faults store.new) result.answer }
     ensures files { S.told store.new ≡ S.told store.old }
@@ -228,6 +232,7 @@ fn inject_command<S: Store, K: Sink, E: Sink>(
     ensures journal { result.journal.items ≡ [] }
     ensures views { result.views.items ≡ [] }
     ensures told { result.told ≡ t.Failed → Rose (E.faults report.old) (E.faults report.new) }
+    ensures told_calm { result.told ≡ t.Whole → E.faults report.new ≡ E.faults report.old }
     ensures untouched { IsRefusal result.answer → (K.held result.out ≡ K.held out) × (K.faults result.out ≡ K.faults out) }
     ensures refusal { IsRefusal result.answer → JobCause (S.told store.old) (to_inject (inject_by command.now)) (S.faults store.old) (S.faults store.new) result.answer }
     ensures files { S.told store.new ≡ S.told store.old }
@@ -275,6 +280,7 @@ fn bench_command<R: Threads + Wait + Sync, K: Sink, E: Sink, G: Gate + Sync>(
     ensures text { IsTold result.told (E.held report.old) (E.held report.new) (answer_text result.answer) }
     ensures no_views { result.answer ≢ a.Differ → result.answer ≢ a.NoMajority → result.views.items ≡ [] }
     ensures told { result.told ≡ t.Failed → Rose (E.faults report.old) (E.faults report.new) }
+    ensures told_calm { result.told ≡ t.Whole → E.faults report.new ≡ E.faults report.old }
     ensures refused { IsRefusal result.answer → result.journal.items ≡ [] }
     ensures untouched { IsRefusal result.answer → (K.held result.out ≡ K.held out) × (K.faults result.out ≡ K.faults out) }
     ensures refusal { (files : Option Files) (before after : ℕ) → IsRefusal result.answer → JobCause files (to_bench (bench_by command.now)) before after result.answer }

@@ -1,4 +1,4 @@
-use Rattle.std.proofs.Common.{◌++◌, take, refl, arith}
+use Rattle.std.proofs.Common.{◌++◌, take, refl, ◌∙◌}
 use Rattle.ro_top.proofs.Tells.{given_more, told_more}
 use Rattle.ro_top.proofs.reports.give_all.Goals as goal
 
@@ -8,5 +8,5 @@ loop-rest-preserved g c =
       i.0 ++ take c.in_ok-count.count c.loop-rest.rest.now,
       given_more c.args.bytes.now i.0 c.loop-rest.rest.now c.in_ok-count.count _ i.1 refl,
       told_more _ _ _ i.0 (take c.in_ok-count.count c.loop-rest.rest.now) i.2 c.in_ok-count.ensures.taken,
-      omega (arith, i.3, c.give.ensures.faults),
+      c.in_ok-count.ensures.calm ∙ i.3,
     )

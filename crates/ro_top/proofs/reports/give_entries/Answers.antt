@@ -1,4 +1,4 @@
-use Rattle.std.proofs.Common.{◌≡◌, ◌++◌, ◌∷◌, rules, ap, ◌∙◌, subst, arith}
+use Rattle.std.proofs.Common.{◌≡◌, ◌++◌, ◌∷◌, rules, ap, ◌∙◌, subst}
 use Rattle.ro_io.specs.Outside.{more}
 use Rattle.ro_journal_text.specs.Texts.{entry_text}
 use Rattle.ro_top.specs.Top.{TakesFront}
@@ -20,5 +20,5 @@ loop-entry-preserved g c =
       i.0 ++ entry_text c.in-Some.entry.now,
       entry_more c.args.journal.now c.loop-entry.rest.now c.in-Some.behind.now i.0 c.in-Some.entry.now split i.1,
       told_more _ _ _ i.0 (entry_text c.in-Some.entry.now) i.2 (c.in_ok-give_all.ensures.ok ∙ ap (more (g.E.Sink.held c.loop-entry.report)) line),
-      (let f = c.give_all.ensures.faults in omega (arith, i.3, f)),
+      c.in_ok-give_all.ensures.calm ∙ i.3,
     )

@@ -1,5 +1,6 @@
 //! The files that a command names.
-ghost use Rattle.std.specs.Prelude.{◌≡◌, ◌<◌, ◌≤◌, IfOk, IfErr, length, Ok};
+ghost use Rattle.std.specs.Prelude.{◌≡◌, ◌<◌, ◌≤◌, IfOk, IfErr, length, Ok, Err};
+ghost use Rattle.ro_report.specs.declared.answers.Answer.TheVariants as a;
 ghost use Rattle.std.specs.Option.{option_map};
 ghost use Rattle.ro_image.specs.Executable.{bad_code, image_of};
 ghost use Rattle.ro_faults.specs.Texts.{file_faults};
@@ -39,6 +40,7 @@ pub(crate) fn fetch<S: Store>(
     ensures refused { IfErr result (RefusesFile (S.told store.old) kind name.now (S.faults store.old) (S.faults store.new)) }
     ensures told { S.told store.new ≡ S.told store.old }
     ensures faults { S.faults store.old ≤ S.faults store.new }
+    ensures calm { (result ≡ Err a.StoreFailed → ⊥) → S.faults store.new ≡ S.faults store.old }
 {
     let most = most_bytes(kind);
     match store.fetch(alloc, name, most + 1) {
@@ -60,6 +62,7 @@ pub(crate) fn fetch_named<S: Store>(
     ensures refused { IfErr result (RefusesContent (S.told store.old) kind (option_map (λ n. n.now) name.entry) (S.faults store.old) (S.faults store.new)) }
     ensures told { S.told store.new ≡ S.told store.old }
     ensures faults { S.faults store.old ≤ S.faults store.new }
+    ensures calm { (result ≡ Err a.StoreFailed → ⊥) → S.faults store.new ≡ S.faults store.old }
 {
     match name {
         Some(name) => fetch(store, alloc, kind, name),

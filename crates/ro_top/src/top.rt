@@ -70,6 +70,7 @@ pub fn romain<'a, R: Threads + Wait + Sync, S: Store, K: Sink + Send, E: Sink, G
     ensures untouched { IsRefusal result.answer → (K.held result.out ≡ K.held out) × (K.faults result.out ≡ K.faults out) }
     ensures refusal { IsRefusal result.answer → RefusalCause (S.told store.old) (texts_of words.now) (S.faults store.old) (S.faults store.new) result.answer }
     ensures files { S.told store.new ≡ S.told store.old }
+    ensures store_calm { result.answer ≢ a.StoreFailed → S.faults store.new ≡ S.faults store.old }
 {
     match parse_words(alloc, words) {
         Ok(Command::Run(command)) => run_command(rt, alloc, &command, store, out, report, gate),
@@ -125,6 +126,7 @@ fn run_command<R: Threads + Wait + Sync, S: Store, K: Sink + Send, E: Sink, G: G
     ensures refused { IsRefusal result.answer → result.journal.items ≡ [] }
     ensures refusal { IsRefusal result.answer → JobCause (S.told store.old) (to_run (run_by command.now)) (S.faults store.old) (S.faults store.new) result.answer }
     ensures files { S.told store.new ≡ S.told store.old }
+    ensures store_calm { result.answer ≢ a.StoreFailed → S.faults store.new ≡ S.faults store.old }
 {
     let Ran {
         answer,
@@ -161,6 +163,7 @@ fn ran<R: Threads + Wait + Sync, S: Store, K: Sink + Send, G: Gate + Sync>(
     ensures refused { IsRefusal result.answer → result.journal.items ≡ [] }
     ensures refusal { IsRefusal result.answer → JobCause (S.told store.old) (to_run (run_by command.now)) (S.faults store.old) (S.faults store.new) result.answer }
     ensures files { S.told store.new ≡ S.told store.old }
+    ensures store_calm { result.answer ≢ a.StoreFailed → S.faults store.new ≡ S.faults store.old }
 {
     match job_from(alloc, command, store) {
         Ok(job) => run(rt, alloc, job, out, gate),
@@ -184,6 +187,7 @@ fn plain_command<S: Store, K: Sink, E: Sink>(
     ensures untouched { IsRefusal result.answer → (K.held result.out ≡ K.held out) × (K.faults result.out ≡ K.faults out) }
     ensures refusal { IsRefusal result.answer → JobCause (S.told store.old) (to_plain (plain_by command.now)) (S.faults store.old) (S.faults store.new) result.answer }
     ensures files { S.told store.new ≡ S.told store.old }
+    ensures store_calm { result.answer ≢ a.StoreFailed → S.faults store.new ≡ S.faults store.old }
 {
     let mut out = out;
     let Played {
@@ -212,6 +216,7 @@ fn played<S: Store, K: Sink>(
     ensures untouched { IsRefusal result.answer → (K.held out.new ≡ K.held out.old) × (K.faults out.new ≡ K.faults out.old) }
     ensures refusal { IsRefusal result.answer → JobCause (S.told store.old) (to_plain (plain_by command.now)) (S.faults store.old) (S.faults store.new) result.answer }
     ensures files { S.told store.new ≡ S.told store.old }
+    ensures store_calm { result.answer ≢ a.StoreFailed → S.faults store.new ≡ S.faults store.old }
 {
     match replay_from(alloc, command, store) {
         Ok(replay) => play(alloc, replay, out),
@@ -236,6 +241,7 @@ fn inject_command<S: Store, K: Sink, E: Sink>(
     ensures untouched { IsRefusal result.answer → (K.held result.out ≡ K.held out) × (K.faults result.out ≡ K.faults out) }
     ensures refusal { IsRefusal result.answer → JobCause (S.told store.old) (to_inject (inject_by command.now)) (S.faults store.old) (S.faults store.new) result.answer }
     ensures files { S.told store.new ≡ S.told store.old }
+    ensures store_calm { result.answer ≢ a.StoreFailed → S.faults store.new ≡ S.faults store.old }
 {
     let mut out = out;
     let answer = injected(alloc, command, store, &mut out);
@@ -260,6 +266,7 @@ fn injected<S: Store, K: Sink>(
     ensures untouched { IsRefusal result → (K.held out.new ≡ K.held out.old) × (K.faults out.new ≡ K.faults out.old) }
     ensures refusal { IsRefusal result → JobCause (S.told store.old) (to_inject (inject_by command.now)) (S.faults store.old) (S.faults store.new) result }
     ensures files { S.told store.new ≡ S.told store.old }
+    ensures store_calm { result ≢ a.StoreFailed → S.faults store.new ≡ S.faults store.old }
 {
     match image_from(alloc, command, store) {
         Ok(image) => inject(alloc, &image, command, out),

@@ -1,6 +1,6 @@
 -- Where the steps of a journal's entries stand in a run, and what a run comes to at its end.
 use Rattle.std.specs.Prelude.{◌≡◌, ℕ, zero, suc, ◌+◌, ◌<◌, List, [], ◌∷◌, ◌++◌, length, take, get_or, replicate, Some, slice_get}
-use Rattle.std.proofs.Common.{refl, sym, ap, ◌∙◌, subst, arith, length-append, take_all}
+use Rattle.std.proofs.Common.{inl, refl, sym, ap, ◌∙◌, subst, arith, length-append, take_all}
 use Rattle.ro_plain.specs.Machine.{Program, opening, run}
 use Rattle.ro_plain.proofs.Calls.{slice_get-append}
 use Rattle.ro_journal.specs.declared.Entry.{Entry}
@@ -9,7 +9,10 @@ use Rattle.ro_machine.proofs.Joined.{plan-next}
 use Rattle.ro_races.specs.declared.checking.Checker.{Checker}
 use Rattle.ro_races.specs.declared.found.Found.{Found}
 use Rattle.ro_races.specs.declared.found.Found.TheVariants.{NoRace, Pair}
+use Rattle.ro_races.specs.Seen.{known_by}
+use Rattle.ro_races.specs.Shadows.{marks_at}
 use Rattle.ro_races.specs.Follows.{Follows, StandsAt, Checks, IsFound, IsFoundIn}
+use Rattle.ro_machine.specs.Seen.{machine_of}
 
 same-replicated : (n i x : ℕ) → i < n → slice_get (replicate n x) i ≡ Some x
 same-replicated zero i x h = absurd (omega arith)
@@ -60,4 +63,20 @@ pub checks-whole : (program : Program) (threads : List ℕ) (c : Checker) → Fo
 checks-whole program threads c f e = record {
   runs = (_, ap (run program (opening program)) (sym (ap (λ (n : ℕ). take n threads) e ∙ take_all (length threads) threads (omega arith))) ∙ f.runs);
   found_is = found-whole program threads c.found (subst (λ (n : ℕ). IsFoundIn program threads n c.found) e f.found_is);
+}
+
+-- a checker that has taken no step
+pub follows-begin : (program : Program) (threads : List ℕ) (c : Checker) → c.plain.program ≡ program → machine_of c.plain [] ≡ opening program → c.rows.items ≡ []
+    → ((byte thread : ℕ) → marks_at c.reads.items byte thread ≡ 0) → ((byte thread : ℕ) → marks_at c.writes.items byte thread ≡ 0) → c.steps ≡ 0 → c.found ≡ NoRace → Follows program threads c
+follows-begin program threads c same opens no_rows no_reads no_writes none nothing = record {
+  output = [];
+  same_program = same;
+  runs = ap (λ (n : ℕ). run program (opening program) (take n threads)) none ∙ ap (λ m. Some m) (sym opens);
+  short = omega (arith, none);
+  knows = λ source place thread there.
+      let zero_known : known_by c.rows.items source thread ≡ 0 = ap (λ rows. known_by rows source thread) no_rows in
+      ((λ less. absurd (omega (arith, less, zero_known))), (λ past. absurd (let early = past.early in omega (arith, early, none))));
+  reads_marked = λ byte. record { all = λ place thread less there touched. absurd (omega (arith, less, none)); only = λ thread. inl (no_reads byte thread) };
+  writes_marked = λ byte. record { all = λ place thread less there touched. absurd (omega (arith, less, none)); only = λ thread. inl (no_writes byte thread) };
+  found_is = subst (IsFoundIn program threads c.steps) (sym nothing) (λ i j byte race. omega (arith, none));
 }

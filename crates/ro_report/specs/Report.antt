@@ -7,7 +7,7 @@ use Rattle.ro_journal_text.specs.Texts.{journal_text}
 use Rattle.ro_journal_text.specs.Reading.{code_of as plan_code_of}
 use Rattle.ro_faults.specs.Texts.{code_of}
 use Rattle.ro_report.specs.declared.answers.Answer.{Answer}
-use Rattle.ro_report.specs.declared.answers.Answer.TheVariants.{Exit, Deadlock, Trap, Unended, Differ, NoMajority, Limit, SinkFailed, StoreFailed, BadExe, BadFaults, BadPlan, NoStep, BadWords, TooLong, NoMemory}
+use Rattle.ro_report.specs.declared.answers.Answer.TheVariants.{Exit, Deadlock, Trap, Unended, Differ, NoMajority, Limit, SinkFailed, StoreFailed, BadExe, BadFaults, BadPlan, NoStep, NoRace, Race, BadWords, TooLong, NoMemory}
 
 abbrev pub is_vote : Entry → Bool
 is_vote (Vote thread count won lost did) = true
@@ -79,6 +79,8 @@ answer_text (BadExe code) = codes "answer exe " ++ decimal code ++ codes "\n"
 answer_text (BadFaults line code) = codes "answer faults " ++ decimal line ++ codes " " ++ decimal (code_of code) ++ codes "\n"
 answer_text (BadPlan line code) = codes "answer plan " ++ decimal line ++ codes " " ++ decimal (plan_code_of code) ++ codes "\n"
 answer_text (NoStep place) = codes "answer no-step " ++ decimal place ++ codes "\n"
+answer_text NoRace = codes "answer no-race\n"
+answer_text (Race i j byte) = codes "answer race " ++ decimal i ++ codes " " ++ decimal j ++ codes " " ++ decimal byte ++ codes "\n"
 answer_text BadWords = codes "answer words\n"
 answer_text (TooLong kind) = codes "answer too-long\n"
 answer_text NoMemory = codes "answer no-memory\n"

@@ -15,7 +15,7 @@ pub enum FileKind {
     Input,
     /// The list of faults.
     Faults,
-    /// The journal whose plan is to be run.
+    /// The journal whose plan is to be followed.
     Plan,
 }
 
@@ -49,6 +49,10 @@ pub enum Answer {
     BadPlan { line: u64, code: JournalCode },
     /// The plan's step at this place, counted from 0, does not exist.
     NoStep { place: u64 },
+    /// No step of the plan has a race.
+    NoRace,
+    /// The first race of the plan: the steps at the places `i` and `j`, counted from 0, access the byte at an address.
+    Race { i: u64, j: u64, byte: u64 },
     /// The words are of no command.
     BadWords,
     /// A file has more bytes than are read.
@@ -79,6 +83,8 @@ pub fn answer_line(answer: &Answer) -> Line
             twice_numbered("answer plan ", line, u64::from(code.code()))
         }
         Answer::NoStep { place } => numbered("answer no-step ", place),
+        Answer::NoRace => fixed("answer no-race"),
+        Answer::Race { i, j, byte } => thrice_numbered("answer race ", i, j, byte),
         Answer::BadWords => fixed("answer words"),
         Answer::TooLong(_) => fixed("answer too-long"),
         Answer::NoMemory => fixed("answer no-memory"),
@@ -115,5 +121,18 @@ fn twice_numbered(words: &str, one: u64, other: u64) -> Line
     text.push(words);
     text.push_number(one);
     text.add_number(other);
+    text.end()
+}
+
+// The line of these words and three numbers.
+fn thrice_numbered(words: &str, one: u64, second: u64, third: u64) -> Line
+    requires { length words.now ≤ 90 }
+    ensures { result ≡ words.now ++ decimal one ++ codes " " ++ decimal second ++ codes " " ++ decimal third ++ codes "\n" }
+{
+    let mut text = Text::new();
+    text.push(words);
+    text.push_number(one);
+    text.add_number(second);
+    text.add_number(third);
     text.end()
 }

@@ -48,6 +48,15 @@ fn answers(rt: HostRuntime) {
         ),
         (Answer::NoStep { place: 3 }, "answer no-step 3\n"),
         (Answer::Unended, "answer unended\n"),
+        (Answer::NoRace, "answer no-race\n"),
+        (
+            Answer::Race {
+                i: 8,
+                j: 999_999_999,
+                byte: u64::MAX,
+            },
+            "answer race 8 999999999 18446744073709551615\n",
+        ),
         (Answer::BadWords, "answer words\n"),
         (Answer::TooLong(FileKind::Input), "answer too-long\n"),
         (Answer::NoMemory, "answer no-memory\n"),

@@ -16,7 +16,7 @@ use Rattle.ro_core.proofs.Served.{Tidy, tidy_end, serve-tidy}
 use Rattle.ro_simulation.specs.Theorem.{IsComplete, by_exit, by_trap, by_deadlock}
 use Rattle.ro_machine.specs.Plans.{RunsPlan, EndsAs}
 use Rattle.ro_report.specs.declared.answers.Answer.{Answer}
-use Rattle.ro_report.specs.declared.answers.Answer.TheVariants.{Exit, Deadlock, Trap, Unended, Differ, NoMajority, Limit, SinkFailed, StoreFailed, BadExe, BadFaults, BadPlan, NoStep, BadWords, TooLong, NoMemory}
+use Rattle.ro_report.specs.declared.answers.Answer.TheVariants.{Exit, Deadlock, Trap, Unended, Differ, NoMajority, Limit, SinkFailed, StoreFailed, BadExe, BadFaults, BadPlan, NoStep, NoRace, Race, BadWords, TooLong, NoMemory}
 use Rattle.ro_top.specs.Causes.{CamePlain, RanWhole, PlanCause, IsOutcome, AnswersEnd}
 
 -- ---- a machine that was run ends by an exit or a trap, if it ends
@@ -110,6 +110,8 @@ module _ (came : CamePlain) (program : Program) (journal : List Entry) where
   complete_cause how (BadFaults line code) done is ran = absurd (let f : Some how ≡ None = is in cc)
   complete_cause how (BadPlan line code) done is ran = absurd (let f : Some how ≡ None = is in cc)
   complete_cause how (NoStep place) done is ran = absurd (let f : Some how ≡ None = is in cc)
+  complete_cause how NoRace done is ran = absurd (let f : Some how ≡ None = is in cc)
+  complete_cause how (Race i j byte) done is ran = absurd (let f : Some how ≡ None = is in cc)
   complete_cause how BadWords done is ran = absurd (let f : Some how ≡ None = is in cc)
   complete_cause how (TooLong kind) done is ran = absurd (let f : Some how ≡ None = is in cc)
   complete_cause how NoMemory done is ran = absurd (let f : Some how ≡ None = is in cc)

@@ -12,7 +12,7 @@ use Rattle.ro_report.specs.declared.answers.FileKind.{FileKind}
 use Rattle.ro_report.specs.declared.answers.FileKind.TheVariants.{Exe, Input, Faults, Plan}
 use Rattle.ro_settings.specs.declared.Settings.{Settings}
 use Rattle.ro_core.specs.Core.{Job}
-use Rattle.ro_words.specs.Commands.{Asked, AskedBench, AskedInject, AskedPlain, AskedRun, to_bench, to_inject, to_plain, to_run}
+use Rattle.ro_words.specs.Commands.{Asked, AskedBench, AskedInject, AskedPlan, AskedRun, to_bench, to_inject, to_plain, to_races, to_run}
 use Rattle.ro_journal.specs.declared.Entry.{Entry}
 use Rattle.ro_journal_text.specs.Reading.{file_journal}
 use Rattle.ro_plain.specs.Machine.{Program}
@@ -34,6 +34,10 @@ name_in (to_plain plain) Exe = Some plain.executable
 name_in (to_plain plain) Input = plain.input
 name_in (to_plain plain) Faults = None
 name_in (to_plain plain) Plan = Some plain.plan
+name_in (to_races races) Exe = Some races.executable
+name_in (to_races races) Input = races.input
+name_in (to_races races) Faults = None
+name_in (to_races races) Plan = Some races.plan
 name_in (to_inject inject) Exe = Some inject.executable
 name_in (to_inject inject) Input = None
 name_in (to_inject inject) Faults = None
@@ -65,8 +69,8 @@ pub record IsJobOf (files : Option Files) (asked : AskedRun) (job : Job) : Type 
   pub faults_are : file_faults asked.settings.replicas list ≡ Ok faults
   pub job_is : job ≡ job_of (image_of executable) input faults asked.settings
 
--- What a plan's run is asked for: its files may be read, its executable is accepted, and its journal is that of its text.
-pub record IsPlanOf (files : Option Files) (asked : AskedPlain) (program : Program) (journal : List Entry) : Type 0 where
+-- What is to be run or checked by a plan: its files may be read, its executable is accepted, and its journal is that of its text.
+pub record IsPlanOf (files : Option Files) (asked : AskedPlan) (program : Program) (journal : List Entry) : Type 0 where
   pub executable : List ℕ
   pub executable_is : IsContent files Exe (Some asked.executable) executable
   pub accepted : bad_code executable ≡ None

@@ -29,7 +29,8 @@ pub struct Done<K> {
 }
 
 impl<K> Done<K> {
-    /// The status with which a process ends: that of the program where it ended by an exit, else one from 239 on.
+    /// The status with which a process ends: that of the program where it ended by an exit, 0 where a plan has no race, else one
+    /// from 237 on.
     pub fn status(&self) -> u8
         ensures { result ≡ status_of self.now.told self.now.answer }
     {
@@ -38,6 +39,7 @@ impl<K> Done<K> {
         }
         match self.answer {
             Answer::Exit(status) => status,
+            Answer::Race { .. } => 237,
             Answer::Unended => 239,
             Answer::Deadlock => 240,
             Answer::Trap(_) => 241,
@@ -53,6 +55,7 @@ impl<K> Done<K> {
             Answer::TooLong(_) => 252,
             Answer::BadPlan { .. } => 253,
             Answer::NoStep { .. } => 254,
+            Answer::NoRace => 0,
         }
     }
 }

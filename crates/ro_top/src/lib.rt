@@ -9,6 +9,7 @@ mod driving;
 mod files;
 mod injecting;
 mod playing;
+mod racing;
 mod reports;
 mod running;
 mod top;

@@ -178,7 +178,7 @@ votes 1 copies 0 struck 0 steps 3 bytes 0
 answer exit 7
 ";
 
-/// A command that runs a plan, and what it comes to.
+/// A command that follows a plan, and what it comes to.
 struct Plan {
     words: &'static [&'static str],
     acts: &'static [Act],
@@ -310,6 +310,90 @@ const PLANS: &[Plan] = &[
         status: 4,
         held: "",
         reported: "steps 7 bytes 0\nanswer exit 4\n",
+    },
+    // Two threads store to one page, each a byte of its own; a check gives the sink nothing.
+    Plan {
+        words: &["races", "page", "--plan", "page-plan"],
+        acts: &[Act::Fail],
+        answer: Answer::NoRace,
+        status: 0,
+        held: "",
+        reported: "answer no-race\n",
+    },
+    // Both store the same byte.
+    Plan {
+        words: &["races", "--plan=page-plan", "byte"],
+        acts: &[Act::Fail],
+        answer: Answer::Race {
+            i: 8,
+            j: 13,
+            byte: 69632,
+        },
+        status: 237,
+        held: "",
+        reported: "answer race 8 13 69632\n",
+    },
+    // The step behind the exit does not exist, and is told before the race.
+    Plan {
+        words: &["races", "byte", "--plan", "page-late"],
+        acts: &[],
+        answer: Answer::NoStep { place: 21 },
+        status: 254,
+        held: "",
+        reported: "answer no-step 21\n",
+    },
+    // The program has not ended.
+    Plan {
+        words: &["races", "seven", "--plan", "watched"],
+        acts: &[],
+        answer: Answer::NoRace,
+        status: 0,
+        held: "",
+        reported: "answer no-race\n",
+    },
+    // What the program writes goes nowhere, and its input is read.
+    Plan {
+        words: &["races", "hello", "--plan", "hello-plan"],
+        acts: &[Act::Fail],
+        answer: Answer::NoRace,
+        status: 0,
+        held: "",
+        reported: "answer no-race\n",
+    },
+    Plan {
+        words: &["races", "read", "--plan", "read-plan", "--input", "header"],
+        acts: &[],
+        answer: Answer::NoRace,
+        status: 0,
+        held: "",
+        reported: "answer no-race\n",
+    },
+    Plan {
+        words: &["races", "seven", "--plan", "range"],
+        acts: &[],
+        answer: Answer::BadPlan {
+            line: 2,
+            code: JournalCode::Range,
+        },
+        status: 253,
+        held: "",
+        reported: "answer plan 2 2\n",
+    },
+    Plan {
+        words: &["races", "seven", "--plan", "nothere"],
+        acts: &[],
+        answer: Answer::StoreFailed,
+        status: 246,
+        held: "",
+        reported: "answer store\n",
+    },
+    Plan {
+        words: &["races", "seven"],
+        acts: &[],
+        answer: Answer::BadWords,
+        status: 249,
+        held: "",
+        reported: "answer words\n",
     },
 ];
 
@@ -470,37 +554,39 @@ fn made(rt: HostRuntime) -> Result<(), Fail> {
     Ok(())
 }
 
-// A plan of more than 10^9 steps is not run.
+// A plan of more than 10^9 steps is neither run nor checked.
 #[test]
 fn longest_plan(rt: HostRuntime) -> Result<(), Fail> {
     let mut plan = Vec::from_slice(rt.alloc(), b"romain 1\n")?;
     for _ in 0..1_001 {
         plan.extend_from_slice(b"vote 0 1000000 0 - watch\n")?;
     }
-    let words = words_of(rt.alloc(), &["plain", "seven", "--plan", "long"])?;
-    let mut store = store(&rt, rt.alloc())?;
-    store.put("long", plan.as_slice())?;
-    let mut report = sink(rt.alloc(), &[])?;
-    let out = sink(rt.alloc(), &[])?;
-    let done = romain(
-        &rt,
-        rt.alloc(),
-        words.as_slice(),
-        &mut store,
-        out,
-        &mut report,
-        &OpenGate,
-    );
-    let limit = Answer::Limit {
-        steps: 1_000_000_000,
-        next: 1_000_000,
-    };
-    assert_eq!(rt; done.answer, limit);
-    assert_eq!(rt; done.status(), 244);
-    assert_eq!(rt;
-        report.bytes(),
-        b"answer limit 1000000000 1000000\n".as_slice()
-    );
+    for command in ["plain", "races"] {
+        let words = words_of(rt.alloc(), &[command, "seven", "--plan", "long"])?;
+        let mut store = store(&rt, rt.alloc())?;
+        store.put("long", plan.as_slice())?;
+        let mut report = sink(rt.alloc(), &[])?;
+        let out = sink(rt.alloc(), &[])?;
+        let done = romain(
+            &rt,
+            rt.alloc(),
+            words.as_slice(),
+            &mut store,
+            out,
+            &mut report,
+            &OpenGate,
+        );
+        let limit = Answer::Limit {
+            steps: 1_000_000_000,
+            next: 1_000_000,
+        };
+        assert_eq!(rt; done.answer, limit);
+        assert_eq!(rt; done.status(), 244);
+        assert_eq!(rt;
+            report.bytes(),
+            b"answer limit 1000000000 1000000\n".as_slice()
+        );
+    }
     Ok(())
 }
 
@@ -663,6 +749,41 @@ const GUESTS: &[(&str, &[u32])] = &[
     ),
 ];
 
+/// Two threads that store to one page, side by side; thread 0 joins the other at the end.
+const PAGE: [u32; 22] = [
+    0x0001_0437,
+    0x0A84_0513,
+    0x0000_0593,
+    0x08C4_0613,
+    0x0000_0693,
+    0x0340_00EF,
+    0x0001_12B7,
+    0x0002_8023,
+    0x0010_0513,
+    0x0000_0593,
+    0x0240_00EF,
+    0x0000_0513,
+    0x05D0_0893,
+    0x0000_0073,
+    0x0001_12B7,
+    0x0002_80A3,
+    0x0000_0513,
+    0x00C0_00EF,
+    0x0000_8067,
+    0x0000_8067,
+    0x0000_8067,
+    0x0000_0000,
+];
+
+/// Thread 1 stores to thread 0's byte: SB x0, 0(x5) in the place of SB x0, 1(x5).
+const SAME_BYTE: u32 = 0x0002_8023;
+
+const PAGE_NAMES: [(&str, u32); 3] = [
+    ("pthread_create", 0x1_009C),
+    ("pthread_join", 0x1_00A0),
+    ("pthread_exit", 0x1_00A4),
+];
+
 /// Lists of faults, and journals.
 const TEXTS: &[(&str, &str)] = &[
     ("journal", SEVEN),
@@ -683,6 +804,14 @@ const TEXTS: &[(&str, &str)] = &[
         "read-plan",
         "romain 1\nvote 0 4 0 - served\nvote 0 1 0 - served\n",
     ),
+    (
+        "page-plan",
+        "romain 1\nvote 0 6 0 - served\nvote 0 1 0 - mapped\nvote 0 4 0 - blocked\nvote 1 4 0 - served\nfree 0\nvote 0 2 0 - served\n",
+    ),
+    (
+        "page-late",
+        "romain 1\nvote 0 6 0 - served\nvote 0 1 0 - mapped\nvote 0 4 0 - blocked\nvote 1 4 0 - served\nfree 0\nvote 0 2 0 - served\nfree 0\n",
+    ),
     ("one", "1 0 1 reg 10 0\n"),
     ("unlike", "0 0 1 reg 10 0\n1 0 1 reg 10 1\n"),
 ];
@@ -695,6 +824,16 @@ fn store(rt: &impl Abort, alloc: Global) -> Result<MemStore, Fail> {
         let file = image_bytes(alloc, words, 5, &[])?;
         store.put(name, file.as_slice())?;
     }
+    let mut same = PAGE;
+    same[15] = SAME_BYTE;
+    store.put(
+        "page",
+        image_bytes(alloc, &PAGE, 7, &PAGE_NAMES)?.as_slice(),
+    )?;
+    store.put(
+        "byte",
+        image_bytes(alloc, &same, 7, &PAGE_NAMES)?.as_slice(),
+    )?;
     for (name, text) in TEXTS {
         store.put(name, text.as_bytes())?;
     }

@@ -5,12 +5,12 @@ ghost use Rattle.ro_journal.specs.Plan.{outcome_of};
 ghost use Rattle.ro_report.specs.Report.{answer_text, report_of};
 ghost use Rattle.ro_report.specs.declared.answers.Answer.TheVariants as a;
 ghost use Rattle.ro_settings.specs.Ranges.{InRange};
-ghost use Rattle.ro_words.specs.Commands.{AskedBench, AskedInject, AskedPlain, AskedRun, bench_by, command_of, inject_by, plain_by, run_by, to_bench, to_inject, to_plain, to_run};
+ghost use Rattle.ro_words.specs.Commands.{AskedBench, AskedInject, AskedPlan, AskedRun, bench_by, command_of, inject_by, plan_by, run_by, to_bench, to_inject, to_plain, to_races, to_run};
 ghost use Rattle.ro_words.specs.Uses.{texts_of};
 ghost use Rattle.ro_words.specs.declared.commands.WordsError.TheVariants as w;
 ghost use Rattle.ro_top.specs.Driven.{AreCounts};
 ghost use Rattle.ro_top.specs.Causes.{IsRefusal, RefusalCause, JobCause, IsOutcome};
-ghost use Rattle.ro_top.specs.Top.{OfItsBench, OfItsDraw, OfItsJob, OfItsPlan, RanAs, IsRunOf, IsTold, plain_report};
+ghost use Rattle.ro_top.specs.Top.{OfItsBench, OfItsDraw, OfItsJob, OfItsPlan, OfItsRaces, RanAs, IsRunOf, IsTold, plain_report};
 ghost use Rattle.ro_top.specs.declared.done.Told.TheVariants as t;
 
 use crate::asking::{image_from, job_from, replay_from};
@@ -18,12 +18,13 @@ use crate::benching::{Benched, bench};
 use crate::done::Done;
 use crate::injecting::inject;
 use crate::playing::{Played, play, unplayed};
+use crate::racing::race;
 use crate::reports::{tell, tell_answer, tell_plan};
 use crate::running::{Ran, nothing, run};
 use ro_io::{Gate, Sink, Store};
 use ro_report::Answer;
 use ro_words::{
-    BenchCommand, Command, InjectCommand, PlainCommand, RunCommand, WordsError, parse_words,
+    BenchCommand, Command, InjectCommand, PlanCommand, RunCommand, WordsError, parse_words,
 };
 use std::alloc::Global;
 use std::sync::Wait;
@@ -39,6 +40,8 @@ use std::thread::Threads;
 ///   gate before it runs.
 /// - `plain`: the plan of a journal runs on the unreplicated machine, and what it writes goes to `out`. The report has a line of
 ///   its steps and bytes, where it was run to its end, and the answer's line.
+/// - `races`: the plan of a journal is checked on the unreplicated machine: whether all its steps exist, and which is its first
+///   race. Nothing goes to `out`. The report has the answer's line alone.
 /// - `inject`: faults are drawn for an executable, and their list goes to `out`. The report has the answer's line alone.
 /// - `bench`: a made executable runs as three replicas, with the usual settings, in a sink of its own of 64 bytes. Where it
 ///   exits, a line of its status and output goes to `out`. The report has the answer's line alone.
@@ -54,8 +57,11 @@ pub fn romain<'a, R: Threads + Wait + Sync, S: Store, K: Sink + Send, E: Sink, G
     ensures run { (asked : AskedRun) → command_of (texts_of words.now) ≡ Some (to_run asked) → (bytes : ℕ) × OfItsJob (S.told store.old) asked result.journal.items (IsRunOf (record { journal = result.journal.items; answer = result.answer; views = result.views.items; bytes = bytes; held_before = K.held out; held_after = K.held result.out; faults_before = K.faults out; faults_after = K.faults result.out })) × IsTold result.told (E.held report.old) (E.held report.new) (report_of asked.journal result.journal.items bytes result.answer) }
     ensures answer { (asked : AskedRun) → command_of (texts_of words.now) ≡ Some (to_run asked) → IsOutcome result.answer (outcome_of result.journal.items) }
     ensures nothing_run { (asked : AskedRun) → command_of (texts_of words.now) ≡ Some (to_run asked) → result.journal.items ≡ [] → (K.held result.out ≡ K.held out) × (K.faults result.out ≡ K.faults out) }
-    ensures plain { (asked : AskedPlain) → command_of (texts_of words.now) ≡ Some (to_plain asked) → (steps : ℕ) × (bytes : ℕ) × OfItsPlan (S.told store.old) asked (record { answer = result.answer; steps = steps; bytes = bytes; held_before = K.held out; held_after = K.held result.out; faults_before = K.faults out; faults_after = K.faults result.out }) × IsTold result.told (E.held report.old) (E.held report.new) (plain_report steps bytes result.answer) }
-    ensures plain_journal { (asked : AskedPlain) → command_of (texts_of words.now) ≡ Some (to_plain asked) → result.journal.items ≡ [] }
+    ensures plain { (asked : AskedPlan) → command_of (texts_of words.now) ≡ Some (to_plain asked) → (steps : ℕ) × (bytes : ℕ) × OfItsPlan (S.told store.old) asked (record { answer = result.answer; steps = steps; bytes = bytes; held_before = K.held out; held_after = K.held result.out; faults_before = K.faults out; faults_after = K.faults result.out }) × IsTold result.told (E.held report.old) (E.held report.new) (plain_report steps bytes result.answer) }
+    ensures plain_journal { (asked : AskedPlan) → command_of (texts_of words.now) ≡ Some (to_plain asked) → result.journal.items ≡ [] }
+    ensures races { (asked : AskedPlan) → command_of (texts_of words.now) ≡ Some (to_races asked) → OfItsRaces (S.told store.old) asked result.answer }
+    ensures races_told { (asked : AskedPlan) → command_of (texts_of words.now) ≡ Some (to_races asked) → (result.journal.items ≡ []) × IsTold result.told (E.held report.old) (E.held report.new) (answer_text result.answer) }
+    ensures races_out { (asked : AskedPlan) → command_of (texts_of words.now) ≡ Some (to_races asked) → (K.held result.out ≡ K.held out) × (K.faults result.out ≡ K.faults out) }
     ensures inject { (asked : AskedInject) → command_of (texts_of words.now) ≡ Some (to_inject asked) → OfItsDraw (S.told store.old) asked (K.held out) (K.held result.out) (K.faults out) (K.faults result.out) result.answer }
     ensures inject_told { (asked : AskedInject) → command_of (texts_of words.now) ≡ Some (to_inject asked) → (result.journal.items ≡ []) × IsTold result.told (E.held report.old) (E.held report.new) (answer_text result.answer) }
     ensures bench { (asked : AskedBench) → command_of (texts_of words.now) ≡ Some (to_bench asked) → OfItsBench asked result.journal.items (K.held out) (K.held result.out) (K.faults out) (K.faults result.out) result.answer }
@@ -75,6 +81,7 @@ pub fn romain<'a, R: Threads + Wait + Sync, S: Store, K: Sink + Send, E: Sink, G
     match parse_words(alloc, words) {
         Ok(Command::Run(command)) => run_command(rt, alloc, &command, store, out, report, gate),
         Ok(Command::Plain(command)) => plain_command(alloc, &command, store, out, report),
+        Ok(Command::Races(command)) => races_command(alloc, &command, store, out, report),
         Ok(Command::Inject(command)) => inject_command(alloc, &command, store, out, report),
         Ok(Command::Bench(command)) => bench_command(rt, alloc, &command, out, report, gate),
         Err(error) => refuse(alloc, error, out, report),
@@ -174,18 +181,18 @@ fn ran<R: Threads + Wait + Sync, S: Store, K: Sink + Send, G: Gate + Sync>(
 // Runs the plan of a journal, and tells what came of it.
 fn plain_command<S: Store, K: Sink, E: Sink>(
     alloc: Global,
-    command: &PlainCommand<'_>,
+    command: &PlanCommand<'_>,
     store: &mut S,
     out: K,
     report: &mut E,
 ) -> Done<K>
-    ensures plain { (steps : ℕ) × (bytes : ℕ) × OfItsPlan (S.told store.old) (plain_by command.now) (record { answer = result.answer; steps = steps; bytes = bytes; held_before = K.held out; held_after = K.held result.out; faults_before = K.faults out; faults_after = K.faults result.out }) × IsTold result.told (E.held report.old) (E.held report.new) (plain_report steps bytes result.answer) }
+    ensures plain { (steps : ℕ) × (bytes : ℕ) × OfItsPlan (S.told store.old) (plan_by command.now) (record { answer = result.answer; steps = steps; bytes = bytes; held_before = K.held out; held_after = K.held result.out; faults_before = K.faults out; faults_after = K.faults result.out }) × IsTold result.told (E.held report.old) (E.held report.new) (plain_report steps bytes result.answer) }
     ensures journal { result.journal.items ≡ [] }
     ensures views { result.views.items ≡ [] }
     ensures told { result.told ≡ t.Failed → Rose (E.faults report.old) (E.faults report.new) }
     ensures told_calm { result.told ≡ t.Whole → E.faults report.new ≡ E.faults report.old }
     ensures untouched { IsRefusal result.answer → (K.held result.out ≡ K.held out) × (K.faults result.out ≡ K.faults out) }
-    ensures refusal { IsRefusal result.answer → JobCause (S.told store.old) (to_plain (plain_by command.now)) (S.faults store.old) (S.faults store.new) result.answer }
+    ensures refusal { IsRefusal result.answer → JobCause (S.told store.old) (to_plain (plan_by command.now)) (S.faults store.old) (S.faults store.new) result.answer }
     ensures files { S.told store.new ≡ S.told store.old }
     ensures store_calm { result.answer ≢ a.StoreFailed → S.faults store.new ≡ S.faults store.old }
 {
@@ -208,19 +215,62 @@ fn plain_command<S: Store, K: Sink, E: Sink>(
 // Runs the plan of a command.
 fn played<S: Store, K: Sink>(
     alloc: Global,
-    command: &PlainCommand<'_>,
+    command: &PlanCommand<'_>,
     store: &mut S,
     out: &mut K,
 ) -> Played
-    ensures plain { OfItsPlan (S.told store.old) (plain_by command.now) (record { answer = result.answer; steps = result.steps; bytes = result.bytes; held_before = K.held out.old; held_after = K.held out.new; faults_before = K.faults out.old; faults_after = K.faults out.new }) }
+    ensures plain { OfItsPlan (S.told store.old) (plan_by command.now) (record { answer = result.answer; steps = result.steps; bytes = result.bytes; held_before = K.held out.old; held_after = K.held out.new; faults_before = K.faults out.old; faults_after = K.faults out.new }) }
     ensures untouched { IsRefusal result.answer → (K.held out.new ≡ K.held out.old) × (K.faults out.new ≡ K.faults out.old) }
-    ensures refusal { IsRefusal result.answer → JobCause (S.told store.old) (to_plain (plain_by command.now)) (S.faults store.old) (S.faults store.new) result.answer }
+    ensures refusal { IsRefusal result.answer → JobCause (S.told store.old) (to_plain (plan_by command.now)) (S.faults store.old) (S.faults store.new) result.answer }
     ensures files { S.told store.new ≡ S.told store.old }
     ensures store_calm { result.answer ≢ a.StoreFailed → S.faults store.new ≡ S.faults store.old }
 {
     match replay_from(alloc, command, store) {
         Ok(replay) => play(alloc, replay, out),
         Err(answer) => unplayed(answer),
+    }
+}
+
+// Checks the plan of a journal, and tells what came of it.
+fn races_command<S: Store, K, E: Sink>(
+    alloc: Global,
+    command: &PlanCommand<'_>,
+    store: &mut S,
+    out: K,
+    report: &mut E,
+) -> Done<K>
+    ensures races { OfItsRaces (S.told store.old) (plan_by command.now) result.answer }
+    ensures text { IsTold result.told (E.held report.old) (E.held report.new) (answer_text result.answer) }
+    ensures journal { result.journal.items ≡ [] }
+    ensures views { result.views.items ≡ [] }
+    ensures told { result.told ≡ t.Failed → Rose (E.faults report.old) (E.faults report.new) }
+    ensures told_calm { result.told ≡ t.Whole → E.faults report.new ≡ E.faults report.old }
+    ensures out { result.out ≡ out }
+    ensures refusal { IsRefusal result.answer → JobCause (S.told store.old) (to_races (plan_by command.now)) (S.faults store.old) (S.faults store.new) result.answer }
+    ensures files { S.told store.new ≡ S.told store.old }
+    ensures store_calm { result.answer ≢ a.StoreFailed → S.faults store.new ≡ S.faults store.old }
+{
+    let answer = raced(alloc, command, store);
+    let told = tell_answer(report, &answer);
+    Done {
+        answer,
+        told,
+        journal: Vec::new(alloc),
+        views: Vec::new(alloc),
+        out,
+    }
+}
+
+// Checks the plan of a command.
+fn raced<S: Store>(alloc: Global, command: &PlanCommand<'_>, store: &mut S) -> Answer
+    ensures races { OfItsRaces (S.told store.old) (plan_by command.now) result }
+    ensures refusal { IsRefusal result → JobCause (S.told store.old) (to_races (plan_by command.now)) (S.faults store.old) (S.faults store.new) result }
+    ensures files { S.told store.new ≡ S.told store.old }
+    ensures store_calm { result ≢ a.StoreFailed → S.faults store.new ≡ S.faults store.old }
+{
+    match replay_from(alloc, command, store) {
+        Ok(replay) => race(alloc, replay),
+        Err(answer) => answer,
     }
 }
 

@@ -13,7 +13,7 @@ use Rattle.clap.specs.Walk.{Row, first_of, one_of, rows_of}
 use Rattle.clap.specs.declared.parser.matches.Found.{Found}
 use Rattle.clap.proofs.WalkLemmas.{first_value-rows, one_text-rows}
 use Rattle.ro_settings.specs.declared.Settings.{Settings}
-use Rattle.ro_words.specs.Commands.{Asked, asked_by, bench_given, inject_given, plain_given, run_from, run_given, settings_of}
+use Rattle.ro_words.specs.Commands.{Asked, asked_by, bench_given, inject_given, plain_given, races_given, run_from, run_given, settings_of}
 use Rattle.ro_words.specs.Uses.{Text, Use, is_used, text_of}
 use Rattle.ro_words.specs.declared.commands.Command.{Command}
 use Rattle.ro_words.specs.declared.commands.WordsError.{WordsError}
@@ -23,7 +23,7 @@ use Rattle.ro_words.proofs.Grammars.{bench_grammar, inject_grammar, plan_grammar
 use Rattle.ro_words.proofs.Names.{with_journal}
 use Rattle.ro_words.proofs.Once.{and_parts, flag_text}
 use Rattle.ro_words.proofs.Rows.{rows}
-use Rattle.ro_words.proofs.Spelled.{SpellsBy, of_bench, of_inject, of_none, of_plain, of_run}
+use Rattle.ro_words.proofs.Spelled.{SpellsBy, of_bench, of_inject, of_none, of_plain, of_races, of_run}
 
 -- the matches of a command, read by their rows
 pub inner_rows : (inner : Option (Text × List Row)) (name : Text) (found expected : List Row) → inner ≡ Some (name, expected)
@@ -76,6 +76,9 @@ run_alike f g journal same =
 plain_alike : (f g : Text → Option Text) (journal : Bool) → Agree f g → plain_given f journal ≡ plain_given g journal
 plain_alike f g journal same = rw (same (codes "exe") refl, same (codes "plan") refl, same (codes "input") refl) refl
 
+races_alike : (f g : Text → Option Text) (journal : Bool) → Agree f g → races_given f journal ≡ races_given g journal
+races_alike f g journal same = rw (same (codes "exe") refl, same (codes "plan") refl, same (codes "input") refl) refl
+
 inject_alike : (f g : Text → Option Text) (journal : Bool) → Agree f g → inject_given f journal ≡ inject_given g journal
 inject_alike f g journal same = rw (same (codes "seed") refl, same (codes "count") refl, same (codes "exe") refl, same (codes "replica") refl) refl
 
@@ -117,6 +120,7 @@ pub refused_by : (kinds : Kinds) (inner : Option (Text × List Row)) (command : 
 refused_by kinds inner command (of_none refuses none) bad = none
 refused_by kinds inner command (of_run by) bad = absurd (bad by.passes)
 refused_by kinds inner command (of_plain by) bad = absurd (bad by.passes)
+refused_by kinds inner command (of_races by) bad = absurd (bad by.passes)
 refused_by kinds inner command (of_inject by) bad = absurd (bad by.passes)
 refused_by kinds inner command (of_bench by) bad = absurd (bad by.passes)
 
@@ -125,6 +129,7 @@ pub record ReadsAll (found : Option (Text × List Row)) (read : Option Asked) : 
   pub run : (ends : List Row) (journal : Bool) → found ≡ Some (codes "run", ends) → one_of (codes "journal") ends ≡ Some (bool_text journal)
       → read ≡ run_given (λ name. first_of name ends) journal
   pub plain : (ends : List Row) → found ≡ Some (codes "plain", ends) → read ≡ plain_given (λ name. first_of name ends) false
+  pub races : (ends : List Row) → found ≡ Some (codes "races", ends) → read ≡ races_given (λ name. first_of name ends) false
   pub inject : (ends : List Row) → found ≡ Some (codes "inject", ends) → read ≡ inject_given (λ name. first_of name ends) false
   pub bench : (ends : List Row) → found ≡ Some (codes "bench", ends) → read ≡ bench_given (λ name. first_of name ends) false
 
@@ -139,6 +144,9 @@ read_as_spelled kinds inner found command read (of_run by) none is reads =
 read_as_spelled kinds inner found command read (of_plain by) none is reads =
     reads.plain (final_rows (plan_grammar (codes "plain")) by.uses) (is ∙ by.ends)
     ∙ plain_alike _ (text_of by.uses) false (λ name other. first-final (plan_grammar (codes "plain")) name by.uses other) ∙ sym by.spelled
+read_as_spelled kinds inner found command read (of_races by) none is reads =
+    reads.races (final_rows (plan_grammar (codes "races")) by.uses) (is ∙ by.ends)
+    ∙ races_alike _ (text_of by.uses) false (λ name other. first-final (plan_grammar (codes "races")) name by.uses other) ∙ sym by.spelled
 read_as_spelled kinds inner found command read (of_inject by) none is reads =
     reads.inject (final_rows inject_grammar by.uses) (is ∙ by.ends)
     ∙ inject_alike _ (text_of by.uses) false (λ name other. first-final inject_grammar name by.uses other) ∙ sym by.spelled

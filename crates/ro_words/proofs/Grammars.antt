@@ -13,8 +13,8 @@ use Rattle.ro_words.proofs.Once.{and_parts}
 use Rattle.ro_words.proofs.Rules.{bench_built, inject_built, journal_built, leaf, plan_built, run_built, run_values}
 use Rattle.ro_words.proofs.Names.{AreFrom, Grammar, IsValued, Known, by_key, flagged, is_valued, unmet, with_journal}
 
-pub subs_are : (built romain_app).subs ≡ leaf (codes "run") run_built ∷ leaf (codes "plain") plan_built ∷ leaf (codes "inject") inject_built
-    ∷ leaf (codes "bench") bench_built ∷ []
+pub subs_are : (built romain_app).subs ≡ leaf (codes "run") run_built ∷ leaf (codes "plain") plan_built ∷ leaf (codes "races") plan_built
+    ∷ leaf (codes "inject") inject_built ∷ leaf (codes "bench") bench_built ∷ []
 unfolding run_built run_values plan_built inject_built bench_built
 subs_are = refl
 
@@ -134,7 +134,7 @@ run_grammar = record {
   apart = refl;
 }
 
--- ---- `plain`
+-- ---- `plain` and `races`
 
 pub plan_valued : (name : Text) → Known plan_syntax plan_built name
 unfolding plan_built

@@ -12,7 +12,7 @@ use Rattle.clap.specs.declared.builder.value_parser.ValueParser.TheVariants as v
 use Rattle.clap.proofs.ValueTestLemmas.{accepts-Accepts}
 use Rattle.ro_settings.specs.declared.Settings.{Settings}
 use Rattle.ro_settings.specs.Ranges.{InRange, IsFrom}
-use Rattle.ro_words.specs.Commands.{Asked, Fits, Spelling, asked_of, bench_from, bench_given, bench_spelling, bench_syntax, command_of, given_number, inject_from, inject_given, inject_spelling, inject_syntax, maybe_number, number_in, number_or, plain_from, plain_given, plain_spelling, plan_syntax, run_from, run_given, run_spelling, run_syntax, settings_from, settings_of, spelling_of, to_run, usual_run}
+use Rattle.ro_words.specs.Commands.{Asked, AskedPlan, Fits, Spelling, asked_of, bench_from, bench_given, bench_spelling, bench_syntax, command_of, given_number, inject_from, inject_given, inject_spelling, inject_syntax, maybe_number, number_in, number_or, plain_given, plain_spelling, plan_given, plan_syntax, races_given, races_spelling, run_from, run_given, run_spelling, run_syntax, settings_from, settings_of, spelling_of, to_plain, to_races, to_run, usual_run}
 use Rattle.ro_words.specs.Uses.{Syntax, Text, Use, is_argument, is_once, is_used, is_whole, option_uses, required_of, takes_value, text_of, uses_from, with_use}
 use Rattle.ro_words.proofs.Names.{Grammar, IsValued, by_key, flagged, takes_one, unmet}
 use Rattle.ro_words.proofs.Grammars.{bench_grammar, inject_grammar, plan_grammar, run_grammar}
@@ -80,13 +80,15 @@ run_from_fits (Some exe) (Some settings) given journal asked ranged is = subst F
 run_fits : (given : Text → Option Text) (journal : Bool) (asked : Asked) → run_given given journal ≡ Some asked → Fits asked
 run_fits given journal asked is = run_from_fits (given (codes "exe")) (settings_of given) given journal asked (λ s e. settings_fit given s e) is
 
-plain_from_fits : (exe plan input : Option Text) (asked : Asked) → plain_from exe plan input ≡ Some asked → Fits asked
-plain_from_fits None plan input asked is = cc
-plain_from_fits (Some exe) None input asked is = cc
-plain_from_fits (Some exe) (Some plan) input asked is = subst Fits (some_same _ asked is) tt
+plan_fits : (asks : AskedPlan → Asked) → ((plan : AskedPlan) → Fits (asks plan)) → (o : Option AskedPlan) (asked : Asked) → option_map asks o ≡ Some asked → Fits asked
+plan_fits asks fits None asked is = cc
+plan_fits asks fits (Some plan) asked is = subst Fits (some_same (asks plan) asked is) (fits plan)
 
 plain_fits : (given : Text → Option Text) (journal : Bool) (asked : Asked) → plain_given given journal ≡ Some asked → Fits asked
-plain_fits given journal asked is = plain_from_fits (given (codes "exe")) (given (codes "plan")) (given (codes "input")) asked is
+plain_fits given journal asked is = plan_fits (λ plan. to_plain plan) (λ plan. tt) (plan_given given) asked is
+
+races_fits : (given : Text → Option Text) (journal : Bool) (asked : Asked) → races_given given journal ≡ Some asked → Fits asked
+races_fits given journal asked is = plan_fits (λ plan. to_races plan) (λ plan. tt) (plan_given given) asked is
 
 given_from : (least most n : ℕ) (given : Option Text) → given_number least most given ≡ Some n → IsFrom least most n
 given_from least most n None is = cc
@@ -139,9 +141,10 @@ words_fit (program ∷ []) asked is = cc
 words_fit (program ∷ command ∷ words) asked is =
     by_key (FitsBehind program words asked) (codes "run") command (λ same. subst (FitsBehind program words asked) same (read_fits run_spelling run_fits (uses_from run_syntax words run_syntax.places None) asked)) (λ a.
     by_key (FitsBehind program words asked) (codes "plain") command (λ same. subst (FitsBehind program words asked) same (read_fits plain_spelling plain_fits (uses_from plan_syntax words plan_syntax.places None) asked)) (λ b.
+    by_key (FitsBehind program words asked) (codes "races") command (λ same. subst (FitsBehind program words asked) same (read_fits races_spelling races_fits (uses_from plan_syntax words plan_syntax.places None) asked)) (λ r.
     by_key (FitsBehind program words asked) (codes "inject") command (λ same. subst (FitsBehind program words asked) same (read_fits inject_spelling inject_fits (uses_from inject_syntax words inject_syntax.places None) asked)) (λ c.
     by_key (FitsBehind program words asked) (codes "bench") command (λ same. subst (FitsBehind program words asked) same (read_fits bench_spelling bench_fits (uses_from bench_syntax words bench_syntax.places None) asked)) (λ d.
-    λ e. let bad : None ≡ Some asked = rw (a, b, c, d) at e in cc)))) is
+    λ e. let bad : None ≡ Some asked = rw (a, b, r, c, d) at e in cc))))) is
 
 -- ---- order
 
@@ -260,8 +263,10 @@ spelled_alike command s name value words left is =
     subst (λ (x : Spelling). AlikeIn name value words left x.syntax) (some_same run_spelling s e) (alike_in run_grammar name value words left))) (λ a.
     by_key (AlikeAt name value words left s) (codes "plain") command (λ same. subst (AlikeAt name value words left s) same (λ e.
     subst (λ (x : Spelling). AlikeIn name value words left x.syntax) (some_same plain_spelling s e) (alike_in (plan_grammar (codes "plain")) name value words left))) (λ b.
+    by_key (AlikeAt name value words left s) (codes "races") command (λ same. subst (AlikeAt name value words left s) same (λ e.
+    subst (λ (x : Spelling). AlikeIn name value words left x.syntax) (some_same races_spelling s e) (alike_in (plan_grammar (codes "races")) name value words left))) (λ r.
     by_key (AlikeAt name value words left s) (codes "inject") command (λ same. subst (AlikeAt name value words left s) same (λ e.
     subst (λ (x : Spelling). AlikeIn name value words left x.syntax) (some_same inject_spelling s e) (alike_in inject_grammar name value words left))) (λ c.
     by_key (AlikeAt name value words left s) (codes "bench") command (λ same. subst (AlikeAt name value words left s) same (λ e.
     subst (λ (x : Spelling). AlikeIn name value words left x.syntax) (some_same bench_spelling s e) (alike_in bench_grammar name value words left))) (λ d.
-    λ e. let bad : None ≡ Some s = rw (a, b, c, d) at e in cc)))) is
+    λ e. let bad : None ≡ Some s = rw (a, b, r, c, d) at e in cc))))) is

@@ -108,7 +108,7 @@ bad_command command bad =
       | inl same ↦ let ill : true ≡ false = sym good ∙ subst (λ (c : Text). is_word c ≡ false) (sym ((bytes_eq-Decides key command).0 same)) bad in cc
       | inr differ ↦ differ
     ] in
-    rw (other (codes "run") refl, other (codes "plain") refl, other (codes "inject") refl, other (codes "bench") refl) refl
+    rw (other (codes "run") refl, other (codes "plain") refl, other (codes "races") refl, other (codes "inject") refl, other (codes "bench") refl) refl
 
 pub refused : (words : List Text) → list_all is_word (drop 1 words) ≡ false → command_of words ≡ None
 refused [] bad = refl

@@ -11,7 +11,7 @@ use Rattle.clap.specs.Kinds.{Kinds, or_else}
 use Rattle.clap.specs.declared.error.kind.ErrorKind.TheVariants as kind
 use Rattle.clap.proofs.WalkLemmas.{walk_stopped}
 use Rattle.clap.proofs.FaultLemmas.{stopped_fault}
-use Rattle.ro_words.specs.Commands.{Asked, Spelling, asked_in_words, asked_of, bench_given, command_of, inject_given, plain_given, run_given}
+use Rattle.ro_words.specs.Commands.{Asked, Spelling, asked_in_words, asked_of, bench_given, command_of, inject_given, plain_given, races_given, run_given}
 use Rattle.ro_words.specs.Grammar.{romain_app}
 use Rattle.ro_words.specs.Uses.{Use, is_used, is_word, text_of, uses_from}
 use Rattle.ro_words.proofs.Ends.{final_rows}
@@ -35,7 +35,7 @@ top = record (new_shape (codes "romain")) {
 }
 
 abbrev subs : List Shape
-subs = leaf (codes "run") run_built ∷ leaf (codes "plain") plan_built ∷ leaf (codes "inject") inject_built ∷ leaf (codes "bench") bench_built ∷ []
+subs = leaf (codes "run") run_built ∷ leaf (codes "plain") plan_built ∷ leaf (codes "races") plan_built ∷ leaf (codes "inject") inject_built ∷ leaf (codes "bench") bench_built ∷ []
 
 abbrev whole : App
 whole = record { top = top; subs = subs }
@@ -45,7 +45,7 @@ unfolding run_built run_values plan_built inject_built bench_built
 whole_is = refl
 
 abbrev names : Names
-names = (codes "run", []) ∷ (codes "plain", []) ∷ (codes "inject", []) ∷ (codes "bench", []) ∷ []
+names = (codes "run", []) ∷ (codes "plain", []) ∷ (codes "races", []) ∷ (codes "inject", []) ∷ (codes "bench", []) ∷ []
 
 -- where a walk over the words of the whole command line stops at a command's name
 abbrev stopped_at : Text → List Text → Walk
@@ -64,6 +64,10 @@ run_met = record { walks = refl; passes = refl; entered = refl }
 plain_met : IsMet (plan_grammar (codes "plain"))
 unfolding walked
 plain_met = record { walks = refl; passes = refl; entered = refl }
+
+races_met : IsMet (plan_grammar (codes "races"))
+unfolding walked
+races_met = record { walks = refl; passes = refl; entered = refl }
 
 inject_met : IsMet inject_grammar
 unfolding walked
@@ -97,6 +101,7 @@ pub data SpellsBy (kinds : Kinds) (inner : Option (Text × List Row)) (command :
   of_none : (kinds ≡ [] → ⊥) → command ≡ None → SpellsBy kinds inner command
   of_run : SpelledAs run_grammar run_given kinds inner command → SpellsBy kinds inner command
   of_plain : SpelledAs (plan_grammar (codes "plain")) plain_given kinds inner command → SpellsBy kinds inner command
+  of_races : SpelledAs (plan_grammar (codes "races")) races_given kinds inner command → SpellsBy kinds inner command
   of_inject : SpelledAs inject_grammar inject_given kinds inner command → SpellsBy kinds inner command
   of_bench : SpelledAs bench_grammar bench_given kinds inner command → SpellsBy kinds inner command
 
@@ -150,41 +155,41 @@ module _ (g : Grammar) (asks : (Text → Option Text) → Bool → Option Asked)
       by_answer _ _ _ (make _ _ _) (end_rows g (at idle 1 nothing_held) words) (uses_from g.syntax words g.syntax.places None) stops
       (subst (λ (k : Kinds). Answers g [] k (end_rows g (at idle 1 nothing_held) words) (uses_from g.syntax words g.syntax.places None)) (sym fails) (walk_answers g words are)) refl
 
-stray_top : (x : ℕ) (xs : Text) → (x == 45) ≡ false → bytes_eq (codes "run") (x ∷ xs) ≡ false → bytes_eq (codes "plain") (x ∷ xs) ≡ false → bytes_eq (codes "inject") (x ∷ xs) ≡ false → bytes_eq (codes "bench") (x ∷ xs) ≡ false
+stray_top : (x : ℕ) (xs : Text) → (x == 45) ≡ false → bytes_eq (codes "run") (x ∷ xs) ≡ false → bytes_eq (codes "plain") (x ∷ xs) ≡ false → bytes_eq (codes "races") (x ∷ xs) ≡ false → bytes_eq (codes "inject") (x ∷ xs) ≡ false → bytes_eq (codes "bench") (x ∷ xs) ≡ false
     → turn_fault top names (walk_from nothing_held) (x ∷ xs) ≡ [] → ⊥
-stray_top x xs plain a b c d =
+stray_top x xs plain a b r c d =
     let fails : turn_fault top names (walk_from nothing_held) (x ∷ xs) ≡ kind.UnknownArgument ∷ kind.InvalidSubcommand ∷ [] =
-    rw (a, b, c, d, plain, short_none x xs plain) refl in
+    rw (a, b, r, c, d, plain, short_none x xs plain) refl in
     λ none. let bad : kind.UnknownArgument ∷ kind.InvalidSubcommand ∷ [] ≡ [] = sym fails ∙ none in cc
 
 -- another command's name, or none
-other_turn : (word : Text) → is_word word ≡ true → bytes_eq (codes "run") word ≡ false → bytes_eq (codes "plain") word ≡ false → bytes_eq (codes "inject") word ≡ false → bytes_eq (codes "bench") word ≡ false
+other_turn : (word : Text) → is_word word ≡ true → bytes_eq (codes "run") word ≡ false → bytes_eq (codes "plain") word ≡ false → bytes_eq (codes "races") word ≡ false → bytes_eq (codes "inject") word ≡ false → bytes_eq (codes "bench") word ≡ false
     → turn_fault top names (walk_from nothing_held) word ≡ [] → ⊥
-other_turn word is a b c d = elim (form word is) [
+other_turn word is a b r c d = elim (form word is) [
   | argument x xs e plain ↦
       let differs : (key : Text) → bytes_eq key word ≡ false → bytes_eq key (x ∷ xs) ≡ false = λ key f. subst (λ (w : Text). bytes_eq key w ≡ false) e f in
       subst (λ (w : Text). turn_fault top names (walk_from nothing_held) w ≡ [] → ⊥) (sym e)
-      (stray_top x xs plain (differs (codes "run") a) (differs (codes "plain") b) (differs (codes "inject") c) (differs (codes "bench") d))
+      (stray_top x xs plain (differs (codes "run") a) (differs (codes "plain") b) (differs (codes "races") r) (differs (codes "inject") c) (differs (codes "bench") d))
   | optional y ys e ↦
       subst (λ (w : Text). turn_fault top names (walk_from nothing_held) w ≡ [] → ⊥) (sym e)
       (λ none. let bad : kind.UnknownArgument ∷ [] ≡ [] = none in cc)
 ]
 
 -- what fails where the command's name is none of those
-other_fault : (command : Text) (words : List Text) → is_word command ≡ true → bytes_eq (codes "run") command ≡ false → bytes_eq (codes "plain") command ≡ false → bytes_eq (codes "inject") command ≡ false → bytes_eq (codes "bench") command ≡ false
+other_fault : (command : Text) (words : List Text) → is_word command ≡ true → bytes_eq (codes "run") command ≡ false → bytes_eq (codes "plain") command ≡ false → bytes_eq (codes "races") command ≡ false → bytes_eq (codes "inject") command ≡ false → bytes_eq (codes "bench") command ≡ false
     → built_fault whole nothing_held (command ∷ words) ≡ [] → ⊥
 unfolding walk_fault
-other_fault command words is a b c d = not_empty _ _ (not_empty _ _ (other_turn command is a b c d))
+other_fault command words is a b r c d = not_empty _ _ (not_empty _ _ (other_turn command is a b r c d))
 
 none_fault : built_fault whole nothing_held [] ≡ kind.MissingSubcommand ∷ []
 unfolding walk_fault defaults_fault
 none_fault = refl
 
-other_spells : (program command : Text) (words : List Text) → is_word command ≡ true → bytes_eq (codes "run") command ≡ false → bytes_eq (codes "plain") command ≡ false → bytes_eq (codes "inject") command ≡ false → bytes_eq (codes "bench") command ≡ false
+other_spells : (program command : Text) (words : List Text) → is_word command ≡ true → bytes_eq (codes "run") command ≡ false → bytes_eq (codes "plain") command ≡ false → bytes_eq (codes "races") command ≡ false → bytes_eq (codes "inject") command ≡ false → bytes_eq (codes "bench") command ≡ false
     → SpellsBy (fault_of romain_app (program ∷ command ∷ words)) (subcommand_of romain_app (program ∷ command ∷ words)) (command_of (program ∷ command ∷ words))
-other_spells program command words is a b c d = of_none
-    (λ e. other_fault command words is a b c d (sym (ap (λ (app : App). built_fault app nothing_held (command ∷ words)) whole_is) ∙ e))
-    (rw (a, b, c, d) refl)
+other_spells program command words is a b r c d = of_none
+    (λ e. other_fault command words is a b r c d (sym (ap (λ (app : App). built_fault app nothing_held (command ∷ words)) whole_is) ∙ e))
+    (rw (a, b, r, c, d) refl)
 
 no_words : fault_of romain_app [] ≡ [] → ⊥
 no_words = one_kind _ kind.MissingSubcommand (ap (λ (a : App). built_fault a nothing_held []) whole_is ∙ none_fault)
@@ -202,6 +207,7 @@ spells (program ∷ command ∷ words) are =
     let parts = and_parts (is_word command) (list_all is_word words) are in
     by_key (Spells program words) (codes "run") command (λ same. subst (Spells program words) same (its_spells run_grammar run_given run_met program words parts.1 (λ k i c. of_run))) (λ a.
     by_key (Spells program words) (codes "plain") command (λ same. subst (Spells program words) same (its_spells (plan_grammar (codes "plain")) plain_given plain_met program words parts.1 (λ k i c. of_plain))) (λ b.
+    by_key (Spells program words) (codes "races") command (λ same. subst (Spells program words) same (its_spells (plan_grammar (codes "races")) races_given races_met program words parts.1 (λ k i c. of_races))) (λ r.
     by_key (Spells program words) (codes "inject") command (λ same. subst (Spells program words) same (its_spells inject_grammar inject_given inject_met program words parts.1 (λ k i c. of_inject))) (λ c.
     by_key (Spells program words) (codes "bench") command (λ same. subst (Spells program words) same (its_spells bench_grammar bench_given bench_met program words parts.1 (λ k i c. of_bench))) (λ d.
-    other_spells program command words parts.0 a b c d))))
+    other_spells program command words parts.0 a b r c d)))))

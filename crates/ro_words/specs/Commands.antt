@@ -10,10 +10,10 @@ use Rattle.ro_settings.specs.declared.Settings.{Settings}
 use Rattle.ro_settings.specs.Ranges.{InRange, IsFrom, default_settings}
 use Rattle.ro_words.specs.Uses.{Text, Use, Syntax, is_used, is_whole, text_of, uses_from}
 use Rattle.ro_words.specs.declared.commands.Command.{Command}
-use Rattle.ro_words.specs.declared.commands.Command.TheVariants.{Run, Plain, Inject, Bench}
+use Rattle.ro_words.specs.declared.commands.Command.TheVariants.{Run, Plain, Races, Inject, Bench}
 use Rattle.ro_words.specs.declared.commands.BenchCommand.{BenchCommand}
 use Rattle.ro_words.specs.declared.commands.InjectCommand.{InjectCommand}
-use Rattle.ro_words.specs.declared.commands.PlainCommand.{PlainCommand}
+use Rattle.ro_words.specs.declared.commands.PlanCommand.{PlanCommand}
 use Rattle.ro_words.specs.declared.commands.RunCommand.{RunCommand}
 use Rattle.ro_words.specs.declared.commands.WordsError.{WordsError}
 use Rattle.ro_words.specs.declared.commands.WordsError.TheVariants.{Bad, NoMemory}
@@ -79,8 +79,8 @@ pub record AskedRun : Type 0 where
   pub settings : Settings
   pub journal : Bool
 
--- the plan of a journal that is to be run on the unreplicated machine
-pub record AskedPlain : Type 0 where
+-- the plan of a journal that is to be followed on the unreplicated machine
+pub record AskedPlan : Type 0 where
   pub executable : Text
   pub plan : Text
   pub input : Option Text
@@ -100,7 +100,8 @@ pub record AskedBench : Type 0 where
 -- what is asked for
 pub data Asked : Type 0 where
   to_run : AskedRun → Asked
-  to_plain : AskedPlain → Asked
+  to_plain : AskedPlan → Asked
+  to_races : AskedPlan → Asked
   to_inject : AskedInject → Asked
   to_bench : AskedBench → Asked
 
@@ -129,12 +130,18 @@ run_from _ _ given journal = None
 abbrev pub run_given : (Text → Option Text) → Bool → Option Asked
 run_given given journal = run_from (given (codes "exe")) (settings_of given) given journal
 
-abbrev pub plain_from : Option Text → Option Text → Option Text → Option Asked
-plain_from (Some executable) (Some plan) input = Some (to_plain (record { executable = executable; plan = plan; input = input }))
-plain_from _ _ input = None
+abbrev pub plan_from : Option Text → Option Text → Option Text → Option AskedPlan
+plan_from (Some executable) (Some plan) input = Some (record { executable = executable; plan = plan; input = input })
+plan_from _ _ input = None
+
+abbrev pub plan_given : (Text → Option Text) → Option AskedPlan
+plan_given given = plan_from (given (codes "exe")) (given (codes "plan")) (given (codes "input"))
 
 abbrev pub plain_given : (Text → Option Text) → Bool → Option Asked
-plain_given given journal = plain_from (given (codes "exe")) (given (codes "plan")) (given (codes "input"))
+plain_given given journal = option_map (λ plan. to_plain plan) (plan_given given)
+
+abbrev pub races_given : (Text → Option Text) → Bool → Option Asked
+races_given given journal = option_map (λ plan. to_races plan) (plan_given given)
 
 abbrev pub inject_from : Option ℕ → Option ℕ → Option Text → Option (Option ℕ) → Option Asked
 inject_from (Some seed) (Some count) (Some executable) (Some replica) =
@@ -190,6 +197,9 @@ run_spelling = record { name = codes "run"; syntax = run_syntax; given = run_giv
 abbrev pub plain_spelling : Spelling
 plain_spelling = record { name = codes "plain"; syntax = plan_syntax; given = plain_given }
 
+abbrev pub races_spelling : Spelling
+races_spelling = record { name = codes "races"; syntax = plan_syntax; given = races_given }
+
 abbrev pub inject_spelling : Spelling
 inject_spelling = record { name = codes "inject"; syntax = inject_syntax; given = inject_given }
 
@@ -197,7 +207,7 @@ abbrev pub bench_spelling : Spelling
 bench_spelling = record { name = codes "bench"; syntax = bench_syntax; given = bench_given }
 
 abbrev pub spellings : List Spelling
-spellings = run_spelling ∷ plain_spelling ∷ inject_spelling ∷ bench_spelling ∷ []
+spellings = run_spelling ∷ plain_spelling ∷ races_spelling ∷ inject_spelling ∷ bench_spelling ∷ []
 
 -- what the uses ask for, where they are whole
 abbrev pub asked_of : Spelling → List Use → Option Asked
@@ -230,8 +240,8 @@ run_by run = record {
   journal = run.journal;
 }
 
-abbrev pub plain_by : PlainCommand → AskedPlain
-plain_by plain = record { executable = plain.executable.now; plan = plain.plan.now; input = text_in plain.input }
+abbrev pub plan_by : PlanCommand → AskedPlan
+plan_by plan = record { executable = plan.executable.now; plan = plan.plan.now; input = text_in plan.input }
 
 abbrev pub inject_by : InjectCommand → AskedInject
 inject_by inject = record { seed = inject.seed; count = inject.count; executable = inject.executable.now; replica = inject.replica }
@@ -242,7 +252,8 @@ bench_by bench = record { seed = bench.seed; size = bench.size }
 -- what a command of the code asks for
 abbrev pub asked_by : Command → Asked
 asked_by (Run run) = to_run (run_by run)
-asked_by (Plain plain) = to_plain (plain_by plain)
+asked_by (Plain plain) = to_plain (plan_by plain)
+asked_by (Races races) = to_races (plan_by races)
 asked_by (Inject inject) = to_inject (inject_by inject)
 asked_by (Bench bench) = to_bench (bench_by bench)
 
@@ -250,6 +261,7 @@ asked_by (Bench bench) = to_bench (bench_by bench)
 abbrev pub Fits : Asked → Type 0
 Fits (to_run run) = InRange run.settings
 Fits (to_plain plain) = Unit {0}
+Fits (to_races races) = Unit {0}
 Fits (to_inject inject) = IsFrom 1 256 inject.count × IfSome inject.replica (IsFrom 0 2)
 Fits (to_bench bench) = IsFrom 1 2000 bench.size
 

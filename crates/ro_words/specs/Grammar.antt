@@ -39,9 +39,9 @@ romain_top shape =
     record shape { disable_help_flag = true; disable_help_subcommand = true; subcommand_required = true }
 
 abbrev pub romain_app : App
-romain_app = with_subcommand (with_subcommand (with_subcommand (with_subcommand (on_top romain_top (new_app (codes "romain")))
-    (shape_of (codes "run") run_syntax)) (shape_of (codes "plain") plan_syntax)) (shape_of (codes "inject") inject_syntax))
-    (shape_of (codes "bench") bench_syntax)
+romain_app = with_subcommand (with_subcommand (with_subcommand (with_subcommand (with_subcommand (on_top romain_top (new_app (codes "romain")))
+    (shape_of (codes "run") run_syntax)) (shape_of (codes "plain") plan_syntax)) (shape_of (codes "races") plan_syntax))
+    (shape_of (codes "inject") inject_syntax)) (shape_of (codes "bench") bench_syntax)
 
 -- the command is read as the app says, and no argument of it is global
 abbrev pub Reads : App → Command → Type 0

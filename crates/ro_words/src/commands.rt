@@ -4,7 +4,7 @@ ghost use Rattle.clap.specs.Matches.{first_value, found_of, one_text};
 ghost use Rattle.clap.specs.Simple.{subcommand_of, subcommand_rows_of};
 ghost use Rattle.clap.specs.Values.{bool_text, kind_of};
 ghost use Rattle.clap.specs.Walk.{Row, first_of, one_of};
-ghost use Rattle.ro_words.specs.Commands.{Fits, asked_by, bench_given, command_of, inject_given, plain_given, refusal_of, run_given};
+ghost use Rattle.ro_words.specs.Commands.{Fits, asked_by, bench_given, command_of, inject_given, plain_given, plan_by, plan_given, races_given, refusal_of, run_given};
 ghost use Rattle.ro_words.specs.Grammar.{romain_app};
 ghost use Rattle.ro_words.specs.Uses.{texts_of};
 ghost use Rattle.std.specs.Prelude.{◌≡◌, ◌≢◌, ◌⊎◌, Bool, List, IfErr, IfOk, IfSome, None, Some, [], codes, false, option_map};
@@ -23,7 +23,9 @@ pub enum Command<'a> {
     /// To run an executable as replicas.
     Run(RunCommand<'a>),
     /// To run the plan of a journal on the unreplicated machine.
-    Plain(PlainCommand<'a>),
+    Plain(PlanCommand<'a>),
+    /// To look for the first race of the plan of a journal.
+    Races(PlanCommand<'a>),
     /// To draw faults.
     Inject(InjectCommand<'a>),
     /// To run a made executable as replicas.
@@ -44,9 +46,9 @@ pub struct RunCommand<'a> {
     pub journal: bool,
 }
 
-/// The plan of a journal that is to be run on the unreplicated machine.
+/// The plan of a journal that is to be followed on the unreplicated machine.
 #[derive(Clone, Copy, PartialEq, Eq, Debug)]
-pub struct PlainCommand<'a> {
+pub struct PlanCommand<'a> {
     /// The name of the executable.
     pub executable: &'a str,
     /// The name of the file with the journal.
@@ -138,6 +140,8 @@ fn command_in<'a>(matches: &ArgMatches<'a>) -> Option<Command<'a>>
         → option_map asked_by result ≡ run_given (λ name. first_of name rows) journal }
     ensures plain { (rows : List Row) → subcommand_rows_of matches.now ≡ Some (codes "plain", rows)
         → option_map asked_by result ≡ plain_given (λ name. first_of name rows) false }
+    ensures races { (rows : List Row) → subcommand_rows_of matches.now ≡ Some (codes "races", rows)
+        → option_map asked_by result ≡ races_given (λ name. first_of name rows) false }
     ensures inject { (rows : List Row) → subcommand_rows_of matches.now ≡ Some (codes "inject", rows)
         → option_map asked_by result ≡ inject_given (λ name. first_of name rows) false }
     ensures bench { (rows : List Row) → subcommand_rows_of matches.now ≡ Some (codes "bench", rows)
@@ -148,6 +152,8 @@ fn command_in<'a>(matches: &ArgMatches<'a>) -> Option<Command<'a>>
         run_command(run)
     } else if let Some(plain) = matches.subcommand_matches("plain") {
         plain_command(plain)
+    } else if let Some(races) = matches.subcommand_matches("races") {
+        races_command(races)
     } else if let Some(inject) = matches.subcommand_matches("inject") {
         inject_command(inject)
     } else {
@@ -175,11 +181,26 @@ fn plain_command<'a>(matches: &ArgMatches<'a>) -> Option<Command<'a>>
     ensures asked { option_map asked_by result ≡ plain_given (first_value (found_of matches.now)) false }
     ensures in_range { IfSome result (λ command. Fits (asked_by command)) }
 {
-    Some(Command::Plain(PlainCommand {
+    Some(Command::Plain(plan_command(matches)?))
+}
+
+// The search for a race that the matches ask for.
+fn races_command<'a>(matches: &ArgMatches<'a>) -> Option<Command<'a>>
+    ensures asked { option_map asked_by result ≡ races_given (first_value (found_of matches.now)) false }
+    ensures in_range { IfSome result (λ command. Fits (asked_by command)) }
+{
+    Some(Command::Races(plan_command(matches)?))
+}
+
+// The plan that the matches name, and what it is to be followed on.
+fn plan_command<'a>(matches: &ArgMatches<'a>) -> Option<PlanCommand<'a>>
+    ensures { option_map plan_by result ≡ plan_given (first_value (found_of matches.now)) }
+{
+    Some(PlanCommand {
         executable: matches.get_str("exe")?,
         plan: matches.get_str("plan")?,
         input: matches.get_str("input"),
-    }))
+    })
 }
 
 // The draw that the matches ask for.

@@ -17,6 +17,7 @@ pub(crate) fn grammar<'a>(alloc: Global) -> Result<Command<'a>, AllocError>
         .subcommand_required(true)
         .subcommand(run_grammar(alloc)?)?
         .subcommand(plan_grammar(alloc, "plain")?)?
+        .subcommand(plan_grammar(alloc, "races")?)?
         .subcommand(inject_grammar(alloc)?)?
         .subcommand(bench_grammar(alloc)?)
 }

@@ -10,7 +10,7 @@ mod settings;
 mod shapes;
 
 pub use commands::{
-    BenchCommand, Command, InjectCommand, PlainCommand, RunCommand, WordsError, parse_words,
+    BenchCommand, Command, InjectCommand, PlanCommand, RunCommand, WordsError, parse_words,
 };
 pub use laws::{numbers_lie_in_range, order_is_free, run_alone_is_usual, spellings_agree};
 

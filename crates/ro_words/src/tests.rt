@@ -184,7 +184,7 @@ fn spells(rt: HostRuntime) {
 const OTHERS: &[(&[&str], Command<'static>)] = &[
     (
         &["romain", "plain", "p0", "--plan", "j"],
-        Command::Plain(PlainCommand {
+        Command::Plain(PlanCommand {
             executable: "p0",
             plan: "j",
             input: None,
@@ -192,7 +192,23 @@ const OTHERS: &[(&[&str], Command<'static>)] = &[
     ),
     (
         &["romain", "plain", "--input", "f", "--plan=j", "p0"],
-        Command::Plain(PlainCommand {
+        Command::Plain(PlanCommand {
+            executable: "p0",
+            plan: "j",
+            input: Some("f"),
+        }),
+    ),
+    (
+        &["romain", "races", "p0", "--plan", "j"],
+        Command::Races(PlanCommand {
+            executable: "p0",
+            plan: "j",
+            input: None,
+        }),
+    ),
+    (
+        &["romain", "races", "--input", "f", "--plan=j", "p0"],
+        Command::Races(PlanCommand {
             executable: "p0",
             plan: "j",
             input: Some("f"),
@@ -299,6 +315,10 @@ const NOT_COMMANDS: &[&[&str]] = &[
     &["romain", "plain", "p0", "--plan", "j", "--journal"],
     &["romain", "plain", "p0", "--plan", "j", "q0"],
     &["romain", "plain", "p0", "--plan", "j", "--faults", "f"],
+    &["romain", "races", "p0"],
+    &["romain", "races", "--plan", "j"],
+    &["romain", "races", "p0", "--plan", "j", "--journal"],
+    &["romain", "races", "p0", "--plan", "j", "q0"],
     &["romain", "inject", "42", "0", "p0"],
     &["romain", "inject", "42", "257", "p0"],
     &["romain", "inject", "42", "1"],

@@ -1,7 +1,7 @@
 use Rattle.std.proofs.Common.{option_map}
 use Rattle.clap.specs.Matches.{found_of}
 use Rattle.clap.specs.Walk.{rows_of}
-use Rattle.ro_words.specs.Commands.{asked_by, bench_given, inject_given, plain_given}
+use Rattle.ro_words.specs.Commands.{asked_by, bench_given, inject_given, plain_given, races_given}
 use Rattle.ro_words.proofs.Found.{inner_rows, read_given, read_rows}
 use Rattle.ro_words.proofs.commands.command_in.Goals as goal
 
@@ -15,10 +15,15 @@ returns-in-Some-subcommand_matches-clause-plain c = λ rows is.
     let same = inner_rows _ _ (rows_of (found_of c.in-Some-subcommand_matches.plain.now)) rows is c.in-Some-subcommand_matches.ensures.rows in
     read_given (found_of c.in-Some-subcommand_matches.plain.now) rows (option_map asked_by c.plain_command.result) plain_given same c.plain_command.ensures.asked
 
-pub returns-in-Some-subcommand_matches-2-clause-inject : goal.returns-in-Some-subcommand_matches-2-clause-inject
-returns-in-Some-subcommand_matches-2-clause-inject c = λ rows is.
-    let same = inner_rows _ _ (rows_of (found_of c.in-Some-subcommand_matches-2.inject.now)) rows is c.in-Some-subcommand_matches-2.ensures.rows in
-    read_given (found_of c.in-Some-subcommand_matches-2.inject.now) rows (option_map asked_by c.inject_command.result) inject_given same c.inject_command.ensures.asked
+pub returns-in-Some-subcommand_matches-2-clause-races : goal.returns-in-Some-subcommand_matches-2-clause-races
+returns-in-Some-subcommand_matches-2-clause-races c = λ rows is.
+    let same = inner_rows _ _ (rows_of (found_of c.in-Some-subcommand_matches-2.races.now)) rows is c.in-Some-subcommand_matches-2.ensures.rows in
+    read_given (found_of c.in-Some-subcommand_matches-2.races.now) rows (option_map asked_by c.races_command.result) races_given same c.races_command.ensures.asked
+
+pub returns-in-Some-subcommand_matches-3-clause-inject : goal.returns-in-Some-subcommand_matches-3-clause-inject
+returns-in-Some-subcommand_matches-3-clause-inject c = λ rows is.
+    let same = inner_rows _ _ (rows_of (found_of c.in-Some-subcommand_matches-3.inject.now)) rows is c.in-Some-subcommand_matches-3.ensures.rows in
+    read_given (found_of c.in-Some-subcommand_matches-3.inject.now) rows (option_map asked_by c.inject_command.result) inject_given same c.inject_command.ensures.asked
 
 pub returns-in_ok-subcommand_matches-clause-bench : goal.returns-in_ok-subcommand_matches-clause-bench
 returns-in_ok-subcommand_matches-clause-bench c = λ rows is.

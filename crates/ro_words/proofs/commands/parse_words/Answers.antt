@@ -21,12 +21,12 @@ pub returns-clause-spelled : goal.returns-clause-spelled
 returns-clause-spelled c =
     let spelled = spells (texts_of c.args.words.now) (sym c.are_words.ensures ∙ c.if-not-are_words.false) in
     let is : option_map asked_by c.command_in.result ≡ command_of (texts_of c.args.words.now) =
-    read_as_spelled _ _ (subcommand_rows_of c.in_ok-matches.matches) _ _ spelled c.in_ok-matches.ensures.parsed c.in_ok-matches.ensures.rows (record { run = c.command_in.ensures.run; plain = c.command_in.ensures.plain; inject = c.command_in.ensures.inject; bench = c.command_in.ensures.bench }) in
+    read_as_spelled _ _ (subcommand_rows_of c.in_ok-matches.matches) _ _ spelled c.in_ok-matches.ensures.parsed c.in_ok-matches.ensures.rows (record { run = c.command_in.ensures.run; plain = c.command_in.ensures.plain; races = c.command_in.ensures.races; inject = c.command_in.ensures.inject; bench = c.command_in.ensures.bench }) in
     given_ok c.command_in.result c.ok_or.result _ c.ok_or.ensures.ok_part is
 
 pub returns-clause-refused : goal.returns-clause-refused
 returns-clause-refused c =
     let spelled = spells (texts_of c.args.words.now) (sym c.are_words.ensures ∙ c.if-not-are_words.false) in
     let is : option_map asked_by c.command_in.result ≡ command_of (texts_of c.args.words.now) =
-    read_as_spelled _ _ (subcommand_rows_of c.in_ok-matches.matches) _ _ spelled c.in_ok-matches.ensures.parsed c.in_ok-matches.ensures.rows (record { run = c.command_in.ensures.run; plain = c.command_in.ensures.plain; inject = c.command_in.ensures.inject; bench = c.command_in.ensures.bench }) in
+    read_as_spelled _ _ (subcommand_rows_of c.in_ok-matches.matches) _ _ spelled c.in_ok-matches.ensures.parsed c.in_ok-matches.ensures.rows (record { run = c.command_in.ensures.run; plain = c.command_in.ensures.plain; races = c.command_in.ensures.races; inject = c.command_in.ensures.inject; bench = c.command_in.ensures.bench }) in
     given_refused c.command_in.result c.ok_or.result _ c.ok_or.ensures.ok_part is

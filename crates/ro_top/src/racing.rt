@@ -1,0 +1,40 @@
+//! The first race of a plan.
+ghost use Rattle.std.specs.Prelude.{◌≤◌, length};
+ghost use Rattle.ro_journal.specs.Plan.{plan_of};
+ghost use Rattle.ro_top.specs.Causes.{RacesCause};
+
+use crate::asking::Replay;
+use ro_image::Executable;
+use ro_journal::Entry;
+use ro_machine::{TooLong, plan_steps};
+use ro_races::{Found, RacesErr, check};
+use ro_report::Answer;
+use std::alloc::Global;
+
+// Checks the plan of a journal, unless it is too long.
+pub(crate) fn race(alloc: Global, replay: Replay) -> Answer
+    ensures { RacesCause (record { image = replay.image; input = replay.input.items }) replay.journal.items result }
+{
+    let Replay {
+        image,
+        input,
+        journal,
+    } = replay;
+    match plan_steps(journal.as_slice()) {
+        Ok(_) => first_race(alloc, image, input.as_slice(), journal.as_slice()),
+        Err(TooLong { steps, next }) => Answer::Limit { steps, next },
+    }
+}
+
+// What the check of a plan comes to.
+fn first_race(alloc: Global, image: Executable, input: &[u8], journal: &[Entry]) -> Answer
+    requires { length (plan_of journal.now) ≤ 1000000000 }
+    ensures { RacesCause (record { image = image; input = input.now }) journal.now result }
+{
+    match check(alloc, image, input, journal) {
+        Ok(Found::NoRace) => Answer::NoRace,
+        Ok(Found::Pair { i, j, byte }) => Answer::Race { i, j, byte },
+        Err(RacesErr::NoStep { place }) => Answer::NoStep { place },
+        Err(RacesErr::NoMemory) => Answer::NoMemory,
+    }
+}

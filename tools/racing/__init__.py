@@ -1,0 +1,1 @@
+"""Data races in a program's own terms."""

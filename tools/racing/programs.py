@@ -1,0 +1,156 @@
+"""Small programs with threads: executables by their words and symbols, drawn programs, and drawn orders of their threads."""
+import random
+import struct
+
+from fuzzing.programs import BASE, HEADERS, PAGE, form_i, form_j, form_s, put
+from fuzzing.readers import NAMES
+from racing.machine import EBREAK, ECALL, NoStep, Plan, Replay
+from racing.symbols import FUNCTION, Symbol
+
+CODE = BASE + HEADERS
+GLOBAL = 0x10  # of a symbol, besides its type
+
+
+def executable(words: list[int], symbols: list[Symbol]) -> bytes:
+    """One segment that may be read, written and executed, which is the whole file up to its last word; and a section of it."""
+    size = HEADERS + 4 * len(words)
+    table, strings = bytes(16), b"\0"
+    for symbol in symbols:
+        table += struct.pack("<IIIBBH", len(strings), symbol.start, symbol.end - symbol.start, GLOBAL | symbol.kind, 0, 1)
+        strings += symbol.name.encode() + b"\0"
+    sections = [(0, 0, 0, 0, 0, 0, 0, 0, 0, 0), (0, 1, 7, CODE, HEADERS, 4 * len(words), 0, 0, 4, 0),
+                (0, 2, 0, 0, size, len(table), 3, 1, 4, 16), (0, 3, 0, 0, size + len(table), len(strings), 0, 0, 1, 0)]
+    place = size + len(table) + len(strings)
+    header = b"\x7fELF\1\1\1" + bytes(9) + struct.pack("<HHIIIIIHHHHHH", 2, 243, 1, CODE, 52, place, 0, 52, 32, 1, 40,
+                                                       len(sections), 0)
+    segment = struct.pack("<8I", 1, 0, BASE, BASE, size, size, 7, PAGE)
+    return (header + segment + struct.pack(f"<{len(words)}I", *words) + table + strings
+            + b"".join(struct.pack("<10I", *section) for section in sections))
+
+
+# ---- Drawn programs
+
+STUBS = {name.decode(): CODE + 4 + 4 * i for i, name in enumerate(NAMES)}
+SHARED = CODE + 4 * (1 + len(NAMES))  # two words that all threads access
+MUTEXES = [SHARED + 8, SHARED + 12]
+FIRST, ROOM = SHARED + 16, 4 * 100  # thread 0's function, and the room of each
+POINTER, VALUE, RETURN_PLACE = 9, 5, 18  # registers: SHARED, what is loaded and stored, and where a thread returns to
+NOP = 0x13
+
+
+class Function:
+    """What a thread runs. It begins with a word that others may store to, which changes nothing."""
+
+    def __init__(self, number: int):
+        self.start = FIRST + ROOM * number
+        self.words = [NOP, *put(POINTER, SHARED), form_i(0, 1, 0, RETURN_PLACE, 0x13)]
+
+    def call(self, which: str | int, *arguments: int):
+        """A call by its name or its number."""
+        for register, value in enumerate(arguments, 10):
+            self.words += put(register, value)
+        if isinstance(which, int):
+            self.words += put(17, which) + [ECALL]
+        else:
+            self.words.append(form_j(STUBS[which] - self.start - 4 * len(self.words), 1))
+
+    def whole(self) -> list[int]:
+        assert 4 * len(self.words) <= ROOM
+        return self.words + [EBREAK] * (ROOM // 4 - len(self.words))
+
+
+def draw_access(draw: random.Random, function: Function):
+    """A load or a store, or seldom a call that reads or writes bytes, or a store to the first word of a function."""
+    size = draw.choice((0, 0, 1, 2))
+    place, kind = draw.randrange(8 >> size) << size, draw.randrange(20)
+    if kind < 9:
+        function.words.append(form_i(place, POINTER, size, VALUE, 0x03))
+    elif kind < 17:
+        function.words.append(form_s(place, VALUE, POINTER, size))
+    elif kind == 17:
+        function.call(63, draw.choice((0, 0, 0, 1)), SHARED + place, draw.randrange(6))
+    elif kind == 18:
+        function.call(64, 1, SHARED + place, draw.randrange(6))
+    else:
+        function.words += put(6, FIRST + ROOM * draw.randrange(3)) + put(VALUE, NOP) + [form_s(0, VALUE, 6, 2)]
+
+
+def draw_part(draw: random.Random, function: Function):
+    """Accesses, mostly under a mutex, which is now and then another one or not locked at all."""
+    kind = draw.randrange(8)
+    mutex = draw.choice(MUTEXES) if draw.randrange(4) == 0 else MUTEXES[0]
+    if kind < 6:
+        function.call("pthread_mutex_trylock" if kind == 0 else "pthread_mutex_lock", mutex)
+    for _ in range(draw.randint(1, 2)):
+        draw_access(draw, function)
+    if kind < 7:
+        function.call("pthread_mutex_unlock", mutex)
+
+
+def draw_end(draw: random.Random, function: Function, is_first: bool):
+    kind = draw.randrange(6)
+    if kind < 4:
+        function.call("pthread_exit", draw.randrange(100))
+    elif kind == 4 and not is_first:
+        function.words.append(form_i(0, RETURN_PLACE, 0, 0, 0x67))
+    else:
+        function.call(93, 0)
+
+
+def draw_program(draw: random.Random) -> bytes:
+    """An executable whose thread 0 makes a second thread, and thread 0 or that one perhaps a third; each does a few parts."""
+    makers = {1: 0, 2: draw.choice((0, 1, None))}
+    functions = [Function(number) for number in range(3)]
+    for number, function in enumerate(functions):
+        deeds = [("part", 0)] * draw.randint(0, 3)
+        deeds += [("make", made) for made, maker in makers.items() if maker == number]
+        draw.shuffle(deeds)
+        deeds += [("join", draw.randrange(3)) for _ in range(draw.choice((0, 1, 1, 2)) if number == 0 else draw.randrange(2))]
+        deeds += [("part", 0)] * draw.randint(0, 1)
+        for what, other in deeds:
+            if what == "part":
+                draw_part(draw, function)
+            elif what == "make":
+                function.call("pthread_create", draw.choice((MUTEXES[1], SHARED, SHARED + 4)), 0, FIRST + ROOM * other, 0)
+            else:
+                function.call("pthread_join", other, draw.choice((0, 0, SHARED, SHARED + 4)))
+        draw_end(draw, function, number == 0)
+    words = [form_j(FIRST - CODE, 0)] + [EBREAK] * len(NAMES) + [0] * 4
+    words += [word for function in functions for word in function.whole()]
+    return executable(words, [Symbol(address, address + 4, FUNCTION, name) for name, address in STUBS.items()])
+
+
+# ---- Drawn orders
+
+def draw_plan(draw: random.Random, machine: Replay, most: int) -> Plan:
+    """Takes steps of drawn threads, at most so many, until none has one."""
+    plan, thread, stays = [], 0, draw.choice((0, 3, 10, 30))
+    while sum(count for _, count in plan) < most:
+        if draw.randrange(stays + 1) == 0:
+            thread = draw.randrange(len(machine.threads))
+        numbers = [thread, *draw.sample(range(len(machine.threads)), len(machine.threads))]
+        thread = next((number for number in numbers if takes(machine, number)), None)
+        if thread is None:
+            break
+        if plan and plan[-1][0] == thread:
+            plan[-1] = thread, plan[-1][1] + 1
+        else:
+            plan.append((thread, 1))
+    return plan
+
+
+def takes(machine: Replay, thread: int) -> bool:
+    try:
+        machine.take(thread)
+    except NoStep:
+        return False
+    return True
+
+
+def draw_journal(draw: random.Random, plan: Plan) -> bytes:
+    """A journal with this plan, in drawn forms of its lines."""
+    lines = ["romain 1"]
+    for thread, count in plan:
+        forms = [f"vote {thread} {count} 0 - watch", f"vote {thread} {count - 1} 1 0 served"]
+        lines.append(draw.choice(forms + [f"free {thread}"] if count == 1 else forms))
+    return "".join(line + "\n" for line in lines).encode()

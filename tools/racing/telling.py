@@ -1,0 +1,112 @@
+"""A race in plain sentences. Addresses and what is behind a `+` are hexadecimal."""
+import collections.abc
+import dataclasses
+
+from racing.machine import Relation, Replay, Step
+from racing.order import Placed, last_before
+from racing.symbols import Executable
+
+
+class NoRace(Exception):
+    """What was called a race is none, and why."""
+
+
+@dataclasses.dataclass
+class Race:
+    """Two steps of a plan on one byte, each with its place in the plan."""
+    first: Placed
+    second: Placed
+    byte: int
+    before: Placed | None  # of the first's thread, the last step that is ordered before the second
+
+
+def race_at(steps: collections.abc.Iterable[Step], first: int, second: int, byte: int) -> Race:
+    """The race at two places of a plan, whose steps are taken up to the second."""
+    kept, earlier = {}, []
+    for place, step in enumerate(steps):
+        if place in (first, second):
+            kept[place] = step
+        if place == second:
+            break
+        if step.relation is not Relation.NOTHING:
+            earlier.append((place, step))
+    if not first < second or len(kept) < 2:
+        raise NoRace(f"The plan has no steps {first} and {second} in this order.")
+    one, other = kept[first], kept[second]
+    if one.thread == other.thread:
+        raise NoRace(f"Steps {first} and {second} are both of thread {one.thread}.")
+    if not one.conflicts(other, byte):
+        raise NoRace(f"Steps {first} and {second} don't both access the byte at {byte:08x}, one of them to write it.")
+    before = last_before(earlier, one.thread, other)
+    if before and before[0] >= first:
+        raise NoRace(f"Step {first} is ordered before step {second}.")
+    return Race((first, one), (second, other), byte, before)
+
+
+@dataclasses.dataclass
+class Teller:
+    executable: Executable
+    machine: Replay
+
+    def tell(self, race: Race) -> str:
+        (first, one), (second, other), byte = race.first, race.second, race.byte
+        parts = [
+            f"A data race on the byte at {byte:08x} (decimal {byte}), {self.lies(byte)}: thread {one.thread}"
+            f" {verb(one, byte)} it at step {first}, thread {other.thread} {verb(other, byte)} it at step {second}, and"
+            " nothing orders the two.",
+            *(f"Step {place}: thread {step.thread} {self.does(step)}. {accesses(step, byte)} {self.holds(step)}"
+              for place, step in (race.first, race.second)),
+            self.order(race),
+        ]
+        return "\n\n".join(parts) + "\n"
+
+    def lies(self, byte: int) -> str:
+        name, owner = self.executable.name_of(byte), self.machine.stack_of(byte)
+        if name:
+            return name
+        if self.machine.is_heap(byte):
+            return f"in the heap, at heap+{byte - self.machine.heap:x}"
+        return "which no symbol names" if owner is None else f"in the stack of thread {owner}"
+
+    def does(self, step: Step) -> str:
+        """The instruction, or the call."""
+        if step.word is None:
+            return f"calls {step.call} from {self.place(step.caller)}"
+        text = self.executable.text_of(step.pc, step.word)
+        call = f", a call of {step.call}" if step.call else ""
+        return f"runs the instruction at {self.place(step.pc)}: {step.word:08x}{f', {text}' if text else ''}{call}"
+
+    def place(self, address: int) -> str:
+        """An address of code, with its function and line."""
+        name, line = self.executable.name_of(address), self.executable.line_of(address)
+        return f"{address:08x}{f', {name}' if name else ''}{f' ({line})' if line else ''}"
+
+    def holds(self, step: Step) -> str:
+        named = [f"{mutex:08x}{f' ({name})' if (name := self.executable.name_of(mutex)) else ''}" for mutex in step.held]
+        held = {0: "no mutex", 1: "the mutex at "}.get(len(named), "the mutexes at ") + " and ".join(named)
+        return f"The thread holds {held}."
+
+    def order(self, race: Race) -> str:
+        thread, second = race.first[1].thread, race.second[0]
+        if race.before is None:
+            return f"No step of thread {thread} is ordered before step {second}."
+        place, step = race.before
+        return f"Of thread {thread}, step {place}, a call of {step.call}, is the last that is ordered before step {second}."
+
+
+def verb(step: Step, byte: int) -> str:
+    return "writes" if step.writes(byte) else "reads"
+
+
+def accesses(step: Step, byte: int) -> str:
+    """How a step accesses a byte."""
+    whats = {"read": "with bytes of the input", "write": "for the output", "pthread_create": "with the new thread's number",
+             "pthread_join": f"with the exit value of thread {step.subject}"}
+    ways = [("writes", step.stored, whats.get(step.call)), ("reads", step.loaded, whats.get(step.call)),
+            ("reads", step.code, "as a part of the instruction")]
+    told = []
+    for does, stretch, what in ways:
+        if byte in stretch:
+            among = f", one of {len(stretch)} from {stretch.start:08x} on" if len(stretch) > 1 else ""
+            told.append(f"{does} the byte{among}{f', {what}' if what else ''}")
+    return f"It {', and '.join(told)}."

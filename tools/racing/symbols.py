@@ -39,7 +39,7 @@ def symbols_of(file: bytes) -> list[Symbol]:
     strings = sections[table[6]][4]
     found = []
     for name, value, size, info, _, section in struct.iter_unpack("<IIIBBH", file[table[4]:table[4] + table[5]]):
-        text = file[strings + name:file.index(b"\0", strings + name)].decode(errors="replace")
+        text = file[strings + name:file.find(b"\0", strings + name)].decode(errors="replace")
         if info & 15 in (NO_TYPE, OBJECT, FUNCTION) and UNDEFINED < section < min(RESERVED, count) and is_telling(text):
             _, _, flags, start, _, length, *_ = sections[section]
             end = start + length if flags & ALLOCATED else value + 1

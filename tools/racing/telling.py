@@ -1,4 +1,4 @@
-"""A race in plain sentences. Addresses and what is behind a `+` are hexadecimal."""
+"""A race in plain sentences, one a line. Addresses and what is behind a `+` are hexadecimal."""
 import collections.abc
 import dataclasses
 
@@ -51,14 +51,14 @@ class Teller:
     def tell(self, race: Race) -> str:
         (first, one), (second, other), byte = race.first, race.second, race.byte
         parts = [
-            f"A data race on the byte at {byte:08x} (decimal {byte}), {self.lies(byte)}: thread {one.thread}"
-            f" {verb(one, byte)} it at step {first}, thread {other.thread} {verb(other, byte)} it at step {second}, and"
-            " nothing orders the two.",
-            *(f"Step {place}: thread {step.thread} {self.does(step)}. {accesses(step, byte)} {self.holds(step)}"
+            [f"A data race on the byte at {byte:08x} (decimal {byte}), {self.lies(byte)}.",
+             f"Thread {one.thread} {verb(one, byte)} it at step {first}, thread {other.thread} {verb(other, byte)} it at step"
+             f" {second}, and nothing orders the two."],
+            *([f"Step {place}: thread {step.thread} {self.does(step)}.", accesses(step, byte), self.holds(step)]
               for place, step in (race.first, race.second)),
-            self.order(race),
+            [self.order(race)],
         ]
-        return "\n\n".join(parts) + "\n"
+        return "\n".join("".join(sentence + "\n" for sentence in part) for part in parts)
 
     def lies(self, byte: int) -> str:
         name, owner = self.executable.name_of(byte), self.machine.stack_of(byte)

@@ -48,8 +48,8 @@ def ask(arguments: argparse.Namespace) -> tuple[int, str]:
 def explain(arguments: argparse.Namespace, race: list[int]) -> str:
     executable = Executable(arguments.exe)
     machine = Replay(executable.data, arguments.input.read_bytes() if arguments.input else b"")
-    executable.read_symbols()
-    return Teller(executable, machine).tell(race_at(steps_of(machine, plan_of(arguments.plan.read_bytes())), *race))
+    steps = steps_of(machine, plan_of(arguments.plan.read_bytes()))
+    return Teller(executable, machine).tell(race_at(steps, *race))
 
 
 def main():

@@ -24,7 +24,7 @@ def last_before(earlier: list[Placed], thread: int, step: Step) -> Placed | None
 
 
 def learn(step: Step, threads: set[int], mutexes: set[int], exits: set[int]):
-    """What stands before this step is ordered before it where it is of its thread, of its mutex, or of the thread that it joins."""
+    """What is ordered before this step: what its thread did, unlocks of the mutex that it locks, the exit that it joins."""
     threads.add(step.thread)
     if step.relation is Relation.LOCKS:
         mutexes.add(step.subject)

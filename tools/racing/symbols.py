@@ -1,6 +1,7 @@
 """What an executable's file says of addresses: symbols, and by other tools, where they are here, source lines and the texts of
 instructions."""
 import dataclasses
+import functools
 import pathlib
 import re
 import shutil
@@ -55,10 +56,11 @@ def is_telling(name: str) -> bool:
 class Executable:
     def __init__(self, path: pathlib.Path):
         self.path, self.data = path, path.read_bytes()
-        self.symbols: list[Symbol] = []  # known once the file is accepted
 
-    def read_symbols(self):
-        self.symbols = symbols_of(self.data)
+    @functools.cached_property
+    def symbols(self) -> list[Symbol]:
+        """Of a file that is accepted."""
+        return symbols_of(self.data)
 
     def name_of(self, address: int) -> str | None:
         """A symbol and how far behind it the address is, as work+1c: the nearest in front, rather one with a type."""
@@ -77,7 +79,8 @@ class Executable:
 
     def line_of(self, address: int) -> str | None:
         """File and line of the source, where the file has debug lines."""
-        found = re.match(r"(.+:[1-9][0-9]*)( \(discriminator \d+\))?$", output_of("addr2line", "-e", str(self.path), f"{address:x}"))
+        line = output_of("addr2line", "-e", str(self.path), f"{address:x}")
+        found = re.match(r"(.+:[1-9][0-9]*)( \(discriminator \d+\))?$", line)
         return found[1] if found else None
 
     def text_of(self, address: int, word: int) -> str | None:

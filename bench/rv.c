@@ -9,16 +9,19 @@ static const uint32_t STACK[] = {0xFF010113, 0x00612623, 0x00912423, 0x00137393,
     0x00812503, 0x01010113, 0x00856463, 0x008484B3, 0xFFF30313, 0xFC0318E3, 0x00100073};
 static const uint32_t BYTES[] = {0x028303B3, 0x0283B4B3, 0x0FF4F513, 0x00A285B3, 0x0005C603, 0x00760633, 0x00C58023,
     0x00158683, 0x02769733, 0x00E40433, 0xFFF30313, 0xFC031AE3, 0x00100073};
+static const uint32_t WIDE[] = {0x000125B7, 0x01F37393, 0x00C39393, 0x00B383B3, 0x0003A403, 0x006404B3, 0x0093A023, 0xFFF30313, 0xFE0310E3, 0x00100073};
 
 int main(int argc, char **argv) {
     if (argc != 3)
         return 2;
-    const uint32_t *words = !strcmp(argv[1], "mix") ? MIX : !strcmp(argv[1], "stack") ? STACK : BYTES;
-    size_t size = words == MIX ? sizeof MIX : words == STACK ? sizeof STACK : sizeof BYTES;
+    const uint32_t *words = !strcmp(argv[1], "mix") ? MIX : !strcmp(argv[1], "stack") ? STACK : !strcmp(argv[1], "wide") ? WIDE : BYTES;
+    size_t size = words == MIX ? sizeof MIX : words == STACK ? sizeof STACK : words == WIDE ? sizeof WIDE : sizeof BYTES;
     Memory memory = new_memory();
     memory.table[0x10] = calloc(1, PAGE);
     memory.table[0x11] = calloc(1, PAGE);
     memory.table[0x7000F] = calloc(1, PAGE);
+    for (int page = 0x12; page < 0x32; page++)
+        memory.table[page] = calloc(1, PAGE);
     memcpy(memory.table[0x10], words, size);
     Regions regions = {.ranges = {{0x10000, 0x420, {1, 0, 1}}, {0x11000, 0x7A4, {1, 1, 0}}}};
     add_heap_and_stacks(&regions, 2, 0x12000);

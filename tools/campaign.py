@@ -20,7 +20,7 @@ import sys
 from campaigns import drawing, judging, programs, rows, running
 
 ROOT = programs.ROOT
-REPLICAS = [2, 3]
+REPLICAS = [2, 3, 5]
 MAX_DRIVERS = 8
 
 

@@ -15,11 +15,11 @@ class Put:
 
 @dataclasses.dataclass
 class Vote:
-    """Thread `thread` was compared, `steps` instructions behind its event before; `loser` is None where all agreed."""
+    """Thread `thread` was compared, `steps` instructions behind its event before; `losers` rise, none where all agreed."""
     thread: int
     steps: int
     winner: int
-    loser: int | None
+    losers: tuple
     did: str
 
 
@@ -50,9 +50,9 @@ class Report:
         return counts
 
     def losses(self):
-        """The votes that had a loser, each with its place in the journal."""
+        """The votes that had losers, each with its place in the journal."""
         return [(place, entry) for place, entry in enumerate(self.entries)
-                if isinstance(entry, Vote) and entry.loser is not None]
+                if isinstance(entry, Vote) and entry.losers]
 
 
 def read_report(text):
@@ -66,8 +66,8 @@ def read_report(text):
             driver, replica, thread, retired, struck = map(int, words)
             entries.append(Put(driver, replica, thread, retired, struck, takes.get(tuple(words[:3]), len(entries))))
         elif kind == "vote":
-            loser = None if words[3] == "-" else int(words[3])
-            entries.append(Vote(int(words[0]), int(words[1]), int(words[2]), loser, words[4]))
+            losers = () if words[3] == "-" else tuple(map(int, words[3].split(",")))
+            entries.append(Vote(int(words[0]), int(words[1]), int(words[2]), losers, words[4]))
         elif kind == "free":
             entries.append(Free(int(words[0])))
         elif kind == "end":

@@ -46,7 +46,7 @@ class Mark:
     at: int
     thread: int
     title: str
-    copy: tuple = None  # winner and loser
+    copies: tuple = ()  # pairs of a winner and a loser
 
 
 @dataclasses.dataclass
@@ -111,13 +111,12 @@ class Clock:
     def vote(self, entry):
         stand = [at for (_, thread), at in self.at.items() if thread == entry.thread]
         self.now = max([self.now, *stand])
-        copy = None
         title = f"vote on thread {entry.thread}: {MEANS.get(entry.did, entry.did)}"
-        if entry.loser is not None:
-            copy = entry.winner, entry.loser
-            title += f"; replica {entry.loser} lost and is a copy of replica {entry.winner}"
-            self.take_over(*copy)
-        self.marks.append(Mark(entry.did, self.now, entry.thread, title, copy))
+        copies = tuple((entry.winner, loser) for loser in entry.losers)
+        for winner, loser in copies:
+            title += f"; replica {loser} lost and is a copy of replica {winner}"
+            self.take_over(winner, loser)
+        self.marks.append(Mark(entry.did, self.now, entry.thread, title, copies))
         self.wait(entry.thread)
 
     def take_over(self, winner, loser):
@@ -306,7 +305,7 @@ class Picture:
         for x, mark in pixel.items():
             self.add("rect", x=LEFT + x, y=66, width=1, height=14, fill=COLOURS.get(mark.what, "#000000"))
         for at, what in [*((strike.at, strike.title) for strike in self.drawing.strikes),
-                         *((mark.at, mark.title) for mark in self.drawing.marks if mark.copy)]:
+                         *((mark.at, mark.title) for mark in self.drawing.marks if mark.copies)]:
             x = number(LEFT + room * at / max(1, self.drawing.length))
             self.add("path", title(what), d=f"M{x} 65 l-4 -7 h8 z", fill=RED)
 
@@ -318,15 +317,15 @@ class Picture:
         self.text(LEFT, self.tops[line + 1] - 6, f"from {self.scale.lines[line]} instructions on", fill=GREY, font_size=9)
 
     def mark(self, mark):
-        """A line over the lanes of its thread; a copy is an arrow beside it, with both replicas' ends."""
+        """A line over the lanes of its thread; each copy is an arrow beside it, with both replicas' ends."""
         line, x = self.scale.place(mark.at)
         x, rows = x + LEFT, [y for lane, y in self.rows[line].items() if lane[1] == mark.thread]
         low, high = self.tops[line] + min(rows) + 1, self.tops[line] + max(rows) + LANE - 1
         dashes = {"stroke_dasharray": "3 2"} if mark.what in ("blocked", "watch") else {}
         self.add("line", title(mark.title), x1=number(x), y1=number(low), x2=number(x), y2=number(high),
                  stroke=COLOURS.get(mark.what, "#000000"), stroke_width=2, **dashes)
-        if mark.copy:
-            winner, loser = (self.tops[line] + self.rows[line][replica, mark.thread] + 9 for replica in mark.copy)
+        for copy in mark.copies:
+            winner, loser = (self.tops[line] + self.rows[line][replica, mark.thread] + 9 for replica in copy)
             self.add("path", title(mark.title), d=f"M{number(x)} {number(winner)} h7 V{number(loser)} h-4 l4 -3 v6 l-4 -3",
                      fill="none", stroke=RED, stroke_width=2)
             self.text(x + 11, (winner + loser) / 2 + 3, "copy", fill=RED, font_size=9)

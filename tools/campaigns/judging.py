@@ -23,13 +23,13 @@ def strikes(report):
 
 
 def stay_apart(report):
-    """Whether the journal shows that the faults stayed apart: where two turns struck two replicas, the first became a copy
-    before the second began. It may be so without showing: a struck bit may have been written over."""
+    """Whether the journal of two or three replicas shows that the faults stayed apart: where two turns struck two replicas,
+    the first became a copy before the second began. It may be so without showing: a struck bit may have been written over."""
     struck = strikes(report)
     for place, first in struck:
         for at, second in struck:
             if at > place and second.replica != first.replica and not any(
-                    isinstance(entry, Vote) and entry.loser == first.replica
+                    isinstance(entry, Vote) and first.replica in entry.losers
                     for entry in report.entries[place:second.taken]):
                 return False
     return True
@@ -81,7 +81,7 @@ def judge_replicas(job, status, output, report):
     """Replicas that are compared."""
     losses = report.losses()
     trouble = trouble_of(job, status, output, report, losses)
-    apart = len(job["replicas_struck"]) == 1 or stay_apart(report)
+    apart = 2 * len(job["replicas_struck"]) <= job["replicas"] or stay_apart(report)
     if trouble and apart:
         return {"fate": "differs", "trouble": trouble}
     strike = job["strike"]
@@ -92,7 +92,7 @@ def judge_replicas(job, status, output, report):
     if trouble:
         return {"fate": "outvoted"}
     if losses:
-        place, vote = next(((at, vote) for at, vote in losses if vote.loser == strike[0]), losses[0])
+        place, vote = next(((at, vote) for at, vote in losses if strike[0] in vote.losers), losses[0])
         return {"fate": "overwritten", "vote": vote.did, "latency": latency(report, vote.winner, strike, place)}
     return {"fate": "not reached" if report.summary.get("struck", 0) == 0 else "vanished"}
 
@@ -107,7 +107,7 @@ def trouble_of(job, status, output, report, losses):
         return f"status {status}, not {want_status}; answer {report.answer}"
     if output != want_output:
         return "another output"
-    others = [vote.loser for _, vote in losses if vote.loser not in job["replicas_struck"]]
+    others = [loser for _, vote in losses for loser in vote.losers if loser not in job["replicas_struck"]]
     if others:
         return f"replica {others[0]} lost, which wasn't struck"
     if losses and not struck:

@@ -104,7 +104,7 @@ class Executables:
     def draw(self, draw):
         file, data = self.file(draw), draw.randbytes(draw.choice((0, 1, 100, 5000)))
         options = {"limit": draw.choice(self.LIMITS), "watchdog": draw.choice((100, 128, 1_000, 10_000)),
-                   "quantum": draw.choice((1, 7, 128, 4_096)), "replicas": draw.choice((2, 3)),
+                   "quantum": draw.choice((1, 7, 128, 4_096)), "replicas": draw.choice((2, 3, 5)),
                    "drivers": draw.choice((1, 1, 2, 3))}
         words = [b"run", b"guest", b"--input", b"input"]
         for name, number in options.items():
@@ -160,19 +160,19 @@ class Faults:
         if draw.randrange(3) == 0:  # all in one replica
             text = b"".join(b"1" + line[1:] + b"\n" for line in text.split(b"\n")[:-1])
         text = drawing.mutated_text(draw, text)
-        replicas = draw.choice((2, 3))
+        replicas = draw.choice((2, 3, 5))
         faults, bad = readers.faults_of(text, replicas)
         words = [b"run", b"guest", b"--faults", b"faults", b"--limit", b"50000", b"--replicas", str(replicas).encode(),
                  b"--drivers", b"1"]
         wanted = f"faults {bad[0]} {bad[1]}" if bad else None
         struck = {fault[0] for fault in faults}
-        if wanted is None and replicas == 3 and len(struck) < 2:
+        if wanted is None and replicas > 2 and 2 * len(struck) <= replicas:
             wanted = f"exit {self.STATUS}"
         return Case(words, {"guest": self.guest, "faults": text}, wanted, (replicas, struck))
 
     def troubles(self, case, came):
         answer, (replicas, struck) = came.answer() or "", case.about
-        if answer == f"exit {self.STATUS}" and len(struck) < 2 and came.output != self.OUTPUT:
+        if answer == f"exit {self.STATUS}" and 2 * len(struck) <= max(replicas, 3) and came.output != self.OUTPUT:
             yield f"{came.output!r} came"
         if replicas == 2 and len(struck) == 1 and not case.wanted:
             if answer not in ("differ", f"exit {self.STATUS}") or not self.OUTPUT.startswith(came.output):
@@ -229,7 +229,7 @@ class Words:
 
     def troubles(self, case, came):
         ran = case.about is not None and case.wanted.split(" ")[0] not in REFUSALS
-        if ran and ("journal" in case.about) != came.report.startswith(b"romain 1\n"):
+        if ran and ("journal" in case.about) != came.report.startswith(b"romain 2\n"):
             yield f"the report begins with {came.report[:40]!r}"
 
 
@@ -239,14 +239,14 @@ class Journals:
 
     STEPS, WRITES = 21, 14
     MOST = 10**9
-    KNOWN = b"romain 1\nvote 0 13 0 - served\nvote 0 6 0 - served\nend exit 7\n"
+    KNOWN = b"romain 2\nvote 0 13 0 - served\nvote 0 6 0 - served\nend exit 7\n"
 
     def __init__(self):
         self.guest = (SMALL / "hello").read_bytes()
 
     def text(self, draw):
         """A journal like those that a run of one driver has."""
-        lines, left = [b"romain 1"], [13, 6]
+        lines, left = [b"romain 2"], [13, 6]
         for steps in left:
             for replica in range(3):
                 lines += [b"take 0 %d 0" % replica, b"put 0 %d 0 %d 0" % (replica, steps)]

@@ -169,7 +169,7 @@ def faults_of(data, replicas):
 
 # ---- Words
 
-RANGES = {"replicas": (2, 3, 3), "drivers": (1, 8, 3), "watchdog": (100, 1_000_000, 10_000), "quantum": (1, 65_536, 4_096),
+RANGES = {"replicas": (2, 5, 3), "drivers": (1, 8, 3), "watchdog": (100, 1_000_000, 10_000), "quantum": (1, 65_536, 4_096),
           "limit": (1, 10**12, 10**9)}
 VALUED = ["input", "faults", *RANGES]
 
@@ -211,7 +211,7 @@ def run_of(words):
         given[name] = number_of(given[name], least, most) if name in given else usual
         if given[name] is None:
             return None
-    return given if "exe" in given else None
+    return given if "exe" in given and given["replicas"] != 4 else None
 
 
 # ---- Journals
@@ -219,9 +219,14 @@ def run_of(words):
 DIDS = [b"served", b"blocked", b"mapped", b"watch", b"trapped"]
 HOWS = {b"exit": [(0, 255)], b"deadlock": [], b"trap": [(1, 9)], b"limit": [(0, 10**12)] * 2, b"differ": [], b"no-majority": [],
         b"sink": [(0, 4095)]}
-DRIVER, REPLICA, THREAD = (0, 7), (0, 2), (0, 15)
-ENTRIES = {b"take": [DRIVER, REPLICA, THREAD], b"put": [DRIVER, REPLICA, THREAD, (0, 65_536), (0, 256)],
-           b"vote": [THREAD, (0, 1_000_000), REPLICA], b"free": [THREAD]}
+HEADS = {b"romain 1": (0, 2), b"romain 2": (0, 4)}  # the numbers of replicas by the first line
+DRIVER, THREAD = (0, 7), (0, 15)
+
+
+def entries_of(replica):
+    """The ranges of the numbers of each kind of entry but an end."""
+    return {b"take": [DRIVER, replica, THREAD], b"put": [DRIVER, replica, THREAD, (0, 65_536), (0, 256)],
+            b"vote": [THREAD, (0, 1_000_000), replica], b"free": [THREAD]}
 
 
 def fields_code(fields, ranges):
@@ -232,32 +237,47 @@ def fields_code(fields, ranges):
     return None if fit else 2
 
 
-def entry_code(words):
-    """The code by which a journal's line is refused, or None."""
+def losers_of(word, replica):
+    """The numbers of a list of losers, in words, and whether they rise and are few enough for so many replicas."""
+    if word == b"-":
+        return [], True
+    losers = word.split(b",")
+    if replica == HEADS[b"romain 1"] and len(losers) > 1:
+        return None, False
+    numbers = [int(loser) if NUMBER.fullmatch(loser) else None for loser in losers]
+    rise = None not in numbers and len(numbers) <= 2 and all(one < other for one, other in zip(numbers, numbers[1:]))
+    return losers, rise
+
+
+def entry_code(words, replica):
+    """The code by which a journal's line is refused, where numbers of replicas have this range, or None."""
     kind, fields = words[0], words[1:]
     if kind == b"end":
         return fields_code(fields[1:], HOWS[fields[0]]) if fields and fields[0] in HOWS else 1
-    if kind not in ENTRIES:
+    if kind not in entries_of(replica):
         return 1
-    ranges = ENTRIES[kind]
+    ranges, rise = entries_of(replica)[kind], True
     if kind == b"vote":
         if len(fields) != 5 or fields[4] not in DIDS:
             return 1
-        loser = [] if fields[3] == b"-" else [fields[3]]
-        fields, ranges = fields[:3] + loser, ranges + [REPLICA] * len(loser)
-    return fields_code(fields, ranges)
+        losers, rise = losers_of(fields[3], replica)
+        if losers is None:
+            return 1
+        fields, ranges = fields[:3] + losers, ranges + [replica] * len(losers)
+    code = fields_code(fields, ranges)
+    return 2 if code is None and not rise else code
 
 
 def journal_of(data):
     """The words of a journal's lines up to its end and None, or the first bad line and its code."""
     lines, entries = data.split(b"\n"), []
-    if lines[0] != b"romain 1" or len(lines) < 2:
+    if lines[0] not in HEADS or len(lines) < 2:
         return [], (1, 1)
     for number, line in enumerate(lines[1:], 2):
         last = number == len(lines)
         if last and line == b"":
             break
-        code = 1 if last else entry_code(line.split(b" "))
+        code = 1 if last else entry_code(line.split(b" "), HEADS[lines[0]])
         if code is not None:
             return [], (number, code)
         entries.append(line.split(b" "))

@@ -149,7 +149,7 @@ def takes(machine: Replay, thread: int) -> bool:
 
 def draw_journal(draw: random.Random, plan: Plan) -> bytes:
     """A journal with this plan, in drawn forms of its lines."""
-    lines = ["romain 1"]
+    lines = ["romain 2"]
     for thread, count in plan:
         forms = [f"vote {thread} {count} 0 - watch", f"vote {thread} {count - 1} 1 0 served"]
         lines.append(draw.choice(forms + [f"free {thread}"] if count == 1 else forms))

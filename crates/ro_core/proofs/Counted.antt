@@ -5,6 +5,7 @@ use Rattle.std.proofs.Common.{refl, sym, ap, ◌∙◌, subst, arith, inl, inr}
 use Rattle.ro_event.specs.declared.effects.Made.{Made}
 use Rattle.ro_event.specs.Effects.{Effect}
 use Rattle.ro_region.specs.declared.Range.{Range}
+use Rattle.ro_journal.specs.Losers.{numbers}
 use Rattle.ro_journal.specs.declared.Entry.{Entry}
 use Rattle.ro_journal.specs.declared.Entry.TheVariants.{Take, Put, Vote, Free, End}
 use Rattle.ro_exec.specs.Next.{Layout}
@@ -18,12 +19,12 @@ use Rattle.ro_replica.specs.Runs.{is_due, struck_by, Ran, strike_in, struck, run
 use Rattle.ro_plain.specs.Machine.{layout_of}
 use Rattle.ro_plain.proofs.Calls.{some-injective}
 use Rattle.ro_core.specs.Core.{Job, Core, opening_core}
-use Rattle.ro_core.specs.Event.{Event, with_recovered}
+use Rattle.ro_core.specs.Event.{Event, with_copy, with_recovered}
 use Rattle.ro_core.specs.Legal.{HasArrived, arrived, arrival, core_after_put, core_after_event, event_in, freed_event, after, IsAllowed, LegalFrom, Legal, replay_from, replay}
 use Rattle.ro_core.specs.Sound.{Counts, AreCounted}
 use Rattle.ro_core.proofs.Lists.{ChangedFrom, unchanged, changed_here, get-changed, get-set-cases, MappedFrom, get-map, get-append-cases}
 use Rattle.ro_core.proofs.Sound.{Instructs, instructs, instructed, RunParts, run-parts}
-use Rattle.ro_core.proofs.Copies.{AfterCopy, not_lost, is_copy, after-copy}
+use Rattle.ro_core.proofs.Copies.{AfterCopy, not_lost, is_copy, after-copy, still-there}
 use Rattle.ro_core.proofs.Effects.{backed_after, threads_after}
 use Rattle.ro_core.proofs.Ordered.{put-parts, get-opening, one-thread, event-parts}
 
@@ -113,9 +114,11 @@ counts-recovered most winner loser h = counts-copied most winner.threads loser.t
 abbrev EachCounts : (most : ℕ) → List Replica → Type 0
 EachCounts most replicas = (number : ℕ) (replica : Replica) → slice_get replicas number ≡ Some replica → Counts most replica
 
-each-copied : (most won : ℕ) (winner : Replica) (lost : Option ℕ) (replicas : List Replica) → slice_get replicas won ≡ Some winner → EachCounts most replicas → EachCounts most (with_recovered won lost replicas)
-each-copied most won winner None replicas there h = h
-each-copied most won winner (Some lost) replicas there h = λ number r e. by number r (after-copy won lost replicas winner number r there e)
+each-copied : (most won : ℕ) (winner : Replica) (lost : List ℕ) (replicas : List Replica) → slice_get replicas won ≡ Some winner → EachCounts most replicas → EachCounts most (with_recovered won lost replicas)
+each-copied most won winner [] replicas there h = h
+each-copied most won winner (lost ∷ losers) replicas there h =
+    let w = still-there won lost replicas winner there in
+    each-copied most won w.0 losers (with_copy won lost replicas) w.1 (λ number r e. by number r (after-copy won lost replicas winner number r there e))
   where
     by : (number : ℕ) (r : Replica) → AfterCopy won lost replicas number r → Counts most r
     by number r (not_lost d e) = h number r e
@@ -154,8 +157,8 @@ counted-after most job core (Put driver replica thread count hit) may h =
     (counted-put most job core driver replica thread count may.ran (counts-more (most + count) (most + job.settings.quantum) may.ran.replica (omega arith) came) h)
 counted-after most job core (Vote thread count won lost did) may h =
     let e = event-parts job core thread won may.event may.comes in
-    more-counted most (most + job.settings.quantum) (core_after_event core thread count (with_recovered won lost core.replicas) (event_in job core thread won)) (omega arith)
-    (counted-event most core thread count (with_recovered won lost core.replicas) (event_in job core thread won) (each-copied most won e.winner lost core.replicas e.there h) h)
+    more-counted most (most + job.settings.quantum) (core_after_event core thread count (with_recovered won (numbers lost) core.replicas) (event_in job core thread won)) (omega arith)
+    (counted-event most core thread count (with_recovered won (numbers lost) core.replicas) (event_in job core thread won) (each-copied most won e.winner (numbers lost) core.replicas e.there h) h)
 counted-after most job core (Free thread) may h =
     more-counted most (most + job.settings.quantum) (core_after_event core thread 0 core.replicas (freed_event job core thread)) (omega arith) (counted-event most core thread 0 core.replicas (freed_event job core thread) h h)
 counted-after most job core (End how) may h = more-counted most (most + job.settings.quantum) (after job core (End how)) (omega arith) h

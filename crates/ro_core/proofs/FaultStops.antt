@@ -8,6 +8,7 @@ use Rattle.ro_event.specs.declared.stops.Stop.{Stop}
 use Rattle.ro_event.specs.declared.stops.Stop.TheVariants.{Calls, Trap, PageFault, Watchdog}
 use Rattle.ro_event.specs.Effects.{Effect}
 use Rattle.ro_region.specs.declared.Range.{Range}
+use Rattle.ro_journal.specs.Losers.{numbers}
 use Rattle.ro_journal.specs.declared.Entry.{Entry}
 use Rattle.ro_journal.specs.declared.Entry.TheVariants.{Take, Put, Vote, Free, End}
 use Rattle.ro_exec.specs.Next.{Layout, Backed}
@@ -21,12 +22,12 @@ use Rattle.ro_replica.specs.Runs.{is_due, struck_by, Ran, strike_in, struck, run
 use Rattle.ro_plain.specs.Machine.{layout_of}
 use Rattle.ro_plain.proofs.Calls.{some-injective}
 use Rattle.ro_core.specs.Core.{Job, Core, opening_core}
-use Rattle.ro_core.specs.Event.{Event, with_recovered}
+use Rattle.ro_core.specs.Event.{Event, with_copy, with_recovered}
 use Rattle.ro_core.specs.Legal.{arrived, arrival, core_after_put, core_after_event, event_in, freed_event, after, IsAllowed, LegalFrom, Legal, replay_from, replay}
 use Rattle.ro_core.specs.Sound.{IsFault, HasFaults, HaveFaults}
 use Rattle.ro_core.proofs.Lists.{ChangedFrom, unchanged, changed_here, get-changed, get-set-cases, MappedFrom, get-map, get-append-cases}
 use Rattle.ro_core.proofs.Sound.{Instructs, instructs, instructed, RunParts, run-parts}
-use Rattle.ro_core.proofs.Copies.{AfterCopy, not_lost, is_copy, after-copy}
+use Rattle.ro_core.proofs.Copies.{AfterCopy, not_lost, is_copy, after-copy, still-there}
 use Rattle.ro_core.proofs.Effects.{backed_after, threads_after}
 use Rattle.ro_core.proofs.Ordered.{put-parts, get-opening, one-thread, event-parts}
 use Rattle.ro_core.proofs.FaultPages.{fault-standing}
@@ -142,9 +143,11 @@ fault-recovered winner loser h = fault-copied winner.backed winner.threads loser
 abbrev EachFaults : List Replica → Type 0
 EachFaults replicas = (number : ℕ) (replica : Replica) → slice_get replicas number ≡ Some replica → HasFaults replica
 
-each-copied : (won : ℕ) (winner : Replica) (lost : Option ℕ) (replicas : List Replica) → slice_get replicas won ≡ Some winner → EachFaults replicas → EachFaults (with_recovered won lost replicas)
-each-copied won winner None replicas there h = h
-each-copied won winner (Some lost) replicas there h = λ number r e. by number r (after-copy won lost replicas winner number r there e)
+each-copied : (won : ℕ) (winner : Replica) (lost : List ℕ) (replicas : List Replica) → slice_get replicas won ≡ Some winner → EachFaults replicas → EachFaults (with_recovered won lost replicas)
+each-copied won winner [] replicas there h = h
+each-copied won winner (lost ∷ losers) replicas there h =
+    let w = still-there won lost replicas winner there in
+    each-copied won w.0 losers (with_copy won lost replicas) w.1 (λ number r e. by number r (after-copy won lost replicas winner number r there e))
   where
     by : (number : ℕ) (r : Replica) → AfterCopy won lost replicas number r → HasFaults r
     by number r (not_lost d e) = h number r e
@@ -173,7 +176,7 @@ fault-after job core (Put driver replica thread count hit) may h =
     subst (λ (o : Option Ran). HaveFaults (core_after_put job core driver replica thread count o)) (sym may.runs) (fault-put job core driver replica thread count may.ran came h)
 fault-after job core (Vote thread count won lost did) may h =
     let e = event-parts job core thread won may.event may.comes in
-    fault-event core thread count (with_recovered won lost core.replicas) (event_in job core thread won) (each-copied won e.winner lost core.replicas e.there h) h
+    fault-event core thread count (with_recovered won (numbers lost) core.replicas) (event_in job core thread won) (each-copied won e.winner (numbers lost) core.replicas e.there h) h
 fault-after job core (Free thread) may h = fault-event core thread 0 core.replicas (freed_event job core thread) h h
 fault-after job core (End how) may h = h
 

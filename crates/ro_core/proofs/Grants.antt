@@ -3,7 +3,7 @@ use Rattle.std.specs.Prelude.{◌≡◌, ◌≢◌, ℕ, zero, suc, ◌⊎◌, B
 use Rattle.std.specs.List.{filter, list_any}
 use Rattle.std.specs.Option.{option_map_or, option_and_then}
 use Rattle.std.proofs.Common.{refl, sym, ap, ◌∙◌, subst, inl, inr}
-use Rattle.std.proofs.lemmas.Bool.{true≢false, and_parts, eqb-true, cases_eq}
+use Rattle.std.proofs.lemmas.Bool.{true≢false, and_parts, eqb-true, cases_Bool, cases_eq}
 use Rattle.std.proofs.lemmas.Option.{option_and_then_some}
 use Rattle.ro_event.specs.declared.calls.Call.{Call}
 use Rattle.ro_event.specs.declared.effects.Made.{Made}
@@ -11,6 +11,9 @@ use Rattle.ro_event.specs.declared.stops.Stop.{Stop}
 use Rattle.ro_event.specs.declared.stops.Stop.TheVariants.{Calls, Trap, PageFault, Watchdog}
 use Rattle.ro_event.specs.Effects.{Effect}
 use Rattle.ro_exec.specs.Next.{Backed}
+use Rattle.ro_journal.specs.Losers.{numbers}
+use Rattle.ro_journal.specs.declared.losers.Lost.{Lost}
+use Rattle.ro_vote.specs.Numbers.{is_among}
 use Rattle.ro_journal.specs.declared.Did.{Did}
 use Rattle.ro_journal.specs.declared.Did.TheVariants.{Served, Blocked, Mapped, Watch, Trapped}
 use Rattle.ro_journal.specs.declared.How.{How}
@@ -103,7 +106,7 @@ unfolding after
 go-after job core (Take driver replica thread) may apart h = go-take job core driver replica thread may.lendable h
 go-after job core (Put driver replica thread count hit) may apart h = go-put job core driver replica thread count hit may apart h
 go-after job core (Vote thread count won lost did) may apart h =
-    go-none (core_after_event core thread count (with_recovered won lost core.replicas) (event_in job core thread won)) (event_leases core thread count (with_recovered won lost core.replicas) (event_in job core thread won) ∙ (vote-parts core thread may.may).alone)
+    go-none (core_after_event core thread count (with_recovered won (numbers lost) core.replicas) (event_in job core thread won)) (event_leases core thread count (with_recovered won (numbers lost) core.replicas) (event_in job core thread won) ∙ (vote-parts core thread may.may).alone)
 go-after job core (Free thread) may apart h =
     go-none (core_after_event core thread 0 core.replicas (freed_event job core thread)) (event_leases core thread 0 core.replicas (freed_event job core thread) ∙ (free-parts job core thread may.may).alone)
 go-after job core (End how) may apart h = h
@@ -292,44 +295,35 @@ put-keeps job core driver ran_in ran count hit may go replica thread stands call
     by (inl same) = here same
     by (inr differs) = away differs
 
--- the loser, if it is this replica, and else that it is another
-lost-cases : (lost : Option ℕ) (replica : ℕ) → (lost ≡ Some replica) ⊎ (lost ≢ Some replica)
-lost-cases None replica = inr (λ e. cc)
-lost-cases (Some lost) replica = by (cases_eq lost replica)
-  where
-    by : (lost ≡ replica) ⊎ (lost ≢ replica) → (Some lost ≡ Some replica) ⊎ (Some lost ≢ Some replica)
-    by (inl e) = inl (ap Some e)
-    by (inr d) = inr (λ e. d (some-injective e))
-
-vote-keeps : (job : Job) (core : Core) (voted count won : ℕ) (lost : Option ℕ) (did : Did) → MayVote job core voted count won lost did → (replica thread : ℕ) (stands : Thread) (call : Call)
+vote-keeps : (job : Job) (core : Core) (voted count won : ℕ) (lost : Lost) (did : Did) → MayVote job core voted count won lost did → (replica thread : ℕ) (stands : Thread) (call : Call)
     → Found core replica thread stands → stands.stop ≡ Some (Calls call) → Goes (after job core (Vote voted count won lost did)) (Vote voted count won lost did) replica thread stands
 unfolding after
-vote-keeps job core voted count won lost did may replica thread stands call f at = by (cases_eq voted thread) (blocked-cases did) (lost-cases lost replica)
+vote-keeps job core voted count won lost did may replica thread stands call f at = by (cases_eq voted thread) (blocked-cases did) (cases_Bool (is_among (numbers lost) replica))
   where
     new : Core
-    new = core_after_event core voted count (with_recovered won lost core.replicas) (event_in job core voted won)
+    new = core_after_event core voted count (with_recovered won (numbers lost) core.replicas) (event_in job core voted won)
 
-    here : lost ≢ Some replica → slice_get (with_recovered won lost core.replicas) replica ≡ Some f.value
-    here not_lost = copied-other won lost core.replicas replica not_lost ∙ f.in_core
+    here : is_among (numbers lost) replica ≡ false → slice_get (with_recovered won (numbers lost) core.replicas) replica ≡ Some f.value
+    here not_lost = copied-other won (numbers lost) core.replicas replica not_lost ∙ f.in_core
 
-    kept : voted ≢ thread → lost ≢ Some replica → thread_in new replica thread ≡ Some stands
+    kept : voted ≢ thread → is_among (numbers lost) replica ≡ false → thread_in new replica thread ≡ Some stands
     kept other not_lost =
         let e = event-parts job core voted won may.event may.comes in
         let own : may.event.effect.thread ≡ voted = (subst (Happens core.kernel voted) e.is (event-happens (setup_of job.program) core.kernel voted e.stop _)).thread_is in
-        subst (λ (o : Option Event). thread_in (core_after_event core voted count (with_recovered won lost core.replicas) o) replica thread ≡ Some stands) (sym may.comes)
-        (event-keeps core voted count (with_recovered won lost core.replicas) may.event replica thread f.value stands call own (λ k. other (sym k)) (here not_lost) f.there at)
+        subst (λ (o : Option Event). thread_in (core_after_event core voted count (with_recovered won (numbers lost) core.replicas) o) replica thread ≡ Some stands) (sym may.comes)
+        (event-keeps core voted count (with_recovered won (numbers lost) core.replicas) may.event replica thread f.value stands call own (λ k. other (sym k)) (here not_lost) f.there at)
 
-    stays : voted ≡ thread → did ≡ Blocked → lost ≢ Some replica → thread_in new replica thread ≡ Some (record stands { since = 0 })
+    stays : voted ≡ thread → did ≡ Blocked → is_among (numbers lost) replica ≡ false → thread_in new replica thread ≡ Some (record stands { since = 0 })
     stays same blocks not_lost =
         let e = event-parts job core voted won may.event may.comes in
         let quiet : may.event.effect ≡ quiet_effect voted None false =
         subst (λ (v : Event). v.did ≡ Blocked → v.effect ≡ quiet_effect voted None false) e.is (blocked-quiet (setup_of job.program) core.kernel voted e.stop _) (may.did_is ∙ blocks)
         in
-        subst (λ (o : Option Event). thread_in (core_after_event core voted count (with_recovered won lost core.replicas) o) replica thread ≡ Some (record stands { since = 0 })) (sym may.comes)
-        (subst (λ (n : ℕ). thread_in (core_after_event core voted count (with_recovered won lost core.replicas) (Some may.event)) replica n ≡ Some (record stands { since = 0 })) same
-        (blocked-stands core voted count (with_recovered won lost core.replicas) may.event replica f.value stands call quiet (here not_lost) (ap (slice_get f.value.threads) same ∙ f.there) at))
+        subst (λ (o : Option Event). thread_in (core_after_event core voted count (with_recovered won (numbers lost) core.replicas) o) replica thread ≡ Some (record stands { since = 0 })) (sym may.comes)
+        (subst (λ (n : ℕ). thread_in (core_after_event core voted count (with_recovered won (numbers lost) core.replicas) (Some may.event)) replica n ≡ Some (record stands { since = 0 })) same
+        (blocked-stands core voted count (with_recovered won (numbers lost) core.replicas) may.event replica f.value stands call quiet (here not_lost) (ap (slice_get f.value.threads) same ∙ f.there) at))
 
-    by : (voted ≡ thread) ⊎ (voted ≢ thread) → (did ≡ Blocked) ⊎ (did ≢ Blocked) → (lost ≡ Some replica) ⊎ (lost ≢ Some replica) → Goes new (Vote voted count won lost did) replica thread stands
+    by : (voted ≡ thread) ⊎ (voted ≢ thread) → (did ≡ Blocked) ⊎ (did ≢ Blocked) → (is_among (numbers lost) replica ≡ true) ⊎ (is_among (numbers lost) replica ≡ false) → Goes new (Vote voted count won lost did) replica thread stands
     by v d (inl e) = inr (inr (inr e))
     by (inr d) b (inr g) = inl (kept d g)
     by (inl e) (inl b) (inr g) = inr (inl ((e, b), stays e b g))

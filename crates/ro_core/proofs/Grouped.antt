@@ -20,13 +20,13 @@ use Rattle.ro_replica.specs.Replica.{Replica, changed_at, thread_after, with_mad
 use Rattle.ro_replica.specs.Runs.{run_of, with_stop}
 use Rattle.ro_replica.specs.Seen.{ReplicaOf, replica_of}
 use Rattle.ro_core.specs.Core.{Job, Core, opening_core}
-use Rattle.ro_core.specs.Event.{with_recovered, all_applied}
+use Rattle.ro_core.specs.Event.{with_copy, with_recovered, all_applied}
 use Rattle.ro_core.specs.Legal.{arrival, arrived, core_after_put, after, MayPut}
 use Rattle.ro_core.specs.Fields.{AreHome}
 use Rattle.ro_core.specs.Grouped.{AreGrouped, AreMade, seat_stopped, Returns, CopiesRow, Copies, Releases, SettlesSeat, Settles}
 use Rattle.ro_core.specs.Opening.{NoneStands}
 use Rattle.ro_core.proofs.Lists.{MappedFrom, get-map, length-mapped, get-set-same}
-use Rattle.ro_core.proofs.Copies.{AfterCopy, not_lost, is_copy, after-copy, length-with-copy}
+use Rattle.ro_core.proofs.Copies.{length-copy, still-there, recovered-threads, AfterCopy, not_lost, is_copy, after-copy, length-with-copy}
 use Rattle.ro_core.proofs.Ordered.{length-opening, get-opening, PutParts, put-parts}
 use Rattle.ro_core.proofs.Retired.{RunMeets, meets}
 use Rattle.ro_core.proofs.Grants.{LentGo, LentThread, lent-thread, changed-other}
@@ -137,11 +137,11 @@ copied-stop (w ∷ winners) [] thread n = absurd (omega arith)
 copied-stop (w ∷ winners) (l ∷ losers) zero n = refl
 copied-stop (w ∷ winners) (l ∷ losers) (suc thread) n = copied-stop winners losers thread (omega arith)
 
-pub copies-grouped : (won : ℕ) (lost : Option ℕ) (threads : ℕ) (replicas : List Replica) (winner : Replica) (old new : Groups) → slice_get replicas won ≡ Some winner → AreMade threads replicas → AreGrouped replicas old → Copies won lost threads old new → AreGrouped (with_recovered won lost replicas) new
+-- where one replica is a copy
+copy-grouped : (won lost threads : ℕ) (replicas : List Replica) (winner : Replica) (old new : Groups) → slice_get replicas won ≡ Some winner → AreMade threads replicas → AreGrouped replicas old → CopiesRow won lost threads old new → AreGrouped (with_copy won lost replicas) new
 unfolding recovered
-copies-grouped won None threads replicas winner old new there made h c = subst (AreGrouped replicas) (sym c) h
-copies-grouped won (Some lost) threads replicas winner old new there made h c = record {
-  count = c.count ∙ h.count ∙ sym (length-with-copy won (Some lost) replicas);
+copy-grouped won lost threads replicas winner old new there made h c = record {
+  count = c.count ∙ h.count ∙ sym (length-copy won lost replicas);
   each = λ number thread r e. by number thread r (after-copy won lost replicas winner number r there e) (cases_lt thread threads);
 }
   where
@@ -161,6 +161,21 @@ copies-grouped won (Some lost) threads replicas winner old new there made h c = 
       where
         copy-stop : (w l : Replica) → slice_get replicas won ≡ Some w → slice_get replicas lost ≡ Some l → (thread : ℕ) → stop_of (recovered w l) thread ≡ stop_of w thread
         copy-stop w l a b thread = copied-stop w.threads l.threads thread (made won w a ∙ sym (made lost l b))
+
+-- a copy has as many threads as there were
+copy-made : (won lost threads : ℕ) (replicas : List Replica) (winner : Replica) → slice_get replicas won ≡ Some winner → AreMade threads replicas → AreMade threads (with_copy won lost replicas)
+copy-made won lost threads replicas winner there made number r e = by (after-copy won lost replicas winner number r there e)
+  where
+    by : AfterCopy won lost replicas number r → length r.threads ≡ threads
+    by (not_lost differs f) = made number r f
+    by (is_copy w l same at_won at_lost is) = sym (ap (λ (x : Replica). length x.threads) is) ∙ (recovered-threads w l (made won w at_won ∙ sym (made lost l at_lost)) ∙ made won w at_won)
+
+-- where each loser is
+pub copies-grouped : (won : ℕ) (lost : List ℕ) (threads : ℕ) (replicas : List Replica) (winner : Replica) (old new : Groups) → slice_get replicas won ≡ Some winner → AreMade threads replicas → AreGrouped replicas old → Copies won lost threads old new → AreGrouped (with_recovered won lost replicas) new
+copies-grouped won [] threads replicas winner old new there made h c = subst (AreGrouped replicas) (sym c) h
+copies-grouped won (lost ∷ losers) threads replicas winner old new there made h (amid, row, rest) =
+    let w = still-there won lost replicas winner there in
+    copies-grouped won losers threads (with_copy won lost replicas) w.0 amid new w.1 (copy-made won lost threads replicas winner there made) (copy-grouped won lost threads replicas winner old amid there made h row) rest
 
 -- ---- an effect
 
@@ -195,7 +210,7 @@ applied-other : (effect : Effect) (replica : Replica) (thread : ℕ) → thread 
 applied-other effect replica thread differs =
     applied-stop effect replica thread ∙ ap (λ (o : Option Thread). option_and_then (λ (t : Thread). t.stop) o) (changed-other (thread_after effect) replica.threads effect.thread thread differs)
 
-applied-own : (effect : Effect) (replica : Replica) → stop_of (applied effect replica) effect.thread ≡ (if effect.releases then None else stop_of replica effect.thread)
+pub applied-own : (effect : Effect) (replica : Replica) → stop_of (applied effect replica) effect.thread ≡ (if effect.releases then None else stop_of replica effect.thread)
 applied-own effect replica = applied-stop effect replica effect.thread ∙ own-stop effect replica.threads effect.thread
 
 -- the groups once an effect's thread is released

@@ -3,6 +3,7 @@ use Rattle.std.proofs.Common.{◌≡◌, ℕ, Bool, true, false, true≢false, n
 use Rattle.std.specs.Prelude.{◌==◌}
 use Rattle.std.specs.List.{filter, list_any}
 use Rattle.std.proofs.lemmas.Bool.{and_parts}
+use Rattle.ro_journal.specs.Losers.{numbers}
 use Rattle.ro_journal.specs.declared.Entry.{Entry}
 use Rattle.ro_journal.specs.declared.Entry.TheVariants.{Take, Put, Vote, Free, End}
 use Rattle.ro_replica.specs.Replica.{Replica}
@@ -70,7 +71,7 @@ apart_after job core (Take driver replica thread) m h =
     (not_false (has_replica replica core.leases) q.0, h)
 apart_after job core (Put driver replica thread count hit) m h = put_apart job core driver replica thread count (lease_run job core replica thread count) h
 apart_after job core (Vote thread count won lost did) m h =
-    same_apart _ core.leases (event_leases core thread count (with_recovered won lost core.replicas) (event_in job core thread won)) h
+    same_apart _ core.leases (event_leases core thread count (with_recovered won (numbers lost) core.replicas) (event_in job core thread won)) h
 apart_after job core (Free thread) m h = same_apart _ core.leases (event_leases core thread 0 core.replicas (freed_event job core thread)) h
 apart_after job core (End how) m h = h
 

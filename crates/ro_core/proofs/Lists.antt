@@ -1,8 +1,12 @@
 -- Elements of lists that are changed in one place, filtered, mapped or made longer.
-use Rattle.std.specs.Prelude.{◌≡◌, ◌≢◌, ℕ, zero, suc, ◌<◌, ◌⊎◌, Bool, true, false, cond, List, [], ◌∷◌, ◌++◌, length, map, Option, Some, None, is_some, slice_get, slice_set}
+use Rattle.std.specs.Prelude.{◌≡◌, ◌≢◌, ℕ, zero, suc, ◌<◌, ◌⊎◌, Bool, true, false, cond, ◌||◌, ◌==◌, List, [], ◌∷◌, ◌++◌, length, map, Option, Some, None, is_some, slice_get, slice_set}
 use Rattle.std.specs.List.{filter, list_all, filter_map, cons_option}
 use Rattle.std.proofs.Common.{refl, sym, ap, ◌∙◌, arith, inl, inr}
-use Rattle.std.proofs.lemmas.Bool.{true≢false, and_parts, and_from}
+use Rattle.std.proofs.lemmas.Bool.{true≢false, and_parts, and_from, eq-eqb}
+use Rattle.ro_journal.specs.declared.losers.Lost.{Lost}
+use Rattle.ro_journal.specs.declared.losers.Lost.TheVariants.{One, Two}
+use Rattle.ro_journal.specs.Losers.{numbers}
+use Rattle.ro_vote.specs.Numbers.{is_among}
 use Rattle.ro_plain.proofs.Calls.{some-injective}
 use Rattle.ro_replica.specs.Replica.{changed_at}
 use Rattle.ro_core.specs.Sound.{Listed}
@@ -156,3 +160,18 @@ get-all p (y ∷ xs) h (suc i) x e = get-all p xs (and_parts _ _ h).1 i x e
 pub all-from : {X : Type 0} (p : X → Bool) (xs : List X) → ((i : ℕ) (x : X) → slice_get xs i ≡ Some x → p x ≡ true) → list_all p xs ≡ true
 all-from p [] h = refl
 all-from p (y ∷ xs) h = and_from _ _ (h 0 y refl) (all-from p xs (λ i x e. h (suc i) x e))
+
+-- ---- lists of one or two numbers
+
+pub only-among : (lost : Lost) (n : ℕ) → lost ≡ One n → is_among (numbers lost) n ≡ true
+only-among lost n e = ap (λ (l : Lost). is_among (numbers l) n) e ∙ ap (λ (b : Bool). b || false) (eq-eqb n n refl)
+
+pub first-among : (lost : Lost) (m n : ℕ) → lost ≡ Two m n → is_among (numbers lost) m ≡ true
+first-among lost m n e = ap (λ (l : Lost). is_among (numbers l) m) e ∙ ap (λ (b : Bool). b || is_among (n ∷ []) m) (eq-eqb m m refl)
+
+pub second-among : (lost : Lost) (m n : ℕ) → lost ≡ Two m n → is_among (numbers lost) n ≡ true
+second-among lost m n e = ap (λ (l : Lost). is_among (numbers l) n) e ∙ by (m == n) (ap (λ (b : Bool). b || false) (eq-eqb n n refl))
+  where
+    by : (b : Bool) {c : Bool} → c ≡ true → (b || c) ≡ true
+    by true f = refl
+    by false f = f

@@ -6,6 +6,8 @@ use Rattle.std.proofs.lemmas.Bool.{cases_Bool, or_cases, cases_eq, and_parts, an
 use Rattle.ro_event.specs.Effects.{Effect}
 use Rattle.ro_event.specs.declared.effects.Made.{Made}
 use Rattle.ro_exec.specs.Threads.{made_cpu}
+use Rattle.ro_exec.specs.Next.{Backed}
+use Rattle.ro_journal.specs.Losers.{numbers}
 use Rattle.ro_journal.specs.declared.Entry.{Entry}
 use Rattle.ro_journal.specs.declared.Entry.TheVariants.{Take, Put, Vote, Free, End}
 use Rattle.ro_faults.specs.declared.Fault.{Fault}
@@ -16,15 +18,15 @@ use Rattle.ro_replica.specs.Runs.{Ran, run_of, with_stop}
 use Rattle.ro_plain.specs.Machine.{layout_of, setup_of}
 use Rattle.ro_plain.proofs.Calls.{some-injective}
 use Rattle.ro_core.specs.Core.{Job, Core, opening_core}
-use Rattle.ro_core.specs.Event.{Event, call_event, with_recovered}
+use Rattle.ro_core.specs.Event.{Event, call_event, with_copy, with_recovered}
 use Rattle.ro_core.specs.Legal.{arrival, arrived, core_after_put, core_after_event, after, IsAllowed, MayPut, LegalFrom, Legal, replay_from, replay}
 use Rattle.ro_core.specs.Laws.{is_run, count_of, hit_in, has_run, retired, hits, has_come}
 use Rattle.ro_core.specs.Sound.{IsOrdered}
 use Rattle.ro_core.proofs.Lists.{ChangedFrom, unchanged, changed_here, get-changed, MappedFrom, get-map, get-append-cases, get-set-cases}
-use Rattle.ro_core.proofs.Copies.{AfterCopy, not_lost, is_copy, after-copy}
+use Rattle.ro_core.proofs.Copies.{AfterCopy, not_lost, is_copy, after-copy, still-there}
 use Rattle.ro_core.proofs.Effects.{backed_after, threads_after}
 use Rattle.ro_core.proofs.Leases.{Apart, apart_after}
-use Rattle.ro_core.proofs.Ordered.{put-parts, PutParts, get-opening, one-thread, event-parts, free-parts, freed-is, ordered-after, ordered-opening}
+use Rattle.ro_core.proofs.Ordered.{AreSound, copied-sound, put-parts, PutParts, get-opening, one-thread, event-parts, free-parts, freed-is, ordered-after, ordered-opening}
 use Rattle.ro_core.proofs.Grants.{LentGo, go-after, go-none, LentThread, lent-thread}
 use Rattle.ro_core.proofs.Retired.{RunMeets, meets, filter-filter, filter-same, length-parts, is_passed, same-bool, not-or}
 
@@ -224,15 +226,20 @@ same-on a b c h k = record {
 }
 
 -- after a copy each replica has its faults and counts
-copied-same : (job : Job) (core : Core) (won : ℕ) (winner : Replica) (lost : Option ℕ) → IsOrdered job core → slice_get core.replicas won ≡ Some winner → (number : ℕ) (r : Replica) → slice_get (with_recovered won lost core.replicas) number ≡ Some r
-    → (old : Replica) × (slice_get core.replicas number ≡ Some old) × SameCounts old r
-copied-same job core won winner None ordered there number r e = (r, e, same-replica r)
-copied-same job core won winner (Some lost) ordered there number r e = by (after-copy won lost core.replicas winner number r there e)
+copied-same : (job : Job) (core : Core) (backed : Backed) (replicas : List Replica) (won : ℕ) (winner : Replica) (lost : List ℕ) → AreSound job core backed replicas → slice_get replicas won ≡ Some winner
+    → (number : ℕ) (r : Replica) → slice_get (with_recovered won lost replicas) number ≡ Some r → (old : Replica) × (slice_get replicas number ≡ Some old) × SameCounts old r
+copied-same job core backed replicas won winner [] sound there number r e = (r, e, same-replica r)
+copied-same job core backed replicas won winner (lost ∷ losers) sound there number r e =
+    let w = still-there won lost replicas winner there in
+    behind (copied-same job core backed (with_copy won lost replicas) won w.0 losers (copied-sound job core backed replicas won winner (lost ∷ []) there sound) w.1 number r e)
   where
-    by : AfterCopy won lost core.replicas number r → (old : Replica) × (slice_get core.replicas number ≡ Some old) × SameCounts old r
-    by (not_lost d f) = (r, f, same-replica r)
-    by (is_copy w l same a b f) =
-        (l, ap (slice_get core.replicas) same ∙ b, subst (SameCounts l) f (same-recovered w l ((ordered.sound won w a).all_made ∙ sym (ordered.sound lost l b).all_made)))
+    by : (amid : Replica) → AfterCopy won lost replicas number amid → (old : Replica) × (slice_get replicas number ≡ Some old) × SameCounts old amid
+    by amid (not_lost d f) = (amid, f, same-replica amid)
+    by amid (is_copy w l same a b f) =
+        (l, ap (slice_get replicas) same ∙ b, subst (SameCounts l) f (same-recovered w l ((sound won w a).all_made ∙ sym (sound lost l b).all_made)))
+
+    behind : (amid : Replica) × (slice_get (with_copy won lost replicas) number ≡ Some amid) × SameCounts amid r → (old : Replica) × (slice_get replicas number ≡ Some old) × SameCounts old r
+    behind (amid, f, same) = let o = by amid (after-copy won lost replicas winner number amid there f) in (o.0, o.1, same-on o.0 amid r o.2 same)
 
 -- ---- runs
 
@@ -398,8 +405,8 @@ meets-after job journal core (Put driver replica thread count hit) may ordered g
     subst (λ (o : Option Ran). AllMeet job (journal ++ Put driver replica thread count hit ∷ []) (core_after_put job core driver replica thread count o)) (sym may.runs) (meets-ran job journal core driver replica thread count hit may go h)
 meets-after job journal core (Vote thread count won lost did) may ordered go h =
     let e = event-parts job core thread won may.event may.comes in
-    subst (λ (o : Option Event). AllMeet job (journal ++ Vote thread count won lost did ∷ []) (core_after_event core thread count (with_recovered won lost core.replicas) o)) (sym may.comes)
-    (meets-event job journal (Vote thread count won lost did) core thread count (with_recovered won lost core.replicas) may.event (λ n. ((λ t. refl), refl)) (copied-same job core won e.winner lost ordered e.there) h)
+    subst (λ (o : Option Event). AllMeet job (journal ++ Vote thread count won lost did ∷ []) (core_after_event core thread count (with_recovered won (numbers lost) core.replicas) o)) (sym may.comes)
+    (meets-event job journal (Vote thread count won lost did) core thread count (with_recovered won (numbers lost) core.replicas) may.event (λ n. ((λ t. refl), refl)) (copied-same job core ordered.backed core.replicas won e.winner (numbers lost) ordered.sound e.there) h)
 meets-after job journal core (Free thread) may ordered go h =
     let p = free-parts job core thread may.may in
     let event : Event = call_event core.kernel thread p.call [] (serve (setup_of job.program) core.kernel thread p.call) in

@@ -6,6 +6,7 @@ use Rattle.ro_journal.specs.declared.Entry.{Entry}
 use Rattle.ro_journal.specs.Plan.{event_steps}
 use Rattle.ro_kernel.specs.Kernel.{Kernel, lives_on}
 use Rattle.ro_kernel.specs.State.{State}
+use Rattle.ro_settings.proofs.Counts.{few-replicas}
 use Rattle.ro_core.specs.declared.runs.Run.{Run}
 use Rattle.ro_core.specs.declared.events.Event.{Event as Happening}
 use Rattle.ro_core.specs.Core.{Job, Core, is_going}
@@ -74,8 +75,8 @@ module _ (r : Run) (thread : ℕ) (e : Happening) (entry : Entry) (steps : ℕ) 
   many : length can.replicas ≡ f.job.settings.replicas
   many = sym (length-applied event.effect can.replicas) ∙ ap (λ (c : Core). length c.replicas) (sym new) ∙ order.replica_count
 
-  pub occurs-seats : length r.seats.homes.items ≤ 3
-  occurs-seats = let count = home-count f.job r.seats.homes.items can.replicas can.stands.home in let m = many in let range = h.in_range.replicas in omega arith
+  pub occurs-seats : length r.seats.homes.items ≤ 5
+  occurs-seats = let count = home-count f.job r.seats.homes.items can.replicas can.stands.home in let m = many in let range = few-replicas f.job.settings.replicas h.in_range.replicas in omega arith
 
   -- ---- its counts
 

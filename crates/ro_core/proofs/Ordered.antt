@@ -10,6 +10,8 @@ use Rattle.ro_event.specs.declared.calls.Call.{Call}
 use Rattle.ro_event.specs.declared.effects.Made.{Made}
 use Rattle.ro_event.specs.declared.stops.Stop.{Stop}
 use Rattle.ro_image.specs.Image.{holds_file_byte}
+use Rattle.ro_journal.specs.Losers.{numbers}
+use Rattle.ro_journal.specs.declared.losers.Lost.{Lost}
 use Rattle.ro_journal.specs.declared.Did.{Did}
 use Rattle.ro_journal.specs.declared.Did.TheVariants.{Served as WasServed}
 use Rattle.ro_journal.specs.declared.How.{How}
@@ -28,12 +30,12 @@ use Rattle.ro_plain.proofs.Ahead.{is-none-from}
 use Rattle.ro_plain.proofs.Calls.{some-injective}
 use Rattle.ro_core.specs.declared.actions.Lease.{Lease}
 use Rattle.ro_core.specs.Core.{Job, Core, opening_replicas, opening_core, is_going, nothing_lent, may_vote, may_free}
-use Rattle.ro_core.specs.Event.{Event, call_event, with_recovered, core_after}
+use Rattle.ro_core.specs.Event.{Event, call_event, with_copy, with_recovered, core_after}
 use Rattle.ro_core.specs.Legal.{lease_run, arrived, arrival, core_after_put, event_with, event_in, freed_event, core_after_event, after, IsAllowed, MayTake, MayPut, MayVote, MayFree, MayEnd, due, alone, for_vote, for_free, LegalFrom, Legal, replay_from, replay}
 use Rattle.ro_core.specs.Sound.{IsSound, IsOrdered}
 use Rattle.ro_core.proofs.Lists.{get-set-cases, listed-filter, MappedFrom, get-map, length-mapped, get-append-cases}
 use Rattle.ro_core.proofs.Sound.{sound-changed, run-well}
-use Rattle.ro_core.proofs.Copies.{AfterCopy, not_lost, is_copy, after-copy, length-with-copy, sound-recovered}
+use Rattle.ro_core.proofs.Copies.{AfterCopy, not_lost, is_copy, after-copy, length-with-copy, still-there, sound-recovered}
 use Rattle.ro_core.proofs.Effects.{backed_after, sound-applied}
 use Rattle.ro_core.proofs.Served.{made_count}
 use Rattle.ro_core.proofs.Happens.{Happens, event-happens, call-happens}
@@ -221,23 +223,25 @@ event-parts job core thread won event e =
     by winner there (Some stop) f g = record { winner = winner; there = there; stop = stop; stands = f; is = some-injective g }
 
 -- after a copy the same holds of each replica
-pub copied-sound : (job : Job) (core : Core) (backed : Backed) (replicas : List Replica) (won : ℕ) (winner : Replica) (lost : Option ℕ) → slice_get replicas won ≡ Some winner → AreSound job core backed replicas → AreSound job core backed (with_recovered won lost replicas)
-copied-sound job core backed replicas won winner None there sound = sound
-copied-sound job core backed replicas won winner (Some lost) there sound = λ number r e. by number r (after-copy won lost replicas winner number r there e)
+pub copied-sound : (job : Job) (core : Core) (backed : Backed) (replicas : List Replica) (won : ℕ) (winner : Replica) (lost : List ℕ) → slice_get replicas won ≡ Some winner → AreSound job core backed replicas → AreSound job core backed (with_recovered won lost replicas)
+copied-sound job core backed replicas won winner [] there sound = sound
+copied-sound job core backed replicas won winner (lost ∷ losers) there sound =
+    let w = still-there won lost replicas winner there in
+    copied-sound job core backed (with_copy won lost replicas) won w.0 losers w.1 (λ number r e. by number r (after-copy won lost replicas winner number r there e))
   where
     by : (number : ℕ) (r : Replica) → AfterCopy won lost replicas number r → IsSound job core backed number r
     by number r (not_lost d e) = sound number r e
     by number r (is_copy w l same a b e) =
         subst (λ (n : ℕ). IsSound job core backed n r) (sym same) (subst (IsSound job core backed lost) e (sound-recovered job core backed won lost w l (sound won w a) (sound lost l b)))
 
-ordered-vote : (job : Job) (core : Core) (thread count won : ℕ) (lost : Option ℕ) (did : Did) → MayVote job core thread count won lost did → IsOrdered job core → IsOrdered job (after job core (Vote thread count won lost did))
+ordered-vote : (job : Job) (core : Core) (thread count won : ℕ) (lost : Lost) (did : Did) → MayVote job core thread count won lost did → IsOrdered job core → IsOrdered job (after job core (Vote thread count won lost did))
 unfolding after
 ordered-vote job core thread count won lost did may h =
     let p = vote-parts core thread may.may in
     let e = event-parts job core thread won may.event may.comes in
-    subst (λ (o : Option Event). IsOrdered job (core_after_event core thread count (with_recovered won lost core.replicas) o)) (sym may.comes)
+    subst (λ (o : Option Event). IsOrdered job (core_after_event core thread count (with_recovered won (numbers lost) core.replicas) o)) (sym may.comes)
     (ordered-event job core h thread count p.live p.alone p.not_due p.not_ended may.event (subst (Happens core.kernel thread) e.is (event-happens (setup_of job.program) core.kernel thread e.stop _))
-    (with_recovered won lost core.replicas) (length-with-copy won lost core.replicas) (copied-sound job core h.backed core.replicas won e.winner lost e.there h.sound)
+    (with_recovered won (numbers lost) core.replicas) (length-with-copy won (numbers lost) core.replicas) (copied-sound job core h.backed core.replicas won e.winner (numbers lost) e.there h.sound)
     (let f : core.steps + count + event_steps did ≤ job.settings.limit = may.fits in subst (λ (d : Did). core.steps + count + event_steps d ≤ job.settings.limit) (sym may.did_is) f))
 
 -- what a freed thread's event does in the plan

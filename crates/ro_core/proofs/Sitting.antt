@@ -1,17 +1,21 @@
 -- Replicas in their seats that are changed one at a time.
-use Rattle.std.proofs.Common.{◌≡◌, ◌≢◌, ℕ, zero, suc, ◌<◌, ◌≤◌, List, [], ◌∷◌, length, Option, Some, None, get_or, refl, sym, ap, ◌∙◌, subst}
+use Rattle.std.proofs.Common.{◌≡◌, ◌≢◌, ◌⊎◌, inl, inr, ℕ, zero, suc, ◌<◌, ◌≤◌, List, [], ◌∷◌, length, Option, Some, None, get_or, refl, sym, ap, ◌∙◌, subst}
 use Rattle.std.specs.Prelude.{slice_get, slice_set}
 use Rattle.std.specs.Option.{option_map_or}
+use Rattle.std.proofs.lemmas.Bool.{cases_eq}
+use Rattle.ro_pages.specs.Held.{has_page}
 use Rattle.std.proofs.lemmas.Option.{get_or_from_slice_get, slice_get_within}
 use Rattle.ro_kernel.proofs.Kept.{slice_get-set_other}
 use Rattle.ro_plain.proofs.Calls.{some-injective}
 use Rattle.ro_replica.specs.Replica.{Replica, recovered}
-use Rattle.ro_replica.specs.Seen.{ReplicaOf, replica_of, Recovers}
+use Rattle.ro_replica.specs.Seen.{ReplicaOf, replica_of, Recovers, AreTwins}
 use Rattle.ro_core.specs.Core.{Job}
 use Rattle.ro_event.specs.Effects.{Effect}
-use Rattle.ro_core.specs.Event.{all_applied, with_recovered}
+use Rattle.ro_core.specs.Event.{all_applied, with_copy}
 use Rattle.ro_core.specs.Seen.{IsOfJob}
-use Rattle.ro_core.specs.Fields.{IsSeat, AreHome, AreSpared}
+use Rattle.ro_core.proofs.Lists.{get-set-same, get-set-cases}
+use Rattle.ro_core.proofs.Copies.{length-copied}
+use Rattle.ro_core.specs.Fields.{IsSeat, AreHome, AreSpared, AreAllTwins}
 
 pub home-count : (job : Job) (seats : List (Option ReplicaOf)) (replicas : List Replica) → AreHome job seats replicas → length seats ≡ length replicas
 home-count job [] [] h = refl
@@ -76,18 +80,18 @@ set-back (w ∷ xs) (suc i) (suc j) x y z differ e = ap {B = List _} (λ r. w �
 pub loser-there : (seats : List (Option ReplicaOf)) (won lost : ℕ) (loser : ReplicaOf) (d : Option ReplicaOf) → won ≢ lost → slice_get seats lost ≡ Some (Some loser) → get_or (slice_set seats won None) lost d ≡ Some loser
 loser-there seats won lost loser d differ e = get_or_from_slice_get (slice_set seats won None) lost (Some loser) d (slice_get-set_other seats won lost None differ ∙ e)
 
-recovered-is : (won lost : ℕ) (replicas : List Replica) (winner loser : Replica) → slice_get replicas won ≡ Some winner → slice_get replicas lost ≡ Some loser → with_recovered won (Some lost) replicas ≡ slice_set replicas lost (recovered winner loser)
+recovered-is : (won lost : ℕ) (replicas : List Replica) (winner loser : Replica) → slice_get replicas won ≡ Some winner → slice_get replicas lost ≡ Some loser → with_copy won lost replicas ≡ slice_set replicas lost (recovered winner loser)
 recovered-is won lost replicas winner loser a b =
     ap (λ (o : Option Replica). option_map_or (λ w. option_map_or (λ l. slice_set replicas lost (recovered w l)) (slice_get replicas lost) replicas) o replicas) a
     ∙ ap (λ (o : Option Replica). option_map_or (λ l. slice_set replicas lost (recovered winner l)) o replicas) b
 
 pub recovery-home : (job : Job) (seats : List (Option ReplicaOf)) (replicas : List Replica) (won lost : ℕ) (winner loser other : ReplicaOf) → won ≢ lost → slice_get seats won ≡ Some (Some winner) → slice_get seats lost ≡ Some (Some loser)
-    → Recovers winner loser other → AreHome job seats replicas → AreHome job (slice_set (slice_set (slice_set seats won None) lost (Some other)) won (Some winner)) (with_recovered won (Some lost) replicas)
+    → Recovers winner loser other → AreHome job seats replicas → AreHome job (slice_set (slice_set (slice_set seats won None) lost (Some other)) won (Some winner)) (with_copy won lost replicas)
 recovery-home job seats replicas won lost winner loser other differ a b r home =
     let w = home-get job seats replicas won winner home a in
     let l = home-get job seats replicas lost loser home b in
     let own : IsOfJob job other = record { layout = r.program.layout ∙ l.0.layout; watchdog = r.program.watchdog ∙ l.0.watchdog } in
-    subst (λ (xs : List (Option ReplicaOf)). AreHome job xs (with_recovered won (Some lost) replicas)) (sym (set-back seats won lost (Some winner) None (Some other) differ a))
+    subst (λ (xs : List (Option ReplicaOf)). AreHome job xs (with_copy won lost replicas)) (sym (set-back seats won lost (Some winner) None (Some other) differ a))
     (subst (AreHome job (slice_set seats lost (Some other))) (sym (recovered-is won lost replicas (replica_of winner) (replica_of loser) w.1 l.1))
     (home-set job seats replicas lost other (recovered (replica_of winner) (replica_of loser)) home own r.recovered))
 
@@ -96,6 +100,61 @@ pub recovery-spared : (seats : List (Option ReplicaOf)) (won lost : ℕ) (winner
 recovery-spared seats won lost winner loser other differ a b r spared =
     subst AreSpared (sym (set-back seats won lost (Some winner) None (Some other) differ a))
     (spared-set seats lost other spared (subst (λ (n : ℕ). 3 ≤ n) (sym r.spare) (spared-get seats lost loser spared b)))
+
+-- the copy is as much a twin of each as the loser was
+other-twin : (winner loser other value : ReplicaOf) → Recovers winner loser other → AreTwins winner loser → AreTwins winner value → AreTwins other value
+unfolding recovered
+other-twin winner loser other value r t u =
+    let b : (page : ℕ) → has_page other.held.pages page ≡ has_page winner.held.pages page = λ page. ap (λ (x : Replica). x.backed page) r.recovered in
+    record {
+      program = record { layout = r.program.layout ∙ (sym t.program.layout ∙ u.program.layout); watchdog = r.program.watchdog ∙ (sym t.program.watchdog ∙ u.program.watchdog) };
+      pages = λ page. b page ∙ u.pages page;
+      threads = ap {B = ℕ} (λ (x : Replica). length x.threads) r.recovered ∙ (length-copied winner.threads loser.threads t.threads ∙ u.threads);
+    }
+
+turned-twin : (one other : ReplicaOf) → AreTwins one other → AreTwins other one
+turned-twin one other t = record {
+  program = record { layout = sym t.program.layout; watchdog = sym t.program.watchdog };
+  pages = λ page. sym (t.pages page);
+  threads = sym t.threads;
+}
+
+-- what is in a seat after one was set
+set-case : (seats : List (Option ReplicaOf)) (lost place : ℕ) (other value : ReplicaOf) → slice_get (slice_set seats lost (Some other)) place ≡ Some (Some value) → (slice_get seats place ≡ Some (Some value)) ⊎ (other ≡ value)
+set-case seats lost place other value e = by (get-set-cases seats lost place (Some other) (Some value) e)
+  where
+    by : ((place ≢ lost) × (slice_get seats place ≡ Some (Some value))) ⊎ ((place ≡ lost) × (Some other ≡ Some value)) → (slice_get seats place ≡ Some (Some value)) ⊎ (other ≡ value)
+    by (inl g) = inl g.1
+    by (inr g) = inr (some-injective g.1)
+
+-- all are twins after a recovery
+pub recovery-twins : (seats : List (Option ReplicaOf)) (won lost : ℕ) (winner loser other : ReplicaOf) → won ≢ lost → slice_get seats won ≡ Some (Some winner) → slice_get seats lost ≡ Some (Some loser)
+    → Recovers winner loser other → AreAllTwins seats → AreAllTwins (slice_set (slice_set (slice_set seats won None) lost (Some other)) won (Some winner))
+recovery-twins seats won lost winner loser other differ a b r all =
+    subst AreAllTwins (sym (set-back seats won lost (Some winner) None (Some other) differ a))
+    (λ place elsewhere one two e f. by place elsewhere one two (set-case seats lost place other one e) (set-case seats lost elsewhere other two f))
+  where
+    mate : (value : ReplicaOf) (place : ℕ) → slice_get seats place ≡ Some (Some value) → AreTwins other value
+    mate value place e = other-twin winner loser other value r (all won lost winner loser a b) (all won place winner value a e)
+
+    itself : AreTwins other other
+    itself = record { program = record { layout = refl; watchdog = refl }; pages = λ page. refl; threads = refl }
+
+    by : (place elsewhere : ℕ) (one two : ReplicaOf) → (slice_get seats place ≡ Some (Some one)) ⊎ (other ≡ one) → (slice_get seats elsewhere ≡ Some (Some two)) ⊎ (other ≡ two) → AreTwins one two
+    by place elsewhere one two (inl e) (inl f) = all place elsewhere one two e f
+    by place elsewhere one two (inl e) (inr g) = subst (AreTwins one) g (turned-twin other one (mate one place e))
+    by place elsewhere one two (inr g) (inl f) = subst (λ (x : ReplicaOf). AreTwins x two) g (mate two elsewhere f)
+    by place elsewhere one two (inr g) (inr k) = subst (λ (x : ReplicaOf). AreTwins x two) g (subst (AreTwins other) k itself)
+
+-- and each is in its seat
+pub recovery-seats : (seats : List (Option ReplicaOf)) (won lost : ℕ) (winner loser other : ReplicaOf) → won ≢ lost → slice_get seats won ≡ Some (Some winner) → slice_get seats lost ≡ Some (Some loser)
+    → (place : ℕ) → IsSeat seats place → IsSeat (slice_set (slice_set (slice_set seats won None) lost (Some other)) won (Some winner)) place
+recovery-seats seats won lost winner loser other differ a b place s =
+    subst (λ (xs : List (Option ReplicaOf)). IsSeat xs place) (sym (set-back seats won lost (Some winner) None (Some other) differ a)) (by (cases_eq lost place))
+  where
+    by : (lost ≡ place) ⊎ (lost ≢ place) → IsSeat (slice_set seats lost (Some other)) place
+    by (inl e) = (other, ap (slice_get (slice_set seats lost (Some other))) (sym e) ∙ get-set-same seats lost (Some loser) (Some other) b)
+    by (inr d) = (s.0, slice_get-set_other seats lost place (Some other) d ∙ s.1)
 
 -- one replica more that an event has reached
 pub applied-cons : (job : Job) (effect : Effect) (seats : List (Option ReplicaOf)) (replicas : List Replica) (seat seat' : Option ReplicaOf) (others others' : List (Option ReplicaOf)) → seats ≡ seat ∷ others → AreHome job seats replicas

@@ -9,6 +9,7 @@ use Rattle.ro_core.specs.Core.{Core, is_going, may_vote, views_of}
 use Rattle.ro_core.specs.Legal.{MayEnd, for_vote, EndsVote}
 use Rattle.ro_core.specs.Seen.{KeepsViews}
 use Rattle.ro_core.specs.Fields.{Fields, state_in, split_end, Holds}
+use Rattle.ro_settings.proofs.Counts.{few-replicas}
 use Rattle.ro_core.proofs.Held.{goes}
 use Rattle.ro_core.proofs.Ordered.{vote-parts}
 use Rattle.ro_core.proofs.Tests.{count-is, replicas-are}
@@ -35,7 +36,7 @@ module _ (f : Fields) (h : Holds f) (thread : ℕ) (may : may_vote (state_in f) 
     by-count true e = (ap verdict_of (sym views) ∙ split, as-many ∙ eqb-true (length f.views) 2 e)
     by-count false e =
         let two : length f.views ≢ 2 = λ k. true≢false (sym (eq-eqb (length f.views) 2 k) ∙ e) in
-        let range = h.in_range.replicas in
+        let range = few-replicas f.job.settings.replicas h.in_range.replicas in
         (ap verdict_of (sym views) ∙ split, (let count = count-is f h in let same = as-many in omega arith))
 
     pub split-ends : EndsVote f.job (state_in f) thread (split_end (length f.views))

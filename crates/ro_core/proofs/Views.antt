@@ -1,10 +1,11 @@
 -- The views of a vote, in the fields of a run.
-use Rattle.std.proofs.Common.{◌≡◌, ◌⊎◌, inl, inr, ℕ, true, List, length, None, Result, Ok, Err, sym, ap, ◌∙◌, arith}
+use Rattle.std.proofs.Common.{◌≤◌, ◌≡◌, ◌⊎◌, inl, inr, ℕ, true, List, length, None, Result, Ok, Err, sym, ap, ◌∙◌, arith}
 use Rattle.std.specs.Prelude.{OnErr}
 use Rattle.std.specs.List.{list_all, filter_map}
 use Rattle.std.proofs.lemmas.Bool.{and_parts, cases_eq}
 use Rattle.ro_event.specs.Views.{View}
 use Rattle.ro_replica.specs.Views.{view_of}
+use Rattle.ro_settings.proofs.Counts.{few-replicas}
 use Rattle.ro_core.specs.Core.{Core, may_vote, views_of}
 use Rattle.ro_core.specs.Fields.{AreHome, Fields, core_in, state_in, Holds}
 use Rattle.ro_core.specs.Grouped.{seat_stopped}
@@ -54,11 +55,8 @@ module _ (f : Fields) (h : Holds f) (thread : ℕ) (may : may_vote (state_in f) 
   as-many : length f.views ≡ f.job.settings.replicas
   as-many = h.views_count ∙ h.seats_are.count ∙ (ordered f.job f.journal h.legal).replica_count
 
-  pub view-count : (length f.views ≡ 2) ⊎ (length f.views ≡ 3)
-  view-count = elim (cases_eq (length f.views) 2) [
-    | inl e ↦ inl e
-    | inr e ↦ inr (let range = h.in_range.replicas in let many = as-many in omega arith)
-  ]
+  pub view-count : length f.views ≤ 5
+  view-count = let range = few-replicas f.job.settings.replicas h.in_range.replicas in let many = as-many in omega arith
 
   -- what is shown are the views of the vote
   pub view-views : (views : List View) → views ≡ filter_map (view_of f.job.program.image.ranges thread) (core_in f).replicas → views ≡ views_of f.job (state_in f) thread

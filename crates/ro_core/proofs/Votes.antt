@@ -10,6 +10,8 @@ use Rattle.ro_journal.specs.declared.How.{How}
 use Rattle.ro_journal.specs.declared.How.TheVariants.{Limit}
 use Rattle.ro_journal.specs.declared.Entry.{Entry}
 use Rattle.ro_journal.specs.declared.Entry.TheVariants.{Vote}
+use Rattle.ro_journal.specs.declared.losers.Lost.{Lost}
+use Rattle.ro_journal.specs.Losers.{numbers}
 use Rattle.ro_journal.specs.Plan.{event_steps}
 use Rattle.ro_event.specs.declared.calls.Call.{Call}
 use Rattle.ro_event.specs.declared.stops.Stop.{Stop}
@@ -23,7 +25,7 @@ use Rattle.ro_kernel.specs.State.{State}
 use Rattle.ro_exec.specs.Next.{Backed}
 use Rattle.ro_settings.specs.Ranges.{InRange}
 use Rattle.ro_vote.specs.Verdict.{verdict_of}
-use Rattle.ro_vote.specs.Votes.{IsWonBy}
+use Rattle.ro_vote.proofs.Verdicts.{WonBy, won-by}
 use Rattle.ro_plain.specs.Machine.{setup_of}
 use Rattle.ro_replica.specs.Replica.{Replica, applied, cancelled, stop_of}
 use Rattle.ro_replica.specs.Seen.{ReplicaOf, replica_of}
@@ -34,7 +36,7 @@ use Rattle.ro_core.specs.Event.{Event, call_event, event_of, with_recovered, all
 use Rattle.ro_core.specs.Legal.{event_in, core_after_event, after, MayVote, PassesLimit, MayEnd, for_vote, Legal, replay, replay_with}
 use Rattle.ro_core.specs.Seen.{sent_of, IsOfMajority, KeepsViews}
 use Rattle.ro_core.specs.Sound.{IsFault}
-use Rattle.ro_core.specs.Fields.{failed_of, one_end, blocked_at, AreSeated, AreHome, AreSpared, IsSeat, CanRecover, Fields, core_in, state_in, CountsBytes, Holds}
+use Rattle.ro_core.specs.Fields.{failed_of, one_end, blocked_at, AreSeated, AreHome, AreSpared, IsSeat, AreAllTwins, AreLosers, Fields, core_in, state_in, CountsBytes, Holds}
 use Rattle.ro_core.specs.Runs.{fields_of, job_of, IsHeld, IsAmid, MakesRoom, CanOccur, event_by, payload_by}
 use Rattle.ro_core.specs.Grouped.{AreGrouped, AreMade}
 use Rattle.ro_core.specs.Seated.{Stands}
@@ -44,7 +46,7 @@ use Rattle.ro_core.proofs.Served.{Tidy, tidy_done, serve-tidy}
 use Rattle.ro_core.proofs.Ordered.{VoteParts, vote-parts, copied-sound, ordered}
 use Rattle.ro_core.proofs.FaultStops.{fault-stops}
 use Rattle.ro_core.proofs.Sitting.{home-count, home-get}
-use Rattle.ro_core.proofs.Winners.{won-by, WonIn, won-in, won-view, Showing, showing, showing-event, showing-since, showing-short, views-count}
+use Rattle.ro_core.proofs.Winners.{WonIn, won-in, won-view, Showing, showing, showing-event, showing-since, showing-short, views-count}
 use Rattle.ro_core.proofs.Tests.{all-home, seated-home}
 use Rattle.ro_core.proofs.Lists.{get-within, length-mapped}
 
@@ -87,7 +89,7 @@ module _ (setup : Setup) (kernel : Kernel) (thread : ℕ) where
   page-low backed Watchdog payload low = tt
   page-low backed (TrapStop code) payload low = tt
 
-module _ (f : Fields) (thread won : ℕ) (lost : Option ℕ) (v : IsHeld f thread won lost) where
+module _ (f : Fields) (thread won : ℕ) (lost : Lost) (v : IsHeld f thread won lost) where
   h : Holds f
   h = v.holds
 
@@ -115,14 +117,14 @@ module _ (f : Fields) (thread won : ℕ) (lost : Option ℕ) (v : IsHeld f threa
   all-stopped : list_all (λ replica. is_some (stop_of replica thread)) (core_in f).replicas ≡ true
   all-stopped = (and_parts _ _ hold-may).1
 
-  pub hold-won : IsWonBy f.views won lost
-  hold-won = won-by f.views won lost v.verdict
+  pub hold-won : WonBy f.views won (numbers lost)
+  hold-won = won-by f.views won (numbers lost) v.verdict
 
   as-many : length f.views ≡ length (core_in f).replicas
   as-many = ap length hold-views ∙ views-count f.job (core_in f) thread all-stopped
 
-  won-of : WonIn f.views won lost
-  won-of = won-in f.views won lost hold-won
+  won-of : WonIn f.views won (numbers lost)
+  won-of = won-in f.views won (numbers lost) v.verdict
 
   pub hold-within : won < length f.views
   hold-within = won-of.within
@@ -153,38 +155,38 @@ module _ (f : Fields) (thread won : ℕ) (lost : Option ℕ) (v : IsHeld f threa
   hold-home = all-home f.job (core_in f) f.seats h.seats_are (vote-parts (core_in f) thread hold-may).alone
 
   -- and so it is of the replicas after the copy
-  pub hold-healed : (number : ℕ) (replica : Replica) → slice_get (with_recovered won lost (core_in f).replicas) number ≡ Some replica → length replica.threads ≡ length (core_in f).kernel.lives
+  pub hold-healed : (number : ℕ) (replica : Replica) → slice_get (with_recovered won (numbers lost) (core_in f).replicas) number ≡ Some replica → length replica.threads ≡ length (core_in f).kernel.lives
   hold-healed number replica e =
       let order = ordered f.job f.journal h.legal in
       let w = get-within (core_in f).replicas won (let x = hold-within in let y = as-many in omega arith) in
-      (copied-sound f.job (core_in f) order.backed (core_in f).replicas won w.0 lost w.1 order.sound number replica e).all_made
+      (copied-sound f.job (core_in f) order.backed (core_in f).replicas won w.0 (numbers lost) w.1 order.sound number replica e).all_made
 
   pub hold-made-all : AreMade (length f.kernel.kernel.lives) (core_in f).replicas
   hold-made-all number replica e = hold-threads number replica e ∙ ap (λ (k : Kernel). length k.lives) (sym h.kernel_is)
 
-  pub hold-made-healed : AreMade (length f.kernel.kernel.lives) (with_recovered won lost (core_in f).replicas)
+  pub hold-made-healed : AreMade (length f.kernel.kernel.lives) (with_recovered won (numbers lost) (core_in f).replicas)
   hold-made-healed number replica e = hold-healed number replica e ∙ ap (λ (k : Kernel). length k.lives) (sym h.kernel_is)
 
-  -- the loser can become as the winner, in seats that have the core's replicas
+  -- each loser can become as the winner, in seats that have the core's replicas
   module _ (seats : List (Option ReplicaOf)) (home : AreHome f.job seats (core_in f).replicas) where
     pub seat-of : (n : ℕ) → n < length f.views → IsSeat seats n
     seat-of n less = home-seat f.job seats (core_in f).replicas home n (let e = as-many in omega arith)
 
-    pub hold-twins : (l : ℕ) → CanRecover seats won l
-    hold-twins l winner loser a b =
-        let w = home-get f.job seats (core_in f).replicas won winner home a in
-        let o = home-get f.job seats (core_in f).replicas l loser home b in
+    pub hold-twins : AreAllTwins seats
+    hold-twins place elsewhere one other a b =
+        let w = home-get f.job seats (core_in f).replicas place one home a in
+        let o = home-get f.job seats (core_in f).replicas elsewhere other home b in
         let order = ordered f.job f.journal h.legal in
-        let x = order.sound won (replica_of winner) w.1 in
-        let y = order.sound l (replica_of loser) o.1 in
+        let x = order.sound place (replica_of one) w.1 in
+        let y = order.sound elsewhere (replica_of other) o.1 in
         record {
           program = record { layout = w.0.layout ∙ sym o.0.layout; watchdog = w.0.watchdog ∙ sym o.0.watchdog };
           pages = λ page. ap (λ (b : ℕ → Bool). b page) (x.same_backed ∙ sym y.same_backed);
           threads = x.all_made ∙ sym y.all_made;
         }
 
-    pub hold-recovers : (l : ℕ) → lost ≡ Some l → IsSeat seats won × IsSeat seats l × (won ≢ l) × CanRecover seats won l
-    hold-recovers l e = let p = won-of.lost_within l e in (seat-of won hold-within, seat-of l p.0, p.1, hold-twins l)
+    pub hold-losers : AreLosers seats won (numbers lost)
+    hold-losers l e = let p = won-of.lost_within l e in (seat-of l p.0, p.1)
 
   -- by the winner's view
   module _ (view : View) (there : slice_get f.views won ≡ Some view) where
@@ -224,7 +226,7 @@ module _ (f : Fields) (thread won : ℕ) (lost : Option ℕ) (v : IsHeld f threa
     pub hold-limit : (did : Did) → hold-event.did ≡ did → f.job.settings.limit < f.steps + (view.since + event_steps did) → PassesLimit f.job (core_in f) thread f.steps (view.since + event_steps did)
     hold-limit did is above = record {
       won = won;
-      lost = lost;
+      lost = numbers lost;
       verdict = ap verdict_of (sym hold-views) ∙ v.verdict;
       count = view.since;
       count_is = showing-since f.job (core_in f) thread won view shows;
@@ -250,13 +252,13 @@ module _ (f : Fields) (thread won : ℕ) (lost : Option ℕ) (v : IsHeld f threa
         subst (λ (n : ℕ). MayVote f.job (state_in f) thread n won lost did) (sym counts)
         (subst (λ (c : Core). MayVote f.job c thread view.since won lost did) (sym hold-goes.same) (hold-allowed did is (subst (λ (n : ℕ). f.steps + n ≤ f.job.settings.limit) steps fits)))
 
-    pub hold-came : (did : Did) → after f.job (core_in f) (Vote thread view.since won lost did) ≡ core_after (core_in f) thread view.since (with_recovered won lost (core_in f).replicas) hold-event
+    pub hold-came : (did : Did) → after f.job (core_in f) (Vote thread view.since won lost did) ≡ core_after (core_in f) thread view.since (with_recovered won (numbers lost) (core_in f).replicas) hold-event
     unfolding after
-    hold-came did = ap (core_after_event (core_in f) thread view.since (with_recovered won lost (core_in f).replicas)) hold-comes
+    hold-came did = ap (core_after_event (core_in f) thread view.since (with_recovered won (numbers lost) (core_in f).replicas)) hold-comes
 
     -- the event that the code has for it can be done
     pub hold-can : (r : Run) (e : Happening) (did : Did) (count next : ℕ) (threads : ℕ) → hold-event ≡ event_by e r.kernel.kernel (if e.writes then view.payload else []) → hold-event.did ≡ did → count ≡ view.since → next ≡ view.since + event_steps did → f.steps + next ≤ f.job.settings.limit
-        → IsAmid f r → Stands f.job r.seats (with_recovered won lost (core_in f).replicas) → AreSpared r.seats.homes.items → threads ≡ length f.kernel.kernel.lives → CanOccur r thread e (Vote thread count won lost did) next (if e.writes then Some won else None) threads
+        → IsAmid f r → Stands f.job r.seats (with_recovered won (numbers lost) (core_in f).replicas) → AreSpared r.seats.homes.items → threads ≡ length f.kernel.kernel.lives → CanOccur r thread e (Vote thread count won lost did) next (if e.writes then Some won else None) threads
     hold-can r e did count next threads is did_is counts steps fits amid stands spared threads_are = record {
       before = f;
       holds = h;
@@ -264,9 +266,9 @@ module _ (f : Fields) (thread won : ℕ) (lost : Option ℕ) (v : IsHeld f threa
       alone = hold-alone;
       amid = amid;
       count = view.since;
-      replicas = with_recovered won lost (core_in f).replicas;
+      replicas = with_recovered won (numbers lost) (core_in f).replicas;
       allowed = subst (λ (n : ℕ). MayVote f.job (core_in f) thread n won lost did) (sym counts) (hold-allowed did did_is (subst (λ (n : ℕ). f.steps + n ≤ f.job.settings.limit) steps fits));
-      came = ap (λ (n : ℕ). after f.job (core_in f) (Vote thread n won lost did)) counts ∙ hold-came did ∙ ap (core_after (core_in f) thread view.since (with_recovered won lost (core_in f).replicas)) is-by;
+      came = ap (λ (n : ℕ). after f.job (core_in f) (Vote thread n won lost did)) counts ∙ hold-came did ∙ ap (core_after (core_in f) thread view.since (with_recovered won (numbers lost) (core_in f).replicas)) is-by;
       no_end = refl;
       stop = view.stop;
       shown = view.payload;
@@ -308,7 +310,7 @@ module _ (f : Fields) (thread won : ℕ) (lost : Option ℕ) (v : IsHeld f threa
       view = hold-won.view;
       most = hold-won.most;
       rest = [];
-      front = ap (λ (v : View). v.payload) (won-view f.views won lost view hold-won there) ∙ sym (ap (λ (vs : List View). option_map_or (λ v. v.payload) (slice_get vs won) []) e ∙ ap (λ (o : Option View). option_map_or (λ v. v.payload) o []) there) ∙ sym (append-nil _);
+      front = ap (λ (v : View). v.payload) (won-view f.views won (numbers lost) view hold-won there) ∙ sym (ap (λ (vs : List View). option_map_or (λ v. v.payload) (slice_get vs won) []) e ∙ ap (λ (o : Option View). option_map_or (λ v. v.payload) o []) there) ∙ sym (append-nil _);
     })
 
 -- ---- what a write's event is
@@ -411,7 +413,7 @@ same-state f f' m =
     ∙ ap (λ (o : Option How). replay_with f.job f.journal (failed_of o)) m.due
 
 -- a vote that was won stays so where room is made
-pub held-room : (f f' : Fields) (thread won : ℕ) (lost : Option ℕ) → IsHeld f thread won lost → MakesRoom f f' → IsHeld f' thread won lost
+pub held-room : (f f' : Fields) (thread won : ℕ) (lost : Lost) → IsHeld f thread won lost → MakesRoom f f' → IsHeld f' thread won lost
 held-room f f' thread won lost v m =
     let state = same-state f f' m in
     record {

@@ -5,7 +5,7 @@ use Rattle.std.specs.List.{list_all}
 use Rattle.std.specs.Option.{option_map, option_and_then}
 use Rattle.std.proofs.lemmas.Bool.{and_parts, and_from}
 use Rattle.std.proofs.lemmas.List.Quantifiers.{position-Some}
-use Rattle.std.proofs.lemmas.Option.{slice_get-get_or}
+use Rattle.std.proofs.lemmas.Option.{slice_get_within}
 use Rattle.ro_event.specs.declared.calls.Call.{Call}
 use Rattle.ro_event.specs.declared.stops.Stop.{Stop}
 use Rattle.ro_event.specs.declared.stops.Stop.TheVariants.{Calls, Trap, PageFault, Watchdog}
@@ -16,8 +16,8 @@ use Rattle.ro_pages.specs.Bytes.{Memory, bytes_at}
 use Rattle.ro_kernel.specs.Serve.{capped, is_write, is_good_write, payload_of}
 use Rattle.ro_thread.specs.declared.Thread.{Thread}
 use Rattle.ro_vote.specs.Verdict.{verdict_of, Won, Split}
-use Rattle.ro_vote.specs.Votes.{IsWonBy}
-use Rattle.ro_vote.proofs.Majority.{all_alike, third_differs, second_differs, first_differs}
+use Rattle.ro_vote.specs.Numbers.{is_among}
+use Rattle.ro_vote.proofs.Verdicts.{WonBy, won-by, loser-within, winner-stays}
 use Rattle.ro_replica.specs.Replica.{Replica, stop_of}
 use Rattle.ro_replica.specs.Views.{payload_at, view_with, view_of}
 use Rattle.ro_plain.specs.Machine.{setup_of}
@@ -29,53 +29,20 @@ use Rattle.ro_core.proofs.Lists.{get-within, get-filter-map, length-filter-map}
 
 -- ---- the verdict
 
-same-won : (views : List View) (won won' : ℕ) (lost lost' : Option ℕ) → Won won lost ≡ Won won' lost' → IsWonBy views won lost → IsWonBy views won' lost'
-same-won views won won' lost lost' e h =
-    let w : won ≡ won' = (let f : Won won lost ≡ Won won' lost' = e in cc) in
-    let l : lost ≡ lost' = (let f : Won won lost ≡ Won won' lost' = e in cc) in
-    subst (λ (n : ℕ). IsWonBy views n lost') w (subst (IsWonBy views won) l h)
-
-by-two : (a b : View) (ab : Bool) → same_view a b ≡ ab → (won : ℕ) (lost : Option ℕ) → cond ab (Won 0 None) Split ≡ Won won lost → IsWonBy (a ∷ b ∷ []) won lost
-by-two a b false e won lost is = absurd (let f : Split ≡ Won won lost = is in cc)
-by-two a b true e won lost is = same-won (a ∷ b ∷ []) 0 won None lost is (record { view = a; most = rw (view-same a, e) (lit< tt); lowest = rw (view-same a) refl; loser = rw (view-same a, e) refl })
-
-by-three : (a b c : View) (ab ac bc : Bool) → same_view a b ≡ ab → same_view a c ≡ ac → same_view b c ≡ bc → (won : ℕ) (lost : Option ℕ)
-    → cond ab (cond ac (Won 0 None) (Won 0 (Some 2))) (cond ac (Won 0 (Some 1)) (cond bc (Won 1 (Some 0)) Split)) ≡ Won won lost → IsWonBy (a ∷ b ∷ c ∷ []) won lost
-by-three a b c true true bc e f g won lost is = same-won _ 0 won None lost is (all_alike a b c e f)
-by-three a b c true false bc e f g won lost is = same-won _ 0 won (Some 2) lost is (third_differs a b c e f)
-by-three a b c false true bc e f g won lost is = same-won _ 0 won (Some 1) lost is (second_differs a b c e f)
-by-three a b c false false true e f g won lost is = same-won _ 1 won (Some 0) lost is (first_differs a b c e g)
-by-three a b c false false false e f g won lost is = absurd (let k : Split ≡ Won won lost = is in cc)
-
-pub won-by : (views : List View) (won : ℕ) (lost : Option ℕ) → verdict_of views ≡ Won won lost → IsWonBy views won lost
-unfolding verdict_of
-won-by [] won lost is = absurd (let f : Split ≡ Won won lost = is in cc)
-won-by (a ∷ []) won lost is = absurd (let f : Split ≡ Won won lost = is in cc)
-won-by (a ∷ b ∷ []) won lost is = by-two a b (same_view a b) refl won lost is
-won-by (a ∷ b ∷ c ∷ []) won lost is = by-three a b c (same_view a b) (same_view a c) (same_view b c) refl refl refl won lost is
-won-by (a ∷ b ∷ c ∷ d ∷ views) won lost is = absurd (let f : Split ≡ Won won lost = is in cc)
-
--- the winner and the loser are two of the views
-pub record WonIn (views : List View) (won : ℕ) (lost : Option ℕ) : Type 0 where
+-- the winner and the losers are among the views
+pub record WonIn (views : List View) (won : ℕ) (lost : List ℕ) : Type 0 where
   pub within : won < length views
-  pub lost_within : (l : ℕ) → lost ≡ Some l → (l < length views) × (won ≢ l)
+  pub lost_within : (l : ℕ) → is_among lost l ≡ true → (l < length views) × (won ≢ l)
 
-pub won-in : (views : List View) (won : ℕ) (lost : Option ℕ) → IsWonBy views won lost → WonIn views won lost
-won-in views won lost w =
-    let p = position-Some (same_view w.view) views won w.view w.lowest in
-    record {
-      within = p.0;
-      lost_within = λ l e.
-          let q = position-Some (λ v. not (same_view w.view v)) views l w.view (w.loser ∙ e) in
-          (q.0, λ (same : won ≡ l). true≢false (sym q.1 ∙ ap not (ap (λ (n : ℕ). same_view w.view (get_or views n w.view)) (sym same) ∙ p.1)));
-    }
+pub won-in : (views : List View) (won : ℕ) (lost : List ℕ) → verdict_of views ≡ Won won lost → WonIn views won lost
+won-in views won lost e = record {
+  within = let w = won-by views won lost e in slice_get_within views won w.view w.there;
+  lost_within = λ l among. (loser-within views won lost e l among, λ (same : won ≡ l). true≢false (sym among ∙ (ap (is_among lost) (sym same) ∙ winner-stays views won lost e)));
+}
 
 -- the winner's view is that of the majority
-pub won-view : (views : List View) (won : ℕ) (lost : Option ℕ) (view : View) (w : IsWonBy views won lost) → slice_get views won ≡ Some view → w.view ≡ view
-won-view views won lost view w e =
-    let p = position-Some (same_view w.view) views won w.view w.lowest in
-    let at : get_or views won w.view ≡ view = some-injective (sym (slice_get-get_or views won w.view p.0) ∙ e) in
-    view-true w.view view (ap (same_view w.view) (sym at) ∙ p.1)
+pub won-view : (views : List View) (won : ℕ) (lost : List ℕ) (view : View) (w : WonBy views won lost) → slice_get views won ≡ Some view → w.view ≡ view
+won-view views won lost view w e = some-injective (sym w.there ∙ e)
 
 -- ---- views and replicas
 

@@ -1,5 +1,5 @@
 -- The fields of a core against its journal.
-use Rattle.std.specs.Prelude.{◌≡◌, ◌<◌, ◌≤◌, ◌+◌, ◌*◌, ℕ, Bool, true, false, List, [], ◌∷◌, length, Option, Some, None, nat_lt, ◌==◌, if◌then◌else◌, slice_get, slice_index_or}
+use Rattle.std.specs.Prelude.{◌≡◌, ◌≢◌, ◌<◌, ◌≤◌, ◌+◌, ◌*◌, ℕ, Bool, true, false, List, [], ◌∷◌, length, Option, Some, None, nat_lt, ◌==◌, if◌then◌else◌, slice_get, slice_index_or}
 use Rattle.ro_journal.specs.declared.Did.{Did}
 use Rattle.ro_journal.specs.declared.How.{How}
 use Rattle.ro_journal.specs.declared.How.TheVariants.{Differ, NoMajority, Sink}
@@ -14,6 +14,7 @@ use Rattle.ro_kernel.specs.State.{State}
 use Rattle.ro_kernel.specs.declared.outcome.Served.{Served}
 use Rattle.ro_kernel.specs.declared.outcome.Served.TheVariants.{Done, Blocked, Ends}
 use Rattle.ro_kernel.specs.Serve.{Served as Outcome, Done as DoneWith, Blocked as BlockedAtAll, Ends as EndsWith, serve}
+use Rattle.ro_vote.specs.Numbers.{is_among}
 use Rattle.ro_settings.specs.Ranges.{InRange}
 use Rattle.ro_replica.specs.Replica.{Replica}
 use Rattle.ro_replica.specs.Views.{is_unstopped}
@@ -138,9 +139,13 @@ KeepsSeat None new = new ≡ None
 KeepsSeat (Some value) None = ⊥
 KeepsSeat (Some value) (Some other) = Keeps value other
 
--- the loser can become as the winner
-abbrev pub CanRecover : List (Option ReplicaOf) → (won lost : ℕ) → Type 0
-CanRecover seats won lost = (winner loser : ReplicaOf) → slice_get seats won ≡ Some (Some winner) → slice_get seats lost ≡ Some (Some loser) → AreTwins winner loser
+-- each replica in its seat can become as any other
+abbrev pub AreAllTwins : List (Option ReplicaOf) → Type 0
+AreAllTwins seats = (place elsewhere : ℕ) (one other : ReplicaOf) → slice_get seats place ≡ Some (Some one) → slice_get seats elsewhere ≡ Some (Some other) → AreTwins one other
+
+-- losers in their seats, none of which is the winner's
+abbrev pub AreLosers : List (Option ReplicaOf) → (won : ℕ) → List ℕ → Type 0
+AreLosers seats won lost = (loser : ℕ) → is_among lost loser ≡ true → IsSeat seats loser × (won ≢ loser)
 
 -- what a code's event is, over the kernels before and after it: the definition's, whatever the payload
 abbrev pub IsEvent : Setup → (old new : Kernel) → (thread : ℕ) → Stop → (did : Did) → Effect → (blocked : Option Call) → (due : Option How) → (writes : Bool) → Type 0

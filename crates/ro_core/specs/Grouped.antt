@@ -1,5 +1,5 @@
 -- Which threads stand still, kept beside the replicas.
-use Rattle.std.specs.Prelude.{◌≡◌, ◌≢◌, ◌⊎◌, ◌<◌, ◌≤◌, ◌&&◌, ℕ, Bool, true, false, is_some, List, length, Option, Some, None, slice_get}
+use Rattle.std.specs.Prelude.{◌≡◌, ◌≢◌, ◌⊎◌, ◌<◌, ◌≤◌, ◌&&◌, ℕ, Bool, true, false, is_some, List, [], ◌∷◌, length, Option, Some, None, slice_get}
 use Rattle.ro_event.specs.Effects.{Effect}
 use Rattle.ro_group.specs.Groups.{Groups, stands, Changes, Releases as ReleasesIn}
 use Rattle.ro_replica.specs.Replica.{Replica, stop_of}
@@ -34,10 +34,10 @@ pub record CopiesRow (from to threads : ℕ) (old new : Groups) : Type 0 where
   pub copied : (thread : ℕ) → thread < threads → stands new to thread ≡ stands old from thread
   pub others : (number thread : ℕ) → (number ≢ to) ⊎ (threads ≤ thread) → stands new number thread ≡ stands old number thread
 
--- those of the loser, if there is a loser, where the winner's do
-abbrev pub Copies : (won : ℕ) (lost : Option ℕ) (threads : ℕ) → (old new : Groups) → Type 0
-Copies won None threads old new = new ≡ old
-Copies won (Some lost) threads old new = CopiesRow won lost threads old new
+-- those of each loser in turn, where the winner's do
+abbrev pub Copies : (won : ℕ) (lost : List ℕ) (threads : ℕ) → (old new : Groups) → Type 0
+Copies won [] threads old new = new ≡ old
+Copies won (lost ∷ losers) threads old new = (amid : Groups) × CopiesRow won lost threads old amid × Copies won losers threads amid new
 
 -- an effect's thread, if it is released, stands still nowhere
 pub record Releases (effect : Effect) (old new : Groups) : Type 0 where

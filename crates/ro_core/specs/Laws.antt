@@ -1,9 +1,11 @@
 -- What the laws of legal journals speak of.
-use Rattle.std.specs.Prelude.{◌≡◌, ◌≢◌, ℕ, ◌+◌, Bool, false, ◌&&◌, ◌||◌, ◌⊎◌, List, [], ◌∷◌, Option, Some, nat_le, ◌==◌, if◌then◌else◌, slice_get}
+use Rattle.std.specs.Prelude.{◌≡◌, ◌≢◌, ℕ, ◌+◌, Bool, false, true, ◌&&◌, ◌||◌, ◌⊎◌, List, [], ◌∷◌, Option, Some, nat_le, ◌==◌, if◌then◌else◌, slice_get}
 use Rattle.std.specs.Option.{option_and_then}
-use Rattle.ro_journal.specs.declared.Did.TheVariants.{Blocked}
+use Rattle.ro_journal.specs.declared.Did.TheVariants.{Served, Blocked}
 use Rattle.ro_journal.specs.declared.Entry.{Entry}
 use Rattle.ro_journal.specs.declared.Entry.TheVariants.{Put, Vote, Free}
+use Rattle.ro_journal.specs.Losers.{numbers}
+use Rattle.ro_vote.specs.Numbers.{is_among}
 use Rattle.ro_faults.specs.declared.Fault.{Fault}
 use Rattle.ro_thread.specs.declared.Thread.{Thread}
 use Rattle.ro_core.specs.Core.{Core}
@@ -19,7 +21,7 @@ LeavesBlocked entry thread = ⊥
 
 -- the entry answers the thread, or makes its replica a copy of another
 abbrev pub LetsGoOn : Entry → (replica thread : ℕ) → Type 0
-LetsGoOn (Vote voted count won lost did) replica thread = ((voted ≡ thread) × (did ≢ Blocked)) ⊎ (lost ≡ Some replica)
+LetsGoOn (Vote voted count won lost did) replica thread = ((voted ≡ thread) × (did ≢ Blocked)) ⊎ (is_among (numbers lost) replica ≡ true)
 LetsGoOn (Free freed) replica thread = freed ≡ thread
 LetsGoOn entry replica thread = ⊥
 
@@ -54,3 +56,9 @@ hits (entry ∷ journal) replica = hit_in replica entry + hits journal replica
 -- the moment of the fault has come: its thread ran in its replica, and has retired so many instructions
 abbrev pub has_come : List Entry → Fault → Bool
 has_come journal fault = has_run journal fault.replica fault.thread && nat_le fault.at (retired journal fault.replica fault.thread)
+
+-- the entry answers the call at which the thread stands: a vote serves it, or it is freed
+abbrev pub Answers : Entry → (thread : ℕ) → Type 0
+Answers (Vote voted count won lost did) thread = (voted ≡ thread) × (did ≡ Served)
+Answers (Free freed) thread = freed ≡ thread
+Answers entry thread = ⊥

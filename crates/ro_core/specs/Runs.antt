@@ -4,6 +4,8 @@ use Rattle.std.specs.Option.{option_map_or}
 use Rattle.ro_event.specs.declared.stops.Stop.{Stop}
 use Rattle.ro_event.specs.Views.{View}
 use Rattle.ro_journal.specs.declared.Entry.{Entry}
+use Rattle.ro_journal.specs.declared.losers.Lost.{Lost}
+use Rattle.ro_journal.specs.Losers.{numbers}
 use Rattle.ro_journal.specs.Plan.{event_steps, outcome_of}
 use Rattle.ro_kernel.specs.Kernel.{Kernel, lives_on}
 use Rattle.ro_replica.specs.Replica.{Replica}
@@ -43,15 +45,15 @@ abbrev pub state_of : Run → Core
 state_of r = state_in (fields_of r)
 
 -- the core of a run and a sink that holds and counts this
-abbrev pub core_of : Fields → (held : Option (List ℕ)) → (faults : ℕ) → CoreOf
-core_of f held faults = record {
+abbrev pub core_of : Fields → (held : Option (List ℕ)) → (failures : ℕ) → CoreOf
+core_of f held failures = record {
   job = f.job;
   journal = f.journal;
   failed = failed_of f.due;
   room = spare_of f.places f.lease_places;
   views = f.views;
   held = held;
-  faults = faults;
+  failures = failures;
 }
 
 abbrev pub silent : Run → CoreOf
@@ -59,7 +61,7 @@ silent r = core_of (fields_of r) None 0
 
 -- a relation of cores, whatever their sink, which stays as it is
 abbrev pub WithAnySink : (CoreOf → CoreOf → Type 0) → (old new : Run) → Type 0
-WithAnySink R old new = (held : Option (List ℕ)) (faults : ℕ) → R (core_of (fields_of old) held faults) (core_of (fields_of new) held faults)
+WithAnySink R old new = (held : Option (List ℕ)) (failures : ℕ) → R (core_of (fields_of old) held failures) (core_of (fields_of new) held failures)
 
 -- the bytes that have left
 abbrev pub sent_in : Fields → List ℕ
@@ -103,11 +105,11 @@ pub record MakesRoom (old new : Fields) : Type 0 where
   pub views : new.views ≡ old.views
 
 -- a vote on the thread that was won, and its views are in their places
-pub record IsHeld (f : Fields) (thread won : ℕ) (lost : Option ℕ) : Type 0 where
+pub record IsHeld (f : Fields) (thread won : ℕ) (lost : Lost) : Type 0 where
   pub holds : Holds f
   pub may : may_vote (state_in f) thread ≡ true
   pub views_are : f.views ≡ views_of f.job (state_in f) thread
-  pub verdict : verdict_of f.views ≡ Won won lost
+  pub verdict : verdict_of f.views ≡ Won won (numbers lost)
 
 -- the event of the code, with the kernel that it left, and what it writes
 abbrev pub event_by : Happening → Kernel → (payload : List ℕ) → Event

@@ -24,7 +24,7 @@ pub record CoreOf : Type 0 where
   pub room : ℕ
   pub views : List View
   pub held : Option (List ℕ)
-  pub faults : ℕ
+  pub failures : ℕ
 
 -- the core that the journal leaves, with the end that a failing sink makes due
 abbrev pub state : CoreOf → Core
@@ -39,12 +39,12 @@ abbrev pub sent : CoreOf → List ℕ
 sent core = sent_of core.job core.journal core.failed
 
 -- a core that was just opened
-pub record Opens (job : Job) (held : Option (List ℕ)) (faults : ℕ) (core : CoreOf) : Type 0 where
+pub record Opens (job : Job) (held : Option (List ℕ)) (failures : ℕ) (core : CoreOf) : Type 0 where
   pub job_is : core.job ≡ job
   pub journal_is : core.journal ≡ []
   pub failed_is : core.failed ≡ None
   pub held_is : core.held ≡ held
-  pub faults_is : core.faults ≡ faults
+  pub failures_is : core.failures ≡ failures
 
 -- one entry more
 pub record Appends (old new : CoreOf) (entry : Entry) : Type 0 where
@@ -56,15 +56,15 @@ pub record Quiet (old new : CoreOf) : Type 0 where
   pub failed : new.failed ≡ None
   pub sent : sent new ≡ sent old
   pub held : new.held ≡ old.held
-  pub faults : new.faults ≡ old.faults
+  pub failures : new.failures ≡ old.failures
 
 -- these bytes leave; where not all could, the sink failed, and it failed only there
 pub record Sends (old new : CoreOf) (bytes : List ℕ) : Type 0 where
   pub sent : sent new ≡ sent old ++ bytes
   pub held : new.held ≡ more old.held bytes
-  pub faults : old.faults ≤ new.faults
-  pub failed : IfSome new.failed (λ taken. Rose old.faults new.faults)
-  pub calm : new.failed ≡ None → new.faults ≡ old.faults
+  pub failures : old.failures ≤ new.failures
+  pub failed : IfSome new.failed (λ taken. Rose old.failures new.failures)
+  pub calm : new.failed ≡ None → new.failures ≡ old.failures
 
 -- a front of the payload that more than half of the views have
 pub record IsOfMajority (views : List View) (bytes : List ℕ) : Type 0 where
@@ -79,7 +79,7 @@ pub record Stays (old new : CoreOf) : Type 0 where
   pub journal : new.journal ≡ old.journal
   pub failed : new.failed ≡ old.failed
   pub held : new.held ≡ old.held
-  pub faults : new.faults ≡ old.faults
+  pub failures : new.failures ≡ old.failures
 
 -- room for a take, its put, the puts of the leases that are out, and the end
 abbrev pub HasRoom : CoreOf → Type 0

@@ -1,6 +1,5 @@
 //! The core: a sequential machine whose journal only grows. It is a run and the sink of its bytes.
 ghost use Rattle.std.specs.Prelude.{◌≡◌, ◌≢◌, ◌⊎◌, [], ℕ, List, Some, None, IsSome, IfOk, IfErr, OnErr, OnOk, IsTrue, length};
-ghost use Rattle.ro_journal.specs.declared.How.{How as HowOf};
 ghost use Rattle.ro_journal.specs.declared.How.TheVariants.{Differ, NoMajority};
 ghost use Rattle.ro_journal.specs.declared.Entry.TheVariants.{Take, End};
 ghost use Rattle.ro_journal.specs.Plan.{outcome_of};
@@ -37,7 +36,7 @@ impl<K: Sink> Model for Core<K> {
 
     ghost Value = { CoreOf };
 
-    ghost view = { λ c. core_of (fields_of c.run) (K.held c.out) (K.faults c.out) };
+    ghost view = { λ c. core_of (fields_of c.run) (K.held c.out) (K.failures c.out) };
 
     ghost invariant = { λ c. Holds (fields_of c.run) };
 }
@@ -69,7 +68,7 @@ impl<K: Sink> Core<K> {
     ) -> Result<Core<K>, K>
         requires settings { InRange settings }
         requires faults { AreFaults faults.now }
-        ensures opens { IfOk result (λ c. Opens (record { program = record { image = image; input = input.now }; faults = faults.now; settings = settings }) (K.held out) (K.faults out) c) }
+        ensures opens { IfOk result (λ c. Opens (record { program = record { image = image; input = input.now }; faults = faults.now; settings = settings }) (K.held out) (K.failures out) c) }
         ensures back { IfErr result (λ k. k ≡ out) }
     {
         match Run::begin(alloc, image, input, faults, settings) {
@@ -151,13 +150,13 @@ impl<K: Sink> Core<K> {
         self.run.free(thread)
     }
 
-    /// Ends the run, where an end is due or nothing can be done any more.
-    pub fn end(&mut self)
-        requires { (how : HowOf) × (next self.old.job (state self.old) ≡ act.End how) }
-        ensures entry { (how : HowOf) → next self.old.job (state self.old) ≡ act.End how → IsAllowed self.old.job (replay self.old.job self.old.journal) (End how) × IsNext self.old.job (replay self.old.job self.old.journal) (End how) × Appends self.old self.new (End how) }
+    /// Ends the run so, where this end is due or nothing can be done any more.
+    pub fn end(&mut self, how: How)
+        requires { next self.old.job (state self.old) ≡ act.End how }
+        ensures entry { IsAllowed self.old.job (replay self.old.job self.old.journal) (End how) × IsNext self.old.job (replay self.old.job self.old.journal) (End how) × Appends self.old self.new (End how) }
         ensures quiet { Quiet self.old self.new }
     {
-        self.run.end();
+        self.run.end(how);
     }
 
     /// Hands out how the run ended, if it did, the views of a vote that came to nothing, the journal and the sink.
@@ -170,7 +169,7 @@ impl<K: Sink> Core<K> {
         ensures bytes { result.bytes ≡ length (sent self) }
         ensures legal { Legal self.job self.journal }
         ensures open { IsSome self.failed → outcome_of self.journal ≡ None }
-        ensures sink { (K.held result.out ≡ self.held) × (K.faults result.out ≡ self.faults) }
+        ensures sink { (K.held result.out ≡ self.held) × (K.failures result.out ≡ self.failures) }
     {
         let Core { run, out } = self;
         let Run {

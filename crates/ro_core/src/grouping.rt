@@ -1,5 +1,7 @@
 //! Which threads stand still, kept beside the replicas.
-ghost use Rattle.std.specs.Prelude.{ℕ, ◌≡◌, ◌≢◌, ◌≤◌, ◌<◌, List, Some, IfSome, is_some, length};
+ghost use Rattle.std.specs.Prelude.{ℕ, ◌≡◌, ◌≢◌, ◌≤◌, ◌<◌, List, Some, true, is_some, length};
+ghost use Rattle.ro_journal.specs.Losers.{numbers};
+ghost use Rattle.ro_vote.specs.Numbers.{is_among};
 ghost use Rattle.ro_replica.specs.Replica.{Replica as ReplicaSeen, stop_of};
 ghost use Rattle.ro_replica.specs.Seen.{replica_of};
 ghost use Rattle.ro_core.specs.Core.{Job};
@@ -10,8 +12,8 @@ ghost use Rattle.ro_core.specs.Grouped.{AreGrouped, AreMade, Returns, Copies, Co
 use crate::seats::is_stopped;
 use ro_event::Effect;
 use ro_group::Groups;
+use ro_journal::Lost;
 use ro_replica::ReplicaBox;
-use ro_vote::Won;
 
 /// Notes a thread of a replica that comes back, if it came to a stop.
 pub(crate) fn note_return(groups: &mut Groups, replica: u32, thread: u32, lent: &ReplicaBox)
@@ -24,15 +26,20 @@ pub(crate) fn note_return(groups: &mut Groups, replica: u32, thread: u32, lent: 
     }
 }
 
-/// The loser's threads, if there is a loser, stand still where the winner's do.
-pub(crate) fn copy_stops(groups: &mut Groups, won: &Won, threads: u32)
-    requires won { won.now.won < length groups.old }
-    requires lost { IfSome won.now.lost (λ lost. (lost < length groups.old) × (won.now.won ≢ lost)) }
+/// The losers' threads stand still where the winner's do.
+pub(crate) fn copy_stops(groups: &mut Groups, won: u32, lost: Lost, threads: u32)
+    requires won { won < length groups.old }
+    requires lost { (loser : ℕ) → is_among (numbers lost) loser ≡ true → (loser < length groups.old) × (won ≢ loser) }
     requires threads { threads ≤ 16 }
-    ensures { Copies won.now.won won.now.lost threads groups.old groups.new }
+    ensures { Copies won (numbers lost) threads groups.old groups.new }
 {
-    if let Some(lost) = won.lost {
-        copy_row(groups, won.won, lost, threads);
+    match lost {
+        Lost::Nobody => {}
+        Lost::One(loser) => copy_row(groups, won, loser, threads),
+        Lost::Two(first, second) => {
+            copy_row(groups, won, first, threads);
+            copy_row(groups, won, second, threads);
+        }
     }
 }
 

@@ -14,7 +14,7 @@ ghost use Rattle.ro_core.specs.declared.actions.Action.TheVariants as act;
 ghost use Rattle.ro_core.specs.Core.{Job, Core, is_going, is_lendable, may_vote, may_free, nothing_lent};
 ghost use Rattle.ro_core.specs.Legal.{Legal, MayEnd, replay};
 ghost use Rattle.ro_core.specs.Action.{next_action};
-ghost use Rattle.ro_core.specs.Laws.{thread_in, LeavesBlocked, LetsGoOn, hits, has_come};
+ghost use Rattle.ro_core.specs.Laws.{thread_in, Answers, LeavesBlocked, LetsGoOn, hits, has_come};
 
 /// Nothing follows an end.
 pub fn end_is_last()
@@ -26,6 +26,13 @@ pub fn end_is_last()
 /// where it stands, but for its count since the last vote.
 pub fn one_grant_order()
     ensures { (job : Job) (journal : List Entry) (entry : Entry) → Legal job (journal ++ entry ∷ []) → (replica thread : ℕ) (stands : Thread) (call : Call) → thread_in (replay job journal) replica thread ≡ Some stands → stands.stop ≡ Some (Calls call) → (thread_in (replay job (journal ++ entry ∷ [])) replica thread ≡ Some stands) ⊎ (LeavesBlocked entry thread × (thread_in (replay job (journal ++ entry ∷ [])) replica thread ≡ Some (record stands { since = 0 }))) ⊎ LetsGoOn entry replica thread }
+{}
+
+/// A grant is one for all replicas: behind the vote or the free that answers a thread's call, of a mutex or any other, the
+/// thread goes on in every replica, unless the program ended. With `one_grant_order`, the order in which a replica's threads
+/// get a mutex is the order of these entries, which is the kernel's, unless the replica becomes a copy between.
+pub fn granted_everywhere()
+    ensures { (job : Job) (journal : List Entry) (entry : Entry) → Legal job (journal ++ entry ∷ []) → (thread : ℕ) → Answers entry thread → (replay job (journal ++ entry ∷ [])).due ≡ None → (number : ℕ) (replica : Replica) → slice_get (replay job (journal ++ entry ∷ [])).replicas number ≡ Some replica → stop_of replica thread ≡ None }
 {}
 
 /// Each fault whose moment has come was struck once, and the others of its replica wait.

@@ -1,6 +1,5 @@
 //! The run of a core: all that a core is but its sink.
 ghost use Rattle.std.specs.Prelude.{◌≡◌, ◌≢◌, ◌++◌, ◌∷◌, [], ℕ, true};
-ghost use Rattle.ro_journal.specs.declared.How.{How as HowOf};
 ghost use Rattle.ro_journal.specs.declared.How.TheVariants.{Sink as BySink};
 ghost use Rattle.ro_journal.specs.declared.Entry.TheVariants.{End};
 ghost use Rattle.ro_core.specs.declared.actions.Action.TheVariants as act;
@@ -44,16 +43,15 @@ pub(crate) struct Run {
 }
 
 impl Run {
-    /// Ends the run, where an end is due or nothing can be done any more.
-    pub fn end(&mut self)
+    /// Ends the run so, where this end is due or nothing can be done any more.
+    pub fn end(&mut self, how: How)
         requires holds { Holds (fields_of self.old) }
-        requires next { (how : HowOf) × (next (job_of self.old) (state_of self.old) ≡ act.End how) }
+        requires next { next (job_of self.old) (state_of self.old) ≡ act.End how }
         ensures holds { Holds (fields_of self.new) }
-        ensures allowed { (how : HowOf) → next (job_of self.old) (state_of self.old) ≡ act.End how → IsAllowed (job_of self.old) (replay (job_of self.old) self.old.journal.items) (End how) × IsNext (job_of self.old) (replay (job_of self.old) self.old.journal.items) (End how) }
-        ensures appends { (how : HowOf) → next (job_of self.old) (state_of self.old) ≡ act.End how → WithAnySink (λ old new. Appends old new (End how)) self.old self.new }
+        ensures allowed { IsAllowed (job_of self.old) (replay (job_of self.old) self.old.journal.items) (End how) × IsNext (job_of self.old) (replay (job_of self.old) self.old.journal.items) (End how) }
+        ensures appends { WithAnySink (λ old new. Appends old new (End how)) self.old self.new }
         ensures quiet { WithAnySink Quiet self.old self.new }
     {
-        let how = self.due.unwrap_or(How::Deadlock);
         self.journal.push_reserved(Entry::End { how });
         self.due = None;
         self.ended = Some(how);

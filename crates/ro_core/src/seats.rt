@@ -5,20 +5,20 @@ ghost use Rattle.ro_group.specs.Groups.{is_ready};
 ghost use Rattle.ro_replica.specs.Replica.{Replica as ReplicaSeen, stop_of};
 ghost use Rattle.ro_replica.specs.Views.{view_of};
 ghost use Rattle.ro_replica.specs.Seen.{ReplicaOf, replica_of, CanApply, AreTwins, Recovers};
-ghost use Rattle.ro_vote.specs.Verdict.{verdict_of};
-ghost use Rattle.ro_vote.specs.Votes.{verdict_of_three};
+ghost use Rattle.ro_journal.specs.Losers.{numbers};
 ghost use Rattle.ro_core.specs.Core.{Job};
-ghost use Rattle.ro_core.specs.Event.{all_applied, with_recovered};
-ghost use Rattle.ro_core.specs.Fields.{IsSeat, AreHome, AreSpared, CanTake, KeepsSeat, CanRecover, seat_unstopped};
+ghost use Rattle.ro_core.specs.Event.{all_applied, with_copy, with_recovered};
+ghost use Rattle.ro_core.specs.Fields.{IsSeat, AreHome, AreSpared, CanTake, KeepsSeat, AreAllTwins, AreLosers, seat_unstopped};
 ghost use Rattle.ro_core.specs.Grouped.{AreMade, Returns, seat_stopped};
 ghost use Rattle.ro_core.specs.Seated.{Stands};
 
 use crate::grouping::{copy_stops, note_return, regroup};
 use ro_event::{Effect, View};
 use ro_group::Groups;
+use ro_journal::Lost;
 use ro_recover::recover;
 use ro_replica::ReplicaBox;
-use ro_vote::{Pair, Won, vote2, vote3};
+use ro_vote::Won;
 use std::alloc::AllocError;
 
 /// How many pages an event backs in a replica at most.
@@ -95,23 +95,24 @@ impl Seats {
         reserve_pages(self.homes.as_mut_slice())
     }
 
-    /// The loser, if there is one, becomes as the winner.
+    /// Each loser becomes as the winner.
     pub fn heal(&mut self, won: &Won, threads: u32)
         requires home { (job : Job) × (replicas : List ReplicaSeen) × Stands job self.old replicas }
         requires won { IsSeat self.old.homes.items won.now.won }
-        requires lost { (lost : ℕ) → won.now.lost ≡ Some lost → IsSeat self.old.homes.items lost × (won.now.won ≢ lost) × CanRecover self.old.homes.items won.now.won lost }
+        requires lost { AreLosers self.old.homes.items won.now.won (numbers won.now.lost) }
+        requires twins { AreAllTwins self.old.homes.items }
         requires threads { threads ≤ 16 }
-        ensures stands { (job : Job) (replicas : List ReplicaSeen) → Stands job self.old replicas → AreMade threads replicas → Stands job self.new (with_recovered won.now.won won.now.lost replicas) }
+        ensures stands { (job : Job) (replicas : List ReplicaSeen) → Stands job self.old replicas → AreMade threads replicas → Stands job self.new (with_recovered won.now.won (numbers won.now.lost) replicas) }
         ensures spared { AreSpared self.old.homes.items → AreSpared self.new.homes.items }
     {
-        recover_loser(self.homes.as_mut_slice(), won);
-        copy_stops(&mut self.groups, won, threads);
+        recover_losers(self.homes.as_mut_slice(), won.won as usize, won.lost);
+        copy_stops(&mut self.groups, won.won, won.lost, threads);
     }
 
     /// Does what an event does to every replica; each is at home.
     pub fn apply(&mut self, effect: &Effect, threads: u32)
         requires home { (job : Job) × (replicas : List ReplicaSeen) × Stands job self.old replicas }
-        requires few { length self.old.homes.items ≤ 3 }
+        requires few { length self.old.homes.items ≤ 5 }
         requires can { CanTake effect.now self.old.homes.items }
         requires thread { effect.now.thread < 16 }
         requires threads { threads ≤ 16 }
@@ -195,21 +196,6 @@ fn show(seat: &Option<ReplicaBox>, thread: u32, view: &mut View)
     }
 }
 
-/// The verdict on the views of two or three replicas.
-pub(crate) fn verdict(views: &[View]) -> Option<Won>
-    requires { (length views.now ≡ 2) ⊎ (length views.now ≡ 3) }
-    ensures { verdict_of_three result ≡ verdict_of views.now }
-{
-    if views.len() == 2 {
-        match vote2(&views[0], &views[1]) {
-            Pair::Same => Some(Won { won: 0, lost: None }),
-            Pair::Differ => None,
-        }
-    } else {
-        vote3(&views[0], &views[1], &views[2])
-    }
-}
-
 // Makes sure that each replica can be given an event with no more memory. Where there is none, the replicas are as they were.
 fn reserve_pages(seats: &mut [Option<ReplicaBox>]) -> Result<(), AllocError>
     ensures kept { (job : Job) (replicas : List ReplicaSeen) → AreHome job seats.old replicas → AreHome job seats.new replicas }
@@ -232,14 +218,21 @@ fn reserve_in(seat: &mut Option<ReplicaBox>) -> Result<(), AllocError>
     }
 }
 
-// Overwrites the loser, if there is one, with the winner.
-fn recover_loser(seats: &mut [Option<ReplicaBox>], won: &Won)
-    requires { (lost : ℕ) → won.now.lost ≡ Some lost → IsSeat seats.old won.now.won × IsSeat seats.old lost × (won.now.won ≢ lost) × CanRecover seats.old won.now.won lost }
-    ensures recovered { (job : Job) (replicas : List ReplicaSeen) → AreHome job seats.old replicas → AreHome job seats.new (with_recovered won.now.won won.now.lost replicas) }
+// Overwrites each loser with the winner.
+fn recover_losers(seats: &mut [Option<ReplicaBox>], won: usize, lost: Lost)
+    requires won { IsSeat seats.old won }
+    requires lost { AreLosers seats.old won (numbers lost) }
+    requires twins { AreAllTwins seats.old }
+    ensures recovered { (job : Job) (replicas : List ReplicaSeen) → AreHome job seats.old replicas → AreHome job seats.new (with_recovered won (numbers lost) replicas) }
     ensures spared { AreSpared seats.old → AreSpared seats.new }
 {
-    if let Some(lost) = won.lost {
-        overwrite(seats, won.won as usize, lost as usize);
+    match lost {
+        Lost::Nobody => {}
+        Lost::One(loser) => overwrite(seats, won, loser as usize),
+        Lost::Two(first, second) => {
+            overwrite(seats, won, first as usize);
+            overwrite(seats, won, second as usize);
+        }
     }
 }
 
@@ -248,8 +241,10 @@ fn overwrite(seats: &mut [Option<ReplicaBox>], won: usize, lost: usize)
     requires winner { IsSeat seats.old won }
     requires loser { IsSeat seats.old lost }
     requires differ { won ≢ lost }
-    requires twins { CanRecover seats.old won lost }
-    ensures recovered { (job : Job) (replicas : List ReplicaSeen) → AreHome job seats.old replicas → AreHome job seats.new (with_recovered won (Some lost) replicas) }
+    requires twins { AreAllTwins seats.old }
+    ensures recovered { (job : Job) (replicas : List ReplicaSeen) → AreHome job seats.old replicas → AreHome job seats.new (with_copy won lost replicas) }
+    ensures seats { (place : ℕ) → IsSeat seats.old place → IsSeat seats.new place }
+    ensures twins { AreAllTwins seats.new }
     ensures spared { AreSpared seats.old → AreSpared seats.new }
 {
     let winner = leave(seats, won);

@@ -9,9 +9,8 @@ ghost use Rattle.ro_core.specs.Runs.{fields_of, job_of, state_of, sent_in, paylo
 
 use crate::events::{Event, did_of, happen, serve};
 use crate::runs::Run;
-use crate::seats::verdict;
 use ro_journal::{Entry, How};
-use ro_vote::Won;
+use ro_vote::{Won, verdict};
 use std::alloc::AllocError;
 
 /// What a vote decided: its entry, and the replica whose payload is to be written, if any is.

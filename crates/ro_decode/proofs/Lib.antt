@@ -1,3 +1,4 @@
 pub mod InstructionsBack
 pub mod WordsBack
 pub mod Masks
+pub mod Signs

@@ -52,20 +52,21 @@ pub fn funct7(word: u32) -> u32
     word >> 25
 }
 
-/// The immediate of loads, JALR and operations on a register and an immediate.
+/// The immediate of loads, JALR and operations on a register and an immediate: one shift that spreads the sign.
+#[tactic(auto, using(crate::proofs::Signs::spread))]
 #[inline(always)]
 pub fn i_form(word: u32) -> u32
     ensures { result ≡ i_immediate word }
 {
-    (word >> 20) + (word >> 31) * 0xFFFF_F000
+    word.cast_signed().wrapping_shr(20).cast_unsigned()
 }
 
-/// The immediate of stores.
+/// The immediate of stores: that of loads with other lowest five bits.
 #[inline(always)]
 pub fn s_form(word: u32) -> u32
     ensures { result ≡ s_immediate word }
 {
-    (word >> 7 & 31) + (word >> 25) * 32 + (word >> 31) * 0xFFFF_F000
+    i_form(word) / 32 * 32 + (word >> 7 & 31)
 }
 
 /// The immediate of branches.

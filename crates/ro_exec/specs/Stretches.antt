@@ -1,5 +1,9 @@
--- Code in which no stop stands before an instruction is read.
-use Rattle.std.specs.Prelude.{◌≡◌, ℕ, ◌+◌, ◌*◌, ◌%◌, ◌<◌, ◌≤◌, true, Option, Some, None}
+-- Code in which no stop stands before an instruction is read, and data that may be accessed.
+use Rattle.std.specs.Prelude.{◌≡◌, ℕ, ◌+◌, ◌*◌, ◌%◌, ◌^◌, ◌<◌, ◌≤◌, true, List, Option, Some, None}
+use Rattle.std.specs.List.{slice_get}
+use Rattle.ro_region.specs.declared.Range.{Range}
+use Rattle.ro_region.specs.declared.Kind.{Kind}
+use Rattle.ro_region.specs.Permission.{permits_of}
 use Rattle.ro_pages.specs.Bytes.{page_of}
 use Rattle.ro_exec.specs.declared.Cpu.{Cpu}
 use Rattle.ro_exec.specs.declared.stretch.Stretch.{Stretch}
@@ -16,3 +20,15 @@ IsClear layout backed stretch = (cpu : Cpu) → IsIn stretch cpu.pc → (fetch_s
 -- the page of each of its instructions is kept at its place
 abbrev pub IsKept : (ℕ → Option ℕ) → Stretch → Type 0
 IsKept kept stretch = (pc : ℕ) → IsIn stretch pc → kept stretch.place ≡ Some (page_of pc)
+
+-- each part of it may be accessed so, and the page of each of its bytes is backed, and kept at its place
+pub record IsOpenTo (ranges : List Range) (pages : Backed) (places : ℕ → Option ℕ) (kind : Kind) (stretch : Stretch) : Type 0 where
+  pub aligned : stretch.from % 4 ≡ 0
+  pub bounded : stretch.from + 4 * stretch.words ≤ 2 ^ 32
+  pub permitted : (p n : ℕ) → stretch.from ≤ p → p + n ≤ stretch.from + 4 * stretch.words → permits_of ranges kind p n ≡ true
+  pub backed : (p : ℕ) → stretch.from ≤ p → p < stretch.from + 4 * stretch.words → pages (page_of p) ≡ true
+  pub kept : (p : ℕ) → stretch.from ≤ p → p < stretch.from + 4 * stretch.words → places stretch.place ≡ Some (page_of p)
+
+-- each of them is so
+abbrev pub AreOpenTo : List Range → Backed → (ℕ → Option ℕ) → Kind → List Stretch → Type 0
+AreOpenTo ranges pages places kind stretches = (i : ℕ) (stretch : Stretch) → slice_get stretches i ≡ Some stretch → IsOpenTo ranges pages places kind stretch

@@ -1,5 +1,5 @@
 //! What each instruction does.
-ghost use Rattle.std.specs.Prelude.{◌≡◌, ◌+◌, ◌/◌, ◌%◌, ◌<◌, true};
+ghost use Rattle.std.specs.Prelude.{◌≡◌, ◌+◌, ◌*◌, ◌/◌, ◌%◌, ◌^◌, ◌<◌, true};
 ghost use Rattle.ro_decode.specs.Table.{InRange};
 ghost use Rattle.ro_alu.specs.Results.{low_word};
 ghost use Rattle.ro_pages.specs.Bytes.{IsSize, number_at, bytes_of, stored};
@@ -52,18 +52,19 @@ pub fn load<M: Memory>(memory: &M, op: LoadOp, address: u32) -> u32
     requires backed { M.backing memory.now (address / 4096) ≡ true }
     ensures { result ≡ loaded_as op (number_at (M.memory memory.now) address (load_size_of op)) }
 {
+    spread(op, memory.load(address, load_size(op)))
+}
+
+/// What a load puts into its register of what it found.
+#[inline(always)]
+pub fn spread(op: LoadOp, found: u32) -> u32
+    requires { found < 2 ^ (8 * load_size_of op) }
+    ensures { result ≡ loaded_as op found }
+{
     match op {
-        LoadOp::Lb => {
-            let found = memory.load(address, 1);
-            found + (found >> 7) * 0xFFFF_FF00
-        }
-        LoadOp::Lh => {
-            let found = memory.load(address, 2);
-            found + (found >> 15) * 0xFFFF_0000
-        }
-        LoadOp::Lw => memory.load(address, 4),
-        LoadOp::Lbu => memory.load(address, 1),
-        LoadOp::Lhu => memory.load(address, 2),
+        LoadOp::Lb => found + (found >> 7) * 0xFFFF_FF00,
+        LoadOp::Lh => found + (found >> 15) * 0xFFFF_0000,
+        LoadOp::Lw | LoadOp::Lbu | LoadOp::Lhu => found,
     }
 }
 

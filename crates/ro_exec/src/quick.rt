@@ -2,15 +2,14 @@
 ghost use Rattle.std.specs.Prelude.{◌≡◌, ◌+◌, ◌*◌, ◌/◌, ◌%◌, ◌^◌, ◌<◌, ◌≤◌, true, false, Some, None};
 ghost use Rattle.ro_decode.specs.Table.{InRange, instruction_of};
 ghost use Rattle.ro_alu.specs.Results.{low_word};
-ghost use Rattle.ro_region.specs.Permission.{permits_of};
 ghost use Rattle.ro_exec.specs.Registers.{with_register};
-ghost use Rattle.ro_exec.specs.Meaning.{load_size as load_size_of, store_size as store_size_of};
 ghost use Rattle.ro_exec.specs.Next.{Executes, instruction_stop, unless_stop, next_at, next, jump_stop};
 ghost use Rattle.ro_exec.specs.Steps.{IsQuick};
-ghost use Rattle.ro_exec.specs.Stretches.{IsClear, IsKept};
+ghost use Rattle.ro_exec.specs.Stretches.{IsClear, IsKept, AreOpenTo};
 
 use crate::bank::Bank;
-use crate::execution::{load, load_size, store, store_size};
+use crate::data::Open;
+use crate::execution::{load_size, spread, store_size};
 use crate::stretch::Stretch;
 use ro_alu::{alu, muldiv, taken};
 use ro_decode::{AluOp, BranchOp, Instr, LoadOp, MulDivOp, StoreOp, funct7, rows};
@@ -66,19 +65,6 @@ fn branch(pc: &mut u32, target: u32) -> bool
     true
 }
 
-/// Whether an access is seen at once to be let through.
-#[inline(always)]
-fn may_access<M: Memory>(memory: &M, regions: &Regions, kind: Kind, address: u32, size: u32) -> bool
-    requires { 0 < size }
-    ensures aligned { result ≡ true → address % size ≡ 0 }
-    ensures permitted { result ≡ true → permits_of regions.now kind address size ≡ true }
-    ensures backed { result ≡ true → M.backing memory.now (address / 4096) ≡ true }
-{
-    address % size == 0
-        && regions.permits_quickly(address, size, kind)
-        && memory.backed(address / 4096)
-}
-
 /// Executes an instruction, or changes nothing.
 #[tactic(auto, unfolding(crate::specs::Next::instruction_stop, crate::specs::Meaning::meaning))]
 #[inline(always)]
@@ -87,12 +73,18 @@ fn execute<M: Memory>(
     registers: &mut Bank,
     pc: &mut u32,
     memory: &mut M,
+    reads: &mut Open,
+    writes: &mut Open,
     regions: &Regions,
 ) -> bool
-    requires { InRange instr }
+    requires in_range { InRange instr }
+    requires reads { AreOpenTo regions.now (M.backing memory.old) (M.kept memory.old) Kind.Read reads.old.stretches }
+    requires writes { AreOpenTo regions.now (M.backing memory.old) (M.kept memory.old) Kind.Write writes.old.stretches }
     ensures step { IsQuick result (unless_stop (instruction_stop regions.now (M.backing memory.old) (record { registers = registers.old; pc = pc.old }) instr) (Executes instr)) (record { registers = registers.old; pc = pc.old }) (record { registers = registers.new; pc = pc.new }) (M.memory memory.old) (M.memory memory.new) }
     ensures pages { M.backing memory.new ≡ M.backing memory.old }
     ensures kept { M.kept memory.new ≡ M.kept memory.old }
+    ensures reads { AreOpenTo regions.now (M.backing memory.old) (M.kept memory.old) Kind.Read reads.new.stretches }
+    ensures writes { AreOpenTo regions.now (M.backing memory.old) (M.kept memory.old) Kind.Write writes.new.stretches }
 {
     let place = *pc;
     match instr {
@@ -118,18 +110,21 @@ fn execute<M: Memory>(
         }
         Instr::Load { op, rd, rs1, imm } => {
             let address = registers.get(rs1).wrapping_add(imm);
-            if !may_access(memory, regions, Kind::Read, address, load_size(op)) {
+            if !reads.shows(address, load_size(op), memory, regions, Kind::Read) {
                 return false;
             }
-            give(registers, pc, rd, load(memory, op, address));
+            let kept = reads.at(address).place;
+            let found = memory.load_kept(kept, address, load_size(op));
+            give(registers, pc, rd, spread(op, found));
             true
         }
         Instr::Store { op, rs1, rs2, imm } => {
             let address = registers.get(rs1).wrapping_add(imm);
-            if !may_access(memory, regions, Kind::Write, address, store_size(op)) {
+            if !writes.shows(address, store_size(op), memory, regions, Kind::Write) {
                 return false;
             }
-            store(memory, op, address, registers.get(rs2));
+            let kept = writes.at(address).place;
+            memory.store_kept(kept, address, store_size(op), registers.get(rs2));
             go_on(pc);
             true
         }
@@ -166,11 +161,17 @@ fn read_and_execute<M: Memory>(
     registers: &mut Bank,
     pc: &mut u32,
     memory: &mut M,
+    reads: &mut Open,
+    writes: &mut Open,
     regions: &Regions,
 ) -> bool
+    requires reads { AreOpenTo regions.now (M.backing memory.old) (M.kept memory.old) Kind.Read reads.old.stretches }
+    requires writes { AreOpenTo regions.now (M.backing memory.old) (M.kept memory.old) Kind.Write writes.old.stretches }
     ensures step { IsQuick result (next_at regions.now (M.backing memory.old) (record { registers = registers.old; pc = pc.old }) (instruction_of word)) (record { registers = registers.old; pc = pc.old }) (record { registers = registers.new; pc = pc.new }) (M.memory memory.old) (M.memory memory.new) }
     ensures pages { M.backing memory.new ≡ M.backing memory.old }
     ensures kept { M.kept memory.new ≡ M.kept memory.old }
+    ensures reads { AreOpenTo regions.now (M.backing memory.old) (M.kept memory.old) Kind.Read reads.new.stretches }
+    ensures writes { AreOpenTo regions.now (M.backing memory.old) (M.kept memory.old) Kind.Write writes.new.stretches }
 {
     match rows::row(word) {
         0x0D | 0x2D | 0x4D | 0x6D | 0x8D | 0xAD | 0xCD | 0xED => execute(
@@ -178,6 +179,8 @@ fn read_and_execute<M: Memory>(
             registers,
             pc,
             memory,
+            reads,
+            writes,
             regions,
         ),
         0x05 | 0x25 | 0x45 | 0x65 | 0x85 | 0xA5 | 0xC5 | 0xE5 => execute(
@@ -185,6 +188,8 @@ fn read_and_execute<M: Memory>(
             registers,
             pc,
             memory,
+            reads,
+            writes,
             regions,
         ),
         0x1B | 0x3B | 0x5B | 0x7B | 0x9B | 0xBB | 0xDB | 0xFB => execute(
@@ -192,14 +197,26 @@ fn read_and_execute<M: Memory>(
             registers,
             pc,
             memory,
+            reads,
+            writes,
             regions,
         ),
-        0x19 => execute(rows::jalr(word), registers, pc, memory, regions),
+        0x19 => execute(
+            rows::jalr(word),
+            registers,
+            pc,
+            memory,
+            reads,
+            writes,
+            regions,
+        ),
         0x18 => execute(
             rows::branch(word, BranchOp::Beq),
             registers,
             pc,
             memory,
+            reads,
+            writes,
             regions,
         ),
         0x38 => execute(
@@ -207,6 +224,8 @@ fn read_and_execute<M: Memory>(
             registers,
             pc,
             memory,
+            reads,
+            writes,
             regions,
         ),
         0x98 => execute(
@@ -214,6 +233,8 @@ fn read_and_execute<M: Memory>(
             registers,
             pc,
             memory,
+            reads,
+            writes,
             regions,
         ),
         0xB8 => execute(
@@ -221,6 +242,8 @@ fn read_and_execute<M: Memory>(
             registers,
             pc,
             memory,
+            reads,
+            writes,
             regions,
         ),
         0xD8 => execute(
@@ -228,6 +251,8 @@ fn read_and_execute<M: Memory>(
             registers,
             pc,
             memory,
+            reads,
+            writes,
             regions,
         ),
         0xF8 => execute(
@@ -235,16 +260,44 @@ fn read_and_execute<M: Memory>(
             registers,
             pc,
             memory,
+            reads,
+            writes,
             regions,
         ),
-        0x00 => execute(rows::load(word, LoadOp::Lb), registers, pc, memory, regions),
-        0x20 => execute(rows::load(word, LoadOp::Lh), registers, pc, memory, regions),
-        0x40 => execute(rows::load(word, LoadOp::Lw), registers, pc, memory, regions),
+        0x00 => execute(
+            rows::load(word, LoadOp::Lb),
+            registers,
+            pc,
+            memory,
+            reads,
+            writes,
+            regions,
+        ),
+        0x20 => execute(
+            rows::load(word, LoadOp::Lh),
+            registers,
+            pc,
+            memory,
+            reads,
+            writes,
+            regions,
+        ),
+        0x40 => execute(
+            rows::load(word, LoadOp::Lw),
+            registers,
+            pc,
+            memory,
+            reads,
+            writes,
+            regions,
+        ),
         0x80 => execute(
             rows::load(word, LoadOp::Lbu),
             registers,
             pc,
             memory,
+            reads,
+            writes,
             regions,
         ),
         0xA0 => execute(
@@ -252,6 +305,8 @@ fn read_and_execute<M: Memory>(
             registers,
             pc,
             memory,
+            reads,
+            writes,
             regions,
         ),
         0x08 => execute(
@@ -259,6 +314,8 @@ fn read_and_execute<M: Memory>(
             registers,
             pc,
             memory,
+            reads,
+            writes,
             regions,
         ),
         0x28 => execute(
@@ -266,6 +323,8 @@ fn read_and_execute<M: Memory>(
             registers,
             pc,
             memory,
+            reads,
+            writes,
             regions,
         ),
         0x48 => execute(
@@ -273,6 +332,8 @@ fn read_and_execute<M: Memory>(
             registers,
             pc,
             memory,
+            reads,
+            writes,
             regions,
         ),
         0x04 => execute(
@@ -280,6 +341,8 @@ fn read_and_execute<M: Memory>(
             registers,
             pc,
             memory,
+            reads,
+            writes,
             regions,
         ),
         0x44 => execute(
@@ -287,6 +350,8 @@ fn read_and_execute<M: Memory>(
             registers,
             pc,
             memory,
+            reads,
+            writes,
             regions,
         ),
         0x64 => execute(
@@ -294,6 +359,8 @@ fn read_and_execute<M: Memory>(
             registers,
             pc,
             memory,
+            reads,
+            writes,
             regions,
         ),
         0x84 => execute(
@@ -301,6 +368,8 @@ fn read_and_execute<M: Memory>(
             registers,
             pc,
             memory,
+            reads,
+            writes,
             regions,
         ),
         0xC4 => execute(
@@ -308,6 +377,8 @@ fn read_and_execute<M: Memory>(
             registers,
             pc,
             memory,
+            reads,
+            writes,
             regions,
         ),
         0xE4 => execute(
@@ -315,24 +386,60 @@ fn read_and_execute<M: Memory>(
             registers,
             pc,
             memory,
+            reads,
+            writes,
             regions,
         ),
         0x24 => match funct7(word) {
-            0 => execute(rows::sll_imm(word), registers, pc, memory, regions),
+            0 => execute(
+                rows::sll_imm(word),
+                registers,
+                pc,
+                memory,
+                reads,
+                writes,
+                regions,
+            ),
             _ => false,
         },
         0xA4 => match funct7(word) {
-            0 => execute(rows::srl_imm(word), registers, pc, memory, regions),
-            32 => execute(rows::sra_imm(word), registers, pc, memory, regions),
+            0 => execute(
+                rows::srl_imm(word),
+                registers,
+                pc,
+                memory,
+                reads,
+                writes,
+                regions,
+            ),
+            32 => execute(
+                rows::sra_imm(word),
+                registers,
+                pc,
+                memory,
+                reads,
+                writes,
+                regions,
+            ),
             _ => false,
         },
         0x0C => match funct7(word) {
-            0 => execute(rows::alu(word, AluOp::Add), registers, pc, memory, regions),
+            0 => execute(
+                rows::alu(word, AluOp::Add),
+                registers,
+                pc,
+                memory,
+                reads,
+                writes,
+                regions,
+            ),
             1 => execute(
                 rows::muldiv(word, MulDivOp::Mul),
                 registers,
                 pc,
                 memory,
+                reads,
+                writes,
                 regions,
             ),
             32 => execute(
@@ -340,61 +447,113 @@ fn read_and_execute<M: Memory>(
                 registers,
                 pc,
                 memory,
+                reads,
+                writes,
                 regions,
             ),
             _ => false,
         },
         0x2C => match funct7(word) {
-            0 => execute(rows::alu(word, AluOp::Sll), registers, pc, memory, regions),
+            0 => execute(
+                rows::alu(word, AluOp::Sll),
+                registers,
+                pc,
+                memory,
+                reads,
+                writes,
+                regions,
+            ),
             1 => execute(
                 rows::muldiv(word, MulDivOp::Mulh),
                 registers,
                 pc,
                 memory,
+                reads,
+                writes,
                 regions,
             ),
             _ => false,
         },
         0x4C => match funct7(word) {
-            0 => execute(rows::alu(word, AluOp::Slt), registers, pc, memory, regions),
+            0 => execute(
+                rows::alu(word, AluOp::Slt),
+                registers,
+                pc,
+                memory,
+                reads,
+                writes,
+                regions,
+            ),
             1 => execute(
                 rows::muldiv(word, MulDivOp::Mulhsu),
                 registers,
                 pc,
                 memory,
+                reads,
+                writes,
                 regions,
             ),
             _ => false,
         },
         0x6C => match funct7(word) {
-            0 => execute(rows::alu(word, AluOp::Sltu), registers, pc, memory, regions),
+            0 => execute(
+                rows::alu(word, AluOp::Sltu),
+                registers,
+                pc,
+                memory,
+                reads,
+                writes,
+                regions,
+            ),
             1 => execute(
                 rows::muldiv(word, MulDivOp::Mulhu),
                 registers,
                 pc,
                 memory,
+                reads,
+                writes,
                 regions,
             ),
             _ => false,
         },
         0x8C => match funct7(word) {
-            0 => execute(rows::alu(word, AluOp::Xor), registers, pc, memory, regions),
+            0 => execute(
+                rows::alu(word, AluOp::Xor),
+                registers,
+                pc,
+                memory,
+                reads,
+                writes,
+                regions,
+            ),
             1 => execute(
                 rows::muldiv(word, MulDivOp::Div),
                 registers,
                 pc,
                 memory,
+                reads,
+                writes,
                 regions,
             ),
             _ => false,
         },
         0xAC => match funct7(word) {
-            0 => execute(rows::alu(word, AluOp::Srl), registers, pc, memory, regions),
+            0 => execute(
+                rows::alu(word, AluOp::Srl),
+                registers,
+                pc,
+                memory,
+                reads,
+                writes,
+                regions,
+            ),
             1 => execute(
                 rows::muldiv(word, MulDivOp::Divu),
                 registers,
                 pc,
                 memory,
+                reads,
+                writes,
                 regions,
             ),
             32 => execute(
@@ -402,28 +561,50 @@ fn read_and_execute<M: Memory>(
                 registers,
                 pc,
                 memory,
+                reads,
+                writes,
                 regions,
             ),
             _ => false,
         },
         0xCC => match funct7(word) {
-            0 => execute(rows::alu(word, AluOp::Or), registers, pc, memory, regions),
+            0 => execute(
+                rows::alu(word, AluOp::Or),
+                registers,
+                pc,
+                memory,
+                reads,
+                writes,
+                regions,
+            ),
             1 => execute(
                 rows::muldiv(word, MulDivOp::Rem),
                 registers,
                 pc,
                 memory,
+                reads,
+                writes,
                 regions,
             ),
             _ => false,
         },
         0xEC => match funct7(word) {
-            0 => execute(rows::alu(word, AluOp::And), registers, pc, memory, regions),
+            0 => execute(
+                rows::alu(word, AluOp::And),
+                registers,
+                pc,
+                memory,
+                reads,
+                writes,
+                regions,
+            ),
             1 => execute(
                 rows::muldiv(word, MulDivOp::Remu),
                 registers,
                 pc,
                 memory,
+                reads,
+                writes,
                 regions,
             ),
             _ => false,
@@ -432,28 +613,39 @@ fn read_and_execute<M: Memory>(
     }
 }
 
-/// Does the next instruction of a thread in a stretch of code, or changes nothing.
+/// Does the next instruction of a thread, or changes nothing of the thread and the memory. The stretch is of code that was
+/// found last, and the other two are of data.
 #[tactic(auto, unfolding(crate::specs::Next::next))]
 #[inline(always)]
 pub fn quick_step<M: Memory>(
     registers: &mut Bank,
     pc: &mut u32,
     memory: &mut M,
+    reads: &mut Open,
+    writes: &mut Open,
     regions: &Regions,
     calls: &CallTable,
-    stretch: Stretch,
+    stretch: &mut Stretch,
 ) -> bool
-    requires aligned { stretch.from % 4 ≡ 0 }
-    requires bounded { stretch.from + 4 * stretch.words ≤ 2 ^ 32 }
-    requires clear { IsClear (record { ranges = regions.now; calls = calls.now }) (M.backing memory.old) stretch }
-    requires kept { IsKept (M.kept memory.old) stretch }
+    requires aligned { stretch.old.from % 4 ≡ 0 }
+    requires bounded { stretch.old.from + 4 * stretch.old.words ≤ 2 ^ 32 }
+    requires clear { IsClear (record { ranges = regions.now; calls = calls.now }) (M.backing memory.old) stretch.old }
+    requires page { IsKept (M.kept memory.old) stretch.old }
+    requires reads { AreOpenTo regions.now (M.backing memory.old) (M.kept memory.old) Kind.Read reads.old.stretches }
+    requires writes { AreOpenTo regions.now (M.backing memory.old) (M.kept memory.old) Kind.Write writes.old.stretches }
     ensures step { IsQuick result (next (record { ranges = regions.now; calls = calls.now }) (M.backing memory.old) (M.memory memory.old) (record { registers = registers.old; pc = pc.old })) (record { registers = registers.old; pc = pc.old }) (record { registers = registers.new; pc = pc.new }) (M.memory memory.old) (M.memory memory.new) }
     ensures pages { M.backing memory.new ≡ M.backing memory.old }
     ensures kept { M.kept memory.new ≡ M.kept memory.old }
+    ensures reads { AreOpenTo regions.now (M.backing memory.old) (M.kept memory.old) Kind.Read reads.new.stretches }
+    ensures writes { AreOpenTo regions.now (M.backing memory.old) (M.kept memory.old) Kind.Write writes.new.stretches }
+    ensures aligned { stretch.new.from % 4 ≡ 0 }
+    ensures bounded { stretch.new.from + 4 * stretch.new.words ≤ 2 ^ 32 }
+    ensures clear { IsClear (record { ranges = regions.now; calls = calls.now }) (M.backing memory.old) stretch.new }
+    ensures page { IsKept (M.kept memory.old) stretch.new }
 {
-    if !stretch.holds(*pc) {
+    if !stretch.follow(*pc, memory, regions, calls) {
         return false;
     }
     let word = memory.load_at(stretch.place, *pc);
-    read_and_execute(word, registers, pc, memory, regions)
+    read_and_execute(word, registers, pc, memory, reads, writes, regions)
 }

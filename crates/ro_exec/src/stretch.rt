@@ -1,5 +1,6 @@
 //! Stretches of code that a run keeps.
 ghost use Rattle.std.specs.Prelude.{ℕ, ◌≡◌, ◌+◌, ◌*◌, ◌/◌, ◌%◌, ◌^◌, ◌<◌, ◌≤◌, true};
+ghost use Rattle.ro_pages.specs.Bytes.{IsSize};
 ghost use Rattle.ro_exec.specs.Stretches.{IsIn, IsClear, IsKept};
 ghost use Rattle.ro_region.specs.Permission.{permits_byte, permits_of};
 ghost use Rattle.ro_region.specs.declared.Kind.TheVariants.{Execute};
@@ -9,7 +10,7 @@ use ro_event::CallTable;
 use ro_pages::Memory;
 use ro_region::{Kind, Regions};
 
-/// A stretch of code.
+/// A stretch of words in one page.
 #[derive(Clone, Copy, PartialEq, Eq, Debug)]
 pub struct Stretch {
     /// The address of its first word, a multiple of 4.
@@ -29,17 +30,78 @@ impl Stretch {
         requires bounded { self.from + 4 * self.words ≤ 2 ^ 32 }
         ensures { result ≡ true → IsIn self pc }
     {
-        let distance = pc.wrapping_sub(self.from);
-        distance / 4 + distance % 4 * 0x4000_0000 < self.words
+        self.fits(pc, 4)
+    }
+
+    /// Whether an access of 1, 2 or 4 bytes lies in the stretch, at a multiple of its size.
+    #[inline(always)]
+    pub fn fits(self, address: u32, size: u32) -> bool
+        requires size { IsSize size }
+        requires aligned { self.from % 4 ≡ 0 }
+        requires bounded { self.from + 4 * self.words ≤ 2 ^ 32 }
+        ensures aligned { result ≡ true → address % size ≡ 0 }
+        ensures begins { result ≡ true → self.from ≤ address }
+        ensures ends { result ≡ true → address + size ≤ self.from + 4 * self.words }
+    {
+        let distance = address.wrapping_sub(self.from);
+        let turned = match size {
+            1 => distance / 4,
+            2 => distance / 4 + distance % 2 * 0x4000_0000,
+            _ => distance / 4 + distance % 4 * 0x4000_0000,
+        };
+        turned < self.words
+    }
+
+    /// Whether a thread's place lies in the stretch, which becomes the code round it where it does not yet.
+    #[inline(always)]
+    pub fn follow<M: Memory>(
+        &mut self,
+        pc: u32,
+        memory: &M,
+        regions: &Regions,
+        calls: &CallTable,
+    ) -> bool
+        requires aligned { self.old.from % 4 ≡ 0 }
+        requires bounded { self.old.from + 4 * self.old.words ≤ 2 ^ 32 }
+        requires clear { IsClear (record { ranges = regions.now; calls = calls.now }) (M.backing memory.now) self.old }
+        requires kept { IsKept (M.kept memory.now) self.old }
+        ensures aligned { self.new.from % 4 ≡ 0 }
+        ensures bounded { self.new.from + 4 * self.new.words ≤ 2 ^ 32 }
+        ensures clear { IsClear (record { ranges = regions.now; calls = calls.now }) (M.backing memory.now) self.new }
+        ensures kept { IsKept (M.kept memory.now) self.new }
+        ensures inside { result ≡ true → IsIn self.new pc }
+    {
+        if self.holds(pc) {
+            return true;
+        }
+        self.renew(pc, memory, regions, calls);
+        self.holds(pc)
+    }
+
+    /// Becomes the code round a place. It is no part of the loop that runs code, as `stretch_at` would be.
+    #[cold]
+    #[inline(never)]
+    fn renew<M: Memory>(&mut self, pc: u32, memory: &M, regions: &Regions, calls: &CallTable)
+        ensures aligned { self.new.from % 4 ≡ 0 }
+        ensures bounded { self.new.from + 4 * self.new.words ≤ 2 ^ 32 }
+        ensures clear { IsClear (record { ranges = regions.now; calls = calls.now }) (M.backing memory.now) self.new }
+        ensures kept { IsKept (M.kept memory.now) self.new }
+    {
+        *self = stretch_at(pc, memory, regions, calls);
     }
 }
 
+/// The stretch of no word.
+pub const NONE: Stretch = Stretch {
+    from: 0,
+    words: 0,
+    place: 0,
+};
+
 /// The code round a place at which no stop stands before an instruction is read: in one page, backed and permitted, with
 /// no address of a call in it, and below the page of the exit's place. It may be empty.
-#[cold]
-#[inline(never)]
 #[tactic(auto, unfolding(crate::specs::Next::fetch_stop))]
-pub fn stretch_at<M: Memory>(pc: u32, memory: &M, regions: &Regions, calls: &CallTable) -> Stretch
+fn stretch_at<M: Memory>(pc: u32, memory: &M, regions: &Regions, calls: &CallTable) -> Stretch
     ensures clear { IsClear (record { ranges = regions.now; calls = calls.now }) (M.backing memory.now) result }
     ensures kept { IsKept (M.kept memory.now) result }
     ensures aligned { result.from % 4 ≡ 0 }
@@ -47,11 +109,7 @@ pub fn stretch_at<M: Memory>(pc: u32, memory: &M, regions: &Regions, calls: &Cal
 {
     let page = pc / 4096;
     if page >= EXIT_PLACE / 4096 || !memory.backed(page) {
-        return Stretch {
-            from: 0,
-            words: 0,
-            place: 0,
-        };
+        return NONE;
     }
     let (from, to) = regions.code_in_page(page);
     let (from, to) = calls.clear_around(pc, from, to);

@@ -2,7 +2,7 @@
 use super::*;
 use ro_event::CallTable;
 use ro_pages::{Memory, Pages};
-use ro_region::{Range, Regions};
+use ro_region::{Kind, Range, Regions};
 use std::alloc::{AllocError, Global};
 use std::process::Abort;
 use std::test::Fail;
@@ -57,7 +57,8 @@ fn keeps_code(rt: HostRuntime) -> Result<(), Fail> {
     let regions = regions(rt.alloc())?;
     let calls = calls();
     let pages = memory(&rt, rt.alloc())?;
-    let first = stretch_at(CODE, &pages, &regions, &calls);
+    let mut first = NONE;
+    assert!(rt; first.follow(CODE, &pages, &regions, &calls));
     assert_eq!(rt;
         first,
         Stretch {
@@ -77,7 +78,10 @@ fn keeps_code(rt: HostRuntime) -> Result<(), Fail> {
     ] {
         assert_eq!(rt; first.holds(pc), want, "at {pc:x}");
     }
-    let second = stretch_at(CALL + 4, &pages, &regions, &calls);
+    let mut second = first;
+    assert!(rt; second.follow(CODE + 0x40, &pages, &regions, &calls));
+    assert_eq!(rt; second, first);
+    assert!(rt; second.follow(CALL + 4, &pages, &regions, &calls));
     assert_eq!(rt;
         second,
         Stretch {
@@ -87,11 +91,42 @@ fn keeps_code(rt: HostRuntime) -> Result<(), Fail> {
         }
     );
     for pc in [DATA, UNBACKED, 0x7FFF_FFF0u32, 0xFFFF_FFFC] {
-        assert_eq!(rt;
-            stretch_at(pc, &pages, &regions, &calls).words,
-            0,
-            "at {pc:x}"
-        );
+        let mut none = first;
+        assert!(rt; !none.follow(pc, &pages, &regions, &calls), "at {pc:x}");
+        assert_eq!(rt; none.words, 0, "at {pc:x}");
+    }
+    Ok(())
+}
+
+// an address and a size; whether a store there is shown
+#[test]
+fn shows_data(rt: HostRuntime) -> Result<(), Fail> {
+    let list = [
+        range(DATA + 2, 0xFFA, true, false),
+        range(CODE, 0x1000, false, false),
+        range(UNBACKED, 0x1000, true, false),
+    ];
+    let regions = Regions::new(rt.alloc(), &list)?;
+    let pages = memory(&rt, rt.alloc())?;
+    for (address, size, want) in [
+        (DATA + 4, 4u32, true),
+        (DATA + 5, 1, true),
+        (DATA + 6, 2, true),
+        (DATA + 6, 4, false),
+        (DATA + 7, 2, false),
+        // permitted, but no whole word
+        (DATA + 2, 2, false),
+        (DATA, 4, false),
+        (DATA + 0xFF8, 4, true),
+        (DATA + 0xFFC, 1, false),
+        (CODE, 4, false),
+        (UNBACKED, 4, false),
+        (0xFFFF_FFFC, 4, false),
+    ] {
+        assert!(rt; size == 1 || size == 2 || size == 4);
+        let mut open = Open::new();
+        let shown = open.shows(address, size, &pages, &regions, Kind::Write);
+        assert_eq!(rt; shown, want, "{size} at {address:x}");
     }
     Ok(())
 }
@@ -106,12 +141,23 @@ fn does(
 ) -> bool {
     assert!(rt; pages.backed(CODE / 4096));
     pages.store(CODE, 4, word);
-    let stretch = stretch_at(CODE, pages, regions, calls);
+    let mut stretch = NONE;
+    let mut reads = Open::new();
+    let mut writes = Open::new();
     let mut bank = Bank::new(&[0; 31]);
     bank.set(5, DATA);
     bank.set(6, 2);
     let mut pc = CODE;
-    quick_step(&mut bank, &mut pc, pages, regions, calls, stretch)
+    quick_step(
+        &mut bank,
+        &mut pc,
+        pages,
+        &mut reads,
+        &mut writes,
+        regions,
+        calls,
+        &mut stretch,
+    )
 }
 
 #[test]

@@ -43,7 +43,7 @@ module _ (top : ℕ) where
   address-low (range ∷ ranges) ends place h =
       low-here range ranges place (ends 0 no_range (omega arith)) h (address-low ranges (All-tail Ends range ranges ends)) (nat_lt place range.length) refl
 
-module _ (ranges : List Range) (are : AreSegments ranges) (only : Option ℕ) (fits : unwrap_or only 0 < 3) where
+module _ (ranges : List Range) (are : AreSegments ranges) (only : Option ℕ) (replicas : ℕ) (three : 3 ≤ replicas) (fits : unwrap_or only 0 < replicas) where
   target-within : (kind : ℕ) (g : Lcg) → is_target (target_from ranges kind g) ≡ true
   target-within zero g = both (within 1 31 (1 + word 0 g % 31)) (within 0 31 (word 1 g % 32)) (lies 1 31 (1 + word 0 g % 31) (omega arith) (omega arith)) (lies 0 31 (word 1 g % 32) (omega arith) (omega arith))
   target-within (suc zero) g = lies 0 31 (word 0 g % 32) (omega arith) (omega arith)
@@ -53,20 +53,20 @@ module _ (ranges : List Range) (are : AreSegments ranges) (only : Option ℕ) (f
       let low : get_or (addresses_in ranges) (word 0 g % size) 0 < 0x40000000 = address-low 0x40000000 ranges are.low (word 0 g % size) place in
       both (within 0 (2 ^ 32 - 1) (slice_index (addresses_in ranges) (word 0 g % size))) (within 0 7 (word 1 g % 8)) (lies 0 (2 ^ 32 - 1) (slice_index (addresses_in ranges) (word 0 g % size)) (omega arith) (omega (arith, low))) (lies 0 7 (word 1 g % 8) (omega arith) (omega arith))
 
-  replica-within : (n : ℕ) (o : Option ℕ) → n < 3 → unwrap_or o 0 < 3 → unwrap_or o n < 3
+  replica-within : (n : ℕ) (o : Option ℕ) → n < replicas → unwrap_or o 0 < replicas → unwrap_or o n < replicas
   replica-within n None h f = h
   replica-within n (Some r) h f = f
 
-  fault-within : (g : Lcg) → is_fault 3 (fault_from ranges only g) ≡ true
+  fault-within : (g : Lcg) → is_fault replicas (fault_from ranges only g) ≡ true
   fault-within g =
       let replica = replica-within (word 0 g % 3) only (omega arith) fits in
       let target : is_target (target_from ranges (kind_from g) (after 4 g)) ≡ true = target-within (kind_from g) (after 4 g) in
-      let t2 : nat_lt (unwrap_or only (word 0 g % 3)) 3 ≡ true = lt-ltb _ 3 replica in
+      let t2 : nat_lt (unwrap_or only (word 0 g % 3)) replicas ≡ true = lt-ltb _ replicas replica in
       let t3 : within 0 15 (word 1 g % 4) ≡ true = lies 0 15 (word 1 g % 4) (omega arith) (omega arith) in
       let t4 : within 0 (10 ^ 12) (word 2 g % 10000) ≡ true = lies 0 (10 ^ 12) (word 2 g % 10000) (omega arith) (omega arith) in
       simp (target, t2, t3, t4)
 
-  pub faults-within : (count : ℕ) (g : Lcg) → list_all (is_fault 3) (faults_from ranges only count g) ≡ true
+  pub faults-within : (count : ℕ) (g : Lcg) → list_all (is_fault replicas) (faults_from ranges only count g) ≡ true
   faults-within zero g = refl
   faults-within (suc count) g =
-      both (is_fault 3 (fault_from ranges only g)) (list_all (is_fault 3) (faults_from ranges only count (after (4 + target_words (kind_from g)) g))) (fault-within g) (faults-within count (after (4 + target_words (kind_from g)) g))
+      both (is_fault replicas (fault_from ranges only g)) (list_all (is_fault replicas) (faults_from ranges only count (after (4 + target_words (kind_from g)) g))) (fault-within g) (faults-within count (after (4 + target_words (kind_from g)) g))

@@ -9,7 +9,7 @@ pub record SinkState : Type 0 where
   pub bytes : List ℕ
   pub room : ℕ
   pub acts : List Act
-  pub faults : ℕ
+  pub failures : ℕ
 
 -- how many bytes of so many the next act takes, if any: all where no act is left
 abbrev pub portion_of : List Act → (size : ℕ) → Option ℕ
@@ -25,7 +25,7 @@ taken_of sink piece =
 -- the sink after it took so many bytes of the piece, or none
 abbrev pub after_taking : SinkState → (piece : List ℕ) → Option ℕ → SinkState
 after_taking sink piece (Some count) = record sink { bytes = sink.bytes ++ take count piece; acts = drop 1 sink.acts }
-after_taking sink piece None = record sink { acts = drop 1 sink.acts; faults = risen sink.faults }
+after_taking sink piece None = record sink { acts = drop 1 sink.acts; failures = risen sink.failures }
 
 -- the sink after a piece was given to it
 abbrev pub after_piece : SinkState → (piece : List ℕ) → SinkState

@@ -3,14 +3,16 @@ use Rattle.std.specs.Prelude.{ℕ, Bool, List, ◌==◌, nat_eq, take, find, is_
 use Rattle.std.specs.List.{list_any}
 use Rattle.std.specs.Option.{option_map}
 use Rattle.std.specs.Cmp.Lexicographic.{pointwise}
-use Rattle.ro_io.specs.Outside.{risen}
+use Rattle.ro_io.specs.Outside.{Call, risen}
 
--- its files, each a name and the bytes; the numbers of the calls that fail; how many calls were made; and how many failed
+-- its files, each a name and the bytes; the numbers of the calls that fail; how many calls were made; how many failed; and, as long
+-- as there was memory for each, which they were
 pub record StoreState : Type 0 where
   pub files : List (List ℕ × List ℕ)
   pub failing : List ℕ
   pub calls : ℕ
-  pub faults : ℕ
+  pub failures : ℕ
+  pub noted : Option (List Call)
 
 -- the bytes of the first file of this name, if any
 abbrev pub file_in : List (List ℕ × List ℕ) → (name : List ℕ) → Option (List ℕ)
@@ -24,9 +26,10 @@ is_failing store = list_any (λ call. call == risen store.calls) store.failing
 abbrev pub fetched_of : StoreState → (name : List ℕ) → (most : ℕ) → Option (List ℕ)
 fetched_of store name most = if is_failing store then None else option_map (λ bytes. take most bytes) (file_in store.files name)
 
--- the store after the next call
-abbrev pub after_fetch : StoreState → (name : List ℕ) → (most : ℕ) → StoreState
-after_fetch store name most = record store {
+-- the store after the next call, where these calls are noted then
+abbrev pub after_fetch : StoreState → (name : List ℕ) → (most : ℕ) → (noted : Option (List Call)) → StoreState
+after_fetch store name most noted = record store {
   calls = risen store.calls;
-  faults = if is_some (fetched_of store name most) then store.faults else risen store.faults;
+  failures = if is_some (fetched_of store name most) then store.failures else risen store.failures;
+  noted = noted;
 }

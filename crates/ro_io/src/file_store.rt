@@ -8,42 +8,50 @@ use std::io::Read;
 use std::marker::Model;
 use std::rt::Files;
 
-/// A store over the file system. It does not tell what files there are.
+/// A store over the file system. It does not tell what files there are, nor for which it was called.
 #[derive(Drop)]
 pub struct FileStore<'a, R: Files> {
     rt: &'a R,
-    faults: u64,
+    failures: u64,
+    calls: u64,
 }
 
-// Contracts see how often it failed.
+// Contracts see how often it failed, and how often it was called.
 impl<'a, R: Files> Model for FileStore<'a, R> {
     ghost use Rattle.std.specs.Prelude.{ℕ};
 
-    ghost Value = { ℕ };
+    ghost Value = { ℕ × ℕ };
 
-    ghost view = { λ s. s.faults };
+    ghost view = { λ s. (s.failures, s.calls) };
 }
 
 impl<'a, R: Files> FileStore<'a, R> {
-    /// A store that has not failed yet.
+    /// A store that was not called yet.
     pub fn new(rt: &'a R) -> FileStore<'a, R>
-        ensures { result ≡ 0 }
+        ensures { result ≡ (0, 0) }
     {
-        FileStore { rt, faults: 0 }
+        FileStore {
+            rt,
+            failures: 0,
+            calls: 0,
+        }
     }
 }
 
 impl<'a, R: Files> Store for FileStore<'a, R> {
     ghost told = { λ _. None };
 
-    ghost faults = { λ s. s };
+    ghost failures = { λ s. s.0 };
+
+    ghost calls = { λ s. record { count = s.1; list = None } };
 
     fn fetch(&mut self, alloc: Global, name: &str, most: usize) -> Result<Vec<u8>, FetchError> {
+        self.calls = self.calls.saturating_add(1);
         match open_and_read(self.rt, alloc, name, most) {
             Ok(bytes) => Ok(bytes),
             Err(FetchError::NoMemory) => Err(FetchError::NoMemory),
             Err(FetchError::Failed) => {
-                self.faults = self.faults.saturating_add(1);
+                self.failures = self.failures.saturating_add(1);
                 Err(FetchError::Failed)
             }
         }

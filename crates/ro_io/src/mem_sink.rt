@@ -25,7 +25,7 @@ pub struct MemSink {
     bytes: Vec<u8>,
     room: usize,
     acts: VecDeque<Act>,
-    faults: u64,
+    failures: u64,
 }
 
 impl Model for MemSink {
@@ -38,7 +38,7 @@ impl Model for MemSink {
       bytes = s.bytes.items;
       room = s.room;
       acts = s.acts.items;
-      faults = s.faults;
+      failures = s.failures;
     } };
 
     ghost invariant = { λ s. (length s.bytes.items ≤ s.room) × (s.room ≤ vec_capacity s.bytes) };
@@ -51,13 +51,13 @@ impl MemSink {
     /// Where there is no memory for the room.
     pub fn new(alloc: Global, room: usize, acts: Vec<Act>) -> Result<MemSink, AllocError>
         ensures { IfOk result (λ sink.
-            sink ≡ record { bytes = []; room = room; acts = acts.items; faults = 0 }) }
+            sink ≡ record { bytes = []; room = room; acts = acts.items; failures = 0 }) }
     {
         Ok(MemSink {
             bytes: Vec::with_capacity(alloc, room)?,
             room,
             acts: VecDeque::from(acts),
-            faults: 0,
+            failures: 0,
         })
     }
 
@@ -72,16 +72,16 @@ impl MemSink {
 impl Sink for MemSink {
     ghost held = { λ s. Some s.bytes };
 
-    ghost faults = { λ s. s.faults };
+    ghost failures = { λ s. s.failures };
 
     fn give(&mut self, piece: &[u8]) -> Result<usize, Failed>
         requires { 0 < length piece.now }
         ensures count { IfOk result (λ n. (0 < n) × (n ≤ length piece.now)) }
         ensures taken { IfOk result (λ n. self.new.bytes ≡ self.old.bytes ++ take n piece.now) }
         ensures refused { OnErr result (self.new.bytes ≡ self.old.bytes) }
-        ensures cause { OnErr result (Rose self.old.faults self.new.faults) }
-        ensures calm { IfOk result (λ _. self.new.faults ≡ self.old.faults) }
-        ensures faults { self.old.faults ≤ self.new.faults }
+        ensures cause { OnErr result (Rose self.old.failures self.new.failures) }
+        ensures calm { IfOk result (λ _. self.new.failures ≡ self.old.failures) }
+        ensures failures { self.old.failures ≤ self.new.failures }
 
         // Which answer comes, and all that it changes.
         ensures answer { result_ok result ≡ taken_of self.old piece.now }
@@ -95,7 +95,7 @@ impl Sink for MemSink {
                 Ok(count)
             }
             _ => {
-                self.faults = self.faults.saturating_add(1);
+                self.failures = self.failures.saturating_add(1);
                 Err(Failed)
             }
         }

@@ -1,8 +1,8 @@
 //! A store over memory.
-ghost use Rattle.std.specs.Prelude.{◌≡◌, ◌≤◌, ◌↔◌, ◌++◌, [], ◌∷◌, Some, None, nat_eq, find, length, take, IfOk, OnOk, OnErr, IsErrOf, IfErr};
+ghost use Rattle.std.specs.Prelude.{◌≡◌, ◌≤◌, ◌↔◌, ◌++◌, true, List, [], ◌∷◌, Some, None, nat_eq, find, length, take, IfOk, IfSome, OnOk, OnErr, IsErrOf, IfErr};
 ghost use Rattle.std.specs.Option.{option_copied};
 ghost use Rattle.std.specs.Cmp.Lexicographic.{pointwise};
-ghost use Rattle.ro_io.specs.Outside.{Rose, IsFront};
+ghost use Rattle.ro_io.specs.Outside.{Asks, Call, Rose, IsFront, risen, unfailed};
 ghost use Rattle.ro_io.specs.MemStore.{file_in, is_failing, fetched_of, after_fetch};
 
 use crate::stores::{FetchError, Store};
@@ -16,7 +16,8 @@ pub struct MemStore {
     files: Vec<File>,
     failing: Vec<u64>,
     calls: u64,
-    faults: u64,
+    failures: u64,
+    noted: Noted,
 }
 
 impl Model for MemStore {
@@ -28,8 +29,73 @@ impl Model for MemStore {
       files = s.files.items;
       failing = s.failing.items;
       calls = s.calls;
-      faults = s.faults;
+      failures = s.failures;
+      noted = s.noted;
     } };
+}
+
+// The calls, or `None` where there was no memory for one.
+#[derive(Drop)]
+struct Noted(Option<Vec<Call>>);
+
+impl Model for Noted {
+    ghost use Rattle.std.specs.Prelude.{List, Option};
+    ghost use Rattle.std.specs.Option.{option_map};
+    ghost use Rattle.ro_io.specs.Outside.{Call};
+
+    ghost Value = { Option (List Call) };
+
+    ghost view = { λ n. option_map (λ calls. calls.items) n.0 };
+}
+
+impl Noted {
+    // There was none.
+    fn new(alloc: Global) -> Noted
+        ensures { result ≡ Some [] }
+    {
+        Noted(Some(Vec::new(alloc)))
+    }
+
+    // Notes one more.
+    fn note(&mut self, alloc: Global, name: &str, failed: bool)
+        ensures { IfSome self.new (λ all. (earlier : List Call) × (self.old ≡ Some earlier) × (all ≡ earlier ++ record { name = name.now; failed = failed } ∷ [])) }
+    {
+        if let Some(calls) = &mut self.0 {
+            if push_call(alloc, calls, name, failed).is_err() {
+                self.0 = None;
+            }
+        }
+    }
+}
+
+// A call: the name that was asked for, and whether it failed.
+#[derive(Drop)]
+struct Call {
+    name: String,
+    failed: bool,
+}
+
+impl Model for Call {
+    ghost use Rattle.std.specs.Prelude.{string_bytes};
+    ghost use Rattle.ro_io.specs.Outside.{Call as CallOf};
+
+    ghost Value = { CallOf };
+
+    ghost view = { λ c. record { name = string_bytes c.name; failed = c.failed } };
+}
+
+// Appends a call.
+fn push_call(
+    alloc: Global,
+    calls: &mut Vec<Call>,
+    name: &str,
+    failed: bool,
+) -> Result<(), AllocError>
+    ensures { OnOk result (calls.new.items ≡ calls.old.items ++ record { name = name.now; failed = failed } ∷ []) }
+{
+    let name = String::from_str(alloc, name)?;
+    calls.push(Call { name, failed })?;
+    Ok(())
 }
 
 // A file: its name and its bytes.
@@ -79,14 +145,15 @@ impl File {
 impl MemStore {
     /// A store with no files, of which no call fails.
     pub fn new(alloc: Global) -> MemStore
-        ensures { result ≡ record { files = []; failing = []; calls = 0; faults = 0 } }
+        ensures { result ≡ record { files = []; failing = []; calls = 0; failures = 0; noted = Some [] } }
     {
         MemStore {
             alloc,
             files: Vec::new(alloc),
             failing: Vec::new(alloc),
             calls: 0,
-            faults: 0,
+            failures: 0,
+            noted: Noted::new(alloc),
         }
     }
 
@@ -124,6 +191,15 @@ impl MemStore {
         self.failing.iter().any(|number| *number == call)
     }
 
+    // Counts a call, and notes it.
+    fn count(&mut self, name: &str, failed: bool)
+        ensures after { self.new ≡ record self.old { calls = risen self.old.calls; noted = self.new.noted } }
+        ensures noted { IfSome self.new.noted (λ all. (earlier : List Call) × (self.old.noted ≡ Some earlier) × (all ≡ earlier ++ record { name = name.now; failed = failed } ∷ [])) }
+    {
+        self.calls = self.calls.saturating_add(1);
+        self.noted.note(self.alloc, name, failed);
+    }
+
     // What the next call fetches, if it does not fail.
     fn next(&self, name: &str, most: usize) -> Option<&[u8]>
         ensures { option_copied result ≡ fetched_of self.now name.now most }
@@ -141,31 +217,35 @@ impl MemStore {
 impl Store for MemStore {
     ghost told = { λ s. Some (file_in s.files) };
 
-    ghost faults = { λ s. s.faults };
+    ghost failures = { λ s. s.failures };
+
+    ghost calls = { λ s. record { count = s.calls; list = s.noted } };
 
     fn fetch(&mut self, alloc: Global, name: &str, most: usize) -> Result<Vec<u8>, FetchError>
         ensures length { IfOk result (λ bytes. length bytes.items ≤ most) }
         ensures front { IfOk result (λ bytes.
             IsFront (file_in self.old.files) name.now most bytes.items) }
         ensures told { self.new.files ≡ self.old.files }
-        ensures cause { IsErrOf result FetchError.Failed → Rose self.old.faults self.new.faults }
-        ensures calm { (IsErrOf result FetchError.Failed → ⊥) → self.new.faults ≡ self.old.faults }
-        ensures faults { self.old.faults ≤ self.new.faults }
+        ensures cause { IsErrOf result FetchError.Failed → Rose self.old.failures self.new.failures }
+        ensures calm { (IsErrOf result FetchError.Failed → ⊥) → self.new.failures ≡ self.old.failures }
+        ensures failures { self.old.failures ≤ self.new.failures }
+        ensures lost { IsErrOf result FetchError.Failed → Asks (record { count = self.old.calls; list = self.old.noted }) (record { count = self.new.calls; list = self.new.noted }) (record { name = name.now; failed = true } ∷ []) }
+        ensures asked { (IsErrOf result FetchError.Failed → ⊥) → Asks (record { count = self.old.calls; list = self.old.noted }) (record { count = self.new.calls; list = self.new.noted }) (unfailed (name.now ∷ [])) }
 
         // Which answer comes, but for want of memory, and all that the call changes.
         ensures fetched { IfOk result (λ bytes.
             fetched_of self.old name.now most ≡ Some bytes.items) }
         ensures failed { IsErrOf result FetchError.Failed ↔
             (fetched_of self.old name.now most ≡ None) }
-        ensures after { self.new ≡ after_fetch self.old name.now most }
+        ensures after { self.new ≡ after_fetch self.old name.now most self.new.noted }
     {
         let Some(bytes) = self.next(name, most) else {
-            self.calls = self.calls.saturating_add(1);
-            self.faults = self.faults.saturating_add(1);
+            self.count(name, true);
+            self.failures = self.failures.saturating_add(1);
             return Err(FetchError::Failed);
         };
         let copy = copy_of(alloc, bytes);
-        self.calls = self.calls.saturating_add(1);
+        self.count(name, false);
         copy
     }
 }

@@ -11,7 +11,7 @@ use std::marker::Model;
 #[derive(Drop)]
 pub struct OutSink<W: Write> {
     stream: W,
-    faults: u64,
+    failures: u64,
 }
 
 // Contracts see the stream, and how often it failed.
@@ -20,7 +20,7 @@ impl<W: Write> Model for OutSink<W> {
 
     ghost Value = { W × ℕ };
 
-    ghost view = { λ s. (s.stream, s.faults) };
+    ghost view = { λ s. (s.stream, s.failures) };
 }
 
 impl<W: Write> OutSink<W> {
@@ -28,21 +28,24 @@ impl<W: Write> OutSink<W> {
     pub fn new(stream: W) -> OutSink<W>
         ensures { result ≡ (stream, 0) }
     {
-        OutSink { stream, faults: 0 }
+        OutSink {
+            stream,
+            failures: 0,
+        }
     }
 }
 
 impl<W: Write> Sink for OutSink<W> {
     ghost held = { λ _. None };
 
-    ghost faults = { λ s. s.1 };
+    ghost failures = { λ s. s.1 };
 
     fn give(&mut self, piece: &[u8]) -> Result<usize, Failed>
         requires { 0 < length piece.now }
         ensures count { IfOk result (λ n. (0 < n) × (n ≤ length piece.now)) }
         ensures cause { OnErr result (Rose self.old.1 self.new.1) }
         ensures calm { IfOk result (λ _. self.new.1 ≡ self.old.1) }
-        ensures faults { self.old.1 ≤ self.new.1 }
+        ensures failures { self.old.1 ≤ self.new.1 }
 
         // A stream that tells what it holds has got what was taken.
         ensures written { IfOk result (λ n.
@@ -52,7 +55,7 @@ impl<W: Write> Sink for OutSink<W> {
         match write_some(&mut self.stream, piece) {
             Some(count) => Ok(count),
             None => {
-                self.faults = self.faults.saturating_add(1);
+                self.failures = self.failures.saturating_add(1);
                 Err(Failed)
             }
         }

@@ -8,9 +8,9 @@ use crate::sinks::{Failed, Sink};
 pub fn send<K: Sink>(out: &mut K, bytes: &[u8]) -> Option<u32>
     requires { length bytes.now < 2 ^ 32 }
     ensures whole { result ≡ None → K.held out.new ≡ more (K.held out.old) bytes.now }
-    ensures part { IfSome result (λ n. (n < length bytes.now) × (K.held out.new ≡ more (K.held out.old) (take n bytes.now)) × Rose (K.faults out.old) (K.faults out.new)) }
-    ensures calm { result ≡ None → K.faults out.new ≡ K.faults out.old }
-    ensures faults { K.faults out.old ≤ K.faults out.new }
+    ensures part { IfSome result (λ n. (n < length bytes.now) × (K.held out.new ≡ more (K.held out.old) (take n bytes.now)) × Rose (K.failures out.old) (K.failures out.new)) }
+    ensures calm { result ≡ None → K.failures out.new ≡ K.failures out.old }
+    ensures failures { K.failures out.old ≤ K.failures out.new }
 {
     let mut sent = 0;
     while sent < bytes.len() {

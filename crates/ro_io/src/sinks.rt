@@ -14,18 +14,18 @@ pub trait Sink {
     ghost held: { Self → Option (List ℕ) };
 
     // How often it failed.
-    ghost faults: { Self → ℕ };
+    ghost failures: { Self → ℕ };
 
     /// Gives bytes to the sink, at least one of them, and answers how many it took, from the front.
     ///
     /// # Errors
-    /// `Failed` where it took none. Its count of faults rose then, and only then.
+    /// `Failed` where it took none. Its count of failures rose then, and only then.
     fn give(&mut self, piece: &[u8]) -> Result<usize, Failed>
         requires { 0 < length piece.now }
         ensures count { IfOk result (λ n. (0 < n) × (n ≤ length piece.now)) }
         ensures taken { IfOk result (λ n. held self.new ≡ more (held self.old) (take n piece.now)) }
         ensures refused { OnErr result (held self.new ≡ held self.old) }
-        ensures cause { OnErr result (Rose (faults self.old) (faults self.new)) }
-        ensures calm { IfOk result (λ _. faults self.new ≡ faults self.old) }
-        ensures faults { faults self.old ≤ faults self.new };
+        ensures cause { OnErr result (Rose (failures self.old) (failures self.new)) }
+        ensures calm { IfOk result (λ _. failures self.new ≡ failures self.old) }
+        ensures failures { failures self.old ≤ failures self.new };
 }

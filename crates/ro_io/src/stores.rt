@@ -1,6 +1,6 @@
 //! Where files come from.
-ghost use Rattle.std.specs.Prelude.{◌≡◌, ◌≤◌, IfOk, IsErrOf, IfSome, length};
-ghost use Rattle.ro_io.specs.Outside.{Rose, IsFront};
+ghost use Rattle.std.specs.Prelude.{◌≡◌, ◌≤◌, ◌∷◌, [], true, IfOk, IsErrOf, IfSome, length};
+ghost use Rattle.ro_io.specs.Outside.{Asks, Rose, IsFront, unfailed};
 
 use std::alloc::Global;
 
@@ -16,24 +16,29 @@ pub enum FetchError {
 /// Where files come from.
 pub trait Store {
     ghost use Rattle.std.specs.Prelude.{ℕ, Option};
-    ghost use Rattle.ro_io.specs.Outside.{Files};
+    ghost use Rattle.ro_io.specs.Outside.{Calls, Files};
 
     // The files that it holds, where it tells.
     ghost told: { Self → Option Files };
 
     // How often it failed.
-    ghost faults: { Self → ℕ };
+    ghost failures: { Self → ℕ };
 
-    /// Fetches the first `most` bytes of a file, or all where it has fewer.
+    // How often it was called, and for which files, where it tells.
+    ghost calls: { Self → Calls };
+
+    /// Fetches the first `most` bytes of a file, or all where it has fewer. Each call counts as one, whatever comes of it.
     ///
     /// # Errors
-    /// `Failed` where there is no such file or it can't be read; the count of faults rose then, and only then. `NoMemory`
+    /// `Failed` where there is no such file or it can't be read; the count of failures rose then, and only then. `NoMemory`
     /// where there is no memory for the bytes.
     fn fetch(&mut self, alloc: Global, name: &str, most: usize) -> Result<Vec<u8>, FetchError>
         ensures length { IfOk result (λ bytes. length bytes.items ≤ most) }
         ensures front { IfOk result (λ bytes. IfSome (told self.old) (λ files. IsFront files name.now most bytes.items)) }
         ensures told { told self.new ≡ told self.old }
-        ensures cause { IsErrOf result FetchError.Failed → Rose (faults self.old) (faults self.new) }
-        ensures calm { (IsErrOf result FetchError.Failed → ⊥) → faults self.new ≡ faults self.old }
-        ensures faults { faults self.old ≤ faults self.new };
+        ensures cause { IsErrOf result FetchError.Failed → Rose (failures self.old) (failures self.new) }
+        ensures calm { (IsErrOf result FetchError.Failed → ⊥) → failures self.new ≡ failures self.old }
+        ensures failures { failures self.old ≤ failures self.new }
+        ensures lost { IsErrOf result FetchError.Failed → Asks (calls self.old) (calls self.new) (record { name = name.now; failed = true } ∷ []) }
+        ensures asked { (IsErrOf result FetchError.Failed → ⊥) → Asks (calls self.old) (calls self.new) (unfailed (name.now ∷ [])) };
 }

@@ -1,3 +1,4 @@
+pub mod Listed
 pub mod Many
 pub mod Steps
 pub mod Back

@@ -10,32 +10,34 @@ use Rattle.ro_journal.specs.declared.Did.{Did}
 use Rattle.ro_journal.specs.declared.How.{How}
 use Rattle.ro_journal.specs.declared.Entry.{Entry}
 use Rattle.ro_journal.specs.declared.Entry.TheVariants.{Take, Put, Vote, Free, End}
+use Rattle.ro_journal.specs.declared.losers.Lost.{Lost}
+use Rattle.ro_journal_text.specs.declared.versions.Version.{Version}
 use Rattle.ro_journal_text.specs.declared.errors.JournalCode.TheVariants.{Range}
 use Rattle.ro_journal_text.specs.Texts.{entry_words}
-use Rattle.ro_journal_text.specs.Reading.{did_of, lost_of, how_of, take_of, put_of, vote_with, vote_of, free_of, end_of, entry_of, is_lost, is_entry, ranged, line_entry}
-use Rattle.ro_journal_text.proofs.Wording.{same, pick, chosen, inner, once, did_once, lost_once, how_once}
+use Rattle.ro_journal_text.specs.Reading.{did_of, lost_of, how_of, take_of, put_of, vote_with, vote_of, free_of, end_of, entry_of, most_replica, is_lost, is_entry, ranged, line_entry}
+use Rattle.ro_journal_text.proofs.Wording.{same, pick, chosen, inner, once, replica_once, did_once, lost_once, how_once}
 
-take_once : (fields : List (List ℕ)) (entry : Entry) → take_of fields ≡ Some entry → is_entry entry ≡ true → entry_words entry ≡ codes "take" ∷ fields
-take_once [] entry h fits = absurd (cc)
-take_once (a ∷ []) entry h fits = absurd (cc)
-take_once (a ∷ b ∷ []) entry h fits = absurd (cc)
-take_once (driver ∷ replica ∷ thread ∷ []) entry h fits =
+take_once : (version : Version) (fields : List (List ℕ)) (entry : Entry) → take_of fields ≡ Some entry → is_entry version entry ≡ true → entry_words entry ≡ codes "take" ∷ fields
+take_once version [] entry h fits = absurd (cc)
+take_once version (a ∷ []) entry h fits = absurd (cc)
+take_once version (a ∷ b ∷ []) entry h fits = absurd (cc)
+take_once version (driver ∷ replica ∷ thread ∷ []) entry h fits =
     let p = chosen (is_number driver && is_number replica && is_number thread) (Some (Take (value_of driver) (value_of replica) (value_of thread))) entry h in
     let e = inner (Take (value_of driver) (value_of replica) (value_of thread)) entry p.1 in
     let two = and_parts (is_number driver && is_number replica) (is_number thread) p.0 in
     let one = and_parts (is_number driver) (is_number replica) two.0 in
-    let g = and_parts (within 0 7 (value_of driver) && within 0 2 (value_of replica)) (within 0 15 (value_of thread)) (ap is_entry e ∙ fits) in
-    let f = and_parts (within 0 7 (value_of driver)) (within 0 2 (value_of replica)) g.0 in
-    ap entry_words (sym e) ∙ rw (once 0 7 driver (omega arith) one.0 f.0, once 0 2 replica (omega arith) one.1 f.1, once 0 15 thread (omega arith) two.1 g.1) refl
-take_once (a ∷ b ∷ c ∷ d ∷ fields) entry h fits = absurd (cc)
+    let g = and_parts (within 0 7 (value_of driver) && within 0 (most_replica version) (value_of replica)) (within 0 15 (value_of thread)) (ap (is_entry version) e ∙ fits) in
+    let f = and_parts (within 0 7 (value_of driver)) (within 0 (most_replica version) (value_of replica)) g.0 in
+    ap entry_words (sym e) ∙ rw (once 0 7 driver (omega arith) one.0 f.0, replica_once version replica one.1 f.1, once 0 15 thread (omega arith) two.1 g.1) refl
+take_once version (a ∷ b ∷ c ∷ d ∷ fields) entry h fits = absurd (cc)
 
-put_once : (fields : List (List ℕ)) (entry : Entry) → put_of fields ≡ Some entry → is_entry entry ≡ true → entry_words entry ≡ codes "put" ∷ fields
-put_once [] entry h fits = absurd (cc)
-put_once (a ∷ []) entry h fits = absurd (cc)
-put_once (a ∷ b ∷ []) entry h fits = absurd (cc)
-put_once (a ∷ b ∷ c ∷ []) entry h fits = absurd (cc)
-put_once (a ∷ b ∷ c ∷ d ∷ []) entry h fits = absurd (cc)
-put_once (driver ∷ replica ∷ thread ∷ count ∷ hit ∷ []) entry h fits =
+put_once : (version : Version) (fields : List (List ℕ)) (entry : Entry) → put_of fields ≡ Some entry → is_entry version entry ≡ true → entry_words entry ≡ codes "put" ∷ fields
+put_once version [] entry h fits = absurd (cc)
+put_once version (a ∷ []) entry h fits = absurd (cc)
+put_once version (a ∷ b ∷ []) entry h fits = absurd (cc)
+put_once version (a ∷ b ∷ c ∷ []) entry h fits = absurd (cc)
+put_once version (a ∷ b ∷ c ∷ d ∷ []) entry h fits = absurd (cc)
+put_once version (driver ∷ replica ∷ thread ∷ count ∷ hit ∷ []) entry h fits =
     let made = Put (value_of driver) (value_of replica) (value_of thread) (value_of count) (value_of hit) in
     let p = chosen (is_number driver && is_number replica && is_number thread && is_number count && is_number hit) (Some made) entry h in
     let e = inner made entry p.1 in
@@ -43,82 +45,82 @@ put_once (driver ∷ replica ∷ thread ∷ count ∷ hit ∷ []) entry h fits =
     let three = and_parts (is_number driver && is_number replica && is_number thread) (is_number count) four.0 in
     let two = and_parts (is_number driver && is_number replica) (is_number thread) three.0 in
     let one = and_parts (is_number driver) (is_number replica) two.0 in
-    let j = and_parts (within 0 7 (value_of driver) && within 0 2 (value_of replica) && within 0 15 (value_of thread) && within 0 65536 (value_of count)) (within 0 256 (value_of hit)) (ap is_entry e ∙ fits) in
-    let i = and_parts (within 0 7 (value_of driver) && within 0 2 (value_of replica) && within 0 15 (value_of thread)) (within 0 65536 (value_of count)) j.0 in
-    let g = and_parts (within 0 7 (value_of driver) && within 0 2 (value_of replica)) (within 0 15 (value_of thread)) i.0 in
-    let f = and_parts (within 0 7 (value_of driver)) (within 0 2 (value_of replica)) g.0 in
-    ap entry_words (sym e) ∙ rw (once 0 7 driver (omega arith) one.0 f.0, once 0 2 replica (omega arith) one.1 f.1, once 0 15 thread (omega arith) two.1 g.1, once 0 65536 count (omega arith) three.1 i.1, once 0 256 hit (omega arith) four.1 j.1) refl
-put_once (a ∷ b ∷ c ∷ d ∷ e ∷ f ∷ fields) entry h fits = absurd (cc)
+    let j = and_parts (within 0 7 (value_of driver) && within 0 (most_replica version) (value_of replica) && within 0 15 (value_of thread) && within 0 65536 (value_of count)) (within 0 256 (value_of hit)) (ap (is_entry version) e ∙ fits) in
+    let i = and_parts (within 0 7 (value_of driver) && within 0 (most_replica version) (value_of replica) && within 0 15 (value_of thread)) (within 0 65536 (value_of count)) j.0 in
+    let g = and_parts (within 0 7 (value_of driver) && within 0 (most_replica version) (value_of replica)) (within 0 15 (value_of thread)) i.0 in
+    let f = and_parts (within 0 7 (value_of driver)) (within 0 (most_replica version) (value_of replica)) g.0 in
+    ap entry_words (sym e) ∙ rw (once 0 7 driver (omega arith) one.0 f.0, replica_once version replica one.1 f.1, once 0 15 thread (omega arith) two.1 g.1, once 0 65536 count (omega arith) three.1 i.1, once 0 256 hit (omega arith) four.1 j.1) refl
+put_once version (a ∷ b ∷ c ∷ d ∷ e ∷ f ∷ fields) entry h fits = absurd (cc)
 
-voted : (t n w : ℕ) (lost : Option (Option ℕ)) (did : Option Did) (entry : Entry) → vote_with t n w lost did ≡ Some entry → (l : Option ℕ) × ((d : Did) × (lost ≡ Some l) × (did ≡ Some d) × (Vote t n w l d ≡ entry))
+voted : (t n w : ℕ) (lost : Option Lost) (did : Option Did) (entry : Entry) → vote_with t n w lost did ≡ Some entry → (l : Lost) × ((d : Did) × (lost ≡ Some l) × (did ≡ Some d) × (Vote t n w l d ≡ entry))
 voted t n w None did entry h = absurd (cc)
 voted t n w (Some l) None entry h = absurd (cc)
 voted t n w (Some l) (Some d) entry h = (l, (d, refl, refl, inner (Vote t n w l d) entry h))
 
-vote_once : (fields : List (List ℕ)) (entry : Entry) → vote_of fields ≡ Some entry → is_entry entry ≡ true → entry_words entry ≡ codes "vote" ∷ fields
-vote_once [] entry h fits = absurd (cc)
-vote_once (a ∷ []) entry h fits = absurd (cc)
-vote_once (a ∷ b ∷ []) entry h fits = absurd (cc)
-vote_once (a ∷ b ∷ c ∷ []) entry h fits = absurd (cc)
-vote_once (a ∷ b ∷ c ∷ d ∷ []) entry h fits = absurd (cc)
-vote_once (thread ∷ count ∷ won ∷ lost ∷ did ∷ []) entry h fits =
-    let p = chosen (is_number thread && is_number count && is_number won) (vote_with (value_of thread) (value_of count) (value_of won) (lost_of lost) (did_of did)) entry h in
+vote_once : (version : Version) (fields : List (List ℕ)) (entry : Entry) → vote_of version fields ≡ Some entry → is_entry version entry ≡ true → entry_words entry ≡ codes "vote" ∷ fields
+vote_once version [] entry h fits = absurd (cc)
+vote_once version (a ∷ []) entry h fits = absurd (cc)
+vote_once version (a ∷ b ∷ []) entry h fits = absurd (cc)
+vote_once version (a ∷ b ∷ c ∷ []) entry h fits = absurd (cc)
+vote_once version (a ∷ b ∷ c ∷ d ∷ []) entry h fits = absurd (cc)
+vote_once version (thread ∷ count ∷ won ∷ lost ∷ did ∷ []) entry h fits =
+    let p = chosen (is_number thread && is_number count && is_number won) (vote_with (value_of thread) (value_of count) (value_of won) (lost_of version lost) (did_of did)) entry h in
     let two = and_parts (is_number thread && is_number count) (is_number won) p.0 in
     let one = and_parts (is_number thread) (is_number count) two.0 in
-    let v = voted (value_of thread) (value_of count) (value_of won) (lost_of lost) (did_of did) entry p.1 in
+    let v = voted (value_of thread) (value_of count) (value_of won) (lost_of version lost) (did_of did) entry p.1 in
     let l = v.0 in
     let d = v.1.0 in
     let e = v.1.3 in
-    let i = and_parts (within 0 15 (value_of thread) && within 0 1000000 (value_of count) && within 0 2 (value_of won)) (is_lost l) (ap is_entry e ∙ fits) in
-    let g = and_parts (within 0 15 (value_of thread) && within 0 1000000 (value_of count)) (within 0 2 (value_of won)) i.0 in
+    let i = and_parts (within 0 15 (value_of thread) && within 0 1000000 (value_of count) && within 0 (most_replica version) (value_of won)) (is_lost version l) (ap (is_entry version) e ∙ fits) in
+    let g = and_parts (within 0 15 (value_of thread) && within 0 1000000 (value_of count)) (within 0 (most_replica version) (value_of won)) i.0 in
     let f = and_parts (within 0 15 (value_of thread)) (within 0 1000000 (value_of count)) g.0 in
-    ap entry_words (sym e) ∙ rw (once 0 15 thread (omega arith) one.0 f.0, once 0 1000000 count (omega arith) one.1 f.1, once 0 2 won (omega arith) two.1 g.1, lost_once lost l v.1.1 i.1, did_once did d v.1.2) refl
-vote_once (a ∷ b ∷ c ∷ d ∷ e ∷ f ∷ fields) entry h fits = absurd (cc)
+    ap entry_words (sym e) ∙ rw (once 0 15 thread (omega arith) one.0 f.0, once 0 1000000 count (omega arith) one.1 f.1, replica_once version won two.1 g.1, lost_once version lost l v.1.1 i.1, did_once did d v.1.2) refl
+vote_once version (a ∷ b ∷ c ∷ d ∷ e ∷ f ∷ fields) entry h fits = absurd (cc)
 
-free_once : (fields : List (List ℕ)) (entry : Entry) → free_of fields ≡ Some entry → is_entry entry ≡ true → entry_words entry ≡ codes "free" ∷ fields
-free_once [] entry h fits = absurd (cc)
-free_once (thread ∷ []) entry h fits =
+free_once : (version : Version) (fields : List (List ℕ)) (entry : Entry) → free_of fields ≡ Some entry → is_entry version entry ≡ true → entry_words entry ≡ codes "free" ∷ fields
+free_once version [] entry h fits = absurd (cc)
+free_once version (thread ∷ []) entry h fits =
     let p = chosen (is_number thread) (Some (Free (value_of thread))) entry h in
     let e = inner (Free (value_of thread)) entry p.1 in
-    ap entry_words (sym e) ∙ rw (once 0 15 thread (omega arith) p.0 (ap is_entry e ∙ fits)) refl
-free_once (a ∷ b ∷ fields) entry h fits = absurd (cc)
+    ap entry_words (sym e) ∙ rw (once 0 15 thread (omega arith) p.0 (ap (is_entry version) e ∙ fits)) refl
+free_once version (a ∷ b ∷ fields) entry h fits = absurd (cc)
 
-end_once : (fields : List (List ℕ)) (entry : Entry) → end_of fields ≡ Some entry → is_entry entry ≡ true → entry_words entry ≡ codes "end" ∷ fields
-end_once fields entry h fits = by (how_of fields) refl h
+end_once : (version : Version) (fields : List (List ℕ)) (entry : Entry) → end_of fields ≡ Some entry → is_entry version entry ≡ true → entry_words entry ≡ codes "end" ∷ fields
+end_once version fields entry h fits = by (how_of fields) refl h
   where
     by : (read : Option How) → how_of fields ≡ read → option_map (λ how. End how) read ≡ Some entry → entry_words entry ≡ codes "end" ∷ fields
     by None r q = absurd (cc)
     by (Some how) r q =
         let e = inner (End how) entry q in
-        ap entry_words (sym e) ∙ ap (λ ws. codes "end" ∷ ws) (how_once fields how r (ap is_entry e ∙ fits))
+        ap entry_words (sym e) ∙ ap (λ ws. codes "end" ∷ ws) (how_once fields how r (ap (is_entry version) e ∙ fits))
 
-entry_once : (words : List (List ℕ)) (entry : Entry) → entry_of words ≡ Some entry → is_entry entry ≡ true → entry_words entry ≡ words
-entry_once [] entry h fits = absurd (cc)
-entry_once (kind ∷ fields) entry h fits = elim (pick (bytes_eq kind (codes "take")) (take_of fields) _ entry h) [
-  | inl p ↦ take_once fields entry p.1 fits ∙ ap (λ k. k ∷ fields) (sym (same kind (codes "take") p.0))
+entry_once : (version : Version) (words : List (List ℕ)) (entry : Entry) → entry_of version words ≡ Some entry → is_entry version entry ≡ true → entry_words entry ≡ words
+entry_once version [] entry h fits = absurd (cc)
+entry_once version (kind ∷ fields) entry h fits = elim (pick (bytes_eq kind (codes "take")) (take_of fields) _ entry h) [
+  | inl p ↦ take_once version fields entry p.1 fits ∙ ap (λ k. k ∷ fields) (sym (same kind (codes "take") p.0))
   | inr q ↦ elim (pick (bytes_eq kind (codes "put")) (put_of fields) _ entry q.1) [
-    | inl p ↦ put_once fields entry p.1 fits ∙ ap (λ k. k ∷ fields) (sym (same kind (codes "put") p.0))
-    | inr q ↦ elim (pick (bytes_eq kind (codes "vote")) (vote_of fields) _ entry q.1) [
-      | inl p ↦ vote_once fields entry p.1 fits ∙ ap (λ k. k ∷ fields) (sym (same kind (codes "vote") p.0))
+    | inl p ↦ put_once version fields entry p.1 fits ∙ ap (λ k. k ∷ fields) (sym (same kind (codes "put") p.0))
+    | inr q ↦ elim (pick (bytes_eq kind (codes "vote")) (vote_of version fields) _ entry q.1) [
+      | inl p ↦ vote_once version fields entry p.1 fits ∙ ap (λ k. k ∷ fields) (sym (same kind (codes "vote") p.0))
       | inr q ↦ elim (pick (bytes_eq kind (codes "free")) (free_of fields) _ entry q.1) [
-        | inl p ↦ free_once fields entry p.1 fits ∙ ap (λ k. k ∷ fields) (sym (same kind (codes "free") p.0))
+        | inl p ↦ free_once version fields entry p.1 fits ∙ ap (λ k. k ∷ fields) (sym (same kind (codes "free") p.0))
         | inr q ↦ let p = chosen (bytes_eq kind (codes "end")) (end_of fields) entry q.1 in
-            end_once fields entry p.1 fits ∙ ap (λ k. k ∷ fields) (sym (same kind (codes "end") p.0))
+            end_once version fields entry p.1 fits ∙ ap (λ k. k ∷ fields) (sym (same kind (codes "end") p.0))
       ]
     ]
   ]
 ]
 
-ranged_is : (read : Option Entry) (entry : Entry) → ranged is_entry read ≡ Ok entry → (read ≡ Some entry) × (is_entry entry ≡ true)
-ranged_is None entry h = absurd (cc)
-ranged_is (Some x) entry h = by (is_entry x) refl h
+ranged_is : (version : Version) (read : Option Entry) (entry : Entry) → ranged (is_entry version) read ≡ Ok entry → (read ≡ Some entry) × (is_entry version entry ≡ true)
+ranged_is version None entry h = absurd (cc)
+ranged_is version (Some x) entry h = by (is_entry version x) refl h
   where
-    by : (b : Bool) → is_entry x ≡ b → cond b (Ok x) (Err Range) ≡ Ok entry → (Some x ≡ Some entry) × (is_entry entry ≡ true)
-    by true t h = let e : x ≡ entry = cc in (ap Some e, ap is_entry (sym e) ∙ t)
+    by : (b : Bool) → is_entry version x ≡ b → cond b (Ok x) (Err Range) ≡ Ok entry → (Some x ≡ Some entry) × (is_entry version entry ≡ true)
+    by true t h = let e : x ≡ entry = cc in (ap Some e, ap (is_entry version) (sym e) ∙ t)
     by false t h = absurd (cc)
 
 -- the line of the entry that is read from it
-pub line_once : (line : List ℕ) (entry : Entry) → line_entry line ≡ Ok entry → (spaced (entry_words entry) ≡ line) × (is_entry entry ≡ true)
-line_once line entry h =
-    let read = ranged_is (entry_of (words_of line)) entry h in
-    (ap spaced (entry_once (words_of line) entry read.0 read.1) ∙ join_with_byte-slice_split 32 line, read.1)
+pub line_once : (version : Version) (line : List ℕ) (entry : Entry) → line_entry version line ≡ Ok entry → (spaced (entry_words entry) ≡ line) × (is_entry version entry ≡ true)
+line_once version line entry h =
+    let read = ranged_is version (entry_of version (words_of line)) entry h in
+    (ap spaced (entry_once version (words_of line) entry read.0 read.1) ∙ join_with_byte-slice_split 32 line, read.1)

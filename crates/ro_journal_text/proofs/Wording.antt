@@ -1,7 +1,9 @@
 -- Words that are read are the words of what is read.
-use Rattle.std.proofs.Common.{ℕ, Bool, true, false, ◌≡◌, ◌^◌, ◌<◌, ◌&&◌, ◌⊎◌, inl, inr, nat_le, List, [], ◌∷◌, Option, Some, None, decimal, codes, cond, arith, refl, sym, ap, ◌∙◌}
+use Rattle.std.proofs.Common.{ℕ, Bool, true, false, ◌≡◌, ◌^◌, ◌<◌, ◌&&◌, ◌⊎◌, inl, inr, nat_le, nat_lt, List, [], ◌∷◌, ◌++◌, Option, Some, None, decimal, codes, cond, arith, refl, sym, ap, ◌∙◌}
+use Rattle.std.specs.List.{list_all, join_with_byte}
 use Rattle.std.specs.Str.{bytes_eq}
-use Rattle.std.proofs.lemmas.Bool.{and_parts, leb-true}
+use Rattle.std.proofs.lemmas.Bool.{and_parts, false≢true, leb-true, ltb-true}
+use Rattle.std.proofs.lemmas.List.Splits.{join_with_byte-slice_split}
 use Rattle.std.proofs.lemmas.Slice.Eq.{bytes_eq-Decides}
 use Rattle.ro_text.specs.Numbers.{is_number, value_of, within}
 use Rattle.ro_text.proofs.Spellings.{number_once}
@@ -9,8 +11,12 @@ use Rattle.ro_journal.specs.declared.Did.{Did}
 use Rattle.ro_journal.specs.declared.Did.TheVariants.{Served, Blocked, Mapped, Watch, Trapped}
 use Rattle.ro_journal.specs.declared.How.{How}
 use Rattle.ro_journal.specs.declared.How.TheVariants.{Exit, Deadlock, Trap, Limit, Differ, NoMajority, Sink}
+use Rattle.ro_journal.specs.declared.losers.Lost.{Lost}
+use Rattle.ro_journal.specs.declared.losers.Lost.TheVariants.{Nobody, One, Two}
+use Rattle.ro_journal_text.specs.declared.versions.Version.{Version}
+use Rattle.ro_journal_text.specs.declared.versions.Version.TheVariants.{First, Second}
 use Rattle.ro_journal_text.specs.Texts.{did_word, lost_word, how_words}
-use Rattle.ro_journal_text.specs.Reading.{did_of, lost_of, how_of, is_lost, is_how}
+use Rattle.ro_journal_text.specs.Reading.{did_of, listed, several_of, several_in, lost_of, how_of, most_replica, is_lost, is_how}
 
 pub same : (word text : List ℕ) → bytes_eq word text ≡ true → word ≡ text
 same word text e = (bytes_eq-Decides word text).0 e
@@ -46,11 +52,48 @@ did_once word did h = elim (pick (bytes_eq word (codes "served")) (Some Served) 
   ]
 ]
 
-pub lost_once : (word : List ℕ) (lost : Option ℕ) → lost_of word ≡ Some lost → is_lost lost ≡ true → lost_word lost ≡ word
-lost_once word lost h fits = elim (pick (is_number word) (Some (Some (value_of word))) _ lost h) [
-  | inl p ↦ let e = inner (Some (value_of word)) lost p.1 in ap lost_word (sym e) ∙ once 0 2 word (omega arith) p.0 (ap is_lost e ∙ fits)
-  | inr q ↦ let p = chosen (bytes_eq word (codes "-")) (Some None) lost q.1 in
-      ap lost_word (sym (inner None lost p.1)) ∙ sym (same word (codes "-") p.0)
+-- the highest replica fits into a number
+most_fits : (version : Version) → most_replica version < 2 ^ 64
+most_fits First = omega arith
+most_fits Second = omega arith
+
+-- a replica's number
+pub replica_once : (version : Version) (word : List ℕ) → is_number word ≡ true → within 0 (most_replica version) (value_of word) ≡ true → decimal (value_of word) ≡ word
+replica_once version word n h = once 0 (most_replica version) word (most_fits version) n h
+
+-- two losers
+two_once : (word lower higher : List ℕ) (lost : Lost) → word ≡ lower ++ 44 ∷ higher → cond (is_number lower && is_number higher) (Some (Two (value_of lower) (value_of higher))) None ≡ Some lost → is_lost Second lost ≡ true → lost_word lost ≡ word
+two_once word lower higher lost whole h fits =
+    let p = chosen (is_number lower && is_number higher) (Some (Two (value_of lower) (value_of higher))) lost h in
+    let e = inner (Two (value_of lower) (value_of higher)) lost p.1 in
+    let both = and_parts (is_number lower) (is_number higher) p.0 in
+    let f = and_parts (nat_lt (value_of lower) (value_of higher)) (within 0 4 (value_of higher)) (ap (is_lost Second) e ∙ fits) in
+    let rise = ltb-true (value_of lower) (value_of higher) f.0 in
+    let high = leb-true (value_of higher) 4 (and_parts (nat_le 0 (value_of higher)) (nat_le (value_of higher) 4) f.1).1 in
+    ap lost_word (sym e)
+    ∙ ap (λ w. w ++ 44 ∷ decimal (value_of higher)) (number_once lower both.0 (omega (arith, rise, high)))
+    ∙ ap (λ w. lower ++ 44 ∷ w) (number_once higher both.1 (omega (arith, high)))
+    ∙ sym whole
+
+several_once : (word : List ℕ) (parts : List (List ℕ)) (lost : Lost) → join_with_byte 44 parts ≡ word → several_of parts ≡ Some lost → is_lost Second lost ≡ true → lost_word lost ≡ word
+several_once word [] lost whole h fits = absurd (cc)
+several_once word (one ∷ []) lost whole h fits = absurd (cc)
+several_once word (lower ∷ higher ∷ []) lost whole h fits = two_once word lower higher lost (sym whole) h fits
+several_once word (lower ∷ higher ∷ next ∷ parts) lost whole h fits =
+    let p = chosen (list_all is_number (lower ∷ higher ∷ next ∷ parts)) (Some (Two 0 0)) lost h in
+    absurd (false≢true (ap (is_lost Second) (inner (Two 0 0) lost p.1) ∙ fits))
+
+in_once : (version : Version) (word : List ℕ) (lost : Lost) → several_in version word ≡ Some lost → is_lost version lost ≡ true → lost_word lost ≡ word
+in_once First word lost h fits = absurd (cc)
+in_once Second word lost h fits = several_once word (listed word) lost (join_with_byte-slice_split 44 word) h fits
+
+pub lost_once : (version : Version) (word : List ℕ) (lost : Lost) → lost_of version word ≡ Some lost → is_lost version lost ≡ true → lost_word lost ≡ word
+lost_once version word lost h fits = elim (pick (is_number word) (Some (One (value_of word))) _ lost h) [
+  | inl p ↦ let e = inner (One (value_of word)) lost p.1 in ap lost_word (sym e) ∙ replica_once version word p.0 (ap (is_lost version) e ∙ fits)
+  | inr q ↦ elim (pick (bytes_eq word (codes "-")) (Some Nobody) _ lost q.1) [
+    | inl p ↦ ap lost_word (sym (inner Nobody lost p.1)) ∙ sym (same word (codes "-") p.0)
+    | inr r ↦ in_once version word lost r.1 fits
+  ]
 ]
 
 bare_once : (kind : List ℕ) (how : How) → how_of (kind ∷ []) ≡ Some how → how_words how ≡ kind ∷ []

@@ -3,40 +3,41 @@ ghost use Rattle.std.specs.Prelude.{◌≡◌, [], ◌∷◌, map};
 ghost use Rattle.ro_journal_text.specs.Reading.{take_of, put_of, vote_of, free_of, end_of, entry_of, is_entry, ranged, line_entry};
 
 use crate::errors::JournalCode;
+use crate::versions::Version;
 use crate::words::{read_did, read_how, read_lost};
 use ro_journal::Entry;
 use ro_text::{is_number, split_words, value_within};
 
 // The entry of a line without its line feed.
 #[tactic(auto, using(crate::proofs::Many::many_words))]
-pub(crate) fn read_entry(line: &[u8]) -> Result<Entry, JournalCode>
-    ensures { result ≡ line_entry line.now }
+pub(crate) fn read_entry(line: &[u8], version: Version) -> Result<Entry, JournalCode>
+    ensures { result ≡ line_entry version line.now }
 {
     match split_words(line) {
-        Some(words) => read_words(words.as_slice()),
+        Some(words) => read_words(words.as_slice(), version),
         None => Err(JournalCode::Form),
     }
 }
 
-fn read_words(words: &[&[u8]]) -> Result<Entry, JournalCode>
-    ensures { result ≡ ranged is_entry (entry_of (map (λ word. word.now) words.now)) }
+fn read_words(words: &[&[u8]], version: Version) -> Result<Entry, JournalCode>
+    ensures { result ≡ ranged (is_entry version) (entry_of version (map (λ word. word.now) words.now)) }
 {
     match words {
-        [kind, fields @ ..] => read_kind(kind, fields),
+        [kind, fields @ ..] => read_kind(kind, fields, version),
         [] => Err(JournalCode::Form),
     }
 }
 
 // The entry of its first word and the others.
-fn read_kind(kind: &[u8], fields: &[&[u8]]) -> Result<Entry, JournalCode>
-    ensures { result ≡ ranged is_entry (entry_of (kind.now ∷ map (λ word. word.now) fields.now)) }
+fn read_kind(kind: &[u8], fields: &[&[u8]], version: Version) -> Result<Entry, JournalCode>
+    ensures { result ≡ ranged (is_entry version) (entry_of version (kind.now ∷ map (λ word. word.now) fields.now)) }
 {
     if kind == b"take".as_slice() {
-        read_take(fields)
+        read_take(fields, version)
     } else if kind == b"put".as_slice() {
-        read_put(fields)
+        read_put(fields, version)
     } else if kind == b"vote".as_slice() {
-        read_vote(fields)
+        read_vote(fields, version)
     } else if kind == b"free".as_slice() {
         read_free(fields)
     } else if kind == b"end".as_slice() {
@@ -46,24 +47,29 @@ fn read_kind(kind: &[u8], fields: &[&[u8]]) -> Result<Entry, JournalCode>
     }
 }
 
-fn read_take(fields: &[&[u8]]) -> Result<Entry, JournalCode>
-    ensures { result ≡ ranged is_entry (take_of (map (λ word. word.now) fields.now)) }
+fn read_take(fields: &[&[u8]], version: Version) -> Result<Entry, JournalCode>
+    ensures { result ≡ ranged (is_entry version) (take_of (map (λ word. word.now) fields.now)) }
 {
     match fields {
-        [driver, replica, thread] => take_entry(driver, replica, thread),
+        [driver, replica, thread] => take_entry(driver, replica, thread, version),
         _ => Err(JournalCode::Form),
     }
 }
 
-fn take_entry(driver: &[u8], replica: &[u8], thread: &[u8]) -> Result<Entry, JournalCode>
-    ensures { result ≡ ranged is_entry (take_of (driver.now ∷ replica.now ∷ thread.now ∷ [])) }
+fn take_entry(
+    driver: &[u8],
+    replica: &[u8],
+    thread: &[u8],
+    version: Version,
+) -> Result<Entry, JournalCode>
+    ensures { result ≡ ranged (is_entry version) (take_of (driver.now ∷ replica.now ∷ thread.now ∷ [])) }
 {
     if !is_number(driver) || !is_number(replica) || !is_number(thread) {
         return Err(JournalCode::Form);
     }
     match (
         value_within(driver, 0, 7),
-        value_within(replica, 0, 2),
+        value_within(replica, 0, version.most_replica()),
         value_within(thread, 0, 15),
     ) {
         (Some(driver), Some(replica), Some(thread)) => Ok(Entry::Take {
@@ -75,12 +81,13 @@ fn take_entry(driver: &[u8], replica: &[u8], thread: &[u8]) -> Result<Entry, Jou
     }
 }
 
-#[tactic(auto, using(crate::proofs::Many::put_fields))]
-fn read_put(fields: &[&[u8]]) -> Result<Entry, JournalCode>
-    ensures { result ≡ ranged is_entry (put_of (map (λ word. word.now) fields.now)) }
+fn read_put(fields: &[&[u8]], version: Version) -> Result<Entry, JournalCode>
+    ensures { result ≡ ranged (is_entry version) (put_of (map (λ word. word.now) fields.now)) }
 {
     match fields {
-        [driver, replica, thread, count, hit] => put_entry(driver, replica, thread, count, hit),
+        [driver, replica, thread, count, hit] => put_entry(
+            driver, replica, thread, count, hit, version,
+        ),
         _ => Err(JournalCode::Form),
     }
 }
@@ -91,8 +98,9 @@ fn put_entry(
     thread: &[u8],
     count: &[u8],
     hit: &[u8],
+    version: Version,
 ) -> Result<Entry, JournalCode>
-    ensures { result ≡ ranged is_entry (put_of (driver.now ∷ replica.now ∷ thread.now ∷ count.now ∷ hit.now ∷ [])) }
+    ensures { result ≡ ranged (is_entry version) (put_of (driver.now ∷ replica.now ∷ thread.now ∷ count.now ∷ hit.now ∷ [])) }
 {
     if !is_number(driver)
         || !is_number(replica)
@@ -104,7 +112,7 @@ fn put_entry(
     }
     match (
         value_within(driver, 0, 7),
-        value_within(replica, 0, 2),
+        value_within(replica, 0, version.most_replica()),
         value_within(thread, 0, 15),
         value_within(count, 0, 65_536),
         value_within(hit, 0, 256),
@@ -120,12 +128,11 @@ fn put_entry(
     }
 }
 
-#[tactic(auto, using(crate::proofs::Many::vote_fields))]
-fn read_vote(fields: &[&[u8]]) -> Result<Entry, JournalCode>
-    ensures { result ≡ ranged is_entry (vote_of (map (λ word. word.now) fields.now)) }
+fn read_vote(fields: &[&[u8]], version: Version) -> Result<Entry, JournalCode>
+    ensures { result ≡ ranged (is_entry version) (vote_of version (map (λ word. word.now) fields.now)) }
 {
     match fields {
-        [thread, count, won, lost, did] => vote_entry(thread, count, won, lost, did),
+        [thread, count, won, lost, did] => vote_entry(thread, count, won, lost, did, version),
         _ => Err(JournalCode::Form),
     }
 }
@@ -136,19 +143,20 @@ fn vote_entry(
     won: &[u8],
     lost: &[u8],
     did: &[u8],
+    version: Version,
 ) -> Result<Entry, JournalCode>
-    ensures { result ≡ ranged is_entry (vote_of (thread.now ∷ count.now ∷ won.now ∷ lost.now ∷ did.now ∷ [])) }
+    ensures { result ≡ ranged (is_entry version) (vote_of version (thread.now ∷ count.now ∷ won.now ∷ lost.now ∷ did.now ∷ [])) }
 {
     if !is_number(thread) || !is_number(count) || !is_number(won) {
         return Err(JournalCode::Form);
     }
-    match (read_did(did), read_lost(lost)) {
+    match (read_did(did), read_lost(lost, version)) {
         (None, _) => Err(JournalCode::Form),
         (_, Err(code)) => Err(code),
         (Some(did), Ok(lost)) => match (
             value_within(thread, 0, 15),
             value_within(count, 0, 1_000_000),
-            value_within(won, 0, 2),
+            value_within(won, 0, version.most_replica()),
         ) {
             (Some(thread), Some(count), Some(won)) => Ok(Entry::Vote {
                 thread: thread as u32,
@@ -162,8 +170,9 @@ fn vote_entry(
     }
 }
 
+// Its ranges are the same in each version.
 fn read_free(fields: &[&[u8]]) -> Result<Entry, JournalCode>
-    ensures { result ≡ ranged is_entry (free_of (map (λ word. word.now) fields.now)) }
+    ensures { result ≡ ranged (is_entry Version.Second) (free_of (map (λ word. word.now) fields.now)) }
 {
     match fields {
         [thread] => free_entry(thread),
@@ -172,7 +181,7 @@ fn read_free(fields: &[&[u8]]) -> Result<Entry, JournalCode>
 }
 
 fn free_entry(thread: &[u8]) -> Result<Entry, JournalCode>
-    ensures { result ≡ ranged is_entry (free_of (thread.now ∷ [])) }
+    ensures { result ≡ ranged (is_entry Version.Second) (free_of (thread.now ∷ [])) }
 {
     if !is_number(thread) {
         return Err(JournalCode::Form);
@@ -185,8 +194,9 @@ fn free_entry(thread: &[u8]) -> Result<Entry, JournalCode>
     }
 }
 
+// Its ranges are the same in each version.
 fn read_end(fields: &[&[u8]]) -> Result<Entry, JournalCode>
-    ensures { result ≡ ranged is_entry (end_of (map (λ word. word.now) fields.now)) }
+    ensures { result ≡ ranged (is_entry Version.Second) (end_of (map (λ word. word.now) fields.now)) }
 {
     Ok(Entry::End {
         how: read_how(fields)?,

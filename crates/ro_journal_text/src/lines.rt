@@ -3,14 +3,14 @@ ghost use Rattle.std.specs.Prelude.{◌≡◌, ◌+◌, ◌<◌, ◌≤◌, [], 
 ghost use Rattle.ro_text.specs.Lines.{spaced};
 ghost use Rattle.ro_journal_text.specs.Texts.{did_word, lost_word, how_words, entry_text, header_text};
 
-use ro_journal::{Did, Entry, How};
+use ro_journal::{Did, Entry, How, Lost};
 use ro_text::{Line, Text};
 
 /// The first line of every journal's text.
 pub fn header() -> &'static [u8]
     ensures { result.now ≡ header_text }
 {
-    b"romain 1\n"
+    b"romain 2\n"
 }
 
 /// The line of an entry.
@@ -66,7 +66,7 @@ fn put_text(driver: u32, replica: u32, thread: u32, count: u32, hit: u32) -> Lin
     text.end()
 }
 
-fn vote_text(thread: u32, count: u32, won: u32, lost: Option<u32>, did: Did) -> Line
+fn vote_text(thread: u32, count: u32, won: u32, lost: Lost, did: Did) -> Line
     ensures { result ≡ entry_text (Entry.Vote thread count won lost did) }
 {
     let mut text = Text::new();
@@ -79,15 +79,20 @@ fn vote_text(thread: u32, count: u32, won: u32, lost: Option<u32>, did: Did) -> 
     text.end()
 }
 
-// Appends a space and the replica that lost, or a dash.
-fn add_lost(text: &mut Text, lost: Option<u32>)
+// Appends a space and the replicas that lost, parted by a comma, or a dash.
+fn add_lost(text: &mut Text, lost: Lost)
     requires { length text.old ≤ 100 }
     ensures bytes { text.new ≡ text.old ++ 32 ∷ lost_word lost }
-    ensures len { length text.new ≤ length text.old + 21 }
+    ensures len { length text.new ≤ length text.old + 42 }
 {
     match lost {
-        Some(replica) => text.add_number(u64::from(replica)),
-        None => text.add_word("-"),
+        Lost::Nobody => text.add_word("-"),
+        Lost::One(replica) => text.add_number(u64::from(replica)),
+        Lost::Two(lower, higher) => {
+            text.add_number(u64::from(lower));
+            text.push(",");
+            text.push_number(u64::from(higher));
+        }
     }
 }
 

@@ -2,10 +2,10 @@
 ghost use Rattle.std.specs.Prelude.{◌≡◌};
 
 use super::*;
-use ro_journal::{Did, Entry, How};
+use ro_journal::{Did, Entry, How, Lost};
 use std::alloc::Global;
 
-const FIRST_RUN: &str = "romain 1
+const FIRST_RUN: &str = "romain 2
 take 0 0 0
 put 0 0 0 2 0
 take 0 1 0
@@ -29,7 +29,7 @@ fn first_run(rt: HostRuntime) -> Result<(), JournalError> {
             thread: 0,
             count: 2,
             won: 0,
-            lost: None,
+            lost: Lost::Nobody,
             did: Did::Served,
         },
         Entry::End { how: How::Exit(7) },
@@ -75,7 +75,7 @@ const WRITTEN: &[Written] = &[
             thread: 15,
             count: 1_000_000,
             won: 1,
-            lost: Some(2),
+            lost: Lost::One(2),
             did: Did::Trapped,
         },
         line: "vote 15 1000000 1 2 trapped\n",
@@ -83,9 +83,19 @@ const WRITTEN: &[Written] = &[
     Written {
         entry: Entry::Vote {
             thread: 0,
+            count: 2,
+            won: 1,
+            lost: Lost::Two(0, 3),
+            did: Did::Served,
+        },
+        line: "vote 0 2 1 0,3 served\n",
+    },
+    Written {
+        entry: Entry::Vote {
+            thread: 0,
             count: 9,
             won: 0,
-            lost: None,
+            lost: Lost::Nobody,
             did: Did::Blocked,
         },
         line: "vote 0 9 0 - blocked\n",
@@ -95,7 +105,7 @@ const WRITTEN: &[Written] = &[
             thread: 0,
             count: 1,
             won: 0,
-            lost: None,
+            lost: Lost::Nobody,
             did: Did::Mapped,
         },
         line: "vote 0 1 0 - mapped\n",
@@ -105,7 +115,7 @@ const WRITTEN: &[Written] = &[
             thread: 0,
             count: 10_000,
             won: 0,
-            lost: None,
+            lost: Lost::Nobody,
             did: Did::Watch,
         },
         line: "vote 0 10000 0 - watch\n",
@@ -263,6 +273,58 @@ const ROWS: &[Row] = &[
     Row {
         text: "romain 1\nend differ\ntake 0 0 0\nnothing",
         want: Ok(1),
+    },
+    Row {
+        text: "romain 1\ntake 0 3 0\n",
+        want: Err((2, 2)),
+    },
+    Row {
+        text: "romain 1\nvote 0 1 2 0,1 watch\n",
+        want: Err((2, 1)),
+    },
+    Row {
+        text: "romain 2\ntake 0 4 0\nput 0 4 0 1 0\nvote 0 1 4 0,3 watch\nvote 0 1 0 4 watch\nvote 0 1 0 - watch\n",
+        want: Ok(5),
+    },
+    Row {
+        text: "romain 2\ntake 0 5 0\n",
+        want: Err((2, 2)),
+    },
+    Row {
+        text: "romain 2\nvote 0 1 0 3,5 watch\n",
+        want: Err((2, 2)),
+    },
+    Row {
+        text: "romain 2\nvote 0 1 0 3,3 watch\n",
+        want: Err((2, 2)),
+    },
+    Row {
+        text: "romain 2\nvote 0 1 0 3,1 watch\n",
+        want: Err((2, 2)),
+    },
+    Row {
+        text: "romain 2\nvote 0 1 0 1,2,3 watch\n",
+        want: Err((2, 2)),
+    },
+    Row {
+        text: "romain 2\nvote 0 1 0 1, watch\n",
+        want: Err((2, 1)),
+    },
+    Row {
+        text: "romain 2\nvote 0 1 0 1,,2 watch\n",
+        want: Err((2, 1)),
+    },
+    Row {
+        text: "romain 2\nvote 0 1 0 1,02 watch\n",
+        want: Err((2, 1)),
+    },
+    Row {
+        text: "romain 2\nvote 0 1 0 -,1 watch\n",
+        want: Err((2, 1)),
+    },
+    Row {
+        text: "romain 3\n",
+        want: Err((1, 1)),
     },
 ];
 

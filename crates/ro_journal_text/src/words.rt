@@ -1,10 +1,13 @@
 //! The words of an entry's line, read.
 ghost use Rattle.std.specs.Prelude.{◌≡◌, [], ◌∷◌, Some, true, map, IfOk};
-ghost use Rattle.ro_journal_text.specs.Reading.{did_of, lost_of, how_of, is_lost, is_how, ranged};
+ghost use Rattle.std.specs.List.{list_all};
+ghost use Rattle.ro_text.specs.Numbers.{is_number, value_of};
+ghost use Rattle.ro_journal_text.specs.Reading.{did_of, listed, several_of, lost_of, how_of, is_lost, is_how, ranged};
 
 use crate::errors::JournalCode;
-use ro_journal::{Did, How};
-use ro_text::{is_number, value_within};
+use crate::versions::Version;
+use ro_journal::{Did, How, Lost};
+use ro_text::{cut_at, is_number, value_within};
 
 // The highest numbers of steps that a limit tells.
 const MOST_STEPS: u64 = 1_000_000_000_000;
@@ -27,20 +30,62 @@ pub(crate) fn read_did(word: &[u8]) -> Option<Did>
     }
 }
 
-pub(crate) fn read_lost(word: &[u8]) -> Result<Option<u32>, JournalCode>
-    ensures read { result ≡ ranged is_lost (lost_of word.now) }
-    ensures given { IfOk result (λ lost. lost_of word.now ≡ Some lost) }
-    ensures inside { IfOk result (λ lost. is_lost lost ≡ true) }
+pub(crate) fn read_lost(word: &[u8], version: Version) -> Result<Lost, JournalCode>
+    ensures read { result ≡ ranged (is_lost version) (lost_of version word.now) }
+    ensures given { IfOk result (λ lost. lost_of version word.now ≡ Some lost) }
+    ensures inside { IfOk result (λ lost. is_lost version lost ≡ true) }
 {
     if is_number(word) {
-        match value_within(word, 0, 2) {
-            Some(replica) => Ok(Some(replica as u32)),
+        match value_within(word, 0, version.most_replica()) {
+            Some(replica) => Ok(Lost::One(replica as u32)),
             None => Err(JournalCode::Range),
         }
     } else if word == b"-".as_slice() {
-        Ok(None)
+        Ok(Lost::Nobody)
     } else {
-        Err(JournalCode::Form)
+        match version {
+            Version::First => Err(JournalCode::Form),
+            Version::Second => read_several(word),
+        }
+    }
+}
+
+// Two losers, parted by a comma. More are out of range.
+fn read_several(word: &[u8]) -> Result<Lost, JournalCode>
+    ensures { result ≡ ranged (is_lost Version.Second) (several_of (listed word.now)) }
+{
+    let Some((lower, rest)) = cut_at(word, b',') else {
+        return Err(JournalCode::Form);
+    };
+    if !is_number(lower) || !are_numbers(rest) {
+        return Err(JournalCode::Form);
+    }
+    if !is_number(rest) {
+        return Err(JournalCode::Range);
+    }
+    read_pair(lower, rest)
+}
+
+// Two numbers, which are to rise.
+fn read_pair(lower: &[u8], higher: &[u8]) -> Result<Lost, JournalCode>
+    requires lower { is_number lower.now ≡ true }
+    requires higher { is_number higher.now ≡ true }
+    ensures { result ≡ ranged (is_lost Version.Second) (Some (Lost.Two (value_of lower.now) (value_of higher.now))) }
+{
+    let most = Version::Second.most_replica();
+    match (value_within(lower, 0, most), value_within(higher, 0, most)) {
+        (Some(lower), Some(higher)) if lower < higher => Ok(Lost::Two(lower as u32, higher as u32)),
+        _ => Err(JournalCode::Range),
+    }
+}
+
+// Whether all that stands between commas is a number.
+fn are_numbers(word: &[u8]) -> bool
+    ensures { result ≡ list_all is_number (listed word.now) }
+{
+    match cut_at(word, b',') {
+        Some((first, rest)) => is_number(first) && are_numbers(rest),
+        None => is_number(word),
     }
 }
 

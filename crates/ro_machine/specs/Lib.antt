@@ -4,3 +4,4 @@ pub mod Lengths
 pub mod Parts
 pub mod Plans
 pub mod Watched
+pub mod Lanes

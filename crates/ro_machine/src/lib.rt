@@ -4,6 +4,7 @@
 mod backing;
 mod calls;
 mod errors;
+mod lane;
 mod length;
 mod looking;
 mod plain;
@@ -12,6 +13,7 @@ mod running;
 mod watching;
 
 pub use errors::{PlainEnd, PlanErr, StepErr, TooLong};
+pub use lane::Lane;
 pub use length::{MOST_STEPS, plan_steps};
 pub use plain::Plain;
 pub use running::run_plan;

@@ -123,7 +123,7 @@ fn spelled(first: u8, second: u8, third: u8, fourth: u8) -> u32
 }
 
 /// How many bytes a load reads.
-fn load_size(op: LoadOp) -> u32
+pub(crate) fn load_size(op: LoadOp) -> u32
     ensures value { result ≡ load_size_of op }
     ensures few { result ≤ 4 }
 {
@@ -135,7 +135,7 @@ fn load_size(op: LoadOp) -> u32
 }
 
 /// How many bytes a store writes.
-fn store_size(op: StoreOp) -> u32
+pub(crate) fn store_size(op: StoreOp) -> u32
     ensures value { result ≡ store_size_of op }
     ensures few { result ≤ 4 }
 {

@@ -1,20 +1,23 @@
 //! The machine.
-ghost use Rattle.std.specs.Prelude.{◌≡◌, ℕ, List, [], None, Some, IfOk, IfErr, OnErr, OnOk, length, replicate, true, ◌∷◌, ◌≤◌, slice_get, vec_capacity};
+ghost use Rattle.std.specs.Prelude.{◌≡◌, ℕ, List, [], None, Some, IfOk, IfErr, IfSome, OnErr, OnOk, length, replicate, true, ◌∷◌, ◌≤◌, ◌<◌, slice_get, vec_capacity};
 ghost use Rattle.ro_exec.specs.declared.Cpu.{Cpu as CpuSeen};
 ghost use Rattle.ro_exec.specs.Threads.{first_cpu as first};
 ghost use Rattle.ro_kernel.specs.Kernel.{lives_on};
 ghost use Rattle.ro_plain.specs.Machine.{opening, layout_of, next_of};
+ghost use Rattle.ro_machine.specs.declared.watching.Relation.TheVariants.{Nothing};
 ghost use Rattle.ro_machine.specs.Parts.{Plays};
 ghost use Rattle.ro_machine.specs.Seen.{machine_of, Steps, Refuses, SameMachine, StepsFrom, RefusesAt};
 ghost use Rattle.ro_machine.specs.Watched.{LooksAt, Sees, TellsNext, TellsStop};
+ghost use Rattle.ro_machine.specs.Lanes.{IsOpen, closed};
 
 use crate::backing::execute;
 use crate::calls::serve;
 use crate::errors::StepErr;
+use crate::lane::{Lane, look_quickly};
 use crate::looking::{Look, NOTHING_SEEN, look_ahead};
-use crate::watching::{Watched, Went, told_of};
+use crate::watching::{Relation, Watched, Went, told_of};
 use ro_event::Stop;
-use ro_exec::{Cpu, Step};
+use ro_exec::{Bank, Cpu, NONE, Open, Step, quick_step};
 use ro_image::Executable;
 use ro_journal::How;
 use ro_kernel::Kernel;
@@ -144,6 +147,90 @@ impl Plain {
         let made = self.kernel.made();
         let went = self.go(thread)?;
         Ok(told_of(look, went, made, &self.regions))
+    }
+
+    /// Takes the registers of a thread out, for plain steps of it in a row; none where it has no step.
+    pub fn open(&mut self, thread: u32) -> Option<Lane>
+        ensures program { self.new.program ≡ self.old.program }
+        ensures same { SameMachine self.new self.old }
+        ensures thread { IfSome result (λ lane. lane.thread ≡ thread) }
+        ensures opened { IfSome result (λ lane. IsOpen self.new lane) }
+        ensures closed { IfSome result (λ lane. closed self.new lane ≡ self.new) }
+    {
+        self.written.truncate(0);
+        if self.ended.is_some() || !self.kernel.lives_on(thread) || thread as usize >= THREADS {
+            return None;
+        }
+        Some(self.lane_of(thread))
+    }
+
+    // The registers of a thread that lives, where the program has not ended.
+    fn lane_of(&self, thread: u32) -> Lane
+        requires going { self.now.ended ≡ None }
+        requires live { lives_on self.now.kernel thread ≡ true }
+        requires empty { self.now.written ≡ [] }
+        requires few { thread < 16 }
+        ensures thread { result.thread ≡ thread }
+        ensures opened { IsOpen self.now result }
+        ensures closed { closed self.now result ≡ self.now }
+    {
+        let cpu = self.cpus[thread as usize];
+        let mut code = NONE;
+        code.follow(cpu.pc, &self.pages, &self.regions, self.image.calls());
+        Lane {
+            thread,
+            registers: Bank::new(&cpu.registers),
+            pc: cpu.pc,
+            code,
+            reads: Open::new(),
+            writes: Open::new(),
+        }
+    }
+
+    /// Takes a step of an open thread that is one plain instruction of its stretch of code, and tells which bytes it accessed;
+    /// or none, and then nothing changes.
+    #[inline(always)]
+    pub fn watch_quickly(&mut self, lane: &mut Lane) -> Option<Watched>
+        requires opened { IsOpen self.old lane.old }
+        ensures opened { IsOpen self.new lane.new }
+        ensures thread { lane.new.thread ≡ lane.old.thread }
+        ensures program { self.new.program ≡ self.old.program }
+        ensures steps { IfSome result (λ watched. Steps (closed self.old lane.old) lane.old.thread (closed self.new lane.new)) }
+        ensures sees { IfSome result (λ watched. (output : List ℕ) → Sees self.old.program (machine_of (closed self.old lane.old) output) lane.old.thread watched) }
+        ensures plain { IfSome result (λ watched. watched.relation ≡ Nothing) }
+        ensures same { result ≡ None → SameMachine (closed self.new lane.new) (closed self.old lane.old) }
+    {
+        let look = look_quickly(lane, &self.pages)?;
+        let done = quick_step(
+            &mut lane.registers,
+            &mut lane.pc,
+            &mut self.pages,
+            &mut lane.reads,
+            &mut lane.writes,
+            &self.regions,
+            self.image.calls(),
+            &mut lane.code,
+        );
+        if !done {
+            return None;
+        }
+        Some(Watched {
+            loaded: look.loads,
+            code: look.code,
+            stored: look.stores,
+            relation: Relation::Nothing,
+        })
+    }
+
+    /// Puts the registers of an open thread back.
+    pub fn close(&mut self, lane: &Lane)
+        requires { IsOpen self.old lane.now }
+        ensures { self.new ≡ closed self.old lane.now }
+    {
+        self.cpus[lane.thread as usize] = Cpu {
+            registers: lane.registers.registers(),
+            pc: lane.pc,
+        };
     }
 
     // What is known of the next step of a thread.

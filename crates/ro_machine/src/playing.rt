@@ -27,9 +27,9 @@ pub(crate) fn play_one<K: Sink>(
     requires steps { progress.steps + 1 ≤ 1000000000 }
     requires bytes { progress.bytes ≤ 4096 * progress.steps }
     ensures bytes { IfOk result (λ p. p.bytes ≤ 4096 * p.steps) }
-    ensures faults { K.faults out.old ≤ K.faults out.new }
+    ensures failures { K.failures out.old ≤ K.failures out.new }
     ensures played { IfOk result (λ p. Played plain.old (thread ∷ []) plain.new (K.held out.old) (K.held out.new) progress.steps p.steps progress.bytes p.bytes) }
-    ensures halts { IfErr result (Halts plain.old (thread ∷ []) (K.held out.old) (K.held out.new) progress.steps (K.faults out.old) (K.faults out.new)) }
+    ensures halts { IfErr result (Halts plain.old (thread ∷ []) (K.held out.old) (K.held out.new) progress.steps (K.failures out.old) (K.failures out.new)) }
 {
     match plain.step(thread) {
         Ok(()) => {}
@@ -65,9 +65,9 @@ fn play_part<K: Sink>(
     ensures some { IfOk result (λ p. progress.steps < p.steps) }
     ensures most { IfOk result (λ p. p.steps ≤ progress.steps + most) }
     ensures bytes { IfOk result (λ p. p.bytes ≤ 4096 * p.steps) }
-    ensures faults { K.faults out.old ≤ K.faults out.new }
+    ensures failures { K.failures out.old ≤ K.failures out.new }
     ensures played { IfOk result (λ p. Played plain.old (replicate (p.steps - progress.steps) thread) plain.new (K.held out.old) (K.held out.new) progress.steps p.steps progress.bytes p.bytes) }
-    ensures halts { IfErr result (Halts plain.old (replicate most thread) (K.held out.old) (K.held out.new) progress.steps (K.faults out.old) (K.faults out.new)) }
+    ensures halts { IfErr result (Halts plain.old (replicate most thread) (K.held out.old) (K.held out.new) progress.steps (K.failures out.old) (K.failures out.new)) }
 {
     let ran = plain.run_on(thread, most);
     let now = Progress {
@@ -91,9 +91,9 @@ fn play<K: Sink>(
     requires steps { progress.steps + count ≤ 1000000000 }
     requires bytes { progress.bytes ≤ 4096 * progress.steps }
     ensures bytes { IfOk result (λ p. p.bytes ≤ 4096 * p.steps) }
-    ensures faults { K.faults out.old ≤ K.faults out.new }
+    ensures failures { K.failures out.old ≤ K.failures out.new }
     ensures played { IfOk result (λ p. Played plain.old (replicate count thread) plain.new (K.held out.old) (K.held out.new) progress.steps p.steps progress.bytes p.bytes) }
-    ensures halts { IfErr result (Halts plain.old (replicate count thread) (K.held out.old) (K.held out.new) progress.steps (K.faults out.old) (K.faults out.new)) }
+    ensures halts { IfErr result (Halts plain.old (replicate count thread) (K.held out.old) (K.held out.new) progress.steps (K.failures out.old) (K.failures out.new)) }
 {
     let end = progress.steps + count;
     let mut now = progress;
@@ -114,9 +114,9 @@ fn play_entry<K: Sink>(
     requires steps { progress.steps + length (entry_plan entry.now) ≤ 1000000000 }
     requires bytes { progress.bytes ≤ 4096 * progress.steps }
     ensures bytes { IfOk result (λ p. p.bytes ≤ 4096 * p.steps) }
-    ensures faults { K.faults out.old ≤ K.faults out.new }
+    ensures failures { K.failures out.old ≤ K.failures out.new }
     ensures played { IfOk result (λ p. Played plain.old (entry_plan entry.now) plain.new (K.held out.old) (K.held out.new) progress.steps p.steps progress.bytes p.bytes) }
-    ensures halts { IfErr result (Halts plain.old (entry_plan entry.now) (K.held out.old) (K.held out.new) progress.steps (K.faults out.old) (K.faults out.new)) }
+    ensures halts { IfErr result (Halts plain.old (entry_plan entry.now) (K.held out.old) (K.held out.new) progress.steps (K.failures out.old) (K.failures out.new)) }
 {
     match entry {
         Entry::Vote {
@@ -142,9 +142,9 @@ fn play_vote<K: Sink>(
     requires steps { progress.steps + (count + event) ≤ 1000000000 }
     requires bytes { progress.bytes ≤ 4096 * progress.steps }
     ensures bytes { IfOk result (λ p. p.bytes ≤ 4096 * p.steps) }
-    ensures faults { K.faults out.old ≤ K.faults out.new }
+    ensures failures { K.failures out.old ≤ K.failures out.new }
     ensures played { IfOk result (λ p. Played plain.old (replicate count thread ++ replicate event thread) plain.new (K.held out.old) (K.held out.new) progress.steps p.steps progress.bytes p.bytes) }
-    ensures halts { IfErr result (Halts plain.old (replicate count thread ++ replicate event thread) (K.held out.old) (K.held out.new) progress.steps (K.faults out.old) (K.faults out.new)) }
+    ensures halts { IfErr result (Halts plain.old (replicate count thread ++ replicate event thread) (K.held out.old) (K.held out.new) progress.steps (K.failures out.old) (K.failures out.new)) }
 {
     let now = play(plain, thread, u64::from(count), progress, out)?;
     play(plain, thread, event, now, out)
@@ -157,9 +157,9 @@ pub(crate) fn play_all<K: Sink>(
     out: &mut K,
 ) -> Result<Progress, PlanErr>
     requires { length (plan_of journal.now) ≤ 1000000000 }
-    ensures faults { K.faults out.old ≤ K.faults out.new }
+    ensures failures { K.failures out.old ≤ K.failures out.new }
     ensures played { IfOk result (λ p. Played plain.old (plan_of journal.now) plain.new (K.held out.old) (K.held out.new) 0 p.steps 0 p.bytes) }
-    ensures halts { IfErr result (Halts plain.old (plan_of journal.now) (K.held out.old) (K.held out.new) 0 (K.faults out.old) (K.faults out.new)) }
+    ensures halts { IfErr result (Halts plain.old (plan_of journal.now) (K.held out.old) (K.held out.new) 0 (K.failures out.old) (K.failures out.new)) }
 {
     let mut now = Progress { steps: 0, bytes: 0 };
     for entry in journal {

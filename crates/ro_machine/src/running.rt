@@ -27,8 +27,8 @@ pub fn run_plan<K: Sink>(
 ) -> Result<PlainEnd, PlanErr>
     requires { length (plan_of journal.now) ≤ 1000000000 }
     ensures runs { IfOk result (λ end. RunsPlan (record { image = image; input = input.now }) (plan_of journal.now) (K.held out.old) (K.held out.new) end.how end.bytes) }
-    ensures fails { IfErr result (Fails (record { image = image; input = input.now }) (plan_of journal.now) (K.held out.old) (K.held out.new) (K.faults out.old) (K.faults out.new)) }
-    ensures faults { K.faults out.old ≤ K.faults out.new }
+    ensures fails { IfErr result (Fails (record { image = image; input = input.now }) (plan_of journal.now) (K.held out.old) (K.held out.new) (K.failures out.old) (K.failures out.new)) }
+    ensures failures { K.failures out.old ≤ K.failures out.new }
 {
     let Ok(mut plain) = Plain::begin(alloc, image, input) else {
         return Err(PlanErr::NoMemory);

@@ -2,7 +2,7 @@
 use super::*;
 use ro_image::{Executable, read_executable};
 use ro_io::{Act, MemSink};
-use ro_journal::{Did, Entry, How};
+use ro_journal::{Did, Entry, How, Lost};
 use ro_make::{bench_image, image_bytes};
 use std::alloc::{AllocError, Global};
 use std::process::Abort;
@@ -99,7 +99,7 @@ fn vote(thread: u32, count: u32, did: Did) -> Entry {
         thread,
         count,
         won: 0,
-        lost: None,
+        lost: Lost::Nobody,
         did,
     }
 }

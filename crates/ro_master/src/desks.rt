@@ -148,7 +148,7 @@ impl<K: Sink, N: Naming> Desk<K, N> {
         requires { next self.old.core.job (state self.old.core) ≡ act.End how }
         ensures { Moved (End how) self.old self.new pass.old pass.new }
     {
-        self.core.end();
+        self.core.end(how);
         let _entries = self.core.entries();
         pass.add(&mut self.count, &Entry::End { how });
     }

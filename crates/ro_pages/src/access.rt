@@ -38,12 +38,31 @@ pub trait Memory {
         requires kept { kept self.now place ≡ Some (address / 4096) }
         ensures { result ≡ number_at (memory self.now) address 4 };
 
+    /// The number that the 1, 2 or 4 bytes from an address on spell. The address is a multiple of the size, and its page
+    /// is kept at that place.
+    fn load_kept(&self, place: usize, address: u32, size: u32) -> u32
+        requires size { IsSize size }
+        requires aligned { address % size ≡ 0 }
+        requires kept { kept self.now place ≡ Some (address / 4096) }
+        ensures value { result ≡ number_at (memory self.now) address size }
+        ensures below { result < 2 ^ (8 * size) };
+
     /// Stores the lowest 1, 2 or 4 bytes of a number from an address on. The address is a multiple of the size, and
     /// its page is backed.
     fn store(&mut self, address: u32, size: u32, value: u32)
         requires size { IsSize size }
         requires aligned { address % size ≡ 0 }
         requires backed { backing self.old (address / 4096) ≡ true }
+        ensures bytes { memory self.new ≡ stored (memory self.old) address (bytes_of size value) }
+        ensures pages { backing self.new ≡ backing self.old }
+        ensures kept { kept self.new ≡ kept self.old };
+
+    /// Stores the lowest 1, 2 or 4 bytes of a number from an address on. The address is a multiple of the size, and
+    /// its page is kept at that place.
+    fn store_kept(&mut self, place: usize, address: u32, size: u32, value: u32)
+        requires size { IsSize size }
+        requires aligned { address % size ≡ 0 }
+        requires kept { kept self.old place ≡ Some (address / 4096) }
         ensures bytes { memory self.new ≡ stored (memory self.old) address (bytes_of size value) }
         ensures pages { backing self.new ≡ backing self.old }
         ensures kept { kept self.new ≡ kept self.old };

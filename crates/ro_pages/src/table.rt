@@ -216,11 +216,9 @@ impl Memory for Pages {
         self.page(page).is_some()
     }
 
-    #[tactic(auto, using(crate::proofs::PageBytes::number_in_words, crate::proofs::PageBytes::aligned_within))]
     #[inline(always)]
     fn load(&self, address: u32, size: u32) -> u32 {
-        let words: &[u32; PAGE_WORDS] = &self.backed[self.directory.entry(address / PAGE_SIZE)];
-        load_from(words, address % PAGE_SIZE, size)
+        self.load_kept(self.place(address / PAGE_SIZE), address, size)
     }
 
     #[inline(always)]
@@ -230,14 +228,26 @@ impl Memory for Pages {
 
     #[inline(always)]
     fn load_at(&self, place: usize, address: u32) -> u32 {
+        self.load_kept(place, address, 4)
+    }
+
+    #[tactic(auto, using(crate::proofs::PageBytes::number_in_words, crate::proofs::PageBytes::aligned_within))]
+    #[inline(always)]
+    fn load_kept(&self, place: usize, address: u32, size: u32) -> u32 {
         self.directory.each_once();
         let words: &[u32; PAGE_WORDS] = &self.backed[place];
-        load_from(words, address % PAGE_SIZE, 4)
+        load_from(words, address % PAGE_SIZE, size)
     }
 
     #[inline(always)]
     fn store(&mut self, address: u32, size: u32, value: u32) {
-        let place = self.directory.entry(address / PAGE_SIZE);
+        let place = self.place(address / PAGE_SIZE);
+        self.store_kept(place, address, size, value);
+    }
+
+    #[inline(always)]
+    fn store_kept(&mut self, place: usize, address: u32, size: u32, value: u32) {
+        self.directory.each_once();
         let words: &mut [u32; PAGE_WORDS] = &mut self.backed[place];
         store_in(words, address % PAGE_SIZE, size, value);
     }

@@ -11,7 +11,7 @@ use Rattle.ro_plain.specs.Accesses.{Accesses, no_access, accesses, touches, conf
 use Rattle.ro_plain.specs.Order.{Sync, Nothing, sync_of, sync_at, accesses_at, HappensBefore, in_thread}
 use Rattle.ro_plain.proofs.Calls.{some-injective}
 use Rattle.ro_plain.proofs.Swap.{at-both, run-append}
-use Rattle.ro_machine.specs.Seen.{machine_of, Steps, HasNoStep}
+use Rattle.ro_machine.specs.Seen.{PlainOf, machine_of, Steps, SameMachine, HasNoStep}
 use Rattle.ro_machine.specs.declared.watching.Watched.{Watched}
 use Rattle.ro_machine.specs.Watched.{span_of, sync_of_relation, Sees}
 use Rattle.ro_races.specs.declared.marks.Clock.{Clock}
@@ -24,8 +24,8 @@ use Rattle.ro_races.specs.declared.found.Found.TheVariants.{NoRace, Pair}
 use Rattle.ro_races.specs.declared.checking.Checker.{Checker}
 use Rattle.ro_races.specs.First.{IsRace}
 use Rattle.ro_races.specs.Clocks.{Clock as ClockOf, IsStepped, learns_from, passes_to, Knows, UpTo, Feeds, Past, PastOf}
-use Rattle.ro_races.specs.Seen.{seen_by, is_source, known_by, Passes, IsPast, PassesOn}
-use Rattle.ro_races.specs.Shadows.{marks_at, Marks, IsHit, IsFirstOf, AnyHit}
+use Rattle.ro_races.specs.Seen.{seen_by, is_source, known_by, Keeps, Passes, IsPast, PassesOn}
+use Rattle.ro_races.specs.Shadows.{Shadow, marks_at, Marks, IsHit, IsFirstOf, AnyHit}
 use Rattle.ro_races.specs.Follows.{MarkedBy, IsFoundIn, Follows, notes, LacksStep}
 use Rattle.ro_races.proofs.Before.{before-is, fed, feeds-own, feeds-passed}
 use Rattle.ro_races.proofs.Knowing.{knows-joined, knows-same, knows-stepped, knows-more, knows-again, knows-still}
@@ -73,7 +73,7 @@ or-parts : (a b : Bool) → (a || b) ≡ false → (a ≡ false) × (b ≡ false
 or-parts true b h = absurd (true≢false h)
 or-parts false b h = (refl, h)
 
-two-inside : (a b c : List (Vec Clock Global)) (one two : Span) (t p x : ℕ) → Marks a one t p b → Marks b two t p c → (within one x || within two x) ≡ true → IsStepped (marks_at a x) t p (marks_at c x)
+two-inside : (a b c : Shadow) (one two : Span) (t p x : ℕ) → Marks a one t p b → Marks b two t p c → (within one x || within two x) ≡ true → IsStepped (marks_at a x) t p (marks_at c x)
 two-inside a b c one two t p x f g h = by (within one x) (within two x) refl refl h
   where
     by : (d e : Bool) → within one x ≡ d → within two x ≡ e → (d || e) ≡ true → IsStepped (marks_at a x) t p (marks_at c x)
@@ -136,7 +136,7 @@ module _ (program : Program) (threads : List ℕ) (k t : ℕ) (there : slice_get
     pub apart : slice_get threads place ≢ slice_get threads k
     pub unordered : HappensBefore program threads place k → ⊥
 
-  of-hit : (table : List (Vec Clock Global)) (touch : ℕ → Bool) (span : Span) (mark byte : ℕ) → MarkedBy threads k touch (marks_at table byte) → IsHit table span clock mark byte → OfHit touch mark
+  of-hit : (table : Shadow) (touch : ℕ → Bool) (span : Span) (mark byte : ℕ) → MarkedBy threads k touch (marks_at table byte) → IsHit table span clock mark byte → OfHit touch mark
   of-hit table touch span mark byte marked h = by (marked.only h.thread)
     where
       by : (marks_at table byte h.thread ≡ 0) ⊎ ((place : ℕ) × (marks_at table byte h.thread ≡ suc place) × (place < k) × (slice_get threads place ≡ Some h.thread) × (touch place ≡ true)) → OfHit touch mark
@@ -152,7 +152,7 @@ module _ (program : Program) (threads : List ℕ) (k t : ℕ) (there : slice_get
             unordered = not;
           }
 
-  a-hit : (table : List (Vec Clock Global)) (touch : ℕ → Bool) (span : Span) (i byte : ℕ) → MarkedBy threads k touch (marks_at table byte) → i < k → touch i ≡ true → (HappensBefore program threads i k → ⊥) → within span byte ≡ true → (mark : ℕ) × IsHit table span clock mark byte × (i < mark)
+  a-hit : (table : Shadow) (touch : ℕ → Bool) (span : Span) (i byte : ℕ) → MarkedBy threads k touch (marks_at table byte) → i < k → touch i ≡ true → (HappensBefore program threads i k → ⊥) → within span byte ≡ true → (mark : ℕ) × IsHit table span clock mark byte × (i < mark)
   a-hit table touch span i byte marked less tch not at =
       let u = get_or threads i 0 in
       let here : slice_get threads i ≡ Some u = slice_get-get_or threads i 0 (let w = slice_get_within threads k t there in omega arith) in
@@ -160,7 +160,7 @@ module _ (program : Program) (threads : List ℕ) (k t : ℕ) (there : slice_get
       let low = not-below i (clock u) (λ b. not ((knows i u here).0 b)) in
       (marks_at table byte u, record { thread = u; at = at; mark_is = refl; beyond = omega arith }, far)
 
-  module _ (w : Watched) (reads writes : List (Vec Clock Global)) (reads_are : (b : ℕ) → touches (accesses_at program threads k).reads b ≡ (within (span_of w.loaded) b || within (span_of w.code) b)) (writes_are : (b : ℕ) → touches (accesses_at program threads k).writes b ≡ within (span_of w.stored) b)
+  module _ (w : Watched) (reads writes : Shadow) (reads_are : (b : ℕ) → touches (accesses_at program threads k).reads b ≡ (within (span_of w.loaded) b || within (span_of w.code) b)) (writes_are : (b : ℕ) → touches (accesses_at program threads k).writes b ≡ within (span_of w.stored) b)
       (reads_marked : (byte : ℕ) → MarkedBy threads k (λ place. touches (accesses_at program threads place).reads byte) (marks_at reads byte)) (writes_marked : (byte : ℕ) → MarkedBy threads k (λ place. touches (accesses_at program threads place).writes byte) (marks_at writes byte)) where
     -- the race of a hit
     record RaceOf (mark byte : ℕ) : Type 0 where
@@ -220,6 +220,9 @@ module _ (program : Program) (threads : List ℕ) (k t : ℕ) (there : slice_get
 knows-equal : (program : Program) (threads : List ℕ) (a b : ClockOf) (P : ℕ → Type 0) → Knows program threads a P → ((u : ℕ) → b u ≡ a u) → Knows program threads b P
 knows-equal program threads a b P f e i u at = (λ less. (f i u at).0 (subst (λ (n : ℕ). i < n) (e u) less), λ p. subst (λ (n : ℕ). i < n) (sym (e u)) ((f i u at).1 p))
 
+at-or-below : (i k : ℕ) → i < suc k → (i < k) ⊎ (i ≡ k)
+at-or-below i k h = grind arith
+
 source-told : (a b : Source) → (a ≡ b) ⊎ (a ≢ b)
 source-told a b = by (is_source a b) refl
   where
@@ -238,8 +241,16 @@ module _ (program : Program) (threads : List ℕ) (k t : ℕ) (there : slice_get
       by (Some source) h = knows-joined program threads (known_by rows (Thread t)) (known_by rows source) (seen_by clock) (Past program threads k (Thread t)) (Past program threads k source) (all (Thread t)) (all source) h
 
   module _ (past : Clock) (knows : Knows program threads (seen_by past) (UpTo program threads k)) where
-    own-next : (mid : List Row) → Passes rows (Thread t) past mid → Knows program threads (known_by mid (Thread t)) (Past program threads (suc k) (Thread t))
-    own-next mid p = knows-more program threads k t there (Thread t) (known_by rows (Thread t)) (seen_by past) (known_by mid (Thread t)) (feeds-own program threads k t there) (all (Thread t)) knows p.learnt
+    -- what is up to the step is all that its thread's next step has as its past
+    own-past : (i : ℕ) → UpTo program threads k i ↔ Past program threads (suc k) (Thread t) i
+    own-past i = (λ up. record { last = k; early = omega arith; feeds = feeds-own program threads k t there; up = up }, λ p. by p (at-or-below p.last k p.early))
+      where
+        by : (p : Past program threads (suc k) (Thread t) i) → (p.last < k) ⊎ (p.last ≡ k) → UpTo program threads k i
+        by p (inl less) = inr ((before-is program threads k t there i).1 (inl (record { last = p.last; early = less; feeds = p.feeds; up = p.up })))
+        by p (inr e) = subst (λ (n : ℕ). UpTo program threads n i) e p.up
+
+    own-next : (mid : List Row) → Keeps rows (Thread t) past mid → Knows program threads (known_by mid (Thread t)) (Past program threads (suc k) (Thread t))
+    own-next mid p = knows-equal program threads (seen_by past) (known_by mid (Thread t)) (Past program threads (suc k) (Thread t)) (knows-same program threads (seen_by past) (UpTo program threads k) (Past program threads (suc k) (Thread t)) knows own-past) p.learnt
 
     pub rows-next : (s : Sync) → sync_at program threads k ≡ s → (o : Option Source) → passes_to t s ≡ o → (new : List Row) → PassesOn rows t o past new → (source : Source) → Knows program threads (known_by new source) (Past program threads (suc k) source)
     rows-next s e None p new on source = ⊎_elim own other (source-told source (Thread t))
@@ -321,7 +332,7 @@ module _ (program : Program) (threads : List ℕ) (old : Checker) (follows : Fol
     writes-are : (b : ℕ) → touches (accesses_at program threads old.steps).writes b ≡ within (span_of w.stored) b
     writes-are b = ap (λ (a : Accesses). touches a.writes b) access-is ∙ seen.writes b
 
-    module _ (new : Checker) (past later : Clock) (hit : Option Hit) (mid : List (Vec Clock Global)) (same : new.plain.program ≡ old.plain.program) (steps : Steps old.plain t new.plain) (is_past : IsPast old.rows.items t (learns_from (sync_of_relation w.relation)) past)
+    module _ (new : Checker) (past later : Clock) (hit : Option Hit) (mid : Shadow) (same : new.plain.program ≡ old.plain.program) (steps : Steps old.plain t new.plain) (is_past : IsPast old.rows.items t (learns_from (sync_of_relation w.relation)) past)
         (first : IsFirstOf (AnyHit old.reads.items old.writes.items w (seen_by past)) hit) (stepped : IsStepped (seen_by past) t old.steps (seen_by later))
         (loaded : Marks old.reads.items (span_of w.loaded) t old.steps mid) (fetched : Marks mid (span_of w.code) t old.steps new.reads.items) (stored : Marks old.writes.items (span_of w.stored) t old.steps new.writes.items)
         (passed : PassesOn old.rows.items t (passes_to t (sync_of_relation w.relation)) later new.rows.items) (count : new.steps ≡ old.steps + 1) (noted : new.found ≡ notes old.found hit old.steps) where
@@ -358,3 +369,29 @@ module _ (program : Program) (threads : List ℕ) (old : Checker) (follows : Fol
         found_is = subst (λ (f : Found). IsFoundIn program threads new.steps f) (sym noted) (subst (λ (n : ℕ). IsFoundIn program threads n (notes old.found hit old.steps)) next-is
             (found-next program threads old.steps t there (seen_by past) knows w old.reads.items old.writes.items reads-are writes-are follows.reads_marked follows.writes_marked old.found hit first follows.found_is));
       }
+
+-- the same machine by another name
+pub follows-same : (program : Program) (threads : List ℕ) (c : Checker) (plain : PlainOf) → plain.program ≡ c.plain.program → SameMachine plain c.plain → Follows program threads c → Follows program threads (record c { plain = plain })
+follows-same program threads c plain same machine f = record {
+  output = f.output;
+  same_program = same ∙ f.same_program;
+  runs = f.runs ∙ ap (λ m. Some m) (sym (machine f.output));
+  short = f.short;
+  knows = f.knows;
+  reads_marked = f.reads_marked;
+  writes_marked = f.writes_marked;
+  found_is = f.found_is;
+}
+
+-- rows that know the same
+pub follows-rows : (program : Program) (threads : List ℕ) (c : Checker) (rows : Vec Row Global) → ((source : Source) (u : ℕ) → known_by rows.items source u ≡ known_by c.rows.items source u) → Follows program threads c → Follows program threads (record c { rows = rows })
+follows-rows program threads c rows same f = record {
+  output = f.output;
+  same_program = f.same_program;
+  runs = f.runs;
+  short = f.short;
+  knows = λ source. knows-equal program threads (known_by c.rows.items source) (known_by rows.items source) (Past program threads c.steps source) (f.knows source) (same source);
+  reads_marked = f.reads_marked;
+  writes_marked = f.writes_marked;
+  found_is = f.found_is;
+}

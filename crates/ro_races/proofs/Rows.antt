@@ -1,6 +1,7 @@
 -- What sources know, row by row.
 use Rattle.std.specs.Prelude.{◌≡◌, ◌≢◌, ℕ, zero, suc, ◌<◌, max, cond, Bool, true, false, ◌==◌, List, [], ◌∷◌, ◌++◌, Some, None, slice_get, slice_set, slice_index_or, replicate, ◌+◌}
-use Rattle.std.proofs.Common.{refl, sym, ap, ◌∙◌, arith}
+use Rattle.std.proofs.Common.{refl, sym, ap, ◌∙◌, subst, arith}
+use Rattle.std.proofs.lemmas.List.{length-set}
 use Rattle.std.proofs.lemmas.Bool.{false≢true, eqb-true}
 use Rattle.std.proofs.lemmas.Option.{get_or_from_slice_get}
 use Rattle.ro_plain.proofs.Calls.{some-injective}
@@ -9,7 +10,7 @@ use Rattle.ro_races.specs.declared.sources.Source.{Source}
 use Rattle.ro_races.specs.declared.sources.Source.TheVariants.{Thread, Mutex, Exit}
 use Rattle.ro_races.specs.declared.sources.Row.{Row}
 use Rattle.ro_races.specs.Clocks.{IsJoined}
-use Rattle.ro_races.specs.Seen.{seen_by, is_source, known_by, IsPlace, Passes}
+use Rattle.ro_races.specs.Seen.{seen_by, is_source, known_by, IsPlace, IsOwn, Keeps, Passes}
 
 pub one-source : (a b : Source) → is_source a b ≡ true → a ≡ b
 one-source (Thread a) (Thread b) h = ap Thread (eqb-true a b h)
@@ -73,6 +74,15 @@ set-other (x ∷ rows) zero old new s u there is was =
     ap (λ (b : Bool). cond b (seen_by new.clock) (known_by rows s) u) is ∙ sym (ap (λ (b : Bool). cond b (seen_by x.clock) (known_by rows s) u) (ap (λ (r : Row). is_source r.source s) e ∙ was))
 set-other (x ∷ rows) (suc i) old new s u there is was = either _ _ _ u (is_source x.source s) (set-other rows i old new s u there is was)
 
+pub keeps-at : (rows : List Row) (i : ℕ) (old new : Row) (s : Source) (past : Clock) → slice_get rows i ≡ Some old → new.source ≡ old.source → new.clock ≡ past → IsPlace rows s (Some i) → Keeps rows s past (slice_set rows i new)
+keeps-at rows i old new s past there kept clock place =
+    let is = place.0 old there in
+    let own : old.source ≡ s = one-source old.source s is in
+    record {
+      learnt = λ u. set-own rows i old new s u there (ap (λ (x : Source). is_source x s) kept ∙ is) place.1 ∙ ap (λ (c : Clock). seen_by c u) clock;
+      others = λ other ne u. set-other rows i old new other u there (other-source new.source s other (kept ∙ own) ne) (other-source old.source s other own ne);
+    }
+
 pub passes-at : (rows : List Row) (i : ℕ) (old new : Row) (s : Source) (past : Clock) → slice_get rows i ≡ Some old → new.source ≡ old.source → IsJoined (seen_by old.clock) (seen_by past) (seen_by new.clock) → IsPlace rows s (Some i) → Passes rows s past (slice_set rows i new)
 passes-at rows i old new s past there kept joined place =
     let is = place.0 old there in
@@ -100,6 +110,40 @@ pub passes-new : (rows : List Row) (new : Row) (s : Source) (past : Clock) → n
 passes-new rows new s past own clock none = record {
   learnt = λ u. push-own rows new s u (ap (λ (x : Source). is_source x s) own ∙ same-source s) none ∙ (ap (λ (c : Clock). seen_by c u) clock ∙ max-none (seen_by past u) (known_by rows s u) (known-nowhere rows s u none));
   others = λ other ne u. push-other rows new other u (other-source new.source s other own ne);
+}
+
+pub keeps-new : (rows : List Row) (new : Row) (s : Source) (past : Clock) → new.source ≡ s → new.clock ≡ past → IsPlace rows s None → Keeps rows s past (rows ++ new ∷ [])
+keeps-new rows new s past own clock none = record {
+  learnt = λ u. push-own rows new s u (ap (λ (x : Source). is_source x s) own ∙ same-source s) none ∙ ap (λ (c : Clock). seen_by c u) clock;
+  others = λ other ne u. push-other rows new other u (other-source new.source s other own ne);
+}
+
+-- a row that knows nothing, of a source that had none
+pub known-new : (rows : List Row) (new : Row) (s : Source) → new.source ≡ s → ((u : ℕ) → seen_by new.clock u ≡ 0) → IsPlace rows s None → (other : Source) (u : ℕ) → known_by (rows ++ new ∷ []) other u ≡ known_by rows other u
+known-new rows new s own nothing none other u = by (is_source new.source other) refl
+  where
+    by : (b : Bool) → is_source new.source other ≡ b → known_by (rows ++ new ∷ []) other u ≡ known_by rows other u
+    by false e = push-other rows new other u e
+    by true e =
+        let same : s ≡ other = sym own ∙ one-source new.source other e in
+        let here : IsPlace rows other None = subst (λ (x : Source). IsPlace rows x None) same none in
+        push-own rows new other u e here ∙ (nothing u ∙ sym (known-nowhere rows other u here))
+
+-- the row at the place of a source has another clock
+set-source : (rows : List Row) (i : ℕ) (old new : Row) → slice_get rows i ≡ Some old → new.source ≡ old.source → (k : ℕ) (row : Row) → slice_get (slice_set rows i new) k ≡ Some row → (was : Row) × (slice_get rows k ≡ Some was) × (row.source ≡ was.source)
+set-source [] i old new there kept k row h = absurd (let e : None ≡ Some old = there in cc)
+set-source (x ∷ rows) zero old new there kept zero row h = (x, refl, ap (λ (r : Row). r.source) (sym (some-injective h)) ∙ (kept ∙ ap (λ (r : Row). r.source) (sym (some-injective there))))
+set-source (x ∷ rows) zero old new there kept (suc k) row h = (row, h, refl)
+set-source (x ∷ rows) (suc i) old new there kept zero row h = (x, refl, ap (λ (r : Row). r.source) (sym (some-injective h)))
+set-source (x ∷ rows) (suc i) old new there kept (suc k) row h = set-source rows i old new there kept k row h
+
+pub own-kept : (rows : List Row) (i t : ℕ) (old new : Row) → slice_get rows i ≡ Some old → new.source ≡ old.source → IsOwn rows t i → IsOwn (slice_set rows i new) t i
+own-kept rows i t old new there kept own = record {
+  there = subst (λ (n : ℕ). i < n) (sym (length-set rows i new)) own.there;
+  first = (
+    λ row h. let was = set-source rows i old new there kept i row h in ap (λ (s : Source). is_source s (Thread t)) was.2 ∙ own.first.0 was.0 was.1,
+    λ k row less h. let was = set-source rows i old new there kept k row h in ap (λ (s : Source). is_source s (Thread t)) was.2 ∙ own.first.1 k was.0 less was.1,
+  );
 }
 
 -- the row that stands for none

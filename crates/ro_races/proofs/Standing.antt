@@ -1,8 +1,9 @@
 -- Where the steps of a journal's entries stand in a run, and what a run comes to at its end.
-use Rattle.std.specs.Prelude.{◌≡◌, ℕ, zero, suc, ◌+◌, ◌<◌, List, [], ◌∷◌, ◌++◌, length, take, get_or, replicate, Some, slice_get}
+use Rattle.std.specs.Prelude.{◌≡◌, ℕ, zero, suc, ◌+◌, ◌-◌, ◌<◌, ◌≤◌, List, [], ◌∷◌, ◌++◌, length, take, get_or, replicate, Some, slice_get}
 use Rattle.std.proofs.Common.{inl, refl, sym, ap, ◌∙◌, subst, arith, length-append, take_all}
 use Rattle.ro_plain.specs.Machine.{Program, opening, run}
-use Rattle.ro_plain.proofs.Calls.{slice_get-append}
+use Rattle.std.proofs.lemmas.Option.{slice_get_within}
+use Rattle.ro_plain.proofs.Calls.{some-injective, slice_get-append}
 use Rattle.ro_journal.specs.declared.Entry.{Entry}
 use Rattle.ro_journal.specs.Plan.{entry_plan, plan_of}
 use Rattle.ro_machine.proofs.Joined.{plan-next}
@@ -29,6 +30,12 @@ slice_get-after (y ∷ p) q i x h = ap (slice_get (y ∷ (p ++ q))) (let e : suc
 
 pub stands-step : (threads : List ℕ) (s n done t now : ℕ) → done < n → StandsAt threads s (replicate n t) → now ≡ s + done → slice_get threads now ≡ Some t
 stands-step threads s n done t now less h e = ap (slice_get threads) e ∙ h done t (same-replicated n done t less)
+
+pub stands-rest : (threads : List ℕ) (s n done t now : ℕ) → done ≤ n → StandsAt threads s (replicate n t) → now ≡ s + done → StandsAt threads now (replicate (n - done) t)
+stands-rest threads s n done t now few h e i x f =
+    let less : i < n - done = (let a = slice_get_within (replicate (n - done) t) i x f in let b = length-replicated (n - done) t in omega (arith, a, b)) in
+    let same : x ≡ t = some-injective (sym f ∙ same-replicated (n - done) i t less) in
+    ap (slice_get threads) (let g : now + i ≡ s + (done + i) = omega (arith, e) in g) ∙ (h (done + i) t (same-replicated n (done + i) t (omega (arith, few, less))) ∙ ap Some (sym same))
 
 pub stands-left : (threads : List ℕ) (s : ℕ) (p q : List ℕ) → StandsAt threads s (p ++ q) → StandsAt threads s p
 stands-left threads s p q h i x e = h i x (slice_get-append p q i x e)

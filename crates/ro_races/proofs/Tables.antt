@@ -1,10 +1,11 @@
 -- Tables of marks.
-use Rattle.std.specs.Prelude.{◌≡◌, ◌≢◌, ℕ, zero, suc, ◌+◌, ◌/◌, ◌%◌, ◌<◌, ◌≤◌, ◌⊎◌, ◌==◌, ◌||◌, nat_le, nat_lt, Bool, true, false, List, [], ◌∷◌, ◌++◌, length, Option, Some, None, Vec, vec_len, slice_get, slice_index_or, slice_set, replicate}
+use Rattle.std.specs.Prelude.{◌≡◌, ◌≢◌, ℕ, zero, suc, ◌+◌, ◌/◌, ◌%◌, ◌<◌, ◌≤◌, ◌⊎◌, ◌==◌, ◌||◌, nat_le, nat_lt, Bool, true, false, if◌then◌else◌, List, [], ◌∷◌, ◌++◌, length, Option, Some, None, Vec, vec_len, slice_get, slice_index_or, slice_set, replicate}
 use Rattle.std.specs.Vec.{with_item}
 use Rattle.std.specs.declared.alloc.Global.{Global}
 use Rattle.std.proofs.Common.{refl, sym, ap, ◌∙◌, subst, arith, inl, inr, ⊎_elim, get_or-set_other, get_or-set_same}
 use Rattle.std.proofs.lemmas.Bool.{true≢false, false≢true, eqb-true, leb-true, ltb-true, lt-ltb, and_parts, and_from}
-use Rattle.std.proofs.lemmas.Option.{get_or_from_slice_get, slice_get_read}
+use Rattle.std.proofs.lemmas.List.{length-set}
+use Rattle.std.proofs.lemmas.Option.{get_or_from_slice_get, slice_get-get_or, slice_get_read}
 use Rattle.ro_pages.specs.Bytes.{Span, within}
 use Rattle.ro_plain.proofs.Calls.{some-injective}
 use Rattle.ro_plain.proofs.Commute.{slice_get-set_other}
@@ -12,7 +13,7 @@ use Rattle.ro_replica.proofs.Elements.{get_set}
 use Rattle.ro_races.specs.declared.marks.Clock.{Clock}
 use Rattle.ro_races.specs.Clocks.{Clock as ClockOf, IsStepped}
 use Rattle.ro_races.specs.Seen.{seen_by}
-use Rattle.ro_races.specs.Shadows.{page_items, no_marks, marks_at, IsTable, IsMade, Marks, IsHit}
+use Rattle.ro_races.specs.Shadows.{Shadow, pages_in, clocks_in, page_at, no_marks, clock_at, marks_at, IsPage, IsTable, HasSecond, Changes, Advances, Marks, IsHit}
 
 -- ---- numbers and stretches
 
@@ -22,6 +23,9 @@ eq-told a b = by (a == b) refl
     by : (x : Bool) → (a == b) ≡ x → (a ≡ b) ⊎ (a ≢ b)
     by true e = inl (eqb-true a b e)
     by false e = inr (λ f. grind (arith, e, f))
+
+pub below-unless : (a b : ℕ) → a ≤ b → (a ≡ b → ⊥) → a < b
+below-unless a b le n = grind (arith, le, n)
 
 pub same-bool : (a b : Bool) → (a ≡ true → b ≡ true) → (b ≡ true → a ≡ true) → a ≡ b
 same-bool true b f g = sym (f refl)
@@ -81,7 +85,7 @@ or-parts : (a b : Bool) → (a || b) ≡ false → (a ≡ false) × (b ≡ false
 or-parts true b h = absurd (true≢false h)
 or-parts false b h = (refl, h)
 
-pub marks-join : (s one two : Span) (t p : ℕ) (a b c d : List (Vec Clock Global)) → ((x : ℕ) → within s x ≡ (within one x || within two x)) → Marks a one t p b → ((x u : ℕ) → marks_at c x u ≡ marks_at b x u) → Marks c two t p d → Marks a s t p d
+pub marks-join : (s one two : Span) (t p : ℕ) (a b c d : Shadow) → ((x : ℕ) → within s x ≡ (within one x || within two x)) → Marks a one t p b → ((x u : ℕ) → marks_at c x u ≡ marks_at b x u) → Marks c two t p d → Marks a s t p d
 marks-join s one two t p a b c d both first same second = record {
   inside = λ x h. by x (within one x) (within two x) refl refl (sym (both x) ∙ h);
   outside = λ x h u. let parts = or-parts (within one x) (within two x) (sym (both x) ∙ h) in second.outside x parts.1 u ∙ (same x u ∙ first.outside x parts.0 u);
@@ -93,15 +97,21 @@ marks-join s one two t p a b c d both first same second = record {
     by x false true e f h = stepped-after (marks_at a x) (marks_at c x) (marks_at d x) t p (λ u. same x u ∙ first.outside x e u) (second.inside x f)
     by x false false e f h = absurd (let parts : (within one x || within two x) ≡ false = ap (λ z. z || within two x) e ∙ f in true≢false (sym h ∙ parts))
 
-pub marks-none : (p t place : ℕ) (a : List (Vec Clock Global)) → Marks a (record { place = p; count = 0 }) t place a
+pub marks-later : (s : Span) (t p : ℕ) (a b c : Shadow) → ((x u : ℕ) → marks_at b x u ≡ marks_at a x u) → Marks b s t p c → Marks a s t p c
+marks-later s t p a b c same m = record {
+  inside = λ x h. stepped-after (marks_at a x) (marks_at b x) (marks_at c x) t p (same x) (m.inside x h);
+  outside = λ x h u. m.outside x h u ∙ same x u;
+}
+
+pub marks-none : (p t place : ℕ) (a : Shadow) → Marks a (record { place = p; count = 0 }) t place a
 marks-none p t place a = record {
   inside = λ x h. absurd (let b = bounds (record { place = p; count = 0 }) x h in omega (arith, b.0, b.1));
   outside = λ x h u. refl;
 }
 
--- ---- pages
+-- ---- lists
 
-get_or-replicate : {X : Type 0} (n i : ℕ) (x : X) → slice_index_or (replicate n x) i x ≡ x
+pub get_or-replicate : {X : Type 0} (n i : ℕ) (x : X) → slice_index_or (replicate n x) i x ≡ x
 get_or-replicate zero i x = refl
 get_or-replicate (suc n) zero x = refl
 get_or-replicate (suc n) (suc i) x = get_or-replicate n i x
@@ -110,95 +120,206 @@ length-same : {X : Type 0} (n : ℕ) (x : X) → length (replicate n x) ≡ n
 length-same zero x = refl
 length-same (suc n) x = ap suc (length-same n x)
 
-pub touched-same : (table : List (Vec Clock Global)) (p : ℕ) (old new : Vec Clock Global) → slice_get table p ≡ Some old → old.items ≡ [] → new.items ≡ replicate 4096 no_marks → (x u : ℕ) → marks_at (slice_set table p new) x u ≡ marks_at table x u
-touched-same table p old new there empty fresh x u = ⊎_elim here (λ n. ap (λ o. seen_by (slice_index_or (page_items o) (x % 4096) no_marks) u) (slice_get-set_other table p (x / 4096) new (λ e. n (sym e)))) (eq-told (x / 4096) p)
-  where
-    here : x / 4096 ≡ p → marks_at (slice_set table p new) x u ≡ marks_at table x u
-    here e =
-        let now : slice_get (slice_set table p new) (x / 4096) ≡ Some new = ap (slice_get (slice_set table p new)) e ∙ get_set table p old new there in
-        let was : slice_get table (x / 4096) ≡ Some old = ap (slice_get table) e ∙ there in
-        ap (λ o. seen_by (slice_index_or (page_items o) (x % 4096) no_marks) u) now
-        ∙ (ap (λ xs. seen_by (slice_index_or xs (x % 4096) no_marks) u) fresh
-        ∙ (ap (λ c. seen_by c u) (get_or-replicate 4096 (x % 4096) no_marks)
-        ∙ (ap (λ xs. seen_by (slice_index_or xs (x % 4096) no_marks) u) (sym empty)
-        ∙ ap (λ o. seen_by (slice_index_or (page_items o) (x % 4096) no_marks) u) (sym was))))
+pub nothing-in : {X : Type 0} (xs : List X) → length xs ≡ 0 → xs ≡ []
+nothing-in [] e = refl
+nothing-in (x ∷ xs) e = absurd (omega (arith, e))
 
-pub touched-made : (table : List (Vec Clock Global)) (p : ℕ) (old new : Vec Clock Global) → slice_get table p ≡ Some old → new.items ≡ replicate 4096 no_marks → IsMade (slice_set table p new) p
-touched-made table p old new there fresh = ap (λ o. length (page_items o)) (get_set table p old new there) ∙ (ap length fresh ∙ length-same 4096 no_marks)
-
-empty-items : (v : Vec Clock Global) → (vec_len v == 0) ≡ true → v.items ≡ []
-empty-items v h = by v.items (let e = eqb-true (vec_len v) 0 h in sym v.ok.0 ∙ e)
-  where
-    by : (xs : List Clock) → length xs ≡ 0 → xs ≡ []
-    by [] e = refl
-    by (x ∷ xs) e = absurd (omega (arith, e))
-
-pub was-empty : (table : List (Vec Clock Global)) (p : ℕ) (page : Vec Clock Global) → length table ≡ 1048577 → p < 1048577 → page ≡ slice_index_or table p page → (vec_len page == 0) ≡ true → (slice_get table p ≡ Some page) × (page.items ≡ [])
-was-empty table p page e less is empty = (slice_get_read table (length table) p page refl (omega arith) is, empty-items page empty)
-
-pub was-made : (table : List (Vec Clock Global)) (p : ℕ) (page : Vec Clock Global) → IsTable table → p < 1048577 → page ≡ slice_index_or table p page → (vec_len page == 0) ≡ false → IsMade table p
-was-made table p page whole less is full =
-    let there : slice_get table p ≡ Some page = slice_get_read table (length table) p page refl (let e = whole.pages in omega arith) is in
-    ap (λ o. length (page_items o)) there ∙ ⊎_elim (λ e. absurd (true≢false (sym (zero-len e) ∙ full))) (λ e. e) (whole.whole p page there)
-  where
-    zero-len : page.items ≡ [] → (vec_len page == 0) ≡ true
-    zero-len e = let f : vec_len page ≡ 0 = page.ok.0 ∙ ap length e in grind (arith, f)
-
--- ---- one byte
-
-div-mod : (x y : ℕ) → x / 4096 ≡ y / 4096 → x % 4096 ≡ y % 4096 → x ≡ y
-div-mod x y e f = omega (arith, e, f)
+-- ---- pages in second tables
 
 small-rest : (x : ℕ) → x % 4096 < 4096
 small-rest x = omega arith
 
-pub marked : (table : List (Vec Clock Global)) (byte t place : ℕ) (page : Vec Clock Global) (old new : Clock) → length table ≡ 1048577 → byte / 4096 < 1048577 → page ≡ slice_index_or table (byte / 4096) page → IsMade table (byte / 4096) → old ≡ slice_index_or page.items (byte % 4096) old → IsStepped (seen_by old) t place (seen_by new)
-    → Marks table (record { place = byte; count = 1 }) t place (slice_set table (byte / 4096) (with_item page (byte % 4096) new))
-marked table byte t place page old new count less is made was step = record { inside = inside; outside = outside }
+small-page : (x : ℕ) → x % 1024 < 1024
+small-page x = omega arith
+
+one-page : (x y : ℕ) → x / 1024 ≡ y / 1024 → x % 1024 ≡ y % 1024 → x ≡ y
+one-page x y e f = omega (arith, e, f)
+
+module _ (table : Shadow) (k : ℕ) (old new : Vec (Vec Clock Global) Global) (there : slice_get table k ≡ Some old) where
+  second-was : (page : ℕ) → page / 1024 ≡ k → page_at table page ≡ clocks_in (slice_get old.items (page % 1024))
+  second-was page e = ap (λ o. clocks_in (slice_get (pages_in o) (page % 1024))) (ap (slice_get table) e ∙ there)
+
+  second-is : (page : ℕ) → page / 1024 ≡ k → page_at (slice_set table k new) page ≡ clocks_in (slice_get new.items (page % 1024))
+  second-is page e = ap (λ o. clocks_in (slice_get (pages_in o) (page % 1024))) (ap (slice_get (slice_set table k new)) e ∙ get_set table k old new there)
+
+  second-other : (page : ℕ) → page / 1024 ≢ k → page_at (slice_set table k new) page ≡ page_at table page
+  second-other page n = ap (λ o. clocks_in (slice_get (pages_in o) (page % 1024))) (slice_get-set_other table k (page / 1024) new (λ e. n (sym e)))
+
+  seconds-whole : IsTable table → length new.items ≡ 1024 → (j : ℕ) (second : Vec (Vec Clock Global) Global) → slice_get (slice_set table k new) j ≡ Some second → (second.items ≡ []) ⊎ (length second.items ≡ 1024)
+  seconds-whole whole full j second h = ⊎_elim own (λ n. whole.whole j second (sym (slice_get-set_other table k j new (λ e. n (sym e))) ∙ h)) (eq-told j k)
+    where
+      own : j ≡ k → (second.items ≡ []) ⊎ (length second.items ≡ 1024)
+      own e =
+          let same : second ≡ new = some-injective (sym h ∙ (ap (slice_get (slice_set table k new)) e ∙ get_set table k old new there)) in
+          inr (ap (λ (v : Vec (Vec Clock Global) Global). length v.items) same ∙ full)
+
+  -- a table of which one page has other clocks
+  pub table-changed : (page : ℕ) (clocks : List Clock) → IsTable table → length new.items ≡ 1024 → Changes table page clocks (slice_set table k new) → IsPage clocks → IsTable (slice_set table k new)
+  table-changed page clocks whole full changes is_page = record {
+    seconds = length-set table k new ∙ whole.seconds;
+    whole = seconds-whole whole full;
+    pages = λ j. ⊎_elim (λ e. subst IsPage (sym (ap (page_at (slice_set table k new)) e ∙ changes.here)) is_page) (λ n. subst IsPage (sym (changes.others j n)) (whole.pages j)) (eq-told j page);
+  }
+
+  -- an empty second table in the place of one with no pages
+  pub second-same : old.items ≡ [] → ((i : ℕ) (page : Vec Clock Global) → slice_get new.items i ≡ Some page → page.items ≡ []) → (page : ℕ) → page_at (slice_set table k new) page ≡ page_at table page
+  second-same none empty page = ⊎_elim (λ e. second-is page e ∙ (blank (slice_get new.items (page % 1024)) refl ∙ sym (second-was page e ∙ ap (λ xs. clocks_in (slice_get xs (page % 1024))) none))) (second-other page) (eq-told (page / 1024) k)
+    where
+      blank : (o : Option (Vec Clock Global)) → slice_get new.items (page % 1024) ≡ o → clocks_in o ≡ []
+      blank None e = refl
+      blank (Some p) e = empty (page % 1024) p e
+
+  pub second-table : IsTable table → length new.items ≡ 1024 → ((page : ℕ) → page_at (slice_set table k new) page ≡ page_at table page) → IsTable (slice_set table k new)
+  second-table whole full same = record {
+    seconds = length-set table k new ∙ whole.seconds;
+    whole = seconds-whole whole full;
+    pages = λ j. subst IsPage (sym (same j)) (whole.pages j);
+  }
+
+  pub second-made : length new.items ≡ 1024 → HasSecond (slice_set table k new) k
+  second-made full = ap (λ o. length (pages_in o)) (get_set table k old new there) ∙ full
+
+-- what was read of a table
+pub second-read : (table : Shadow) (k : ℕ) (second : Vec (Vec Clock Global) Global) → IsTable table → k < 1025 → second ≡ slice_index_or table k second → slice_get table k ≡ Some second
+second-read table k second whole less is = slice_get_read table (length table) k second refl (let e = whole.seconds in omega (arith, e, less)) is
+
+pub second-full : (table : Shadow) (k : ℕ) (second : Vec (Vec Clock Global) Global) → slice_get table k ≡ Some second → HasSecond table k → length second.items ≡ 1024
+second-full table k second there has = sym (ap (λ o. length (pages_in o)) there) ∙ has
+
+pub page-read : (second : Vec (Vec Clock Global) Global) (i : ℕ) (page : Vec Clock Global) → length second.items ≡ 1024 → page ≡ slice_index_or second.items (i % 1024) page → slice_get second.items (i % 1024) ≡ Some page
+page-read second i page full is = slice_get_read second.items (length second.items) (i % 1024) page refl (let s = small-page i in omega (arith, s, full)) is
+
+-- a page that has clocks has a second table
+pub has-second : (table : Shadow) (page : ℕ) → IsTable table → (page_at table page ≡ [] → ⊥) → HasSecond table (page / 1024)
+has-second table page whole made = by (slice_get table (page / 1024)) refl
   where
-    there : slice_get table (byte / 4096) ≡ Some page
-    there = slice_get_read table (length table) (byte / 4096) page refl (omega arith) is
+    by : (o : Option (Vec (Vec Clock Global) Global)) → slice_get table (page / 1024) ≡ o → HasSecond table (page / 1024)
+    by None e = absurd (made (ap (λ o. clocks_in (slice_get (pages_in o) (page % 1024))) e))
+    by (Some second) e = ap (λ o. length (pages_in o)) e ∙ ⊎_elim (λ none. absurd (made (ap (λ o. clocks_in (slice_get (pages_in o) (page % 1024))) e ∙ ap (λ xs. clocks_in (slice_get xs (page % 1024))) none))) (λ f. f) (whole.whole (page / 1024) second e)
 
-    full : length page.items ≡ 4096
-    full = sym (ap (λ o. length (page_items o)) there) ∙ made
+pub some-clocks : (xs : List Clock) (n : ℕ) → length xs ≡ suc n → xs ≡ [] → ⊥
+some-clocks xs n e f = let g : length xs ≡ 0 = ap length f in omega (arith, e, g)
 
-    next : Vec Clock Global
-    next = with_item page (byte % 4096) new
+-- ---- one page
 
-    now : slice_get (slice_set table (byte / 4096) next) (byte / 4096) ≡ Some next
-    now = get_set table (byte / 4096) page next there
+module _ (table : Shadow) (page : ℕ) (second : Vec (Vec Clock Global) Global) (was : Vec Clock Global) (there : slice_get table (page / 1024) ≡ Some second) (at : slice_get second.items (page % 1024) ≡ Some was) where
+  pub page-was : page_at table page ≡ was.items
+  page-was = second-was table (page / 1024) second second there page refl ∙ ap clocks_in at
 
-    old-at : slice_index_or page.items (byte % 4096) no_marks ≡ old
-    old-at = get_or_from_slice_get page.items (byte % 4096) old no_marks (slice_get_read page.items (length page.items) (byte % 4096) old refl (let s = small-rest byte in let f = full in omega (arith, s, f)) was)
+  module _ (clocks : Vec Clock Global) where
+    abbrev next : Vec (Vec Clock Global) Global
+    next = with_item second (page % 1024) clocks
 
-    at-byte : IsStepped (marks_at table byte) t place (marks_at (slice_set table (byte / 4096) next) byte)
-    at-byte =
-        let before : (u : ℕ) → marks_at table byte u ≡ seen_by old u = (λ u. ap (λ o. seen_by (slice_index_or (page_items o) (byte % 4096) no_marks) u) there ∙ ap (λ c. seen_by c u) old-at) in
-        let after : (u : ℕ) → marks_at (slice_set table (byte / 4096) next) byte u ≡ seen_by new u = (λ u. ap (λ o. seen_by (slice_index_or (page_items o) (byte % 4096) no_marks) u) now ∙ ap (λ c. seen_by c u) (get_or-set_same page.items (byte % 4096) new no_marks (let s = small-rest byte in let f = full in omega (arith, s, f)))) in
-        record { own = after t ∙ step.own; others = λ u n. after u ∙ (step.others u n ∙ sym (before u)) }
+    pub page-changed : Changes table page clocks.items (slice_set table (page / 1024) (with_item second (page % 1024) clocks))
+    page-changed = record {
+      here = second-is table (page / 1024) second next there page refl ∙ ap clocks_in (get_set second.items (page % 1024) was clocks at);
+      others = λ other n. ⊎_elim (beside other n) (second-other table (page / 1024) second next there other) (eq-told (other / 1024) (page / 1024));
+    }
+      where
+        beside : (other : ℕ) → other ≢ page → other / 1024 ≡ page / 1024 → page_at (slice_set table (page / 1024) next) other ≡ page_at table other
+        beside other n e =
+            second-is table (page / 1024) second next there other e
+            ∙ (ap clocks_in (slice_get-set_other second.items (page % 1024) (other % 1024) clocks (λ f. n (one-page other page e (sym f))))
+            ∙ sym (second-was table (page / 1024) second second there other e))
 
-    inside : (x : ℕ) → within (record { place = byte; count = 1 }) x ≡ true → IsStepped (marks_at table x) t place (marks_at (slice_set table (byte / 4096) next) x)
-    inside x h =
-        let b = bounds (record { place = byte; count = 1 }) x h in
-        let same : byte ≡ x = omega (arith, b.0, b.1) in
-        subst (λ (n : ℕ). IsStepped (marks_at table n) t place (marks_at (slice_set table (byte / 4096) next) n)) same at-byte
+    pub page-table : IsTable table → length second.items ≡ 1024 → IsPage clocks.items → IsTable (slice_set table (page / 1024) (with_item second (page % 1024) clocks))
+    page-table whole full is_page = table-changed table (page / 1024) second next there page clocks.items whole (length-set second.items (page % 1024) clocks ∙ full) page-changed is_page
 
-    elsewhere : (x u : ℕ) → x ≢ byte → x / 4096 ≡ byte / 4096 → marks_at (slice_set table (byte / 4096) next) x u ≡ marks_at table x u
-    elsewhere x u n e =
-        let here : slice_get (slice_set table (byte / 4096) next) (x / 4096) ≡ Some next = ap (slice_get (slice_set table (byte / 4096) next)) e ∙ now in
-        let then : slice_get table (x / 4096) ≡ Some page = ap (slice_get table) e ∙ there in
-        ap (λ o. seen_by (slice_index_or (page_items o) (x % 4096) no_marks) u) here
-        ∙ (ap (λ c. seen_by c u) (get_or-set_other page.items (byte % 4096) (x % 4096) new no_marks (λ f. n (div-mod x byte e f)))
-        ∙ ap (λ o. seen_by (slice_index_or (page_items o) (x % 4096) no_marks) u) (sym then))
+  -- one clock of it
+  pub page-advanced : (index t p : ℕ) (old new : Clock) → index < length was.items → old ≡ slice_index_or was.items index old → IsStepped (seen_by old) t p (seen_by new) → Advances table page index t p (slice_set table (page / 1024) (with_item second (page % 1024) (with_item was index new)))
+  page-advanced index t p old new less is step =
+      let changed = page-changed (with_item was index new) in
+      let read : slice_index_or was.items index no_marks ≡ old = get_or_from_slice_get was.items index old no_marks (slice_get_read was.items (length was.items) index old refl less is) in
+      record {
+        clock = new;
+        changes = record { here = changed.here ∙ ap (λ xs. slice_set xs index new) (sym page-was); others = changed.others };
+        stepped = subst (λ (c : Clock). IsStepped (seen_by c) t p (seen_by new)) (sym (ap (λ xs. slice_index_or xs index no_marks) page-was ∙ read)) step;
+      }
 
-    outside : (x : ℕ) → within (record { place = byte; count = 1 }) x ≡ false → (u : ℕ) → marks_at (slice_set table (byte / 4096) next) x u ≡ marks_at table x u
-    outside x h u =
-        let ne : x ≢ byte = (λ e. true≢false (sym (in-span (record { place = byte; count = 1 }) x (omega arith) (omega arith)) ∙ h)) in
-        ⊎_elim (elsewhere x u ne) (λ n. ap (λ o. seen_by (slice_index_or (page_items o) (x % 4096) no_marks) u) (slice_get-set_other table (byte / 4096) (x / 4096) next (λ e. n (sym e)))) (eq-told (x / 4096) (byte / 4096))
+pub page-kept : (xs : List Clock) (i : ℕ) (c : Clock) → IsPage xs → IsPage (slice_set xs i c)
+page-kept xs i c (inl e) = inl (ap (λ (l : List Clock). slice_set l i c) e)
+page-kept xs i c (inr (inl e)) = inr (inl (length-set xs i c ∙ e))
+page-kept xs i c (inr (inr e)) = inr (inr (length-set xs i c ∙ e))
+
+-- ---- marks by pages
+
+pub words-at : (xs : List Clock) (o : ℕ) → length xs ≡ 1024 → clock_at xs o ≡ slice_index_or xs (o / 4) no_marks
+words-at xs o e = let f : (length xs == 1024) ≡ true = grind (arith, e) in ap (λ (b : Bool). slice_index_or xs (if b then o / 4 else o) no_marks) f
+
+pub bytes-at : (xs : List Clock) (o : ℕ) → length xs ≡ 4096 → clock_at xs o ≡ slice_index_or xs o no_marks
+bytes-at xs o e = let f : (length xs == 1024) ≡ false = grind (arith, e) in ap (λ (b : Bool). slice_index_or xs (if b then o / 4 else o) no_marks) f
+
+pub marks-same : (old new : Shadow) (page : ℕ) (clocks : List Clock) → Changes old page clocks new → ((o : ℕ) → o < 4096 → clock_at clocks o ≡ clock_at (page_at old page) o) → (x u : ℕ) → marks_at new x u ≡ marks_at old x u
+marks-same old new page clocks changes same x u = ⊎_elim here (λ n. ap (λ xs. seen_by (clock_at xs (x % 4096)) u) (changes.others (x / 4096) n)) (eq-told (x / 4096) page)
+  where
+    here : x / 4096 ≡ page → marks_at new x u ≡ marks_at old x u
+    here e =
+        ap (λ xs. seen_by (clock_at xs (x % 4096)) u) (ap (page_at new) e ∙ changes.here)
+        ∙ (ap (λ c. seen_by c u) (same (x % 4096) (small-rest x))
+        ∙ ap (λ xs. seen_by (clock_at xs (x % 4096)) u) (ap (page_at old) (sym e)))
+
+pub fresh-clocks : (xs ys : List Clock) (o : ℕ) → ys ≡ [] → xs ≡ replicate 1024 no_marks → clock_at xs o ≡ clock_at ys o
+fresh-clocks xs ys o none fresh =
+    words-at xs o (ap length fresh ∙ length-same 1024 no_marks)
+    ∙ (ap (λ (l : List Clock). slice_index_or l (o / 4) no_marks) fresh
+    ∙ (get_or-replicate 1024 (o / 4) no_marks
+    ∙ sym (ap (λ (l : List Clock). clock_at l o) none)))
+
+pub fresh-page : (xs : List Clock) → xs ≡ replicate 1024 no_marks → length xs ≡ 1024
+fresh-page xs fresh = ap length fresh ∙ length-same 1024 no_marks
+
+module _ (old new : Shadow) (page index t p : ℕ) (a : Advances old page index t p new) (less : index < length (page_at old page)) (place : ℕ → ℕ) (reads : (xs : List Clock) (o : ℕ) → length xs ≡ length (page_at old page) → clock_at xs o ≡ slice_index_or xs (place o) no_marks) where
+  read-old : (x u : ℕ) → x / 4096 ≡ page → marks_at old x u ≡ seen_by (slice_index_or (page_at old page) (place (x % 4096)) no_marks) u
+  read-old x u e = ap (λ n. seen_by (clock_at (page_at old n) (x % 4096)) u) e ∙ ap (λ c. seen_by c u) (reads (page_at old page) (x % 4096) refl)
+
+  read-new : (x u : ℕ) → x / 4096 ≡ page → marks_at new x u ≡ seen_by (slice_index_or (slice_set (page_at old page) index a.clock) (place (x % 4096)) no_marks) u
+  read-new x u e =
+      ap (λ xs. seen_by (clock_at xs (x % 4096)) u) (ap (page_at new) e ∙ a.changes.here)
+      ∙ ap (λ c. seen_by c u) (reads (slice_set (page_at old page) index a.clock) (x % 4096) (length-set (page_at old page) index a.clock))
+
+  at-index : (x : ℕ) → x / 4096 ≡ page → place (x % 4096) ≡ index → IsStepped (marks_at old x) t p (marks_at new x)
+  at-index x e f =
+      let before : (u : ℕ) → marks_at old x u ≡ seen_by (slice_index_or (page_at old page) index no_marks) u = (λ u. read-old x u e ∙ ap (λ i. seen_by (slice_index_or (page_at old page) i no_marks) u) f) in
+      let after : (u : ℕ) → marks_at new x u ≡ seen_by a.clock u = (λ u. read-new x u e ∙ (ap (λ i. seen_by (slice_index_or (slice_set (page_at old page) index a.clock) i no_marks) u) f ∙ ap (λ c. seen_by c u) (get_or-set_same (page_at old page) index a.clock no_marks less))) in
+      record { own = after t ∙ a.stepped.own; others = λ u n. after u ∙ (a.stepped.others u n ∙ sym (before u)) }
+
+  off-index : (x u : ℕ) → (x / 4096 ≡ page → place (x % 4096) ≡ index → ⊥) → marks_at new x u ≡ marks_at old x u
+  off-index x u n = ⊎_elim (λ e. read-new x u e ∙ (ap (λ c. seen_by c u) (get_or-set_other (page_at old page) index (place (x % 4096)) a.clock no_marks (n e)) ∙ sym (read-old x u e))) (λ m. ap (λ xs. seen_by (clock_at xs (x % 4096)) u) (a.changes.others (x / 4096) m)) (eq-told (x / 4096) page)
+
+-- ---- a whole word, and one byte
+
+word-in : (a x : ℕ) → a % 4 ≡ 0 → a ≤ x → x < a + 4 → (x / 4096 ≡ a / 4096) × (x % 4096 / 4 ≡ a % 4096 / 4)
+word-in a x e low high = (omega (arith, e, low, high), omega (arith, e, low, high))
+
+word-out : (a x : ℕ) → a % 4 ≡ 0 → x / 4096 ≡ a / 4096 → x % 4096 / 4 ≡ a % 4096 / 4 → (a ≤ x) × (x < a + 4)
+word-out a x e f g = (omega (arith, e, f, g), omega (arith, e, f, g))
+
+pub word-marked : (old new : Shadow) (a t p : ℕ) → a % 4 ≡ 0 → length (page_at old (a / 4096)) ≡ 1024 → Advances old (a / 4096) (a % 4096 / 4) t p new → Marks old (record { place = a; count = 4 }) t p new
+word-marked old new a t p aligned words advances =
+    let less : a % 4096 / 4 < length (page_at old (a / 4096)) = omega (arith, words) in
+    let reads : (xs : List Clock) (o : ℕ) → length xs ≡ length (page_at old (a / 4096)) → clock_at xs o ≡ slice_index_or xs (o / 4) no_marks = (λ xs o e. words-at xs o (e ∙ words)) in
+    let span : Span = record { place = a; count = 4 } in
+    record {
+      inside = λ x h. let b = bounds span x h in let w = word-in a x aligned b.0 b.1 in at-index old new (a / 4096) (a % 4096 / 4) t p advances less (λ o. o / 4) reads x w.0 w.1;
+      outside = λ x h u. off-index old new (a / 4096) (a % 4096 / 4) t p advances less (λ o. o / 4) reads x u (λ e f. let w = word-out a x aligned e f in true≢false (sym (in-span span x w.0 w.1) ∙ h));
+    }
+
+byte-is : (a x : ℕ) → x / 4096 ≡ a / 4096 → x % 4096 ≡ a % 4096 → x ≡ a
+byte-is a x e f = omega (arith, e, f)
+
+pub byte-marked : (old new : Shadow) (a t p : ℕ) → length (page_at old (a / 4096)) ≡ 4096 → Advances old (a / 4096) (a % 4096) t p new → Marks old (record { place = a; count = 1 }) t p new
+byte-marked old new a t p bytes advances =
+    let less : a % 4096 < length (page_at old (a / 4096)) = omega (arith, bytes) in
+    let reads : (xs : List Clock) (o : ℕ) → length xs ≡ length (page_at old (a / 4096)) → clock_at xs o ≡ slice_index_or xs o no_marks = (λ xs o e. bytes-at xs o (e ∙ bytes)) in
+    let span : Span = record { place = a; count = 1 } in
+    record {
+      inside = λ x h. let b = bounds span x h in let same : x ≡ a = omega (arith, b.0, b.1) in at-index old new (a / 4096) (a % 4096) t p advances less (λ o. o) reads x (ap (λ n. n / 4096) same) (ap (λ n. n % 4096) same);
+      outside = λ x h u. off-index old new (a / 4096) (a % 4096) t p advances less (λ o. o) reads x u (λ e f. let same = byte-is a x e f in true≢false (sym (in-span span x (omega (arith, same)) (omega (arith, same))) ∙ h));
+    }
 
 -- ---- hits
 
-module _ (table : List (Vec Clock Global)) (place k : ℕ) (past : ClockOf) (none : (mark byte : ℕ) → IsHit table (record { place = place; count = k }) past mark byte → ⊥) (result : ℕ) (above : (thread : ℕ) → (marks_at table (place + k) thread ≤ past thread) ⊎ (marks_at table (place + k) thread ≤ result)) where
+module _ (table : Shadow) (place k : ℕ) (past : ClockOf) (none : (mark byte : ℕ) → IsHit table (record { place = place; count = k }) past mark byte → ⊥) (result : ℕ) (above : (thread : ℕ) → (marks_at table (place + k) thread ≤ past thread) ⊎ (marks_at table (place + k) thread ≤ result)) where
   -- a hit that is not among the first bytes is further on
   later-hit : (n mark byte : ℕ) → IsHit table (record { place = place; count = n }) past mark byte → place + k ≤ byte
   later-hit n mark byte h = ⊎_elim (λ less. absurd (none mark byte (record { thread = h.thread; at = in-span (record { place = place; count = k }) byte (bounds (record { place = place; count = n }) byte h.at).0 less; mark_is = h.mark_is; beyond = h.beyond }))) (λ e. e) (below-or (place + k) byte)
@@ -236,28 +357,106 @@ module _ (table : List (Vec Clock Global)) (place k : ℕ) (past : ClockOf) (non
       further : {m x : ℕ} → m ≤ x → x ≢ m → m < x
       further le ne = grind (arith, le, ne)
 
-pub no-hit-more : (table : List (Vec Clock Global)) (place k count : ℕ) (past : ClockOf) → count ≤ k → ((mark byte : ℕ) → IsHit table (record { place = place; count = k }) past mark byte → ⊥) → (mark byte : ℕ) → IsHit table (record { place = place; count = count }) past mark byte → ⊥
+pub no-hit-more : (table : Shadow) (place k count : ℕ) (past : ClockOf) → count ≤ k → ((mark byte : ℕ) → IsHit table (record { place = place; count = k }) past mark byte → ⊥) → (mark byte : ℕ) → IsHit table (record { place = place; count = count }) past mark byte → ⊥
 no-hit-more table place k count past le none mark byte h =
     let b = bounds (record { place = place; count = count }) byte h.at in
     none mark byte (record { thread = h.thread; at = in-span (record { place = place; count = k }) byte b.0 (let c = b.1 in omega (arith, c, le)); mark_is = h.mark_is; beyond = h.beyond })
 
-pub no-hit-none : (table : List (Vec Clock Global)) (place : ℕ) (past : ClockOf) → (mark byte : ℕ) → IsHit table (record { place = place; count = 0 }) past mark byte → ⊥
+pub no-hit-none : (table : Shadow) (place : ℕ) (past : ClockOf) → (mark byte : ℕ) → IsHit table (record { place = place; count = 0 }) past mark byte → ⊥
 no-hit-none table place past mark byte h = let b = bounds (record { place = place; count = 0 }) byte h.at in omega (arith, b.0, b.1)
 
--- ---- a table of empty pages
+-- ---- bytes with the clocks of their words
 
-pub empty-marks : (table : List (Vec Clock Global)) → ((k : ℕ) (page : Vec Clock Global) → slice_get table k ≡ Some page → page.items ≡ []) → (x u : ℕ) → marks_at table x u ≡ 0
-empty-marks table none x u = by (slice_get table (x / 4096)) refl
+pub spread-more : (bytes words : List Clock) (k : ℕ) (d : Clock) → length bytes ≡ 4096 → length words ≡ 1024 → k < 4096 → ((i : ℕ) → i < k → slice_index_or bytes i no_marks ≡ slice_index_or words (i / 4) no_marks)
+    → (i : ℕ) → i < k + 1 → slice_index_or (slice_set bytes k (slice_index_or words (k / 4) d)) i no_marks ≡ slice_index_or words (i / 4) no_marks
+spread-more bytes words k d many few less same i h = ⊎_elim at (λ n. get_or-set_other bytes k i (slice_index_or words (k / 4) d) no_marks n ∙ same i (below h n)) (eq-told i k)
   where
-    zeros : (n u : ℕ) → slice_index_or (replicate n zero) u zero ≡ zero
-    zeros n u = get_or-replicate n u zero
+    below : i < k + 1 → i ≢ k → i < k
+    below g n = grind (arith, g, n)
 
-    by : (o : Option (Vec Clock Global)) → slice_get table (x / 4096) ≡ o → marks_at table x u ≡ 0
-    by None e = ap (λ o. seen_by (slice_index_or (page_items o) (x % 4096) no_marks) u) e ∙ zeros 16 u
-    by (Some page) e = ap (λ o. seen_by (slice_index_or (page_items o) (x % 4096) no_marks) u) e ∙ (ap (λ xs. seen_by (slice_index_or xs (x % 4096) no_marks) u) (none (x / 4096) page e) ∙ zeros 16 u)
+    read : slice_index_or words (k / 4) no_marks ≡ slice_index_or words (k / 4) d
+    read = get_or_from_slice_get words (k / 4) (slice_index_or words (k / 4) d) no_marks (slice_get-get_or words (k / 4) d (omega (arith, few, less)))
 
-pub one-page-more : (table : List (Vec Clock Global)) (new : Vec Clock Global) → ((k : ℕ) (page : Vec Clock Global) → slice_get table k ≡ Some page → page.items ≡ []) → new.items ≡ [] → (k : ℕ) (page : Vec Clock Global) → slice_get (table ++ new ∷ []) k ≡ Some page → page.items ≡ []
-one-page-more [] new none empty zero page h = ap (λ (v : Vec Clock Global). v.items) (sym (some-injective h)) ∙ empty
-one-page-more [] new none empty (suc k) page h = absurd (let e : None ≡ Some page = h in cc)
-one-page-more (x ∷ table) new none empty zero page h = none zero page h
-one-page-more (x ∷ table) new none empty (suc k) page h = one-page-more table new (λ j p e. none (suc j) p e) empty k page h
+    at : i ≡ k → slice_index_or (slice_set bytes k (slice_index_or words (k / 4) d)) i no_marks ≡ slice_index_or words (i / 4) no_marks
+    at e =
+        ap (λ (n : ℕ). slice_index_or (slice_set bytes k (slice_index_or words (k / 4) d)) n no_marks) e
+        ∙ (get_or-set_same bytes k (slice_index_or words (k / 4) d) no_marks (omega (arith, many, less))
+        ∙ (sym read ∙ ap (λ (n : ℕ). slice_index_or words (n / 4) no_marks) (sym e)))
+
+-- ---- stretches with no hit, seen at once
+
+pub zeros-seen : (n u : ℕ) → slice_index_or (replicate n zero) u zero ≡ zero
+zeros-seen n u = get_or-replicate n u zero
+
+same-page : (a n x : ℕ) → a % 4 + n ≤ 4 → a ≤ x → x < a + n → (x / 4096 ≡ a / 4096) × (x % 4096 / 4 ≡ a % 4096 / 4)
+same-page a n x e low high = (omega (arith, e, low, high), omega (arith, e, low, high))
+
+rest-in : (a n x : ℕ) → a ≤ x → x < a + n → x / 4096 ≡ a / 4096 → (a % 4096 ≤ x % 4096) × (x % 4096 < a % 4096 + n)
+rest-in a n x low high same = (omega (arith, low, high, same), omega (arith, low, high, same))
+
+-- one more clock that is quiet
+pub quiet-more : (clocks : List Clock) (past : ClockOf) (offset k : ℕ) (clock : Clock) (greatest : ℕ) → clock ≡ slice_index_or clocks k no_marks → greatest ≡ 0 → ((thread : ℕ) → (seen_by clock thread ≤ past thread) ⊎ (seen_by clock thread ≤ greatest))
+    → ((i thread : ℕ) → offset ≤ i → i < k → seen_by (slice_index_or clocks i no_marks) thread ≤ past thread) → (i thread : ℕ) → offset ≤ i → i < k + 1 → seen_by (slice_index_or clocks i no_marks) thread ≤ past thread
+quiet-more clocks past offset k clock greatest is small above before i thread low high = ⊎_elim at (λ n. before i thread low (below high n)) (eq-told i k)
+  where
+    below : i < k + 1 → i ≢ k → i < k
+    below g n = grind (arith, g, n)
+
+    at : i ≡ k → seen_by (slice_index_or clocks i no_marks) thread ≤ past thread
+    at e =
+        let value : seen_by (slice_index_or clocks i no_marks) thread ≡ seen_by clock thread = ap (λ (m : ℕ). seen_by (slice_index_or clocks m no_marks) thread) e ∙ ap (λ (c : Clock). seen_by c thread) (sym is) in
+        ⊎_elim (λ f. omega (arith, f, value)) (λ f. omega (arith, f, value, small)) (above thread)
+
+module _ (table : Shadow) (a n : ℕ) (past : ClockOf) (short : a % 4 + n ≤ 4) where
+  pub quiet-page : page_at table (a / 4096) ≡ [] → (mark byte : ℕ) → IsHit table (record { place = a; count = n }) past mark byte → ⊥
+  quiet-page none mark byte h =
+      let b = bounds (record { place = a; count = n }) byte h.at in
+      let at = same-page a n byte short b.0 b.1 in
+      let zero_mark : marks_at table byte h.thread ≡ 0 = ap (λ xs. seen_by (clock_at xs (byte % 4096)) h.thread) (ap (page_at table) at.0 ∙ none) ∙ zeros-seen 16 h.thread in
+      let beyond = h.beyond in
+      omega (arith, zero_mark, beyond, h.mark_is)
+
+  pub quiet-word : (clock : Clock) (greatest : ℕ) → length (page_at table (a / 4096)) ≡ 1024 → clock ≡ slice_index_or (page_at table (a / 4096)) (a % 4096 / 4) no_marks → greatest ≡ 0 → ((thread : ℕ) → (seen_by clock thread ≤ past thread) ⊎ (seen_by clock thread ≤ greatest)) → (mark byte : ℕ) → IsHit table (record { place = a; count = n }) past mark byte → ⊥
+  quiet-word clock greatest words is small above mark byte h =
+      let b = bounds (record { place = a; count = n }) byte h.at in
+      let at = same-page a n byte short b.0 b.1 in
+      let value : marks_at table byte h.thread ≡ seen_by clock h.thread =
+      ap (λ xs. seen_by (clock_at xs (byte % 4096)) h.thread) (ap (page_at table) at.0)
+      ∙ (ap (λ c. seen_by c h.thread) (words-at (page_at table (a / 4096)) (byte % 4096) words)
+      ∙ (ap (λ i. seen_by (slice_index_or (page_at table (a / 4096)) i no_marks) h.thread) at.1 ∙ ap (λ (c : Clock). seen_by c h.thread) (sym is))) in
+      let beyond = h.beyond in
+      let mark_is = h.mark_is in
+      ⊎_elim (λ low. omega (arith, low, value, beyond, mark_is)) (λ low. omega (arith, low, small, value, beyond, mark_is)) (above h.thread)
+
+  pub quiet-bytes : length (page_at table (a / 4096)) ≡ 4096 → ((i thread : ℕ) → a % 4096 ≤ i → i < a % 4096 + n → seen_by (slice_index_or (page_at table (a / 4096)) i no_marks) thread ≤ past thread) → (mark byte : ℕ) → IsHit table (record { place = a; count = n }) past mark byte → ⊥
+  quiet-bytes bytes all mark byte h =
+      let b = bounds (record { place = a; count = n }) byte h.at in
+      let at = same-page a n byte short b.0 b.1 in
+      let value : marks_at table byte h.thread ≡ seen_by (slice_index_or (page_at table (a / 4096)) (byte % 4096) no_marks) h.thread =
+      ap (λ p. seen_by (clock_at (page_at table p) (byte % 4096)) h.thread) at.0 ∙ ap (λ c. seen_by c h.thread) (bytes-at (page_at table (a / 4096)) (byte % 4096) bytes) in
+      let rest = rest-in a n byte b.0 b.1 at.0 in
+      let low = all (byte % 4096) h.thread rest.0 rest.1 in
+      let beyond = h.beyond in
+      let mark_is = h.mark_is in
+      omega (arith, low, value, beyond, mark_is)
+
+-- ---- a table of no pages
+
+pub empty-pages : (table : Shadow) → ((k : ℕ) (second : Vec (Vec Clock Global) Global) → slice_get table k ≡ Some second → second.items ≡ []) → (page : ℕ) → page_at table page ≡ []
+empty-pages table none page = by (slice_get table (page / 1024)) refl
+  where
+    by : (o : Option (Vec (Vec Clock Global) Global)) → slice_get table (page / 1024) ≡ o → page_at table page ≡ []
+    by None e = ap (λ o. clocks_in (slice_get (pages_in o) (page % 1024))) e
+    by (Some second) e = ap (λ o. clocks_in (slice_get (pages_in o) (page % 1024))) e ∙ ap (λ xs. clocks_in (slice_get xs (page % 1024))) (none (page / 1024) second e)
+
+pub empty-marks : (table : Shadow) → ((k : ℕ) (second : Vec (Vec Clock Global) Global) → slice_get table k ≡ Some second → second.items ≡ []) → (x u : ℕ) → marks_at table x u ≡ 0
+empty-marks table none x u = ap (λ xs. seen_by (clock_at xs (x % 4096)) u) (empty-pages table none (x / 4096)) ∙ zeros-seen 16 u
+
+pub empty-table : (table : Shadow) → length table ≡ 1025 → ((k : ℕ) (second : Vec (Vec Clock Global) Global) → slice_get table k ≡ Some second → second.items ≡ []) → IsTable table
+empty-table table count none = record { seconds = count; whole = λ k second h. inl (none k second h); pages = λ page. inl (empty-pages table none page) }
+
+pub one-empty-more : {X : Type 0} (lists : List (Vec X Global)) (new : Vec X Global) → ((k : ℕ) (list : Vec X Global) → slice_get lists k ≡ Some list → list.items ≡ []) → new.items ≡ [] → (k : ℕ) (list : Vec X Global) → slice_get (lists ++ new ∷ []) k ≡ Some list → list.items ≡ []
+one-empty-more {X} [] new none empty zero list h = ap (λ (v : Vec X Global). v.items) (sym (some-injective h)) ∙ empty
+one-empty-more {X} [] new none empty (suc k) list h = absurd (let e : None ≡ Some list = h in cc)
+one-empty-more {X} (x ∷ lists) new none empty zero list h = none zero list h
+one-empty-more {X} (x ∷ lists) new none empty (suc k) list h = one-empty-more lists new (λ j p e. none (suc j) p e) empty k list h

@@ -3,6 +3,8 @@ use Rattle.std.specs.Prelude.{◌≡◌, ℕ, suc, ◌+◌, ◌-◌, ◌<◌, �
 use Rattle.ro_plain.specs.Machine.{Program, Machine, opening, run, step, IsExecution}
 use Rattle.ro_plain.specs.Accesses.{touches}
 use Rattle.ro_plain.specs.Order.{accesses_at}
+use Rattle.ro_machine.specs.declared.lane.Lane.{Lane}
+use Rattle.ro_machine.specs.Lanes.{closed}
 use Rattle.ro_machine.specs.Seen.{machine_of}
 use Rattle.ro_machine.specs.Plans.{Reaches}
 use Rattle.ro_races.specs.declared.checking.Checker.{Checker}
@@ -42,6 +44,10 @@ pub record Follows (program : Program) (threads : List ℕ) (c : Checker) : Type
   pub reads_marked : (byte : ℕ) → MarkedBy threads c.steps (λ place. touches (accesses_at program threads place).reads byte) (marks_at c.reads.items byte)
   pub writes_marked : (byte : ℕ) → MarkedBy threads c.steps (λ place. touches (accesses_at program threads place).writes byte) (marks_at c.writes.items byte)
   pub found_is : IsFoundIn program threads c.steps c.found
+
+-- a checker with the registers of an open thread put back
+abbrev pub put_back : Checker → Lane → Checker
+put_back c lane = record c { plain = closed c.plain lane }
 
 abbrev pub notes : Found → Option Hit → (place : ℕ) → Found
 notes NoRace None place = NoRace

@@ -1,5 +1,5 @@
 -- Clocks and sources of the code.
-use Rattle.std.specs.Prelude.{◌≡◌, ◌≢◌, ℕ, ◌<◌, ◌==◌, Bool, true, false, cond, List, [], ◌∷◌, Option, Some, None, slice_get, slice_index_or}
+use Rattle.std.specs.Prelude.{◌≡◌, ◌≢◌, ℕ, ◌<◌, ◌==◌, Bool, true, false, cond, List, [], ◌∷◌, Option, Some, None, length, slice_get, slice_index_or}
 use Rattle.ro_races.specs.declared.marks.Clock.{Clock}
 use Rattle.ro_races.specs.declared.sources.Source.{Source}
 use Rattle.ro_races.specs.declared.sources.Source.TheVariants.{Thread, Mutex, Exit}
@@ -32,12 +32,22 @@ pub record Passes (old : List Row) (source : Source) (past : Clock) (new : List 
   pub learnt : IsJoined (known_by old source) (seen_by past) (known_by new source)
   pub others : (other : Source) → other ≢ source → (thread : ℕ) → known_by new other thread ≡ known_by old other thread
 
+-- a source knows what a clock knows, and no other learns anything
+pub record Keeps (old : List Row) (source : Source) (past : Clock) (new : List Row) : Type 0 where
+  pub learnt : (thread : ℕ) → known_by new source thread ≡ seen_by past thread
+  pub others : (other : Source) → other ≢ source → (thread : ℕ) → known_by new other thread ≡ known_by old other thread
+
 -- what a step of a thread knows, by what it learns from
 abbrev pub IsPast : List Row → (thread : ℕ) → Option Source → Clock → Type 0
 IsPast rows thread None clock = (other : ℕ) → seen_by clock other ≡ known_by rows (Thread thread) other
 IsPast rows thread (Some source) clock = IsJoined (known_by rows (Thread thread)) (known_by rows source) (seen_by clock)
 
--- a clock is passed on to a thread's next step, and to one more source if there is one
+-- a clock is kept for a thread's next step, and passed on to one more source if there is one
 abbrev pub PassesOn : (old : List Row) → (thread : ℕ) → Option Source → Clock → (new : List Row) → Type 0
-PassesOn old thread None past new = Passes old (Thread thread) past new
-PassesOn old thread (Some source) past new = (mid : List Row) × Passes old (Thread thread) past mid × Passes mid source past new
+PassesOn old thread None past new = Keeps old (Thread thread) past new
+PassesOn old thread (Some source) past new = (mid : List Row) × Keeps old (Thread thread) past mid × Passes mid source past new
+
+-- the place of the row of a thread
+pub record IsOwn (rows : List Row) (thread place : ℕ) : Type 0 where
+  pub there : place < length rows
+  pub first : IsPlace rows (Thread thread) (Some place)

@@ -1,5 +1,5 @@
 -- The marks of each byte: how far the threads accessed it.
-use Rattle.std.specs.Prelude.{◌≡◌, ℕ, ◌/◌, ◌%◌, ◌<◌, ◌≤◌, ◌⊎◌, true, false, List, [], length, Option, Some, None, Vec, slice_get, slice_index_or, replicate}
+use Rattle.std.specs.Prelude.{◌≡◌, ◌≢◌, ℕ, ◌/◌, ◌%◌, ◌<◌, ◌≤◌, ◌⊎◌, ◌==◌, true, false, if◌then◌else◌, List, [], length, Option, Some, None, Vec, slice_get, slice_set, slice_index_or, replicate}
 use Rattle.std.specs.declared.alloc.Global.{Global}
 use Rattle.ro_pages.specs.Bytes.{Span, within}
 use Rattle.ro_machine.specs.declared.watching.Watched.{Watched}
@@ -9,34 +9,69 @@ use Rattle.ro_races.specs.declared.shadows.Hit.{Hit}
 use Rattle.ro_races.specs.Clocks.{Clock as ClockOf, IsStepped}
 use Rattle.ro_races.specs.Seen.{seen_by}
 
+-- the second tables
+abbrev pub Shadow : Type 0
+Shadow = List (Vec (Vec Clock Global) Global)
+
+abbrev pub pages_in : Option (Vec (Vec Clock Global) Global) → List (Vec Clock Global)
+pages_in None = []
+pages_in (Some second) = second.items
+
+abbrev pub clocks_in : Option (Vec Clock Global) → List Clock
+clocks_in None = []
+clocks_in (Some page) = page.items
+
 -- the clocks of a page; none where it was never marked
-abbrev pub page_items : Option (Vec Clock Global) → List Clock
-page_items None = []
-page_items (Some page) = page.items
+abbrev pub page_at : Shadow → (page : ℕ) → List Clock
+page_at table page = clocks_in (slice_get (pages_in (slice_get table (page / 1024))) (page % 1024))
 
 abbrev pub no_marks : Clock
 no_marks = record { seen = replicate 16 0 }
 
+-- the clock of a byte of a page that has one for each word, or one for each byte
+abbrev pub clock_at : List Clock → (offset : ℕ) → Clock
+clock_at clocks offset = slice_index_or clocks (if length clocks == 1024 then offset / 4 else offset) no_marks
+
 -- how far each thread has marked a byte
-abbrev pub marks_at : List (Vec Clock Global) → (byte : ℕ) → ClockOf
-marks_at table byte = seen_by (slice_index_or (page_items (slice_get table (byte / 4096))) (byte % 4096) no_marks)
+abbrev pub marks_at : Shadow → (byte : ℕ) → ClockOf
+marks_at table byte = seen_by (clock_at (page_at table (byte / 4096)) (byte % 4096))
 
--- so many pages, each of them empty or whole
-pub record IsTable (table : List (Vec Clock Global)) : Type 0 where
-  pub pages : length table ≡ 1048577
-  pub whole : (k : ℕ) (page : Vec Clock Global) → slice_get table k ≡ Some page → (page.items ≡ []) ⊎ (length page.items ≡ 4096)
+-- a page has no clocks, or one for each word, or one for each byte
+abbrev pub IsPage : List Clock → Type 0
+IsPage clocks = (clocks ≡ []) ⊎ ((length clocks ≡ 1024) ⊎ (length clocks ≡ 4096))
 
--- the page is whole
-abbrev pub IsMade : List (Vec Clock Global) → ℕ → Type 0
-IsMade table k = length (page_items (slice_get table k)) ≡ 4096
+-- so many second tables, each of them empty or whole
+pub record IsTable (table : Shadow) : Type 0 where
+  pub seconds : length table ≡ 1025
+  pub whole : (k : ℕ) (second : Vec (Vec Clock Global) Global) → slice_get table k ≡ Some second → (second.items ≡ []) ⊎ (length second.items ≡ 1024)
+  pub pages : (page : ℕ) → IsPage (page_at table page)
+
+-- the second table is whole
+abbrev pub HasSecond : Shadow → ℕ → Type 0
+HasSecond table k = length (pages_in (slice_get table k)) ≡ 1024
+
+-- the page has clocks
+abbrev pub IsMade : Shadow → (page : ℕ) → Type 0
+IsMade table page = (length (page_at table page) ≡ 1024) ⊎ (length (page_at table page) ≡ 4096)
+
+-- a page has these clocks, and every other page is as it was
+pub record Changes (old : Shadow) (page : ℕ) (clocks : List Clock) (new : Shadow) : Type 0 where
+  pub here : page_at new page ≡ clocks
+  pub others : (other : ℕ) → other ≢ page → page_at new other ≡ page_at old other
+
+-- one clock of a page has one more mark
+pub record Advances (old : Shadow) (page index thread place : ℕ) (new : Shadow) : Type 0 where
+  pub clock : Clock
+  pub changes : Changes old page (slice_set (page_at old page) index clock) new
+  pub stepped : IsStepped (seen_by (slice_index_or (page_at old page) index no_marks)) thread place (seen_by clock)
 
 -- the bytes of a stretch have one more mark, and no other byte has
-pub record Marks (old : List (Vec Clock Global)) (span : Span) (thread place : ℕ) (new : List (Vec Clock Global)) : Type 0 where
+pub record Marks (old : Shadow) (span : Span) (thread place : ℕ) (new : Shadow) : Type 0 where
   pub inside : (byte : ℕ) → within span byte ≡ true → IsStepped (marks_at old byte) thread place (marks_at new byte)
   pub outside : (byte : ℕ) → within span byte ≡ false → (other : ℕ) → marks_at new byte other ≡ marks_at old byte other
 
 -- a mark at a byte that a clock does not know of
-pub record IsHit (table : List (Vec Clock Global)) (span : Span) (past : ClockOf) (mark byte : ℕ) : Type 0 where
+pub record IsHit (table : Shadow) (span : Span) (past : ClockOf) (mark byte : ℕ) : Type 0 where
   pub thread : ℕ
   pub at : within span byte ≡ true
   pub mark_is : mark ≡ marks_at table byte thread
@@ -51,11 +86,11 @@ abbrev pub IsFirstOf : (ℕ → ℕ → Type 0) → Option Hit → Type 0
 IsFirstOf P None = (mark byte : ℕ) → P mark byte → ⊥
 IsFirstOf P (Some hit) = P hit.mark hit.byte × ((mark byte : ℕ) → P mark byte → NotBefore hit mark byte)
 
-abbrev pub IsFirstHit : List (Vec Clock Global) → Span → ClockOf → Option Hit → Type 0
+abbrev pub IsFirstHit : Shadow → Span → ClockOf → Option Hit → Type 0
 IsFirstHit table span past = IsFirstOf (IsHit table span past)
 
 -- a mark of a write where the step reads or writes, or a mark of a read where it writes
-abbrev pub AnyHit : (reads writes : List (Vec Clock Global)) → Watched → ClockOf → (mark byte : ℕ) → Type 0
+abbrev pub AnyHit : (reads writes : Shadow) → Watched → ClockOf → (mark byte : ℕ) → Type 0
 AnyHit reads writes watched past mark byte =
     (IsHit writes (span_of watched.loaded) past mark byte ⊎ IsHit writes (span_of watched.code) past mark byte) ⊎ (IsHit writes (span_of watched.stored) past mark byte ⊎ IsHit reads (span_of watched.stored) past mark byte)
 

@@ -1,17 +1,18 @@
 //! Watching a run for races, step by step.
-ghost use Rattle.std.specs.Prelude.{ℕ, List, ◌≡◌, ◌≤◌, ◌<◌, ◌+◌, ◌^◌, ◌++◌, OnOk, IfOk, IfErr, IfSome, Some, slice_get, length};
+ghost use Rattle.std.specs.Prelude.{ℕ, List, ◌≡◌, ◌≤◌, ◌<◌, ◌+◌, ◌^◌, ◌++◌, OnOk, IfOk, IfErr, IfSome, Some, slice_get, length, if◌then◌else◌};
 ghost use Rattle.ro_plain.specs.Machine.{Program};
 ghost use Rattle.ro_machine.specs.Watched.{sync_of_relation};
 ghost use Rattle.ro_races.specs.Clocks.{learns_from as learns, passes_to as passes};
-ghost use Rattle.ro_races.specs.Seen.{seen_by, IsPast, PassesOn};
+ghost use Rattle.ro_machine.specs.Lanes.{IsOpen};
+ghost use Rattle.ro_races.specs.Seen.{seen_by, IsPast, PassesOn, IsOwn};
 ghost use Rattle.ro_races.specs.Shadows.{IsTable, IsFirstOf, AnyHit};
-ghost use Rattle.ro_races.specs.Follows.{Follows, Lacks, notes};
+ghost use Rattle.ro_races.specs.Follows.{Follows, Lacks, notes, put_back};
 
 use crate::found::{Found, RacesErr};
 use crate::marks::Clock;
-use crate::shadows::{Hit, Table, better, first_hit, mark};
-use crate::sources::{Row, Source, known, learns_from, pass, passes_to};
-use ro_machine::{Plain, Relation, StepErr, Watched};
+use crate::shadows::{Hit, Table, better, first_hit, is_quiet, mark};
+use crate::sources::{Row, Source, keep, known, learns_from, pass, passes_to};
+use ro_machine::{Lane, Plain, Relation, StepErr, Watched};
 use std::alloc::{AllocError, Global};
 
 /// A run that is watched: its machine, what is known of the order of its steps, and who accessed what.
@@ -26,6 +27,47 @@ pub(crate) struct Checker {
     /// How many steps were taken.
     pub steps: u32,
     pub found: Found,
+}
+
+/// Takes a step of a thread that is open, if it is a plain one of its stretch of code, and looks for its races; tells whether
+/// there was one.
+///
+/// # Errors
+/// Where there is no memory.
+#[inline(always)]
+pub(crate) fn check_quickly(
+    alloc: Global,
+    checker: &mut Checker,
+    lane: &mut Lane,
+    own: usize,
+) -> Result<bool, AllocError>
+    requires steps { checker.old.steps + 1 < 2 ^ 32 }
+    requires reads { IsTable checker.old.reads.items }
+    requires writes { IsTable checker.old.writes.items }
+    requires opened { IsOpen checker.old.plain lane.old }
+    requires own { IsOwn checker.old.rows.items lane.old.thread own }
+    ensures reads { IsTable checker.new.reads.items }
+    ensures writes { IsTable checker.new.writes.items }
+    ensures opened { OnOk result (IsOpen checker.new.plain lane.new) }
+    ensures own { OnOk result (IsOwn checker.new.rows.items lane.new.thread own) }
+    ensures thread { lane.new.thread ≡ lane.old.thread }
+    ensures steps { IfOk result (λ taken. checker.new.steps ≡ checker.old.steps + (if taken then 1 else 0)) }
+    ensures follows { OnOk result ((program : Program) (threads : List ℕ) → Follows program threads (put_back checker.old lane.old) → slice_get threads checker.old.steps ≡ Some lane.old.thread → Follows program threads (put_back checker.new lane.new)) }
+{
+    let Some(watched) = checker.plain.watch_quickly(lane) else {
+        return Ok(false);
+    };
+    let thread = lane.thread;
+    let place = checker.steps;
+    let past = &checker.rows[own].clock;
+    let hit = hit_of(&checker.reads, &checker.writes, &watched, past);
+    checker.rows[own].clock.advance(thread, place);
+    mark(alloc, &mut checker.reads, watched.loaded, thread, place)?;
+    mark(alloc, &mut checker.reads, watched.code, thread, place)?;
+    mark(alloc, &mut checker.writes, watched.stored, thread, place)?;
+    checker.found = noted(checker.found, hit, place);
+    checker.steps += 1;
+    Ok(true)
 }
 
 /// Takes a step of a thread, and looks for its races.
@@ -93,7 +135,29 @@ fn past_of(rows: &[Row], thread: u32, relation: Relation) -> Clock
 }
 
 /// The first access of those that a step does not know of, and with which it conflicts.
+#[inline(always)]
 fn hit_of(reads: &Table, writes: &Table, watched: &Watched, past: &Clock) -> Option<Hit>
+    requires reads { IsTable reads.now.items }
+    requires writes { IsTable writes.now.items }
+    requires loaded { watched.now.loaded.count ≤ 4096 }
+    requires code { watched.now.code.count ≤ 4096 }
+    requires stored { watched.now.stored.count ≤ 4096 }
+    ensures { IsFirstOf (AnyHit reads.now.items writes.now.items watched.now (seen_by past.now)) result }
+{
+    if is_quiet(writes, watched.code, past)
+        && is_quiet(writes, watched.loaded, past)
+        && is_quiet(writes, watched.stored, past)
+        && is_quiet(reads, watched.stored, past)
+    {
+        return None;
+    }
+    hit_among(reads, writes, watched, past)
+}
+
+/// The same, found byte by byte.
+#[cold]
+#[inline(never)]
+fn hit_among(reads: &Table, writes: &Table, watched: &Watched, past: &Clock) -> Option<Hit>
     requires reads { IsTable reads.now.items }
     requires writes { IsTable writes.now.items }
     requires loaded { watched.now.loaded.count ≤ 4096 }
@@ -108,7 +172,7 @@ fn hit_of(reads: &Table, writes: &Table, watched: &Watched, past: &Clock) -> Opt
     better(better(loaded, code), better(stored, read))
 }
 
-/// Passes on what a step knows to its thread's next step, and to what else it means.
+/// Keeps what a step knows for its thread's next step, and passes it on to what else it means.
 fn pass_on(
     rows: &mut Vec<Row>,
     thread: u32,
@@ -117,7 +181,7 @@ fn pass_on(
 ) -> Result<(), AllocError>
     ensures { OnOk result (PassesOn rows.old.items thread (passes thread (sync_of_relation relation)) past.now rows.new.items) }
 {
-    pass(rows, Source::Thread(thread), past)?;
+    keep(rows, Source::Thread(thread), past)?;
     if let Some(source) = passes_to(thread, relation) {
         pass(rows, source, past)?;
     }

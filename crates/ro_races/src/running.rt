@@ -1,16 +1,19 @@
 //! Checking the plan of a journal.
-ghost use Rattle.std.specs.Prelude.{ℕ, List, ◌≡◌, ◌≤◌, ◌+◌, ◌++◌, OnOk, IfOk, IfErr, length, replicate};
+ghost use Rattle.std.specs.Prelude.{ℕ, List, ◌≡◌, ◌<◌, ◌≤◌, ◌+◌, ◌++◌, OnOk, IfOk, IfErr, length, replicate};
 ghost use Rattle.ro_journal.specs.Plan.{entry_plan, plan_of};
 ghost use Rattle.ro_plain.specs.Machine.{Program};
 ghost use Rattle.ro_races.specs.Shadows.{IsTable};
-ghost use Rattle.ro_races.specs.Follows.{Follows, Lacks, StandsAt, Checks};
+ghost use Rattle.ro_machine.specs.Lanes.{IsOpen};
+ghost use Rattle.ro_races.specs.Seen.{IsOwn};
+ghost use Rattle.ro_races.specs.Follows.{Follows, Lacks, StandsAt, Checks, put_back};
 
-use crate::checking::{Checker, check_step};
+use crate::checking::{Checker, check_quickly, check_step};
 use crate::found::{Found, RacesErr};
 use crate::shadows::new_table;
+use crate::sources::own_place;
 use ro_image::Executable;
 use ro_journal::Entry;
-use ro_machine::Plain;
+use ro_machine::{Lane, Plain};
 use std::alloc::{AllocError, Global};
 
 /// Runs the plan of a journal on the unreplicated machine of a program and an input, and tells its first race: that whose
@@ -57,6 +60,82 @@ fn begin(alloc: Global, image: Executable, input: &[u8]) -> Result<Checker, Allo
     })
 }
 
+/// Takes plain steps of an open thread in a row, so many at most; tells how many there were.
+fn check_lane(
+    alloc: Global,
+    checker: &mut Checker,
+    lane: &mut Lane,
+    own: usize,
+    most: u64,
+) -> Result<u64, AllocError>
+    requires steps { checker.old.steps + most ≤ 1000000000 }
+    requires reads { IsTable checker.old.reads.items }
+    requires writes { IsTable checker.old.writes.items }
+    requires opened { IsOpen checker.old.plain lane.old }
+    requires own { IsOwn checker.old.rows.items lane.old.thread own }
+    ensures reads { IsTable checker.new.reads.items }
+    ensures writes { IsTable checker.new.writes.items }
+    ensures opened { OnOk result (IsOpen checker.new.plain lane.new) }
+    ensures most { IfOk result (λ taken. taken ≤ most) }
+    ensures steps { IfOk result (λ taken. checker.new.steps ≡ checker.old.steps + taken) }
+    ensures follows { OnOk result ((program : Program) (threads : List ℕ) → Follows program threads (put_back checker.old lane.old) → StandsAt threads checker.old.steps (replicate most lane.old.thread) → Follows program threads (put_back checker.new lane.new)) }
+{
+    for taken in 0..most {
+        if !check_quickly(alloc, checker, lane, own)? {
+            return Ok(taken);
+        }
+    }
+    Ok(most)
+}
+
+/// Takes plain steps of a thread in a row, so many at most; tells how many there were.
+fn check_row(
+    alloc: Global,
+    checker: &mut Checker,
+    thread: u32,
+    most: u64,
+) -> Result<u64, AllocError>
+    requires steps { checker.old.steps + most ≤ 1000000000 }
+    requires reads { IsTable checker.old.reads.items }
+    requires writes { IsTable checker.old.writes.items }
+    ensures reads { IsTable checker.new.reads.items }
+    ensures writes { IsTable checker.new.writes.items }
+    ensures most { IfOk result (λ taken. taken ≤ most) }
+    ensures steps { IfOk result (λ taken. checker.new.steps ≡ checker.old.steps + taken) }
+    ensures follows { OnOk result ((program : Program) (threads : List ℕ) → Follows program threads checker.old → StandsAt threads checker.old.steps (replicate most thread) → Follows program threads checker.new) }
+{
+    let Some(mut lane) = checker.plain.open(thread) else {
+        return Ok(0);
+    };
+    let own = own_place(&mut checker.rows, thread)?;
+    let taken = check_lane(alloc, checker, &mut lane, own, most)?;
+    checker.plain.close(&lane);
+    Ok(taken)
+}
+
+/// Takes steps of a thread, at least one and at most so many: the plain ones in a row, and the one behind them; tells how many
+/// there were.
+fn check_part(alloc: Global, checker: &mut Checker, thread: u32, most: u64) -> Result<u64, RacesErr>
+    requires some { 0 < most }
+    requires steps { checker.old.steps + most ≤ 1000000000 }
+    requires reads { IsTable checker.old.reads.items }
+    requires writes { IsTable checker.old.writes.items }
+    ensures reads { IsTable checker.new.reads.items }
+    ensures writes { IsTable checker.new.writes.items }
+    ensures some { IfOk result (λ taken. 0 < taken) }
+    ensures most { IfOk result (λ taken. taken ≤ most) }
+    ensures steps { IfOk result (λ taken. checker.new.steps ≡ checker.old.steps + taken) }
+    ensures follows { OnOk result ((program : Program) (threads : List ℕ) → Follows program threads checker.old → StandsAt threads checker.old.steps (replicate most thread) → Follows program threads checker.new) }
+    ensures lacks { IfErr result (λ error. (program : Program) (threads : List ℕ) → Follows program threads checker.old → StandsAt threads checker.old.steps (replicate most thread) → Lacks program threads error) }
+{
+    let taken = check_row(alloc, checker, thread, most)?;
+    if taken == most {
+        return Ok(taken);
+    }
+    check_step(alloc, checker, thread)?;
+    Ok(taken + 1)
+}
+
 /// Takes so many steps of a thread.
 fn check_steps(
     alloc: Global,
@@ -73,8 +152,9 @@ fn check_steps(
     ensures follows { OnOk result ((program : Program) (threads : List ℕ) → Follows program threads checker.old → StandsAt threads checker.old.steps (replicate count thread) → Follows program threads checker.new) }
     ensures lacks { IfErr result (λ error. (program : Program) (threads : List ℕ) → Follows program threads checker.old → StandsAt threads checker.old.steps (replicate count thread) → Lacks program threads error) }
 {
-    for _ in 0..count {
-        check_step(alloc, checker, thread)?;
+    let mut done = 0;
+    while done < count {
+        done += check_part(alloc, checker, thread, count - done)?;
     }
     Ok(())
 }

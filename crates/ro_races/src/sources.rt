@@ -1,7 +1,8 @@
 //! What a step of a thread learns from, and to what it passes on what it knows.
-ghost use Rattle.std.specs.Prelude.{ℕ, ◌≡◌, ◌<◌, IfSome, OnOk, length};
+ghost use Rattle.std.specs.Prelude.{ℕ, ◌≡◌, ◌<◌, IfOk, IfSome, OnOk, length};
 ghost use Rattle.ro_races.specs.Clocks.{learns_from as learns, passes_to as passes};
-ghost use Rattle.ro_races.specs.Seen.{seen_by, is_source, known_by, IsPlace, Passes};
+ghost use Rattle.ro_races.specs.declared.sources.Source.{Source as SourceSeen};
+ghost use Rattle.ro_races.specs.Seen.{seen_by, is_source, known_by, IsPlace, IsOwn, Keeps, Passes};
 ghost use Rattle.ro_machine.specs.Watched.{sync_of_relation};
 
 use crate::marks::{Clock, NOTHING};
@@ -71,6 +72,45 @@ pub(crate) fn known(rows: &[Row], source: Source) -> Clock
         Some(place) => rows[place].clock,
         None => NOTHING,
     }
+}
+
+/// Lets a source know what a clock knows, and no more.
+///
+/// # Errors
+/// Where there is no memory.
+pub(crate) fn keep(rows: &mut Vec<Row>, source: Source, past: &Clock) -> Result<(), AllocError>
+    ensures { OnOk result (Keeps rows.old.items source past.now rows.new.items) }
+{
+    match place_of(rows.as_slice(), source) {
+        Some(place) => rows[place].clock = *past,
+        None => rows
+            .push(Row {
+                source,
+                clock: *past,
+            })
+            .map_err(AllocError::from)?,
+    }
+    Ok(())
+}
+
+/// The place of a thread's row, which is made where there is none.
+///
+/// # Errors
+/// Where there is no memory.
+pub(crate) fn own_place(rows: &mut Vec<Row>, thread: u32) -> Result<usize, AllocError>
+    ensures own { IfOk result (IsOwn rows.new.items thread) }
+    ensures same { (source : SourceSeen) (thread : ℕ) → known_by rows.new.items source thread ≡ known_by rows.old.items source thread }
+{
+    let place = place_of(rows.as_slice(), Source::Thread(thread));
+    if let Some(place) = place {
+        return Ok(place);
+    }
+    rows.push(Row {
+        source: Source::Thread(thread),
+        clock: NOTHING,
+    })
+    .map_err(AllocError::from)?;
+    Ok(rows.len() - 1)
 }
 
 /// Passes on to a source what a clock knows.

@@ -1,7 +1,7 @@
 //! Plans of small guests.
 use super::*;
 use ro_image::{Executable, read_executable};
-use ro_journal::{Did, Entry};
+use ro_journal::{Did, Entry, Lost};
 use ro_machine::plan_steps;
 use ro_make::image_bytes;
 use std::alloc::{AllocError, Global};
@@ -234,7 +234,7 @@ fn vote(thread: u32, count: u32, did: Did) -> Entry {
         thread,
         count,
         won: 0,
-        lost: None,
+        lost: Lost::Nobody,
         did,
     }
 }

@@ -30,12 +30,27 @@ pub record AreClosed (windows : List Window) : Type 0 where
   pub some : 1024 ≤ length windows
   pub closed : (i : ℕ) → i < 1024 → slice_get windows i ≡ Some (record { from = 0; to = 0 })
 
+-- the windows that stand from a place on are those of 1,024 pages
+abbrev pub AreOpenFrom : List Range → Kind → (table first : ℕ) → List Window → Type 0
+AreOpenFrom ranges kind table first windows = (k : ℕ) (window : Window) → k < 1024 → slice_get windows (first + k) ≡ Some window → IsOpen ranges kind (1024 * table + k) window
+
+-- there are as many windows, and those before a place stay
+pub record AreKept (first : ℕ) (new old : List Window) : Type 0 where
+  pub long : length new ≡ length old
+  pub same : (i : ℕ) → i < first → slice_get new i ≡ slice_get old i
+
+-- behind the others there are 1,024 windows of no byte
+pub record AreAdded (new old : List Window) : Type 0 where
+  pub long : length new ≡ length old + 1024
+  pub same : (i : ℕ) → i < length old → slice_get new i ≡ slice_get old i
+  pub closed : (k : ℕ) → k < 1024 → slice_get new (length old + k) ≡ Some (record { from = 0; to = 0 })
+
 -- the windows of 1,024 pages stand from a place on, and those before stay
 pub record IsTable (ranges : List Range) (kind : Kind) (table first : ℕ) (new old : List Window) : Type 0 where
   pub longer : length old ≤ length new
   pub within : first + 1024 ≤ length new
   pub same : (i : ℕ) → i < length old → slice_get new i ≡ slice_get old i
-  pub sound : (k : ℕ) (window : Window) → k < 1024 → slice_get new (first + k) ≡ Some window → IsOpen ranges kind (1024 * table + k) window
+  pub sound : AreOpenFrom ranges kind table first new
 
 -- whether a range has a byte in so many pages from one on
 abbrev pub meets : Range → (page count : ℕ) → Bool

@@ -56,17 +56,8 @@ impl Regions {
         self.window_holds(address, len, kind) || self.permits_each_page(address, len, kind)
     }
 
-    /// Whether the window of its first page shows at once that a stretch is permitted.
-    #[inline(always)]
-    pub fn permits_quickly(&self, address: u32, len: u32, kind: Kind) -> bool
-        ensures { result ≡ true → permits_of self.now kind address len ≡ true }
-    {
-        self.window_holds(address, len, kind)
-    }
-
     /// The words of a page that its window shows to be code: from the first address to before the second, both multiples
     /// of 4. It is no page at whose end the addresses of 32 bits end.
-    #[tactic(auto, using(crate::proofs::Each::permits_all))]
     pub fn code_in_page(&self, page: u32) -> (u32, u32)
         requires { page < 2 ^ 20 - 1 }
         ensures aligned { result.0 % 4 ≡ 0 }
@@ -76,7 +67,22 @@ impl Regions {
         ensures whole { result.1 % 4 ≡ 0 }
         ensures permitted { (p : ℕ) → result.0 ≤ p → p + 4 ≤ result.1 → permits_of self.now Kind.Execute p 4 ≡ true }
     {
-        let window = self.window(page, Kind::Execute);
+        self.words_in_page(page, Kind::Execute)
+    }
+
+    /// The words of a page that its window shows to be permitted for a kind of access: from the first address to before the
+    /// second, both multiples of 4. It is no page at whose end the addresses of 32 bits end.
+    #[tactic(auto, using(crate::proofs::Each::permits_all))]
+    pub fn words_in_page(&self, page: u32, kind: Kind) -> (u32, u32)
+        requires { page < 2 ^ 20 - 1 }
+        ensures aligned { result.0 % 4 ≡ 0 }
+        ensures begins { 4096 * page ≤ result.0 }
+        ensures ordered { result.0 ≤ result.1 }
+        ensures ends { result.1 ≤ 4096 * page + 4096 }
+        ensures whole { result.1 % 4 ≡ 0 }
+        ensures permitted { (p n : ℕ) → result.0 ≤ p → p + n ≤ result.1 → permits_of self.now kind p n ≡ true }
+    {
+        let window = self.window(page, kind);
         let first = page * PAGE_SIZE;
         let from = first + (u32::from(window.from) + 3) / 4 * 4;
         let to = first + u32::from(window.to) / 4 * 4;

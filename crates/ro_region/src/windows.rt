@@ -1,10 +1,10 @@
 //! For each page a window: bytes of it, one after another, that are all permitted.
-ghost use Rattle.std.specs.Prelude.{ℕ, ◌≡◌, IsTrue, ◌↔◌, ◌+◌, ◌*◌, ◌^◌, ◌<◌, ◌≤◌, ◌⊎◌, ◌&&◌, List, length, IfOk};
+ghost use Rattle.std.specs.Prelude.{ℕ, ◌≡◌, IsTrue, ◌↔◌, ◌+◌, ◌*◌, ◌^◌, ◌<◌, ◌≤◌, ◌⊎◌, ◌&&◌, List, length, IfOk, OnOk};
 ghost use Rattle.std.specs.List.{list_any};
 ghost use Rattle.ro_region.specs.Permission.{allows};
 ghost use Rattle.ro_region.specs.declared.Kind.{Kind as KindOf};
 ghost use Rattle.ro_region.specs.declared.Range.{Range as RangeOf};
-ghost use Rattle.ro_region.specs.Windows.{IsOpen, IsTable, AreClosed, AreTables, AreOpen, AreAll, meets};
+ghost use Rattle.ro_region.specs.Windows.{IsOpen, IsTable, AreClosed, AreAdded, AreOpenFrom, AreKept, AreTables, AreOpen, AreAll, meets};
 
 use crate::{Kind, PAGE_SIZE, PAGES, Range};
 use std::alloc::{AllocError, Global};
@@ -95,18 +95,6 @@ fn meets(range: &Range, page: u32, count: u32) -> bool
         && first < u64::from(range.start) + u64::from(range.length)
 }
 
-/// The window of a page for accesses of one kind.
-fn window_of(ranges: &[Range], kind: Kind, page: u32) -> Window
-    requires { page < 2 ^ 20 }
-    ensures { IsOpen ranges.now kind page result }
-{
-    let mut window = CLOSED;
-    for i in 0..ranges.len() {
-        window = widened(window, ranges, i, kind, page);
-    }
-    window
-}
-
 /// The place of the windows of 1,024 pages, which are added where a range meets them.
 fn table_of(
     windows: &mut Vec<Window>,
@@ -122,10 +110,60 @@ fn table_of(
     if !is_met(ranges, kind, SPAN * table, SPAN) {
         return Ok(0);
     }
-    for place in 0..SPAN {
-        windows.push(window_of(ranges, kind, SPAN * table + place))?;
+    add_closed(windows)?;
+    for i in 0..ranges.len() {
+        open_pages(windows, first, ranges, i, kind, table);
     }
     Ok(first)
+}
+
+/// Adds the closed windows of 1,024 pages behind the others.
+fn add_closed(windows: &mut Vec<Window>) -> Result<(), AllocError>
+    ensures { OnOk result (AreAdded windows.new.items windows.old.items) }
+{
+    for _ in 0..SPAN {
+        windows.push(CLOSED)?;
+    }
+    Ok(())
+}
+
+/// Opens the windows from a place on, of 1,024 pages, for the pages that one range meets.
+fn open_pages(
+    windows: &mut [Window],
+    first: usize,
+    ranges: &[Range],
+    i: usize,
+    kind: Kind,
+    table: u32,
+)
+    requires table { table < 1024 }
+    requires index { i < length ranges.now }
+    requires within { first + 1024 ≤ length windows.old }
+    requires sound { AreOpenFrom ranges.now kind table first windows.old }
+    ensures kept { AreKept first windows.new windows.old }
+    ensures sound { AreOpenFrom ranges.now kind table first windows.new }
+{
+    let (from, past) = met(&ranges[i], table);
+    for place in from..past {
+        let at = first + place as usize;
+        windows[at] = widened(windows[at], ranges, i, kind, SPAN * table + place);
+    }
+}
+
+/// Which of 1,024 pages a range meets: the places from the first number to before the second.
+fn met(range: &Range, table: u32) -> (u32, u32)
+    requires { table < 1024 }
+    ensures { result.1 ≤ 1024 }
+{
+    let size = u64::from(PAGE_SIZE);
+    let first = u64::from(SPAN * table);
+    let past = first + u64::from(SPAN);
+    let start = u64::from(range.start);
+    let end = start + u64::from(range.length);
+    (
+        ((start / size).clamp(first, past) - first) as u32,
+        (end.div_ceil(size).clamp(first, past) - first) as u32,
+    )
 }
 
 /// Whether a range that permits this kind has a byte in so many pages from one on.

@@ -1,7 +1,8 @@
 -- The report of a run: its journal, where that is to be shown, a summary of it, and the answer.
-use Rattle.std.specs.Prelude.{ℕ, ◌+◌, ◌*◌, ◌%◌, ◌^◌, Bool, true, false, List, [], ◌∷◌, ◌++◌, Some, length, count_by, sum_by, codes, decimal}
+use Rattle.std.specs.Prelude.{ℕ, ◌+◌, ◌*◌, ◌%◌, ◌^◌, Bool, true, false, List, [], ◌∷◌, ◌++◌, length, count_by, sum_by, codes, decimal}
 use Rattle.ro_journal.specs.declared.Entry.{Entry}
 use Rattle.ro_journal.specs.declared.Entry.TheVariants.{Put, Vote}
+use Rattle.ro_journal.specs.Losers.{numbers}
 use Rattle.ro_journal.specs.Plan.{plan_of}
 use Rattle.ro_journal_text.specs.Texts.{journal_text}
 use Rattle.ro_journal_text.specs.Reading.{code_of as plan_code_of}
@@ -13,10 +14,10 @@ abbrev pub is_vote : Entry → Bool
 is_vote (Vote thread count won lost did) = true
 is_vote _ = false
 
--- a vote after which the winner was copied over a loser
-abbrev pub is_copy : Entry → Bool
-is_copy (Vote thread count won (Some loser) did) = true
-is_copy _ = false
+-- how many losers became copies of the winner
+abbrev pub copies_of : Entry → ℕ
+copies_of (Vote thread count won lost did) = length (numbers lost)
+copies_of _ = 0
 
 -- the faults that were struck in the run that the entry puts back
 abbrev pub hits_of : Entry → ℕ
@@ -27,7 +28,7 @@ abbrev pub votes_in : List Entry → ℕ
 votes_in journal = count_by is_vote journal
 
 abbrev pub copies_in : List Entry → ℕ
-copies_in journal = count_by is_copy journal
+copies_in journal = sum_by copies_of journal
 
 abbrev pub struck_in : List Entry → ℕ
 struck_in journal = sum_by hits_of journal

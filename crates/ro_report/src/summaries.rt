@@ -1,7 +1,7 @@
 //! The summary of a run's journal.
 ghost use Rattle.std.specs.Prelude.{◌≡◌, ◌+◌, ◌*◌, ◌%◌, ◌^◌, ◌<◌, ◌≤◌, ◌++◌, length, decimal};
 ghost use Rattle.ro_journal.specs.Plan.{entry_plan};
-ghost use Rattle.ro_report.specs.Report.{is_vote, is_copy, hits_of, votes_in, copies_in, struck_in, steps_in, summary_text, plain_text, bench_text, weighed};
+ghost use Rattle.ro_report.specs.Report.{is_vote, copies_of, hits_of, votes_in, copies_in, struck_in, steps_in, summary_text, plain_text, bench_text, weighed};
 
 use ro_journal::Entry;
 use ro_text::{Line, ROOM, Text};
@@ -91,7 +91,7 @@ fn votes(journal: &[Entry]) -> u64
 fn copies(journal: &[Entry]) -> u64
     ensures { result ≡ copies_in journal.now }
 {
-    journal.iter().filter(|entry| is_copy(entry)).count() as u64
+    journal.iter().map(|entry| copies_of(entry)).sum()
 }
 
 fn struck(journal: &[Entry]) -> u64
@@ -114,10 +114,13 @@ fn is_vote(entry: &Entry) -> bool
     matches!(entry, Entry::Vote { .. })
 }
 
-fn is_copy(entry: &Entry) -> bool
-    ensures { result ≡ is_copy entry.now }
+fn copies_of(entry: &Entry) -> u64
+    ensures { result ≡ copies_of entry.now }
 {
-    matches!(entry, Entry::Vote { lost: Some(_), .. })
+    match *entry {
+        Entry::Vote { lost, .. } => lost.count() as u64,
+        _ => 0,
+    }
 }
 
 fn hits(entry: &Entry) -> u64

@@ -3,7 +3,7 @@ ghost use Rattle.std.specs.Prelude.{◌≡◌};
 
 use super::*;
 use ro_faults::FaultsCode;
-use ro_journal::{Did, Entry, How};
+use ro_journal::{Did, Entry, How, Lost};
 use std::alloc::AllocError;
 
 #[test]
@@ -67,7 +67,7 @@ fn answers(rt: HostRuntime) {
     }
 }
 
-const EXIT_ALIKE: &str = "romain 1
+const EXIT_ALIKE: &str = "romain 2
 take 0 0 0
 put 0 0 0 2 0
 take 0 1 0
@@ -90,7 +90,7 @@ fn exit_alike(rt: HostRuntime) -> Result<(), AllocError> {
         put(1, 0),
         take(2),
         put(2, 0),
-        vote(2, None, Did::Served),
+        vote(2, Lost::Nobody, Did::Served),
         Entry::End { how: How::Exit(7) },
     ];
     let mut report = Vec::from_slice(rt.alloc(), header())?;
@@ -108,13 +108,13 @@ fn copies_and_frees(rt: HostRuntime) {
     let journal = [
         put(0, 1),
         put(1, 2),
-        vote(100, Some(1), Did::Blocked),
-        vote(20, None, Did::Mapped),
-        vote(3, Some(0), Did::Trapped),
+        vote(100, Lost::Two(1, 4), Did::Blocked),
+        vote(20, Lost::Nobody, Did::Mapped),
+        vote(3, Lost::One(0), Did::Trapped),
         Entry::Free { thread: 0 },
     ];
     let line = summary(&journal, 4096);
-    let want = "votes 3 copies 2 struck 3 steps 125 bytes 4096\n";
+    let want = "votes 3 copies 3 struck 3 steps 125 bytes 4096\n";
     assert_eq!(rt; line.as_bytes(), want.as_bytes());
 }
 
@@ -166,7 +166,7 @@ fn put(replica: u32, hit: u32) -> Entry
     }
 }
 
-fn vote(count: u32, lost: Option<u32>, did: Did) -> Entry
+fn vote(count: u32, lost: Lost, did: Did) -> Entry
     ensures { result ≡ Entry.Vote 0 count 0 lost did }
 {
     Entry::Vote {

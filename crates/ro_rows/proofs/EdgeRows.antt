@@ -4,6 +4,7 @@ use Rattle.std.specs.List.{filter}
 use Rattle.std.specs.Option.{option_map}
 use Rattle.std.proofs.Common.{refl, sym, ap, ◌∙◌, inl, inr, arith, ⊎_elim}
 use Rattle.std.proofs.Math.Dec.{lit<, lit≤}
+use Rattle.ro_journal.specs.declared.losers.Lost.TheVariants.{Nobody, One}
 use Rattle.ro_decode.specs.Table.{instruction_of}
 use Rattle.ro_event.specs.declared.stops.Stop.{Stop}
 use Rattle.ro_event.specs.Table.{call_at}
@@ -130,10 +131,10 @@ pub differ-three : CannotDiffer (small_job exit_guest (flip_a0 1 ∷ []) 3 10000
 differ-three = inl refl
 
 pub differ-two : CannotDiffer (small_job exit_guest [] 2 1000000000)
-differ-two = inr refl
+differ-two = inr (inr refl)
 
 pub differ-struck : CannotDiffer (small_job exit_guest (flip_a0 1 ∷ []) 2 1000000000) → ⊥
-differ-struck h = ⊎_elim (λ (e : 2 ≡ 3). omega arith) (λ (e : flip_a0 1 ∷ [] ≡ []). cc) h
+differ-struck h = ⊎_elim (λ (e : 2 ≡ 3). omega arith) (λ rest. ⊎_elim (λ (e : 2 ≡ 5). omega arith) (λ (e : flip_a0 1 ∷ [] ≡ []). cc) rest) h
 
 -- ---- stuck_row
 
@@ -155,7 +156,7 @@ stuck-not-lent h = no-end exit_job (replay exit_job (Take 0 0 0 ∷ [])) Deadloc
 
 -- ---- limit_row
 
-pub limit-vote-fits : IsAllowed (small_job exit_guest [] 3 3) (replay (small_job exit_guest [] 3 3) exit_runs) (Vote 0 2 0 None Served)
+pub limit-vote-fits : IsAllowed (small_job exit_guest [] 3 3) (replay (small_job exit_guest [] 3 3) exit_runs) (Vote 0 2 0 Nobody Served)
 unfolding opening_core opening_replica struck execute applied cancelled recovered verdict_of event_of after next_action first_cpu made_cpu next fetch_stop instruction_stop instruction_of call_at permits_of alu_of taken_by meaning serve payload_of
 limit-vote-fits = record { may = refl; verdict = refl; count_is = refl; event = _; comes = refl; did_is = refl; fits = lit≤ tt }
 
@@ -163,13 +164,13 @@ pub limit-no-limit : IsAllowed (small_job exit_guest [] 3 3) (replay (small_job 
 unfolding opening_core opening_replica struck execute applied cancelled recovered verdict_of event_of after next_action first_cpu made_cpu next fetch_stop instruction_stop instruction_of call_at permits_of alu_of taken_by meaning serve payload_of
 limit-no-limit h = no-end (small_job exit_guest [] 3 3) (replay (small_job exit_guest [] 3 3) exit_runs) (Limit 0 3) refl (λ e. e) (λ thread e. let f : 3 < 0 + 3 = e.above in omega arith) (λ e. let f : 3 ≡ 1 = e.1 in omega arith) h.1
 
-pub limit-vote-passes : IsAllowed (small_job exit_guest [] 3 2) (replay (small_job exit_guest [] 3 2) exit_runs) (Vote 0 2 0 None Served) → ⊥
+pub limit-vote-passes : IsAllowed (small_job exit_guest [] 3 2) (replay (small_job exit_guest [] 3 2) exit_runs) (Vote 0 2 0 Nobody Served) → ⊥
 unfolding opening_core opening_replica struck execute applied cancelled recovered verdict_of event_of after next_action first_cpu made_cpu next fetch_stop instruction_stop instruction_of call_at permits_of alu_of taken_by meaning serve payload_of
 limit-vote-passes h = let f = h.fits in omega arith
 
 pub limit-limit : IsAllowed (small_job exit_guest [] 3 2) (replay (small_job exit_guest [] 3 2) exit_runs) (End (Limit 0 3))
 unfolding opening_core opening_replica struck execute applied cancelled recovered verdict_of event_of after next_action first_cpu made_cpu next fetch_stop instruction_stop instruction_of call_at permits_of alu_of taken_by meaning serve payload_of
-limit-limit = (refl, for_vote 0 refl (record { won = 0; lost = None; verdict = refl; count = 2; count_is = refl; event = _; comes = refl; steps_are = refl; next_is = refl; above = lit< tt }))
+limit-limit = (refl, for_vote 0 refl (record { won = 0; lost = []; verdict = refl; count = 2; count_is = refl; event = _; comes = refl; steps_are = refl; next_is = refl; above = lit< tt }))
 
 pub limit-free-fits : IsAllowed (page_limit_job 18) (replay (page_limit_job 18) before_free) (Free 0)
 unfolding opening_core opening_replica struck execute applied cancelled recovered verdict_of event_of after next_action first_cpu made_cpu next fetch_stop instruction_stop instruction_of call_at permits_of alu_of taken_by meaning serve payload_of
@@ -194,7 +195,7 @@ letter-passes : test_legal letter_job (opening_core letter_job) (driven 200 lett
 unfolding opening_core opening_replica struck execute applied cancelled recovered verdict_of event_of after next_action first_cpu made_cpu next fetch_stop instruction_stop instruction_of call_at permits_of alu_of taken_by meaning serve payload_of
 letter-passes = refl
 
-pub free-first-decides : decisions (driven 200 letter_job) ≡ Vote 0 6 0 None Served ∷ Vote 0 3 0 None Served ∷ Vote 0 3 0 None Blocked ∷ Vote 1 4 0 None Served ∷ Vote 1 4 0 None Served ∷ Vote 1 2 0 None Served ∷ Vote 1 2 0 (Some 2) Served ∷ Free 0 ∷ Vote 2 4 0 None Served ∷ Vote 0 2 0 None Blocked ∷ Vote 2 4 0 None Served ∷ Vote 2 2 0 None Served ∷ Vote 2 2 0 None Served ∷ Free 0 ∷ Vote 0 2 0 None Served ∷ End (Exit 0) ∷ []
+pub free-first-decides : decisions (driven 200 letter_job) ≡ Vote 0 6 0 Nobody Served ∷ Vote 0 3 0 Nobody Served ∷ Vote 0 3 0 Nobody Blocked ∷ Vote 1 4 0 Nobody Served ∷ Vote 1 4 0 Nobody Served ∷ Vote 1 2 0 Nobody Served ∷ Vote 1 2 0 (One 2) Served ∷ Free 0 ∷ Vote 2 4 0 Nobody Served ∷ Vote 0 2 0 Nobody Blocked ∷ Vote 2 4 0 Nobody Served ∷ Vote 2 2 0 Nobody Served ∷ Vote 2 2 0 Nobody Served ∷ Free 0 ∷ Vote 0 2 0 Nobody Served ∷ End (Exit 0) ∷ []
 unfolding opening_core opening_replica struck execute applied cancelled recovered verdict_of event_of after next_action first_cpu made_cpu next fetch_stop instruction_stop instruction_of call_at permits_of alu_of taken_by meaning serve payload_of
 free-first-decides = refl
 

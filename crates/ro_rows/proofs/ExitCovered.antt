@@ -1,6 +1,6 @@
 -- The journal of the file of 96 bytes is covered by the simulation theorem.
 use Rattle.std.specs.Prelude.{◌≡◌, ◌≢◌, ℕ, zero, suc, [], ◌∷◌, Some, None}
-use Rattle.std.proofs.Common.{refl, sym, ◌∙◌, inr}
+use Rattle.std.proofs.Common.{inl, arith, refl, sym, ◌∙◌, inr}
 use Rattle.ro_decode.specs.Table.{instruction_of}
 use Rattle.ro_event.specs.Table.{call_at}
 use Rattle.ro_region.specs.Permission.{permits_of}
@@ -45,7 +45,7 @@ no-fault one other a b = absurd (let f : None ≡ Some one = a.1 in cc)
 
 -- faults stay apart
 apart : StaysApart exit_job exit_journal
-apart = one-struck-apart exit_job exit_journal exit-free no-fault exit-legal
+apart = one-struck-apart exit_job exit_journal (omega arith) exit-free no-fault exit-legal
 
 -- it does not end by a sink
 no-sink : (bytes : ℕ) → outcome_of exit_journal ≢ Some (Sink bytes)
@@ -57,4 +57,4 @@ covered-by s = record { legal = exit-legal; apart = apart; simulates = s; ends =
 
 -- it is covered
 pub exit-covered : IsCovered exit_job exit_journal (Exit 7) []
-exit-covered = covered-by (simulates exit_job exit_journal exit-free (inr refl) exit-legal apart)
+exit-covered = covered-by (simulates exit_job exit_journal exit-free (inr (inl refl)) exit-legal apart)

@@ -13,3 +13,4 @@ mod EdgeRows
 mod TableRows
 mod Explore
 mod RaceRows
+mod FiveRow

@@ -2,6 +2,7 @@
 use Rattle.std.specs.Prelude.{◌≡◌, [], ◌∷◌, replicate, Some, None}
 use Rattle.std.specs.Option.{option_map}
 use Rattle.std.proofs.Common.{refl}
+use Rattle.ro_journal.specs.declared.losers.Lost.TheVariants.{Nobody}
 use Rattle.ro_decode.specs.Table.{instruction_of}
 use Rattle.ro_event.specs.Table.{call_at}
 use Rattle.ro_region.specs.Permission.{permits_of}
@@ -26,9 +27,9 @@ use Rattle.ro_rows.specs.Guests.{loop_guest}
 use Rattle.ro_rows.specs.Rows.{before_vote}
 
 -- a vote that names no loser where there is one is not allowed
-pub loser-named : IsAllowed (usual_job exit_guest (flip_a0 1 ∷ [])) (replay (usual_job exit_guest (flip_a0 1 ∷ [])) before_vote) (Vote 0 2 0 None Served) → ⊥
+pub loser-named : IsAllowed (usual_job exit_guest (flip_a0 1 ∷ [])) (replay (usual_job exit_guest (flip_a0 1 ∷ [])) before_vote) (Vote 0 2 0 Nobody Served) → ⊥
 unfolding opening_core opening_replica struck execute applied cancelled recovered verdict_of event_of after next_action first_cpu made_cpu next fetch_stop instruction_stop instruction_of call_at permits_of alu_of taken_by meaning serve payload_of
-loser-named h = let e : Won 0 (Some 1) ≡ Won 0 None = h.verdict in cc
+loser-named h = let e : Won 0 (1 ∷ []) ≡ Won 0 [] = h.verdict in cc
 
 -- the jump runs on
 pub loop-runs : option_map (λ (machine : Machine). machine.ended) (run loop_guest (opening loop_guest) (replicate 1000 0)) ≡ Some None

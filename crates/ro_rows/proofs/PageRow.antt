@@ -1,6 +1,7 @@
 -- Two threads that store to one page.
 use Rattle.std.specs.Prelude.{◌≡◌, true, [], ◌∷◌, None}
 use Rattle.std.proofs.Common.{refl}
+use Rattle.ro_journal.specs.declared.losers.Lost.TheVariants.{Nobody}
 use Rattle.ro_decode.specs.Table.{instruction_of}
 use Rattle.ro_event.specs.Table.{call_at}
 use Rattle.ro_region.specs.Permission.{permits_of}
@@ -34,7 +35,7 @@ pub page-legal : Legal page_job (driven 100 page_job)
 page-legal = legal-by-test page_job (opening_core page_job) (driven 100 page_job) passes
 
 -- this is what it decides
-pub page-decides : decisions (driven 100 page_job) ≡ Vote 0 6 0 None Served ∷ Vote 0 1 0 None Mapped ∷ Vote 0 4 0 None WasBlocked ∷ Vote 1 4 0 None Served ∷ Free 0 ∷ Vote 0 2 0 None Served ∷ End (Exit 0) ∷ []
+pub page-decides : decisions (driven 100 page_job) ≡ Vote 0 6 0 Nobody Served ∷ Vote 0 1 0 Nobody Mapped ∷ Vote 0 4 0 Nobody WasBlocked ∷ Vote 1 4 0 Nobody Served ∷ Free 0 ∷ Vote 0 2 0 Nobody Served ∷ End (Exit 0) ∷ []
 unfolding opening_core opening_replica struck execute applied cancelled recovered verdict_of event_of after next_action first_cpu made_cpu next fetch_stop instruction_stop instruction_of call_at permits_of alu_of taken_by meaning serve payload_of
 page-decides = refl
 

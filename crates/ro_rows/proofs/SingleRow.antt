@@ -1,6 +1,7 @@
 -- Quanta of one instruction.
 use Rattle.std.specs.Prelude.{◌≡◌, true, [], ◌∷◌, length, None}
 use Rattle.std.proofs.Common.{refl}
+use Rattle.ro_journal.specs.declared.losers.Lost.TheVariants.{Nobody}
 use Rattle.ro_decode.specs.Table.{instruction_of}
 use Rattle.ro_event.specs.Table.{call_at}
 use Rattle.ro_region.specs.Permission.{permits_of}
@@ -33,7 +34,7 @@ pub single-legal : Legal single_job (driven 20 single_job)
 single-legal = legal-by-test single_job (opening_core single_job) (driven 20 single_job) passes
 
 -- this is what it decides
-pub single-decides : decisions (driven 20 single_job) ≡ Vote 0 2 0 None Served ∷ End (Exit 7) ∷ []
+pub single-decides : decisions (driven 20 single_job) ≡ Vote 0 2 0 Nobody Served ∷ End (Exit 7) ∷ []
 unfolding opening_core opening_replica struck execute applied cancelled recovered verdict_of event_of after next_action first_cpu made_cpu next fetch_stop instruction_stop instruction_of call_at permits_of alu_of taken_by meaning serve payload_of
 single-decides = refl
 

@@ -1,6 +1,7 @@
 -- A replica that runs on until its watchdog stops it.
 use Rattle.std.specs.Prelude.{◌≡◌, true, [], ◌∷◌, Some}
 use Rattle.std.proofs.Common.{refl}
+use Rattle.ro_journal.specs.declared.losers.Lost.TheVariants.{One}
 use Rattle.ro_decode.specs.Table.{instruction_of}
 use Rattle.ro_event.specs.Table.{call_at}
 use Rattle.ro_region.specs.Permission.{permits_of}
@@ -33,6 +34,6 @@ pub watched-legal : Legal watched_job (driven 20 watched_job)
 watched-legal = legal-by-test watched_job (opening_core watched_job) (driven 20 watched_job) passes
 
 -- this is what it decides
-pub watched-decides : decisions (driven 20 watched_job) ≡ Vote 0 9 0 (Some 2) Served ∷ End (Exit 7) ∷ []
+pub watched-decides : decisions (driven 20 watched_job) ≡ Vote 0 9 0 (One 2) Served ∷ End (Exit 7) ∷ []
 unfolding opening_core opening_replica struck execute applied cancelled recovered verdict_of event_of after next_action first_cpu made_cpu next fetch_stop instruction_stop instruction_of call_at permits_of alu_of taken_by meaning serve payload_of
 watched-decides = refl

@@ -2,6 +2,7 @@
 use Rattle.std.specs.Prelude.{◌≡◌, true, [], ◌∷◌, Some, None}
 use Rattle.std.proofs.Common.{refl, inr}
 use Rattle.std.proofs.Math.Dec.{lit<, lit≤}
+use Rattle.ro_journal.specs.declared.losers.Lost.TheVariants.{Nobody, One}
 use Rattle.ro_decode.specs.Table.{instruction_of}
 use Rattle.ro_event.specs.Table.{call_at}
 use Rattle.ro_region.specs.Permission.{permits_of}
@@ -50,7 +51,7 @@ pub healed-legal : Legal healed_job (driven 30 healed_job)
 healed-legal = legal-by-test healed_job (opening_core healed_job) (driven 30 healed_job) passes
 
 -- this is what it decides
-pub healed-decides : decisions (driven 30 healed_job) ≡ Vote 0 5 0 None Served ∷ Vote 0 3 0 (Some 1) Served ∷ Vote 0 2 0 None Served ∷ End (Exit 0) ∷ []
+pub healed-decides : decisions (driven 30 healed_job) ≡ Vote 0 5 0 Nobody Served ∷ Vote 0 3 0 (One 1) Served ∷ Vote 0 2 0 Nobody Served ∷ End (Exit 0) ∷ []
 unfolding opening_core opening_replica struck execute applied cancelled recovered verdict_of event_of after next_action first_cpu made_cpu next fetch_stop instruction_stop instruction_of call_at permits_of alu_of taken_by meaning serve payload_of
 healed-decides = refl
 

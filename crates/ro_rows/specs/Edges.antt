@@ -1,5 +1,6 @@
 -- Small jobs at the edges of what is allowed.
 use Rattle.std.specs.Prelude.{ℕ, ◌+◌, Bool, true, false, List, [], ◌∷◌, ◌++◌, Some, None, take}
+use Rattle.ro_journal.specs.declared.losers.Lost.TheVariants.{Nobody}
 use Rattle.ro_journal.specs.declared.Did.{Did}
 use Rattle.ro_journal.specs.declared.Did.TheVariants.{Served, Blocked as WasBlocked}
 use Rattle.ro_journal.specs.declared.Entry.{Entry}
@@ -21,7 +22,7 @@ small_job program faults replicas limit =
 -- one thread runs in each of three replicas, and is voted on
 abbrev pub round : (thread count : ℕ) → Did → List Entry
 round thread count did =
-    Take 0 0 thread ∷ Put 0 0 thread count 0 ∷ Take 0 1 thread ∷ Put 0 1 thread count 0 ∷ Take 0 2 thread ∷ Put 0 2 thread count 0 ∷ Vote thread count 0 None did ∷ []
+    Take 0 0 thread ∷ Put 0 0 thread count 0 ∷ Take 0 1 thread ∷ Put 0 1 thread count 0 ∷ Take 0 2 thread ∷ Put 0 2 thread count 0 ∷ Vote thread count 0 Nobody did ∷ []
 
 -- thread 0 locks a mutex, makes two threads that lock it too, unlocks it, and traps
 abbrev pub waiters_guest : Program

@@ -1,6 +1,7 @@
 -- Jobs of small guests, and what their journals come to.
 use Rattle.std.specs.Prelude.{◌≡◌, ℕ, Bool, true, false, List, [], ◌∷◌, ◌++◌, Some, None}
 use Rattle.std.specs.List.{filter}
+use Rattle.ro_journal.specs.declared.losers.Lost.TheVariants.{Nobody}
 use Rattle.ro_journal.specs.declared.Did.TheVariants.{Served, Blocked as WasBlocked}
 use Rattle.ro_journal.specs.declared.How.{How}
 use Rattle.ro_journal.specs.declared.How.TheVariants.{Deadlock, Differ, Sink}
@@ -34,16 +35,20 @@ decisions journal = filter is_decision journal
 abbrev pub page_job : Job
 page_job = usual_job page_guest []
 
+-- five replicas of the guest that exits, of which 0 and 3 are struck
+abbrev pub five_job : Job
+five_job = record { program = exit_guest; faults = flip_a0 0 ∷ flip_a0 3 ∷ []; settings = record { replicas = 5; drivers = 3; watchdog = 10000; quantum = 4096; limit = 1000000000 } }
+
 abbrev pub deadlock_job : Job
 deadlock_job = usual_job deadlock_guest []
 
 -- thread 0 waits for thread 1, and thread 1 for the mutex
 abbrev pub deadlock_before : List Entry
 deadlock_before =
-    Take 0 0 0 ∷ Put 0 0 0 3 0 ∷ Take 0 1 0 ∷ Put 0 1 0 3 0 ∷ Take 0 2 0 ∷ Put 0 2 0 3 0 ∷ Vote 0 3 0 None Served
-    ∷ Take 0 0 0 ∷ Put 0 0 0 5 0 ∷ Take 0 1 0 ∷ Put 0 1 0 5 0 ∷ Take 0 2 0 ∷ Put 0 2 0 5 0 ∷ Vote 0 5 0 None Served
-    ∷ Take 0 0 0 ∷ Put 0 0 0 3 0 ∷ Take 0 0 1 ∷ Put 0 0 1 3 0 ∷ Take 0 1 0 ∷ Put 0 1 0 3 0 ∷ Take 0 1 1 ∷ Put 0 1 1 3 0 ∷ Take 0 2 0 ∷ Put 0 2 0 3 0 ∷ Vote 0 3 0 None WasBlocked
-    ∷ Take 0 2 1 ∷ Put 0 2 1 3 0 ∷ Vote 1 3 0 None WasBlocked ∷ []
+    Take 0 0 0 ∷ Put 0 0 0 3 0 ∷ Take 0 1 0 ∷ Put 0 1 0 3 0 ∷ Take 0 2 0 ∷ Put 0 2 0 3 0 ∷ Vote 0 3 0 Nobody Served
+    ∷ Take 0 0 0 ∷ Put 0 0 0 5 0 ∷ Take 0 1 0 ∷ Put 0 1 0 5 0 ∷ Take 0 2 0 ∷ Put 0 2 0 5 0 ∷ Vote 0 5 0 Nobody Served
+    ∷ Take 0 0 0 ∷ Put 0 0 0 3 0 ∷ Take 0 0 1 ∷ Put 0 0 1 3 0 ∷ Take 0 1 0 ∷ Put 0 1 0 3 0 ∷ Take 0 1 1 ∷ Put 0 1 1 3 0 ∷ Take 0 2 0 ∷ Put 0 2 0 3 0 ∷ Vote 0 3 0 Nobody WasBlocked
+    ∷ Take 0 2 1 ∷ Put 0 2 1 3 0 ∷ Vote 1 3 0 Nobody WasBlocked ∷ []
 
 abbrev pub deadlock_journal : List Entry
 deadlock_journal = deadlock_before ++ End Deadlock ∷ []
@@ -69,7 +74,7 @@ hello_job = usual_job hello_guest []
 
 -- the sink fails after `he`
 abbrev pub failing_journal : List Entry
-failing_journal = Take 0 0 0 ∷ Put 0 0 0 5 0 ∷ Take 0 1 0 ∷ Put 0 1 0 5 0 ∷ Take 0 2 0 ∷ Put 0 2 0 5 0 ∷ Vote 0 5 0 None Served ∷ End (Sink 2) ∷ []
+failing_journal = Take 0 0 0 ∷ Put 0 0 0 5 0 ∷ Take 0 1 0 ∷ Put 0 1 0 5 0 ∷ Take 0 2 0 ∷ Put 0 2 0 5 0 ∷ Vote 0 5 0 Nobody Served ∷ End (Sink 2) ∷ []
 
 -- the lowest bit of `o` flips in replica 1 before the first write
 abbrev pub healed_job : Job

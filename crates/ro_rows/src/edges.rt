@@ -4,6 +4,7 @@ ghost use Rattle.std.specs.List.{filter};
 ghost use Rattle.ro_journal.specs.declared.Did.TheVariants.{Served, Blocked};
 ghost use Rattle.ro_journal.specs.declared.How.TheVariants.{Exit, Deadlock, Limit};
 ghost use Rattle.ro_journal.specs.declared.Entry.TheVariants.{Take, Put, Vote, Free, End};
+ghost use Rattle.ro_journal.specs.declared.losers.Lost.TheVariants.{Nobody, One};
 ghost use Rattle.ro_journal.specs.Plan.{plan_of};
 ghost use Rattle.ro_plain.specs.Machine.{AllEnd};
 ghost use Rattle.ro_core.specs.declared.actions.Action.TheVariants as act;
@@ -63,9 +64,9 @@ pub fn stuck_row()
 /// A row: a vote that takes the plan to its limit is allowed, and one more step is a limit's end, with the plan's length and
 /// what the vote would have added; so it is with a free.
 pub fn limit_row()
-    ensures vote_fits { IsAllowed (small_job exit_guest [] 3 3) (replay (small_job exit_guest [] 3 3) exit_runs) (Vote 0 2 0 None Served) }
+    ensures vote_fits { IsAllowed (small_job exit_guest [] 3 3) (replay (small_job exit_guest [] 3 3) exit_runs) (Vote 0 2 0 Nobody Served) }
     ensures no_limit { IsAllowed (small_job exit_guest [] 3 3) (replay (small_job exit_guest [] 3 3) exit_runs) (End (Limit 0 3)) → ⊥ }
-    ensures vote_passes { IsAllowed (small_job exit_guest [] 3 2) (replay (small_job exit_guest [] 3 2) exit_runs) (Vote 0 2 0 None Served) → ⊥ }
+    ensures vote_passes { IsAllowed (small_job exit_guest [] 3 2) (replay (small_job exit_guest [] 3 2) exit_runs) (Vote 0 2 0 Nobody Served) → ⊥ }
     ensures limit { IsAllowed (small_job exit_guest [] 3 2) (replay (small_job exit_guest [] 3 2) exit_runs) (End (Limit 0 3)) }
     ensures free_fits { IsAllowed (page_limit_job 18) (replay (page_limit_job 18) before_free) (Free 0) }
     ensures no_free_limit { IsAllowed (page_limit_job 18) (replay (page_limit_job 18) before_free) (End (Limit 17 1)) → ⊥ }
@@ -76,7 +77,7 @@ pub fn limit_row()
 /// A row: a copy lets a second thread stand in every replica at the moment at which a first one may be freed. The free comes
 /// before that vote.
 pub fn free_first_row()
-    ensures decides { decisions (driven 200 letter_job) ≡ Vote 0 6 0 None Served ∷ Vote 0 3 0 None Served ∷ Vote 0 3 0 None Blocked ∷ Vote 1 4 0 None Served ∷ Vote 1 4 0 None Served ∷ Vote 1 2 0 None Served ∷ Vote 1 2 0 (Some 2) Served ∷ Free 0 ∷ Vote 2 4 0 None Served ∷ Vote 0 2 0 None Blocked ∷ Vote 2 4 0 None Served ∷ Vote 2 2 0 None Served ∷ Vote 2 2 0 None Served ∷ Free 0 ∷ Vote 0 2 0 None Served ∷ End (Exit 0) ∷ [] }
+    ensures decides { decisions (driven 200 letter_job) ≡ Vote 0 6 0 Nobody Served ∷ Vote 0 3 0 Nobody Served ∷ Vote 0 3 0 Nobody Blocked ∷ Vote 1 4 0 Nobody Served ∷ Vote 1 4 0 Nobody Served ∷ Vote 1 2 0 Nobody Served ∷ Vote 1 2 0 (One 2) Served ∷ Free 0 ∷ Vote 2 4 0 Nobody Served ∷ Vote 0 2 0 Nobody Blocked ∷ Vote 2 4 0 Nobody Served ∷ Vote 2 2 0 Nobody Served ∷ Vote 2 2 0 Nobody Served ∷ Free 0 ∷ Vote 0 2 0 Nobody Served ∷ End (Exit 0) ∷ [] }
     ensures legal { Legal letter_job (driven 200 letter_job) }
     ensures votes { length (filter is_vote (driven 200 letter_job)) ≡ 13 }
     ensures hits { all_hits (driven 200 letter_job) ≡ 1 }

@@ -12,6 +12,7 @@ ghost use Rattle.ro_image.specs.Executable.{bad_code, image_of};
 ghost use Rattle.ro_journal.specs.declared.Did.TheVariants.{Served, Mapped, Blocked};
 ghost use Rattle.ro_journal.specs.declared.How.TheVariants.{Exit, Deadlock, Differ, Sink};
 ghost use Rattle.ro_journal.specs.declared.Entry.TheVariants.{Vote, Free, End};
+ghost use Rattle.ro_journal.specs.declared.losers.Lost.TheVariants.{Nobody, One, Two};
 ghost use Rattle.ro_journal.specs.Plan.{plan_of, outcome_of};
 ghost use Rattle.ro_plain.specs.Machine.{Machine, opening, run};
 ghost use Rattle.ro_plain.specs.Order.{RaceFree};
@@ -23,7 +24,7 @@ ghost use Rattle.ro_simulation.specs.Rows.{flip_a0, IsCovered};
 ghost use Rattle.ro_simulation.specs.Drives.{driven};
 ghost use Rattle.ro_rows.specs.Exit.{exit_file, exit_image, exit_job, exit_journal};
 ghost use Rattle.ro_rows.specs.Guests.{loop_guest};
-ghost use Rattle.ro_rows.specs.Rows.{IdealEnds, decisions, page_job, deadlock_job, deadlock_journal, pair_job, pair_journal, single_job, watched_job, hello_job, failing_journal, healed_job, before_vote};
+ghost use Rattle.ro_rows.specs.Rows.{five_job, IdealEnds, decisions, page_job, deadlock_job, deadlock_journal, pair_job, pair_journal, single_job, watched_job, hello_job, failing_journal, healed_job, before_vote};
 
 pub use edges::{
     differ_row, free_first_row, length_row, limit_row, put_row, stuck_row, take_row, waiters_row,
@@ -64,7 +65,7 @@ pub fn driven_is_next()
 /// thread 1, is freed when that has exited, and exits with 0.
 pub fn page_row()
     ensures legal { Legal page_job (driven 100 page_job) }
-    ensures decides { decisions (driven 100 page_job) ≡ Vote 0 6 0 None Served ∷ Vote 0 1 0 None Mapped ∷ Vote 0 4 0 None Blocked ∷ Vote 1 4 0 None Served ∷ Free 0 ∷ Vote 0 2 0 None Served ∷ End (Exit 0) ∷ [] }
+    ensures decides { decisions (driven 100 page_job) ≡ Vote 0 6 0 Nobody Served ∷ Vote 0 1 0 Nobody Mapped ∷ Vote 0 4 0 Nobody Blocked ∷ Vote 1 4 0 Nobody Served ∷ Free 0 ∷ Vote 0 2 0 Nobody Served ∷ End (Exit 0) ∷ [] }
     ensures ideal { IdealEnds page_job (driven 100 page_job) (Exit 0) [] }
 {}
 
@@ -87,13 +88,19 @@ pub fn pair_row()
 pub fn single_row()
     ensures count { length (driven 20 single_job) ≡ 20 }
     ensures legal { Legal single_job (driven 20 single_job) }
-    ensures decides { decisions (driven 20 single_job) ≡ Vote 0 2 0 None Served ∷ End (Exit 7) ∷ [] }
+    ensures decides { decisions (driven 20 single_job) ≡ Vote 0 2 0 Nobody Served ∷ End (Exit 7) ∷ [] }
 {}
 
 /// A row: a struck counter keeps one replica running until the watchdog stops it, and it loses the vote.
 pub fn watched_row()
     ensures legal { Legal watched_job (driven 20 watched_job) }
-    ensures decides { decisions (driven 20 watched_job) ≡ Vote 0 9 0 (Some 2) Served ∷ End (Exit 7) ∷ [] }
+    ensures decides { decisions (driven 20 watched_job) ≡ Vote 0 9 0 (One 2) Served ∷ End (Exit 7) ∷ [] }
+{}
+
+/// A row: two of five replicas are struck, and both lose the vote.
+pub fn five_row()
+    ensures legal { Legal five_job (driven 20 five_job) }
+    ensures decides { decisions (driven 20 five_job) ≡ Vote 0 2 1 (Two 0 3) Served ∷ End (Exit 7) ∷ [] }
 {}
 
 /// A row: the sink takes two bytes of `hello` and fails. The journal may end there, with `he` written.
@@ -107,14 +114,14 @@ pub fn failing_row()
 /// vote, and goes on as a copy; what is written is `hello`.
 pub fn healed_row()
     ensures legal { Legal healed_job (driven 30 healed_job) }
-    ensures decides { decisions (driven 30 healed_job) ≡ Vote 0 5 0 None Served ∷ Vote 0 3 0 (Some 1) Served ∷ Vote 0 2 0 None Served ∷ End (Exit 0) ∷ [] }
+    ensures decides { decisions (driven 30 healed_job) ≡ Vote 0 5 0 Nobody Served ∷ Vote 0 3 0 (One 1) Served ∷ Vote 0 2 0 Nobody Served ∷ End (Exit 0) ∷ [] }
     ensures output { output_of healed_job (driven 30 healed_job) ≡ 104 ∷ 101 ∷ 108 ∷ 108 ∷ 111 ∷ [] }
     ensures ideal { IdealEnds healed_job (driven 30 healed_job) (Exit 0) (104 ∷ 101 ∷ 108 ∷ 108 ∷ 111 ∷ []) }
 {}
 
 /// A row: a vote that names no loser where there is one is not allowed.
 pub fn loser_row()
-    ensures { IsAllowed (usual_job exit_guest (flip_a0 1 ∷ [])) (replay (usual_job exit_guest (flip_a0 1 ∷ [])) before_vote) (Vote 0 2 0 None Served) → ⊥ }
+    ensures { IsAllowed (usual_job exit_guest (flip_a0 1 ∷ [])) (replay (usual_job exit_guest (flip_a0 1 ∷ [])) before_vote) (Vote 0 2 0 Nobody Served) → ⊥ }
 {}
 
 /// A row: a jump to itself takes a thousand steps and has not ended.

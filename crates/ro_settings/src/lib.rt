@@ -10,7 +10,7 @@ mod tests;
 /// The settings of a run.
 #[derive(Clone, Copy, PartialEq, Eq, Debug)]
 pub struct Settings {
-    /// How many replicas there are, 2 or 3.
+    /// How many replicas there are, 2, 3 or 5.
     pub replicas: u32,
     /// How many drivers, 1 to 8.
     pub drivers: u32,
@@ -36,7 +36,7 @@ impl Settings {
     pub fn is_in_range(&self) -> bool
         ensures { IsTrue result ↔ InRange self.now }
     {
-        (2..=3).contains(&self.replicas)
+        matches!(self.replicas, 2 | 3 | 5)
             && (1..=8).contains(&self.drivers)
             && (100..=1_000_000).contains(&self.watchdog)
             && (1..=65_536).contains(&self.quantum)

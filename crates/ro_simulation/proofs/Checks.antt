@@ -8,6 +8,8 @@ use Rattle.ro_journal.specs.declared.How.{How}
 use Rattle.ro_journal.specs.declared.How.TheVariants.{Exit}
 use Rattle.ro_journal.specs.declared.Entry.{Entry}
 use Rattle.ro_journal.specs.declared.Entry.TheVariants.{Take, Put, Vote, Free, End}
+use Rattle.ro_journal.specs.declared.losers.Lost.{Lost}
+use Rattle.ro_journal.specs.Losers.{numbers}
 use Rattle.ro_journal.specs.Plan.{event_steps}
 use Rattle.ro_vote.specs.Verdict.{Verdict, Won, Split, verdict_of}
 use Rattle.ro_replica.specs.Runs.{Ran}
@@ -37,10 +39,16 @@ same_number None None = true
 same_number (Some m) (Some n) = m == n
 same_number _ _ = false
 
--- whether a verdict is this winner and loser
-abbrev pub test_verdict : Verdict → ℕ → Option ℕ → Bool
+-- whether two lists of numbers are the same
+abbrev pub same_list : List ℕ → List ℕ → Bool
+same_list [] [] = true
+same_list (m ∷ ms) (n ∷ ns) = (m == n) && same_list ms ns
+same_list _ _ = false
+
+-- whether a verdict is this winner and these losers
+abbrev pub test_verdict : Verdict → ℕ → List ℕ → Bool
 test_verdict Split won lost = false
-test_verdict (Won w l) won lost = (w == won) && same_number l lost
+test_verdict (Won w l) won lost = (w == won) && same_list l lost
 
 -- whether two events did the same
 abbrev pub same_did : Did → Did → Bool
@@ -57,9 +65,9 @@ test_event did None = false
 test_event did (Some event) = same_did event.did did
 
 -- whether a vote is allowed
-abbrev pub test_vote : Job → Core → (thread count won : ℕ) → Option ℕ → Did → Bool
+abbrev pub test_vote : Job → Core → (thread count won : ℕ) → Lost → Did → Bool
 test_vote job core thread count won lost did =
-    may_vote core thread && test_verdict (verdict_of (views_of job core thread)) won lost && same_number (since_in core thread won) (Some count)
+    may_vote core thread && test_verdict (verdict_of (views_of job core thread)) won (numbers lost) && same_number (since_in core thread won) (Some count)
     && test_event did (event_in job core thread won) && nat_le (core.steps + count + event_steps did) job.settings.limit
 
 -- of the ends only an exit that is due
@@ -99,9 +107,15 @@ same-did Trapped Trapped e = refl
 same-did a b e = absurd (false≢true e)
 
 -- a verdict that passes is the one
-verdict-is : (v : Verdict) (won : ℕ) (lost : Option ℕ) → test_verdict v won lost ≡ true → v ≡ Won won lost
+same-list : (xs ys : List ℕ) → same_list xs ys ≡ true → xs ≡ ys
+same-list [] [] e = refl
+same-list [] (y ∷ ys) e = absurd (false≢true e)
+same-list (x ∷ xs) [] e = absurd (false≢true e)
+same-list (x ∷ xs) (y ∷ ys) e = let p = and_parts _ _ e in let a = eqb-true x y p.0 in let b = same-list xs ys p.1 in λ i. a i ∷ b i
+
+verdict-is : (v : Verdict) (won : ℕ) (lost : List ℕ) → test_verdict v won lost ≡ true → v ≡ Won won lost
 verdict-is Split won lost e = absurd (false≢true e)
-verdict-is (Won w l) won lost e = let p = and_parts _ _ e in let a = eqb-true w won p.0 in let b = same-number l lost p.1 in λ i. Won (a i) (b i)
+verdict-is (Won w l) won lost e = let p = and_parts _ _ e in let a = eqb-true w won p.0 in let b = same-list l lost p.1 in λ i. Won (a i) (b i)
 
 -- a put that passes is allowed
 put-allowed : (job : Job) (core : Core) (driver replica thread count hit : ℕ) → core.ended ≡ None → is_out core driver replica thread ≡ true → (o : Option Ran) → lease_run job core replica thread count ≡ o → test_ran job thread count hit o ≡ true → MayPut job core driver replica thread count hit
@@ -115,7 +129,7 @@ put-allowed job core driver replica thread count hit on out (Some ran) e f =
     by (inr g) = let q = and_parts _ _ g in inr (ltb-true count job.settings.quantum q.0, q.1)
 
 -- a vote that passes is allowed
-vote-allowed : (job : Job) (core : Core) (thread count won : ℕ) (lost : Option ℕ) (did : Did) → may_vote core thread ≡ true → verdict_of (views_of job core thread) ≡ Won won lost → since_in core thread won ≡ Some count → (o : Option Event) → event_in job core thread won ≡ o → test_event did o ≡ true → core.steps + count + event_steps did ≤ job.settings.limit → MayVote job core thread count won lost did
+vote-allowed : (job : Job) (core : Core) (thread count won : ℕ) (lost : Lost) (did : Did) → may_vote core thread ≡ true → verdict_of (views_of job core thread) ≡ Won won (numbers lost) → since_in core thread won ≡ Some count → (o : Option Event) → event_in job core thread won ≡ o → test_event did o ≡ true → core.steps + count + event_steps did ≤ job.settings.limit → MayVote job core thread count won lost did
 vote-allowed job core thread count won lost did may verdict since None e f fits = absurd (false≢true f)
 vote-allowed job core thread count won lost did may verdict since (Some event) e f fits =
     record { may = may; verdict = verdict; count_is = since; event = event; comes = e; did_is = same-did event.did did f; fits = fits }
@@ -135,7 +149,7 @@ entry-allowed job core (Put driver replica thread count hit) e =
     put-allowed job core driver replica thread count hit (is-none-from core.ended b.0) b.1 _ refl a.1
 entry-allowed job core (Vote thread count won lost did) e =
     let a = and_parts _ _ e in let b = and_parts _ _ a.0 in let c = and_parts _ _ b.0 in let d = and_parts _ _ c.0 in
-    vote-allowed job core thread count won lost did d.0 (verdict-is _ won lost d.1) (same-number _ _ c.1) _ refl b.1 (leb-true _ _ a.1)
+    vote-allowed job core thread count won lost did d.0 (verdict-is _ won (numbers lost) d.1) (same-number _ _ c.1) _ refl b.1 (leb-true _ _ a.1)
 entry-allowed job core (Free thread) e = let a = and_parts _ _ e in record { may = a.0; fits = leb-true _ _ a.1 }
 entry-allowed job core (End how) e = let a = and_parts _ _ e in (is-none-from core.ended a.0, end-allowed job core core.due how refl a.1)
 

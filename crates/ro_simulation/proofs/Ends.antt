@@ -1,5 +1,5 @@
 -- How the machine stands where a journal ends.
-use Rattle.std.specs.Prelude.{◌≡◌, ◌≢◌, ℕ, zero, suc, ◌<◌, ◌≤◌, Bool, true, false, not, ◌&&◌, ◌||◌, ◌==◌, List, length, Option, Some, None, is_none, is_some, slice_get}
+use Rattle.std.specs.Prelude.{◌≡◌, ◌≢◌, ℕ, zero, suc, ◌*◌, ◌<◌, ◌⊎◌, [], ◌≤◌, Bool, true, false, not, ◌&&◌, ◌||◌, ◌==◌, List, length, Option, Some, None, is_none, is_some, slice_get}
 use Rattle.std.specs.List.{list_all, list_any}
 use Rattle.std.specs.Option.{option_map_or, option_and_then}
 use Rattle.std.proofs.Common.{refl, sym, ap, ◌∙◌, arith, inl, inr, ⊎_elim}
@@ -24,10 +24,10 @@ use Rattle.ro_replica.specs.Views.{is_unstopped}
 use Rattle.ro_core.specs.Legal.{any_below, is_stuck, MayEnd, due, alone, for_vote, for_free}
 use Rattle.ro_core.specs.Sound.{IsOver, exits, traps}
 use Rattle.ro_simulation.specs.Invariant.{Holds}
-use Rattle.ro_simulation.specs.Theorem.{EndsAs, TwoOrThree}
+use Rattle.ro_simulation.specs.Theorem.{EndsAs, TwoThreeOrFive}
 use Rattle.ro_simulation.proofs.Stays.{live-within}
 use Rattle.ro_core.proofs.Lists.{get-within, all-from}
-use Rattle.ro_simulation.proofs.Verdicts.{never-splits, pair-agrees}
+use Rattle.ro_vote.proofs.Verdicts.{never-splits}
 use Rattle.ro_simulation.proofs.Kept.{going-from, none-lent}
 use Rattle.ro_simulation.proofs.Frees.{not-true-from, free-parts}
 use Rattle.ro_simulation.proofs.Votes.{vote-parts, some-good, all-but-odd, as-many-views}
@@ -93,7 +93,7 @@ no-step program machine u h = by (steppable machine u) refl
     by None e = ap (option_and_then (λ cpu. step_by program machine u cpu (next_of program machine cpu))) e
     by (Some cpu) e = h cpu e
 
-module _ (job : Job) (odd : ℕ) (journal : List Entry) (core : Core) (h : Holds job odd journal core) where
+module _ (job : Job) (odds : List ℕ) (journal : List Entry) (core : Core) (h : Holds job odds journal core) where
   -- the machine goes on where the core does
   pub going-machine : is_going core ≡ true → h.machine.ended ≡ None
   going-machine e = sym h.same_end ∙ (going-from core e).not_due
@@ -172,30 +172,31 @@ module _ (job : Job) (odd : ℕ) (journal : List Entry) (core : Core) (h : Holds
 
   -- ---- ends that come in the place of a vote
 
-  -- of two or three replicas, at least three are three
-  three-replicas : TwoOrThree job → 3 ≤ length core.replicas → length core.replicas ≡ 3
-  three-replicas (inl two) many = let n = h.replica_count in absurd (omega arith)
-  three-replicas (inr three) many = let n = h.replica_count in omega arith
+  -- of two, three or five replicas, less than half of three or more are odd
+  less-than-half : TwoThreeOrFive job → 3 ≤ length core.replicas → 2 * length odds < length core.replicas
+  less-than-half (inl two) many = let f = h.few in let n = h.replica_count in omega arith
+  less-than-half (inr (inl three)) many = let f = h.few in let n = h.replica_count in omega arith
+  less-than-half (inr (inr five)) many = let f = h.few in let n = h.replica_count in omega arith
 
-  -- three replicas always come to a majority
-  always-majority : RaceFree job.program → (t : ℕ) → may_vote core t ≡ true → verdict_of (views_of job core t) ≡ Split → length core.replicas ≡ 3 → ⊥
-  always-majority free t may split three =
+  -- three or five replicas always come to a majority
+  always-majority : RaceFree job.program → TwoThreeOrFive job → (t : ℕ) → may_vote core t ≡ true → verdict_of (views_of job core t) ≡ Split → 3 ≤ length core.replicas → ⊥
+  always-majority free count t may split three =
       let parts = vote-parts core t may in
-      let good = some-good job free odd journal core h t parts (omega arith) in
-      never-splits odd _ (views_of job core t) (as-many-views job free odd journal core h t parts ∙ three) split (all-but-odd job free odd journal core h t parts good)
+      let good = some-good job free odds journal core h t parts (omega arith) in
+      let many = as-many-views job free odds journal core h t parts in
+      never-splits odds _ (views_of job core t) (all-but-odd job free odds journal core h t parts good) (let f = less-than-half count three in omega arith) split
 
   -- two replicas that both agree do not differ
-  pub never-differ : RaceFree job.program → 2 ≤ odd → (t : ℕ) → may_vote core t ≡ true → verdict_of (views_of job core t) ≡ Split → length core.replicas ≡ 2 → ⊥
-  never-differ free past t may split two =
+  pub never-differ : RaceFree job.program → odds ≡ [] → (t : ℕ) → may_vote core t ≡ true → verdict_of (views_of job core t) ≡ Split → length core.replicas ≡ 2 → ⊥
+  never-differ free none t may split two =
       let parts = vote-parts core t may in
-      let good = some-good job free odd journal core h t parts (omega arith) in
-      let many = as-many-views job free odd journal core h t parts in
-      let all = all-but-odd job free odd journal core h t parts good in
-      pair-agrees _ (views_of job core t) (many ∙ two) split
-      (λ i v e. all.others i v (λ (f : i ≡ odd). let short = slice_get_within (views_of job core t) i v e in omega arith) e)
+      let good = some-good job free odds journal core h t parts (omega arith) in
+      let many = as-many-views job free odds journal core h t parts in
+      let no_odd : length odds ≡ 0 = ap {B = ℕ} length none in
+      never-splits odds _ (views_of job core t) (all-but-odd job free odds journal core h t parts good) (omega arith) split
 
   -- the machine stands as the end says
-  pub end-as : RaceFree job.program → TwoOrThree job → (how : How) → MayEnd job core how → EndsAs job.program h.machine how
+  pub end-as : RaceFree job.program → TwoThreeOrFive job → (how : How) → MayEnd job core how → EndsAs job.program h.machine how
   end-as free count how (due e) = let ended : h.machine.ended ≡ Some how = sym h.same_end ∙ e in over-as job.program h.machine how (h.ends_well how ended) ended
   end-as free count Deadlock (alone stuck) = deadlocked stuck
   end-as free count (Sink bytes) (alone e) = going-machine e.0
@@ -206,7 +207,7 @@ module _ (job : Job) (odd : ℕ) (journal : List Entry) (core : Core) (h : Holds
   end-as free count NoMajority (alone e) = absurd e
   end-as free count Differ (for_vote t may e) = sym h.same_end ∙ (vote-parts core t may).going.not_due
   end-as free count (Limit steps next) (for_vote t may e) = sym h.same_end ∙ (vote-parts core t may).going.not_due
-  end-as free count NoMajority (for_vote t may e) = absurd (always-majority free t may e.0 (three-replicas count e.1))
+  end-as free count NoMajority (for_vote t may e) = absurd (always-majority free count t may e.0 e.1)
   end-as free count (Exit status) (for_vote t may e) = absurd e
   end-as free count (Trap code) (for_vote t may e) = absurd e
   end-as free count Deadlock (for_vote t may e) = absurd e

@@ -2,7 +2,7 @@
 use Rattle.std.specs.Prelude.{◌≡◌, ◌≢◌, ℕ, ◌<◌, ◌⊎◌, Bool, true, false, not, IsTrue, cond, ◌&&◌, ◌||◌, ◌==◌, List, [], ◌∷◌, ◌++◌, length, Some, None, slice_get, slice_set}
 use Rattle.std.specs.List.{list_any, filter}
 use Rattle.std.proofs.Common.{refl, sym, ap, ap₂, ◌∙◌, subst, inl, inr}
-use Rattle.std.proofs.lemmas.Bool.{false≢true, eqb-true, and_parts}
+use Rattle.std.proofs.lemmas.Bool.{true≢false, false≢true, eqb-true, and_parts}
 use Rattle.std.proofs.lemmas.List.{length-set}
 use Rattle.std.proofs.lemmas.Option.{option_and_then_some}
 use Rattle.ro_journal.specs.declared.Entry.{Entry}
@@ -18,6 +18,7 @@ use Rattle.ro_core.specs.declared.actions.Lease.{Lease}
 use Rattle.ro_core.specs.Core.{Job, Core, is_out}
 use Rattle.ro_core.specs.Legal.{arrived, arrival, is_lease, core_after_put, after, lease_run, MayTake, MayPut}
 use Rattle.ro_core.specs.Sound.{IsSound}
+use Rattle.ro_vote.specs.Numbers.{is_among, AtMostHalf}
 use Rattle.ro_simulation.specs.Invariant.{Agrees, Holds}
 use Rattle.ro_core.proofs.Lists.{get-set-cases}
 use Rattle.ro_core.proofs.Sound.{HasFault}
@@ -65,7 +66,7 @@ any-filter p q (x ∷ xs) e = any-filter-cons p q x xs (any-filter p q xs) (q x)
 
 -- ---- take
 
-module _ (job : Job) (odd : ℕ) (journal : List Entry) (core : Core) (h : Holds job odd journal core) (driver replica t : ℕ) (may : MayTake job core driver replica t) where
+module _ (job : Job) (odds : List ℕ) (journal : List Entry) (core : Core) (h : Holds job odds journal core) (driver replica t : ℕ) (may : MayTake job core driver replica t) where
   -- the taken thread lives
   live : IsTrue (lives_on core.kernel t)
   live = (and_parts _ _ (and_parts _ _ may.lendable).0).1
@@ -82,7 +83,7 @@ module _ (job : Job) (odd : ℕ) (journal : List Entry) (core : Core) (h : Holds
   lent-after d r u (inr e) = h.lent_live d r u e
 
   -- the invariant after a take
-  pub after-take : Holds job odd (journal ++ Take driver replica t ∷ []) (after job core (Take driver replica t))
+  pub after-take : Holds job odds (journal ++ Take driver replica t ∷ []) (after job core (Take driver replica t))
   unfolding after
   after-take = record {
     machine = h.machine;
@@ -94,6 +95,7 @@ module _ (job : Job) (odd : ℕ) (journal : List Entry) (core : Core) (h : Holds
     ends_well = h.ends_well;
     not_ended = h.not_ended;
     as_many = h.as_many;
+    few = h.few;
     replica_count = h.replica_count;
     backed = h.backed;
     sound = λ number r e. sound-with job core (record core { leases = record { driver = driver; replica = replica; thread = t } ∷ core.leases; wrote = 0 }) h.backed number r refl (h.sound number r e);
@@ -116,7 +118,7 @@ put-parts job core replica t count ran e =
     option_and_then_some (λ r. run_of (layout_of job.program) job.settings.watchdog count r t) (slice_get core.replicas replica) ran e
     (λ r there runs. record { lent = r; lent_there = there; runs = runs })
 
-module _ (job : Job) (odd : ℕ) (journal : List Entry) (core : Core) (h : Holds job odd journal core) (driver replica t count hit : ℕ) (may : MayPut job core driver replica t count hit) where
+module _ (job : Job) (odds : List ℕ) (journal : List Entry) (core : Core) (h : Holds job odds journal core) (driver replica t count hit : ℕ) (may : MayPut job core driver replica t count hit) where
   -- the replica of this put, and its run
   parts : PutParts job core replica t count may.ran
   parts = put-parts job core replica t count may.ran may.runs
@@ -146,8 +148,8 @@ module _ (job : Job) (odd : ℕ) (journal : List Entry) (core : Core) (h : Holds
   after-put-is = ap (core_after_put job core driver replica t count) (sym may.runs)
 
   -- the invariant, where the replicas but one agree after the put
-  put-with : (odd' : ℕ) → ((number : ℕ) (r : Replica) → number ≢ odd' → ((number ≢ replica) × (slice_get core.replicas number ≡ Some r)) ⊎ ((number ≡ replica) × (arrived job t count may.ran.replica ≡ r)) → Agrees job h.machine r) → Holds job odd' (journal ++ Put driver replica t count hit ∷ []) (after job core (Put driver replica t count hit))
-  put-with odd' agree = subst (Holds job odd' (journal ++ Put driver replica t count hit ∷ [])) after-put-is (record {
+  put-with : (odds' : List ℕ) → AtMostHalf job.settings.replicas odds' → ((number : ℕ) (r : Replica) → is_among odds' number ≡ false → ((number ≢ replica) × (slice_get core.replicas number ≡ Some r)) ⊎ ((number ≡ replica) × (arrived job t count may.ran.replica ≡ r)) → Agrees job h.machine r) → Holds job odds' (journal ++ Put driver replica t count hit ∷ []) (after job core (Put driver replica t count hit))
+  put-with odds' few' agree = subst (Holds job odds' (journal ++ Put driver replica t count hit ∷ [])) after-put-is (record {
     machine = h.machine;
     ideal_is = ideal-same job journal (Put driver replica t count hit) refl ∙ h.ideal_is;
     same_kernel = h.same_kernel;
@@ -157,6 +159,7 @@ module _ (job : Job) (odd : ℕ) (journal : List Entry) (core : Core) (h : Holds
     ends_well = h.ends_well;
     not_ended = h.not_ended;
     as_many = h.as_many;
+    few = few';
     replica_count = length-set core.replicas replica _ ∙ h.replica_count;
     backed = h.backed;
     sound = λ number r e. sound-with job core (record core { replicas = slice_set core.replicas replica (arrived job t count may.ran.replica); leases = filter (λ lease. not (is_lease driver replica t lease)) core.leases; wrote = 0 }) h.backed number r refl
@@ -167,20 +170,20 @@ module _ (job : Job) (odd : ℕ) (journal : List Entry) (core : Core) (h : Holds
   })
 
   -- no fault was struck
-  pub after-calm-put : RaceFree job.program → hit ≡ 0 → Holds job odd (journal ++ Put driver replica t count hit ∷ []) (after job core (Put driver replica t count hit))
-  after-calm-put free none = put-with odd by
+  pub after-calm-put : RaceFree job.program → hit ≡ 0 → Holds job odds (journal ++ Put driver replica t count hit ∷ []) (after job core (Put driver replica t count hit))
+  after-calm-put free none = put-with odds h.few by
     where
-      by : (number : ℕ) (r : Replica) → number ≢ odd → ((number ≢ replica) × (slice_get core.replicas number ≡ Some r)) ⊎ ((number ≡ replica) × (arrived job t count may.ran.replica ≡ r)) → Agrees job h.machine r
+      by : (number : ℕ) (r : Replica) → is_among odds number ≡ false → ((number ≢ replica) × (slice_get core.replicas number ≡ Some r)) ⊎ ((number ≡ replica) × (arrived job t count may.ran.replica ≡ r)) → Agrees job h.machine r
       by number r d (inl e) = h.others_agree put-going.0 number r d e.1
       by number r d (inr e) =
           subst (Agrees job h.machine) e.1
           (agrees-after-lease job free (plan_of journal) h.machine h.ideal_is put-going.0 t put-going.1 count parts.lent may.ran parts.runs (may.struck ∙ none)
-          (h.others_agree put-going.0 replica parts.lent (λ (f : replica ≡ odd). d (e.0 ∙ f)) parts.lent_there))
+          (h.others_agree put-going.0 replica parts.lent (ap (is_among odds) (sym e.0) ∙ d) parts.lent_there))
 
-  -- faults were struck while all other replicas agreed
-  pub after-struck-put : ((number : ℕ) (r : Replica) → number ≢ replica → slice_get core.replicas number ≡ Some r → Agrees job h.machine r) → Holds job replica (journal ++ Put driver replica t count hit ∷ []) (after job core (Put driver replica t count hit))
-  after-struck-put others = put-with replica by
+  -- faults were struck while all replicas but a few, of which the struck one is, agreed
+  pub after-struck-put : (odds' : List ℕ) → AtMostHalf job.settings.replicas odds' → is_among odds' replica ≡ true → ((number : ℕ) (r : Replica) → is_among odds' number ≡ false → slice_get core.replicas number ≡ Some r → Agrees job h.machine r) → Holds job odds' (journal ++ Put driver replica t count hit ∷ []) (after job core (Put driver replica t count hit))
+  after-struck-put odds' few' struck others = put-with odds' few' by
     where
-      by : (number : ℕ) (r : Replica) → number ≢ replica → ((number ≢ replica) × (slice_get core.replicas number ≡ Some r)) ⊎ ((number ≡ replica) × (arrived job t count may.ran.replica ≡ r)) → Agrees job h.machine r
+      by : (number : ℕ) (r : Replica) → is_among odds' number ≡ false → ((number ≢ replica) × (slice_get core.replicas number ≡ Some r)) ⊎ ((number ≡ replica) × (arrived job t count may.ran.replica ≡ r)) → Agrees job h.machine r
       by number r d (inl e) = others number r d e.1
-      by number r d (inr e) = absurd (d e.0)
+      by number r d (inr e) = absurd (true≢false (sym struck ∙ (ap (is_among odds') (sym e.0) ∙ d)))

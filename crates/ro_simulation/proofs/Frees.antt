@@ -1,5 +1,5 @@
 -- The invariant after a free: the blocked call is served where the thread stands, in the machine and in every replica.
-use Rattle.std.specs.Prelude.{◌≡◌, ◌≢◌, ℕ, zero, suc, Bool, true, false, not, IsTrue, List, [], ◌∷◌, ◌++◌, replicate, length, Option, Some, None, slice_get}
+use Rattle.std.specs.Prelude.{◌≡◌, ℕ, zero, suc, Bool, true, false, not, IsTrue, List, [], ◌∷◌, ◌++◌, replicate, length, Option, Some, None, slice_get}
 use Rattle.std.specs.Option.{option_map, option_map_or}
 use Rattle.std.proofs.Common.{refl, sym, ap, ◌∙◌, subst, arith}
 use Rattle.std.proofs.lemmas.Bool.{true≢false, false≢true, and_parts}
@@ -20,6 +20,7 @@ use Rattle.ro_plain.proofs.Calls.{some-injective, steppable-parts}
 use Rattle.ro_core.specs.Core.{Job, Core, may_free}
 use Rattle.ro_core.specs.Event.{Event, call_event, core_after}
 use Rattle.ro_core.specs.Legal.{freed_event, core_after_event, after, MayFree}
+use Rattle.ro_vote.specs.Numbers.{is_among}
 use Rattle.ro_simulation.specs.Invariant.{Agrees, StandsAtCall, Holds}
 use Rattle.ro_simulation.proofs.Stays.{live-within}
 use Rattle.ro_simulation.proofs.Ahead.{BackedRun-head, plain-executes}
@@ -57,7 +58,7 @@ one-step kernel t call (Done after effect) e = refl
 one-step kernel t call Blocked e = absurd (true≢false e)
 one-step kernel t call (Ends after how) e = refl
 
-module _ (job : Job) (free : RaceFree job.program) (odd : ℕ) (journal : List Entry) (core : Core) (h : Holds job odd journal core) (t : ℕ) (parts : FreeParts job core t) where
+module _ (job : Job) (free : RaceFree job.program) (odds : List ℕ) (journal : List Entry) (core : Core) (h : Holds job odds journal core) (t : ℕ) (parts : FreeParts job core t) where
   -- the program goes on at a free
   going : h.machine.ended ≡ None
   going = sym h.same_end ∙ parts.going.not_due
@@ -118,7 +119,7 @@ module _ (job : Job) (free : RaceFree job.program) (odd : ℕ) (journal : List E
   after-is = ap (core_after_event core t 0 core.replicas) (sym freed-is)
 
   -- what the event needs of each replica that agrees
-  meets-at : (number : ℕ) (r : Replica) → number ≢ odd → slice_get core.replicas number ≡ Some r → Meets job h.machine h.machine h.backed t (call_event h.machine.kernel t parts.call [] (serve (setup_of job.program) h.machine.kernel t parts.call)) r
+  meets-at : (number : ℕ) (r : Replica) → is_among odds number ≡ false → slice_get core.replicas number ≡ Some r → Meets job h.machine h.machine h.backed t (call_event h.machine.kernel t parts.call [] (serve (setup_of job.program) h.machine.kernel t parts.call)) r
   meets-at number r d e =
       let sound = h.sound number r e in
       let lives : length core.kernel.lives ≡ length h.machine.kernel.lives = ap (λ (k : Kernel). length k.lives) h.same_kernel in
@@ -126,20 +127,20 @@ module _ (job : Job) (free : RaceFree job.program) (odd : ℕ) (journal : List E
       meets-free r (h.others_agree going number r d e) thread.0 thread.1 sound.same_backed _
 
   -- the invariant after the free
-  freed : Holds job odd (journal ++ Free t ∷ []) (after job core (Free t))
+  freed : Holds job odds (journal ++ Free t ∷ []) (after job core (Free t))
   freed =
       let event = has-event in
-      subst (Holds job odd (journal ++ Free t ∷ [])) after-is
-      (event-holds job odd journal core h going parts.no_lease t 0 live h.machine nothing_left _ event.0 event.1
-      (Free t) (ap (λ (n : ℕ). replicate n t) (sym (one-step h.machine.kernel t parts.call _ unblocked))) core.replicas refl h.sound odd meets-at)
+      subst (Holds job odds (journal ++ Free t ∷ [])) after-is
+      (event-holds job odds journal core h going parts.no_lease t 0 live h.machine nothing_left _ event.0 event.1
+      (Free t) (ap (λ (n : ℕ). replicate n t) (sym (one-step h.machine.kernel t parts.call _ unblocked))) core.replicas refl h.sound odds h.few meets-at)
 
 -- the step of the call that is freed
-pub free-runs : (job : Job) (free : RaceFree job.program) (odd : ℕ) (journal : List Entry) (core : Core) (h : Holds job odd journal core) (t : ℕ) (parts : FreeParts job core t) → IsExecution job.program (plan_of journal ++ t ∷ [])
-free-runs job free odd journal core h t parts =
-    let event = has-event job free odd journal core h t parts in
-    subst (λ (n : ℕ). IsExecution job.program (plan_of journal ++ replicate n t)) (one-step h.machine.kernel t parts.call _ (unblocked job free odd journal core h t parts))
+pub free-runs : (job : Job) (free : RaceFree job.program) (odds : List ℕ) (journal : List Entry) (core : Core) (h : Holds job odds journal core) (t : ℕ) (parts : FreeParts job core t) → IsExecution job.program (plan_of journal ++ t ∷ [])
+free-runs job free odds journal core h t parts =
+    let event = has-event job free odds journal core h t parts in
+    subst (λ (n : ℕ). IsExecution job.program (plan_of journal ++ replicate n t)) (one-step h.machine.kernel t parts.call _ (unblocked job free odds journal core h t parts))
     (event.0, run-more job.program (plan_of journal) h.machine h.machine [] _ h.ideal_is refl event.1.run_event)
 
 -- the invariant after a free
-pub after-free : (job : Job) (free : RaceFree job.program) (odd : ℕ) (journal : List Entry) (core : Core) → Holds job odd journal core → (t : ℕ) → MayFree job core t → Holds job odd (journal ++ Free t ∷ []) (after job core (Free t))
-after-free job free odd journal core h t may = freed job free odd journal core h t (free-parts job core t may.may)
+pub after-free : (job : Job) (free : RaceFree job.program) (odds : List ℕ) (journal : List Entry) (core : Core) → Holds job odds journal core → (t : ℕ) → MayFree job core t → Holds job odds (journal ++ Free t ∷ []) (after job core (Free t))
+after-free job free odds journal core h t may = freed job free odds journal core h t (free-parts job core t may.may)

@@ -1,5 +1,5 @@
 -- The invariant along a legal journal.
-use Rattle.std.specs.Prelude.{◌≡◌, ◌≢◌, ℕ, zero, suc, ◌<◌, List, [], ◌∷◌, ◌++◌, Option, Some, None, slice_get}
+use Rattle.std.specs.Prelude.{true, false, ◌≡◌, ℕ, zero, suc, ◌<◌, List, [], ◌∷◌, ◌++◌, Option, Some, None, slice_get}
 use Rattle.std.specs.Option.{option_map}
 use Rattle.std.proofs.Common.{refl, sym, ap, ◌∙◌, subst, arith, append_assoc, append-nil}
 use Rattle.ro_event.specs.declared.calls.Call.{Call}
@@ -7,16 +7,19 @@ use Rattle.ro_journal.specs.declared.Did.{Did}
 use Rattle.ro_journal.specs.declared.How.{How}
 use Rattle.ro_journal.specs.declared.Entry.{Entry}
 use Rattle.ro_journal.specs.declared.Entry.TheVariants.{Take, Put, Vote, Free, End}
+use Rattle.ro_journal.specs.declared.losers.Lost.{Lost}
+use Rattle.ro_journal.specs.Losers.{numbers}
 use Rattle.ro_journal.specs.Plan.{outcome_of}
 use Rattle.ro_kernel.specs.Serve.{Served, Done, Blocked, Ends, serve}
 use Rattle.ro_kernel.specs.Kernel.{Kernel}
 use Rattle.ro_replica.specs.Replica.{Replica}
 use Rattle.ro_replica.specs.Runs.{Ran}
-use Rattle.ro_plain.specs.Machine.{setup_of}
+use Rattle.ro_plain.specs.Machine.{Machine, setup_of}
 use Rattle.ro_plain.specs.Order.{RaceFree}
 use Rattle.ro_core.specs.Core.{Job, Core, opening_core}
 use Rattle.ro_core.specs.Event.{Event, call_event, with_recovered}
 use Rattle.ro_core.specs.Legal.{lease_run, core_after_put, event_in, freed_event, core_after_event, after, MayPut, MayEnd, IsAllowed, LegalFrom, Legal, replay_from, replay}
+use Rattle.ro_vote.specs.Numbers.{is_among, AtMostHalf}
 use Rattle.ro_simulation.specs.Invariant.{Agrees, Holds}
 use Rattle.ro_simulation.specs.Theorem.{event_payload, payload_by, payloads_from, payloads_of}
 use Rattle.ro_simulation.proofs.Kept.{going-from}
@@ -68,7 +71,7 @@ after-end-ended job core how = refl
 pub data IsStep : Entry → Type 0 where
   takes : {driver replica thread : ℕ} → IsStep (Take driver replica thread)
   puts : {driver replica thread count hit : ℕ} → IsStep (Put driver replica thread count hit)
-  votes : {thread count won : ℕ} {lost : Option ℕ} {did : Did} → IsStep (Vote thread count won lost did)
+  votes : {thread count won : ℕ} {lost : Lost} {did : Did} → IsStep (Vote thread count won lost did)
   frees : {thread : ℕ} → IsStep (Free thread)
 
 -- the output with the payload, and the end as it was
@@ -102,7 +105,7 @@ pub step-leaves : (job : Job) (core : Core) (entry : Entry) → IsStep entry →
 unfolding after
 step-leaves job core (Take driver replica thread) takes = record { output = sym (append-nil core.output); ended = refl }
 step-leaves job core (Put driver replica thread count hit) puts = put-leaves job core driver replica thread count (lease_run job core replica thread count)
-step-leaves job core (Vote thread count won lost did) votes = event-leaves core thread count (with_recovered won lost core.replicas) (event_in job core thread won)
+step-leaves job core (Vote thread count won lost did) votes = event-leaves core thread count (with_recovered won (numbers lost) core.replicas) (event_in job core thread won)
 step-leaves job core (Free thread) frees =
     subst (Leaves core (core_after_event core thread 0 core.replicas (freed_event job core thread))) (free-no-payload job core thread (core.blocked thread))
     (event-leaves core thread 0 core.replicas (freed_event job core thread))
@@ -137,19 +140,19 @@ ended-outcome job core (Free thread ∷ rest) how on h e = ended-outcome job (af
 -- ---- the invariant along a journal
 
 -- the invariant, in the core of the journal, whose output is that of its payloads
-pub record Reached (job : Job) (odd : ℕ) (journal : List Entry) (core : Core) : Type 0 where
-  pub holds : Holds job odd journal core
+pub record Reached (job : Job) (odds : List ℕ) (journal : List Entry) (core : Core) : Type 0 where
+  pub holds : Holds job odds journal core
   pub is_replay : replay job journal ≡ core
   pub written : core.output ≡ payloads_of job journal
 
 -- the invariant at the opening
-pub opening-reached : (job : Job) (odd : ℕ) → Reached job odd [] (opening_core job)
+pub opening-reached : (job : Job) (odds : List ℕ) → AtMostHalf job.settings.replicas odds → Reached job odds [] (opening_core job)
 unfolding opening_core
-opening-reached job odd = record { holds = opening-holds job odd; is_replay = refl; written = refl }
+opening-reached job odds few = record { holds = opening-holds job odds few; is_replay = refl; written = refl }
 
 -- one entry further
-reached-next : (job : Job) (odd odd' : ℕ) (journal : List Entry) (core : Core) (entry : Entry) → IsStep entry → Reached job odd journal core → Holds job odd' (journal ++ entry ∷ []) (after job core entry) → Reached job odd' (journal ++ entry ∷ []) (after job core entry)
-reached-next job odd odd' journal core entry kind r h = record {
+reached-next : (job : Job) (odds odds' : List ℕ) (journal : List Entry) (core : Core) (entry : Entry) → IsStep entry → Reached job odds journal core → Holds job odds' (journal ++ entry ∷ []) (after job core entry) → Reached job odds' (journal ++ entry ∷ []) (after job core entry)
+reached-next job odds odds' journal core entry kind r h = record {
   holds = h;
   is_replay = replay-append job (opening_core job) journal (entry ∷ []) ∙ ap (λ (c : Core). after job c entry) r.is_replay;
   written = (step-leaves job core entry kind).output
@@ -159,75 +162,83 @@ reached-next job odd odd' journal core entry kind r h = record {
       ∙ sym (payloads-append job (opening_core job) journal (entry ∷ [])))));
 }
 
--- Which replica may be the odd one, and why the others agree where faults are struck.
-pub record Policy (job : Job) (Q : ℕ → Type 0) (whole : List Entry) : Type 0 where
-  pub strikes : (odd : ℕ) → Q odd → (before rest : List Entry) (driver replica thread count hit : ℕ) → whole ≡ before ++ Put driver replica thread count hit ∷ rest →
-      (core : Core) (reached : Reached job odd before core) → MayPut job core driver replica thread count hit → 0 < hit →
-      Q replica × ((number : ℕ) (r : Replica) → number ≢ replica → slice_get core.replicas number ≡ Some r → Agrees job reached.holds.machine r)
+-- After a strike these replicas, at most half, may be odd, the struck one among them, and the others agree.
+pub record Struck (job : Job) (Q : List ℕ → Type 0) (struck : ℕ) (core : Core) (machine : Machine) : Type 0 where
+  pub odds : List ℕ
+  pub allows : Q odds
+  pub few : AtMostHalf job.settings.replicas odds
+  pub is_odd : is_among odds struck ≡ true
+  pub others : (number : ℕ) (r : Replica) → is_among odds number ≡ false → slice_get core.replicas number ≡ Some r → Agrees job machine r
+
+-- Which replicas may be odd, and why the others agree where faults are struck.
+pub record Policy (job : Job) (Q : List ℕ → Type 0) (whole : List Entry) : Type 0 where
+  pub strikes : (odds : List ℕ) → Q odds → (before rest : List Entry) (driver replica thread count hit : ℕ) → whole ≡ before ++ Put driver replica thread count hit ∷ rest →
+      (core : Core) (reached : Reached job odds before core) → MayPut job core driver replica thread count hit → 0 < hit →
+      Struck job Q replica core reached.holds.machine
 
 -- A legal journal goes on, or has ended by its last entry.
-pub data Stage (job : Job) (Q : ℕ → Type 0) (journal : List Entry) (core : Core) : Type 0 where
-  goes_on : (odd : ℕ) → Q odd → Reached job odd journal core → Stage job Q journal core
-  has_ended : (before : List Entry) (how : How) (odd : ℕ) (last : Core) → Q odd → journal ≡ before ++ End how ∷ [] → Reached job odd before last → MayEnd job last how → core ≡ after job last (End how) → Stage job Q journal core
+pub data Stage (job : Job) (Q : List ℕ → Type 0) (journal : List Entry) (core : Core) : Type 0 where
+  goes_on : (odds : List ℕ) → Q odds → Reached job odds journal core → Stage job Q journal core
+  has_ended : (before : List Entry) (how : How) (odds : List ℕ) (last : Core) → Q odds → journal ≡ before ++ End how ∷ [] → Reached job odds before last → MayEnd job last how → core ≡ after job last (End how) → Stage job Q journal core
 
 -- one entry
-pub data AfterEntry (job : Job) (Q : ℕ → Type 0) (journal : List Entry) (core : Core) (entry : Entry) : Type 0 where
-  is_step : (odd : ℕ) → Q odd → IsStep entry → Holds job odd (journal ++ entry ∷ []) (after job core entry) → AfterEntry job Q journal core entry
+pub data AfterEntry (job : Job) (Q : List ℕ → Type 0) (journal : List Entry) (core : Core) (entry : Entry) : Type 0 where
+  is_step : (odds : List ℕ) → Q odds → IsStep entry → Holds job odds (journal ++ entry ∷ []) (after job core entry) → AfterEntry job Q journal core entry
   is_end : (how : How) → entry ≡ End how → MayEnd job core how → AfterEntry job Q journal core entry
 
-module _ (job : Job) (free : RaceFree job.program) (Q : ℕ → Type 0) (whole : List Entry) (policy : Policy job Q whole) where
+module _ (job : Job) (free : RaceFree job.program) (Q : List ℕ → Type 0) (whole : List Entry) (policy : Policy job Q whole) where
   -- the invariant after a put, with or without a strike
-  after-put : (odd : ℕ) (q : Q odd) (journal rest : List Entry) (driver replica thread count hit : ℕ) → whole ≡ journal ++ Put driver replica thread count hit ∷ rest → (core : Core) (reached : Reached job odd journal core) → MayPut job core driver replica thread count hit → AfterEntry job Q journal core (Put driver replica thread count hit)
-  after-put odd q journal rest driver replica thread count zero whole_is core reached may =
-      is_step odd q puts (after-calm-put job odd journal core reached.holds driver replica thread count 0 may free refl)
-  after-put odd q journal rest driver replica thread count (suc hit) whole_is core reached may =
-      let s = policy.strikes odd q journal rest driver replica thread count (suc hit) whole_is core reached may (omega arith) in
-      is_step replica s.0 puts (after-struck-put job odd journal core reached.holds driver replica thread count (suc hit) may s.1)
+  after-put : (odds : List ℕ) (q : Q odds) (journal rest : List Entry) (driver replica thread count hit : ℕ) → whole ≡ journal ++ Put driver replica thread count hit ∷ rest → (core : Core) (reached : Reached job odds journal core) → MayPut job core driver replica thread count hit → AfterEntry job Q journal core (Put driver replica thread count hit)
+  after-put odds q journal rest driver replica thread count zero whole_is core reached may =
+      is_step odds q puts (after-calm-put job odds journal core reached.holds driver replica thread count 0 may free refl)
+  after-put odds q journal rest driver replica thread count (suc hit) whole_is core reached may =
+      let s = policy.strikes odds q journal rest driver replica thread count (suc hit) whole_is core reached may (omega arith) in
+      is_step s.odds s.allows puts (after-struck-put job odds journal core reached.holds driver replica thread count (suc hit) may s.odds s.few s.is_odd s.others)
 
   -- the invariant after an entry
-  after-entry : (odd : ℕ) (q : Q odd) (journal rest : List Entry) (entry : Entry) → whole ≡ journal ++ entry ∷ rest → (core : Core) (reached : Reached job odd journal core) → IsAllowed job core entry → AfterEntry job Q journal core entry
-  after-entry odd q journal rest (Take driver replica thread) whole_is core reached h = is_step odd q takes (after-take job odd journal core reached.holds driver replica thread h)
-  after-entry odd q journal rest (Put driver replica thread count hit) whole_is core reached h = after-put odd q journal rest driver replica thread count hit whole_is core reached h
-  after-entry odd q journal rest (Vote thread count won lost did) whole_is core reached h = is_step odd q votes (after-vote job free odd journal core reached.holds thread count won did lost h).holds
-  after-entry odd q journal rest (Free thread) whole_is core reached h = is_step odd q frees (after-free job free odd journal core reached.holds thread h)
-  after-entry odd q journal rest (End how) whole_is core reached h = is_end how refl h.1
+  after-entry : (odds : List ℕ) (q : Q odds) (journal rest : List Entry) (entry : Entry) → whole ≡ journal ++ entry ∷ rest → (core : Core) (reached : Reached job odds journal core) → IsAllowed job core entry → AfterEntry job Q journal core entry
+  after-entry odds q journal rest (Take driver replica thread) whole_is core reached h = is_step odds q takes (after-take job odds journal core reached.holds driver replica thread h)
+  after-entry odds q journal rest (Put driver replica thread count hit) whole_is core reached h = after-put odds q journal rest driver replica thread count hit whole_is core reached h
+  after-entry odds q journal rest (Vote thread count won lost did) whole_is core reached h = is_step odds q votes (after-vote job free odds journal core reached.holds thread count won did lost h).holds
+  after-entry odds q journal rest (Free thread) whole_is core reached h = is_step odds q frees (after-free job free odds journal core reached.holds thread h)
+  after-entry odds q journal rest (End how) whole_is core reached h = is_end how refl h.1
 
   -- a journal that ends here
-  stage-end : (odd : ℕ) (q : Q odd) (journal rest : List Entry) (core : Core) (how : How) → Reached job odd journal core → MayEnd job core how → rest ≡ [] → Stage job Q (journal ++ End how ∷ rest) (replay_from job (after job core (End how)) rest)
-  stage-end odd q journal rest core how reached may none =
-      has_ended journal how odd core q (ap (λ (r : List Entry). journal ++ End how ∷ r) none) reached may (ap (replay_from job (after job core (End how))) none)
+  stage-end : (odds : List ℕ) (q : Q odds) (journal rest : List Entry) (core : Core) (how : How) → Reached job odds journal core → MayEnd job core how → rest ≡ [] → Stage job Q (journal ++ End how ∷ rest) (replay_from job (after job core (End how)) rest)
+  stage-end odds q journal rest core how reached may none =
+      has_ended journal how odds core q (ap (λ (r : List Entry). journal ++ End how ∷ r) none) reached may (ap (replay_from job (after job core (End how))) none)
 
   -- the invariant after any number of entries
-  pub reach : (odd : ℕ) (q : Q odd) (journal rest tail : List Entry) (core : Core) → whole ≡ journal ++ (rest ++ tail) → Reached job odd journal core → LegalFrom job core rest → Stage job Q (journal ++ rest) (replay_from job core rest)
-  reach odd q journal [] tail core whole_is reached legal = goes_on odd q (subst (λ (j : List Entry). Reached job odd j core) (sym (append-nil journal)) reached)
-  reach odd q journal (entry ∷ rest) tail core whole_is reached legal =
-      after-reach odd q journal rest tail core entry whole_is reached legal.1 (after-entry odd q journal (rest ++ tail) entry whole_is core reached legal.0)
-      (λ odd' q' reached'. reach odd' q' (journal ++ entry ∷ []) rest tail (after job core entry) (whole_is ∙ sym (append_assoc journal (entry ∷ []) (rest ++ tail))) reached' legal.1)
+  pub reach : (odds : List ℕ) (q : Q odds) (journal rest tail : List Entry) (core : Core) → whole ≡ journal ++ (rest ++ tail) → Reached job odds journal core → LegalFrom job core rest → Stage job Q (journal ++ rest) (replay_from job core rest)
+  reach odds q journal [] tail core whole_is reached legal = goes_on odds q (subst (λ (j : List Entry). Reached job odds j core) (sym (append-nil journal)) reached)
+  reach odds q journal (entry ∷ rest) tail core whole_is reached legal =
+      after-reach odds q journal rest tail core entry whole_is reached legal.1 (after-entry odds q journal (rest ++ tail) entry whole_is core reached legal.0)
+      (λ odds' q' reached'. reach odds' q' (journal ++ entry ∷ []) rest tail (after job core entry) (whole_is ∙ sym (append_assoc journal (entry ∷ []) (rest ++ tail))) reached' legal.1)
     where
-      after-reach : (odd : ℕ) (q : Q odd) (journal rest tail : List Entry) (core : Core) (entry : Entry) → whole ≡ journal ++ (entry ∷ (rest ++ tail)) → Reached job odd journal core → LegalFrom job (after job core entry) rest → AfterEntry job Q journal core entry
-          → ((odd' : ℕ) → Q odd' → Reached job odd' (journal ++ entry ∷ []) (after job core entry) → Stage job Q ((journal ++ entry ∷ []) ++ rest) (replay_from job (after job core entry) rest))
+      after-reach : (odds : List ℕ) (q : Q odds) (journal rest tail : List Entry) (core : Core) (entry : Entry) → whole ≡ journal ++ (entry ∷ (rest ++ tail)) → Reached job odds journal core → LegalFrom job (after job core entry) rest → AfterEntry job Q journal core entry
+          → ((odds' : List ℕ) → Q odds' → Reached job odds' (journal ++ entry ∷ []) (after job core entry) → Stage job Q ((journal ++ entry ∷ []) ++ rest) (replay_from job (after job core entry) rest))
           → Stage job Q (journal ++ entry ∷ rest) (replay_from job (after job core entry) rest)
-      after-reach odd q journal rest tail core entry whole_is reached legal (is_step odd' q' kind h) later =
-          subst (λ (j : List Entry). Stage job Q j (replay_from job (after job core entry) rest)) (append_assoc journal (entry ∷ []) rest) (later odd' q' (reached-next job odd odd' journal core entry kind reached h))
-      after-reach odd q journal rest tail core entry whole_is reached legal (is_end how same may) later =
+      after-reach odds q journal rest tail core entry whole_is reached legal (is_step odds' q' kind h) later =
+          subst (λ (j : List Entry). Stage job Q j (replay_from job (after job core entry) rest)) (append_assoc journal (entry ∷ []) rest) (later odds' q' (reached-next job odds odds' journal core entry kind reached h))
+      after-reach odds q journal rest tail core entry whole_is reached legal (is_end how same may) later =
           subst (λ (e : Entry). Stage job Q (journal ++ e ∷ rest) (replay_from job (after job core e) rest)) (sym same)
-          (stage-end odd q journal rest core how reached may
+          (stage-end odds q journal rest core how reached may
           (nothing-after job (after job core (End how)) how rest (after-end-ended job core how) (subst (λ (e : Entry). LegalFrom job (after job core e) rest) same legal)))
 
   -- before an entry that is allowed the journal goes on
   pub record Before (journal : List Entry) (entry : Entry) : Type 0 where
-    pub odd : ℕ
-    pub allows : Q odd
-    pub reached : Reached job odd journal (replay job journal)
+    pub odds : List ℕ
+    pub allows : Q odds
+    pub reached : Reached job odds journal (replay job journal)
     pub allowed : IsAllowed job (replay job journal) entry
 
   -- the invariant before an entry
-  pub reach-before : (odd : ℕ) → Q odd → Legal job whole → (journal rest : List Entry) (entry : Entry) → whole ≡ journal ++ entry ∷ rest → Before journal entry
-  reach-before odd q legal journal rest entry whole_is =
+  pub reach-before : (odds : List ℕ) → AtMostHalf job.settings.replicas odds → Q odds → Legal job whole → (journal rest : List Entry) (entry : Entry) → whole ≡ journal ++ entry ∷ rest → Before journal entry
+  reach-before odds few q legal journal rest entry whole_is =
       let parts = legal-split job (opening_core job) journal (entry ∷ rest) (subst (Legal job) whole_is legal) in
-      by parts.1.0 (reach odd q [] journal (entry ∷ rest) (opening_core job) whole_is (opening-reached job odd) parts.0)
+      by parts.1.0 (reach odds q [] journal (entry ∷ rest) (opening_core job) whole_is (opening-reached job odds few) parts.0)
     where
       by : IsAllowed job (replay job journal) entry → Stage job Q journal (replay job journal) → Before journal entry
-      by allowed (goes_on o q' r) = record { odd = o; allows = q'; reached = r; allowed = allowed }
+      by allowed (goes_on o q' r) = record { odds = o; allows = q'; reached = r; allowed = allowed }
       by allowed (has_ended before how o last q' same r may e) =
           absurd (let f : None ≡ Some how = sym (allowed-not-ended job (replay job journal) entry allowed) ∙ (ap (λ (c : Core). c.ended) e ∙ after-end-ended job last how) in cc)

@@ -1,5 +1,5 @@
 -- The invariant after an entry whose event is a step of the machine: a vote or a free.
-use Rattle.std.specs.Prelude.{◌≡◌, ◌≢◌, ℕ, ◌+◌, ◌<◌, Bool, true, false, IsTrue, cond, ◌&&◌, ◌==◌, List, [], ◌∷◌, ◌++◌, replicate, length, Some, None, slice_get}
+use Rattle.std.specs.Prelude.{◌≡◌, ℕ, ◌+◌, ◌<◌, Bool, true, false, IsTrue, cond, ◌&&◌, ◌==◌, List, [], ◌∷◌, ◌++◌, replicate, length, Some, None, slice_get}
 use Rattle.std.specs.Option.{option_and_then}
 use Rattle.std.specs.List.{list_any}
 use Rattle.std.proofs.Common.{refl, sym, ap, ◌∙◌, subst, arith, append_assoc, append-nil, length-append}
@@ -23,6 +23,7 @@ use Rattle.ro_core.specs.Core.{Job, Core, is_going, nothing_lent, is_out}
 use Rattle.ro_core.specs.Event.{Event, core_after}
 use Rattle.ro_core.specs.Ideal.{ideal}
 use Rattle.ro_core.specs.Sound.{IsSound}
+use Rattle.ro_vote.specs.Numbers.{is_among, AtMostHalf}
 use Rattle.ro_simulation.specs.Invariant.{Agrees, StandsAtCall, Holds}
 use Rattle.ro_simulation.proofs.Stays.{live-within}
 use Rattle.ro_simulation.proofs.Ahead.{KeepsRest, BackedRun-keeps, BackedRun-run}
@@ -82,8 +83,8 @@ pub record Meets (job : Job) (machine middle : Machine) (backed : Backed) (t : �
   pub comes : Comes job backed machine middle r t thread
   pub own_stop : (stop : Stop) → event.effect.releases ≡ false → thread.stop ≡ Some stop → standing (layout_of job.program) job.settings.watchdog r.backed r.memory thread.cpu 0 ≡ Some stop
 
-module _ (job : Job) (odd : ℕ) (journal : List Entry) (core : Core) (h : Holds job odd journal core) (going : h.machine.ended ≡ None) (no_lease : core.leases ≡ []) (t count : ℕ) (live : IsTrue (lives_on h.machine.kernel t)) (middle : Machine) (own : BackedRun job.program h.backed h.machine (replicate count t) middle) (event : Event) (after : Machine) (step : EventStep job h.backed h.machine middle t event after)
-    (entry : Entry) (plan_is : entry_plan entry ≡ replicate count t ++ replicate (event_steps event.did) t) (replicas : List Replica) (as_many : length replicas ≡ length core.replicas) (sound : (number : ℕ) (r : Replica) → slice_get replicas number ≡ Some r → IsSound job core h.backed number r) (odd' : ℕ) where
+module _ (job : Job) (odds : List ℕ) (journal : List Entry) (core : Core) (h : Holds job odds journal core) (going : h.machine.ended ≡ None) (no_lease : core.leases ≡ []) (t count : ℕ) (live : IsTrue (lives_on h.machine.kernel t)) (middle : Machine) (own : BackedRun job.program h.backed h.machine (replicate count t) middle) (event : Event) (after : Machine) (step : EventStep job h.backed h.machine middle t event after)
+    (entry : Entry) (plan_is : entry_plan entry ≡ replicate count t ++ replicate (event_steps event.did) t) (replicas : List Replica) (as_many : length replicas ≡ length core.replicas) (sound : (number : ℕ) (r : Replica) → slice_get replicas number ≡ Some r → IsSound job core h.backed number r) (odds' : List ℕ) (few' : AtMostHalf job.settings.replicas odds') where
   -- the thread's own steps keep the kernel
   kept : KeepsRest h.machine middle
   kept = BackedRun-keeps job.program h.backed own
@@ -121,7 +122,7 @@ module _ (job : Job) (odd : ℕ) (journal : List Entry) (core : Core) (h : Holds
       step.others_stand u call (λ (same : u ≡ t). true≢false (sym (eq-eqb u t same) ∙ e)) (h.blocked_stands u call f going) on
 
   -- the replicas that agree after the event
-  agrees_after : ((number : ℕ) (r : Replica) → number ≢ odd' → slice_get replicas number ≡ Some r → Meets job h.machine middle h.backed t event r) → after.ended ≡ None → (number : ℕ) (r : Replica) → number ≢ odd' → MappedFrom (λ x. cancelled (applied event.effect x)) replicas number r → Agrees job after r
+  agrees_after : ((number : ℕ) (r : Replica) → is_among odds' number ≡ false → slice_get replicas number ≡ Some r → Meets job h.machine middle h.backed t event r) → after.ended ≡ None → (number : ℕ) (r : Replica) → is_among odds' number ≡ false → MappedFrom (λ x. cancelled (applied event.effect x)) replicas number r → Agrees job after r
   agrees_after meets on number r d m =
       let k = meets number m.from d m.there in
       let s = sound number m.from m.there in
@@ -140,7 +141,7 @@ module _ (job : Job) (odd : ℕ) (journal : List Entry) (core : Core) (h : Holds
       omega arith
 
   -- the invariant after the entry
-  pub event-holds : ((number : ℕ) (r : Replica) → number ≢ odd' → slice_get replicas number ≡ Some r → Meets job h.machine middle h.backed t event r) → Holds job odd' (journal ++ entry ∷ []) (core_after core t count replicas event)
+  pub event-holds : ((number : ℕ) (r : Replica) → is_among odds' number ≡ false → slice_get replicas number ≡ Some r → Meets job h.machine middle h.backed t event r) → Holds job odds' (journal ++ entry ∷ []) (core_after core t count replicas event)
   event-holds meets = record {
     machine = after;
     ideal_is = ideal_after;
@@ -151,6 +152,7 @@ module _ (job : Job) (odd : ℕ) (journal : List Entry) (core : Core) (h : Holds
     ends_well = step.ends_well;
     not_ended = h.not_ended;
     as_many = step.as_many;
+    few = few';
     replica_count = length-mapped _ replicas ∙ (as_many ∙ h.replica_count);
     backed = backed_after event.effect h.backed;
     sound = λ number r e. sound_after number r (get-map _ replicas number r e);

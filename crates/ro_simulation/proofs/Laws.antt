@@ -1,13 +1,17 @@
 -- The laws beside the simulation theorem.
-use Rattle.std.specs.Prelude.{◌≡◌, ◌≢◌, ℕ, zero, suc, ◌<◌, List, [], ◌∷◌, ◌++◌, length, Some, None, slice_get}
+use Rattle.std.specs.Prelude.{◌≡◌, ◌≢◌, ◌⊎◌, ℕ, zero, suc, ◌<◌, ◌≤◌, Bool, true, false, ◌||◌, ◌==◌, IsTrue, List, [], ◌∷◌, ◌++◌, length, Some, None, slice_get}
 use Rattle.std.specs.Option.{option_and_then}
-use Rattle.std.proofs.Common.{refl, sym, ap, ◌∙◌, subst, arith}
-use Rattle.std.proofs.lemmas.Option.{option_and_then_some}
+use Rattle.std.proofs.Common.{refl, sym, ap, ◌∙◌, subst, arith, inl, inr}
+use Rattle.std.proofs.lemmas.Bool.{true≢false, eq-eqb, cases_lt}
+use Rattle.std.proofs.lemmas.Option.{option_and_then_some, slice_get_within}
 use Rattle.ro_journal.specs.declared.Did.{Did}
 use Rattle.ro_journal.specs.declared.How.{How}
 use Rattle.ro_journal.specs.declared.How.TheVariants.{Exit, Trap, Deadlock, Limit, Differ, NoMajority, Sink}
 use Rattle.ro_journal.specs.declared.Entry.{Entry}
 use Rattle.ro_journal.specs.declared.Entry.TheVariants.{Put, Vote}
+use Rattle.ro_journal.specs.declared.losers.Lost.{Lost}
+use Rattle.ro_journal.specs.declared.losers.Lost.TheVariants.{Nobody, One, Two}
+use Rattle.ro_journal.specs.Losers.{numbers}
 use Rattle.ro_journal.specs.Plan.{outcome_of}
 use Rattle.ro_faults.specs.declared.Fault.{Fault}
 use Rattle.ro_plain.specs.Machine.{Program, Machine, opening, step_by, next_of, steppable, step, run}
@@ -15,17 +19,22 @@ use Rattle.ro_plain.specs.Order.{RaceFree}
 use Rattle.ro_plain.proofs.Calls.{some-injective, steppable-parts, step-opens}
 use Rattle.ro_plain.proofs.Swap.{run-append}
 use Rattle.ro_core.specs.Core.{Job, Core, opening_core}
-use Rattle.ro_core.specs.Legal.{MayEnd, due, alone, for_vote, for_free, after, Legal, replay}
-use Rattle.ro_core.specs.Ideal.{IsAlike, StaysApart}
+use Rattle.ro_core.specs.Legal.{MayEnd, due, alone, for_vote, for_free, after, Legal, MayPut, replay}
+use Rattle.ro_core.specs.Ideal.{IsAlike, AllAlikeBut, StaysApart}
 use Rattle.ro_core.specs.Sound.{Listed, IsOver}
-use Rattle.ro_simulation.specs.Theorem.{Simulates, IsComplete, by_exit, by_trap, by_deadlock, WritesAsIdeal, AllOfOne, StaysAlone, NeverDiffers}
+use Rattle.ro_vote.specs.Numbers.{is_among, without}
+use Rattle.ro_vote.proofs.Places.{without-shorter, without-other, only, not-only, is-only}
+use Rattle.ro_vote.proofs.Copies.{neither}
+use Rattle.ro_simulation.specs.AtMostOne.{StrikesAlone}
+use Rattle.ro_simulation.specs.Theorem.{Simulates, IsComplete, by_exit, by_trap, by_deadlock, WritesAsIdeal, AllOfOne, NamesFew, StaysAlone, NeverDiffers}
 use Rattle.ro_simulation.proofs.Alike.{agrees-is-alike}
+use Rattle.ro_core.proofs.Ordered.{put-parts, ordered}
 use Rattle.ro_core.proofs.Sound.{HasFault}
 use Rattle.ro_simulation.proofs.Stays.{live-within}
 use Rattle.ro_simulation.proofs.Entries.{put-fault, put-going}
 use Rattle.ro_simulation.proofs.Ends.{never-differ}
 use Rattle.ro_simulation.proofs.Votes.{after-vote}
-use Rattle.ro_simulation.proofs.Journals.{outcome-ended, after-end-ended, Reached, Policy, Stage, goes_on, has_ended, Before, reach-before}
+use Rattle.ro_simulation.proofs.Journals.{outcome-ended, after-end-ended, Reached, Policy, Stage, goes_on, has_ended, Before, legal-split, reach-before}
 use Rattle.ro_simulation.proofs.Simulates.{stage}
 
 -- ---- the headline
@@ -49,32 +58,53 @@ writes-as-ideal job journal s = record {
   complete = λ how e whole. (s.written.all_left (λ bytes f. complete-no-sink how whole bytes (some-injective (sym e ∙ f))), s.ends_as how e);
 }
 
--- ---- one struck replica
+-- ---- few struck replicas
 
-module _ (job : Job) (journal : List Entry) (b : ℕ) (all : (fault : Fault) → Listed job.faults fault → fault.replica ≡ b) where
-  -- a fault that strikes is the one replica's
-  only-one : (replica : ℕ) → HasFault job replica → replica ≡ b
-  only-one replica f = sym f.1 ∙ all f.0 f.2
+module _ (job : Job) (journal : List Entry) (names : NamesFew job) where
+  -- a fault that strikes is one of the named replicas'
+  one-of-named : (replica : ℕ) → HasFault job replica → is_among names.named replica ≡ true
+  one-of-named replica f = ap (is_among names.named) (sym f.1) ∙ names.all f.0 f.2
 
-  -- the one replica is the odd one throughout
-  pub one-policy : Policy job (λ odd. odd ≡ b) journal
-  one-policy = record {
-    strikes = λ odd q before rest driver replica thread count hit whole core reached may some.
-        let same = only-one replica (put-fault job odd before core reached.holds driver replica thread count hit may some) in
-        (same, λ number r d e. reached.holds.others_agree (put-going job odd before core reached.holds driver replica thread count hit may).0 number r (λ (f : number ≡ odd). d (f ∙ (q ∙ sym same))) e);
+  -- the named replicas are the odd ones throughout
+  pub named-policy : Policy job (λ odds. odds ≡ names.named) journal
+  named-policy = record {
+    strikes = λ odds q before rest driver replica thread count hit whole core reached may some. record {
+      odds = names.named;
+      allows = refl;
+      few = names.few;
+      is_odd = one-of-named replica (put-fault job odds before core reached.holds driver replica thread count hit may some);
+      others = λ number r d e. reached.holds.others_agree (put-going job odds before core reached.holds driver replica thread count hit may).0 number r (ap (λ (l : List ℕ). is_among l number) q ∙ d) e;
+    };
   }
 
-  -- so faults stay apart
-  apart-by : RaceFree job.program → Legal job journal → StaysApart job journal
-  apart-by free legal before rest driver replica thread count hit whole some other r d there = at
-      (reach-before job free (λ odd. odd ≡ b) journal one-policy b refl legal before rest (Put driver replica thread count hit) whole)
+  -- where a fault strikes, all but the named replicas are alike
+  pub at-strike : RaceFree job.program → Legal job journal → (before rest : List Entry) (driver replica thread count hit : ℕ) →
+      journal ≡ before ++ Put driver replica thread count hit ∷ rest → 0 < hit → IsTrue (is_among names.named replica) × AllAlikeBut job before names.named
+  at-strike free legal before rest driver replica thread count hit whole some = at
+      (reach-before job free (λ odds. odds ≡ names.named) journal named-policy names.named names.few refl legal before rest (Put driver replica thread count hit) whole)
     where
-      at : Before job free (λ odd. odd ≡ b) journal one-policy before (Put driver replica thread count hit) → IsAlike job before r
+      at : Before job free (λ odds. odds ≡ names.named) journal named-policy before (Put driver replica thread count hit) → IsTrue (is_among names.named replica) × AllAlikeBut job before names.named
       at h =
-          let same = only-one replica (put-fault job h.odd before (replay job before) h.reached.holds driver replica thread count hit h.allowed some) in
-          let going = (put-going job h.odd before (replay job before) h.reached.holds driver replica thread count hit h.allowed).0 in
-          agrees-is-alike job before h.reached.holds.machine r h.reached.holds.ideal_is going
-          (h.reached.holds.others_agree going other r (λ (f : other ≡ h.odd). d (f ∙ (h.allows ∙ sym same))) there)
+          let going = (put-going job h.odds before (replay job before) h.reached.holds driver replica thread count hit h.allowed).0 in (
+            one-of-named replica (put-fault job h.odds before (replay job before) h.reached.holds driver replica thread count hit h.allowed some),
+            λ number r d there. agrees-is-alike job before h.reached.holds.machine r h.reached.holds.ideal_is going
+                (h.reached.holds.others_agree going number r (ap (λ (l : List ℕ). is_among l number) h.allows ∙ d) there),
+          )
+
+  -- so faults stay apart
+  pub few-struck-apart : RaceFree job.program → Legal job journal → StaysApart job journal
+  few-struck-apart free legal before rest driver replica thread count hit whole some =
+      let s = at-strike free legal before rest driver replica thread count hit whole some in
+      let short = without-shorter replica names.named s.0 in
+      record {
+        others = without replica names.named;
+        few = let f = names.few in omega arith;
+        alike = λ number r d there.
+            let p = neither (replica == number) (is_among (without replica names.named) number) d in
+            s.1 number r (without-other replica names.named number p.1 (λ e. true≢false (sym (eq-eqb replica number e) ∙ p.0))) there;
+      }
+
+-- ---- one struck replica
 
 -- the replica that a fault list names, if it names one
 named : List Fault → ℕ
@@ -87,56 +117,103 @@ unfolding named
 named-all [] one fault e = absurd (let f : None ≡ Some fault = e.1 in cc)
 named-all (first ∷ faults) one fault e = one fault first e (0, refl)
 
+-- one replica is at most half of two or more
+pub one-is-few : (job : Job) → 2 ≤ job.settings.replicas → AllOfOne job.faults → NamesFew job
+one-is-few job two one = record {
+  named = named job.faults ∷ [];
+  few = omega arith;
+  all = λ fault e. only (named job.faults) fault.replica (sym (named-all job.faults one fault e));
+}
+
 -- faults of one replica stay apart
-pub one-struck-apart : (job : Job) (journal : List Entry) → RaceFree job.program → AllOfOne job.faults → Legal job journal → StaysApart job journal
-one-struck-apart job journal free one legal = apart-by job journal (named job.faults) (named-all job.faults one) free legal
+pub one-struck-apart : (job : Job) (journal : List Entry) → 2 ≤ job.settings.replicas → RaceFree job.program → AllOfOne job.faults → Legal job journal → StaysApart job journal
+one-struck-apart job journal two free one legal = few-struck-apart job journal (one-is-few job two one) free legal
+
+-- a replica that is struck is there
+struck-there : (job : Job) (journal : List Entry) → Legal job journal → (before rest : List Entry) (driver replica thread count hit : ℕ) →
+    journal ≡ before ++ Put driver replica thread count hit ∷ rest → replica < length (replay job before).replicas
+struck-there job journal legal before rest driver replica thread count hit whole =
+    let parts = legal-split job (opening_core job) before (Put driver replica thread count hit ∷ rest) (subst (Legal job) whole legal) in
+    let may : MayPut job (replay job before) driver replica thread count hit = parts.1.0 in
+    let p = put-parts job (replay job before) replica thread count may.ran may.runs in
+    slice_get_within (replay job before).replicas replica p.lent p.there
+
+-- they strike it while every other is alike, however many replicas there are
+pub one-struck-alone : (job : Job) (journal : List Entry) → RaceFree job.program → AllOfOne job.faults → Legal job journal → StrikesAlone job journal
+unfolding one-is-few
+one-struck-alone job journal free one legal before rest driver replica thread count hit whole some other r d there = by (cases_lt job.settings.replicas 2)
+  where
+    by : (job.settings.replicas < 2) ⊎ (2 ≤ job.settings.replicas) → IsAlike job before r
+    by (inr two) =
+        let s = at-strike job journal (one-is-few job two one) free legal before rest driver replica thread count hit whole some in
+        let same = is-only (named job.faults) replica s.0 in
+        s.1 other r (not-only (named job.faults) other (λ e. d (sym e ∙ same))) there
+    by (inl few) =
+        let parts = legal-split job (opening_core job) before (Put driver replica thread count hit ∷ rest) (subst (Legal job) whole legal) in
+        let many = (ordered job before parts.0).replica_count in
+        let struck = struck-there job journal legal before rest driver replica thread count hit whole in
+        let within = slice_get_within (replay job before).replicas other r there in
+        absurd (d (let a : other ≡ 0 = omega arith in let b : replica ≡ 0 = omega arith in a ∙ sym b))
 
 -- ---- no fault
 
--- an empty list names whatever replica
-none-listed : (faults : List Fault) → faults ≡ [] → (b : ℕ) (fault : Fault) → Listed faults fault → fault.replica ≡ b
-none-listed faults none b fault e = absurd (let f : None ≡ Some fault = ap (λ (fs : List Fault). slice_get fs e.0) (sym none) ∙ e.1 in cc)
+-- an empty list has no fault
+nothing-listed : (job : Job) → job.faults ≡ [] → (fault : Fault) → Listed job.faults fault → ⊥
+nothing-listed job none fault e = let f : None ≡ Some fault = ap (λ (fs : List Fault). slice_get fs e.0) (sym none) ∙ e.1 in cc
+
+-- so it names no replica
+abbrev none-listed : (job : Job) → job.faults ≡ [] → NamesFew job
+none-listed job none = record {
+  named = [];
+  few = omega arith;
+  all = λ fault e. absurd (nothing-listed job none fault e);
+}
 
 module _ (job : Job) (journal : List Entry) (free : RaceFree job.program) (none : job.faults ≡ []) (legal : Legal job journal) where
-  -- a loser is any number, since any replica may be taken for the odd one
-  loser-is : (b : ℕ) (before rest : List Entry) (thread count won lost : ℕ) (did : Did) → journal ≡ before ++ Vote thread count won (Some lost) did ∷ rest → lost ≡ b
-  loser-is b before rest thread count won lost did whole = at
-      (reach-before job free (λ odd. odd ≡ b) journal (one-policy job journal b (none-listed job.faults none b)) b refl legal before rest (Vote thread count won (Some lost) did) whole)
+  -- no replica is odd, so none loses
+  no-loser : (before rest : List Entry) (thread count won : ℕ) (lost : Lost) (did : Did) → journal ≡ before ++ Vote thread count won lost did ∷ rest → lost ≡ Nobody
+  no-loser before rest thread count won lost did whole = at
+      (reach-before job free (λ odds. odds ≡ []) journal (named-policy job journal (none-listed job none)) [] (omega arith) refl legal before rest (Vote thread count won lost did) whole)
     where
-      at : Before job free (λ odd. odd ≡ b) journal (one-policy job journal b (none-listed job.faults none b)) before (Vote thread count won (Some lost) did) → lost ≡ b
-      at h = ((after-vote job free h.odd before (replay job before) h.reached.holds thread count won did (Some lost) h.allowed).loser_odd lost refl).0 ∙ h.allows
+      odd-none : (odds : List ℕ) → odds ≡ [] → (l : ℕ) → is_among odds l ≡ true → ⊥
+      odd-none odds e l odd = true≢false (sym odd ∙ ap (λ (o : List ℕ). is_among o l) e)
+
+      none-in : (odds : List ℕ) → odds ≡ [] → (lost : Lost) → ((l : ℕ) → is_among (numbers lost) l ≡ true → is_among odds l ≡ true) → lost ≡ Nobody
+      none-in odds e Nobody odd = refl
+      none-in odds e (One l) odd = absurd (odd-none odds e l (odd l (ap (λ (b : Bool). b || false) (eq-eqb l l refl))))
+      none-in odds e (Two l m) odd = absurd (odd-none odds e l (odd l (ap (λ (b : Bool). b || is_among (m ∷ []) l) (eq-eqb l l refl))))
+
+      at : Before job free (λ odds. odds ≡ []) journal (named-policy job journal (none-listed job none)) before (Vote thread count won lost did) → lost ≡ Nobody
+      at h = none-in h.odds h.allows lost (after-vote job free h.odds before (replay job before) h.reached.holds thread count won did lost h.allowed).losers_odd
 
   -- two replicas that both agree do not end by a difference
-  cannot-differ : (odd : ℕ) → odd ≡ 2 → (before : List Entry) (core : Core) → Reached job odd before core → MayEnd job core Differ → ⊥
-  cannot-differ odd two before core reached (due e) =
+  cannot-differ : (odds : List ℕ) → odds ≡ [] → (before : List Entry) (core : Core) → Reached job odds before core → MayEnd job core Differ → ⊥
+  cannot-differ odds even before core reached (due e) =
       over-differ (reached.holds.ends_well Differ (sym reached.holds.same_end ∙ e))
     where
       over-differ : IsOver Differ → ⊥
       over-differ h = elim h [ ]
-  cannot-differ odd two before core reached (alone e) = e
-  cannot-differ odd two before core reached (for_vote t may e) = never-differ job odd before core reached.holds free (omega arith) t may e.0 e.1
-  cannot-differ odd two before core reached (for_free t may e) = e
+  cannot-differ odds even before core reached (alone e) = e
+  cannot-differ odds even before core reached (for_vote t may e) = never-differ job odds before core reached.holds free even t may e.0 e.1
+  cannot-differ odds even before core reached (for_free t may e) = e
 
   -- without faults no journal ends by a difference
   no-differ : outcome_of journal ≢ Some Differ
-  no-differ e = by (stage job free (λ odd. odd ≡ 2) journal (one-policy job journal 2 (none-listed job.faults none 2)) 2 refl legal)
+  no-differ e = by (stage job free (λ odds. odds ≡ []) journal (named-policy job journal (none-listed job none)) [] (omega arith) refl legal)
     where
       ended : (replay job journal).ended ≡ Some Differ
       ended = outcome-ended job (opening_core job) journal Differ legal e
 
-      by : Stage job (λ odd. odd ≡ 2) journal (replay job journal) → ⊥
-      by (goes_on odd q reached) = let f : None ≡ Some Differ = sym reached.holds.not_ended ∙ ended in cc
-      by (has_ended before how odd last q same reached may last_is) =
+      by : Stage job (λ odds. odds ≡ []) journal (replay job journal) → ⊥
+      by (goes_on odds q reached) = let f : None ≡ Some Differ = sym reached.holds.not_ended ∙ ended in cc
+      by (has_ended before how odds last q same reached may last_is) =
           let how_is : how ≡ Differ = some-injective (sym (ap (λ (c : Core). c.ended) last_is ∙ after-end-ended job last how) ∙ ended) in
-          cannot-differ odd q before last reached (subst (MayEnd job last) how_is may)
+          cannot-differ odds q before last reached (subst (MayEnd job last) how_is may)
 
   -- no fault, no difference
   pub never-differs : NeverDiffers journal
   never-differs = record {
-    no_loser = λ before rest thread count won lost did whole.
-        let zero_is = loser-is 0 before rest thread count won lost did whole in
-        let one_is = loser-is 1 before rest thread count won lost did whole in
-        omega arith;
+    no_loser = no-loser;
     no_end = no-differ;
   }
 

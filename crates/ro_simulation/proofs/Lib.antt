@@ -7,7 +7,6 @@ pub mod Counts
 pub mod Put
 pub mod Effects
 pub mod Events
-pub mod Verdicts
 pub mod Steps
 pub mod Copies
 pub mod Kept
@@ -20,6 +19,7 @@ pub mod Alike
 pub mod Journals
 pub mod Simulates
 pub mod Laws
+pub mod AtMostOne
 pub mod RowsStruck
 pub mod Checks
 pub mod RowsThreads

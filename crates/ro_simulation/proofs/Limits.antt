@@ -1,5 +1,5 @@
 -- A limit stands only where an execution is longer than it; so a program whose executions are short enough comes to its end.
-use Rattle.std.specs.Prelude.{◌≡◌, ◌≢◌, ℕ, List, [], ◌∷◌, ◌++◌, length, replicate, Some, None}
+use Rattle.std.specs.Prelude.{◌≤◌, ◌≡◌, ◌≢◌, ℕ, List, [], ◌∷◌, ◌++◌, length, replicate, Some, None}
 use Rattle.std.proofs.Common.{refl, sym, ap, ◌∙◌, subst, arith, inl, inr, length-append}
 use Rattle.std.proofs.Math.ListN.{length-replicate}
 use Rattle.ro_journal.specs.declared.How.{How}
@@ -15,7 +15,7 @@ use Rattle.ro_core.specs.Legal.{MayEnd, due, alone, for_vote, for_free, Legal, r
 use Rattle.ro_core.specs.Ideal.{StaysApart}
 use Rattle.ro_core.specs.Sound.{IsOver}
 use Rattle.ro_simulation.specs.Invariant.{Holds}
-use Rattle.ro_simulation.specs.Theorem.{TwoOrThree, IsComplete, by_exit, by_trap, by_deadlock, PassedLimit, CannotDiffer, EndsComplete}
+use Rattle.ro_simulation.specs.Theorem.{TwoThreeOrFive, IsComplete, by_exit, by_trap, by_deadlock, PassedLimit, CannotDiffer, EndsComplete}
 use Rattle.ro_simulation.proofs.Kept.{plan-same}
 use Rattle.ro_simulation.proofs.Votes.{vote-parts, vote-runs}
 use Rattle.ro_simulation.proofs.Frees.{free-parts, free-runs}
@@ -31,14 +31,14 @@ no-over-differ h = elim h [ ]
 no-over-limit : (steps next : ℕ) → IsOver (Limit steps next) → ⊥
 no-over-limit steps next h = elim h [ ]
 
-module _ (job : Job) (free : RaceFree job.program) (odd : ℕ) (journal : List Entry) (core : Core) (h : Holds job odd journal core) where
+module _ (job : Job) (free : RaceFree job.program) (odds : List ℕ) (journal : List Entry) (core : Core) (h : Holds job odds journal core) where
   -- an end by a limit in a core that the invariant holds of
   passed : (steps next : ℕ) → MayEnd job core (Limit steps next) → PassedLimit job journal steps next
   passed steps next (due e) = absurd (no-over-limit steps next (h.ends_well (Limit steps next) (sym h.same_end ∙ e)))
   passed steps next (alone e) = absurd e
   passed steps next (for_vote t may e) = record {
     threads = replicate e.count t ++ replicate (event_steps e.event.did) t;
-    runs = vote-runs job free odd journal core h t (vote-parts core t may) e.won e.lost e.verdict e.count e.count_is e.event e.comes;
+    runs = vote-runs job free odds journal core h t (vote-parts core t may) e.won e.lost e.verdict e.count e.count_is e.event e.comes;
     steps_are = e.steps_are ∙ h.steps_are;
     next_is = (let a = length-append (replicate e.count t) (replicate (event_steps e.event.did) t) in
         let b = length-replicate e.count t in let c = length-replicate (event_steps e.event.did) t in let d = e.next_is in omega arith);
@@ -46,7 +46,7 @@ module _ (job : Job) (free : RaceFree job.program) (odd : ℕ) (journal : List E
   }
   passed steps next (for_free t may e) = record {
     threads = t ∷ [];
-    runs = free-runs job free odd journal core h t (free-parts job core t may);
+    runs = free-runs job free odds journal core h t (free-parts job core t may);
     steps_are = e.0 ∙ h.steps_are;
     next_is = e.1;
     above = e.2;
@@ -65,45 +65,50 @@ module _ (job : Job) (journal : List Entry) (free : RaceFree job.program) (legal
 
   -- the journal's last entry, where it ends so
   record EndsBy (how : How) : Type 0 where
-    pub odd : ℕ
+    pub odds : List ℕ
     pub before : List Entry
     pub last : Core
-    pub reached : Reached job odd before last
+    pub reached : Reached job odds before last
     pub may : MayEnd job last how
     pub same_plan : plan_of journal ≡ plan_of before
 
   -- the last entry of a journal that ends
   ends-by : (how : How) → outcome_of journal ≡ Some how → EndsBy how
-  ends-by how e = by (stage job free (λ odd. Unit {0}) journal (apart-policy job journal apart) 0 tt legal)
+  ends-by how e = by (stage job free (λ odds. Unit {0}) journal (apart-policy job journal apart) [] (omega arith) tt legal)
     where
       ended : (replay job journal).ended ≡ Some how
       ended = outcome-ended job (opening_core job) journal how legal e
 
-      by : Stage job (λ odd. Unit {0}) journal (replay job journal) → EndsBy how
-      by (goes_on odd q reached) = absurd (let f : None ≡ Some how = sym reached.holds.not_ended ∙ ended in cc)
-      by (has_ended before other odd last q same reached may last_is) =
+      by : Stage job (λ odds. Unit {0}) journal (replay job journal) → EndsBy how
+      by (goes_on odds q reached) = absurd (let f : None ≡ Some how = sym reached.holds.not_ended ∙ ended in cc)
+      by (has_ended before other odds last q same reached may last_is) =
           let how_is : other ≡ how = some-injective (sym (ap (λ (c : Core). c.ended) last_is ∙ after-end-ended job last other) ∙ ended) in
-          record { odd = odd; before = before; last = last; reached = reached; may = subst (MayEnd job last) how_is may; same_plan = ap plan_of same ∙ plan-same before (End other) refl }
+          record { odds = odds; before = before; last = last; reached = reached; may = subst (MayEnd job last) how_is may; same_plan = ap plan_of same ∙ plan-same before (End other) refl }
 
   -- a limit stands only where an execution is longer
   pub limit-passed : (steps next : ℕ) → outcome_of journal ≡ Some (Limit steps next) → PassedLimit job journal steps next
   limit-passed steps next e =
       let h = ends-by (Limit steps next) e in
-      same-passed h.before steps next h.same_plan (passed job free h.odd h.before h.last h.reached.holds steps next h.may)
+      same-passed h.before steps next h.same_plan (passed job free h.odds h.before h.last h.reached.holds steps next h.may)
 
   -- three replicas do not end by a difference
-  three-cannot : (core : Core) → job.settings.replicas ≡ 3 → length core.replicas ≡ job.settings.replicas → MayEnd job core Differ → (core.due ≡ Some Differ → ⊥) → ⊥
-  three-cannot core three count (due e) over = over e
-  three-cannot core three count (alone e) over = e
-  three-cannot core three count (for_vote t may e) over = let two = e.1 in omega arith
-  three-cannot core three count (for_free t may e) over = e
+  more-cannot : (core : Core) → 3 ≤ job.settings.replicas → length core.replicas ≡ job.settings.replicas → MayEnd job core Differ → (core.due ≡ Some Differ → ⊥) → ⊥
+  more-cannot core three count (due e) over = over e
+  more-cannot core three count (alone e) over = e
+  more-cannot core three count (for_vote t may e) over = let two = e.1 in omega arith
+  more-cannot core three count (for_free t may e) over = e
+
+  -- so neither three nor five end by a difference
+  no-differ-of : 3 ≤ job.settings.replicas → outcome_of journal ≡ Some Differ → ⊥
+  no-differ-of three e =
+      let h = ends-by Differ e in
+      more-cannot h.last three h.reached.holds.replica_count h.may (λ f. no-over-differ (h.reached.holds.ends_well Differ (sym h.reached.holds.same_end ∙ f)))
 
   -- the journal does not end by a difference
   no-differ : CannotDiffer job → outcome_of journal ≡ Some Differ → ⊥
-  no-differ (inl three) e =
-      let h = ends-by Differ e in
-      three-cannot h.last three h.reached.holds.replica_count h.may (λ f. no-over-differ (h.reached.holds.ends_well Differ (sym h.reached.holds.same_end ∙ f)))
-  no-differ (inr none) e = (never-differs job journal free none legal).no_end e
+  no-differ (inl three) e = no-differ-of (omega arith) e
+  no-differ (inr (inl five)) e = no-differ-of (omega arith) e
+  no-differ (inr (inr none)) e = (never-differs job journal free none legal).no_end e
 
   -- ---- a program whose executions are short enough
 
@@ -126,6 +131,6 @@ module _ (job : Job) (journal : List Entry) (free : RaceFree job.program) (legal
     by-how (Sink bytes) e sinks differs splits = absurd (sinks bytes refl)
 
     -- completeness
-    pub ends-complete : TwoOrThree job → EndsComplete journal
+    pub ends-complete : TwoThreeOrFive job → EndsComplete journal
     ends-complete count how e sinks =
         by-how how e sinks (no-differ cannot) (λ f. (simulates job journal free count legal apart).ends_as NoMajority f)

@@ -1,5 +1,5 @@
 -- The invariant at the opening.
-use Rattle.std.specs.Prelude.{◌≡◌, ℕ, zero, suc, ◌≤◌, ◌⊎◌, ◌==◌, [], ◌∷◌, length, Some, None, slice_get}
+use Rattle.std.specs.Prelude.{◌≡◌, ℕ, zero, suc, ◌≤◌, ◌⊎◌, ◌==◌, List, [], ◌∷◌, length, Some, None, slice_get}
 use Rattle.std.proofs.Common.{refl, sym, ap, ◌∙◌, subst, arith, inl, inr, length-append}
 use Rattle.std.proofs.lemmas.Bool.{false≢true, eqb-true}
 use Rattle.ro_image.specs.Image.{holds_file_byte}
@@ -10,6 +10,7 @@ use Rattle.ro_plain.specs.Machine.{opening, nothing_left}
 use Rattle.ro_plain.proofs.Calls.{some-injective}
 use Rattle.ro_core.specs.Core.{Job, Core, opening_replicas, opening_core}
 use Rattle.ro_core.specs.Sound.{IsSound}
+use Rattle.ro_vote.specs.Numbers.{AtMostHalf}
 use Rattle.ro_simulation.specs.Invariant.{Agrees, Holds}
 use Rattle.ro_core.proofs.Lists.{get-append-cases, listed-filter}
 
@@ -60,10 +61,11 @@ opening-agrees job number = record {
   };
 }
 
--- the invariant, whichever replica may be the odd one
-pub opening-holds : (job : Job) (odd : ℕ) → Holds job odd [] (opening_core job)
+-- the invariant, whichever replicas, at most half, may be odd
+pub opening-holds : (job : Job) (odds : List ℕ) → AtMostHalf job.settings.replicas odds → Holds job odds [] (opening_core job)
 unfolding opening_core opening
-opening-holds job odd = record {
+opening-holds job odds few = record {
+  few = few;
   machine = opening job.program;
   ideal_is = refl;
   same_kernel = refl;

@@ -1,8 +1,9 @@
 -- One struck register is covered by the simulation theorem; two replicas struck alike are not.
 use Rattle.std.specs.Prelude.{◌≡◌, ◌≢◌, ℕ, zero, suc, ◌≤◌, true, List, [], ◌∷◌, length, Option, Some, None, slice_get, slice_index}
 use Rattle.std.specs.Option.{option_map}
-use Rattle.std.proofs.Common.{refl, sym, ap, ◌∙◌, arith, inr}
+use Rattle.std.proofs.Common.{inl, refl, sym, ap, ◌∙◌, arith, inr}
 use Rattle.std.proofs.Math.Dec.{lit<, lit≤}
+use Rattle.ro_journal.specs.declared.losers.Lost.TheVariants.{One}
 use Rattle.ro_decode.specs.Table.{instruction_of}
 use Rattle.ro_event.specs.Table.{call_at}
 use Rattle.ro_region.specs.Permission.{permits_of}
@@ -35,6 +36,7 @@ use Rattle.ro_simulation.specs.Rows.{flip_a0, one_struck, two_struck, IsCovered}
 use Rattle.ro_simulation.proofs.Ahead.{BackedRun-run}
 use Rattle.ro_simulation.proofs.Simulates.{simulates}
 use Rattle.ro_simulation.proofs.Laws.{one-struck-apart, alone-race-free}
+use Rattle.ro_simulation.proofs.AtMostOne.{apart-before}
 use Rattle.ro_plain.proofs.Calls.{some-injective}
 
 -- ---- the guest makes no thread
@@ -110,7 +112,7 @@ no-sink bytes e = let f : Exit 7 ≡ Sink bytes = some-injective e in cc
 one-covered : Simulates (usual_job exit_guest (flip_a0 1 ∷ [])) one_struck → IsCovered (usual_job exit_guest (flip_a0 1 ∷ [])) one_struck (Exit 7) []
 one-covered s = record {
   legal = legal-one;
-  apart = one-struck-apart (usual_job exit_guest (flip_a0 1 ∷ [])) one_struck (alone-race-free exit_guest exit-alone) (only-one (flip_a0 1)) legal-one;
+  apart = one-struck-apart (usual_job exit_guest (flip_a0 1 ∷ [])) one_struck (omega arith) (alone-race-free exit_guest exit-alone) (only-one (flip_a0 1)) legal-one;
   simulates = s;
   ends = s.ends_as (Exit 7) refl;
   writes = sym (s.written.all_left no-sink) ∙ no-output;
@@ -118,8 +120,8 @@ one-covered s = record {
 
 -- the row of one struck register
 pub one-struck-covered : IsCovered (usual_job exit_guest (flip_a0 1 ∷ [])) one_struck (Exit 7) []
-one-struck-covered = one-covered (simulates (usual_job exit_guest (flip_a0 1 ∷ [])) one_struck (alone-race-free exit_guest exit-alone) (inr refl) legal-one
-    (one-struck-apart (usual_job exit_guest (flip_a0 1 ∷ [])) one_struck (alone-race-free exit_guest exit-alone) (only-one (flip_a0 1)) legal-one))
+one-struck-covered = one-covered (simulates (usual_job exit_guest (flip_a0 1 ∷ [])) one_struck (alone-race-free exit_guest exit-alone) (inr (inl refl)) legal-one
+    (one-struck-apart (usual_job exit_guest (flip_a0 1 ∷ [])) one_struck (omega arith) (alone-race-free exit_guest exit-alone) (only-one (flip_a0 1)) legal-one))
 
 -- ---- two replicas struck alike
 
@@ -186,4 +188,4 @@ six-not-alike r thread steps there six h =
 pub not-apart : StaysApart (usual_job exit_guest (flip_a0 0 ∷ flip_a0 1 ∷ [])) two_struck → ⊥
 unfolding opening opening_core opening_replica struck execute applied cancelled recovered verdict_of event_of after first_cpu made_cpu steppable step next fetch_stop instruction_stop instruction_of call_at permits_of alu_of meaning serve payload_of
 not-apart apart =
-    six-not-alike _ _ refl refl refl (apart first_part (Take 0 2 0 ∷ Put 0 2 0 2 0 ∷ Vote 0 2 0 (Some 2) Served ∷ End (Exit 6) ∷ []) 0 1 0 2 1 refl (lit< tt) 0 _ (λ (e : 0 ≡ 1). omega arith) refl)
+    six-not-alike _ _ refl refl refl (apart-before (usual_job exit_guest (flip_a0 0 ∷ flip_a0 1 ∷ [])) two_struck (lit< tt) apart first_part (Take 0 2 0 ∷ Put 0 2 0 2 0 ∷ Vote 0 2 0 (One 2) Served ∷ End (Exit 6) ∷ []) 0 1 0 2 1 refl (lit< tt) 0 _ (λ (e : 0 ≡ 1). omega arith) refl)

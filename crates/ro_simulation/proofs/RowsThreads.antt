@@ -1,6 +1,6 @@
 -- The two-thread guest that locks round its writes: the journal of one driver is covered.
 use Rattle.std.specs.Prelude.{◌≡◌, ℕ, true, List, [], ◌∷◌, Some, None}
-use Rattle.std.proofs.Common.{refl, sym, ◌∙◌, inr}
+use Rattle.std.proofs.Common.{inl, arith, refl, sym, ◌∙◌, inr}
 use Rattle.ro_decode.specs.Table.{instruction_of}
 use Rattle.ro_event.specs.Table.{call_at}
 use Rattle.ro_region.specs.Permission.{permits_of}
@@ -63,6 +63,6 @@ covered-by job journal output legal apart ends out s = record {
 pub locking-covered : RaceFree locking_guest → IsCovered (usual_job locking_guest []) (driven 200 (usual_job locking_guest [])) (Exit 0) (65 ∷ 66 ∷ [])
 locking-covered free =
     let legal : Legal (usual_job locking_guest []) (driven 200 (usual_job locking_guest [])) = legal-by-test (usual_job locking_guest []) (opening_core (usual_job locking_guest [])) (driven 200 (usual_job locking_guest [])) passes in
-    let apart : StaysApart (usual_job locking_guest []) (driven 200 (usual_job locking_guest [])) = one-struck-apart (usual_job locking_guest []) (driven 200 (usual_job locking_guest [])) free no-fault-listed legal in
+    let apart : StaysApart (usual_job locking_guest []) (driven 200 (usual_job locking_guest [])) = one-struck-apart (usual_job locking_guest []) (driven 200 (usual_job locking_guest [])) (omega arith) free no-fault-listed legal in
     covered-by (usual_job locking_guest []) (driven 200 (usual_job locking_guest [])) (65 ∷ 66 ∷ []) legal apart outcome writes
-    (simulates (usual_job locking_guest []) (driven 200 (usual_job locking_guest [])) free (inr refl) legal apart)
+    (simulates (usual_job locking_guest []) (driven 200 (usual_job locking_guest [])) free (inr (inl refl)) legal apart)

@@ -1,6 +1,6 @@
 -- The run that shows the weaker form of alike to be too weak.
 use Rattle.std.specs.Prelude.{◌≡◌, ◌≢◌, ℕ, zero, suc, List, [], ◌∷◌, Some, None, slice_get}
-use Rattle.std.proofs.Common.{refl, sym, ap, ◌∙◌, subst, inr}
+use Rattle.std.proofs.Common.{inl, refl, sym, ap, ◌∙◌, subst, inr}
 use Rattle.std.proofs.Math.Dec.{lit<, lit≤}
 use Rattle.ro_decode.specs.Table.{instruction_of}
 use Rattle.ro_event.specs.Table.{call_at}
@@ -119,4 +119,4 @@ loading-free = alone-race-free loading_guest loading-alone
 
 -- with alike as it is faults do not stay apart there
 pub slipped-not-apart : StaysApart (usual_job loading_guest slipping) slipped → ⊥
-slipped-not-apart apart = (simulates (usual_job loading_guest slipping) slipped loading-free (inr refl) slipped-legal apart).ends_as NoMajority refl
+slipped-not-apart apart = (simulates (usual_job loading_guest slipping) slipped loading-free (inr (inl refl)) slipped-legal apart).ends_as NoMajority refl

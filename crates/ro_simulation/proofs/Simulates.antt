@@ -1,5 +1,5 @@
 -- The simulation theorem, from the invariant along the journal.
-use Rattle.std.specs.Prelude.{◌≡◌, ◌≢◌, ℕ, suc, ◌+◌, ◌-◌, IsTrue, List, [], ◌∷◌, ◌++◌, length, drop, Some, None, slice_get}
+use Rattle.std.specs.Prelude.{◌≡◌, ◌≢◌, ℕ, Bool, false, ◌||◌, ◌+◌, ◌-◌, IsTrue, List, [], ◌∷◌, ◌++◌, length, drop, Some, None, slice_get}
 use Rattle.std.proofs.Common.{refl, sym, ap, ◌∙◌, subst, arith, append-nil}
 use Rattle.std.proofs.lemmas.List.{take-append-drop}
 use Rattle.ro_journal.specs.declared.How.{How}
@@ -14,13 +14,17 @@ use Rattle.ro_plain.specs.Order.{RaceFree}
 use Rattle.ro_plain.proofs.Calls.{some-injective}
 use Rattle.ro_core.specs.Core.{Job, Core, opening_core}
 use Rattle.ro_core.specs.Legal.{cut_output, after, MayVote, MayEnd, Legal, replay, output_of}
-use Rattle.ro_core.specs.Ideal.{ideal, StaysApart}
-use Rattle.ro_simulation.specs.Invariant.{Holds}
-use Rattle.ro_simulation.specs.Theorem.{payloads_of, IsFront, AtMostOneDiffers, HaveEqualViews, HaveEqualPages, CopiesWell, EachCopiesWell, EndsAs, Simulates, TwoOrThree}
+use Rattle.ro_core.specs.Ideal.{ideal, IsAlike, StaysApart}
+use Rattle.ro_vote.specs.Numbers.{is_among, without, AtMostHalf}
+use Rattle.ro_journal.specs.Losers.{numbers}
+use Rattle.ro_vote.proofs.Places.{without-itself}
+use Rattle.std.proofs.lemmas.Bool.{eq-eqb}
+use Rattle.ro_simulation.specs.Invariant.{Agrees, Holds}
+use Rattle.ro_simulation.specs.Theorem.{payloads_of, IsFront, FewDiffer, GoesOn, AlikeAt, HaveEqualViews, HaveEqualPages, CopiesWell, EachCopiesWell, EndsAs, Simulates, TwoThreeOrFive}
 use Rattle.ro_simulation.proofs.Alike.{agrees-is-alike, alike-agrees}
 use Rattle.ro_simulation.proofs.Views.{arrives, equal-views}
 use Rattle.ro_simulation.proofs.Kept.{ideal-same}
-use Rattle.ro_simulation.proofs.Votes.{stopped-in, vote-parts, after-vote}
+use Rattle.ro_simulation.proofs.Votes.{stopped-in, vote-parts, AfterVote, after-vote}
 use Rattle.ro_simulation.proofs.Ends.{end-as}
 use Rattle.ro_simulation.proofs.Journals.{replay-append, payloads-append, outcome-ended, ended-outcome, after-end-ended, Reached, opening-reached, Policy, Stage, goes_on, has_ended, reach, reach-before}
 
@@ -32,7 +36,7 @@ pub record SameState (job : Job) (journal before : List Entry) (core : Core) : T
   pub same_replicas : (replay job journal).replicas ≡ core.replicas
   pub same_kernel : (replay job journal).kernel ≡ core.kernel
 
-module _ (job : Job) (free : RaceFree job.program) (odd : ℕ) (journal before : List Entry) (core : Core) (h : Holds job odd before core) (s : SameState job journal before core) where
+module _ (job : Job) (free : RaceFree job.program) (odds : List ℕ) (journal before : List Entry) (core : Core) (h : Holds job odds before core) (s : SameState job journal before core) where
   -- the ideal machine
   ideal_is : ideal job journal ≡ Some h.machine
   ideal_is = s.same_ideal ∙ h.ideal_is
@@ -41,10 +45,11 @@ module _ (job : Job) (free : RaceFree job.program) (odd : ℕ) (journal before :
   there-too : (number : ℕ) (r : Replica) → slice_get (replay job journal).replicas number ≡ Some r → slice_get core.replicas number ≡ Some r
   there-too number r e = ap (λ (rs : List Replica). slice_get rs number) (sym s.same_replicas) ∙ e
 
-  -- at most one replica differs
-  pub at-most-one : h.machine.ended ≡ None → AtMostOneDiffers job journal
-  at-most-one on = record {
-    odd = odd;
+  -- at most half of the replicas differ
+  pub few-differ : h.machine.ended ≡ None → FewDiffer job journal
+  few-differ on = record {
+    odds = odds;
+    few = h.few;
     others_alike = λ number r d e. agrees-is-alike job journal h.machine r ideal_is on (h.others_agree on number r d (there-too number r e));
   }
 
@@ -71,49 +76,64 @@ module _ (job : Job) (free : RaceFree job.program) (odd : ℕ) (journal before :
 -- ---- faults stay apart
 
 -- the others are alike where faults are struck
-pub apart-policy : (job : Job) (journal : List Entry) → StaysApart job journal → Policy job (λ odd. Unit {0}) journal
+pub apart-policy : (job : Job) (journal : List Entry) → StaysApart job journal → Policy job (λ odds. Unit {0}) journal
 apart-policy job journal apart = record {
-  strikes = λ odd q before rest driver replica thread count hit whole core reached may some. (
-    tt,
-    λ number r d e.
-        alike-agrees job before reached.holds.machine r reached.holds.ideal_is
-        (apart before rest driver replica thread count hit whole some number r d (ap (λ (c : Core). slice_get c.replicas number) reached.is_replay ∙ e)),
-  );
+  strikes = λ odds q before rest driver replica thread count hit whole core reached may some.
+      let s = apart before rest driver replica thread count hit whole some in
+      record {
+        odds = replica ∷ s.others;
+        allows = tt;
+        few = s.few;
+        is_odd = ap (λ (b : Bool). b || is_among s.others replica) (eq-eqb replica replica refl);
+        others = λ number r d e. alike-agrees job before reached.holds.machine r reached.holds.ideal_is (s.alike number r d (ap (λ (c : Core). slice_get c.replicas number) reached.is_replay ∙ e));
+      };
 }
 
-module _ (job : Job) (free : RaceFree job.program) (Q : ℕ → Type 0) (journal : List Entry) (policy : Policy job Q journal) (start : ℕ) (start_allowed : Q start) (legal : Legal job journal) where
+module _ (job : Job) (free : RaceFree job.program) (Q : List ℕ → Type 0) (journal : List Entry) (policy : Policy job Q journal) (start : List ℕ) (start_few : AtMostHalf job.settings.replicas start) (start_allowed : Q start) (legal : Legal job journal) where
   -- where the journal stands
   pub stage : Stage job Q journal (replay job journal)
-  stage = reach job free Q journal policy start start_allowed [] journal [] (opening_core job) (sym (append-nil journal)) (opening-reached job start) legal
+  stage = reach job free Q journal policy start start_allowed [] journal [] (opening_core job) (sym (append-nil journal)) (opening-reached job start start_few) legal
 
   -- each copy is good
   pub copies-well : EachCopiesWell job journal
   copies-well before rest thread count won lost did whole =
-      let b = reach-before job free Q journal policy start start_allowed legal before rest (Vote thread count won (Some lost) did) whole in
-      by b.odd b.reached b.allowed
+      let b = reach-before job free Q journal policy start start_few start_allowed legal before rest (Vote thread count won lost did) whole in
+      by b.odds b.reached b.allowed
     where
-      by : (odd : ℕ) (reached : Reached job odd before (replay job before)) → MayVote job (replay job before) thread count won (Some lost) did → CopiesWell job before (Vote thread count won (Some lost) did) won
-      by odd reached may =
-          let voted = after-vote job free odd before (replay job before) reached.holds thread count won did (Some lost) may in
-          let going : reached.holds.machine.ended ≡ None = sym reached.holds.same_end ∙ (vote-parts (replay job before) thread may.may).going.not_due in
-          record {
-            winner_alike = λ winner there. agrees-is-alike job before reached.holds.machine winner reached.holds.ideal_is going (reached.holds.others_agree going won winner (voted.loser_odd lost refl).1 there);
-            then_all = λ machine e on number r there.
-                let all = voted.then_all lost refl (suc number) in
-                let same : machine ≡ all.machine = some-injective (sym e ∙ all.ideal_is) in
-                let on_all : all.machine.ended ≡ None = ap (λ (m : Machine). m.ended) (sym same) ∙ on in
-                agrees-is-alike job (before ++ Vote thread count won (Some lost) did ∷ []) all.machine r all.ideal_is on_all
-                (all.others_agree on_all number r (λ (f : number ≡ suc number). omega arith)
-                (ap (λ (c : Core). slice_get c.replicas number) (sym (replay-append job (opening_core job) before (Vote thread count won (Some lost) did ∷ []))) ∙ there));
-          }
+      by : (odds : List ℕ) (reached : Reached job odds before (replay job before)) → MayVote job (replay job before) thread count won lost did → CopiesWell job before (Vote thread count won lost did) won (numbers lost)
+      by odds reached may = record {
+        losers_differed = λ l r k there alike. voted.losers_differ l r k there (agreed r alike);
+        stay_alike = λ on number r there alike. alike-after (without number odds) (voted.stays number r there (agreed r alike)) on number (without-itself number odds);
+        heals = λ on winner there alike l k. alike-after (without l odds) (voted.heals winner there (agreed winner alike) l k) on l (without-itself l odds);
+        winner_alike = λ many winner there. agrees-is-alike job before reached.holds.machine winner reached.holds.ideal_is going (reached.holds.others_agree going won winner (voted.winner_even (let n = reached.holds.replica_count in omega arith)) there);
+        then_all = λ many on number. alike-after [] (voted.then_all (let n = reached.holds.replica_count in omega arith)) on number refl;
+      }
+        where
+          voted : AfterVote job odds before (replay job before) reached.holds.machine thread count won lost did
+          voted = after-vote job free odds before (replay job before) reached.holds thread count won did lost may
+
+          going : reached.holds.machine.ended ≡ None
+          going = sym reached.holds.same_end ∙ (vote-parts (replay job before) thread may.may).going.not_due
+
+          agreed : (r : Replica) → IsAlike job before r → Agrees job reached.holds.machine r
+          agreed r alike = alike-agrees job before reached.holds.machine r reached.holds.ideal_is alike
+
+          alike-after : (odds' : List ℕ) → Holds job odds' (before ++ Vote thread count won lost did ∷ []) (after job (replay job before) (Vote thread count won lost did)) → GoesOn job (before ++ Vote thread count won lost did ∷ [])
+              → (number : ℕ) → is_among odds' number ≡ false → AlikeAt job (before ++ Vote thread count won lost did ∷ []) number
+          alike-after odds' all on number d r there =
+              let same : on.0 ≡ all.machine = some-injective (sym on.1 ∙ all.ideal_is) in
+              let on_all : all.machine.ended ≡ None = ap (λ (m : Machine). m.ended) (sym same) ∙ on.2 in
+              agrees-is-alike job (before ++ Vote thread count won lost did ∷ []) all.machine r all.ideal_is on_all
+              (all.others_agree on_all number r d
+              (ap (λ (c : Core). slice_get c.replicas number) (sym (replay-append job (opening_core job) before (Vote thread count won lost did ∷ []))) ∙ there))
 
   -- the opening has not ended
   opening_not_ended : (opening_core job).ended ≡ None
-  opening_not_ended = (opening-reached job start).holds.not_ended
+  opening_not_ended = (opening-reached job start start_few).holds.not_ended
 
   -- ---- a journal that goes on
 
-  module _ (odd : ℕ) (reached : Reached job odd journal (replay job journal)) where
+  module _ (odds : List ℕ) (reached : Reached job odds journal (replay job journal)) where
     -- a journal that goes on leaves its own state
     same_state : SameState job journal journal (replay job journal)
     same_state = record { same_ideal = refl; same_replicas = refl; same_kernel = refl }
@@ -129,16 +149,16 @@ module _ (job : Job) (free : RaceFree job.program) (Q : ℕ → Type 0) (journal
         front = ([], sym reached.holds.same_output ∙ sym (append-nil (output_of job journal)));
         all_left = λ h. reached.holds.same_output;
       };
-      at_most_one = at-most-one job free odd journal journal (replay job journal) reached.holds same_state;
-      equal_views = equal-views-of job free odd journal journal (replay job journal) reached.holds same_state;
-      equal_pages = equal-pages job free odd journal journal (replay job journal) reached.holds same_state;
+      few_differ = few-differ job free odds journal journal (replay job journal) reached.holds same_state;
+      equal_views = equal-views-of job free odds journal journal (replay job journal) reached.holds same_state;
+      equal_pages = equal-pages job free odds journal journal (replay job journal) reached.holds same_state;
       copies = copies-well;
       ends_as = λ how e. absurd (let f : None ≡ Some how = sym reached.holds.not_ended ∙ outcome-ended job (opening_core job) journal how legal e in cc);
     }
 
   -- ---- a journal that has ended
 
-  module _ (count : TwoOrThree job) (before : List Entry) (how : How) (odd : ℕ) (last : Core) (same : journal ≡ before ++ End how ∷ []) (reached : Reached job odd before last) (may : MayEnd job last how) (last_is : replay job journal ≡ after job last (End how)) where
+  module _ (count : TwoThreeOrFive job) (before : List Entry) (how : How) (odds : List ℕ) (last : Core) (same : journal ≡ before ++ End how ∷ []) (reached : Reached job odds before last) (may : MayEnd job last how) (last_is : replay job journal ≡ after job last (End how)) where
     -- how the core ended
     ended_is : (replay job journal).ended ≡ Some how
     ended_is = ap (λ (c : Core). c.ended) last_is ∙ after-end-ended job last how
@@ -199,21 +219,21 @@ module _ (job : Job) (free : RaceFree job.program) (Q : ℕ → Type 0) (journal
         front = subst (λ (o : List ℕ). IsFront o reached.holds.machine.output) (sym output_is) (subst (IsFront (cut_output last how)) reached.holds.same_output (cut-front how));
         all_left = λ none. output_is ∙ (cut-whole how refl none ∙ reached.holds.same_output);
       };
-      at_most_one = at-most-one job free odd journal before last reached.holds ended_state;
-      equal_views = equal-views-of job free odd journal before last reached.holds ended_state;
-      equal_pages = equal-pages job free odd journal before last reached.holds ended_state;
+      few_differ = few-differ job free odds journal before last reached.holds ended_state;
+      equal_views = equal-views-of job free odds journal before last reached.holds ended_state;
+      equal_pages = equal-pages job free odds journal before last reached.holds ended_state;
       copies = copies-well;
-      ends_as = λ other e. subst (EndsAs job.program reached.holds.machine) (some-injective (sym outcome_is ∙ e)) (end-as job odd before last reached.holds free count how may);
+      ends_as = λ other e. subst (EndsAs job.program reached.holds.machine) (some-injective (sym outcome_is ∙ e)) (end-as job odds before last reached.holds free count how may);
     }
 
   -- the theorem under a policy
-  pub simulates-with : TwoOrThree job → Simulates job journal
+  pub simulates-with : TwoThreeOrFive job → Simulates job journal
   simulates-with count = by stage
     where
       by : Stage job Q journal (replay job journal) → Simulates job journal
-      by (goes_on odd q reached) = goes-on-simulates odd reached
-      by (has_ended before how odd last q same reached may last_is) = ended-simulates count before how odd last same reached may last_is
+      by (goes_on odds q reached) = goes-on-simulates odds reached
+      by (has_ended before how odds last q same reached may last_is) = ended-simulates count before how odds last same reached may last_is
 
 -- the simulation theorem
-pub simulates : (job : Job) (journal : List Entry) → RaceFree job.program → TwoOrThree job → Legal job journal → StaysApart job journal → Simulates job journal
-simulates job journal free count legal apart = simulates-with job free (λ odd. Unit {0}) journal (apart-policy job journal apart) 0 tt legal count
+pub simulates : (job : Job) (journal : List Entry) → RaceFree job.program → TwoThreeOrFive job → Legal job journal → StaysApart job journal → Simulates job journal
+simulates job journal free count legal apart = simulates-with job free (λ odds. Unit {0}) journal (apart-policy job journal apart) [] (omega arith) tt legal count

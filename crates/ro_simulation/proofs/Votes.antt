@@ -1,8 +1,8 @@
 -- A vote that is allowed: the replicas that agree stand at one stop of the machine, and the winner's view is that of the machine.
-use Rattle.std.specs.Prelude.{◌≡◌, ◌≢◌, ℕ, ◌≤◌, Bool, true, false, IsTrue, ◌==◌, List, [], ◌∷◌, ◌++◌, replicate, length, Option, Some, None, is_some, slice_get}
+use Rattle.std.specs.Prelude.{◌≡◌, ◌≢◌, ℕ, suc, ◌+◌, ◌*◌, ◌<◌, ◌≤◌, ◌⊎◌, Bool, true, false, IsTrue, ◌==◌, List, [], ◌∷◌, ◌++◌, replicate, length, Option, Some, None, is_some, slice_get}
 use Rattle.std.specs.Option.{option_map, option_and_then}
 use Rattle.std.specs.List.{list_all}
-use Rattle.std.proofs.Common.{refl, sym, ap, ap₂, ◌∙◌, subst, arith, inl, inr, ⊎_elim}
+use Rattle.std.proofs.Common.{refl, sym, ap, ap₂, ◌∙◌, subst, arith, inl, inr}
 use Rattle.std.proofs.lemmas.Bool.{true≢false, false≢true, eq-eqb, and_parts, cases_eq}
 use Rattle.std.proofs.lemmas.Option.{slice_get_within}
 use Rattle.ro_event.specs.declared.stops.Stop.{Stop}
@@ -32,8 +32,13 @@ use Rattle.ro_simulation.specs.Invariant.{Agrees, Holds}
 use Rattle.ro_core.proofs.Lists.{get-within, get-filter-map, length-filter-map, get-all, all-from}
 use Rattle.ro_simulation.proofs.Views.{Comes, Arrives, arrives, SameArrival, same-arrival, machine_view, next-at-middle, view-is, standing_by, stands-next, not-equal}
 use Rattle.ro_simulation.proofs.Ahead.{KeepsRest, BackedRun-keeps, BackedRun-run}
-use Rattle.ro_simulation.proofs.Verdicts.{AllBut, WonWell, won-well, won-some}
-use Rattle.ro_core.proofs.Copies.{copied-there, sound-recovered, AfterCopy, not_lost, is_copy, after-copy, length-with-copy}
+use Rattle.ro_journal.specs.declared.losers.Lost.{Lost}
+use Rattle.ro_journal.specs.Losers.{numbers}
+use Rattle.ro_vote.specs.Numbers.{is_among, without, AtMostHalf}
+use Rattle.ro_vote.proofs.Places.{some-outside, without-longer, without-other}
+use Rattle.ro_vote.proofs.Verdicts.{won-by, AllBut, WonWell, won-well, all-odd-lost}
+use Rattle.ro_vote.proofs.Copies.{Distinct, losers-distinct, AfterCopies, not_lost, is_copy, after-copies}
+use Rattle.ro_core.proofs.Copies.{copied-there, sound-recovered, length-with-copy}
 use Rattle.ro_simulation.proofs.Copies.{agrees-recovered}
 use Rattle.ro_simulation.proofs.Steps.{HasEvent, step-of-stop}
 use Rattle.ro_simulation.proofs.Kept.{Going, going-from, none-lent, Meets, event-holds}
@@ -96,7 +101,7 @@ vote-parts core t h =
     let a = and_parts _ _ h in let b = and_parts _ _ a.0 in let c = and_parts _ _ b.0 in let d = and_parts _ _ c.0 in
     record { going = going-from core d.0; no_lease = none-lent core d.1; live = c.1; stopped = a.1 }
 
-module _ (job : Job) (free : RaceFree job.program) (odd : ℕ) (journal : List Entry) (core : Core) (h : Holds job odd journal core) (t : ℕ) (parts : VoteParts core t) where
+module _ (job : Job) (free : RaceFree job.program) (odds : List ℕ) (journal : List Entry) (core : Core) (h : Holds job odds journal core) (t : ℕ) (parts : VoteParts core t) where
   -- the program goes on at a vote
   going : h.machine.ended ≡ None
   going = sym h.same_end ∙ parts.going.not_due
@@ -123,19 +128,18 @@ module _ (job : Job) (free : RaceFree job.program) (odd : ℕ) (journal : List E
     pub within : thread.since ≤ job.settings.watchdog
 
   -- any replica that agrees shows it
-  pub good-from : (number : ℕ) (r : Replica) → slice_get core.replicas number ≡ Some r → number ≢ odd → GoodStop
+  pub good-from : (number : ℕ) (r : Replica) → slice_get core.replicas number ≡ Some r → is_among odds number ≡ false → GoodStop
   good-from number r e d =
       let s = stops-at number r e in
       let sound = h.sound number r e in
       record { replica = r; thread = s.thread; stop = s.stop; arrival = arrives-at r (h.others_agree going number r d e) sound.same_backed s; within = sound.within_watch t s.thread s.there }
 
-  -- with two or more replicas there is one
-  pub some-good : 2 ≤ length core.replicas → GoodStop
-  some-good two =
-      let first = get-within core.replicas 0 (omega arith) in
-      let second = get-within core.replicas 1 (omega arith) in
-      ⊎_elim (λ (d : 0 ≢ odd). good-from 0 first.0 first.1 d) (λ (d : 1 ≢ odd). good-from 1 second.0 second.1 d)
-      (⊎_elim (λ (e : 0 ≡ odd). inr (λ (f : 1 ≡ odd). omega arith)) (λ (d : 0 ≢ odd). inl d) (cases_eq 0 odd))
+  -- with one or more replicas there is one, since at most half are odd
+  pub some-good : 1 ≤ length core.replicas → GoodStop
+  some-good one =
+      let o = some-outside odds core.replicas (let n = h.replica_count in let f = h.few in omega arith) in
+      let z : 0 + o.place ≡ o.place = omega arith in
+      good-from o.place o.element o.there (sym (ap (is_among odds) z) ∙ o.outside)
 
   -- one view for each replica
   views-as-long : length (views_of job core t) ≡ length core.replicas
@@ -150,6 +154,10 @@ module _ (job : Job) (free : RaceFree job.program) (odd : ℕ) (journal : List E
   -- as many views as replicas
   pub as-many-views : length (views_of job core t) ≡ length core.replicas
   as-many-views = views-as-long
+
+  -- at most half of the views are those of odd replicas
+  pub few-views : AtMostHalf (length (views_of job core t)) odds
+  few-views = let n = views-as-long in let m = h.replica_count in let f = h.few in omega arith
 
   module _ (good : GoodStop) where
     -- the view that it gives
@@ -167,8 +175,8 @@ module _ (job : Job) (free : RaceFree job.program) (odd : ℕ) (journal : List E
         view-is job free (plan_of journal) h.machine h.ideal_is h.backed r t s.thread s.stop (arrives-at r agree same s) s.there s.stopped
         ∙ (λ i. Some (machine_view job.program.image.ranges (k.same_middle i) (k.same_cpu i) (k.same_since i) (k.same_stop i)))
 
-    -- each replica but the odd one has it
-    pub all-but-odd : AllBut odd good_view (views_of job core t)
+    -- each replica but the odd ones has it
+    pub all-but-odd : AllBut odds good_view (views_of job core t)
     all-but-odd = record {
       others = λ i v d e.
           let short = slice_get_within (views_of job core t) i v e in
@@ -274,11 +282,21 @@ module _ (job : Job) (free : RaceFree job.program) (odd : ℕ) (journal : List E
           own_stop = stands-at-zero r f.agree f.stopped f.low k.same_stop;
         }
 
-    -- a replica that is not the odd one fits
-    fits-as-it-is : (number : ℕ) (r : Replica) → number ≢ odd → slice_get core.replicas number ≡ Some r → Fits r
-    fits-as-it-is number r d e =
+    -- a replica that agrees fits
+    fits-of : (number : ℕ) (r : Replica) → Agrees job h.machine r → slice_get core.replicas number ≡ Some r → Fits r
+    fits-of number r agree e =
         let sound = h.sound number r e in let s = stops-at number r e in
-        record { agree = h.others_agree going number r d e; same = sound.same_backed; stopped = s; low = sound.within_watch t s.thread s.there }
+        record { agree = agree; same = sound.same_backed; stopped = s; low = sound.within_watch t s.thread s.there }
+
+    -- a replica that is not odd fits
+    fits-as-it-is : (number : ℕ) (r : Replica) → is_among odds number ≡ false → slice_get core.replicas number ≡ Some r → Fits r
+    fits-as-it-is number r d e = fits-of number r (h.others_agree going number r d e) e
+
+    -- a replica that agrees has the good view
+    shows-good : (number : ℕ) (r : Replica) → Agrees job h.machine r → slice_get core.replicas number ≡ Some r → slice_get (views_of job core t) number ≡ Some good_view
+    shows-good number r agree e =
+        let f = fits-of number r agree e in
+        view-at number r e ∙ good-view-of r agree f.same f.stopped f.low
 
     -- a copy of one that fits fits
     fits-copied : (winner loser : Replica) → length winner.threads ≡ length loser.threads → Fits winner → Fits (recovered winner loser)
@@ -292,27 +310,83 @@ module _ (job : Job) (free : RaceFree job.program) (odd : ℕ) (journal : List E
           low = f.low;
         }
 
-    module _ (won : ℕ) where
-      -- what holds of every replica after the copy
-      sound-with-copy : (lost : Option ℕ) (winner : Replica) → slice_get core.replicas won ≡ Some winner → (number : ℕ) (r : Replica) → slice_get (with_recovered won lost core.replicas) number ≡ Some r → IsSound job core h.backed number r
-      sound-with-copy None winner there number r e = h.sound number r e
-      sound-with-copy (Some lost) winner there number r e = by (after-copy won lost core.replicas winner number r there e)
+    module _ (won : ℕ) (lost : Lost) (well : WonWell odds good_view (views_of job core t) won (numbers lost)) (verdict : verdict_of (views_of job core t) ≡ Won won (numbers lost)) where
+      -- no replica loses twice
+      distinct : Distinct (numbers lost)
+      distinct = let w = won-by (views_of job core t) won (numbers lost) verdict in subst Distinct w.losers (losers-distinct w.view 0 (views_of job core t))
+
+      -- each loser is there
+      loser-there : (l : ℕ) → is_among (numbers lost) l ≡ true → (r : Replica) × (slice_get core.replicas l ≡ Some r)
+      loser-there l e =
+          let d = well.losers_differ l e in
+          let short = slice_get_within (views_of job core t) l d.0 d.1 in
+          get-within core.replicas l (let n = views-as-long in omega arith)
+
+      -- a replica that agrees does not lose
+      agrees-stays : (number : ℕ) (r : Replica) → Agrees job h.machine r → slice_get core.replicas number ≡ Some r → is_among (numbers lost) number ≡ true → ⊥
+      agrees-stays number r agree e l = let d = well.losers_differ number l in d.2 (some-injective (sym d.1 ∙ shows-good number r agree e))
+
+      -- a replica after the copies
+      copied : (number : ℕ) (r : Replica) → slice_get (with_recovered won (numbers lost) core.replicas) number ≡ Some r → AfterCopies recovered won (numbers lost) core.replicas number r
+      copied number r e =
+          after-copies recovered won (numbers lost) core.replicas (winner-shows won well.winner).winner distinct well.winner_stays (winner-shows won well.winner).winner_there loser-there number r e
+
+      -- what holds of every replica after the copies
+      sound-with-copy : (number : ℕ) (r : Replica) → slice_get (with_recovered won (numbers lost) core.replicas) number ≡ Some r → IsSound job core h.backed number r
+      sound-with-copy number r e = by (copied number r e)
         where
-          by : AfterCopy won lost core.replicas number r → IsSound job core h.backed number r
+          by : AfterCopies recovered won (numbers lost) core.replicas number r → IsSound job core h.backed number r
           by (not_lost d f) = h.sound number r f
-          by (is_copy w l same w_there l_there is) =
-              subst (IsSound job core h.backed number) is (subst (λ (n : ℕ). IsSound job core h.backed n (recovered w l)) (sym same) (sound-recovered job core h.backed won lost w l (h.sound won w w_there) (h.sound lost l l_there)))
+          by (is_copy w l lost_here w_there l_there is) = subst (IsSound job core h.backed number) is (sound-recovered job core h.backed won number w l (h.sound won w w_there) (h.sound number l l_there))
 
-      -- after a copy every replica fits
-      fits-after-copy : (lost : ℕ) (winner : Replica) → slice_get core.replicas won ≡ Some winner → lost ≡ odd → won ≢ odd → (number : ℕ) (r : Replica) → slice_get (with_recovered won (Some lost) core.replicas) number ≡ Some r → Fits r
-      fits-after-copy lost winner there is d number r e = by (after-copy won lost core.replicas winner number r there e)
+      -- a replica that is not odd still fits after the copies: it is no loser
+      fits-still : (number : ℕ) (r : Replica) → is_among odds number ≡ false → slice_get (with_recovered won (numbers lost) core.replicas) number ≡ Some r → Fits r
+      fits-still number r d e = by (copied number r e)
         where
-          by : AfterCopy won lost core.replicas number r → Fits r
-          by (not_lost other f) = fits-as-it-is number r (λ (g : number ≡ odd). other (g ∙ sym is)) f
-          by (is_copy w l same w_there l_there g) =
-              subst Fits g (fits-copied w l ((h.sound won w w_there).all_made ∙ sym (h.sound lost l l_there).all_made) (fits-as-it-is won w d w_there))
+          by : AfterCopies recovered won (numbers lost) core.replicas number r → Fits r
+          by (not_lost k f) = fits-as-it-is number r d f
+          by (is_copy w l lost_here w_there l_there is) = absurd (true≢false (sym (well.losers_odd number lost_here) ∙ d))
 
-    module _ (count won : ℕ) (lost : Option ℕ) (did : Did) (may : MayVote job core t count won lost did) (well : WonWell odd good_view (views_of job core t) won lost) where
+      -- so does one that agreed, odd or not
+      fits-agreed : (number : ℕ) (before r : Replica) → slice_get core.replicas number ≡ Some before → Agrees job h.machine before → slice_get (with_recovered won (numbers lost) core.replicas) number ≡ Some r → Fits r
+      fits-agreed number before r there agree e = by (copied number r e)
+        where
+          by : AfterCopies recovered won (numbers lost) core.replicas number r → Fits r
+          by (not_lost k f) = subst Fits (some-injective (sym there ∙ f)) (fits-of number before agree there)
+          by (is_copy w l lost_here w_there l_there is) = absurd (agrees-stays number before agree there lost_here)
+
+      -- a loser fits where the winner agreed
+      fits-healed : (winner : Replica) → slice_get core.replicas won ≡ Some winner → Agrees job h.machine winner → (number : ℕ) (r : Replica) → is_among (numbers lost) number ≡ true → slice_get (with_recovered won (numbers lost) core.replicas) number ≡ Some r → Fits r
+      fits-healed winner there agree number r lost_here e = by (copied number r e)
+        where
+          by : AfterCopies recovered won (numbers lost) core.replicas number r → Fits r
+          by (not_lost k f) = absurd (true≢false (sym lost_here ∙ k))
+          by (is_copy w l lost_too w_there l_there is) =
+              subst Fits is (fits-copied w l ((h.sound won w w_there).all_made ∙ sym (h.sound number l l_there).all_made) (subst Fits (some-injective (sym there ∙ w_there)) (fits-of won winner agree there)))
+
+      -- where as many lost as may be odd, every odd replica lost
+      odd-lost : length core.replicas < 2 * suc (length (numbers lost)) → (number : ℕ) → is_among odds number ≡ true → is_among (numbers lost) number ≡ true
+      odd-lost many number = all-odd-lost odds good_view (views_of job core t) all-but-odd few-views won (numbers lost) verdict (let n = views-as-long in omega arith) number
+
+      -- then the winner is not odd
+      winner-even : length core.replicas < 2 * suc (length (numbers lost)) → is_among odds won ≡ false
+      winner-even many = by (is_among odds won) refl
+        where
+          by : (b : Bool) → is_among odds won ≡ b → is_among odds won ≡ false
+          by false e = e
+          by true e = absurd (true≢false (sym (odd-lost many won e) ∙ well.winner_stays))
+
+      -- and every replica fits after the copies
+      fits-all : length core.replicas < 2 * suc (length (numbers lost)) → (number : ℕ) (r : Replica) → slice_get (with_recovered won (numbers lost) core.replicas) number ≡ Some r → Fits r
+      fits-all many number r e = by (is_among odds number) refl
+        where
+          by : (b : Bool) → is_among odds number ≡ b → Fits r
+          by false d = fits-still number r d e
+          by true d =
+              let w = winner-shows won well.winner in
+              fits-healed w.winner w.winner_there (h.others_agree going won w.winner (winner-even many) w.winner_there) number r (odd-lost many number d) e
+
+    module _ (count won : ℕ) (lost : Lost) (did : Did) (may : MayVote job core t count won lost did) (well : WonWell odds good_view (views_of job core t) won (numbers lost)) where
       -- the winner shows the stop
       shows : WinnerShows won
       shows = winner-shows won well.winner
@@ -330,64 +404,76 @@ module _ (job : Job) (free : RaceFree job.program) (odd : ℕ) (journal : List E
       plan_same = ap₂ (λ (n : ℕ) (d : Did). replicate n t ++ replicate (event_steps d) t) (sym count_is) (sym (ap (λ (e : Event). e.did) event_same ∙ may.did_is))
 
       -- the core after the vote
-      after-is : core_after core t good.thread.since (with_recovered won lost core.replicas) good_event ≡ after job core (Vote t count won lost did)
+      after-is : core_after core t good.thread.since (with_recovered won (numbers lost) core.replicas) good_event ≡ after job core (Vote t count won lost did)
       unfolding after
       after-is =
-          ap (λ (n : ℕ). core_after core t n (with_recovered won lost core.replicas) good_event) count_is
-          ∙ ap (core_after_event core t count (with_recovered won lost core.replicas)) (sym (event-is won (winner-shows won well.winner)))
+          ap (λ (n : ℕ). core_after core t n (with_recovered won (numbers lost) core.replicas) good_event) count_is
+          ∙ ap (core_after_event core t count (with_recovered won (numbers lost) core.replicas)) (sym (event-is won (winner-shows won well.winner)))
 
-      -- the invariant with any odd replica, where all others fit
-      voted-with : (odd' : ℕ) → ((number : ℕ) (r : Replica) → number ≢ odd' → slice_get (with_recovered won lost core.replicas) number ≡ Some r → Fits r) → Holds job odd' (journal ++ Vote t count won lost did ∷ []) (after job core (Vote t count won lost did))
-      voted-with odd' fit =
+      -- the invariant with any odd replicas, at most half, where all others fit
+      voted-with : (odds' : List ℕ) → AtMostHalf job.settings.replicas odds' → ((number : ℕ) (r : Replica) → is_among odds' number ≡ false → slice_get (with_recovered won (numbers lost) core.replicas) number ≡ Some r → Fits r) → Holds job odds' (journal ++ Vote t count won lost did ∷ []) (after job core (Vote t count won lost did))
+      voted-with odds' few' fit =
           let event = has-good-event in
-          subst (Holds job odd' (journal ++ Vote t count won lost did ∷ [])) after-is
-          (event-holds job odd journal core h going parts.no_lease t good.thread.since live-in-machine good.arrival.middle good.arrival.comes.own _ event.0 event.1
-          (Vote t count won lost did) plan_same (with_recovered won lost core.replicas) (length-with-copy won lost core.replicas)
-          (sound-with-copy won lost (winner-shows won well.winner).winner (winner-shows won well.winner).winner_there) odd'
+          subst (Holds job odds' (journal ++ Vote t count won lost did ∷ [])) after-is
+          (event-holds job odds journal core h going parts.no_lease t good.thread.since live-in-machine good.arrival.middle good.arrival.comes.own _ event.0 event.1
+          (Vote t count won lost did) plan_same (with_recovered won (numbers lost) core.replicas) (length-with-copy won (numbers lost) core.replicas)
+          (sound-with-copy won lost well may.verdict) odds' few'
           (λ number r d e. meets r (fit number r d e)))
+
+-- a vote that is won is of some replica
+some-voted : (views : List View) (replicas : List Replica) (won : ℕ) (lost : List ℕ) → length views ≡ length replicas → verdict_of views ≡ Won won lost → 1 ≤ length replicas
+some-voted views replicas won lost n e = let w = won-by views won lost e in let short = slice_get_within views won w.view w.there in omega arith
 
 -- ---- the steps that a vote would retire
 
-module _ (job : Job) (free : RaceFree job.program) (odd : ℕ) (journal : List Entry) (core : Core) (h : Holds job odd journal core) (t : ℕ) (parts : VoteParts core t) where
+module _ (job : Job) (free : RaceFree job.program) (odds : List ℕ) (journal : List Entry) (core : Core) (h : Holds job odds journal core) (t : ℕ) (parts : VoteParts core t) where
   -- they are an execution, whether the vote fits the limit or not
-  pub vote-runs : (won : ℕ) (lost : Option ℕ) → verdict_of (views_of job core t) ≡ Won won lost → (count : ℕ) → since_in core t won ≡ Some count → (event : Event) → event_in job core t won ≡ Some event → IsExecution job.program (plan_of journal ++ (replicate count t ++ replicate (event_steps event.did) t))
+  pub vote-runs : (won : ℕ) (lost : List ℕ) → verdict_of (views_of job core t) ≡ Won won lost → (count : ℕ) → since_in core t won ≡ Some count → (event : Event) → event_in job core t won ≡ Some event → IsExecution job.program (plan_of journal ++ (replicate count t ++ replicate (event_steps event.did) t))
   vote-runs won lost verdict count since event comes =
-      let many = won-some (views_of job core t) won lost verdict in
-      let good = some-good job free odd journal core h t parts (let n = as-many-views job free odd journal core h t parts in let m = many.0 in omega arith) in
-      let well = won-well odd (machine_view job.program.image.ranges good.arrival.middle good.thread.cpu good.thread.since good.stop) (views_of job core t) won lost verdict (all-but-odd job free odd journal core h t parts good) in
-      let shows = winner-shows job free odd journal core h t parts good won well.winner in
-      let step = has-good-event job free odd journal core h t parts good in
-      let same_count : good.thread.since ≡ count = some-injective (sym (since-is job free odd journal core h t parts good won shows) ∙ since) in
-      let same_event : event_of (setup_of job.program) good.arrival.middle.kernel t good.stop (payload_at job.program.image.ranges good.arrival.middle.memory good.stop) ≡ event = some-injective (sym (event-is job free odd journal core h t parts good won shows) ∙ comes) in
+      let good = some-good job free odds journal core h t parts (some-voted (views_of job core t) core.replicas won lost (as-many-views job free odds journal core h t parts) verdict) in
+      let well = won-well odds (machine_view job.program.image.ranges good.arrival.middle good.thread.cpu good.thread.since good.stop) (views_of job core t) (all-but-odd job free odds journal core h t parts good) won lost (few-views job free odds journal core h t parts) verdict in
+      let shows = winner-shows job free odds journal core h t parts good won well.winner in
+      let step = has-good-event job free odds journal core h t parts good in
+      let same_count : good.thread.since ≡ count = some-injective (sym (since-is job free odds journal core h t parts good won shows) ∙ since) in
+      let same_event : event_of (setup_of job.program) good.arrival.middle.kernel t good.stop (payload_at job.program.image.ranges good.arrival.middle.memory good.stop) ≡ event = some-injective (sym (event-is job free odds journal core h t parts good won shows) ∙ comes) in
       subst (λ (threads : List ℕ). IsExecution job.program (plan_of journal ++ threads)) (ap₂ (λ (n : ℕ) (e : Event). replicate n t ++ replicate (event_steps e.did) t) same_count same_event)
       (step.0, run-more job.program (plan_of journal) h.machine good.arrival.middle (replicate good.thread.since t) _ h.ideal_is (BackedRun-run job.program h.backed good.arrival.comes.own) step.1.run_event)
 
 -- ---- the vote
 
 -- what a vote leaves
-pub record AfterVote (job : Job) (odd : ℕ) (journal : List Entry) (core : Core) (t count won : ℕ) (lost : Option ℕ) (did : Did) : Type 0 where
-  pub holds : Holds job odd (journal ++ Vote t count won lost did ∷ []) (after job core (Vote t count won lost did))
-  pub loser_odd : (l : ℕ) → lost ≡ Some l → (l ≡ odd) × (won ≢ odd)
-  pub then_all : (l : ℕ) → lost ≡ Some l → (odd' : ℕ) → Holds job odd' (journal ++ Vote t count won lost did ∷ []) (after job core (Vote t count won lost did))
+pub record AfterVote (job : Job) (odds : List ℕ) (journal : List Entry) (core : Core) (machine : Machine) (t count won : ℕ) (lost : Lost) (did : Did) : Type 0 where
+  pub holds : Holds job odds (journal ++ Vote t count won lost did ∷ []) (after job core (Vote t count won lost did))
+  pub losers_odd : (l : ℕ) → is_among (numbers lost) l ≡ true → is_among odds l ≡ true
+  pub losers_differ : (l : ℕ) (r : Replica) → is_among (numbers lost) l ≡ true → slice_get core.replicas l ≡ Some r → Agrees job machine r → ⊥
+  pub stays : (number : ℕ) (r : Replica) → slice_get core.replicas number ≡ Some r → Agrees job machine r → Holds job (without number odds) (journal ++ Vote t count won lost did ∷ []) (after job core (Vote t count won lost did))
+  pub heals : (winner : Replica) → slice_get core.replicas won ≡ Some winner → Agrees job machine winner → (l : ℕ) → is_among (numbers lost) l ≡ true → Holds job (without l odds) (journal ++ Vote t count won lost did ∷ []) (after job core (Vote t count won lost did))
+  pub winner_even : length core.replicas < 2 * suc (length (numbers lost)) → is_among odds won ≡ false
+  pub then_all : length core.replicas < 2 * suc (length (numbers lost)) → Holds job [] (journal ++ Vote t count won lost did ∷ []) (after job core (Vote t count won lost did))
 
-module _ (job : Job) (free : RaceFree job.program) (odd : ℕ) (journal : List Entry) (core : Core) (h : Holds job odd journal core) (t count won : ℕ) (did : Did) where
-  -- with a loser or without
-  with-loser : (lost : Option ℕ) (may : MayVote job core t count won lost did) (parts : VoteParts core t) (good : GoodStop job free odd journal core h t parts) → WonWell odd (machine_view job.program.image.ranges good.arrival.middle good.thread.cpu good.thread.since good.stop) (views_of job core t) won lost → AfterVote job odd journal core t count won lost did
-  with-loser None may parts good well = record {
-    holds = voted-with job free odd journal core h t parts good count won None did may well odd (fits-as-it-is job free odd journal core h t parts good);
-    loser_odd = well.loser;
-    then_all = λ l (e : None ≡ Some l). absurd cc;
-  }
-  with-loser (Some lost) may parts good well =
-      let d = well.loser lost refl in
-      let w = winner-shows job free odd journal core h t parts good won well.winner in
-      let all = λ (odd' : ℕ). voted-with job free odd journal core h t parts good count won (Some lost) did may well odd' (λ number r n. fits-after-copy job free odd journal core h t parts good won lost w.winner w.winner_there d.0 d.1 number r) in
-      record { holds = all odd; loser_odd = well.loser; then_all = λ l e. all }
-
+module _ (job : Job) (free : RaceFree job.program) (odds : List ℕ) (journal : List Entry) (core : Core) (h : Holds job odds journal core) (t count won : ℕ) (did : Did) where
   -- the invariant after a vote
-  pub after-vote : (lost : Option ℕ) → MayVote job core t count won lost did → AfterVote job odd journal core t count won lost did
+  pub after-vote : (lost : Lost) → MayVote job core t count won lost did → AfterVote job odds journal core h.machine t count won lost did
   after-vote lost may =
       let parts = vote-parts core t may.may in
-      let many = won-some (views_of job core t) won lost may.verdict in
-      let good = some-good job free odd journal core h t parts (let n = as-many-views job free odd journal core h t parts in let m = many.0 in omega arith) in
-      with-loser lost may parts good (won-well odd (machine_view job.program.image.ranges good.arrival.middle good.thread.cpu good.thread.since good.stop) (views_of job core t) won lost may.verdict (all-but-odd job free odd journal core h t parts good))
+      let good = some-good job free odds journal core h t parts (some-voted (views_of job core t) core.replicas won (numbers lost) (as-many-views job free odds journal core h t parts) may.verdict) in
+      let well = won-well odds (machine_view job.program.image.ranges good.arrival.middle good.thread.cpu good.thread.since good.stop) (views_of job core t) (all-but-odd job free odds journal core h t parts good) won (numbers lost) (few-views job free odds journal core h t parts) may.verdict in
+      let voted = voted-with job free odds journal core h t parts good count won lost did may well in
+      let fewer = λ (number : ℕ). let l = without-longer number odds in let f = h.few in let g : AtMostHalf job.settings.replicas (without number odds) = omega arith in g in
+      record {
+        holds = voted odds h.few (fits-still job free odds journal core h t parts good won lost well may.verdict);
+        losers_odd = well.losers_odd;
+        losers_differ = λ l r k e agree. agrees-stays job free odds journal core h t parts good won lost well may.verdict l r agree e k;
+        stays = λ number r there agree. voted (without number odds) (fewer number) (λ i x d e. by-number number i (cases_eq number i)
+            (λ same. fits-agreed job free odds journal core h t parts good won lost well may.verdict i r x (ap (slice_get core.replicas) (sym same) ∙ there) agree e)
+            (λ other. fits-still job free odds journal core h t parts good won lost well may.verdict i x (without-other number odds i d other) e));
+        heals = λ winner there agree l k. voted (without l odds) (fewer l) (λ i x d e. by-number l i (cases_eq l i)
+            (λ same. fits-healed job free odds journal core h t parts good won lost well may.verdict winner there agree i x (ap (is_among (numbers lost)) (sym same) ∙ k) e)
+            (λ other. fits-still job free odds journal core h t parts good won lost well may.verdict i x (without-other l odds i d other) e));
+        winner_even = winner-even job free odds journal core h t parts good won lost well may.verdict;
+        then_all = λ many. voted [] (let f = h.few in omega arith) (λ number r d e. fits-all job free odds journal core h t parts good won lost well may.verdict many number r e);
+      }
+    where
+      by-number : {X : Type 0} (number i : ℕ) → (number ≡ i) ⊎ (number ≢ i) → (number ≡ i → X) → (number ≢ i → X) → X
+      by-number number i (inl e) same other = same e
+      by-number number i (inr d) same other = other d

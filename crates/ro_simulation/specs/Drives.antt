@@ -2,6 +2,8 @@
 use Rattle.std.specs.Prelude.{ℕ, zero, suc, List, [], ◌∷◌, slice_get}
 use Rattle.std.specs.Option.{option_map_or}
 use Rattle.ro_exec.specs.Next.{Layout}
+use Rattle.ro_journal.specs.declared.losers.Lost.{Lost}
+use Rattle.ro_journal.specs.declared.losers.Lost.TheVariants.{Nobody, One, Two}
 use Rattle.ro_journal.specs.declared.Did.TheVariants.{Watch}
 use Rattle.ro_journal.specs.declared.How.TheVariants.{Differ}
 use Rattle.ro_journal.specs.declared.Entry.{Entry}
@@ -31,10 +33,16 @@ count_in job core replica thread =
 abbrev pub hit_in : Job → Core → ℕ → ℕ → ℕ → ℕ
 hit_in job core replica thread count = option_map_or (λ ran. ran.hit) (lease_run job core replica thread count) 0
 
+-- the losers of a list
+abbrev pub losers_of : List ℕ → Lost
+losers_of [] = Nobody
+losers_of (a ∷ []) = One a
+losers_of (a ∷ b ∷ rest) = Two a b
+
 -- the entry of a vote
 abbrev pub vote_entry : Job → Core → ℕ → Verdict → Entry
 vote_entry job core thread (Won won lost) =
-    Vote thread (option_map_or (λ n. n) (since_in core thread won) 0) won lost (option_map_or (λ event. event.did) (event_in job core thread won) Watch)
+    Vote thread (option_map_or (λ n. n) (since_in core thread won) 0) won (losers_of lost) (option_map_or (λ event. event.did) (event_in job core thread won) Watch)
 vote_entry job core thread Split = End Differ
 
 -- the entries of an action

@@ -1,5 +1,5 @@
 -- What every entry of a legal journal keeps.
-use Rattle.std.specs.Prelude.{◌≡◌, ◌≢◌, ℕ, IsTrue, List, [], length, Some, None, slice_get}
+use Rattle.std.specs.Prelude.{◌≡◌, ℕ, IsTrue, List, [], false, length, Some, None, slice_get}
 use Rattle.ro_event.specs.declared.calls.Call.{Call}
 use Rattle.ro_event.specs.declared.stops.Stop.{Stop}
 use Rattle.ro_event.specs.declared.stops.Stop.TheVariants.{Calls}
@@ -15,6 +15,7 @@ use Rattle.ro_thread.specs.declared.Thread.{Thread}
 use Rattle.ro_replica.specs.Replica.{Replica}
 use Rattle.ro_replica.specs.Runs.{standing_in}
 use Rattle.ro_plain.specs.Machine.{Program, layout_of, Machine, BackedRun, next_of, steppable}
+use Rattle.ro_vote.specs.Numbers.{is_among, AtMostHalf}
 use Rattle.ro_core.specs.Core.{Job, Core, is_out}
 use Rattle.ro_core.specs.Ideal.{ideal, ahead}
 use Rattle.ro_core.specs.Sound.{IsSound, IsOver}
@@ -42,8 +43,8 @@ pub record StandsAtCall (program : Program) (machine : Machine) (number : ℕ) (
   pub stands : next_of program machine cpu ≡ Stands (Calls call)
   pub writes_nothing : (memory : Memory) → payload_of program.image.ranges memory call ≡ []
 
--- The core stands to the ideal machine as it must; every replica but this one agrees with it.
-pub record Holds (job : Job) (odd : ℕ) (journal : List Entry) (core : Core) : Type 0 where
+-- The core stands to the ideal machine as it must; every replica but these, at most half, agrees with it.
+pub record Holds (job : Job) (odds : List ℕ) (journal : List Entry) (core : Core) : Type 0 where
   pub machine : Machine
   pub ideal_is : ideal job journal ≡ Some machine
   pub same_kernel : core.kernel ≡ machine.kernel
@@ -53,9 +54,10 @@ pub record Holds (job : Job) (odd : ℕ) (journal : List Entry) (core : Core) : 
   pub ends_well : (how : How) → machine.ended ≡ Some how → IsOver how
   pub not_ended : core.ended ≡ None
   pub as_many : length machine.cpus ≡ length machine.kernel.lives
+  pub few : AtMostHalf job.settings.replicas odds
   pub replica_count : length core.replicas ≡ job.settings.replicas
   pub backed : Backed
   pub sound : (number : ℕ) (replica : Replica) → slice_get core.replicas number ≡ Some replica → IsSound job core backed number replica
   pub lent_live : (driver replica thread : ℕ) → IsTrue (is_out core driver replica thread) → (machine.ended ≡ None) × IsTrue (lives_on machine.kernel thread)
   pub blocked_stands : (thread : ℕ) (call : Call) → core.blocked thread ≡ Some call → machine.ended ≡ None → StandsAtCall job.program machine thread call
-  pub others_agree : machine.ended ≡ None → (number : ℕ) (replica : Replica) → number ≢ odd → slice_get core.replicas number ≡ Some replica → Agrees job machine replica
+  pub others_agree : machine.ended ≡ None → (number : ℕ) (replica : Replica) → is_among odds number ≡ false → slice_get core.replicas number ≡ Some replica → Agrees job machine replica

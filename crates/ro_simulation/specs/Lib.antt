@@ -5,3 +5,4 @@ pub mod Rows
 pub mod Drives
 pub mod Weaker
 pub mod Repeated
+pub mod AtMostOne

@@ -1,10 +1,13 @@
 -- What the simulation theorem and the laws beside it say.
-use Rattle.std.specs.Prelude.{◌≡◌, ◌≢◌, ℕ, ◌+◌, ◌<◌, ◌≤◌, ◌⊎◌, IsTrue, IsSome, List, [], ◌∷◌, ◌++◌, length, Option, Some, None, slice_get}
+use Rattle.std.specs.Prelude.{◌≡◌, ◌≢◌, ℕ, suc, true, ◌+◌, ◌*◌, ◌<◌, ◌≤◌, ◌⊎◌, IsTrue, IsSome, List, [], ◌∷◌, ◌++◌, length, Option, Some, None, slice_get}
 use Rattle.ro_journal.specs.declared.Did.{Did}
 use Rattle.ro_journal.specs.declared.How.{How}
 use Rattle.ro_journal.specs.declared.How.TheVariants.{Exit, Trap, Deadlock, Limit, Differ, NoMajority, Sink}
 use Rattle.ro_journal.specs.declared.Entry.{Entry}
 use Rattle.ro_journal.specs.declared.Entry.TheVariants.{Vote}
+use Rattle.ro_journal.specs.declared.losers.Lost.{Lost}
+use Rattle.ro_journal.specs.declared.losers.Lost.TheVariants.{Nobody}
+use Rattle.ro_journal.specs.Losers.{numbers}
 use Rattle.ro_journal.specs.Plan.{plan_of, outcome_of}
 use Rattle.ro_faults.specs.declared.Fault.{Fault}
 use Rattle.ro_kernel.specs.Kernel.{lives_on}
@@ -14,8 +17,10 @@ use Rattle.ro_core.specs.Core.{Job, Core, opening_core}
 use Rattle.ro_replica.specs.Views.{view_of}
 use Rattle.ro_core.specs.Event.{Event}
 use Rattle.ro_core.specs.Legal.{event_in, after, replay, output_of}
-use Rattle.ro_core.specs.Ideal.{ideal, IsAlike}
+use Rattle.ro_core.specs.Ideal.{ideal, IsAlike, AllAlikeBut}
 use Rattle.ro_core.specs.Sound.{Listed}
+use Rattle.ro_vote.specs.Numbers.{is_among, AtMostHalf}
+use Rattle.ro_settings.specs.Ranges.{IsReplicas}
 
 -- ---- the payloads of all served writes
 
@@ -50,10 +55,11 @@ pub record HasWritten (job : Job) (journal : List Entry) (machine : Machine) : T
   pub front : IsFront (output_of job journal) machine.output
   pub all_left : ((bytes : ℕ) → outcome_of journal ≢ Some (Sink bytes)) → output_of job journal ≡ machine.output
 
--- At most one replica, of this number, is not alike.
-pub record AtMostOneDiffers (job : Job) (journal : List Entry) : Type 0 where
-  pub odd : ℕ
-  pub others_alike : (number : ℕ) (replica : Replica) → number ≢ odd → slice_get (replay job journal).replicas number ≡ Some replica → IsAlike job journal replica
+-- All replicas but these, at most half of all, are alike: at most one of two or three differs, and at most two of five.
+pub record FewDiffer (job : Job) (journal : List Entry) : Type 0 where
+  pub odds : List ℕ
+  pub few : AtMostHalf job.settings.replicas odds
+  pub others_alike : AllAlikeBut job journal odds
 
 -- Replicas that are alike have equal views of a live thread that is stopped in both.
 abbrev pub HaveEqualViews : Job → List Entry → Type 0
@@ -67,17 +73,29 @@ abbrev pub HaveEqualPages : Job → List Entry → Type 0
 HaveEqualPages job journal =
     (i j : ℕ) (one other : Replica) → slice_get (replay job journal).replicas i ≡ Some one → slice_get (replay job journal).replicas j ≡ Some other → one.backed ≡ other.backed
 
--- A copy is made from a replica that is alike, and after it every replica is alike, unless the program ended.
-pub record CopiesWell (job : Job) (before : List Entry) (vote : Entry) (won : ℕ) : Type 0 where
-  pub winner_alike : (winner : Replica) → slice_get (replay job before).replicas won ≡ Some winner → IsAlike job before winner
-  pub then_all : (machine : Machine) → ideal job (before ++ vote ∷ []) ≡ Some machine → machine.ended ≡ None →
-      (number : ℕ) (replica : Replica) → slice_get (replay job (before ++ vote ∷ [])).replicas number ≡ Some replica → IsAlike job (before ++ vote ∷ []) replica
+-- the ideal machine after the journal has not ended
+abbrev pub GoesOn : Job → List Entry → Type 0
+GoesOn job journal = (machine : Machine) × (ideal job journal ≡ Some machine) × (machine.ended ≡ None)
 
--- Each copy of the journal is a good one.
+-- the replica of this number is alike
+abbrev pub AlikeAt : Job → List Entry → ℕ → Type 0
+AlikeAt job journal number = (replica : Replica) → slice_get (replay job journal).replicas number ≡ Some replica → IsAlike job journal replica
+
+-- Copies never raise the number of replicas that differ: each loser differed, and each replica that was alike still is.
+-- A winner may carry a difference that its view does not show; where it is alike, so is each loser after the copy. Where
+-- as many lost as may differ, one of two or three and two of five, the winner is alike and so is every replica afterwards.
+pub record CopiesWell (job : Job) (before : List Entry) (vote : Entry) (won : ℕ) (lost : List ℕ) : Type 0 where
+  pub losers_differed : (l : ℕ) (replica : Replica) → is_among lost l ≡ true → slice_get (replay job before).replicas l ≡ Some replica → IsAlike job before replica → ⊥
+  pub stay_alike : GoesOn job (before ++ vote ∷ []) → (number : ℕ) (replica : Replica) → slice_get (replay job before).replicas number ≡ Some replica → IsAlike job before replica → AlikeAt job (before ++ vote ∷ []) number
+  pub heals : GoesOn job (before ++ vote ∷ []) → (winner : Replica) → slice_get (replay job before).replicas won ≡ Some winner → IsAlike job before winner → (l : ℕ) → is_among lost l ≡ true → AlikeAt job (before ++ vote ∷ []) l
+  pub winner_alike : job.settings.replicas < 2 * suc (length lost) → AlikeAt job before won
+  pub then_all : job.settings.replicas < 2 * suc (length lost) → GoesOn job (before ++ vote ∷ []) → (number : ℕ) → AlikeAt job (before ++ vote ∷ []) number
+
+-- Each vote of the journal copies so, with a loser or without.
 abbrev pub EachCopiesWell : Job → List Entry → Type 0
 EachCopiesWell job journal =
-    (before rest : List Entry) (thread count won lost : ℕ) (did : Did) → journal ≡ before ++ Vote thread count won (Some lost) did ∷ rest →
-    CopiesWell job before (Vote thread count won (Some lost) did) won
+    (before rest : List Entry) (thread count won : ℕ) (lost : Lost) (did : Did) → journal ≡ before ++ Vote thread count won lost did ∷ rest →
+    CopiesWell job before (Vote thread count won lost did) won (numbers lost)
 
 -- How the machine stands where the journal ends so.
 abbrev pub EndsAs : Program → Machine → How → Type 0
@@ -95,15 +113,15 @@ pub record Simulates (job : Job) (journal : List Entry) : Type 0 where
   pub ideal_is : ideal job journal ≡ Some machine
   pub same_kernel : (replay job journal).kernel ≡ machine.kernel
   pub written : HasWritten job journal machine
-  pub at_most_one : machine.ended ≡ None → AtMostOneDiffers job journal
+  pub few_differ : machine.ended ≡ None → FewDiffer job journal
   pub equal_views : HaveEqualViews job journal
   pub equal_pages : HaveEqualPages job journal
   pub copies : EachCopiesWell job journal
   pub ends_as : (how : How) → outcome_of journal ≡ Some how → EndsAs job.program machine how
 
--- Two or three replicas run.
-abbrev pub TwoOrThree : Job → Type 0
-TwoOrThree job = (job.settings.replicas ≡ 2) ⊎ (job.settings.replicas ≡ 3)
+-- Two, three or five replicas run.
+abbrev pub TwoThreeOrFive : Job → Type 0
+TwoThreeOrFive job = IsReplicas job.settings.replicas
 
 -- ---- the laws beside it
 
@@ -124,13 +142,19 @@ pub record WritesAsIdeal (job : Job) (journal : List Entry) : Type 0 where
 abbrev pub AllOfOne : List Fault → Type 0
 AllOfOne faults = (one other : Fault) → Listed faults one → Listed faults other → one.replica ≡ other.replica
 
+-- All faults name these replicas, at most half of all: one of two or three, two of five.
+pub record NamesFew (job : Job) : Type 0 where
+  pub named : List ℕ
+  pub few : AtMostHalf job.settings.replicas named
+  pub all : (fault : Fault) → Listed job.faults fault → is_among named fault.replica ≡ true
+
 -- No execution makes a second thread.
 abbrev pub StaysAlone : Program → Type 0
 StaysAlone program = (threads : List ℕ) (machine : Machine) → run program (opening program) threads ≡ Some machine → length machine.kernel.lives ≤ 1
 
 -- No vote of the journal has a loser, and it does not end by a difference.
 pub record NeverDiffers (journal : List Entry) : Type 0 where
-  pub no_loser : (before rest : List Entry) (thread count won lost : ℕ) (did : Did) → journal ≢ before ++ Vote thread count won (Some lost) did ∷ rest
+  pub no_loser : (before rest : List Entry) (thread count won : ℕ) (lost : Lost) (did : Did) → journal ≡ before ++ Vote thread count won lost did ∷ rest → lost ≡ Nobody
   pub no_end : outcome_of journal ≢ Some Differ
 
 -- The steps that would have come are an execution, whose first steps are the plan, and it is longer than the limit.
@@ -141,9 +165,9 @@ pub record PassedLimit (job : Job) (journal : List Entry) (steps next : ℕ) : T
   pub next_is : next ≡ length threads
   pub above : job.settings.limit < steps + next
 
--- Two replicas cannot differ by a fault: there are three of them, or no fault.
+-- Two replicas cannot differ by a fault: there are three or five of them, or no fault.
 abbrev pub CannotDiffer : Job → Type 0
-CannotDiffer job = (job.settings.replicas ≡ 3) ⊎ (job.faults ≡ [])
+CannotDiffer job = (job.settings.replicas ≡ 3) ⊎ (job.settings.replicas ≡ 5) ⊎ (job.faults ≡ [])
 
 -- The journal's end, if it has one, is the program's, unless the sink failed.
 abbrev pub EndsComplete : List Entry → Type 0

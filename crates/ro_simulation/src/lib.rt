@@ -1,7 +1,7 @@
 //! The simulation theorem: a legal journal's replicas simulate the unreplicated machine that its plan names.
 #![tactic(auto)]
 
-ghost use Rattle.std.specs.Prelude.{◌≡◌, ℕ, List, [], ◌∷◌, Some};
+ghost use Rattle.std.specs.Prelude.{◌≡◌, ◌↔◌, ℕ, List, [], ◌∷◌, Some};
 ghost use Rattle.ro_journal.specs.declared.How.{How};
 ghost use Rattle.ro_journal.specs.declared.How.TheVariants.{Exit, Limit, NoMajority};
 ghost use Rattle.ro_journal.specs.declared.Entry.{Entry};
@@ -10,7 +10,8 @@ ghost use Rattle.ro_plain.specs.Order.{RaceFree};
 ghost use Rattle.ro_core.specs.Core.{Job};
 ghost use Rattle.ro_core.specs.Legal.{Legal};
 ghost use Rattle.ro_core.specs.Ideal.{StaysApart};
-ghost use Rattle.ro_simulation.specs.Theorem.{Simulates, TwoOrThree, WritesAsIdeal, AllOfOne, StaysAlone, NeverDiffers, PassedLimit, CannotDiffer, EndsComplete, IsComplete};
+ghost use Rattle.ro_simulation.specs.Theorem.{Simulates, TwoThreeOrFive, WritesAsIdeal, AllOfOne, NamesFew, StaysAlone, NeverDiffers, PassedLimit, CannotDiffer, EndsComplete, IsComplete};
+ghost use Rattle.ro_simulation.specs.AtMostOne.{TwoOrThree, StrikesAlone, OneDiffers};
 ghost use Rattle.ro_simulation.specs.Repeated.{IsRepeated};
 ghost use Rattle.ro_simulation.specs.Guests.{exit_guest, locking_guest, usual_job};
 ghost use Rattle.ro_simulation.specs.Rows.{flip_a0, one_struck, two_struck, IsCovered};
@@ -18,27 +19,40 @@ ghost use Rattle.ro_simulation.specs.Drives.{driven};
 ghost use Rattle.ro_simulation.specs.Weaker.{StaysNearlyApart, loading_guest, slipping, slipped};
 ghost use Rattle.ro_journal.specs.Plan.{outcome_of};
 
-/// The simulation theorem: in a legal journal of a race-free program whose faults stay apart, two or three replicas
-/// simulate the unreplicated machine.
+/// The simulation theorem: in a legal journal of a race-free program whose faults stay apart, two, three or five
+/// replicas simulate the unreplicated machine.
 pub fn simulation()
-    ensures { (job : Job) (journal : List Entry) → RaceFree job.program → TwoOrThree job → Legal job journal → StaysApart job journal → Simulates job journal }
+    ensures { (job : Job) (journal : List Entry) → RaceFree job.program → TwoThreeOrFive job → Legal job journal → StaysApart job journal → Simulates job journal }
 {}
 
 /// The headline: what a run writes is the front of what the unreplicated machine writes, and all of it, with its
 /// outcome, where the run ends by an exit, a trap or a deadlock.
 pub fn headline()
-    ensures { (job : Job) (journal : List Entry) → RaceFree job.program → TwoOrThree job → Legal job journal → StaysApart job journal → WritesAsIdeal job journal }
+    ensures { (job : Job) (journal : List Entry) → RaceFree job.program → TwoThreeOrFive job → Legal job journal → StaysApart job journal → WritesAsIdeal job journal }
 {}
 
 /// The tie: where a run ends by an exit, a trap or a deadlock, its plan, run on the unreplicated machine, has all its
 /// steps, ends so too, and writes the same.
 pub fn plan_repeats()
-    ensures { (job : Job) (journal : List Entry) → RaceFree job.program → TwoOrThree job → Legal job journal → StaysApart job journal → (how : How) → outcome_of journal ≡ Some how → IsComplete how → IsRepeated job journal how }
+    ensures { (job : Job) (journal : List Entry) → RaceFree job.program → TwoThreeOrFive job → Legal job journal → StaysApart job journal → (how : How) → outcome_of journal ≡ Some how → IsComplete how → IsRepeated job journal how }
+{}
+
+/// Of two or three replicas: faults stay apart exactly where none strikes a replica while another is not alike; at most
+/// one differs, and each copy leaves none that does; and a list of faults names few replicas exactly where it names one.
+pub fn two_or_three_replicas()
+    ensures apart { (job : Job) (journal : List Entry) → TwoOrThree job → StaysApart job journal ↔ StrikesAlone job journal }
+    ensures differs { (job : Job) (journal : List Entry) → TwoOrThree job → Simulates job journal → OneDiffers job journal }
+    ensures named { (job : Job) → TwoOrThree job → NamesFew job ↔ AllOfOne job.faults }
+{}
+
+/// Few struck replicas stay apart: where all faults name at most half of the replicas, they stay apart.
+pub fn few_struck_replicas()
+    ensures { (job : Job) (journal : List Entry) → RaceFree job.program → NamesFew job → Legal job journal → StaysApart job journal }
 {}
 
 /// One struck replica stays apart: where all faults name one replica, they strike none while another differs.
 pub fn one_struck_replica()
-    ensures { (job : Job) (journal : List Entry) → RaceFree job.program → AllOfOne job.faults → Legal job journal → StaysApart job journal }
+    ensures { (job : Job) (journal : List Entry) → RaceFree job.program → AllOfOne job.faults → Legal job journal → StrikesAlone job journal }
 {}
 
 /// One thread is race-free: a program of which no execution makes a second thread has no races.
@@ -60,7 +74,7 @@ pub fn limit_is_passed()
 /// Completeness: a program whose executions are no longer than the limit comes to its own end, an exit, a trap or a
 /// deadlock, unless the sink fails.
 pub fn completeness()
-    ensures { (job : Job) (journal : List Entry) → RaceFree job.program → TwoOrThree job → Legal job journal → StaysApart job journal → AllEnd job.program job.settings.limit → CannotDiffer job → EndsComplete journal }
+    ensures { (job : Job) (journal : List Entry) → RaceFree job.program → TwoThreeOrFive job → Legal job journal → StaysApart job journal → AllEnd job.program job.settings.limit → CannotDiffer job → EndsComplete journal }
 {}
 
 /// A row: one struck register loses the vote, and the program exits with 7.

@@ -9,6 +9,8 @@ pub enum Guest {
     Stack,
     /// Three multiplications, two loads and a store of bytes.
     Bytes,
+    /// A load and a store in a page that was not accessed for 31 turns.
+    Wide,
 }
 
 impl Guest {
@@ -17,6 +19,7 @@ impl Guest {
             "mix" => Some(Guest::Mix),
             "stack" => Some(Guest::Stack),
             "bytes" => Some(Guest::Bytes),
+            "wide" => Some(Guest::Wide),
             _ => None,
         }
     }
@@ -26,6 +29,7 @@ impl Guest {
             Guest::Mix => "mix",
             Guest::Stack => "stack",
             Guest::Bytes => "bytes",
+            Guest::Wide => "wide",
         }
     }
 
@@ -34,6 +38,7 @@ impl Guest {
             Guest::Mix => &MIX,
             Guest::Stack => &STACK,
             Guest::Bytes => &BYTES,
+            Guest::Wide => &WIDE,
         }
     }
 }
@@ -84,5 +89,20 @@ static BYTES: [u32; 13] = [
     0x00E4_0433,
     0xFFF3_0313,
     0xFC03_1AE3,
+    0x0010_0073,
+];
+
+/// lui x11, 18; andi x7, x6, 31; slli x7, x7, 12; add x7, x7, x11; lw x8, 0(x7); add x9, x8, x6; sw x9, 0(x7);
+/// addi x6, x6, -1; bne x6, x0
+static WIDE: [u32; 10] = [
+    0x0001_25B7,
+    0x01F3_7393,
+    0x00C3_9393,
+    0x00B3_83B3,
+    0x0003_A403,
+    0x0064_04B3,
+    0x0093_A023,
+    0xFFF3_0313,
+    0xFE03_10E3,
     0x0010_0073,
 ];

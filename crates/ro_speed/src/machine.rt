@@ -13,6 +13,11 @@ const CODE: u32 = 0x1_0000;
 
 const DATA: u32 = 0x1_1000;
 
+const HEAP: u32 = 0x1_2000;
+
+/// How many pages of the heap are backed.
+const HEAP_PAGES: u32 = 32;
+
 const STACK_TOP: u32 = 0x7001_0000;
 
 /// One thread, and all that its instructions need.
@@ -29,10 +34,10 @@ impl Machine {
     pub fn new(alloc: Global, words: &[u32], turns: u32) -> Result<Machine, AllocError> {
         let mut pages = Pages::new(alloc)?;
         for page in [CODE / 4096, DATA / 4096, STACK_TOP / 4096 - 1] {
-            pages.reserve(1)?;
-            if page < 0x10_0000 && !pages.backed(page) {
-                pages.back(page);
-            }
+            back(&mut pages, page)?;
+        }
+        for page in HEAP / 4096..HEAP / 4096 + HEAP_PAGES {
+            back(&mut pages, page)?;
         }
         let mut place = CODE;
         for word in words {
@@ -95,12 +100,21 @@ impl Machine {
     }
 }
 
+/// Backs a page.
+fn back(pages: &mut Pages, page: u32) -> Result<(), AllocError> {
+    pages.reserve(1)?;
+    if page < 0x10_0000 && !pages.backed(page) {
+        pages.back(page);
+    }
+    Ok(())
+}
+
 /// Small segments that fill no page, a heap of 1 MiB, and the stacks of 16 threads.
 fn regions(alloc: Global) -> Result<Regions, AllocError> {
     let mut ranges = Vec::new(alloc);
     ranges.push(range(CODE, 0x420, false, true))?;
     ranges.push(range(DATA, 0x7A4, true, false))?;
-    ranges.push(range(0x1_2000, 0x10_0000, true, false))?;
+    ranges.push(range(HEAP, 0x10_0000, true, false))?;
     for thread in 0..16u32 {
         ranges.push(range(0x7000_0000 + thread * 0x2_0000, 0x1_0000, true, false))?;
     }

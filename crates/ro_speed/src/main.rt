@@ -1,4 +1,4 @@
-//! How fast a guest's instructions run: three loops of instructions, each run for as many turns as is asked.
+//! How fast a guest's instructions run: four loops of instructions, each run for as many turns as is asked.
 //!
 //! `ro_speed LOOP TURNS` prints how many instructions ran, two registers to compare, and the nanoseconds that it took. A
 //! third word is the quantum, the instructions of one run. With no words each loop runs a few turns, and no time is printed.
@@ -54,12 +54,12 @@ fn main(rt: HostRuntime) -> Result<()> {
     let alloc = rt.alloc();
     let mut words = env::args(&rt)?.skip(1);
     let Some(name) = words.next() else {
-        for guest in [Guest::Mix, Guest::Stack, Guest::Bytes] {
+        for guest in [Guest::Mix, Guest::Stack, Guest::Bytes, Guest::Wide] {
             ran(&rt, alloc, guest, 100, 64)?;
         }
         return Ok(());
     };
-    let guest = Guest::named(name.as_str()).context("the loops are mix, stack and bytes")?;
+    let guest = Guest::named(name.as_str()).context("the loops are mix, stack, bytes and wide")?;
     let turns = words.next().context("how many turns?")?.parse::<u32>()?;
     let quantum = match words.next() {
         Some(word) => word.parse::<u32>()?,

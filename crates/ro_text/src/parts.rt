@@ -17,8 +17,8 @@ pub fn first_line(text: &[u8]) -> Option<(&[u8], &[u8])>
     cut_at(text, b'\n')
 }
 
-// What stands before the first byte of this value and what stands behind it, where there is one.
-fn cut_at(bytes: &[u8], separator: u8) -> Option<(&[u8], &[u8])>
+/// What stands before the first byte of this value and what stands behind it, where there is one.
+pub fn cut_at(bytes: &[u8], separator: u8) -> Option<(&[u8], &[u8])>
     ensures some { IfSome result (λ found. slice_split (λ b. b == separator) bytes.now ≡ found.0.now ∷ slice_split (λ b. b == separator) found.1.now) }
     ensures less { IfSome result (λ found. length found.1.now < length bytes.now) }
     ensures none { IfNone result (slice_split (λ b. b == separator) bytes.now ≡ bytes.now ∷ []) }

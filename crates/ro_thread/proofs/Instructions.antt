@@ -1,5 +1,5 @@
 -- Instruction after instruction of a thread.
-use Rattle.std.proofs.Common.{◌≡◌, ℕ, zero, suc, ◌+◌, ◌*◌, ◌%◌, ◌^◌, ◌<◌, ◌≤◌, Option, Some, None, refl, ap, ap₂, sym, List, ◌∙◌, subst, arith, Bool, true, false}
+use Rattle.std.proofs.Common.{◌≡◌, ℕ, zero, suc, ◌+◌, ◌<◌, Option, Some, None, refl, ap, ap₂, sym, List, ◌∙◌, subst, arith, Bool, true, false}
 use Rattle.std.proofs.lemmas.Bool.{ne_eqb}
 use Rattle.std.specs.Option.{option_and_then}
 use Rattle.ro_pages.specs.Bytes.{Memory}
@@ -8,7 +8,9 @@ use Rattle.ro_exec.specs.declared.outcome.Step.{Step}
 use Rattle.ro_exec.specs.declared.outcome.Step.TheVariants.{Did}
 use Rattle.ro_exec.specs.Next.{Layout, Backed, Next, Stands, Executes, next}
 use Rattle.ro_exec.specs.Steps.{IsStep, IsQuick}
-use Rattle.ro_exec.specs.Stretches.{IsClear, IsKept}
+use Rattle.ro_region.specs.declared.Range.{Range}
+use Rattle.ro_region.specs.declared.Kind.{Kind}
+use Rattle.ro_exec.specs.Stretches.{IsClear, IsKept, AreOpenTo}
 use Rattle.ro_exec.specs.declared.stretch.Stretch.{Stretch}
 use Rattle.ro_thread.specs.declared.Thread.{Thread}
 use Rattle.ro_thread.specs.Runs.{Running, after_next, one_instruction, instructions}
@@ -75,16 +77,13 @@ renamed from thread count registers pc after memory stored a p b e =
     let same : record { registers = registers; pc = pc } ≡ after = ap₂ (λ (r : List ℕ) (k : ℕ). record { registers = r; pc = k }) a p in
     e ∙ ap (λ (c : Cpu). Some (ran_on thread count c stored)) (sym same) ∙ ap (λ (m : Memory). Some (ran_on thread count (record { registers = registers; pc = pc }) m)) (sym b)
 
--- another name of a stretch, and of the backed pages
-pub kept : (layout : Layout) (now before : Backed) (stretch found : Stretch) → now ≡ before → stretch ≡ found → IsClear layout before found → IsClear layout now stretch
-kept layout now before stretch found a b h =
-    subst (λ (s : Stretch). IsClear layout now s) (sym b) (subst (λ (k : Backed). IsClear layout k found) (sym a) h)
+-- what holds of a stretch, by other names of the backed pages and of the places
+pub kept : (layout : Layout) (now before : Backed) (stretch : Stretch) → now ≡ before → IsClear layout before stretch → IsClear layout now stretch
+kept layout now before stretch e h = subst (λ (k : Backed). IsClear layout k stretch) (sym e) h
 
-pub kept_page : (now before : ℕ → Option ℕ) (stretch found : Stretch) → now ≡ before → stretch ≡ found → IsKept before found → IsKept now stretch
-kept_page now before stretch found a b h = subst (λ (s : Stretch). IsKept now s) (sym b) (subst (λ (k : ℕ → Option ℕ). IsKept k found) (sym a) h)
+pub kept_page : (now before : ℕ → Option ℕ) (stretch : Stretch) → now ≡ before → IsKept before stretch → IsKept now stretch
+kept_page now before stretch e h = subst (λ (k : ℕ → Option ℕ). IsKept k stretch) (sym e) h
 
-pub kept_aligned : (stretch found : Stretch) → stretch ≡ found → found.from % 4 ≡ 0 → stretch.from % 4 ≡ 0
-kept_aligned stretch found b h = subst (λ (s : Stretch). s.from % 4 ≡ 0) (sym b) h
-
-pub kept_bounded : (stretch found : Stretch) → stretch ≡ found → found.from + 4 * found.words ≤ 2 ^ 32 → stretch.from + 4 * stretch.words ≤ 2 ^ 32
-kept_bounded stretch found b h = subst (λ (s : Stretch). s.from + 4 * s.words ≤ 2 ^ 32) (sym b) h
+pub kept_open : (ranges : List Range) (now before : Backed) (places at : ℕ → Option ℕ) (kind : Kind) (stretches : List Stretch) → now ≡ before → places ≡ at → AreOpenTo ranges before at kind stretches → AreOpenTo ranges now places kind stretches
+kept_open ranges now before places at kind stretches e f h =
+    subst (λ (k : Backed). AreOpenTo ranges k places kind stretches) (sym e) (subst (λ (k : ℕ → Option ℕ). AreOpenTo ranges before k kind stretches) (sym f) h)

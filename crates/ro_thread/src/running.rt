@@ -6,7 +6,7 @@ ghost use Rattle.ro_thread.specs.Runs.{IsRun};
 
 use crate::Thread;
 use ro_event::{CallTable, Stop};
-use ro_exec::{Bank, Cpu, Step, quick_step, step, stretch_at};
+use ro_exec::{Bank, Cpu, NONE, Open, Step, quick_step, step};
 use ro_pages::Memory;
 use ro_region::Regions;
 
@@ -41,10 +41,20 @@ pub fn run<M: Memory>(
     let bound = most.min(watchdog - thread.since);
     let mut registers = Bank::new(&thread.cpu.registers);
     let mut pc = thread.cpu.pc;
-    let mut stretch = stretch_at(pc, memory, regions, calls);
+    let mut stretch = NONE;
+    let mut reads = Open::new();
+    let mut writes = Open::new();
     for count in 0..bound {
-        if !quick_step(&mut registers, &mut pc, memory, regions, calls, stretch) {
-            stretch = stretch_at(pc, memory, regions, calls);
+        if !quick_step(
+            &mut registers,
+            &mut pc,
+            memory,
+            &mut reads,
+            &mut writes,
+            regions,
+            calls,
+            &mut stretch,
+        ) {
             if let Step::Stopped(stop) = slow_step(
                 &mut registers,
                 &mut pc,

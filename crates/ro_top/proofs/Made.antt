@@ -14,8 +14,7 @@ use Rattle.ro_report.specs.declared.answers.Answer.TheVariants.{NoMemory}
 use Rattle.ro_words.specs.Commands.{AskedBench, AskedInject}
 use Rattle.ro_top.specs.Files.{IsContent, bench_job}
 use Rattle.ro_top.specs.Causes.{IsOutcome, WritesText}
-use Rattle.ro_top.specs.Top.{Came, EndsBench, IsBench, IsRunOf, OfItsDraw, RanAs}
-use Rattle.ro_top.proofs.Claims.{is_run}
+use Rattle.ro_top.specs.Top.{Came, EndsBench, IsBench, IsRunOf, OfItsDraw}
 
 -- the faults of an image
 abbrev drawn_in : AskedInject → Image → List ℕ
@@ -40,7 +39,7 @@ is_draw files asked image file content accepted is old new before after answer (
 some_text : (one other : List ℕ) → ◌≡◌ {A = Option (List ℕ)} (Some one) (Some other) → one ≡ other
 some_text one other e = cc
 
-module _ (asked : AskedBench) (job : Job) (came : Came) (same : job ≡ bench_job asked) (outcome : IsOutcome came.answer (outcome_of came.journal)) (ran : RanAs came job) where
+module _ (asked : AskedBench) (job : Job) (came : Came) (same : job ≡ bench_job asked) (outcome : IsOutcome came.answer (outcome_of came.journal)) (ran : IsRunOf came job) where
   module _ (start last : List ℕ) (empty : start ≡ []) (held_before : came.held_before ≡ Some start) (held_after : came.held_after ≡ Some last) where
     none_held : came.held_before ≡ Some []
     none_held = held_before ∙ ap (λ (bytes : List ℕ). Some bytes) empty
@@ -54,7 +53,7 @@ module _ (asked : AskedBench) (job : Job) (came : Came) (same : job ≡ bench_jo
         → IsBench asked came.journal old new before after answer
     is_bench old new before after answer ends = record {
       inner = came;
-      run = subst (IsRunOf came) same (is_run came job outcome ran);
+      run = subst (IsRunOf came) same ran;
       empty = none_held;
       journal_is = refl;
       outcome = outcome;

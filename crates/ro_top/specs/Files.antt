@@ -1,5 +1,5 @@
 -- The files that a command names, and the job or the plan that it asks for.
-use Rattle.std.specs.Prelude.{◌≡◌, ℕ, ◌*◌, ◌≤◌, List, [], length, Option, Some, None, Ok, IfSome}
+use Rattle.std.specs.Prelude.{◌≡◌, ℕ, ◌*◌, ◌≤◌, List, [], ◌∷◌, ◌++◌, length, Option, Some, None, Ok, IfSome}
 use Rattle.ro_io.specs.Outside.{Files}
 use Rattle.ro_image.specs.Image.{Image, segments_in}
 use Rattle.ro_inject.specs.Draws.{faults_drawn}
@@ -43,6 +43,27 @@ name_in (to_inject inject) Input = None
 name_in (to_inject inject) Faults = None
 name_in (to_inject inject) Plan = None
 name_in (to_bench bench) kind = None
+
+-- the name of a file, if one is named
+abbrev pub named : Option (List ℕ) → List (List ℕ)
+named None = []
+named (Some name) = name ∷ []
+
+-- The names of a command's files before the one of this kind: the executable is asked for first, then the input, then the faults or
+-- the plan.
+abbrev pub names_before : Asked → FileKind → List (List ℕ)
+names_before asked Exe = []
+names_before asked Input = named (name_in asked Exe)
+names_before asked Faults = named (name_in asked Exe) ++ named (name_in asked Input)
+names_before asked Plan = named (name_in asked Exe) ++ named (name_in asked Input)
+
+-- of which kind the last file is that a command may name
+abbrev pub last_in : Asked → FileKind
+last_in (to_run run) = Faults
+last_in (to_plain plain) = Plan
+last_in (to_races races) = Plan
+last_in (to_inject inject) = Exe
+last_in (to_bench bench) = Exe
 
 -- the file of that name has this content, where the store tells
 abbrev pub IsFile : Option Files → (name content : List ℕ) → Type 0

@@ -1,6 +1,6 @@
 -- Why words, or one file of a command, are refused.
-use Rattle.std.specs.Prelude.{◌≡◌, ⊤, ℕ, ◌<◌, List, length, Option, Some, None, Err}
-use Rattle.ro_io.specs.Outside.{Files, Rose}
+use Rattle.std.specs.Prelude.{◌≡◌, ⊤, ℕ, ◌<◌, true, List, [], ◌∷◌, length, Option, Some, None, Err}
+use Rattle.ro_io.specs.Outside.{Asks, Calls, Files, Rose, unfailed}
 use Rattle.ro_image.specs.Executable.{bad_code}
 use Rattle.ro_faults.specs.declared.errors.FaultsError.TheVariants.{Bad}
 use Rattle.ro_faults.specs.Texts.{file_faults}
@@ -18,17 +18,18 @@ RefusesWords words BadWords = command_of words ≡ None
 RefusesWords words NoMemory = ⊤
 RefusesWords words answer = ⊥
 
--- it could not be fetched, or has more bytes than it may have
-abbrev pub RefusesFile : Option Files → FileKind → (name : List ℕ) → (before after : ℕ) → Answer → Type 0
-RefusesFile files kind name before after StoreFailed = Rose before after
-RefusesFile files kind name before after (TooLong which) = (which ≡ kind) × ((content : List ℕ) × IsFile files name content × (most_of kind < length content))
-RefusesFile files kind name before after NoMemory = ⊤
-RefusesFile files kind name before after answer = ⊥
+-- It could not be fetched, or has more bytes than it may have; and that was the store's one call.
+abbrev pub RefusesFile : Option Files → FileKind → (name : List ℕ) → (before after : ℕ) → (old new : Calls) → Answer → Type 0
+RefusesFile files kind name before after old new StoreFailed = Rose before after × Asks old new (record { name = name; failed = true } ∷ [])
+RefusesFile files kind name before after old new (TooLong which) =
+    (which ≡ kind) × ((content : List ℕ) × IsFile files name content × (most_of kind < length content)) × Asks old new (unfailed (name ∷ []))
+RefusesFile files kind name before after old new NoMemory = Asks old new (unfailed (name ∷ []))
+RefusesFile files kind name before after old new answer = ⊥
 
 -- the same of a file that need not be named
-abbrev pub RefusesContent : Option Files → FileKind → (name : Option (List ℕ)) → (before after : ℕ) → Answer → Type 0
-RefusesContent files kind None before after answer = ⊥
-RefusesContent files kind (Some name) before after answer = RefusesFile files kind name before after answer
+abbrev pub RefusesContent : Option Files → FileKind → (name : Option (List ℕ)) → (before after : ℕ) → (old new : Calls) → Answer → Type 0
+RefusesContent files kind None before after old new answer = ⊥
+RefusesContent files kind (Some name) before after old new answer = RefusesFile files kind name before after old new answer
 
 -- it is no executable that is accepted
 abbrev pub RefusesExe : (bytes : List ℕ) → Answer → Type 0

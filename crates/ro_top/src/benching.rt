@@ -10,9 +10,8 @@ ghost use Rattle.ro_top.specs.Files.{bench_job as bench_job_of, job_of};
 ghost use Rattle.ro_top.specs.Top.{EndsBench, IsBench, OfItsBench};
 ghost use Rattle.ro_top.specs.Refusals.{RefusesExe};
 
-use crate::asking::Job;
 use crate::files::image;
-use crate::running::{Ran, run};
+use crate::running::{Job, JobRun, run_job};
 use crate::writing::write;
 use ro_event::View;
 use ro_io::{Gate, MemSink, Sink};
@@ -43,10 +42,10 @@ pub(crate) fn bench<R: Threads + Wait + Sync, K: Sink, G: Gate + Sync>(
     out: &mut K,
     gate: &G,
 ) -> Benched
-    ensures bench { OfItsBench (bench_by command.now) result.journal.items (K.held out.old) (K.held out.new) (K.faults out.old) (K.faults out.new) result.answer }
+    ensures bench { OfItsBench (bench_by command.now) result.journal.items (K.held out.old) (K.held out.new) (K.failures out.old) (K.failures out.new) result.answer }
     ensures no_views { result.answer ≢ a.Differ → result.answer ≢ a.NoMajority → result.views.items ≡ [] }
     ensures refused { IsRefusal result.answer → result.journal.items ≡ [] }
-    ensures untouched { IsRefusal result.answer → (K.held out.new ≡ K.held out.old) × (K.faults out.new ≡ K.faults out.old) }
+    ensures untouched { IsRefusal result.answer → (K.held out.new ≡ K.held out.old) × (K.failures out.new ≡ K.failures out.old) }
     ensures refusal { (files : Option Files) (before after : ℕ) → IsRefusal result.answer → JobCause files (to_bench (bench_by command.now)) before after result.answer }
 {
     match bench_job(alloc, command) {
@@ -72,17 +71,17 @@ fn bench_in<R: Threads + Wait + Sync, K: Sink, G: Gate + Sync>(
     requires job { job_of job.image job.input.items job.faults.items job.settings ≡ bench_job_of (bench_by command.now) }
     requires can_run { CanRun (job_of job.image job.input.items job.faults.items job.settings) }
     requires empty { sink.bytes ≡ [] }
-    ensures bench { IsBench (bench_by command.now) result.journal.items (K.held out.old) (K.held out.new) (K.faults out.old) (K.faults out.new) result.answer }
+    ensures bench { IsBench (bench_by command.now) result.journal.items (K.held out.old) (K.held out.new) (K.failures out.old) (K.failures out.new) result.answer }
     ensures no_views { result.answer ≢ a.Differ → result.answer ≢ a.NoMajority → result.views.items ≡ [] }
     ensures done { IsRefusal result.answer → ⊥ }
 {
-    let Ran {
+    let JobRun {
         answer,
         journal,
         views,
         bytes: _bytes,
         out: sink,
-    } = run(rt, alloc, job, sink, gate);
+    } = run_job(rt, alloc, job, sink, gate);
     Benched {
         answer: written(command, answer, &sink, out),
         journal,
@@ -92,7 +91,7 @@ fn bench_in<R: Threads + Wait + Sync, K: Sink, G: Gate + Sync>(
 
 // Writes the line of a run that exited, and answers how that ended; else its own answer.
 fn written<K: Sink>(command: &BenchCommand, answer: Answer, sink: &MemSink, out: &mut K) -> Answer
-    ensures { EndsBench (bench_by command.now) answer sink.now.bytes (K.held out.old) (K.held out.new) (K.faults out.old) (K.faults out.new) result }
+    ensures { EndsBench (bench_by command.now) answer sink.now.bytes (K.held out.old) (K.held out.new) (K.failures out.old) (K.failures out.new) result }
 {
     match answer {
         Answer::Exit(status) => {

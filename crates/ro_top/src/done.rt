@@ -1,8 +1,15 @@
 //! What a command came to.
 ghost use Rattle.std.specs.Prelude.{◌≡◌};
-ghost use Rattle.ro_top.specs.Top.{status_of};
+ghost use Rattle.ro_io.specs.Outside.{Rose};
+ghost use Rattle.ro_report.specs.Report.{answer_text};
+ghost use Rattle.ro_report.specs.declared.answers.Answer.TheVariants as a;
+ghost use Rattle.ro_top.specs.Top.{status_of, IsTold};
+ghost use Rattle.ro_top.specs.declared.done.Told.{Told};
+ghost use Rattle.ro_top.specs.declared.done.Told.TheVariants as t;
 
+use crate::reports::tell_answer;
 use ro_event::View;
+use ro_io::Sink;
 use ro_journal::Entry;
 use ro_report::Answer;
 
@@ -34,28 +41,45 @@ impl<K> Done<K> {
     pub fn status(&self) -> u8
         ensures { result ≡ status_of self.now.told self.now.answer }
     {
-        if let Told::Failed = self.told {
-            return 251;
-        }
-        match self.answer {
-            Answer::Exit(status) => status,
-            Answer::Race { .. } => 237,
-            Answer::Unended => 239,
-            Answer::Deadlock => 240,
-            Answer::Trap(_) => 241,
-            Answer::Differ => 242,
-            Answer::NoMajority => 243,
-            Answer::Limit { .. } => 244,
-            Answer::SinkFailed { .. } => 245,
-            Answer::StoreFailed => 246,
-            Answer::BadExe(_) => 247,
-            Answer::BadFaults { .. } => 248,
-            Answer::BadWords => 249,
-            Answer::NoMemory => 250,
-            Answer::TooLong(_) => 252,
-            Answer::BadPlan { .. } => 253,
-            Answer::NoStep { .. } => 254,
-            Answer::NoRace => 0,
-        }
+        status_of(self.told, &self.answer)
+    }
+}
+
+/// Tells that there is no memory for the words of a command, which is then the whole report, and answers the status with which a
+/// process ends.
+pub fn without_words<E: Sink>(report: &mut E) -> u8
+    ensures { (told : Told) × (result ≡ status_of told a.NoMemory) × IsTold told (E.held report.old) (E.held report.new) (answer_text a.NoMemory) × (told ≡ t.Failed → Rose (E.failures report.old) (E.failures report.new)) × (told ≡ t.Whole → E.failures report.new ≡ E.failures report.old) }
+{
+    let answer = Answer::NoMemory;
+    let told = tell_answer(report, &answer);
+    status_of(told, &answer)
+}
+
+// The status of a process that came to this answer, where it was reported or could not be.
+fn status_of(told: Told, answer: &Answer) -> u8
+    ensures { result ≡ status_of told answer.now }
+{
+    if let Told::Failed = told {
+        return 251;
+    }
+    match *answer {
+        Answer::Exit(status) => status,
+        Answer::Race { .. } => 237,
+        Answer::Unended => 239,
+        Answer::Deadlock => 240,
+        Answer::Trap(_) => 241,
+        Answer::Differ => 242,
+        Answer::NoMajority => 243,
+        Answer::Limit { .. } => 244,
+        Answer::SinkFailed { .. } => 245,
+        Answer::StoreFailed => 246,
+        Answer::BadExe(_) => 247,
+        Answer::BadFaults { .. } => 248,
+        Answer::BadWords => 249,
+        Answer::NoMemory => 250,
+        Answer::TooLong(_) => 252,
+        Answer::BadPlan { .. } => 253,
+        Answer::NoStep { .. } => 254,
+        Answer::NoRace => 0,
     }
 }

@@ -1,6 +1,5 @@
 //! The run by as many drivers as are asked for.
 ghost use Rattle.std.specs.Prelude.{◌≡◌, [], None, IsSome};
-ghost use Rattle.ro_journal.specs.declared.How.{How as HowOf};
 ghost use Rattle.ro_journal.specs.Plan.{outcome_of};
 ghost use Rattle.ro_core.specs.declared.actions.Action.TheVariants as act;
 ghost use Rattle.ro_core.specs.Legal.{output_of};
@@ -11,6 +10,7 @@ ghost use Rattle.ro_master.specs.Driven.{CanRun, IsDriven, IsHome, KeepsLast, Go
 use ro_core::{Action, Core};
 use ro_drive::drive_all;
 use ro_io::{Gate, Sink};
+use ro_journal::How;
 use ro_master::{Master, Naming, Opened};
 use std::alloc::Global;
 use std::marker::Brand;
@@ -87,19 +87,19 @@ fn settled<K: Sink>(mut core: Core<K>) -> Core<K>
     ensures ended { IsSome result.failed → IsSome (outcome_of result.journal) }
 {
     match core.next_action() {
-        Action::End(_) => {
-            end(&mut core);
+        Action::End(how) => {
+            end(&mut core, how);
             core
         }
         _ => core,
     }
 }
 
-// Ends the run.
-fn end<K: Sink>(core: &mut Core<K>)
+// Ends the run so.
+fn end<K: Sink>(core: &mut Core<K>, how: How)
     requires driven { IsDriven core.old }
     requires home { IsHome core.old }
-    requires next { (how : HowOf) × (next_action core.old.job (state core.old) ≡ act.End how) }
+    requires next { next_action core.old.job (state core.old) ≡ act.End how }
     ensures goes { Goes core.old core.new }
     ensures driven { IsDriven core.new }
     ensures last { KeepsLast core.new.job core.new.journal core.new.views }
@@ -107,5 +107,5 @@ fn end<K: Sink>(core: &mut Core<K>)
     ensures all_sent { sent core.new ≡ output_of core.new.job core.new.journal }
     ensures calm { core.new.failed ≡ None }
 {
-    core.end();
+    core.end(how);
 }

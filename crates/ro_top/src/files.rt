@@ -1,11 +1,12 @@
 //! The files that a command names.
-ghost use Rattle.std.specs.Prelude.{◌≡◌, ◌<◌, ◌≤◌, IfOk, IfErr, length, Ok, Err};
+ghost use Rattle.std.specs.Prelude.{◌≡◌, ◌<◌, ◌≤◌, [], ◌∷◌, IfOk, IfErr, length, Ok, Err};
 ghost use Rattle.ro_report.specs.declared.answers.Answer.TheVariants as a;
 ghost use Rattle.std.specs.Option.{option_map};
 ghost use Rattle.ro_image.specs.Executable.{bad_code, image_of};
 ghost use Rattle.ro_faults.specs.Texts.{file_faults};
 ghost use Rattle.ro_journal_text.specs.Reading.{file_journal};
-ghost use Rattle.ro_top.specs.Files.{most_of, IsFile, IsContent};
+ghost use Rattle.ro_io.specs.Outside.{Asks, unfailed};
+ghost use Rattle.ro_top.specs.Files.{most_of, named, IsFile, IsContent};
 ghost use Rattle.ro_top.specs.Refusals.{RefusesFile, RefusesContent, RefusesExe, RefusesList, RefusesPlan};
 
 use ro_faults::{Fault, FaultsError, read_faults};
@@ -37,10 +38,11 @@ pub(crate) fn fetch<S: Store>(
 ) -> Result<Vec<u8>, Answer>
     ensures content { IfOk result (λ bytes. IsFile (S.told store.old) name.now bytes.items) }
     ensures short { IfOk result (λ bytes. length bytes.items ≤ most_of kind) }
-    ensures refused { IfErr result (RefusesFile (S.told store.old) kind name.now (S.faults store.old) (S.faults store.new)) }
+    ensures refused { IfErr result (RefusesFile (S.told store.old) kind name.now (S.failures store.old) (S.failures store.new) (S.calls store.old) (S.calls store.new)) }
     ensures told { S.told store.new ≡ S.told store.old }
-    ensures faults { S.faults store.old ≤ S.faults store.new }
-    ensures calm { (result ≡ Err a.StoreFailed → ⊥) → S.faults store.new ≡ S.faults store.old }
+    ensures failures { S.failures store.old ≤ S.failures store.new }
+    ensures calm { (result ≡ Err a.StoreFailed → ⊥) → S.failures store.new ≡ S.failures store.old }
+    ensures asks { IfOk result (λ _. Asks (S.calls store.old) (S.calls store.new) (unfailed (name.now ∷ []))) }
 {
     let most = most_bytes(kind);
     match store.fetch(alloc, name, most + 1) {
@@ -59,10 +61,11 @@ pub(crate) fn fetch_named<S: Store>(
     name: Option<&str>,
 ) -> Result<Vec<u8>, Answer>
     ensures content { IfOk result (λ bytes. IsContent (S.told store.old) kind (option_map (λ n. n.now) name.entry) bytes.items) }
-    ensures refused { IfErr result (RefusesContent (S.told store.old) kind (option_map (λ n. n.now) name.entry) (S.faults store.old) (S.faults store.new)) }
+    ensures refused { IfErr result (RefusesContent (S.told store.old) kind (option_map (λ n. n.now) name.entry) (S.failures store.old) (S.failures store.new) (S.calls store.old) (S.calls store.new)) }
     ensures told { S.told store.new ≡ S.told store.old }
-    ensures faults { S.faults store.old ≤ S.faults store.new }
-    ensures calm { (result ≡ Err a.StoreFailed → ⊥) → S.faults store.new ≡ S.faults store.old }
+    ensures failures { S.failures store.old ≤ S.failures store.new }
+    ensures calm { (result ≡ Err a.StoreFailed → ⊥) → S.failures store.new ≡ S.failures store.old }
+    ensures asks { IfOk result (λ _. Asks (S.calls store.old) (S.calls store.new) (unfailed (named (option_map (λ n. n.now) name.entry)))) }
 {
     match name {
         Some(name) => fetch(store, alloc, kind, name),

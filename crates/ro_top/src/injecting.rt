@@ -26,7 +26,7 @@ pub(crate) fn inject<K: Sink>(
     out: &mut K,
 ) -> Answer
     ensures { ((result ≡ a.NoMemory) × (K.held out.new ≡ K.held out.old))
-        ⊎ WritesText (faults_text (faults_drawn (segments_in image.now.ranges) command.now.replica command.now.seed command.now.count)) (K.held out.old) (K.held out.new) (K.faults out.old) (K.faults out.new) result }
+        ⊎ WritesText (faults_text (faults_drawn (segments_in image.now.ranges) command.now.replica command.now.seed command.now.count)) (K.held out.old) (K.held out.new) (K.failures out.old) (K.failures out.new) result }
 {
     match drawn_text(alloc, image, command) {
         Ok(text) if text.len() <= MOST_TEXT => write(out, text.as_slice()),

@@ -15,8 +15,9 @@ mod running;
 mod top;
 mod writing;
 
-pub use done::{Done, Told};
+pub use done::{Done, Told, without_words};
 pub use ro_report::{Answer, FileKind, JournalCode};
+pub use running::{Job, JobRun, run_job};
 pub use top::romain;
 
 #[cfg(test)]

@@ -31,7 +31,7 @@ pub(crate) fn unplayed(answer: Answer) -> Played
 
 // Runs the plan of a journal, unless it is too long.
 pub(crate) fn play<K: Sink>(alloc: Global, replay: Replay, out: &mut K) -> Played
-    ensures cause { PlanCause (record { answer = result.answer; steps = result.steps; bytes = result.bytes; held_before = K.held out.old; held_after = K.held out.new; faults_before = K.faults out.old; faults_after = K.faults out.new }) (record { image = replay.image; input = replay.input.items }) replay.journal.items result.answer }
+    ensures cause { PlanCause (record { answer = result.answer; steps = result.steps; bytes = result.bytes; held_before = K.held out.old; held_after = K.held out.new; failures_before = K.failures out.old; failures_after = K.failures out.new }) (record { image = replay.image; input = replay.input.items }) replay.journal.items result.answer }
 {
     let Replay {
         image,

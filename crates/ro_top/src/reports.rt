@@ -23,8 +23,8 @@ pub(crate) fn tell<E: Sink>(
     requires struck { struck_in journal.now < 2 ^ 64 }
     requires steps { steps_in journal.now < 2 ^ 64 }
     ensures told { IsTold result (E.held report.old) (E.held report.new) (report_of shown journal.now bytes answer.now) }
-    ensures cause { result ≡ told.Failed → Rose (E.faults report.old) (E.faults report.new) }
-    ensures calm { result ≡ told.Whole → E.faults report.new ≡ E.faults report.old }
+    ensures cause { result ≡ told.Failed → Rose (E.failures report.old) (E.failures report.new) }
+    ensures calm { result ≡ told.Whole → E.failures report.new ≡ E.failures report.old }
 {
     match give_report(report, shown, journal, bytes, answer) {
         Ok(()) => Told::Whole,
@@ -35,8 +35,8 @@ pub(crate) fn tell<E: Sink>(
 // Tells the report of a plan's run.
 pub(crate) fn tell_plan<E: Sink>(report: &mut E, steps: u64, bytes: u64, answer: &Answer) -> Told
     ensures told { IsTold result (E.held report.old) (E.held report.new) (plain_report steps bytes answer.now) }
-    ensures cause { result ≡ told.Failed → Rose (E.faults report.old) (E.faults report.new) }
-    ensures calm { result ≡ told.Whole → E.faults report.new ≡ E.faults report.old }
+    ensures cause { result ≡ told.Failed → Rose (E.failures report.old) (E.failures report.new) }
+    ensures calm { result ≡ told.Whole → E.failures report.new ≡ E.failures report.old }
 {
     match give_plan(report, steps, bytes, answer) {
         Ok(()) => Told::Whole,
@@ -47,8 +47,8 @@ pub(crate) fn tell_plan<E: Sink>(report: &mut E, steps: u64, bytes: u64, answer:
 // Tells an answer.
 pub(crate) fn tell_answer<E: Sink>(report: &mut E, answer: &Answer) -> Told
     ensures told { IsTold result (E.held report.old) (E.held report.new) (answer_text answer.now) }
-    ensures cause { result ≡ told.Failed → Rose (E.faults report.old) (E.faults report.new) }
-    ensures calm { result ≡ told.Whole → E.faults report.new ≡ E.faults report.old }
+    ensures cause { result ≡ told.Failed → Rose (E.failures report.old) (E.failures report.new) }
+    ensures calm { result ≡ told.Whole → E.failures report.new ≡ E.failures report.old }
 {
     match give_all(report, answer_line(answer).as_bytes()) {
         Ok(()) => Told::Whole,
@@ -59,8 +59,8 @@ pub(crate) fn tell_answer<E: Sink>(report: &mut E, answer: &Answer) -> Told
 fn give_plan<E: Sink>(report: &mut E, steps: u64, bytes: u64, answer: &Answer) -> Result<(), Failed>
     ensures ok { OnOk result (E.held report.new ≡ more (E.held report.old) (plain_report steps bytes answer.now)) }
     ensures err { OnErr result (TakesFront (E.held report.old) (E.held report.new) (plain_report steps bytes answer.now)) }
-    ensures cause { OnErr result (Rose (E.faults report.old) (E.faults report.new)) }
-    ensures calm { OnOk result (E.faults report.new ≡ E.faults report.old) }
+    ensures cause { OnErr result (Rose (E.failures report.old) (E.failures report.new)) }
+    ensures calm { OnOk result (E.failures report.new ≡ E.failures report.old) }
 {
     give_steps(report, steps, bytes, answer)?;
     give_all(report, answer_line(answer).as_bytes())
@@ -75,9 +75,9 @@ fn give_steps<E: Sink>(
 ) -> Result<(), Failed>
     ensures ok { OnOk result (E.held report.new ≡ more (E.held report.old) (plain_part steps bytes answer.now)) }
     ensures err { OnErr result (TakesFront (E.held report.old) (E.held report.new) (plain_part steps bytes answer.now)) }
-    ensures cause { OnErr result (Rose (E.faults report.old) (E.faults report.new)) }
-    ensures calm { OnOk result (E.faults report.new ≡ E.faults report.old) }
-    ensures faults { E.faults report.old ≤ E.faults report.new }
+    ensures cause { OnErr result (Rose (E.failures report.old) (E.failures report.new)) }
+    ensures calm { OnOk result (E.failures report.new ≡ E.failures report.old) }
+    ensures failures { E.failures report.old ≤ E.failures report.new }
 {
     if is_whole(answer) {
         give_all(report, plain_line(steps, bytes).as_bytes())
@@ -107,8 +107,8 @@ fn give_report<E: Sink>(
     requires steps { steps_in journal.now < 2 ^ 64 }
     ensures ok { OnOk result (E.held report.new ≡ more (E.held report.old) (report_of shown journal.now bytes answer.now)) }
     ensures err { OnErr result (TakesFront (E.held report.old) (E.held report.new) (report_of shown journal.now bytes answer.now)) }
-    ensures cause { OnErr result (Rose (E.faults report.old) (E.faults report.new)) }
-    ensures calm { OnOk result (E.faults report.new ≡ E.faults report.old) }
+    ensures cause { OnErr result (Rose (E.failures report.old) (E.failures report.new)) }
+    ensures calm { OnOk result (E.failures report.new ≡ E.failures report.old) }
 {
     give_journal(report, shown, journal)?;
     give_lines(report, journal, bytes, answer)
@@ -118,9 +118,9 @@ fn give_report<E: Sink>(
 fn give_journal<E: Sink>(report: &mut E, shown: bool, journal: &[Entry]) -> Result<(), Failed>
     ensures ok { OnOk result (E.held report.new ≡ more (E.held report.old) (journal_part shown journal.now)) }
     ensures err { OnErr result (TakesFront (E.held report.old) (E.held report.new) (journal_part shown journal.now)) }
-    ensures cause { OnErr result (Rose (E.faults report.old) (E.faults report.new)) }
-    ensures calm { OnOk result (E.faults report.new ≡ E.faults report.old) }
-    ensures faults { E.faults report.old ≤ E.faults report.new }
+    ensures cause { OnErr result (Rose (E.failures report.old) (E.failures report.new)) }
+    ensures calm { OnOk result (E.failures report.new ≡ E.failures report.old) }
+    ensures failures { E.failures report.old ≤ E.failures report.new }
 {
     if !shown || journal.is_empty() {
         return Ok(());
@@ -133,9 +133,9 @@ fn give_journal<E: Sink>(report: &mut E, shown: bool, journal: &[Entry]) -> Resu
 fn give_entries<E: Sink>(report: &mut E, journal: &[Entry]) -> Result<(), Failed>
     ensures ok { OnOk result (E.held report.new ≡ more (E.held report.old) (entries_text journal.now)) }
     ensures err { OnErr result (TakesFront (E.held report.old) (E.held report.new) (entries_text journal.now)) }
-    ensures cause { OnErr result (Rose (E.faults report.old) (E.faults report.new)) }
-    ensures calm { OnOk result (E.faults report.new ≡ E.faults report.old) }
-    ensures faults { E.faults report.old ≤ E.faults report.new }
+    ensures cause { OnErr result (Rose (E.failures report.old) (E.failures report.new)) }
+    ensures calm { OnOk result (E.failures report.new ≡ E.failures report.old) }
+    ensures failures { E.failures report.old ≤ E.failures report.new }
 {
     let mut rest = journal;
     while let Some((entry, behind)) = rest.split_first() {
@@ -156,8 +156,8 @@ fn give_lines<E: Sink>(
     requires steps { steps_in journal.now < 2 ^ 64 }
     ensures ok { OnOk result (E.held report.new ≡ more (E.held report.old) (report_text journal.now bytes answer.now)) }
     ensures err { OnErr result (TakesFront (E.held report.old) (E.held report.new) (report_text journal.now bytes answer.now)) }
-    ensures cause { OnErr result (Rose (E.faults report.old) (E.faults report.new)) }
-    ensures calm { OnOk result (E.faults report.new ≡ E.faults report.old) }
+    ensures cause { OnErr result (Rose (E.failures report.old) (E.failures report.new)) }
+    ensures calm { OnOk result (E.failures report.new ≡ E.failures report.old) }
 {
     give_summary(report, journal, bytes)?;
     give_all(report, answer_line(answer).as_bytes())
@@ -169,9 +169,9 @@ fn give_summary<E: Sink>(report: &mut E, journal: &[Entry], bytes: u64) -> Resul
     requires steps { steps_in journal.now < 2 ^ 64 }
     ensures ok { OnOk result (E.held report.new ≡ more (E.held report.old) (summary_part journal.now bytes)) }
     ensures err { OnErr result (TakesFront (E.held report.old) (E.held report.new) (summary_part journal.now bytes)) }
-    ensures cause { OnErr result (Rose (E.faults report.old) (E.faults report.new)) }
-    ensures calm { OnOk result (E.faults report.new ≡ E.faults report.old) }
-    ensures faults { E.faults report.old ≤ E.faults report.new }
+    ensures cause { OnErr result (Rose (E.failures report.old) (E.failures report.new)) }
+    ensures calm { OnOk result (E.failures report.new ≡ E.failures report.old) }
+    ensures failures { E.failures report.old ≤ E.failures report.new }
 {
     if journal.is_empty() {
         return Ok(());
@@ -183,9 +183,9 @@ fn give_summary<E: Sink>(report: &mut E, journal: &[Entry], bytes: u64) -> Resul
 fn give_all<E: Sink>(sink: &mut E, bytes: &[u8]) -> Result<(), Failed>
     ensures ok { OnOk result (E.held sink.new ≡ more (E.held sink.old) bytes.now) }
     ensures err { OnErr result (TakesFront (E.held sink.old) (E.held sink.new) bytes.now) }
-    ensures cause { OnErr result (Rose (E.faults sink.old) (E.faults sink.new)) }
-    ensures calm { OnOk result (E.faults sink.new ≡ E.faults sink.old) }
-    ensures faults { E.faults sink.old ≤ E.faults sink.new }
+    ensures cause { OnErr result (Rose (E.failures sink.old) (E.failures sink.new)) }
+    ensures calm { OnOk result (E.failures sink.new ≡ E.failures sink.old) }
+    ensures failures { E.failures sink.old ≤ E.failures sink.new }
 {
     let mut rest = bytes;
     while !rest.is_empty() {

@@ -1,4 +1,4 @@
-//! The run of a job.
+//! The run of a job, without words and without a store.
 ghost use Rattle.std.specs.Prelude.{◌≡◌, ◌≢◌, []};
 ghost use Rattle.ro_journal.specs.Plan.{outcome_of};
 ghost use Rattle.ro_report.specs.declared.answers.Answer.TheVariants as a;
@@ -6,38 +6,55 @@ ghost use Rattle.ro_top.specs.Files.{job_of};
 ghost use Rattle.ro_master.specs.Driven.{CanRun};
 ghost use Rattle.ro_top.specs.Driven.{AreCounts};
 ghost use Rattle.ro_top.specs.Causes.{IsRefusal, IsOutcome};
-ghost use Rattle.ro_top.specs.Top.{RanAs};
+ghost use Rattle.ro_top.specs.Top.{IsRunOf};
 
-use crate::asking::Job;
 use crate::driving::drive;
 use ro_core::{Core, Finished};
 use ro_event::View;
+use ro_faults::Fault;
+use ro_image::Executable;
 use ro_io::{Gate, Sink};
 use ro_journal::{Entry, How};
 use ro_report::Answer;
+use ro_settings::Settings;
 use std::alloc::Global;
 use std::sync::Wait;
 use std::thread::Threads;
 
-// What a command came to, before it is told.
-pub(crate) struct Ran<K> {
-    pub(crate) answer: Answer,
-    pub(crate) journal: Vec<Entry>,
-    pub(crate) views: Vec<View>,
-    // How many bytes were written.
-    pub(crate) bytes: u64,
-    pub(crate) out: K,
+/// What is to be run: a program and its input, the faults that are to be struck, and how many replicas and drivers there are, in
+/// which bounds.
+#[derive(Drop)]
+pub struct Job {
+    pub image: Executable,
+    pub input: Vec<u8>,
+    pub faults: Vec<Fault>,
+    pub settings: Settings,
+}
+
+/// What a job's run came to.
+#[derive(Drop)]
+pub struct JobRun<K> {
+    /// How it ended.
+    pub answer: Answer,
+    /// All that happened; nothing, where there was no memory to begin.
+    pub journal: Vec<Entry>,
+    /// Where it ended by a vote of views that had no majority, those views in the order of the replicas.
+    pub views: Vec<View>,
+    /// How many bytes were written.
+    pub bytes: u64,
+    /// The sink of the output.
+    pub out: K,
 }
 
 // Nothing was run.
-pub(crate) fn nothing<K>(alloc: Global, answer: Answer, out: K) -> Ran<K>
+pub(crate) fn nothing<K>(alloc: Global, answer: Answer, out: K) -> JobRun<K>
     ensures answer { result.answer ≡ answer }
     ensures journal { result.journal.items ≡ [] }
     ensures views { result.views.items ≡ [] }
     ensures bytes { result.bytes ≡ 0 }
     ensures out { result.out ≡ out }
 {
-    Ran {
+    JobRun {
         answer,
         journal: Vec::new(alloc),
         views: Vec::new(alloc),
@@ -46,21 +63,24 @@ pub(crate) fn nothing<K>(alloc: Global, answer: Answer, out: K) -> Ran<K>
     }
 }
 
-// Runs a job.
-pub(crate) fn run<R: Threads + Wait + Sync, K: Sink + Send, G: Gate + Sync>(
+/// Runs a program that is at hand as two, three or five replicas. What it writes goes to `out`, and each lease passes the
+/// gate before it runs.
+///
+/// Clause `run` speaks of this very job: its fields are those that clause `run` of `romain` has for a job that the store's files spell.
+pub fn run_job<R: Threads + Wait + Sync, K: Sink + Send, G: Gate + Sync>(
     rt: &R,
     alloc: Global,
     job: Job,
     out: K,
     gate: &G,
-) -> Ran<K>
+) -> JobRun<K>
     requires { CanRun (job_of job.image job.input.items job.faults.items job.settings) }
-    ensures run { RanAs (record { journal = result.journal.items; answer = result.answer; views = result.views.items; bytes = result.bytes; held_before = K.held out; held_after = K.held result.out; faults_before = K.faults out; faults_after = K.faults result.out }) (job_of job.image job.input.items job.faults.items job.settings) }
+    ensures run { IsRunOf (record { journal = result.journal.items; answer = result.answer; views = result.views.items; bytes = result.bytes; held_before = K.held out; held_after = K.held result.out; failures_before = K.failures out; failures_after = K.failures result.out }) (job_of job.image job.input.items job.faults.items job.settings) }
     ensures counts { AreCounts result.journal.items }
     ensures answer { IsOutcome result.answer (outcome_of result.journal.items) }
     ensures program { IsRefusal result.answer → ⊥ }
     ensures no_views { result.answer ≢ a.Differ → result.answer ≢ a.NoMajority → result.views.items ≡ [] }
-    ensures nothing_run { result.journal.items ≡ [] → (K.held result.out ≡ K.held out) × (K.faults result.out ≡ K.faults out) }
+    ensures nothing_run { result.journal.items ≡ [] → (K.held result.out ≡ K.held out) × (K.failures result.out ≡ K.failures out) }
 {
     let Job {
         image,
@@ -88,7 +108,7 @@ pub(crate) fn run<R: Threads + Wait + Sync, K: Sink + Send, G: Gate + Sync>(
         bytes,
         out,
     } = core.finish();
-    Ran {
+    JobRun {
         answer: answer_of(how),
         journal,
         views,

@@ -1,9 +1,11 @@
 //! Rows: a command over a store and sinks in memory, and what it comes to.
 use super::*;
 use ro_event::{Call, Stop, Which};
+use ro_image::read_executable;
 use ro_io::{Act, Gate, MemSink, MemStore, OpenGate};
 use ro_journal::{Entry, How};
 use ro_make::image_bytes;
+use ro_settings::Settings;
 use std::alloc::Global;
 use std::process::Abort;
 use std::sync::Wait;
@@ -42,6 +44,40 @@ fn kept_views(rt: HostRuntime) -> Result<(), Fail> {
             assert_eq!(rt; *view.stop(), exit_call(*status), "of {command:?}");
         }
     }
+    Ok(())
+}
+
+// A program that is at hand, and no store.
+#[test]
+fn job_at_hand(rt: HostRuntime) -> Result<(), Fail> {
+    let file = image_bytes(rt.alloc(), &HELLO, 5, &[])?;
+    let image = read_executable(rt.alloc(), file.as_slice())?;
+    let job = Job {
+        image,
+        input: Vec::new(rt.alloc()),
+        faults: Vec::new(rt.alloc()),
+        settings: Settings::DEFAULT,
+    };
+    let out = sink(rt.alloc(), &[Act::Take(2)])?;
+    let ran = run_job(&rt, rt.alloc(), job, out, &OpenGate);
+    assert_eq!(rt; ran.answer, Answer::Exit(0));
+    assert_eq!(rt; ran.bytes, 5);
+    assert_eq!(rt; ran.out.bytes(), b"hello".as_slice());
+    let end = Entry::End { how: How::Exit(0) };
+    assert_eq!(rt; ran.journal.last(), Some(&end));
+    assert!(rt; ran.views.is_empty());
+    Ok(())
+}
+
+// There is no memory for the words of a command.
+#[test]
+fn no_words(rt: HostRuntime) -> Result<(), Fail> {
+    let mut report = sink(rt.alloc(), &[Act::Take(3)])?;
+    assert_eq!(rt; without_words(&mut report), 250);
+    assert_eq!(rt; report.bytes(), b"answer no-memory\n".as_slice());
+    let mut report = sink(rt.alloc(), &[Act::Take(3), Act::Fail])?;
+    assert_eq!(rt; without_words(&mut report), 251);
+    assert_eq!(rt; report.bytes(), b"ans".as_slice());
     Ok(())
 }
 
@@ -165,7 +201,7 @@ fn failing_sinks(rt: HostRuntime) -> Result<(), Fail> {
 }
 
 /// The journal of a run of `seven`, as it is reported.
-const SEVEN: &str = "romain 1
+const SEVEN: &str = "romain 2
 take 0 0 0
 put 0 0 0 2 0
 take 0 1 0
@@ -713,27 +749,26 @@ fn sink(alloc: Global, acts: &[Act]) -> Result<MemSink, Fail> {
     Ok(MemSink::new(alloc, 1_000, Vec::from_slice(alloc, acts)?)?)
 }
 
+/// It writes `hello` and exits with 0.
+const HELLO: [u32; 11] = [
+    0x0010_0513,
+    0x0001_05B7,
+    0x0785_8593,
+    0x0050_0613,
+    0x0400_0893,
+    0x0000_0073,
+    0x0000_0513,
+    0x05D0_0893,
+    0x0000_0073,
+    0x6C6C_6568,
+    0x0000_006F,
+];
+
 /// Executables, by their words.
 const GUESTS: &[(&str, &[u32])] = &[
     // ADDI a0, zero, 7, and an exit
     ("seven", &[0x0070_0513, 0x05D0_0893, 0x0000_0073]),
-    // it writes `hello` and exits with 0
-    (
-        "hello",
-        &[
-            0x0010_0513,
-            0x0001_05B7,
-            0x0785_8593,
-            0x0050_0613,
-            0x0400_0893,
-            0x0000_0073,
-            0x0000_0513,
-            0x05D0_0893,
-            0x0000_0073,
-            0x6C6C_6568,
-            0x0000_006F,
-        ],
-    ),
+    ("hello", &HELLO),
     // it reads four bytes into the heap and exits with how many came
     (
         "read",
@@ -787,7 +822,7 @@ const PAGE_NAMES: [(&str, u32); 3] = [
 /// Lists of faults, and journals.
 const TEXTS: &[(&str, &str)] = &[
     ("journal", SEVEN),
-    ("watched", "romain 1\nvote 0 2 0 - watch\n"),
+    ("watched", "romain 2\nvote 0 2 0 - watch\n"),
     ("four", "romain 1\nvote 0 4 0 - served\n"),
     ("header", "romain 9\nvote 0 2 0 - served\n"),
     ("range", "romain 1\nvote 16 2 0 - served\n"),

@@ -5,12 +5,12 @@ ghost use Rattle.ro_journal.specs.Plan.{outcome_of};
 ghost use Rattle.ro_report.specs.Report.{answer_text, report_of};
 ghost use Rattle.ro_report.specs.declared.answers.Answer.TheVariants as a;
 ghost use Rattle.ro_settings.specs.Ranges.{InRange};
-ghost use Rattle.ro_words.specs.Commands.{AskedBench, AskedInject, AskedPlan, AskedRun, bench_by, command_of, inject_by, plan_by, run_by, to_bench, to_inject, to_plain, to_races, to_run};
+ghost use Rattle.ro_words.specs.Commands.{Asked, AskedBench, AskedInject, AskedPlan, AskedRun, bench_by, command_of, inject_by, plan_by, run_by, to_bench, to_inject, to_plain, to_races, to_run};
 ghost use Rattle.ro_words.specs.Uses.{texts_of};
 ghost use Rattle.ro_words.specs.declared.commands.WordsError.TheVariants as w;
 ghost use Rattle.ro_top.specs.Driven.{AreCounts};
-ghost use Rattle.ro_top.specs.Causes.{IsRefusal, RefusalCause, JobCause, IsOutcome};
-ghost use Rattle.ro_top.specs.Top.{OfItsBench, OfItsDraw, OfItsJob, OfItsPlan, OfItsRaces, RanAs, IsRunOf, IsTold, plain_report};
+ghost use Rattle.ro_top.specs.Causes.{AsksFor, IsRefusal, RefusalCause, JobCause, IsOutcome};
+ghost use Rattle.ro_top.specs.Top.{OfItsBench, OfItsDraw, OfItsJob, OfItsPlan, OfItsRaces, IsRunOf, IsTold, plain_report};
 ghost use Rattle.ro_top.specs.declared.done.Told.TheVariants as t;
 
 use crate::asking::{image_from, job_from, replay_from};
@@ -20,7 +20,7 @@ use crate::injecting::inject;
 use crate::playing::{Played, play, unplayed};
 use crate::racing::race;
 use crate::reports::{tell, tell_answer, tell_plan};
-use crate::running::{Ran, nothing, run};
+use crate::running::{JobRun, nothing, run_job};
 use ro_io::{Gate, Sink, Store};
 use ro_report::Answer;
 use ro_words::{
@@ -33,9 +33,10 @@ use std::thread::Threads;
 /// Does what a command asks for: its words begin with the program's name, and then stand the command's name, its arguments and
 /// its options.
 ///
-/// The files that it names are fetched from `store`, the executable first, then the input, then the faults or the plan.
+/// The files that it names are fetched from `store`, the executable first, then the input, then the faults or the plan: each once, no
+/// other, and none after one that is refused.
 ///
-/// - `run`: the program runs as two or three replicas, and what it writes goes to `out`. The report goes to `report`: the
+/// - `run`: the program runs as two, three or five replicas, and what it writes goes to `out`. The report goes to `report`: the
 ///   journal, where that is asked for, a line that sums it up, where anything ran, and the answer's line. Each lease passes the
 ///   gate before it runs.
 /// - `plain`: the plan of a journal runs on the unreplicated machine, and what it writes goes to `out`. The report has a line of
@@ -54,29 +55,31 @@ pub fn romain<'a, R: Threads + Wait + Sync, S: Store, K: Sink + Send, E: Sink, G
     report: &mut E,
     gate: &G,
 ) -> Done<K>
-    ensures run { (asked : AskedRun) → command_of (texts_of words.now) ≡ Some (to_run asked) → (bytes : ℕ) × OfItsJob (S.told store.old) asked result.journal.items (IsRunOf (record { journal = result.journal.items; answer = result.answer; views = result.views.items; bytes = bytes; held_before = K.held out; held_after = K.held result.out; faults_before = K.faults out; faults_after = K.faults result.out })) × IsTold result.told (E.held report.old) (E.held report.new) (report_of asked.journal result.journal.items bytes result.answer) }
+    ensures run { (asked : AskedRun) → command_of (texts_of words.now) ≡ Some (to_run asked) → (bytes : ℕ) × OfItsJob (S.told store.old) asked result.journal.items (IsRunOf (record { journal = result.journal.items; answer = result.answer; views = result.views.items; bytes = bytes; held_before = K.held out; held_after = K.held result.out; failures_before = K.failures out; failures_after = K.failures result.out })) × IsTold result.told (E.held report.old) (E.held report.new) (report_of asked.journal result.journal.items bytes result.answer) }
     ensures answer { (asked : AskedRun) → command_of (texts_of words.now) ≡ Some (to_run asked) → IsOutcome result.answer (outcome_of result.journal.items) }
-    ensures nothing_run { (asked : AskedRun) → command_of (texts_of words.now) ≡ Some (to_run asked) → result.journal.items ≡ [] → (K.held result.out ≡ K.held out) × (K.faults result.out ≡ K.faults out) }
-    ensures plain { (asked : AskedPlan) → command_of (texts_of words.now) ≡ Some (to_plain asked) → (steps : ℕ) × (bytes : ℕ) × OfItsPlan (S.told store.old) asked (record { answer = result.answer; steps = steps; bytes = bytes; held_before = K.held out; held_after = K.held result.out; faults_before = K.faults out; faults_after = K.faults result.out }) × IsTold result.told (E.held report.old) (E.held report.new) (plain_report steps bytes result.answer) }
+    ensures nothing_run { (asked : AskedRun) → command_of (texts_of words.now) ≡ Some (to_run asked) → result.journal.items ≡ [] → (K.held result.out ≡ K.held out) × (K.failures result.out ≡ K.failures out) }
+    ensures plain { (asked : AskedPlan) → command_of (texts_of words.now) ≡ Some (to_plain asked) → (steps : ℕ) × (bytes : ℕ) × OfItsPlan (S.told store.old) asked (record { answer = result.answer; steps = steps; bytes = bytes; held_before = K.held out; held_after = K.held result.out; failures_before = K.failures out; failures_after = K.failures result.out }) × IsTold result.told (E.held report.old) (E.held report.new) (plain_report steps bytes result.answer) }
     ensures plain_journal { (asked : AskedPlan) → command_of (texts_of words.now) ≡ Some (to_plain asked) → result.journal.items ≡ [] }
     ensures races { (asked : AskedPlan) → command_of (texts_of words.now) ≡ Some (to_races asked) → OfItsRaces (S.told store.old) asked result.answer }
     ensures races_told { (asked : AskedPlan) → command_of (texts_of words.now) ≡ Some (to_races asked) → (result.journal.items ≡ []) × IsTold result.told (E.held report.old) (E.held report.new) (answer_text result.answer) }
-    ensures races_out { (asked : AskedPlan) → command_of (texts_of words.now) ≡ Some (to_races asked) → (K.held result.out ≡ K.held out) × (K.faults result.out ≡ K.faults out) }
-    ensures inject { (asked : AskedInject) → command_of (texts_of words.now) ≡ Some (to_inject asked) → OfItsDraw (S.told store.old) asked (K.held out) (K.held result.out) (K.faults out) (K.faults result.out) result.answer }
+    ensures races_out { (asked : AskedPlan) → command_of (texts_of words.now) ≡ Some (to_races asked) → (K.held result.out ≡ K.held out) × (K.failures result.out ≡ K.failures out) }
+    ensures inject { (asked : AskedInject) → command_of (texts_of words.now) ≡ Some (to_inject asked) → OfItsDraw (S.told store.old) asked (K.held out) (K.held result.out) (K.failures out) (K.failures result.out) result.answer }
     ensures inject_told { (asked : AskedInject) → command_of (texts_of words.now) ≡ Some (to_inject asked) → (result.journal.items ≡ []) × IsTold result.told (E.held report.old) (E.held report.new) (answer_text result.answer) }
-    ensures bench { (asked : AskedBench) → command_of (texts_of words.now) ≡ Some (to_bench asked) → OfItsBench asked result.journal.items (K.held out) (K.held result.out) (K.faults out) (K.faults result.out) result.answer }
+    ensures bench { (asked : AskedBench) → command_of (texts_of words.now) ≡ Some (to_bench asked) → OfItsBench asked result.journal.items (K.held out) (K.held result.out) (K.failures out) (K.failures result.out) result.answer }
     ensures bench_told { (asked : AskedBench) → command_of (texts_of words.now) ≡ Some (to_bench asked) → IsTold result.told (E.held report.old) (E.held report.new) (answer_text result.answer) }
     ensures words { command_of (texts_of words.now) ≡ None → (result.answer ≡ a.BadWords) ⊎ (result.answer ≡ a.NoMemory) }
     ensures words_told { command_of (texts_of words.now) ≡ None → (result.journal.items ≡ []) × IsTold result.told (E.held report.old) (E.held report.new) (answer_text result.answer) }
-    ensures words_out { command_of (texts_of words.now) ≡ None → (K.held result.out ≡ K.held out) × (K.faults result.out ≡ K.faults out) }
+    ensures words_out { command_of (texts_of words.now) ≡ None → (K.held result.out ≡ K.held out) × (K.failures result.out ≡ K.failures out) }
     ensures no_views { result.answer ≢ a.Differ → result.answer ≢ a.NoMajority → result.views.items ≡ [] }
-    ensures told { result.told ≡ t.Failed → Rose (E.faults report.old) (E.faults report.new) }
-    ensures told_calm { result.told ≡ t.Whole → E.faults report.new ≡ E.faults report.old }
+    ensures told { result.told ≡ t.Failed → Rose (E.failures report.old) (E.failures report.new) }
+    ensures told_calm { result.told ≡ t.Whole → E.failures report.new ≡ E.failures report.old }
     ensures refused { IsRefusal result.answer → result.journal.items ≡ [] }
-    ensures untouched { IsRefusal result.answer → (K.held result.out ≡ K.held out) × (K.faults result.out ≡ K.faults out) }
-    ensures refusal { IsRefusal result.answer → RefusalCause (S.told store.old) (texts_of words.now) (S.faults store.old) (S.faults store.new) result.answer }
+    ensures untouched { IsRefusal result.answer → (K.held result.out ≡ K.held out) × (K.failures result.out ≡ K.failures out) }
+    ensures refusal { IsRefusal result.answer → RefusalCause (S.told store.old) (texts_of words.now) (S.failures store.old) (S.failures store.new) result.answer }
     ensures files { S.told store.new ≡ S.told store.old }
-    ensures store_calm { result.answer ≢ a.StoreFailed → S.faults store.new ≡ S.faults store.old }
+    ensures store_calm { result.answer ≢ a.StoreFailed → S.failures store.new ≡ S.failures store.old }
+    ensures asks { (asked : Asked) → command_of (texts_of words.now) ≡ Some asked → AsksFor (S.told store.old) asked (S.calls store.old) (S.calls store.new) result.answer }
+    ensures unasked { command_of (texts_of words.now) ≡ None → S.calls store.new ≡ S.calls store.old }
 {
     match parse_words(alloc, words) {
         Ok(Command::Run(command)) => run_command(rt, alloc, &command, store, out, report, gate),
@@ -95,8 +98,8 @@ fn refuse<K, E: Sink>(alloc: Global, error: WordsError, out: K, report: &mut E) 
     ensures journal { result.journal.items ≡ [] }
     ensures views { result.views.items ≡ [] }
     ensures text { IsTold result.told (E.held report.old) (E.held report.new) (answer_text result.answer) }
-    ensures told { result.told ≡ t.Failed → Rose (E.faults report.old) (E.faults report.new) }
-    ensures told_calm { result.told ≡ t.Whole → E.faults report.new ≡ E.faults report.old }
+    ensures told { result.told ≡ t.Failed → Rose (E.failures report.old) (E.failures report.new) }
+    ensures told_calm { result.told ≡ t.Whole → E.failures report.new ≡ E.failures report.old }
     ensures out { result.out ≡ out }
 {
     let answer = match error {
@@ -124,18 +127,19 @@ fn run_command<R: Threads + Wait + Sync, S: Store, K: Sink + Send, E: Sink, G: G
     gate: &G,
 ) -> Done<K>
     requires { InRange command.now.settings }
-    ensures run { (bytes : ℕ) × OfItsJob (S.told store.old) (run_by command.now) result.journal.items (IsRunOf (record { journal = result.journal.items; answer = result.answer; views = result.views.items; bytes = bytes; held_before = K.held out; held_after = K.held result.out; faults_before = K.faults out; faults_after = K.faults result.out })) × IsTold result.told (E.held report.old) (E.held report.new) (report_of command.now.journal result.journal.items bytes result.answer) }
+    ensures run { (bytes : ℕ) × OfItsJob (S.told store.old) (run_by command.now) result.journal.items (IsRunOf (record { journal = result.journal.items; answer = result.answer; views = result.views.items; bytes = bytes; held_before = K.held out; held_after = K.held result.out; failures_before = K.failures out; failures_after = K.failures result.out })) × IsTold result.told (E.held report.old) (E.held report.new) (report_of command.now.journal result.journal.items bytes result.answer) }
     ensures answer { IsOutcome result.answer (outcome_of result.journal.items) }
-    ensures nothing_run { result.journal.items ≡ [] → (K.held result.out ≡ K.held out) × (K.faults result.out ≡ K.faults out) }
+    ensures nothing_run { result.journal.items ≡ [] → (K.held result.out ≡ K.held out) × (K.failures result.out ≡ K.failures out) }
     ensures no_views { result.answer ≢ a.Differ → result.answer ≢ a.NoMajority → result.views.items ≡ [] }
-    ensures told { result.told ≡ t.Failed → Rose (E.faults report.old) (E.faults report.new) }
-    ensures told_calm { result.told ≡ t.Whole → E.faults report.new ≡ E.faults report.old }
+    ensures told { result.told ≡ t.Failed → Rose (E.failures report.old) (E.failures report.new) }
+    ensures told_calm { result.told ≡ t.Whole → E.failures report.new ≡ E.failures report.old }
     ensures refused { IsRefusal result.answer → result.journal.items ≡ [] }
-    ensures refusal { IsRefusal result.answer → JobCause (S.told store.old) (to_run (run_by command.now)) (S.faults store.old) (S.faults store.new) result.answer }
+    ensures refusal { IsRefusal result.answer → JobCause (S.told store.old) (to_run (run_by command.now)) (S.failures store.old) (S.failures store.new) result.answer }
     ensures files { S.told store.new ≡ S.told store.old }
-    ensures store_calm { result.answer ≢ a.StoreFailed → S.faults store.new ≡ S.faults store.old }
+    ensures store_calm { result.answer ≢ a.StoreFailed → S.failures store.new ≡ S.failures store.old }
+    ensures asks { AsksFor (S.told store.old) (to_run (run_by command.now)) (S.calls store.old) (S.calls store.new) result.answer }
 {
-    let Ran {
+    let JobRun {
         answer,
         journal,
         views,
@@ -160,20 +164,21 @@ fn ran<R: Threads + Wait + Sync, S: Store, K: Sink + Send, G: Gate + Sync>(
     store: &mut S,
     out: K,
     gate: &G,
-) -> Ran<K>
+) -> JobRun<K>
     requires { InRange command.now.settings }
-    ensures run { OfItsJob (S.told store.old) (run_by command.now) result.journal.items (RanAs (record { journal = result.journal.items; answer = result.answer; views = result.views.items; bytes = result.bytes; held_before = K.held out; held_after = K.held result.out; faults_before = K.faults out; faults_after = K.faults result.out })) }
+    ensures run { OfItsJob (S.told store.old) (run_by command.now) result.journal.items (IsRunOf (record { journal = result.journal.items; answer = result.answer; views = result.views.items; bytes = result.bytes; held_before = K.held out; held_after = K.held result.out; failures_before = K.failures out; failures_after = K.failures result.out })) }
     ensures counts { AreCounts result.journal.items }
     ensures answer { IsOutcome result.answer (outcome_of result.journal.items) }
-    ensures nothing_run { result.journal.items ≡ [] → (K.held result.out ≡ K.held out) × (K.faults result.out ≡ K.faults out) }
+    ensures nothing_run { result.journal.items ≡ [] → (K.held result.out ≡ K.held out) × (K.failures result.out ≡ K.failures out) }
     ensures no_views { result.answer ≢ a.Differ → result.answer ≢ a.NoMajority → result.views.items ≡ [] }
     ensures refused { IsRefusal result.answer → result.journal.items ≡ [] }
-    ensures refusal { IsRefusal result.answer → JobCause (S.told store.old) (to_run (run_by command.now)) (S.faults store.old) (S.faults store.new) result.answer }
+    ensures refusal { IsRefusal result.answer → JobCause (S.told store.old) (to_run (run_by command.now)) (S.failures store.old) (S.failures store.new) result.answer }
     ensures files { S.told store.new ≡ S.told store.old }
-    ensures store_calm { result.answer ≢ a.StoreFailed → S.faults store.new ≡ S.faults store.old }
+    ensures store_calm { result.answer ≢ a.StoreFailed → S.failures store.new ≡ S.failures store.old }
+    ensures asks { AsksFor (S.told store.old) (to_run (run_by command.now)) (S.calls store.old) (S.calls store.new) result.answer }
 {
     match job_from(alloc, command, store) {
-        Ok(job) => run(rt, alloc, job, out, gate),
+        Ok(job) => run_job(rt, alloc, job, out, gate),
         Err(answer) => nothing(alloc, answer, out),
     }
 }
@@ -186,15 +191,16 @@ fn plain_command<S: Store, K: Sink, E: Sink>(
     out: K,
     report: &mut E,
 ) -> Done<K>
-    ensures plain { (steps : ℕ) × (bytes : ℕ) × OfItsPlan (S.told store.old) (plan_by command.now) (record { answer = result.answer; steps = steps; bytes = bytes; held_before = K.held out; held_after = K.held result.out; faults_before = K.faults out; faults_after = K.faults result.out }) × IsTold result.told (E.held report.old) (E.held report.new) (plain_report steps bytes result.answer) }
+    ensures plain { (steps : ℕ) × (bytes : ℕ) × OfItsPlan (S.told store.old) (plan_by command.now) (record { answer = result.answer; steps = steps; bytes = bytes; held_before = K.held out; held_after = K.held result.out; failures_before = K.failures out; failures_after = K.failures result.out }) × IsTold result.told (E.held report.old) (E.held report.new) (plain_report steps bytes result.answer) }
     ensures journal { result.journal.items ≡ [] }
     ensures views { result.views.items ≡ [] }
-    ensures told { result.told ≡ t.Failed → Rose (E.faults report.old) (E.faults report.new) }
-    ensures told_calm { result.told ≡ t.Whole → E.faults report.new ≡ E.faults report.old }
-    ensures untouched { IsRefusal result.answer → (K.held result.out ≡ K.held out) × (K.faults result.out ≡ K.faults out) }
-    ensures refusal { IsRefusal result.answer → JobCause (S.told store.old) (to_plain (plan_by command.now)) (S.faults store.old) (S.faults store.new) result.answer }
+    ensures told { result.told ≡ t.Failed → Rose (E.failures report.old) (E.failures report.new) }
+    ensures told_calm { result.told ≡ t.Whole → E.failures report.new ≡ E.failures report.old }
+    ensures untouched { IsRefusal result.answer → (K.held result.out ≡ K.held out) × (K.failures result.out ≡ K.failures out) }
+    ensures refusal { IsRefusal result.answer → JobCause (S.told store.old) (to_plain (plan_by command.now)) (S.failures store.old) (S.failures store.new) result.answer }
     ensures files { S.told store.new ≡ S.told store.old }
-    ensures store_calm { result.answer ≢ a.StoreFailed → S.faults store.new ≡ S.faults store.old }
+    ensures store_calm { result.answer ≢ a.StoreFailed → S.failures store.new ≡ S.failures store.old }
+    ensures asks { AsksFor (S.told store.old) (to_plain (plan_by command.now)) (S.calls store.old) (S.calls store.new) result.answer }
 {
     let mut out = out;
     let Played {
@@ -219,11 +225,12 @@ fn played<S: Store, K: Sink>(
     store: &mut S,
     out: &mut K,
 ) -> Played
-    ensures plain { OfItsPlan (S.told store.old) (plan_by command.now) (record { answer = result.answer; steps = result.steps; bytes = result.bytes; held_before = K.held out.old; held_after = K.held out.new; faults_before = K.faults out.old; faults_after = K.faults out.new }) }
-    ensures untouched { IsRefusal result.answer → (K.held out.new ≡ K.held out.old) × (K.faults out.new ≡ K.faults out.old) }
-    ensures refusal { IsRefusal result.answer → JobCause (S.told store.old) (to_plain (plan_by command.now)) (S.faults store.old) (S.faults store.new) result.answer }
+    ensures plain { OfItsPlan (S.told store.old) (plan_by command.now) (record { answer = result.answer; steps = result.steps; bytes = result.bytes; held_before = K.held out.old; held_after = K.held out.new; failures_before = K.failures out.old; failures_after = K.failures out.new }) }
+    ensures untouched { IsRefusal result.answer → (K.held out.new ≡ K.held out.old) × (K.failures out.new ≡ K.failures out.old) }
+    ensures refusal { IsRefusal result.answer → JobCause (S.told store.old) (to_plain (plan_by command.now)) (S.failures store.old) (S.failures store.new) result.answer }
     ensures files { S.told store.new ≡ S.told store.old }
-    ensures store_calm { result.answer ≢ a.StoreFailed → S.faults store.new ≡ S.faults store.old }
+    ensures store_calm { result.answer ≢ a.StoreFailed → S.failures store.new ≡ S.failures store.old }
+    ensures asks { AsksFor (S.told store.old) (to_plain (plan_by command.now)) (S.calls store.old) (S.calls store.new) result.answer }
 {
     match replay_from(alloc, command, store) {
         Ok(replay) => play(alloc, replay, out),
@@ -243,12 +250,13 @@ fn races_command<S: Store, K, E: Sink>(
     ensures text { IsTold result.told (E.held report.old) (E.held report.new) (answer_text result.answer) }
     ensures journal { result.journal.items ≡ [] }
     ensures views { result.views.items ≡ [] }
-    ensures told { result.told ≡ t.Failed → Rose (E.faults report.old) (E.faults report.new) }
-    ensures told_calm { result.told ≡ t.Whole → E.faults report.new ≡ E.faults report.old }
+    ensures told { result.told ≡ t.Failed → Rose (E.failures report.old) (E.failures report.new) }
+    ensures told_calm { result.told ≡ t.Whole → E.failures report.new ≡ E.failures report.old }
     ensures out { result.out ≡ out }
-    ensures refusal { IsRefusal result.answer → JobCause (S.told store.old) (to_races (plan_by command.now)) (S.faults store.old) (S.faults store.new) result.answer }
+    ensures refusal { IsRefusal result.answer → JobCause (S.told store.old) (to_races (plan_by command.now)) (S.failures store.old) (S.failures store.new) result.answer }
     ensures files { S.told store.new ≡ S.told store.old }
-    ensures store_calm { result.answer ≢ a.StoreFailed → S.faults store.new ≡ S.faults store.old }
+    ensures store_calm { result.answer ≢ a.StoreFailed → S.failures store.new ≡ S.failures store.old }
+    ensures asks { AsksFor (S.told store.old) (to_races (plan_by command.now)) (S.calls store.old) (S.calls store.new) result.answer }
 {
     let answer = raced(alloc, command, store);
     let told = tell_answer(report, &answer);
@@ -264,9 +272,10 @@ fn races_command<S: Store, K, E: Sink>(
 // Checks the plan of a command.
 fn raced<S: Store>(alloc: Global, command: &PlanCommand<'_>, store: &mut S) -> Answer
     ensures races { OfItsRaces (S.told store.old) (plan_by command.now) result }
-    ensures refusal { IsRefusal result → JobCause (S.told store.old) (to_races (plan_by command.now)) (S.faults store.old) (S.faults store.new) result }
+    ensures refusal { IsRefusal result → JobCause (S.told store.old) (to_races (plan_by command.now)) (S.failures store.old) (S.failures store.new) result }
     ensures files { S.told store.new ≡ S.told store.old }
-    ensures store_calm { result ≢ a.StoreFailed → S.faults store.new ≡ S.faults store.old }
+    ensures store_calm { result ≢ a.StoreFailed → S.failures store.new ≡ S.failures store.old }
+    ensures asks { AsksFor (S.told store.old) (to_races (plan_by command.now)) (S.calls store.old) (S.calls store.new) result }
 {
     match replay_from(alloc, command, store) {
         Ok(replay) => race(alloc, replay),
@@ -282,16 +291,17 @@ fn inject_command<S: Store, K: Sink, E: Sink>(
     out: K,
     report: &mut E,
 ) -> Done<K>
-    ensures draw { OfItsDraw (S.told store.old) (inject_by command.now) (K.held out) (K.held result.out) (K.faults out) (K.faults result.out) result.answer }
+    ensures draw { OfItsDraw (S.told store.old) (inject_by command.now) (K.held out) (K.held result.out) (K.failures out) (K.failures result.out) result.answer }
     ensures text { IsTold result.told (E.held report.old) (E.held report.new) (answer_text result.answer) }
     ensures journal { result.journal.items ≡ [] }
     ensures views { result.views.items ≡ [] }
-    ensures told { result.told ≡ t.Failed → Rose (E.faults report.old) (E.faults report.new) }
-    ensures told_calm { result.told ≡ t.Whole → E.faults report.new ≡ E.faults report.old }
-    ensures untouched { IsRefusal result.answer → (K.held result.out ≡ K.held out) × (K.faults result.out ≡ K.faults out) }
-    ensures refusal { IsRefusal result.answer → JobCause (S.told store.old) (to_inject (inject_by command.now)) (S.faults store.old) (S.faults store.new) result.answer }
+    ensures told { result.told ≡ t.Failed → Rose (E.failures report.old) (E.failures report.new) }
+    ensures told_calm { result.told ≡ t.Whole → E.failures report.new ≡ E.failures report.old }
+    ensures untouched { IsRefusal result.answer → (K.held result.out ≡ K.held out) × (K.failures result.out ≡ K.failures out) }
+    ensures refusal { IsRefusal result.answer → JobCause (S.told store.old) (to_inject (inject_by command.now)) (S.failures store.old) (S.failures store.new) result.answer }
     ensures files { S.told store.new ≡ S.told store.old }
-    ensures store_calm { result.answer ≢ a.StoreFailed → S.faults store.new ≡ S.faults store.old }
+    ensures store_calm { result.answer ≢ a.StoreFailed → S.failures store.new ≡ S.failures store.old }
+    ensures asks { AsksFor (S.told store.old) (to_inject (inject_by command.now)) (S.calls store.old) (S.calls store.new) result.answer }
 {
     let mut out = out;
     let answer = injected(alloc, command, store, &mut out);
@@ -312,11 +322,12 @@ fn injected<S: Store, K: Sink>(
     store: &mut S,
     out: &mut K,
 ) -> Answer
-    ensures draw { OfItsDraw (S.told store.old) (inject_by command.now) (K.held out.old) (K.held out.new) (K.faults out.old) (K.faults out.new) result }
-    ensures untouched { IsRefusal result → (K.held out.new ≡ K.held out.old) × (K.faults out.new ≡ K.faults out.old) }
-    ensures refusal { IsRefusal result → JobCause (S.told store.old) (to_inject (inject_by command.now)) (S.faults store.old) (S.faults store.new) result }
+    ensures draw { OfItsDraw (S.told store.old) (inject_by command.now) (K.held out.old) (K.held out.new) (K.failures out.old) (K.failures out.new) result }
+    ensures untouched { IsRefusal result → (K.held out.new ≡ K.held out.old) × (K.failures out.new ≡ K.failures out.old) }
+    ensures refusal { IsRefusal result → JobCause (S.told store.old) (to_inject (inject_by command.now)) (S.failures store.old) (S.failures store.new) result }
     ensures files { S.told store.new ≡ S.told store.old }
-    ensures store_calm { result ≢ a.StoreFailed → S.faults store.new ≡ S.faults store.old }
+    ensures store_calm { result ≢ a.StoreFailed → S.failures store.new ≡ S.failures store.old }
+    ensures asks { AsksFor (S.told store.old) (to_inject (inject_by command.now)) (S.calls store.old) (S.calls store.new) result }
 {
     match image_from(alloc, command, store) {
         Ok(image) => inject(alloc, &image, command, out),
@@ -333,13 +344,13 @@ fn bench_command<R: Threads + Wait + Sync, K: Sink, E: Sink, G: Gate + Sync>(
     report: &mut E,
     gate: &G,
 ) -> Done<K>
-    ensures bench { OfItsBench (bench_by command.now) result.journal.items (K.held out) (K.held result.out) (K.faults out) (K.faults result.out) result.answer }
+    ensures bench { OfItsBench (bench_by command.now) result.journal.items (K.held out) (K.held result.out) (K.failures out) (K.failures result.out) result.answer }
     ensures text { IsTold result.told (E.held report.old) (E.held report.new) (answer_text result.answer) }
     ensures no_views { result.answer ≢ a.Differ → result.answer ≢ a.NoMajority → result.views.items ≡ [] }
-    ensures told { result.told ≡ t.Failed → Rose (E.faults report.old) (E.faults report.new) }
-    ensures told_calm { result.told ≡ t.Whole → E.faults report.new ≡ E.faults report.old }
+    ensures told { result.told ≡ t.Failed → Rose (E.failures report.old) (E.failures report.new) }
+    ensures told_calm { result.told ≡ t.Whole → E.failures report.new ≡ E.failures report.old }
     ensures refused { IsRefusal result.answer → result.journal.items ≡ [] }
-    ensures untouched { IsRefusal result.answer → (K.held result.out ≡ K.held out) × (K.faults result.out ≡ K.faults out) }
+    ensures untouched { IsRefusal result.answer → (K.held result.out ≡ K.held out) × (K.failures result.out ≡ K.failures out) }
     ensures refusal { (files : Option Files) (before after : ℕ) → IsRefusal result.answer → JobCause files (to_bench (bench_by command.now)) before after result.answer }
 {
     let mut out = out;

@@ -8,7 +8,7 @@ use ro_report::Answer;
 // Writes a text, and says how that ended.
 pub(crate) fn write<K: Sink>(out: &mut K, text: &[u8]) -> Answer
     requires { length text.now < 2 ^ 32 }
-    ensures { WritesText text.now (K.held out.old) (K.held out.new) (K.faults out.old) (K.faults out.new) result }
+    ensures { WritesText text.now (K.held out.old) (K.held out.new) (K.failures out.old) (K.failures out.new) result }
 {
     match send(out, text) {
         None => Answer::Exit(0),

@@ -1,1 +1,4 @@
-pub mod Majority
+pub mod Places
+pub mod Verdicts
+pub mod Copies
+pub mod Answered

@@ -1,20 +1,24 @@
 //! Votes of views that differ in one part.
 use super::*;
 use ro_event::{Call, Stop, View, Which};
+use ro_journal::Lost;
 
-// Of each two views, one part is not the same.
-fn unlike_views() -> [View; 6] {
-    let alike = [0; 31];
-    let mut struck = alike;
-    struck[30] = 1;
-    [
-        View::new(alike, 0x10054, 2, exits(7)),
-        View::new(struck, 0x10054, 2, exits(7)),
-        View::new(alike, 0x10056, 2, exits(7)),
-        View::new(alike, 0x10054, 3, exits(7)),
-        View::new(alike, 0x10054, 2, exits(6)),
-        View::new(alike, 0x10054, 2, Stop::Watchdog),
-    ]
+const KINDS: usize = 6;
+
+// A view of this kind. Of each two kinds, one part is not the same.
+fn shown(kind: usize) -> View {
+    let mut registers = [0; 31];
+    if kind == 1 {
+        registers[30] = 1;
+    }
+    let pc = if kind == 2 { 0x10056 } else { 0x10054 };
+    let since = if kind == 3 { 3 } else { 2 };
+    let stop = match kind {
+        4 => exits(6),
+        5 => Stop::Watchdog,
+        _ => exits(7),
+    };
+    View::new(registers, pc, since, stop)
 }
 
 fn exits(status: u32) -> Stop {
@@ -29,35 +33,51 @@ fn exits(status: u32) -> Stop {
 
 #[test]
 fn two(rt: HostRuntime) {
-    let views = unlike_views();
-    let others = unlike_views();
-    for (i, a) in views.iter().enumerate() {
-        for (k, b) in others.iter().enumerate() {
-            let want = if i == k { Pair::Same } else { Pair::Differ };
-            assert_eq!(rt; vote2(a, b), want, "{i} and {k}");
+    for i in 0..KINDS {
+        for k in 0..KINDS {
+            let want = if i == k { won(0, Lost::Nobody) } else { None };
+            assert_eq!(rt; verdict(&[shown(i), shown(k)]), want, "{i} and {k}");
         }
     }
 }
 
 #[test]
 fn three(rt: HostRuntime) {
-    let views = unlike_views();
-    for (i, a) in views.iter().enumerate() {
-        for (k, b) in views.iter().enumerate() {
-            if i == k {
-                assert_eq!(rt; vote3(a, a, b), won(0, None), "all are {i}");
-                continue;
-            }
-            assert_eq!(rt; vote3(a, a, b), won(0, Some(2)), "{i} {i} {k}");
-            assert_eq!(rt; vote3(a, b, a), won(0, Some(1)), "{i} {k} {i}");
-            assert_eq!(rt; vote3(b, a, a), won(1, Some(0)), "{k} {i} {i}");
+    for i in 0..KINDS {
+        assert_eq!(rt; of_three(i, i, i), won(0, Lost::Nobody), "all are {i}");
+        for k in (0..KINDS).filter(|k| *k != i) {
+            assert_eq!(rt; of_three(i, i, k), won(0, Lost::One(2)), "{i} {i} {k}");
+            assert_eq!(rt; of_three(i, k, i), won(0, Lost::One(1)), "{i} {k} {i}");
+            assert_eq!(rt; of_three(k, i, i), won(1, Lost::One(0)), "{k} {i} {i}");
         }
     }
-    let [a, b, c, d, e, f] = &views;
-    assert_eq!(rt; vote3(a, b, c), None);
-    assert_eq!(rt; vote3(d, e, f), None);
+    assert_eq!(rt; of_three(0, 1, 2), None);
+    assert_eq!(rt; of_three(3, 4, 5), None);
 }
 
-fn won(won: u32, lost: Option<u32>) -> Option<Won> {
+#[test]
+fn five(rt: HostRuntime) {
+    for (kinds, want) in [
+        ([0, 0, 0, 0, 0], won(0, Lost::Nobody)),
+        ([0, 0, 1, 0, 0], won(0, Lost::One(2))),
+        ([1, 0, 0, 0, 0], won(1, Lost::One(0))),
+        ([0, 1, 0, 1, 0], won(0, Lost::Two(1, 3))),
+        ([1, 1, 0, 0, 0], won(2, Lost::Two(0, 1))),
+        ([1, 0, 0, 2, 0], won(1, Lost::Two(0, 3))),
+        ([0, 0, 0, 1, 2], won(0, Lost::Two(3, 4))),
+        ([0, 0, 1, 1, 2], None),
+        ([0, 1, 2, 0, 3], None),
+        ([0, 1, 2, 3, 4], None),
+    ] {
+        let views = kinds.map(shown);
+        assert_eq!(rt; verdict(&views), want, "{kinds:?}");
+    }
+}
+
+fn of_three(a: usize, b: usize, c: usize) -> Option<Won> {
+    verdict(&[shown(a), shown(b), shown(c)])
+}
+
+fn won(won: u32, lost: Lost) -> Option<Won> {
     Some(Won { won, lost })
 }

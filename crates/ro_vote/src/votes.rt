@@ -1,55 +1,54 @@
-//! Votes of two and of three replicas.
-ghost use Rattle.std.specs.Prelude.{◌≡◌, ◌≢◌, ◌↔◌, [], ◌∷◌, IsNone, IfSome};
-ghost use Rattle.ro_vote.specs.Verdict.{verdict_of};
-ghost use Rattle.ro_vote.specs.Votes.{verdict_of_pair, verdict_of_three, IsWonBy};
+//! Votes of up to five replicas.
+ghost use Rattle.std.specs.Prelude.{◌≡◌, ◌≤◌, ◌↔◌, length, IsNone, IfSome, Some, None, if◌then◌else◌};
+ghost use Rattle.std.specs.Option.{option_map};
+ghost use Rattle.ro_journal.specs.Losers.{numbers};
+ghost use Rattle.ro_vote.specs.Verdict.{most_hold, differing_from, verdict_of};
+ghost use Rattle.ro_vote.specs.Votes.{verdict_by, NoneIsHeld, IsWonBy};
 
 use ro_event::View;
+use ro_journal::Lost;
 
-/// What comes of a vote of two.
-#[derive(Clone, Copy, Debug, PartialEq, Eq)]
-pub enum Pair {
-    Same,
-    Differ,
-}
-
-/// A majority: the lowest replica of those that show the same, and the one that shows something else, if any.
+/// A majority: the lowest replica of those that show the same, and those that show something else.
 #[derive(Clone, Copy, Debug, PartialEq, Eq)]
 pub struct Won {
     pub won: u32,
-    pub lost: Option<u32>,
+    pub lost: Lost,
 }
 
-/// Whether two replicas show the same.
+/// The majority of at most five replicas, or `None` where more than half of them show no view.
 #[tactic(auto, unfolding(crate::specs::Verdict::verdict_of))]
-pub fn vote2(a: &View, b: &View) -> Pair
-    ensures verdict { verdict_of_pair result ≡ verdict_of (a.now ∷ b.now ∷ []) }
-    ensures same { (result ≡ Pair.Same) ↔ (a.now ≡ b.now) }
+pub fn verdict(views: &[View]) -> Option<Won>
+    requires { length views.now ≤ 5 }
+    ensures verdict { verdict_by result ≡ verdict_of views.now }
+    ensures split { IsNone result ↔ NoneIsHeld views.now }
+    ensures majority { IfSome result (λ w. IsWonBy views.now w.won (numbers w.lost)) }
 {
-    if a.same(b) { Pair::Same } else { Pair::Differ }
-}
-
-/// The majority of three replicas, or `None` where no two of them show the same.
-#[tactic(auto, unfolding(crate::specs::Verdict::verdict_of))]
-pub fn vote3(a: &View, b: &View, c: &View) -> Option<Won>
-    ensures verdict { verdict_of_three result ≡ verdict_of (a.now ∷ b.now ∷ c.now ∷ []) }
-    ensures split { IsNone result ↔ (a.now ≢ b.now) × (a.now ≢ c.now) × (b.now ≢ c.now) }
-    ensures majority { IfSome result (λ w. IsWonBy (a.now ∷ b.now ∷ c.now ∷ []) w.won w.lost) }
-{
-    if a.same(b) {
-        let lost = if a.same(c) { None } else { Some(2) };
-        return Some(Won { won: 0, lost });
-    }
-    if a.same(c) {
-        return Some(Won {
-            won: 0,
-            lost: Some(1),
-        });
-    }
-    if b.same(c) {
-        return Some(Won {
-            won: 1,
-            lost: Some(0),
-        });
+    for (number, view) in views.iter().enumerate() {
+        if let Some(lost) = losers(view, views) {
+            return Some(Won {
+                won: number as u32,
+                lost,
+            });
+        }
     }
     None
+}
+
+// Who shows something else than this view, where more than half show it.
+#[tactic(auto, using(crate::proofs::Answered::counts))]
+fn losers(view: &View, views: &[View]) -> Option<Lost>
+    requires { length views.now ≤ 5 }
+    ensures { option_map numbers result ≡ (if most_hold views.now view.now then Some (differing_from view.now 0 views.now) else None) }
+{
+    let mut lost = Lost::Nobody;
+    for (number, other) in views.iter().enumerate() {
+        if !view.same(other) {
+            lost = lost.with(number as u32)?;
+        }
+    }
+    if 2 * lost.count() < views.len() {
+        Some(lost)
+    } else {
+        None
+    }
 }

@@ -1,9 +1,9 @@
 -- Laws of the command that words spell.
-use Rattle.std.proofs.Common.{◌≡◌, ◌∙◌, ℕ, Bool, true, false, not, ◌&&◌, ◌||◌, List, [], ◌∷◌, ◌++◌, Option, Some, None, refl, ap, ap₂, sym, subst, arith, codes, inl, inr}
-use Rattle.std.specs.Prelude.{find, option_and_then, option_map, if◌then◌else◌, IfSome}
+use Rattle.std.proofs.Common.{◌≡◌, ◌∙◌, ℕ, Bool, true, false, not, ◌&&◌, ◌||◌, ◌⊎◌, List, [], ◌∷◌, ◌++◌, Option, Some, None, refl, ap, ap₂, sym, subst, arith, codes, inl, inr}
+use Rattle.std.specs.Prelude.{◌==◌, find, option_and_then, option_map, if◌then◌else◌, IfSome}
 use Rattle.std.specs.List.{list_all}
 use Rattle.std.specs.Str.{bytes_eq}
-use Rattle.std.proofs.lemmas.Bool.{cases_Bool}
+use Rattle.std.proofs.lemmas.Bool.{cases_Bool, or_cases, eqb-true}
 use Rattle.std.proofs.lemmas.List.{append_assoc}
 use Rattle.std.proofs.lemmas.Slice.Eq.{bytes_eq-Decides}
 use Rattle.std.specs.Str.Parse.{digits_value, without_leading_plus}
@@ -11,8 +11,8 @@ use Rattle.clap.specs.ValueTests.{is_unsigned_in}
 use Rattle.clap.specs.declared.builder.value_parser.ValueParser.TheVariants as vp
 use Rattle.clap.proofs.ValueTestLemmas.{accepts-Accepts}
 use Rattle.ro_settings.specs.declared.Settings.{Settings}
-use Rattle.ro_settings.specs.Ranges.{InRange, IsFrom}
-use Rattle.ro_words.specs.Commands.{Asked, AskedPlan, Fits, Spelling, asked_of, bench_from, bench_given, bench_spelling, bench_syntax, command_of, given_number, inject_from, inject_given, inject_spelling, inject_syntax, maybe_number, number_in, number_or, plain_given, plain_spelling, plan_given, plan_syntax, races_given, races_spelling, run_from, run_given, run_spelling, run_syntax, settings_from, settings_of, spelling_of, to_plain, to_races, to_run, usual_run}
+use Rattle.ro_settings.specs.Ranges.{InRange, IsFrom, IsReplicas}
+use Rattle.ro_words.specs.Commands.{Asked, AskedPlan, are_replicas, replicas_only, Fits, Spelling, asked_of, bench_from, bench_given, bench_spelling, bench_syntax, command_of, given_number, inject_from, inject_given, inject_spelling, inject_syntax, maybe_number, number_in, number_or, plain_given, plain_spelling, plan_given, plan_syntax, races_given, races_spelling, run_from, run_given, run_spelling, run_syntax, settings_from, settings_of, spelling_of, to_plain, to_races, to_run, usual_run}
 use Rattle.ro_words.specs.Uses.{Syntax, Text, Use, is_argument, is_once, is_used, is_whole, option_uses, required_of, takes_value, text_of, uses_from, with_use}
 use Rattle.ro_words.proofs.Names.{Grammar, IsValued, by_key, flagged, takes_one, unmet}
 use Rattle.ro_words.proofs.Grammars.{bench_grammar, inject_grammar, plan_grammar, run_grammar}
@@ -60,11 +60,37 @@ made_of (Some a) (Some b) None d e s is = cc
 made_of (Some a) (Some b) (Some c) None e s is = cc
 made_of (Some a) (Some b) (Some c) (Some d) None s is = cc
 
+-- so many replicas are two, three or five
+which : (n : ℕ) → are_replicas n ≡ true → IsReplicas n
+which n is = elim (or_cases ((n == 2) || (n == 3)) (n == 5) is) [
+  | inl few ↦ elim (or_cases (n == 2) (n == 3) few) [
+    | inl two ↦ inl (eqb-true n 2 two)
+    | inr three ↦ inr (inl (eqb-true n 3 three))
+  ]
+  | inr five ↦ inr (inr (eqb-true n 5 five))
+]
+
+are : (n : ℕ) → IsReplicas n → are_replicas n ≡ true
+are n (inl two) = subst (λ (m : ℕ). are_replicas m ≡ true) (sym two) refl
+are n (inr (inl three)) = subst (λ (m : ℕ). are_replicas m ≡ true) (sym three) refl
+are n (inr (inr five)) = subst (λ (m : ℕ). are_replicas m ≡ true) (sym five) refl
+
+pub only_some : (o : Option ℕ) (n : ℕ) → replicas_only o ≡ Some n → (o ≡ Some n) × IsReplicas n
+only_some None n is = cc
+only_some (Some m) n is = by (are_replicas m) refl is
+  where
+    by : (b : Bool) → are_replicas m ≡ b → (if b then Some m else None) ≡ Some n → (Some m ≡ Some n) × IsReplicas n
+    by true e f = (f, subst IsReplicas (some_same m n f) (which m e))
+    by false e f = cc
+
+pub only_fits : (n : ℕ) → IsReplicas n → replicas_only (Some n) ≡ Some n
+only_fits n fits = ap (λ (b : Bool). if b then Some n else None) (are n fits)
+
 pub settings_fit : (given : Text → Option Text) (s : Settings) → settings_of given ≡ Some s → InRange s
 settings_fit given s is =
     let parts = made_of _ _ _ _ _ s is in
     record {
-      replicas = from_number 3 2 3 s.replicas (given (codes "replicas")) (omega arith, omega arith) parts.0;
+      replicas = (only_some (number_or 3 2 5 (given (codes "replicas"))) s.replicas parts.0).1;
       drivers = from_number 3 1 8 s.drivers (given (codes "drivers")) (omega arith, omega arith) parts.1;
       watchdog = from_number 10000 100 1000000 s.watchdog (given (codes "watchdog")) (omega arith, omega arith) parts.2;
       quantum = from_number 4096 1 65536 s.quantum (given (codes "quantum")) (omega arith, omega arith) parts.3;
@@ -95,20 +121,20 @@ given_from least most n None is = cc
 given_from least most n (Some text) is = in_from least most n text is
 
 inject_from_fits : (seed count : Option ℕ) (exe : Option Text) (replica : Option (Option ℕ)) (asked : Asked) → ((n : ℕ) → count ≡ Some n → IsFrom 1 256 n)
-    → ((o : Option ℕ) → replica ≡ Some o → IfSome o (IsFrom 0 2)) → inject_from seed count exe replica ≡ Some asked → Fits asked
+    → ((o : Option ℕ) → replica ≡ Some o → IfSome o (IsFrom 0 4)) → inject_from seed count exe replica ≡ Some asked → Fits asked
 inject_from_fits None count exe replica asked few within is = cc
 inject_from_fits (Some seed) None exe replica asked few within is = cc
 inject_from_fits (Some seed) (Some count) None replica asked few within is = cc
 inject_from_fits (Some seed) (Some count) (Some exe) None asked few within is = cc
 inject_from_fits (Some seed) (Some count) (Some exe) (Some replica) asked few within is = subst Fits (some_same _ asked is) (few count refl, within replica refl)
 
-maybe_from : (given : Option Text) (o : Option ℕ) → maybe_number 0 2 given ≡ Some o → IfSome o (IsFrom 0 2)
-maybe_from None o is = subst (λ (x : Option ℕ). IfSome x (IsFrom 0 2)) (some_same None o is) tt
-maybe_from (Some text) o is = by (number_in 0 2 text) refl is
+maybe_from : (given : Option Text) (o : Option ℕ) → maybe_number 0 4 given ≡ Some o → IfSome o (IsFrom 0 4)
+maybe_from None o is = subst (λ (x : Option ℕ). IfSome x (IsFrom 0 4)) (some_same None o is) tt
+maybe_from (Some text) o is = by (number_in 0 4 text) refl is
   where
-    by : (n : Option ℕ) → number_in 0 2 text ≡ n → option_map (λ x. Some x) n ≡ Some o → IfSome o (IsFrom 0 2)
+    by : (n : Option ℕ) → number_in 0 4 text ≡ n → option_map (λ x. Some x) n ≡ Some o → IfSome o (IsFrom 0 4)
     by None e f = cc
-    by (Some n) e f = subst (λ (x : Option ℕ). IfSome x (IsFrom 0 2)) (some_same (Some n) o f) (in_from 0 2 n text e)
+    by (Some n) e f = subst (λ (x : Option ℕ). IfSome x (IsFrom 0 4)) (some_same (Some n) o f) (in_from 0 4 n text e)
 
 inject_fits : (given : Text → Option Text) (journal : Bool) (asked : Asked) → inject_given given journal ≡ Some asked → Fits asked
 inject_fits given journal asked is = inject_from_fits _ _ (given (codes "exe")) _ asked (λ n e. given_from 1 256 n (given (codes "count")) e) (maybe_from (given (codes "replica"))) is

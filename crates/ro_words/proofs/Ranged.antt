@@ -10,9 +10,10 @@ use Rattle.clap.specs.declared.builder.value_parser.ValueParser.TheVariants as v
 use Rattle.clap.proofs.ValueTestLemmas.{Accepts-accepts, accepts-Accepts}
 use Rattle.ro_settings.specs.declared.Settings.{Settings}
 use Rattle.ro_settings.specs.Ranges.{InRange, IsFrom}
-use Rattle.ro_words.specs.Commands.{number_or, settings_of, unranged}
+use Rattle.ro_words.specs.Commands.{replicas_only, number_or, settings_of, unranged}
+use Rattle.ro_settings.proofs.Counts.{few-replicas}
 use Rattle.ro_words.specs.Uses.{Text}
-use Rattle.ro_words.proofs.Lawful.{from_number, made_of, settings_fit, some_same}
+use Rattle.ro_words.proofs.Lawful.{from_number, only_some, only_fits, made_of, settings_fit, some_same}
 
 -- a number that is read in a range is read in a wider one
 wider : (usual least most wide n : ℕ) (given : Option Text) → most ≤ wide → number_or usual least most given ≡ Some n → number_or usual 0 wide given ≡ Some n
@@ -74,7 +75,7 @@ small_read E usual n given (Err e) low is reads =
 settings_wider : (given : Text → Option Text) (s : Settings) → settings_of given ≡ Some s → unranged given ≡ Some s
 settings_wider given s is =
     let parts = made_of _ _ _ _ _ s is in
-    let replicas = wider 3 2 3 (2 ^ 32 - 1) s.replicas (given (codes "replicas")) (omega arith) parts.0 in
+    let replicas = wider 3 2 5 (2 ^ 32 - 1) s.replicas (given (codes "replicas")) (omega arith) (only_some (number_or 3 2 5 (given (codes "replicas"))) s.replicas parts.0).0 in
     let drivers = wider 3 1 8 (2 ^ 32 - 1) s.drivers (given (codes "drivers")) (omega arith) parts.1 in
     let watchdog = wider 10000 100 1000000 (2 ^ 32 - 1) s.watchdog (given (codes "watchdog")) (omega arith) parts.2 in
     let quantum = wider 4096 1 65536 (2 ^ 32 - 1) s.quantum (given (codes "quantum")) (omega arith) parts.3 in
@@ -84,7 +85,8 @@ settings_wider given s is =
 pub settings_in_range : (given : Text → Option Text) (s : Settings) → Some s ≡ unranged given → InRange s → Some s ≡ settings_of given
 settings_in_range given s is fits =
     let parts = made_of _ _ _ _ _ s (sym is) in
-    let replicas = narrower 3 2 3 (2 ^ 32 - 1) s.replicas (given (codes "replicas")) fits.replicas parts.0 in
+    let read = narrower 3 2 5 (2 ^ 32 - 1) s.replicas (given (codes "replicas")) (few-replicas s.replicas fits.replicas) parts.0 in
+    let replicas = ap replicas_only read ∙ only_fits s.replicas fits.replicas in
     let drivers = narrower 3 1 8 (2 ^ 32 - 1) s.drivers (given (codes "drivers")) fits.drivers parts.1 in
     let watchdog = narrower 10000 100 1000000 (2 ^ 32 - 1) s.watchdog (given (codes "watchdog")) fits.watchdog parts.2 in
     let quantum = narrower 4096 1 65536 (2 ^ 32 - 1) s.quantum (given (codes "quantum")) fits.quantum parts.3 in

@@ -1,7 +1,7 @@
 -- The command that words spell: its name, then its arguments in their order, with its options anywhere among them, each at most
 -- once.
 use Rattle.std.specs.Prelude.{ℕ, ◌-◌, ◌^◌, Bool, true, false, List, [], ◌∷◌, Option, Some, None, codes}
-use Rattle.std.specs.Prelude.{if◌then◌else◌, option_and_then, option_map, find, IfSome}
+use Rattle.std.specs.Prelude.{◌==◌, ◌||◌, if◌then◌else◌, option_and_then, option_map, find, IfSome}
 use denote.Bor.{Bor}
 use Rattle.std.specs.Str.{bytes_eq}
 use Rattle.std.specs.Str.Parse.{digits_value, without_leading_plus}
@@ -41,6 +41,14 @@ abbrev pub maybe_number : (least most : ℕ) → Option Text → Option (Option 
 maybe_number least most None = Some None
 maybe_number least most (Some text) = option_map (λ number. Some number) (number_in least most text)
 
+-- so many replicas, where so many may run
+abbrev pub are_replicas : ℕ → Bool
+are_replicas n = (n == 2) || (n == 3) || (n == 5)
+
+abbrev pub replicas_only : Option ℕ → Option ℕ
+replicas_only None = None
+replicas_only (Some n) = if are_replicas n then Some n else None
+
 abbrev pub settings_from : (replicas drivers watchdog quantum limit : Option ℕ) → Option Settings
 settings_from (Some replicas) (Some drivers) (Some watchdog) (Some quantum) (Some limit) = Some (record {
   replicas = replicas;
@@ -54,7 +62,7 @@ settings_from _ _ _ _ _ = None
 -- the settings, from the texts that are given under the options' names
 abbrev pub settings_of : (Text → Option Text) → Option Settings
 settings_of given = settings_from
-    (number_or default_settings.replicas 2 3 (given (codes "replicas")))
+    (replicas_only (number_or default_settings.replicas 2 5 (given (codes "replicas"))))
     (number_or default_settings.drivers 1 8 (given (codes "drivers")))
     (number_or default_settings.watchdog 100 1000000 (given (codes "watchdog")))
     (number_or default_settings.quantum 1 65536 (given (codes "quantum")))
@@ -150,7 +158,7 @@ inject_from _ _ _ _ = None
 
 abbrev pub inject_given : (Text → Option Text) → Bool → Option Asked
 inject_given given journal = inject_from (given_number 0 (2 ^ 64 - 1) (given (codes "seed"))) (given_number 1 256 (given (codes "count")))
-    (given (codes "exe")) (maybe_number 0 2 (given (codes "replica")))
+    (given (codes "exe")) (maybe_number 0 4 (given (codes "replica")))
 
 abbrev pub bench_from : Option ℕ → Option ℕ → Option Asked
 bench_from (Some seed) (Some size) = Some (to_bench (record { seed = seed; size = size }))
@@ -262,7 +270,7 @@ abbrev pub Fits : Asked → Type 0
 Fits (to_run run) = InRange run.settings
 Fits (to_plain plain) = Unit {0}
 Fits (to_races races) = Unit {0}
-Fits (to_inject inject) = IsFrom 1 256 inject.count × IfSome inject.replica (IsFrom 0 2)
+Fits (to_inject inject) = IsFrom 1 256 inject.count × IfSome inject.replica (IsFrom 0 4)
 Fits (to_bench bench) = IsFrom 1 2000 bench.size
 
 -- what a parse that failed says of the words

@@ -212,7 +212,7 @@ fn inject_command<'a>(matches: &ArgMatches<'a>) -> Option<Command<'a>>
         seed: number_in(matches.get_str("seed")?)?,
         count: number_within(matches.get_str("count")?, 1, 256)?,
         executable: matches.get_str("exe")?,
-        replica: maybe_within(matches.get_str("replica"), 0, 2)?,
+        replica: maybe_within(matches.get_str("replica"), 0, 4)?,
     }))
 }
 

@@ -324,7 +324,7 @@ const NOT_COMMANDS: &[&[&str]] = &[
     &["romain", "inject", "42", "1"],
     &["romain", "inject", "18446744073709551616", "1", "p0"],
     &["romain", "inject", "p0", "42", "1"],
-    &["romain", "inject", "42", "1", "p0", "--replica", "3"],
+    &["romain", "inject", "42", "1", "p0", "--replica", "5"],
     &["romain", "bench", "1", "0"],
     &["romain", "bench", "1", "2001"],
     &["romain", "bench", "1"],

@@ -5,27 +5,22 @@
 #![tactic(auto)]
 
 use ro_io::{FileStore, OpenGate, OutSink};
-use ro_top::romain;
+use ro_top::{romain, without_words};
 use std::alloc::{AllocError, Global};
 use std::env::{self, Args};
 use std::io::ErrorKind;
 use std::process::ExitCode;
 
-/// The status where there is no memory for the words.
-const NO_MEMORY: u8 = 250;
-/// The status where the report was not taken.
-const REPORT_FAILED: u8 = 251;
-
 fn main(rt: HostRuntime) -> ExitCode {
     let alloc = rt.alloc();
+    let mut report = OutSink::new(rt.stderr());
     let Ok(words) = words(&rt, alloc) else {
-        return without_words(&rt);
+        return ExitCode::from(without_words(&mut report));
     };
     let Ok(texts) = texts(alloc, words.as_slice()) else {
-        return without_words(&rt);
+        return ExitCode::from(without_words(&mut report));
     };
     let mut store = FileStore::new(&rt);
-    let mut report = OutSink::new(rt.stderr());
     let out = OutSink::new(rt.stdout());
     let done = romain(
         &rt,
@@ -63,12 +58,4 @@ fn texts<'a>(alloc: Global, words: &'a [String]) -> Result<Vec<&'a str>, AllocEr
         texts.push(word.as_str())?;
     }
     Ok(texts)
-}
-
-// There is no memory for the words: that is the answer, and the whole report.
-fn without_words(rt: &HostRuntime) -> ExitCode {
-    match eprintln!(rt; "answer no-memory") {
-        Ok(()) => ExitCode::from(NO_MEMORY),
-        Err(_) => ExitCode::from(REPORT_FAILED),
-    }
 }

@@ -3,4 +3,4 @@ use Rattle.ro_inject.proofs.Within.{faults-within}
 use Rattle.ro_inject.proofs.laws.drawn_faults_are_read.Goals as goal
 
 pub returns : goal.returns
-returns c = λ ranges only seed count are fits. faults-within ranges are only fits count (generator_of seed)
+returns c = λ ranges only replicas seed count are three fits. faults-within ranges are only replicas three fits count (generator_of seed)

@@ -3,7 +3,7 @@ use Rattle.ro_io.specs.Outside.{more}
 use Rattle.ro_io.proofs.sending.send.Given as goal
 
 abbrev pub invariant-loop-sent : goal.invariant-loop-sent
-invariant-loop-sent g l = (l.sent ≤ length l.bytes) × (g.K.Sink.held l.out ≡ more (g.K.Sink.held l.fn.out) (take l.sent l.bytes)) × (g.K.Sink.faults l.out ≡ g.K.Sink.faults l.fn.out)
+invariant-loop-sent g l = (l.sent ≤ length l.bytes) × (g.K.Sink.held l.out ≡ more (g.K.Sink.held l.fn.out) (take l.sent l.bytes)) × (g.K.Sink.failures l.out ≡ g.K.Sink.failures l.fn.out)
 
 abbrev pub decreases-loop-sent : goal.decreases-loop-sent
 decreases-loop-sent g l = length l.bytes - l.sent

@@ -7,7 +7,7 @@ invariant-loop-now g l = record {
   from : l.fn.progress.steps ≤ l.now.steps;
   most : l.now.steps ≤ l.fn.progress.steps + l.fn.count;
   bytes : l.now.bytes ≤ 4096 * l.now.steps;
-  faults : g.K.Sink.faults l.fn.out ≤ g.K.Sink.faults l.out;
+  failures : g.K.Sink.failures l.fn.out ≤ g.K.Sink.failures l.out;
   played : Played l.fn.plain (replicate (l.now.steps - l.fn.progress.steps) l.thread) l.plain (g.K.Sink.held l.fn.out) (g.K.Sink.held l.out) l.fn.progress.steps l.now.steps l.fn.progress.bytes l.now.bytes;
 }
 

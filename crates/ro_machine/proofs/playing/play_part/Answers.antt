@@ -18,6 +18,6 @@ returns-clause-halts g c =
     let first = played-plain c.args.plain.now c.run_on-ran.new.self c.args.thread c.run_on-ran.result h c.args.progress.steps (c.args.progress.steps + c.from.result) c.args.progress.bytes (ap (λ (n : ℕ). c.args.progress.steps + n) c.from.ensures) c.run_on-ran.ensures.plays in
     let less : c.run_on-ran.result < c.args.most = omega (arith, c.run_on-ran.ensures.count, c.if-ran-most.false) in
     if-err c.play_one.result _ _
-    (λ e q. halts-all c.args.plain.now c.args.thread c.run_on-ran.result c.args.most h (g.K.Sink.held c.play_one.new.out) c.args.progress.steps (g.K.Sink.faults c.args.out.now) (g.K.Sink.faults c.play_one.new.out) e less
-    (halts-later c.args.plain.now c.run_on-ran.new.self (replicate c.run_on-ran.result c.args.thread) (c.args.thread ∷ []) h h (g.K.Sink.held c.play_one.new.out) _ _ 0 _ _ 0 first (g.K.Sink.faults c.args.out.now) (g.K.Sink.faults c.args.out.now) (g.K.Sink.faults c.play_one.new.out) e (omega arith) q))
+    (λ e q. halts-all c.args.plain.now c.args.thread c.run_on-ran.result c.args.most h (g.K.Sink.held c.play_one.new.out) c.args.progress.steps (g.K.Sink.failures c.args.out.now) (g.K.Sink.failures c.play_one.new.out) e less
+    (halts-later c.args.plain.now c.run_on-ran.new.self (replicate c.run_on-ran.result c.args.thread) (c.args.thread ∷ []) h h (g.K.Sink.held c.play_one.new.out) _ _ 0 _ _ 0 first (g.K.Sink.failures c.args.out.now) (g.K.Sink.failures c.args.out.now) (g.K.Sink.failures c.play_one.new.out) e (omega arith) q))
     c.play_one.ensures.halts

@@ -9,7 +9,7 @@ returns-in_default-clause-fails g c = stops-begin (record { image = c.args.image
 pub returns-in_err-progress-clause-fails : goal.returns-in_err-progress-clause-fails
 returns-in_err-progress-clause-fails g c =
     let p = err_from_is_err_and c.from_residual.result c.from_residual.ensures.1 in
-    rw (p.1, p.2) (fails (record { image = c.args.image; input = c.args.input.now }) c.in-Ok.plain c.in-Ok.ensures.program c.in-Ok.ensures.opening (plan_of c.args.journal.now) (g.K.Sink.held c.args.out.now) (g.K.Sink.held c.play_all.new.out) (g.K.Sink.faults c.args.out.now) (g.K.Sink.faults c.play_all.new.out) c.in_err-progress.field-0.0 c.in_err-progress.ensures.halts)
+    rw (p.1, p.2) (fails (record { image = c.args.image; input = c.args.input.now }) c.in-Ok.plain c.in-Ok.ensures.program c.in-Ok.ensures.opening (plan_of c.args.journal.now) (g.K.Sink.held c.args.out.now) (g.K.Sink.held c.play_all.new.out) (g.K.Sink.failures c.args.out.now) (g.K.Sink.failures c.play_all.new.out) c.in_err-progress.field-0.0 c.in_err-progress.ensures.halts)
 
 pub returns-in-Ok-end_of-clause-runs : goal.returns-in-Ok-end_of-clause-runs
 returns-in-Ok-end_of-clause-runs g c =

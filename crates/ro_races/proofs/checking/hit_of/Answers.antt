@@ -1,16 +1,6 @@
-use Rattle.ro_races.specs.Shadows.{IsHit}
-use Rattle.ro_machine.specs.Watched.{span_of}
-use Rattle.ro_races.specs.Seen.{seen_by}
-use Rattle.ro_races.proofs.Hits.{first-of-both}
+use Rattle.std.proofs.Common.{⊎_elim}
 use Rattle.ro_races.proofs.checking.hit_of.Goals as goal
 
-pub returns : goal.returns
-returns c =
-    let writes = c.args.writes.now.items in
-    let reads = c.args.reads.now.items in
-    let past = seen_by c.args.past.now in
-    let w = c.args.watched.now in
-    first-of-both _ _ c.better.result c.better-2.result c.better-3.result
-    (first-of-both (IsHit writes (span_of w.loaded) past) (IsHit writes (span_of w.code) past) c.first_hit-loaded.result c.first_hit-code.result c.better.result c.first_hit-loaded.ensures c.first_hit-code.ensures c.better.ensures)
-    (first-of-both (IsHit writes (span_of w.stored) past) (IsHit reads (span_of w.stored) past) c.first_hit-stored.result c.first_hit-read.result c.better-2.result c.first_hit-stored.ensures c.first_hit-read.ensures c.better-2.ensures)
-    c.better-3.ensures
+pub returns-then-is_quiet-4 : goal.returns-then-is_quiet-4
+returns-then-is_quiet-4 c mark byte h =
+    ⊎_elim (⊎_elim (c.is_quiet-then-is_quiet.ensures c.if-is_quiet-2.true mark byte) (c.is_quiet.ensures c.if-is_quiet.true mark byte)) (⊎_elim (c.is_quiet-then-is_quiet-2.ensures c.if-is_quiet-3.true mark byte) (c.is_quiet-then-is_quiet-3.ensures c.if-is_quiet-4.true mark byte)) h

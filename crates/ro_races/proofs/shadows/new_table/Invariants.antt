@@ -5,6 +5,6 @@ use Rattle.ro_races.proofs.shadows.new_table.Given as goal
 
 abbrev pub invariant-loop : goal.invariant-loop
 invariant-loop l = record {
-  pages : length l.table.items ≡ l.counter;
-  empty : (k : ℕ) (page : Vec Clock Global) → slice_get l.table.items k ≡ Some page → page.items ≡ [];
+  seconds : length l.table.items ≡ l.counter;
+  empty : (k : ℕ) (second : Vec (Vec Clock Global) Global) → slice_get l.table.items k ≡ Some second → second.items ≡ [];
 }

@@ -1,16 +1,13 @@
-use Rattle.std.proofs.Common.{sym, ◌∙◌}
-use Rattle.ro_races.proofs.Tables.{touched-same, touched-made, was-empty, was-made}
+use Rattle.std.proofs.Common.{◌/◌, ◌%◌, length, ap, sym, ◌∙◌}
+use Rattle.std.proofs.lemmas.Bool.{eqb-true}
+use Rattle.ro_races.specs.Seen.{seen_by}
+use Rattle.ro_races.specs.Shadows.{page_at, clock_at}
+use Rattle.ro_races.proofs.Tables.{nothing-in, marks-same, fresh-clocks}
 use Rattle.ro_races.proofs.shadows.touch.Goals as goal
 
-pub returns-in_ok-table-clause-same : goal.returns-in_ok-table-clause-same
-returns-in_ok-table-clause-same c =
-    let was = was-empty c.args.table.now.items c.args.page c.index.result.now c.requires.table.pages c.requires.page c.index.ensures (sym c.is_empty.ensures ∙ c.if-is_empty.true) in
-    touched-same c.args.table.now.items c.args.page c.index.result.now c.in_ok-table.field-0 was.0 was.1 c.in_ok-table.ensures
-
-pub returns-in_ok-table-clause-whole : goal.returns-in_ok-table-clause-whole
-returns-in_ok-table-clause-whole c =
-    let was = was-empty c.args.table.now.items c.args.page c.index.result.now c.requires.table.pages c.requires.page c.index.ensures (sym c.is_empty.ensures ∙ c.if-is_empty.true) in
-    touched-made c.args.table.now.items c.args.page c.index.result.now c.in_ok-table.field-0 was.0 c.in_ok-table.ensures
-
-pub returns-else-is_empty-clause-whole : goal.returns-else-is_empty-clause-whole
-returns-else-is_empty-clause-whole c = was-made c.args.table.now.items c.args.page c.index.result.now c.requires.table c.requires.page c.index.ensures (sym c.is_empty.ensures ∙ c.if-is_empty.false)
+pub returns-clause-same : goal.returns-clause-same
+returns-clause-same c byte thread =
+    let none = c.in_ok-touch_second.ensures.same c.args.page ∙ nothing-in (page_at c.args.table.now.items c.args.page) (ap length (sym c.page_of.ensures) ∙ eqb-true (length c.page_of.result.now) 0 (sym c.is_empty.ensures ∙ c.if-not-is_empty.false)) in
+    marks-same c.touch_second.new.table.items c.put_page.new.table.items c.args.page c.in_ok-clocks.clocks.items c.put_page.ensures.changes
+    (λ o less. fresh-clocks c.in_ok-clocks.clocks.items (page_at c.touch_second.new.table.items c.args.page) o none (c.in_ok-clocks.ensures.items_if_clones_equal (λ y e. e))) byte thread
+    ∙ ap (λ xs. seen_by (clock_at xs (byte % 4096)) thread) (c.in_ok-touch_second.ensures.same (byte / 4096))

@@ -4,7 +4,7 @@ use Rattle.ro_top.proofs.reports.give_all.Given as goal
 
 -- what was given so far, and what is left
 abbrev pub invariant-loop-rest : goal.invariant-loop-rest
-invariant-loop-rest g l = (given : List ℕ) × (l.fn.bytes ≡ given ++ l.rest) × (g.E.Sink.held l.sink ≡ more (g.E.Sink.held l.fn.sink) given) × (g.E.Sink.faults l.sink ≡ g.E.Sink.faults l.fn.sink)
+invariant-loop-rest g l = (given : List ℕ) × (l.fn.bytes ≡ given ++ l.rest) × (g.E.Sink.held l.sink ≡ more (g.E.Sink.held l.fn.sink) given) × (g.E.Sink.failures l.sink ≡ g.E.Sink.failures l.fn.sink)
 
 abbrev pub decreases-loop-rest : goal.decreases-loop-rest
 decreases-loop-rest g l = length l.rest

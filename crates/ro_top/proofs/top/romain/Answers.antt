@@ -1,10 +1,11 @@
 use Rattle.std.proofs.Common.{◌≡◌, Some, ap, subst, ◌∙◌}
 use Rattle.ro_report.specs.Report.{report_of}
-use Rattle.ro_words.specs.Commands.{AskedRun, asked_by, bench_by, run_by, to_bench}
+use Rattle.ro_words.specs.Commands.{Asked, AskedRun, asked_by, bench_by, run_by, to_bench, to_run}
 use Rattle.ro_words.specs.declared.commands.Command.{Command}
 use Rattle.ro_words.specs.Uses.{texts_of}
 use Rattle.ro_top.specs.Top.{IsTold}
-use Rattle.ro_top.proofs.Asked.{one_run, spelled_cause}
+use Rattle.ro_top.specs.Causes.{AsksFor}
+use Rattle.ro_top.proofs.Asked.{bench_asks, one_command, one_run, spelled_cause, unread_asks}
 use Rattle.ro_top.proofs.Claims.{same_job}
 use Rattle.ro_top.proofs.top.romain.Goals as goal
 
@@ -20,6 +21,22 @@ returns-in-Ok-Run-clause-run g c = λ asked is.
 pub returns-in-Ok-Bench-clause-refusal : goal.returns-in-Ok-Bench-clause-refusal
 returns-in-Ok-Bench-clause-refusal g c = λ refusal.
     let store = c.args.store.now in
-    spelled_cause (g.S.Store.told store) (texts_of c.args.words.now) (to_bench (bench_by c.in-Ok-Bench.command)) (g.S.Store.faults store) (g.S.Store.faults store) c.bench_command.result.answer
+    spelled_cause (g.S.Store.told store) (texts_of c.args.words.now) (to_bench (bench_by c.in-Ok-Bench.command)) (g.S.Store.failures store) (g.S.Store.failures store) c.bench_command.result.answer
     (c.in-Ok-Bench.ensures.spelled ∙ ap (λ (x : Command). Some (asked_by x)) c.in-Ok-Bench.field-0-is)
-    (c.bench_command.ensures.refusal (g.S.Store.told store) (g.S.Store.faults store) (g.S.Store.faults store) refusal)
+    (c.bench_command.ensures.refusal (g.S.Store.told store) (g.S.Store.failures store) (g.S.Store.failures store) refusal)
+
+pub returns-in-Ok-Run-clause-asks : goal.returns-in-Ok-Run-clause-asks
+returns-in-Ok-Run-clause-asks g c = λ asked is.
+    let same : to_run (run_by c.in-Ok-Run.command) ≡ asked = one_command (texts_of c.args.words.now) _ asked (c.in-Ok-Run.ensures.spelled ∙ ap (λ (x : Command). Some (asked_by x)) c.in-Ok-Run.field-0-is) is in
+    subst (λ (x : Asked). AsksFor (g.S.Store.told c.args.store.now) x (g.S.Store.calls c.args.store.now) (g.S.Store.calls c.run_command.new.store) c.run_command.result.answer) same c.run_command.ensures.asks
+
+pub returns-in-Ok-Bench-clause-asks : goal.returns-in-Ok-Bench-clause-asks
+returns-in-Ok-Bench-clause-asks g c = λ asked is.
+    let store = c.args.store.now in
+    let same : to_bench (bench_by c.in-Ok-Bench.command) ≡ asked = one_command (texts_of c.args.words.now) _ asked (c.in-Ok-Bench.ensures.spelled ∙ ap (λ (x : Command). Some (asked_by x)) c.in-Ok-Bench.field-0-is) is in
+    subst (λ (x : Asked). AsksFor (g.S.Store.told store) x (g.S.Store.calls store) (g.S.Store.calls store) c.bench_command.result.answer) same
+    (bench_asks (g.S.Store.told store) (bench_by c.in-Ok-Bench.command) (g.S.Store.calls store) c.bench_command.result.answer (c.bench_command.ensures.refusal (g.S.Store.told store) 0 0))
+
+pub returns-in-Err-clause-asks : goal.returns-in-Err-clause-asks
+returns-in-Err-clause-asks g c = λ asked is.
+    unread_asks (g.S.Store.told c.args.store.now) (texts_of c.args.words.now) asked (g.S.Store.calls c.args.store.now) c.in-Err.error c.refuse.result.answer c.in-Err.ensures.refused c.refuse.ensures.memory is

@@ -6,14 +6,16 @@ use Rattle.ro_core.specs.Seen.{CoreOf, state, Appends, Quiet}
 use Rattle.ro_core.proofs.Held.{with-old}
 use Rattle.ro_core.proofs.cores.Core.end.Goals as goal
 
+pub end-requires-clause-next : goal.end-requires-clause-next
+end-requires-clause-next g c = ap (λ (v : CoreOf). next_action v.job (state v)) c.self.view_is ∙ c.requires
+
 pub returns-clause-entry : goal.returns-clause-entry
-returns-clause-entry g c how is_next =
-    let m = ap (λ (v : CoreOf). next_action v.job (state v)) c.self.view_is ∙ is_next in
-    let allowed = c.end.ensures.allowed how m in (
-      subst (λ (v : CoreOf). IsAllowed v.job (replay v.job v.journal) (End how)) c.self.view_is allowed.0,
-      subst (λ (v : CoreOf). IsNext v.job (replay v.job v.journal) (End how)) c.self.view_is allowed.1,
-      with-old (λ old new. Appends old new (End how)) c.self.view_is (c.end.ensures.appends how m (g.K.Sink.held c.self.inside.out) (g.K.Sink.faults c.self.inside.out)),
+returns-clause-entry g c =
+    let how = c.args.how in (
+      subst (λ (v : CoreOf). IsAllowed v.job (replay v.job v.journal) (End how)) c.self.view_is c.end.ensures.allowed.0,
+      subst (λ (v : CoreOf). IsNext v.job (replay v.job v.journal) (End how)) c.self.view_is c.end.ensures.allowed.1,
+      with-old (λ old new. Appends old new (End how)) c.self.view_is (c.end.ensures.appends (g.K.Sink.held c.self.inside.out) (g.K.Sink.failures c.self.inside.out)),
     )
 
 pub returns-clause-quiet : goal.returns-clause-quiet
-returns-clause-quiet g c = with-old Quiet c.self.view_is (c.end.ensures.quiet (g.K.Sink.held c.self.inside.out) (g.K.Sink.faults c.self.inside.out))
+returns-clause-quiet g c = with-old Quiet c.self.view_is (c.end.ensures.quiet (g.K.Sink.held c.self.inside.out) (g.K.Sink.failures c.self.inside.out))

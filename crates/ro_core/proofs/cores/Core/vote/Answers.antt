@@ -13,7 +13,7 @@ returns-clause-entry g c =
     let entry = c.in_ok-voted.voted.entry in
     let x = c.in_ok-voted.ensures.entry in
     let n = c.note.ensures.noted in
-    let a = x.2 (g.K.Sink.held c.self.inside.out) (g.K.Sink.faults c.self.inside.out) in (
+    let a = x.2 (g.K.Sink.held c.self.inside.out) (g.K.Sink.failures c.self.inside.out) in (
       subst (λ (v : CoreOf). IsAllowed v.job (state v) entry) c.self.view_is x.0,
       subst (λ (v : CoreOf). DecidesVote v.job (state v) c.args.thread entry) c.self.view_is x.1,
       with-old (λ old new. Appends old new entry) c.self.view_is (record { job = n.job ∙ a.job; journal = n.journal ∙ a.journal }),
@@ -25,13 +25,13 @@ returns-clause-sends g c =
     let failed = c.send-failed.result in
     let held = g.K.Sink.held c.self.inside.out in
     let held' = g.K.Sink.held c.send-failed.new.out in
-    let faults = g.K.Sink.faults c.self.inside.out in
-    let faults' = g.K.Sink.faults c.send-failed.new.out in
-    let told : Took c.payload-payload.result.now failed held held' faults faults' = record { whole = c.send-failed.ensures.whole; part = c.send-failed.ensures.part; calm = c.send-failed.ensures.calm; grow = c.send-failed.ensures.faults } in
-    let took = subst (λ (xs : List ℕ). Took xs failed held held' faults faults') c.payload-payload.ensures told in
+    let failures = g.K.Sink.failures c.self.inside.out in
+    let failures' = g.K.Sink.failures c.send-failed.new.out in
+    let told : Took c.payload-payload.result.now failed held held' failures failures' = record { whole = c.send-failed.ensures.whole; part = c.send-failed.ensures.part; calm = c.send-failed.ensures.calm; grow = c.send-failed.ensures.failures } in
+    let took = subst (λ (xs : List ℕ). Took xs failed held held' failures failures') c.payload-payload.ensures told in
     let sent = c.note.ensures.sent (sent_in (fields_of c.self.inside.run)) bytes c.in_ok-voted.ensures.wrote in (
       bytes_by failed bytes,
-      with-old (λ old new. Sends old new (bytes_by failed bytes)) c.self.view_is (took-sends c.self.inside.run c.vote.new.self c.note.new.self bytes failed held held' faults faults' sent c.note.ensures.noted took),
+      with-old (λ old new. Sends old new (bytes_by failed bytes)) c.self.view_is (took-sends c.self.inside.run c.vote.new.self c.note.new.self bytes failed held held' failures failures' sent c.note.ensures.noted took),
       subst (λ (v : CoreOf). (bytes_by failed bytes ≡ []) ⊎ IsOfMajority (views_of v.job (state v) c.args.thread) (bytes_by failed bytes)) c.self.view_is (front-majority _ failed bytes c.in_ok-voted.ensures.majority),
     )
 
@@ -40,4 +40,4 @@ returns-clause-shown g c split =
     c.note.ensures.noted.views ∙ c.in_ok-voted.ensures.shown split ∙ ap (λ (v : CoreOf). views_of v.job (state v) c.args.thread) c.self.view_is
 
 pub returns-in_err-voted-clause-err : goal.returns-in_err-voted-clause-err
-returns-in_err-voted-clause-err g c = always-on-err c.from_residual.result (with-old Stays c.self.view_is (c.in_err-voted.ensures.err (g.K.Sink.held c.self.inside.out) (g.K.Sink.faults c.self.inside.out)))
+returns-in_err-voted-clause-err g c = always-on-err c.from_residual.result (with-old Stays c.self.view_is (c.in_err-voted.ensures.err (g.K.Sink.held c.self.inside.out) (g.K.Sink.failures c.self.inside.out)))

@@ -17,7 +17,7 @@ use Rattle.ro_core.specs.Grouped.{AreMade}
 use Rattle.ro_core.specs.Runs.{fields_of, job_of, state_of, payload_by, WithAnySink, CanOccur, LastWrote}
 use Rattle.ro_core.proofs.Concludes.{ended-wrote}
 use Rattle.ro_core.proofs.Held.{limit-keeps}
-use Rattle.ro_core.proofs.Votes.{hold-within, hold-there, hold-steps, hold-goes, hold-not-over, hold-alone, hold-home, hold-made-all, hold-recovers, seat-of, hold-over, hold-entry, hold-can, hold-writer, hold-majority, held-room, ready-stands}
+use Rattle.ro_core.proofs.Votes.{hold-within, hold-there, hold-steps, hold-goes, hold-not-over, hold-alone, hold-home, hold-made-all, hold-twins, hold-losers, seat-of, hold-over, hold-entry, hold-can, hold-writer, hold-majority, held-room, ready-stands}
 use Rattle.ro_core.proofs.runs.Run.hold.Goals as goal
 
 pub index-view-requires : goal.index-view-requires
@@ -70,11 +70,16 @@ heal-requires-clause-won c =
     seat-of f c.args.thread c.args.won.won c.args.won.lost v f.seats (hold-home f c.args.thread c.args.won.won c.args.won.lost v) c.args.won.won (hold-within f c.args.thread c.args.won.won c.args.won.lost v)
 
 pub heal-requires-clause-lost : goal.heal-requires-clause-lost
-heal-requires-clause-lost c lost e =
+heal-requires-clause-lost c =
     let f = fields_of c.prepare.new.self in
     let v = held-room (fields_of c.args.self.now) f c.args.thread c.args.won.won c.args.won.lost c.requires.held c.prepare.ensures.makes in
-    let r = hold-recovers f c.args.thread c.args.won.won c.args.won.lost v f.seats (hold-home f c.args.thread c.args.won.won c.args.won.lost v) lost e in
-    (r.1, r.2, r.3)
+    hold-losers f c.args.thread c.args.won.won c.args.won.lost v f.seats (hold-home f c.args.thread c.args.won.won c.args.won.lost v)
+
+pub heal-requires-clause-twins : goal.heal-requires-clause-twins
+heal-requires-clause-twins c =
+    let f = fields_of c.prepare.new.self in
+    let v = held-room (fields_of c.args.self.now) f c.args.thread c.args.won.won c.args.won.lost c.requires.held c.prepare.ensures.makes in
+    hold-twins f c.args.thread c.args.won.won c.args.won.lost v f.seats (hold-home f c.args.thread c.args.won.won c.args.won.lost v)
 
 pub occur-requires : goal.occur-requires
 occur-requires c =
@@ -123,7 +128,7 @@ returns-clause-entry c =
           (ap (λ (x : Stop). (event_of f.kernel.setup f.kernel.kernel c.args.thread x view.payload).did) (sym c.stop.ensures) ∙ c.did_of-did.ensures view.payload)
           c.since-count.ensures (let a = c.since-count.ensures in let b = c.from.ensures in let d = c.steps.ensures in omega arith) (omega arith),
       refl,
-      λ held faults. record {
+      λ held failures. record {
         job = c.occur.ensures.job ∙ ap (λ (x : Setup). record { program = record { image = c.prepare.new.self.image; input = x.input }; faults = c.prepare.new.self.faults.items; settings = c.prepare.new.self.settings }) c.happen.ensures.setup ∙ m.job;
         journal = c.occur.ensures.journal ∙ ap (λ (js : List Entry). js ++ Vote c.args.thread c.since-count.result c.args.won.won c.args.won.lost c.did_of-did.result ∷ []) m.journal;
       },

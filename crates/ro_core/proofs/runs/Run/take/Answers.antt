@@ -28,7 +28,7 @@ returns-clause-holds c =
     (omega (arith, parts.0, same, c.push_reserved.ensures.len, c.push_reserved.ensures.capacity))
 
 pub returns-clause-quiet : goal.returns-clause-quiet
-returns-clause-quiet c held faults =
+returns-clause-quiet c held failures =
     let f : Fields = fields_of c.args.self.now in
     let none = (take-goes f c.requires.holds c.args.driver c.args.replica c.args.thread c.requires.allowed).not_failed in
     record {
@@ -36,7 +36,7 @@ returns-clause-quiet c held faults =
       sent = ap (sent_of f.job c.push_reserved.new.self.items) none ∙ ap (λ js. sent_of f.job js None) c.push_reserved.ensures.items
           ∙ take-output f.job f.journal c.args.driver c.args.replica c.args.thread ∙ sym (ap (sent_of f.job f.journal) none);
       held = refl;
-      faults = refl;
+      failures = refl;
     }
 
 pub returns-clause-lent : goal.returns-clause-lent

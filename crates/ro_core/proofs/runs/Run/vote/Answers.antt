@@ -1,9 +1,9 @@
-use Rattle.std.proofs.Common.{◌≡◌, ◌⊎◌, [], ℕ, List, length, sym, ap, ◌∙◌, subst}
+use Rattle.std.proofs.Common.{◌≡◌, ◌⊎◌, ◌≤◌, [], ℕ, List, length, sym, ap, ◌∙◌, subst}
 use Rattle.std.proofs.lemmas.List.{with_items_is}
 use Rattle.std.proofs.lemmas.Result.{IfOk-weaker, on_err_weaker}
 use Rattle.ro_event.specs.Views.{View}
 use Rattle.ro_vote.specs.Verdict.{verdict_of}
-use Rattle.ro_vote.specs.Votes.{verdict_of_three}
+use Rattle.ro_vote.specs.Votes.{verdict_by}
 use Rattle.ro_core.specs.Seen.{IsOfMajority}
 use Rattle.ro_core.specs.Fields.{Fields, core_in}
 use Rattle.ro_core.specs.Runs.{fields_of, payload_by}
@@ -17,7 +17,7 @@ pub verdict-requires : goal.verdict-requires
 verdict-requires c =
     let f : Fields = fields_of c.args.self.now in
     let items = with_items_is c.args.self.now.views c.show.new.views (c.show.ensures.count ∙ c.as_mut_slice.ensures.len) in
-    subst (λ (n : ℕ). (n ≡ 2) ⊎ (n ≡ 3)) (sym (ap length (c.as_slice.ensures.value ∙ items) ∙ c.show.ensures.count ∙ ap length c.as_mut_slice.ensures.value)) (view-count f c.requires.holds c.args.thread c.requires.may)
+    subst (λ (n : ℕ). n ≤ 5) (sym (ap length (c.as_slice.ensures.value ∙ items) ∙ c.show.ensures.count ∙ ap length c.as_mut_slice.ensures.value)) (view-count f c.requires.holds c.args.thread c.requires.may)
 
 pub hold-requires : goal.hold-requires
 hold-requires c =
@@ -28,7 +28,7 @@ hold-requires c =
         holds = viewed-holds f _ c.requires.holds (view-still f c.requires.holds c.args.thread c.requires.may) (ap length items ∙ c.show.ensures.count ∙ ap length c.as_mut_slice.ensures.value);
         may = c.requires.may;
         views_are = view-views f c.requires.holds c.args.thread c.requires.may _ (items ∙ c.show.ensures.views f.job (core_in f).replicas (view-home f c.requires.holds c.args.thread c.requires.may));
-        verdict = ap verdict_of (sym c.as_slice.ensures.value) ∙ sym c.verdict.ensures ∙ ap verdict_of_three c.in-Some.is;
+        verdict = ap verdict_of (sym c.as_slice.ensures.value) ∙ sym c.verdict.ensures.verdict ∙ ap verdict_by c.in-Some.is;
       };
     }
 
@@ -45,7 +45,7 @@ split-requires-clause-views c =
     view-views f c.requires.holds c.args.thread c.requires.may _ (items ∙ c.show.ensures.views f.job (core_in f).replicas (view-home f c.requires.holds c.args.thread c.requires.may))
 
 pub returns-in-Some-clause-entry : goal.returns-in-Some-clause-entry
-returns-in-Some-clause-entry c = IfOk-weaker c.hold.result _ _ (λ voted x. (x.0, x.1, λ held faults. let a = x.2 held faults in record { job = a.job; journal = a.journal })) c.hold.ensures.entry
+returns-in-Some-clause-entry c = IfOk-weaker c.hold.result _ _ (λ voted x. (x.0, x.1, λ held failures. let a = x.2 held failures in record { job = a.job; journal = a.journal })) c.hold.ensures.entry
 
 pub returns-in-Some-clause-majority : goal.returns-in-Some-clause-majority
 returns-in-Some-clause-majority c =
@@ -56,10 +56,10 @@ returns-in-Some-clause-majority c =
 
 pub returns-in-Some-clause-err : goal.returns-in-Some-clause-err
 returns-in-Some-clause-err c =
-    on_err_weaker c.hold.result (λ x held faults. let s = x held faults in record { job = s.job; journal = s.journal; failed = s.failed; held = s.held; faults = s.faults }) c.hold.ensures.err
+    on_err_weaker c.hold.result (λ x held failures. let s = x held failures in record { job = s.job; journal = s.journal; failed = s.failed; held = s.held; failures = s.failures }) c.hold.ensures.err
 
 pub returns-in-None-clause-entry : goal.returns-in-None-clause-entry
-returns-in-None-clause-entry c = (c.split.ensures.allowed, c.split.ensures.decides, λ held faults. let a = c.split.ensures.appends held faults in record { job = a.job; journal = a.journal })
+returns-in-None-clause-entry c = (c.split.ensures.allowed, c.split.ensures.decides, λ held failures. let a = c.split.ensures.appends held failures in record { job = a.job; journal = a.journal })
 
 pub returns-in-None-clause-shown : goal.returns-in-None-clause-shown
 returns-in-None-clause-shown c split =

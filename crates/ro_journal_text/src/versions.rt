@@ -1,0 +1,24 @@
+//! The versions of a journal's text.
+ghost use Rattle.std.specs.Prelude.{◌≡◌};
+ghost use Rattle.ro_journal_text.specs.Reading.{most_replica};
+
+/// Which first line a text has. `Second` is written, both are read.
+#[derive(Clone, Copy, PartialEq, Eq, Debug)]
+pub enum Version {
+    /// `romain 1`: replicas 0 to 2, of which one loses a vote at most.
+    First,
+    /// `romain 2`: replicas 0 to 4, of which two lose a vote at most.
+    Second,
+}
+
+impl Version {
+    /// The highest number of a replica.
+    pub fn most_replica(self) -> u64
+        ensures { result ≡ most_replica self }
+    {
+        match self {
+            Version::First => 2,
+            Version::Second => 4,
+        }
+    }
+}

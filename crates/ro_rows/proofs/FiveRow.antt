@@ -1,0 +1,39 @@
+-- A row of five replicas: 0 and 3 are struck, both lose the vote, and the program exits with 7.
+use Rattle.std.specs.Prelude.{◌≡◌, true, [], ◌∷◌, Some}
+use Rattle.std.proofs.Common.{refl}
+use Rattle.ro_journal.specs.declared.losers.Lost.TheVariants.{Two}
+use Rattle.ro_decode.specs.Table.{instruction_of}
+use Rattle.ro_event.specs.Table.{call_at}
+use Rattle.ro_region.specs.Permission.{permits_of}
+use Rattle.ro_alu.specs.Results.{alu_of, taken_by}
+use Rattle.ro_exec.specs.Meaning.{meaning}
+use Rattle.ro_exec.specs.Next.{fetch_stop, instruction_stop, next}
+use Rattle.ro_exec.specs.Threads.{first_cpu, made_cpu}
+use Rattle.ro_kernel.specs.Serve.{serve, payload_of}
+use Rattle.ro_journal.specs.declared.Did.TheVariants.{Served}
+use Rattle.ro_journal.specs.declared.How.TheVariants.{Exit}
+use Rattle.ro_journal.specs.declared.Entry.TheVariants.{Vote, End}
+use Rattle.ro_vote.specs.Verdict.{verdict_of}
+use Rattle.ro_replica.specs.Replica.{opening_replica, applied, cancelled, recovered}
+use Rattle.ro_replica.specs.Runs.{struck, execute}
+use Rattle.ro_core.specs.Core.{opening_core}
+use Rattle.ro_core.specs.Event.{event_of}
+use Rattle.ro_core.specs.Legal.{Legal, after}
+use Rattle.ro_core.specs.Action.{next_action}
+use Rattle.ro_simulation.specs.Drives.{driven}
+use Rattle.ro_simulation.proofs.Checks.{test_legal, legal-by-test}
+use Rattle.ro_rows.specs.Rows.{decisions, five_job}
+
+-- it passes the test of legality
+passes : test_legal five_job (opening_core five_job) (driven 20 five_job) ≡ true
+unfolding opening_core opening_replica struck execute applied cancelled recovered verdict_of event_of after next_action first_cpu made_cpu next fetch_stop instruction_stop instruction_of call_at permits_of alu_of taken_by meaning serve payload_of
+passes = refl
+
+-- the journal is legal
+pub five-legal : Legal five_job (driven 20 five_job)
+five-legal = legal-by-test five_job (opening_core five_job) (driven 20 five_job) passes
+
+-- this is what it decides
+pub five-decides : decisions (driven 20 five_job) ≡ Vote 0 2 1 (Two 0 3) Served ∷ End (Exit 7) ∷ []
+unfolding opening_core opening_replica struck execute applied cancelled recovered verdict_of event_of after next_action first_cpu made_cpu next fetch_stop instruction_stop instruction_of call_at permits_of alu_of taken_by meaning serve payload_of
+five-decides = refl

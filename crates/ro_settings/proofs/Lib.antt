@@ -1,0 +1,2 @@
+-- how many replicas may run
+pub mod Counts

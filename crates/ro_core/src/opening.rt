@@ -8,7 +8,7 @@ ghost use Rattle.ro_core.specs.Fields.{Holds};
 ghost use Rattle.ro_core.specs.Opening.{AreFirst};
 ghost use Rattle.ro_core.specs.Runs.{fields_of, core_of};
 
-use crate::runs::Run;
+use crate::runs::{Run, THREADS};
 use crate::seats::Seats;
 use ro_event::{Stop, View};
 use ro_faults::Fault;
@@ -50,7 +50,7 @@ impl Run {
             },
             leases: Vec::new(alloc),
             kernel: Kernel::new(alloc, image.heap(), regions, input)?,
-            blocked: [None; 16],
+            blocked: [None; THREADS],
             steps: 0,
             sent: 0,
             due: None,

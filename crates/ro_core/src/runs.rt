@@ -20,6 +20,9 @@ use ro_kernel::Kernel;
 use ro_settings::Settings;
 use std::alloc::Global;
 
+/// How many threads a program may make.
+pub(crate) const THREADS: usize = ro_limits::MOST_THREADS as usize;
+
 /// A run: what it was opened with, its journal, and what that journal leaves.
 pub(crate) struct Run {
     pub image: Executable,
@@ -30,7 +33,7 @@ pub(crate) struct Run {
     pub leases: Vec<Lease>,
     pub kernel: Kernel,
     /// Of each thread the voted call on which it is blocked.
-    pub blocked: [Option<Call>; 16],
+    pub blocked: [Option<Call>; THREADS],
     /// The length of the plan so far.
     pub steps: u64,
     /// How many bytes left.

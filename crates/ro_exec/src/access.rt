@@ -4,6 +4,7 @@ ghost use Rattle.ro_pages.specs.Bytes.{IsSize};
 ghost use Rattle.ro_exec.specs.Next.{access_stop};
 
 use ro_event::Stop;
+use ro_limits::PAGE_SIZE;
 use ro_pages::Memory;
 use ro_region::{Kind, Regions};
 
@@ -29,8 +30,8 @@ pub fn check_access<M: Memory>(
     if !regions.permits(address, size, kind) {
         return Err(Stop::Trap(forbidden));
     }
-    if !memory.backed(address / 4096) {
-        return Err(Stop::PageFault(address / 4096));
+    if !memory.backed(address / PAGE_SIZE) {
+        return Err(Stop::PageFault(address / PAGE_SIZE));
     }
     Ok(())
 }

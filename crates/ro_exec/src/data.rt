@@ -9,6 +9,7 @@ ghost use Rattle.ro_exec.specs.declared.stretch.Stretch.{Stretch as StretchOf};
 ghost use Rattle.ro_exec.specs.Stretches.{IsOpenTo, AreOpenTo};
 
 use crate::stretch::{NONE, Stretch};
+use ro_limits::PAGE_SIZE;
 use ro_pages::Memory;
 use ro_region::{Kind, Regions};
 
@@ -39,7 +40,7 @@ impl Open {
     pub fn at(&self, address: u32) -> Stretch
         ensures { slice_get self.now.stretches (address / 4096 % 16) ≡ Some result }
     {
-        self.stretches[(address / 4096) as usize % PLACES]
+        self.stretches[(address / PAGE_SIZE) as usize % PLACES]
     }
 
     /// Keeps the words of an address' page.
@@ -49,7 +50,7 @@ impl Open {
         requires { AreOpenTo regions.now (M.backing memory.now) (M.kept memory.now) kind self.old.stretches }
         ensures { AreOpenTo regions.now (M.backing memory.now) (M.kept memory.now) kind self.new.stretches }
     {
-        let page = address / 4096;
+        let page = address / PAGE_SIZE;
         self.stretches[page as usize % PLACES] = open_in_page(page, memory, regions, kind);
     }
 

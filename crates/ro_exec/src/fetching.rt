@@ -5,6 +5,7 @@ ghost use Rattle.ro_exec.specs.Next.{call_of, fetch_stop};
 
 use crate::{Cpu, EXIT_PLACE, traps};
 use ro_event::{Call, CallTable, Stop, Which};
+use ro_limits::PAGE_SIZE;
 use ro_pages::Memory;
 use ro_region::{Kind, Regions};
 
@@ -33,8 +34,8 @@ pub fn fetch<M: Memory>(
     if !regions.permits(pc, 4, Kind::Execute) {
         return Err(Stop::Trap(traps::FETCH_FORBIDDEN));
     }
-    if !memory.backed(pc / 4096) {
-        return Err(Stop::PageFault(pc / 4096));
+    if !memory.backed(pc / PAGE_SIZE) {
+        return Err(Stop::PageFault(pc / PAGE_SIZE));
     }
     Ok(memory.load(pc, 4))
 }

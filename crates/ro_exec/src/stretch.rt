@@ -7,6 +7,7 @@ ghost use Rattle.ro_region.specs.declared.Kind.TheVariants.{Execute};
 
 use crate::EXIT_PLACE;
 use ro_event::CallTable;
+use ro_limits::PAGE_SIZE;
 use ro_pages::Memory;
 use ro_region::{Kind, Regions};
 
@@ -107,8 +108,8 @@ fn stretch_at<M: Memory>(pc: u32, memory: &M, regions: &Regions, calls: &CallTab
     ensures aligned { result.from % 4 ≡ 0 }
     ensures bounded { result.from + 4 * result.words ≤ 2 ^ 32 }
 {
-    let page = pc / 4096;
-    if page >= EXIT_PLACE / 4096 || !memory.backed(page) {
+    let page = pc / PAGE_SIZE;
+    if page >= EXIT_PLACE / PAGE_SIZE || !memory.backed(page) {
         return NONE;
     }
     let (from, to) = regions.code_in_page(page);

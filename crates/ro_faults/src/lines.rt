@@ -6,10 +6,8 @@ ghost use Rattle.ro_text.specs.Lines.{spaced};
 
 use crate::errors::FaultsCode;
 use crate::{Fault, Target};
+use ro_limits::MOST_STEPS;
 use ro_text::{Line, Text, is_number, split_words, value_within};
-
-/// The highest number of instructions after which a fault may be struck.
-const MOST_STEPS: u64 = 1_000_000_000_000;
 
 /// The line of a fault.
 pub fn fault_text(fault: &Fault) -> Line

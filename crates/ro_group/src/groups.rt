@@ -6,7 +6,7 @@ use std::alloc::{AllocError, Global};
 use std::marker::Model;
 
 /// How many threads a replica has at most.
-const MOST_THREADS: usize = 16;
+const MOST_THREADS: usize = ro_limits::MOST_THREADS as usize;
 
 /// The group of each thread: the replicas in which it stands still.
 #[derive(Drop)]

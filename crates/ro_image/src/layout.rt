@@ -4,27 +4,12 @@ ghost use Rattle.ro_image.specs.Image.{stack_ranges, ranges_with};
 ghost use Rattle.ro_image.specs.Executable.{EndsLow, range_of, data_range, top_of, heap_over};
 
 use ro_elf::Segment;
+use ro_limits::{FIRST_STACK, HEAP_SIZE, MOST_THREADS, PAGE_SIZE, STACK_SIZE, STACK_STEP};
 use ro_region::Range;
 use std::alloc::{AllocError, Global};
 
-/// The size of a page, in bytes.
-const PAGE: u32 = 4_096;
-
-/// The size of the heap, in bytes.
-const HEAP_SIZE: u32 = 0x10_0000;
-
-/// How many stacks there are.
-const STACKS: u32 = 16;
-
 /// How many ranges stand behind those of the segments: the heap and the stacks.
-pub(crate) const DATA_RANGES: usize = 1 + STACKS as usize;
-
-/// Where the first stack stands, how far the next is from it, and the size of each in bytes.
-const FIRST_STACK: u32 = 0x7000_0000;
-
-const STACK_STEP: u32 = 0x2_0000;
-
-const STACK_SIZE: u32 = 0x1_0000;
+pub(crate) const DATA_RANGES: usize = 1 + MOST_THREADS as usize;
 
 // Where the heap starts: behind the highest segment, at the start of a page.
 pub(crate) fn heap_start(segments: &[Segment]) -> u32
@@ -32,7 +17,7 @@ pub(crate) fn heap_start(segments: &[Segment]) -> u32
     ensures start { result ≡ heap_over segments.now }
     ensures low { result ≤ 0x40000000 }
 {
-    (highest_end(segments) + (PAGE - 1)) / PAGE * PAGE
+    (highest_end(segments) + (PAGE_SIZE - 1)) / PAGE_SIZE * PAGE_SIZE
 }
 
 // The first address behind all segments.
@@ -105,7 +90,7 @@ fn private_range(start: u32, length: u32) -> Range
 fn push_stacks(ranges: &mut Vec<Range>) -> Result<(), AllocError>
     ensures { OnOk result (ranges.new.items ≡ ranges.old.items ++ stack_ranges 16) }
 {
-    for thread in 0..STACKS {
+    for thread in 0..MOST_THREADS {
         ranges.push(private_range(FIRST_STACK + thread * STACK_STEP, STACK_SIZE))?;
     }
     Ok(())

@@ -7,10 +7,8 @@ ghost use Rattle.ro_journal_text.specs.Reading.{did_of, listed, several_of, lost
 use crate::errors::JournalCode;
 use crate::versions::Version;
 use ro_journal::{Did, How, Lost};
+use ro_limits::MOST_STEPS;
 use ro_text::{cut_at, is_number, value_within};
-
-// The highest numbers of steps that a limit tells.
-const MOST_STEPS: u64 = 1_000_000_000_000;
 
 pub(crate) fn read_did(word: &[u8]) -> Option<Did>
     ensures { result ≡ did_of word.now }

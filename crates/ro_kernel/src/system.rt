@@ -9,6 +9,7 @@ use crate::outcome::Served;
 use crate::state::Kernel;
 use ro_event::Call;
 use ro_journal::How;
+use ro_limits::{HEAP_SIZE, MOST_BYTES};
 use ro_region::Kind;
 use std::alloc::AllocError;
 
@@ -37,12 +38,6 @@ const STDOUT: u32 = 1;
 
 /// The second descriptor of the output.
 const STDERR: u32 = 2;
-
-/// How many bytes one call moves at most.
-const MOST_BYTES: u32 = 4096;
-
-/// How many bytes the heap can have.
-const HEAP_SIZE: u32 = 0x10_0000;
 
 /// How many bytes a call moves that is asked for so many.
 pub fn capped(len: u32) -> u32

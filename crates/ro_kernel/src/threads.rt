@@ -11,10 +11,8 @@ use crate::outcome::Served;
 use crate::state::Kernel;
 use ro_event::{Call, Effect, Goes, Made};
 use ro_journal::How;
+use ro_limits::MOST_THREADS;
 use std::alloc::AllocError;
-
-/// How many threads a guest can ever make, the first one included.
-const MOST_THREADS: u32 = 16;
 
 impl Kernel {
     /// pthread_create(p, attr, start, arg).

@@ -11,6 +11,7 @@ ghost use Rattle.ro_machine.specs.Seen.{machine_with, RefusesCall};
 ghost use Rattle.ro_machine.specs.Watched.{Tells};
 
 use crate::errors::StepErr;
+use crate::plain::MOST_WRITTEN;
 use crate::watching::{NO_BYTES, Stretch};
 use ro_event::{Call, Effect, Made};
 use ro_exec::Cpu;
@@ -130,7 +131,7 @@ fn put_some(pages: &Pages, address: u32, len: u32, written: &mut Vec<u8>)
     ensures little { length written.new.items ≤ 4096 }
     ensures room { vec_capacity written.old ≤ vec_capacity written.new }
 {
-    let mut bytes = [0; 4096];
+    let mut bytes = [0; MOST_WRITTEN];
     let bytes = &mut bytes[..len as usize];
     pages.read_bytes(address, bytes);
     if written.extend_from_slice(bytes).is_err() {

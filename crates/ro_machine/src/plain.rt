@@ -21,6 +21,7 @@ use ro_exec::{Bank, Cpu, NONE, Open, Step, quick_step};
 use ro_image::Executable;
 use ro_journal::How;
 use ro_kernel::Kernel;
+use ro_limits::{MOST_BYTES, MOST_THREADS};
 use ro_pages::Pages;
 use ro_region::Regions;
 use ro_replica::{first_cpu, pages_of};
@@ -30,10 +31,10 @@ use std::marker::Model;
 use std::sync::Arc;
 
 /// How many threads can be made.
-const THREADS: usize = 16;
+const THREADS: usize = MOST_THREADS as usize;
 
 /// How many bytes one step can write.
-const MOST_WRITTEN: usize = 4096;
+pub(crate) const MOST_WRITTEN: usize = MOST_BYTES as usize;
 
 /// The unreplicated machine of a program and an input: one memory, whose pages are backed as they are touched, and threads
 /// that step in any order.

@@ -3,7 +3,7 @@ ghost use Rattle.std.specs.Prelude.{ℕ, ◌≡◌, ◌≢◌, ◌+◌, ◌*◌,
 ghost use Rattle.std.specs.List.{All, slice_get};
 ghost use Rattle.ro_pages.specs.Directories.{IsEntry, IsLonger, Tables, entry_of, is_listed};
 
-use crate::PAGES;
+use ro_limits::PAGES;
 use std::alloc::{AllocError, Global};
 use std::marker::Model;
 

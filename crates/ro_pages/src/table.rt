@@ -10,7 +10,7 @@ ghost use Rattle.ro_pages.specs.Words.{bytes_in};
 use crate::access::Memory;
 use crate::directory::Directory;
 use crate::words::{load_from, read_from, store_in, write_to};
-use crate::{PAGE_SIZE, PAGE_WORDS};
+use ro_limits::{PAGE_SIZE, PAGE_WORDS};
 use std::alloc::{AllocError, Global};
 use std::marker::Model;
 

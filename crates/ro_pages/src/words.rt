@@ -3,7 +3,7 @@ ghost use Rattle.std.specs.Prelude.{ℕ, ◌≡◌, ◌+◌, ◌-◌, ◌*◌, �
 ghost use Rattle.ro_pages.specs.Bytes.{IsSize, number_at, bytes_of, stored};
 ghost use Rattle.ro_pages.specs.Words.{byte_of_word, byte_in_words, after_store};
 
-use crate::PAGE_WORDS;
+use ro_limits::PAGE_WORDS;
 
 /// The number of so many bytes at an offset.
 #[inline(always)]

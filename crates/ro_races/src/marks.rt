@@ -4,7 +4,7 @@ ghost use Rattle.ro_races.specs.Clocks.{IsJoined, IsStepped};
 ghost use Rattle.ro_races.specs.Seen.{seen_by};
 
 /// How many threads can be made.
-const THREADS: usize = 16;
+const THREADS: usize = ro_limits::MOST_THREADS as usize;
 
 /// For each thread, one more than the place of the last of its steps that is known; 0 where none is.
 #[derive(Clone, Copy, Debug, PartialEq, Eq)]

@@ -7,14 +7,9 @@ ghost use Rattle.ro_races.specs.Seen.{seen_by};
 ghost use Rattle.ro_races.specs.Shadows.{page_at, clock_at, marks_at, no_marks, IsTable, IsPage, HasSecond, IsMade, Changes, Advances, Marks, IsHit, IsFirstHit, IsBetter};
 
 use crate::marks::{Clock, NOTHING};
+use ro_limits::{PAGE_SIZE, PAGE_WORDS};
 use ro_machine::Stretch;
 use std::alloc::{AllocError, Global};
-
-/// How many bytes a page has.
-const PAGE_SIZE: u32 = 4096;
-
-/// How many words of four bytes a page has.
-const PAGE_WORDS: usize = 1024;
 
 /// How many pages a second table is for.
 const SPAN: usize = 1024;

@@ -4,7 +4,8 @@ ghost use Rattle.ro_region.specs.Permission.{is_mapped, permits_byte, permits_ea
 ghost use Rattle.ro_region.specs.Windows.{IsOpen};
 
 use crate::windows::{Window, Windows};
-use crate::{Kind, PAGE_SIZE, Range};
+use crate::{Kind, Range};
+use ro_limits::PAGE_SIZE;
 use std::alloc::{AllocError, Global};
 use std::marker::Model;
 

@@ -6,7 +6,8 @@ ghost use Rattle.ro_region.specs.declared.Kind.{Kind as KindOf};
 ghost use Rattle.ro_region.specs.declared.Range.{Range as RangeOf};
 ghost use Rattle.ro_region.specs.Windows.{IsOpen, IsTable, AreClosed, AreAdded, AreOpenFrom, AreKept, AreTables, AreOpen, AreAll, meets};
 
-use crate::{Kind, PAGE_SIZE, PAGES, Range};
+use crate::{Kind, Range};
+use ro_limits::{PAGE_SIZE, PAGES};
 use std::alloc::{AllocError, Global};
 
 /// How many pages a second table is for.

@@ -3,6 +3,7 @@ ghost use Rattle.std.specs.Prelude.{◌≡◌, ◌+◌, ◌-◌, ◌/◌, ◌^�
 ghost use Rattle.ro_pages.specs.Bytes.{covers_page};
 ghost use Rattle.ro_pages.specs.Held.{memory_of, has_page};
 
+use ro_limits::PAGE_SIZE;
 use ro_pages::Pages;
 
 /// Backs a page, if it is not backed yet.
@@ -23,7 +24,7 @@ pub(crate) fn pages_over(place: u32, len: u32) -> u32
     requires { place + len ≤ 2 ^ 32 }
     ensures { result ≡ (place + len + 4095) / 4096 - place / 4096 }
 {
-    end_page(place, len) - place / 4096
+    end_page(place, len) - place / PAGE_SIZE
 }
 
 /// The number of the page behind a stretch.
@@ -31,7 +32,8 @@ fn end_page(place: u32, len: u32) -> u32
     requires { place + len ≤ 2 ^ 32 }
     ensures { result ≡ (place + len + 4095) / 4096 }
 {
-    ((u64::from(place) + u64::from(len) + 4095) / 4096) as u32
+    let size = u64::from(PAGE_SIZE);
+    ((u64::from(place) + u64::from(len) + (size - 1)) / size) as u32
 }
 
 /// Backs each page that holds a byte of a stretch and is not backed yet.
@@ -45,7 +47,7 @@ pub(crate) fn back_stretch(pages: &mut Pages, place: u32, len: u32)
     if len == 0 {
         return;
     }
-    for page in place / 4096..end_page(place, len) {
+    for page in place / PAGE_SIZE..end_page(place, len) {
         back(pages, page);
     }
 }

@@ -5,11 +5,10 @@ ghost use Rattle.ro_exec.specs.Threads.{with_stack, first_cpu as first, made_cpu
 
 use ro_event::{Effect, Goes, Made};
 use ro_exec::{Cpu, EXIT_PLACE};
+use ro_limits::{FIRST_STACK, STACK_SIZE, STACK_STEP};
 
-/// Where the first stack ends, and how far the next is from it.
-const FIRST_STACK_END: u32 = 0x7001_0000;
-
-const STACK_STEP: u32 = 0x2_0000;
+/// Where the first stack ends.
+const FIRST_STACK_END: u32 = FIRST_STACK + STACK_SIZE;
 
 /// A thread's registers with its stack alone.
 fn with_stack(thread: u32, pc: u32) -> Cpu

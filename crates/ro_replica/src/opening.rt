@@ -25,7 +25,7 @@ use std::alloc::{AllocError, Global};
 use std::sync::Arc;
 
 /// How many threads a replica has places for.
-pub(crate) const PLACES: usize = 16;
+pub(crate) const PLACES: usize = ro_limits::MOST_THREADS as usize;
 
 impl Replica {
     /// A replica of this number at the opening of a program, with the faults of a list that are its own.

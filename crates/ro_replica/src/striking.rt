@@ -10,6 +10,7 @@ use crate::replicas::Replica;
 use crate::waiting::is_due;
 use ro_exec::Cpu;
 use ro_faults::Target;
+use ro_limits::PAGE_SIZE;
 use ro_pages::Memory;
 
 impl Replica {
@@ -78,7 +79,7 @@ impl Replica {
             }
             Target::Pc { bit } => flip_pc(&mut self.threads[thread as usize].cpu, bit),
             Target::Byte { address, bit } => {
-                if self.pages.backed(address / 4096) && self.regions.contains(address) {
+                if self.pages.backed(address / PAGE_SIZE) && self.regions.contains(address) {
                     let byte = self.pages.load(address, 1);
                     self.pages.store(address, 1, flip(byte, bit));
                 }

@@ -9,7 +9,11 @@ ghost use Rattle.ro_replica.specs.Seen.{replica_of};
 use crate::replicas::Replica;
 use ro_event::{Call, Stop, View};
 use ro_kernel::payload_len;
+use ro_limits::MOST_BYTES;
 use ro_thread::Thread;
+
+/// How many bytes a call writes at most.
+const MOST_PAYLOAD: usize = MOST_BYTES as usize;
 
 impl Replica {
     /// Shows a thread that stands still.
@@ -45,7 +49,7 @@ impl Replica {
         requires within { call.a1 + len ≤ 2 ^ 32 }
         ensures { view.new ≡ record { registers = thread.now.cpu.registers; pc = thread.now.cpu.pc; since = thread.now.since; stop = Calls call; payload = bytes_at (replica_of self.now).memory call.a1 len } }
     {
-        let mut payload = [0; 4096];
+        let mut payload = [0; MOST_PAYLOAD];
         let payload = &mut payload[..len as usize];
         self.pages.read_bytes(call.a1, payload);
         show(thread, Stop::Calls(call), payload, view);

@@ -3,6 +3,14 @@ import dataclasses
 
 
 @dataclasses.dataclass
+class Take:
+    """Driver `driver` took thread `thread` of replica `replica`."""
+    driver: int
+    replica: int
+    thread: int
+
+
+@dataclasses.dataclass
 class Put:
     """A driver brought thread `thread` of replica `replica` back, `retired` instructions later, `struck` faults in it."""
     driver: int
@@ -55,26 +63,35 @@ class Report:
                 if isinstance(entry, Vote) and entry.losers]
 
 
+def read_entry(line):
+    """The entry of a journal's line; None of another line."""
+    kind, *words = line.split(" ")
+    if kind == "take":
+        return Take(*map(int, words))
+    if kind == "put":
+        return Put(*map(int, words))
+    if kind == "vote":
+        losers = () if words[3] == "-" else tuple(map(int, words[3].split(",")))
+        return Vote(int(words[0]), int(words[1]), int(words[2]), losers, words[4])
+    if kind == "free":
+        return Free(int(words[0]))
+    return End(" ".join(words)) if kind == "end" else None
+
+
 def read_report(text):
     """What a report says; the journal's `take` lines are kept as the place where a put's turn began."""
     entries, summary, answer, takes = [], {}, "none", {}
     for line in text.splitlines():
         kind, *words = line.split(" ")
-        if kind == "take":
-            takes[tuple(words)] = len(entries)
-        elif kind == "put":
-            driver, replica, thread, retired, struck = map(int, words)
-            entries.append(Put(driver, replica, thread, retired, struck, takes.get(tuple(words[:3]), len(entries))))
-        elif kind == "vote":
-            losers = () if words[3] == "-" else tuple(map(int, words[3].split(",")))
-            entries.append(Vote(int(words[0]), int(words[1]), int(words[2]), losers, words[4]))
-        elif kind == "free":
-            entries.append(Free(int(words[0])))
-        elif kind == "end":
-            entries.append(End(" ".join(words)))
+        entry = read_entry(line)
+        if isinstance(entry, Take):
+            takes[entry.driver, entry.replica, entry.thread] = len(entries)
+        elif entry is not None:
+            if isinstance(entry, Put):
+                entry.taken = takes.get((entry.driver, entry.replica, entry.thread), len(entries))
+            entries.append(entry)
         elif kind == "votes":
-            pairs = line.split(" ")
-            summary = dict(zip(pairs[::2], map(int, pairs[1::2])))
+            summary = dict(zip([kind, *words][::2], map(int, words[::2])))
         elif kind == "answer":
             answer = " ".join(words)
     return Report(entries, summary, answer)

@@ -1,5 +1,5 @@
 # Where a guest with constructors begins: as start.S, and before main each function of .preinit_array and .init_array is
-# called, in order. Nothing is run behind main: destructors are not.
+# called, in order. Nothing is run behind main: destructors are not. With ROMAIN_EXITS it goes on in a C library's exit.
     .section .text.start, "ax", @progbits
     .globl _start, romain_runs_constructors
     .type _start, @function
@@ -19,6 +19,9 @@ romain_runs_constructors:
     j .Lnext
 .Lmain:
     call main
+#ifdef ROMAIN_EXITS
+    call exit
+#endif
     li a7, 93                   # exit with what main returned
     ecall
     .size _start, . - _start

@@ -9,6 +9,7 @@ STACKS, STACK_SIZE, STACK_STEP, THREADS = 0x70000000, 0x10000, 0x20000, 16
 RETURN = 0x7FFFFFF0
 MOST_MUTEXES, MOST_BYTES = 256, 4096
 READ, WRITE, EXECUTE = 4, 2, 1
+ECALL, EBREAK = 0x00000073, 0x00100073
 EPERM, ESRCH, EBADF, EAGAIN, EFAULT, EBUSY, EINVAL, EDEADLK, ENOSYS = 1, 3, 9, 11, 14, 16, 22, 35, 38
 
 
@@ -27,6 +28,11 @@ def signed(value):
 def extended(value, bits):
     """A field's value with its sign."""
     return (value ^ 1 << bits - 1) - (1 << bits - 1)
+
+
+def low_bytes(value, size):
+    """So many bytes of a number, the lowest first."""
+    return (value & (1 << 8 * size) - 1).to_bytes(size, "little")
 
 
 def quotient(a, b):
@@ -191,26 +197,32 @@ class Machine:
         except Several:
             return None
 
-    def step(self):
-        pc, x = self.pc, self.registers
+    def fetched(self, pc):
+        """What is met at a place: the name of the function that is called there and None, or None and an instruction's word."""
         if pc % 4:
             self.trap(1)
         name = b"pthread_exit" if pc == RETURN else self.calls.get(pc)
+        if name:
+            return name, None
+        if not self.permits(pc, 4, EXECUTE):
+            self.trap(2)
+        page, at = self.place(pc)
+        return None, int.from_bytes(page[at:at + 4], "little")
+
+    def step(self):
+        pc, x = self.pc, self.registers
+        name, word = self.fetched(pc)
         if name:
             self.vote(1)
             x[10] = self.thread_call(name, x[10], x[11], x[12])
             self.pc = x[1]
             return
-        if not self.permits(pc, 4, EXECUTE):
-            self.trap(2)
-        page, at = self.place(pc)
-        word = int.from_bytes(page[at:at + 4], "little")
-        if word == 0x00000073:
+        if word == ECALL:
             self.vote(1)
             x[10] = self.system_call(x[17], x[10], x[11], x[12]) & WORD
             self.pc = (pc + 4) & WORD
             return
-        if word == 0x00100073:
+        if word == EBREAK:
             self.trap(9)
         register, value, after = self.instruction(word, pc, x) or self.trap(3)
         if register:
@@ -263,10 +275,14 @@ class Machine:
         page, at = self.place(address)
         return int.from_bytes(page[at:at + size], "little", signed=is_signed)
 
-    def store(self, address, size, value):
+    def storable(self, address, size):
+        """The page of bytes that are stored, and where they are in it."""
         if address % size:
             self.trap(7)
         if not self.permits(address, size, WRITE):
             self.trap(8)
-        page, at = self.place(address)
-        page[at:at + size] = (value & (1 << 8 * size) - 1).to_bytes(size, "little")
+        return self.place(address)
+
+    def store(self, address, size, value):
+        page, at = self.storable(address, size)
+        page[at:at + size] = low_bytes(value, size)

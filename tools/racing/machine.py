@@ -5,11 +5,10 @@ import dataclasses
 import enum
 
 from fuzzing import readers
-from fuzzing.machine import (EAGAIN, EBUSY, EDEADLK, EFAULT, EINVAL, EPERM, ESRCH, EXECUTE, HEAP_SIZE, MOST_MUTEXES, RETURN,
-                             STACKS, STACK_SIZE, STACK_STEP, THREADS, WORD, Ended, Machine)
+from fuzzing.machine import (EAGAIN, EBREAK, EBUSY, ECALL, EDEADLK, EFAULT, EINVAL, EPERM, ESRCH, HEAP_SIZE, MOST_MUTEXES,
+                             RETURN, STACKS, STACK_SIZE, STACK_STEP, THREADS, WORD, Ended, Machine)
 
 NONE = range(0)  # no bytes
-ECALL, EBREAK = 0x00000073, 0x00100073
 SYSTEM_CALLS = {63: "read", 64: "write", 93: "exit", 94: "exit", 214: "brk"}
 
 
@@ -61,6 +60,14 @@ class Step:
         """Whether both access the byte, and one of them writes it."""
         both = (self.reads(byte) or self.writes(byte)) and (other.reads(byte) or other.writes(byte))
         return both and (self.writes(byte) or other.writes(byte))
+
+
+def made_registers(creator: list[int], number: int, argument: int) -> list[int]:
+    """The registers with which a made thread begins."""
+    registers = [0] * 32
+    registers[1:5] = RETURN, STACKS + number * STACK_STEP + STACK_SIZE - 16, creator[3], number
+    registers[10] = argument
+    return registers
 
 
 class Refused(Exception):
@@ -119,15 +126,10 @@ class Replay(Machine):
 
     def advance(self, thread: Thread):
         pc, x = thread.pc, thread.registers
-        if pc % 4:
-            self.trap(1)
-        name = b"pthread_exit" if pc == RETURN else self.calls.get(pc)
+        name, word = self.fetched(pc)
         if name:
             self.pthread(thread, name.decode(), x)
             return
-        if not self.permits(pc, 4, EXECUTE):
-            self.trap(2)
-        word = int.from_bytes(self.bytes_at(pc, 4), "little")
         self.now.word, self.now.code = word, range(pc, pc + 4)
         if word == ECALL:
             self.now.call = SYSTEM_CALLS.get(x[17], f"system call {x[17]}")
@@ -198,10 +200,7 @@ class Replay(Machine):
             return EFAULT
         if number == THREADS:
             return EAGAIN
-        registers = [0] * 32
-        registers[1:5] = RETURN, STACKS + number * STACK_STEP + STACK_SIZE - 16, creator[3], number
-        registers[10] = argument
-        self.threads.append(Thread(registers, start))
+        self.threads.append(Thread(made_registers(creator, number, argument), start))
         self.store_word(place, number)
         return self.means(Relation.MAKES, number)
 

@@ -2,9 +2,10 @@
 import random
 import struct
 
+from fuzzing.machine import EBREAK, ECALL
 from fuzzing.programs import BASE, HEADERS, PAGE, form_i, form_j, form_s, put
 from fuzzing.readers import NAMES
-from racing.machine import EBREAK, ECALL, NoStep, Plan, Replay
+from racing.machine import NoStep, Plan, Replay
 from racing.symbols import FUNCTION, Symbol
 
 CODE = BASE + HEADERS

@@ -1,6 +1,6 @@
 -- The fields of a run at its opening.
 use Rattle.std.proofs.Common.{◌≡◌, ◌⊎◌, inl, inr, ℕ, zero, suc, ◌<◌, ◌≤◌, List, [], ◌∷◌, ◌++◌, length, Option, Some, None, refl, sym, ap, ◌∙◌, subst, arith}
-use Rattle.std.specs.Prelude.{slice_get}
+use Rattle.std.specs.Prelude.{replicate, slice_get}
 use Rattle.std.proofs.lemmas.Option.{slice_get_within}
 use Rattle.ro_journal.specs.declared.How.TheVariants.{Sink}
 use Rattle.ro_journal.specs.Plan.{outcome_of}
@@ -48,31 +48,14 @@ first-seated job seats first count = record { count = count ∙ sym (length-open
         let less : number < length seats = slice_get_within seats number (Some value) e in
         (refl, record { layout = f.layout; watchdog = f.watchdog_is }, opening-there job job.settings.replicas number (omega arith) ∙ ap (λ (r : Replica). Some r) (sym f.opening))
 
-nothing-blocked : (blocked : List (Option Call)) → blocked ≡ None ∷ None ∷ None ∷ None ∷ None ∷ None ∷ None ∷ None ∷ None ∷ None ∷ None ∷ None ∷ None ∷ None ∷ None ∷ None ∷ [] → (thread : ℕ) → blocked_at blocked thread ≡ None
-nothing-blocked blocked e thread = ap (λ (bs : List (Option Call)). blocked_at bs thread) e ∙ all thread
-  where
-    all : (t : ℕ) → blocked_at (None ∷ None ∷ None ∷ None ∷ None ∷ None ∷ None ∷ None ∷ None ∷ None ∷ None ∷ None ∷ None ∷ None ∷ None ∷ None ∷ []) t ≡ None
-    all zero = refl
-    all (suc zero) = refl
-    all (suc (suc zero)) = refl
-    all (suc (suc (suc zero))) = refl
-    all (suc (suc (suc (suc zero)))) = refl
-    all (suc (suc (suc (suc (suc zero))))) = refl
-    all (suc (suc (suc (suc (suc (suc zero)))))) = refl
-    all (suc (suc (suc (suc (suc (suc (suc zero))))))) = refl
-    all (suc (suc (suc (suc (suc (suc (suc (suc zero)))))))) = refl
-    all (suc (suc (suc (suc (suc (suc (suc (suc (suc zero))))))))) = refl
-    all (suc (suc (suc (suc (suc (suc (suc (suc (suc (suc zero)))))))))) = refl
-    all (suc (suc (suc (suc (suc (suc (suc (suc (suc (suc (suc zero))))))))))) = refl
-    all (suc (suc (suc (suc (suc (suc (suc (suc (suc (suc (suc (suc zero)))))))))))) = refl
-    all (suc (suc (suc (suc (suc (suc (suc (suc (suc (suc (suc (suc (suc zero))))))))))))) = refl
-    all (suc (suc (suc (suc (suc (suc (suc (suc (suc (suc (suc (suc (suc (suc zero)))))))))))))) = refl
-    all (suc (suc (suc (suc (suc (suc (suc (suc (suc (suc (suc (suc (suc (suc (suc zero))))))))))))))) = refl
-    all (suc (suc (suc (suc (suc (suc (suc (suc (suc (suc (suc (suc (suc (suc (suc (suc t)))))))))))))))) = refl
+nothing-blocked : (n thread : ℕ) → blocked_at (replicate n None) thread ≡ None
+nothing-blocked zero thread = refl
+nothing-blocked (suc n) zero = refl
+nothing-blocked (suc n) (suc thread) = nothing-blocked n thread
 
 pub opening-holds : (f : Fields) → InRange f.job.settings → f.journal ≡ [] → AreFirst f.job.program.image f.job.faults f.job.settings.watchdog f.seats → length f.seats ≡ f.job.settings.replicas
     → f.leases ≡ [] → f.kernel.setup ≡ setup_of f.job.program → f.kernel.kernel ≡ opening_kernel f.job.program.image.heap
-    → f.blocked ≡ None ∷ None ∷ None ∷ None ∷ None ∷ None ∷ None ∷ None ∷ None ∷ None ∷ None ∷ None ∷ None ∷ None ∷ None ∷ None ∷ [] → f.steps ≡ 0 → f.due ≡ None → f.ended ≡ None → f.sent ≡ 0
+    → f.blocked ≡ replicate 16 None → f.steps ≡ 0 → f.due ≡ None → f.ended ≡ None → f.sent ≡ 0
     → length f.views ≡ f.job.settings.replicas → NoneStands f.job.settings.replicas f.groups → 1 ≤ f.places → Holds f
 unfolding opening_core
 opening-holds f in_range journal first count leases setup kernel blocked steps due ended sent views none room =
@@ -84,7 +67,7 @@ opening-holds f in_range journal first count leases setup kernel blocked steps d
       setup_is = setup;
       kernel_is = kernel ∙ sym (ap (λ (x : Core). x.kernel) core);
       blocked_count = ap length blocked;
-      blocked_are = λ t. nothing-blocked f.blocked blocked t ∙ sym (ap (λ (x : Core). x.blocked t) core);
+      blocked_are = λ t. ap (λ (bs : List (Option Call)). blocked_at bs t) blocked ∙ nothing-blocked 16 t ∙ sym (ap (λ (x : Core). x.blocked t) core);
       steps_are = steps ∙ sym (ap (λ (x : Core). x.steps) core);
       counts = record {
         sent_are = sent ∙ ap (λ (x : Core). length x.output) (sym core) ∙ ap (λ (o : Option ℕ). length (sent_of f.job f.journal o)) (sym (ap failed_of due));

@@ -4,7 +4,7 @@ use Rattle.std.specs.Prelude.{◌==◌, ◌^◌, if◌then◌else◌, IfSome, sl
 use Rattle.std.proofs.lemmas.Bool.{eq-eqb}
 use Rattle.std.proofs.lemmas.List.{length-set}
 use Rattle.ro_journal.specs.declared.How.{How}
-use Rattle.ro_journal.specs.declared.How.TheVariants.{Exit, Trap, Deadlock, Limit, Differ, NoMajority, Sink}
+use Rattle.ro_journal.specs.declared.How.TheVariants.{Sink}
 use Rattle.ro_journal.specs.declared.Entry.{Entry}
 use Rattle.ro_journal.specs.Plan.{event_steps, outcome_of}
 use Rattle.ro_event.specs.declared.calls.Call.{Call}
@@ -47,28 +47,11 @@ blocked-set (b ∷ blocked) (suc thread) (suc t) call less = blocked-set blocked
         by true e = sym (eq-eqb (suc m) (suc n) (ap suc (eqb-true m n e)))
         by false e = sym (different (suc m) (suc n) (λ g. true≢false (sym (eq-eqb m n (let k : suc m ≡ suc n = g in omega arith)) ∙ e)))
 
-over-not-sink : (how : How) (bytes : ℕ) → IsOver how → how ≡ Sink bytes → ⊥
-over-not-sink (Exit status) bytes h e = let f : Exit status ≡ Sink bytes = e in cc
-over-not-sink (Trap code) bytes h e = let f : Trap code ≡ Sink bytes = e in cc
-over-not-sink Deadlock bytes h e = elim h [ ]
-over-not-sink (Limit steps next) bytes h e = elim h [ ]
-over-not-sink Differ bytes h e = elim h [ ]
-over-not-sink NoMajority bytes h e = elim h [ ]
-over-not-sink (Sink other) bytes h e = elim h [ ]
-
 -- the end of an event is none by a sink
 pub over-unfailed : (o : Option How) → ((how : How) → o ≡ Some how → IsOver how) → failed_of o ≡ None
 over-unfailed None h = refl
-over-unfailed (Some how) h = by how (h how refl)
-  where
-    by : (how : How) → IsOver how → failed_of (Some how) ≡ None
-    by (Exit status) o = refl
-    by (Trap code) o = refl
-    by Deadlock o = refl
-    by (Limit steps next) o = refl
-    by Differ o = refl
-    by NoMajority o = refl
-    by (Sink bytes) o = elim o [ ]
+over-unfailed (Some (Sink bytes)) h = elim (h (Sink bytes) refl) [ ]
+over-unfailed (Some how) h = refl
 
 module _ (f f' : Fields) (h : Holds f) (entry : Entry) (allowed : IsAllowed f.job (core_in f) entry) (thread count : ℕ) (replicas : List Replica) (event : Event) (came : after f.job (core_in f) entry ≡ core_after (core_in f) thread count replicas event)
     (goes : Goes f) (alone : f.leases ≡ []) (happens : Happens (core_in f).kernel thread event) (few : thread < 16) (journal : f'.journal ≡ f.journal ++ entry ∷ []) where
@@ -109,7 +92,7 @@ module _ (f f' : Fields) (h : Holds f) (entry : Entry) (allowed : IsAllowed f.jo
     steps = steps ∙ ap (λ (n : ℕ). n + count + event_steps event.did) h.steps_are ∙ sym (ap (λ (c : Core). c.steps) came);
     counts = counts written sent due steps;
     due = inl (due ∙ sym (ap (λ (c : Core). c.due) came));
-    not_sink = λ bytes e. absurd (over-not-sink (Sink bytes) bytes (happens.ends_well (Sink bytes) (sym due ∙ e)) refl);
+    not_sink = λ bytes e. elim (happens.ends_well (Sink bytes) (sym due ∙ e)) [ ];
     ended = ended ∙ h.ended_is ∙ sym (ap (λ (c : Core). c.ended) came);
     seats = subst (λ (c : Core). AreSeated f.job c f'.seats) (sym came) (seated-home f.job (core_after (core_in f) thread count replicas event) f'.seats home core_alone);
     groups = subst (λ (c : Core). AreGrouped c.replicas f'.groups) (sym came) groups;
@@ -124,13 +107,11 @@ can-take : (job : Job) (core : Core) (thread : ℕ) (effect : Effect) (seats : L
     → ((value : ReplicaOf) → replica_of value ≡ replica_of value → length value.threads ≡ length core.kernel.lives → 3 ≤ value.held.spare → CanApply effect value)
     → ((number : ℕ) (replica : Replica) → slice_get replicas number ≡ Some replica → length replica.threads ≡ length core.kernel.lives) → CanTake effect seats
 can-take job core thread effect [] [] home spared can made = tt
-can-take job core thread effect [] (r ∷ replicas) home spared can made = absurd home
-can-take job core thread effect (None ∷ seats) replicas home spared can made = absurd home
-can-take job core thread effect (Some value ∷ seats) [] home spared can made = absurd home
 can-take job core thread effect (Some value ∷ seats) (r ∷ replicas) home spared can made = (
   can value refl (ap (λ (x : Replica). length x.threads) home.1 ∙ made 0 r refl) spared.0,
   can-take job core thread effect seats replicas home.2 spared.1 can (λ n x e. made (suc n) x e),
 )
+can-take job core thread effect seats replicas home spared can made = absurd home
 
 -- the facts of a live thread's event, for each replica
 pub all-can-take : (job : Job) (core : Core) (thread : ℕ) (event : Event) (seats : List (Option ReplicaOf)) (replicas : List Replica) → Happens core.kernel thread event → thread < length core.kernel.lives → IfSome event.effect.page (λ page. page < 2 ^ 20)

@@ -15,7 +15,7 @@ use Rattle.ro_faults.specs.declared.Fault.{Fault}
 use Rattle.ro_faults.specs.declared.Target.{Target}
 use Rattle.ro_faults.specs.declared.Target.TheVariants.{Register, Pc, Byte}
 use Rattle.ro_replica.specs.Replica.{Replica, unstopped, changed_at, thread_after, creator_of, with_made, without_cancelled, applied, cancelled, copied_threads, recovered, opening_replica}
-use Rattle.ro_replica.specs.Runs.{is_due, struck_by, Ran, strike_in, struck, run_of, with_stop}
+use Rattle.ro_replica.specs.Runs.{is_due, struck_by, RanTo, strike_in, struck, run_of, with_stop}
 use Rattle.ro_plain.specs.Machine.{layout_of}
 use Rattle.ro_plain.proofs.Calls.{some-injective}
 use Rattle.ro_core.specs.Core.{Job, Core, opening_core}
@@ -69,15 +69,15 @@ counts-executed most layout watchdog replica t after step h = subst (Counts (mos
     by place thread (inr e) = let c : step.thread.done ≤ most = h t step.thread step.there in subst (λ (x : Thread). x.done ≤ most + 1) e.1 (omega arith)
 
 -- a run of so many
-pub counts-run : (most : ℕ) (layout : Layout) (watchdog n t : ℕ) (replica : Replica) (ran : Ran) → run_of layout watchdog n replica t ≡ Some ran → Counts most replica → Counts (most + n) ran.replica
+pub counts-run : (most : ℕ) (layout : Layout) (watchdog n t : ℕ) (replica : Replica) (ran : RanTo) → run_of layout watchdog n replica t ≡ Some ran → Counts most replica → Counts (most + n) ran.replica
 counts-run most layout watchdog zero t replica ran e h =
-    subst (λ (r : Ran). Counts (most + 0) r.replica) (some-injective e) (counts-more most (most + 0) (struck layout.ranges replica t).replica (omega arith) (counts-struck most layout.ranges t replica h))
+    subst (λ (r : RanTo). Counts (most + 0) r.replica) (some-injective e) (counts-more most (most + 0) (struck layout.ranges replica t).replica (omega arith) (counts-struck most layout.ranges t replica h))
 counts-run most layout watchdog (suc n) t replica ran e h =
     let parts : RunParts layout watchdog n replica t ran = run-parts layout watchdog n replica t ran e in
     let first = counts-struck most layout.ranges t replica h in
     let one = counts-executed most layout watchdog (struck layout.ranges replica t).replica t parts.after (instructs layout watchdog (struck layout.ranges replica t).replica t parts.after parts.executes) first in
     let rest = counts-run (most + 1) layout watchdog n t parts.after parts.rest parts.runs one in
-    subst (λ (r : Ran). Counts (most + suc n) r.replica) parts.sum (counts-more (most + 1 + n) (most + suc n) parts.rest.replica (omega arith) rest)
+    subst (λ (r : RanTo). Counts (most + suc n) r.replica) parts.sum (counts-more (most + 1 + n) (most + suc n) parts.rest.replica (omega arith) rest)
 
 -- ---- effects and copies
 
@@ -131,7 +131,7 @@ counted-event most core thread count replicas (Some event) each h = λ number r 
     by : (r : Replica) (number : ℕ) → MappedFrom (λ x. cancelled (applied event.effect x)) replicas number r → Counts most r
     by r number m = subst (Counts most) m.gives (counts-applied most event.effect m.from (each number m.from m.there))
 
-counted-put : (most : ℕ) (job : Job) (core : Core) (driver replica thread count : ℕ) (ran : Ran) → Counts (most + job.settings.quantum) ran.replica → AreCounted most core → AreCounted (most + job.settings.quantum) (core_after_put job core driver replica thread count (Some ran))
+counted-put : (most : ℕ) (job : Job) (core : Core) (driver replica thread count : ℕ) (ran : RanTo) → Counts (most + job.settings.quantum) ran.replica → AreCounted most core → AreCounted (most + job.settings.quantum) (core_after_put job core driver replica thread count (Some ran))
 counted-put most job core driver replica thread count ran came h = λ number r e. by number r (get-set-cases core.replicas replica number (arrived job thread count ran.replica) r e)
   where
     by : (number : ℕ) (r : Replica) → ((number ≢ replica) × (slice_get core.replicas number ≡ Some r)) ⊎ ((number ≡ replica) × (arrived job thread count ran.replica ≡ r)) → Counts (most + job.settings.quantum) r
@@ -153,7 +153,7 @@ counted-after most job core (Put driver replica thread count hit) may h =
     let parts = put-parts job core replica thread count may.ran may.runs in
     let few = few-arrive job thread count may.ran.replica may.arrives in
     let came = counts-run most (layout_of job.program) job.settings.watchdog count thread parts.lent may.ran parts.runs (h replica parts.lent parts.there) in
-    subst (λ (o : Option Ran). AreCounted (most + job.settings.quantum) (core_after_put job core driver replica thread count o)) (sym may.runs)
+    subst (λ (o : Option RanTo). AreCounted (most + job.settings.quantum) (core_after_put job core driver replica thread count o)) (sym may.runs)
     (counted-put most job core driver replica thread count may.ran (counts-more (most + count) (most + job.settings.quantum) may.ran.replica (omega arith) came) h)
 counted-after most job core (Vote thread count won lost did) may h =
     let e = event-parts job core thread won may.event may.comes in

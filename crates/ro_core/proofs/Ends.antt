@@ -1,8 +1,8 @@
 -- An end that is due, or comes alone, in the fields of a run.
-use Rattle.std.proofs.Common.{◌≡◌, inl, inr, ℕ, ◌+◌, ◌<◌, List, [], ◌∷◌, ◌++◌, length, Option, Some, None, refl, sym, ap, ◌∙◌, subst, arith}
+use Rattle.std.proofs.Common.{◌≡◌, ◌⊎◌, inl, inr, ℕ, ◌+◌, ◌<◌, List, [], ◌∷◌, ◌++◌, length, Option, Some, None, refl, sym, ap, ◌∙◌, subst, arith}
 use Rattle.std.specs.Prelude.{slice_get, unwrap_or}
 use Rattle.ro_journal.specs.declared.How.{How}
-use Rattle.ro_journal.specs.declared.How.TheVariants.{Exit, Deadlock, Trap, Limit, Differ, NoMajority, Sink}
+use Rattle.ro_journal.specs.declared.How.TheVariants.{Deadlock, Differ, NoMajority, Sink}
 use Rattle.ro_journal.specs.declared.Entry.{Entry}
 use Rattle.ro_journal.specs.declared.Entry.TheVariants.{End}
 use Rattle.ro_event.specs.declared.calls.Call.{Call}
@@ -12,17 +12,17 @@ use Rattle.ro_core.specs.Core.{Job, Core}
 use Rattle.ro_core.specs.Legal.{after, MayEnd, alone, EndsAlone, replay_with, cut_output, output_of}
 use Rattle.ro_core.specs.declared.actions.Action.TheVariants.{End as DoEnd}
 use Rattle.ro_core.specs.Action.{next_action, IsNext}
-use Rattle.ro_core.specs.Seen.{sent_of}
-use Rattle.ro_core.specs.Sound.{IsOver, exits, traps}
+use Rattle.ro_core.specs.Seen.{KeepsViews, sent_of}
+use Rattle.ro_core.specs.Sound.{IsOver}
 use Rattle.ro_core.specs.Fields.{failed_of, Seated, AreSeated, one_end, Fields, core_in, state_in, blocked_at, Holds}
 use Rattle.ro_core.proofs.Homes.{replay_more}
 use Rattle.ro_core.specs.Grouped.{AreGrouped}
 use Rattle.ro_core.proofs.Ordered.{ordered}
 use Rattle.ro_core.proofs.Nexts.{end_next, end_is}
 use Rattle.ro_core.proofs.Journals.{outcome_of-append}
-use Rattle.ro_core.proofs.Held.{with-ended, not-split, no-outcome, same-counts, holds-step}
+use Rattle.ro_core.proofs.Held.{failed-cases, with-ended, not-split, no-outcome, same-counts, holds-step}
 
-pub end-seated : (job : Job) (core : Core) (seats : List (Option ReplicaOf)) (how : How) → AreSeated job core seats → AreSeated job (after job core (End how)) seats
+end-seated : (job : Job) (core : Core) (seats : List (Option ReplicaOf)) (how : How) → AreSeated job core seats → AreSeated job (after job core (End how)) seats
 unfolding after
 end-seated job core seats how h = record { count = h.count; each = λ number. by number (slice_get seats number) (h.each number) }
   where
@@ -30,6 +30,41 @@ end-seated job core seats how h = record { count = h.count; each = λ number. by
     by number None e = tt
     by number (Some None) e = e
     by number (Some (Some value)) e = e
+
+-- the fields behind an end that sends nothing more
+pub ended-holds : (f f' : Fields) → Holds f → (how : How) → f.ended ≡ None → MayEnd f.job (core_in f) how → output_of f.job (f.journal ++ End how ∷ []) ≡ sent_of f.job f.journal (failed_of f.due) → KeepsViews f.job (f.journal ++ End how ∷ []) f.views
+    → f'.job ≡ f.job → f'.kernel ≡ f.kernel → f'.blocked ≡ f.blocked → f'.steps ≡ f.steps → f'.views ≡ f.views → f'.seats ≡ f.seats → f'.groups ≡ f.groups → f'.leases ≡ f.leases → f'.due ≡ None → f'.ended ≡ Some how → f'.sent ≡ f.sent
+    → f'.journal ≡ f.journal ++ End how ∷ [] → f.places ≡ f'.places + 1 → Holds f'
+unfolding after
+ended-holds f f' h how none allowed output kept job kernel blocked steps views seats groups leases due ended sent journal less = holds-step f f' (End how) h (sym h.ended_is ∙ none, allowed) (record {
+  job = job;
+  journal = journal;
+  leases = leases ∙ h.leases_are;
+  setup = ap (λ (k : State). k.setup) kernel;
+  kernel = ap (λ (k : State). k.kernel) kernel ∙ h.kernel_is;
+  blocked_count = ap length blocked ∙ h.blocked_count;
+  blocked = λ t. ap (λ (bs : List (Option Call)). blocked_at bs t) blocked ∙ h.blocked_are t;
+  steps = steps ∙ h.steps_are;
+  counts = same-counts f f' h sent steps (ap (λ (js : List Entry). sent_of f.job js (failed_of f'.due)) journal ∙ ap (λ (o : Option How). sent_of f.job (f.journal ++ End how ∷ []) (failed_of o)) due ∙ output);
+  due = inl due;
+  not_sink = λ bytes e. absurd (let g : None ≡ Some (Sink bytes) = sym due ∙ e in cc);
+  ended = ended;
+  seats = subst (AreSeated f.job (after f.job (core_in f) (End how))) (sym seats) (end-seated f.job (core_in f) f.seats how h.seats_are);
+  groups = subst (AreGrouped (core_in f).replicas) (sym groups) h.groups_are;
+  views_count = ap length views ∙ h.views_count ∙ sym (ap length seats);
+  views_kept = subst (KeepsViews f.job (f.journal ++ End how ∷ [])) (sym views) kept;
+  room = let k = h.room in let one : one_end f.ended ≡ 1 = ap one_end none in let no : one_end f'.ended ≡ 0 = ap one_end ended in let n : length f'.leases ≡ length f.leases = ap length leases in omega arith;
+})
+
+-- an end that is not the sink's cuts nothing
+pub cut-none : (core : Core) (how : How) → ((bytes : ℕ) → how ≡ Sink bytes → ⊥) → cut_output core how ≡ core.output
+cut-none core (Sink bytes) not_sink = absurd (not_sink bytes refl)
+cut-none core how not_sink = refl
+
+-- the end that comes where no sink failed is none of one
+unfailed-not : (o : Option How) (bytes : ℕ) → failed_of o ≡ None → unwrap_or o Deadlock ≡ Sink bytes → ⊥
+unfailed-not None bytes none e = let f : Deadlock ≡ Sink bytes = e in cc
+unfailed-not (Some how) bytes none e = let f : Some bytes ≡ None = ap (λ (h : How). failed_of (Some h)) (sym e) ∙ none in cc
 
 -- the end that is next, over a core in which a failing sink's end may be due
 module _ (f : Fields) (h : Holds f) (how : How) (is_next : next_action f.job (state_in f) ≡ DoEnd how) where
@@ -56,102 +91,50 @@ module _ (f : Fields) (h : Holds f) (how : How) (is_next : next_action f.job (st
 
   -- it is allowed, and next, in the core that the journal leaves
   pub end-allowed : MayEnd f.job (core_in f) how × IsNext f.job (core_in f) (End how)
-  end-allowed = by f.due refl
+  end-allowed = by (failed-cases f.due)
     where
       plain : failed_of f.due ≡ None → MayEnd f.job (core_in f) how × IsNext f.job (core_in f) (End how)
       plain none =
           (subst (λ (c : Core). MayEnd f.job c how) (unfailed none) (end_next f.job (state_in f) how is_next).1, inl (ap (next_action f.job) (sym (unfailed none)) ∙ is_next))
 
-      by : (o : Option How) → f.due ≡ o → MayEnd f.job (core_in f) how × IsNext f.job (core_in f) (End how)
-      by (Some (Sink bytes)) e = (alone (sink-alone bytes e), inr (inl (sink-alone bytes e)))
-      by None e = plain (ap failed_of e)
-      by (Some (Exit status)) e = plain (ap failed_of e)
-      by (Some (Trap code)) e = plain (ap failed_of e)
-      by (Some (Limit steps next)) e = plain (ap failed_of e)
-      by (Some Deadlock) e = plain (ap failed_of e)
-      by (Some Differ) e = plain (ap failed_of e)
-      by (Some NoMajority) e = plain (ap failed_of e)
+      by : (failed_of f.due ≡ None) ⊎ ((bytes : ℕ) × (f.due ≡ Some (Sink bytes))) → MayEnd f.job (core_in f) how × IsNext f.job (core_in f) (End how)
+      by (inl none) = plain none
+      by (inr sink) = (alone (sink-alone sink.0 sink.1), inr (inl (sink-alone sink.0 sink.1)))
+
+  -- an end that is due, and none of a failing sink, is an exit or a trap
+  due-over : (other : How) → f.due ≡ Some other → failed_of f.due ≡ None → IsOver other
+  due-over other e none = (ordered f.job f.journal h.legal).due_over other (sym (h.due_is ∙ ap (λ (x : Option ℕ). (replay_with f.job f.journal x).due) none) ∙ e)
+
+  -- what the end is not, where no exit and no trap is so, no deadlock, and no end by a sink
+  not-so : (so : How) → (IsOver so → ⊥) → (Deadlock ≡ so → ⊥) → ((bytes : ℕ) → Sink bytes ≡ so → ⊥) → how ≡ so → ⊥
+  not-so so over stuck sink is = by f.due refl (failed-cases f.due)
+    where
+      by : (o : Option How) → f.due ≡ o → (failed_of f.due ≡ None) ⊎ ((bytes : ℕ) × (f.due ≡ Some (Sink bytes))) → ⊥
+      by o e (inr failed) = sink failed.0 (sym (by-sink failed.0 failed.1) ∙ is)
+      by None e (inl none) = stuck (sym (ap (λ (o : Option How). unwrap_or o Deadlock) e) ∙ end-how ∙ is)
+      by (Some other) e (inl none) = over (subst IsOver (sym (ap (λ (o : Option How). unwrap_or o Deadlock) e) ∙ end-how ∙ is) (due-over other e none))
 
   -- an end that is due or alone is not by views that differ
   pub not-by-views : ((how ≡ Differ → ⊥) × (how ≡ NoMajority → ⊥))
-  not-by-views = by f.due refl
-    where
-      over-not : (other : How) → IsOver other → ((other ≡ Differ → ⊥) × (other ≡ NoMajority → ⊥))
-      over-not (Exit status) (exits {status = n}) = ((λ (e : Exit status ≡ Differ). cc), (λ (e : Exit status ≡ NoMajority). cc))
-      over-not (Trap code) (traps {code = n}) = ((λ (e : Trap code ≡ Differ). cc), (λ (e : Trap code ≡ NoMajority). cc))
-      over-not Deadlock h = elim h [ ]
-      over-not (Limit steps next) h = elim h [ ]
-      over-not Differ h = elim h [ ]
-      over-not NoMajority h = elim h [ ]
-      over-not (Sink bytes) h = elim h [ ]
-
-      plain : (other : How) → f.due ≡ Some other → failed_of f.due ≡ None → ((how ≡ Differ → ⊥) × (how ≡ NoMajority → ⊥))
-      plain other e none =
-          let same : other ≡ how = sym (ap (λ (o : Option How). unwrap_or o Deadlock) e) ∙ end-how in
-          let core_due : (core_in f).due ≡ Some other = sym (h.due_is ∙ ap (λ (x : Option ℕ). (replay_with f.job f.journal x).due) none) ∙ e in
-          subst (λ (o : How). (o ≡ Differ → ⊥) × (o ≡ NoMajority → ⊥)) same (over-not other ((ordered f.job f.journal h.legal).due_over other core_due))
-
-      by : (o : Option How) → f.due ≡ o → ((how ≡ Differ → ⊥) × (how ≡ NoMajority → ⊥))
-      by (Some (Sink bytes)) e = let same = by-sink bytes e in
-          ((λ d. let g : Sink bytes ≡ Differ = sym same ∙ d in cc), (λ d. let g : Sink bytes ≡ NoMajority = sym same ∙ d in cc))
-      by None e = let same : Deadlock ≡ how = sym (ap (λ (o : Option How). unwrap_or o Deadlock) e) ∙ end-how in
-          ((λ d. let g : Deadlock ≡ Differ = same ∙ d in cc), (λ d. let g : Deadlock ≡ NoMajority = same ∙ d in cc))
-      by (Some (Exit status)) e = plain (Exit status) e (ap failed_of e)
-      by (Some (Trap code)) e = plain (Trap code) e (ap failed_of e)
-      by (Some (Limit steps next)) e = plain (Limit steps next) e (ap failed_of e)
-      by (Some Deadlock) e = plain Deadlock e (ap failed_of e)
-      by (Some Differ) e = plain Differ e (ap failed_of e)
-      by (Some NoMajority) e = plain NoMajority e (ap failed_of e)
+  not-by-views = (
+    not-so Differ (λ h. elim h [ ]) (λ (e : Deadlock ≡ Differ). cc) (λ bytes (e : Sink bytes ≡ Differ). cc),
+    not-so NoMajority (λ h. elim h [ ]) (λ (e : Deadlock ≡ NoMajority). cc) (λ bytes (e : Sink bytes ≡ NoMajority). cc),
+  )
 
   -- the end sends nothing more
   pub end-sent : output_of f.job (f.journal ++ End how ∷ []) ≡ sent_of f.job f.journal (failed_of f.due)
   unfolding after
-  end-sent = ap (λ (c : Core). c.output) (replay_more f.job f.journal (End how)) ∙ by f.due refl
+  end-sent = ap (λ (c : Core). c.output) (replay_more f.job f.journal (End how)) ∙ by (failed-cases f.due)
     where
-      plain : (other : How) → f.due ≡ Some other → IsOver other → cut_output (core_in f) how ≡ sent_of f.job f.journal (failed_of f.due)
-      plain (Exit status) e (exits {status = n}) = ap (cut_output (core_in f)) (sym (sym (ap (λ (o : Option How). unwrap_or o Deadlock) e) ∙ end-how)) ∙ sym (ap (λ (o : Option How). sent_of f.job f.journal (failed_of o)) e)
-      plain (Trap code) e (traps {code = n}) = ap (cut_output (core_in f)) (sym (sym (ap (λ (o : Option How). unwrap_or o Deadlock) e) ∙ end-how)) ∙ sym (ap (λ (o : Option How). sent_of f.job f.journal (failed_of o)) e)
-      plain Deadlock e h = elim h [ ]
-      plain (Limit steps next) e h = elim h [ ]
-      plain Differ e h = elim h [ ]
-      plain NoMajority e h = elim h [ ]
-      plain (Sink bytes) e h = elim h [ ]
-
-      over : (other : How) → f.due ≡ Some other → failed_of f.due ≡ None → IsOver other
-      over other e none = (ordered f.job f.journal h.legal).due_over other (sym (h.due_is ∙ ap (λ (x : Option ℕ). (replay_with f.job f.journal x).due) none) ∙ e)
-
-      by : (o : Option How) → f.due ≡ o → cut_output (core_in f) how ≡ sent_of f.job f.journal (failed_of f.due)
-      by (Some (Sink bytes)) e = ap (cut_output (core_in f)) (by-sink bytes e) ∙ sym (ap (λ (o : Option How). sent_of f.job f.journal (failed_of o)) e)
-      by None e = ap (cut_output (core_in f)) (sym (sym (ap (λ (o : Option How). unwrap_or o Deadlock) e) ∙ end-how)) ∙ sym (ap (λ (o : Option How). sent_of f.job f.journal (failed_of o)) e)
-      by (Some (Exit status)) e = plain (Exit status) e (over (Exit status) e (ap failed_of e))
-      by (Some (Trap code)) e = plain (Trap code) e (over (Trap code) e (ap failed_of e))
-      by (Some (Limit steps next)) e = plain (Limit steps next) e (over (Limit steps next) e (ap failed_of e))
-      by (Some Deadlock) e = plain Deadlock e (over Deadlock e (ap failed_of e))
-      by (Some Differ) e = plain Differ e (over Differ e (ap failed_of e))
-      by (Some NoMajority) e = plain NoMajority e (over NoMajority e (ap failed_of e))
+      by : (failed_of f.due ≡ None) ⊎ ((bytes : ℕ) × (f.due ≡ Some (Sink bytes))) → cut_output (core_in f) how ≡ sent_of f.job f.journal (failed_of f.due)
+      by (inl none) = cut-none (core_in f) how (λ bytes e. unfailed-not f.due bytes none (end-how ∙ e)) ∙ sym (ap (sent_of f.job f.journal) none)
+      by (inr sink) = ap (cut_output (core_in f)) (by-sink sink.0 sink.1) ∙ sym (ap (λ (o : Option How). sent_of f.job f.journal (failed_of o)) sink.1)
 
   pub end-room : 0 < f.places
   end-room = let e : one_end f.ended ≡ 1 = ap one_end ended-none in let k = h.room in omega arith
 
   pub end-holds : (f' : Fields) → f'.job ≡ f.job → f'.kernel ≡ f.kernel → f'.blocked ≡ f.blocked → f'.steps ≡ f.steps → f'.views ≡ f.views → f'.seats ≡ f.seats → f'.groups ≡ f.groups → f'.leases ≡ f.leases → f'.due ≡ None → f'.ended ≡ Some how → f'.sent ≡ f.sent
       → f'.journal ≡ f.journal ++ End how ∷ [] → f.places ≡ f'.places + 1 → Holds f'
-  unfolding after
-  end-holds f' job kernel blocked steps views seats groups leases due ended sent journal less = holds-step f f' (End how) h (end-not-over, end-allowed.0) (record {
-    job = job;
-    journal = journal;
-    leases = leases ∙ h.leases_are;
-    setup = ap (λ (k : State). k.setup) kernel;
-    kernel = ap (λ (k : State). k.kernel) kernel ∙ h.kernel_is;
-    blocked_count = ap length blocked ∙ h.blocked_count;
-    blocked = λ t. ap (λ (bs : List (Option Call)). blocked_at bs t) blocked ∙ h.blocked_are t;
-    steps = steps ∙ h.steps_are;
-    counts = same-counts f f' h sent steps (ap (λ (js : List Entry). sent_of f.job js (failed_of f'.due)) journal ∙ ap (λ (o : Option How). sent_of f.job (f.journal ++ End how ∷ []) (failed_of o)) due ∙ end-sent);
-    due = inl due;
-    not_sink = λ bytes e. absurd (let g : None ≡ Some (Sink bytes) = sym due ∙ e in cc);
-    ended = ended;
-    seats = subst (AreSeated f.job (after f.job (core_in f) (End how))) (sym seats) (end-seated f.job (core_in f) f.seats how h.seats_are);
-    groups = subst (AreGrouped (core_in f).replicas) (sym groups) h.groups_are;
-    views_count = ap length views ∙ h.views_count ∙ sym (ap length seats);
-    views_kept = not-split f.job _ f'.views how (outcome_of-append f.journal (End how ∷ []) (no-outcome f h ended-none)) not-by-views.0 not-by-views.1;
-    room = let k = h.room in let one : one_end f.ended ≡ 1 = ap one_end ended-none in let none : one_end f'.ended ≡ 0 = ap one_end ended in let n : length f'.leases ≡ length f.leases = ap length leases in omega arith;
-  })
+  end-holds f' job kernel blocked steps views seats groups leases due ended sent journal less =
+      ended-holds f f' h how ended-none end-allowed.0 end-sent (not-split f.job _ f.views how (outcome_of-append f.journal (End how ∷ []) (no-outcome f h ended-none)) not-by-views.0 not-by-views.1)
+      job kernel blocked steps views seats groups leases due ended sent journal less

@@ -18,13 +18,14 @@ use Rattle.ro_faults.specs.declared.Fault.{Fault}
 use Rattle.ro_faults.specs.declared.Target.{Target}
 use Rattle.ro_faults.specs.declared.Target.TheVariants.{Register, Pc, Byte}
 use Rattle.ro_replica.specs.Replica.{Replica, unstopped, changed_at, thread_after, creator_of, with_made, is_cancelled, without_cancelled, applied, cancelled, copied_threads, recovered, stop_of, opening_replica}
-use Rattle.ro_replica.specs.Runs.{is_due, struck_by, Ran, strike_in, struck, run_of, with_stop, standing_in}
+use Rattle.ro_replica.specs.Runs.{is_due, struck_by, RanTo, strike_in, struck, run_of, with_stop, standing_in}
 use Rattle.ro_plain.specs.Machine.{layout_of}
 use Rattle.ro_plain.proofs.Calls.{some-injective}
 use Rattle.ro_core.specs.Core.{Job, Core, opening_core}
 use Rattle.ro_core.specs.Event.{Event, with_copy, with_recovered}
-use Rattle.ro_core.specs.Legal.{arrived, arrival, core_after_put, core_after_event, event_in, freed_event, after, IsAllowed, LegalFrom, Legal, replay_from, replay}
+use Rattle.ro_core.specs.Legal.{arrived, arrival, core_after_put, core_after_event, event_in, freed_event, after, IsAllowed, Legal, replay}
 use Rattle.ro_core.specs.Sound.{IsFault, HasFaults, HaveFaults}
+use Rattle.ro_core.proofs.Journals.{legal-keeps}
 use Rattle.ro_core.proofs.Lists.{ChangedFrom, unchanged, changed_here, get-changed, get-set-cases, MappedFrom, get-map, get-append-cases}
 use Rattle.ro_core.proofs.Sound.{Instructs, instructs, instructed, RunParts, run-parts}
 use Rattle.ro_core.proofs.Copies.{AfterCopy, not_lost, is_copy, after-copy, still-there}
@@ -67,12 +68,12 @@ fault-executed layout watchdog replica t after step h = subst HasFaults (sym ste
     by place thread (inl e) = h place thread e.1
     by place thread (inr e) = subst (λ (x : Thread). IsFault replica.backed x.stop) e.1 (h t step.thread step.there)
 
-fault-run : (layout : Layout) (watchdog n t : ℕ) (replica : Replica) (ran : Ran) → run_of layout watchdog n replica t ≡ Some ran → HasFaults replica → HasFaults ran.replica
-fault-run layout watchdog zero t replica ran e h = subst (λ (r : Ran). HasFaults r.replica) (some-injective e) (fault-struck layout.ranges t replica h)
+fault-run : (layout : Layout) (watchdog n t : ℕ) (replica : Replica) (ran : RanTo) → run_of layout watchdog n replica t ≡ Some ran → HasFaults replica → HasFaults ran.replica
+fault-run layout watchdog zero t replica ran e h = subst (λ (r : RanTo). HasFaults r.replica) (some-injective e) (fault-struck layout.ranges t replica h)
 fault-run layout watchdog (suc n) t replica ran e h =
     let parts : RunParts layout watchdog n replica t ran = run-parts layout watchdog n replica t ran e in
     let one = fault-executed layout watchdog (struck layout.ranges replica t).replica t parts.after (instructs layout watchdog (struck layout.ranges replica t).replica t parts.after parts.executes) (fault-struck layout.ranges t replica h) in
-    subst (λ (r : Ran). HasFaults r.replica) parts.sum (fault-run layout watchdog n t parts.after parts.rest parts.runs one)
+    subst (λ (r : RanTo). HasFaults r.replica) parts.sum (fault-run layout watchdog n t parts.after parts.rest parts.runs one)
 
 -- the stop at which a run arrives
 fault-arrival : (job : Job) (thread count : ℕ) (replica : Replica) → IsFault replica.backed (arrival job thread count replica)
@@ -160,7 +161,7 @@ fault-event core thread count replicas (Some event) each h = λ number r e. by r
     by : (r : Replica) (number : ℕ) → MappedFrom (λ x. cancelled (applied event.effect x)) replicas number r → HasFaults r
     by r number m = subst HasFaults m.gives (fault-applied event.effect m.from (each number m.from m.there))
 
-fault-put : (job : Job) (core : Core) (driver replica thread count : ℕ) (ran : Ran) → HasFaults ran.replica → HaveFaults core → HaveFaults (core_after_put job core driver replica thread count (Some ran))
+fault-put : (job : Job) (core : Core) (driver replica thread count : ℕ) (ran : RanTo) → HasFaults ran.replica → HaveFaults core → HaveFaults (core_after_put job core driver replica thread count (Some ran))
 fault-put job core driver replica thread count ran came h = λ number r e. by number r (get-set-cases core.replicas replica number (arrived job thread count ran.replica) r e)
   where
     by : (number : ℕ) (r : Replica) → ((number ≢ replica) × (slice_get core.replicas number ≡ Some r)) ⊎ ((number ≡ replica) × (arrived job thread count ran.replica ≡ r)) → HasFaults r
@@ -173,16 +174,12 @@ fault-after job core (Take driver replica thread) may h = h
 fault-after job core (Put driver replica thread count hit) may h =
     let parts = put-parts job core replica thread count may.ran may.runs in
     let came = fault-run (layout_of job.program) job.settings.watchdog count thread parts.lent may.ran parts.runs (h replica parts.lent parts.there) in
-    subst (λ (o : Option Ran). HaveFaults (core_after_put job core driver replica thread count o)) (sym may.runs) (fault-put job core driver replica thread count may.ran came h)
+    subst (λ (o : Option RanTo). HaveFaults (core_after_put job core driver replica thread count o)) (sym may.runs) (fault-put job core driver replica thread count may.ran came h)
 fault-after job core (Vote thread count won lost did) may h =
     let e = event-parts job core thread won may.event may.comes in
     fault-event core thread count (with_recovered won (numbers lost) core.replicas) (event_in job core thread won) (each-copied won e.winner (numbers lost) core.replicas e.there h) h
 fault-after job core (Free thread) may h = fault-event core thread 0 core.replicas (freed_event job core thread) h h
 fault-after job core (End how) may h = h
-
-fault-from : (job : Job) (core : Core) (journal : List Entry) → LegalFrom job core journal → HaveFaults core → HaveFaults (replay_from job core journal)
-fault-from job core [] legal h = h
-fault-from job core (entry ∷ journal) legal h = fault-from job (after job core entry) journal legal.1 (fault-after job core entry legal.0 h)
 
 opening-faults : (job : Job) (number : ℕ) → HasFaults (opening_replica job.program.image job.faults number)
 unfolding opening_replica
@@ -190,7 +187,7 @@ opening-faults job number place thread e = λ page f. absurd (let g : None ≡ S
 
 pub fault-stops : (job : Job) (journal : List Entry) → Legal job journal → HaveFaults (replay job journal)
 unfolding opening_core
-fault-stops job journal legal = fault-from job (opening_core job) journal legal (λ number r e. subst HasFaults (get-opening job job.settings.replicas number r e) (opening-faults job number))
+fault-stops job journal legal = legal-keeps job (λ core. HaveFaults core) (fault-after job) (opening_core job) journal legal (λ number r e. subst HasFaults (get-opening job job.settings.replicas number r e) (opening-faults job number))
 
 -- a thread that stands at a page fault
 pub fault-at : (job : Job) (journal : List Entry) → Legal job journal → (number thread page : ℕ) (replica : Replica) → slice_get (replay job journal).replicas number ≡ Some replica → stop_of replica thread ≡ Some (PageFault page)

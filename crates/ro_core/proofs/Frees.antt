@@ -19,7 +19,8 @@ use Rattle.ro_core.specs.Legal.{core_after_event, after, MayFree, MayEnd, for_fr
 use Rattle.ro_core.specs.Fields.{AreSpared, Fields, blocked_at, core_in, state_in, Holds}
 use Rattle.ro_core.specs.Grouped.{AreMade}
 use Rattle.ro_core.specs.Seated.{Stands}
-use Rattle.ro_core.specs.Runs.{IsAmid, MakesRoom, CanOccur, event_by}
+use Rattle.ro_core.specs.Happening.{event_by}
+use Rattle.ro_core.specs.Runs.{IsAmid, MakesRoom, CanOccur}
 use Rattle.ro_core.proofs.Held.{Goes, goes}
 use Rattle.ro_core.proofs.Happens.{Happens, call-happens}
 use Rattle.ro_core.proofs.Ordered.{FreeParts, free-parts, freed-is, freed-steps, ordered}
@@ -112,7 +113,7 @@ module _ (f : Fields) (h : Holds f) (thread : ℕ) (may : may_free f.job (state_
 
     -- the event that the code has for it can be done
     pub free-can : (r : Run) (e : Happening) (threads : ℕ) → the-event ≡ event_by e r.kernel.kernel (if e.writes then [] else []) → f.steps + 1 ≤ f.job.settings.limit → IsAmid f r → Stands f.job r.seats (core_in f).replicas → AreSpared r.seats.homes.items → threads ≡ length f.kernel.kernel.lives
-        → CanOccur r thread e (Free thread) 1 None threads
+        → CanOccur r (record { thread = thread; event = e; entry = Free thread; steps = 1; writer = None; threads = threads })
     unfolding event_of
     free-can r e threads is fits amid stands spared threads_are = record {
       before = f;

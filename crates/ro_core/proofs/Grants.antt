@@ -1,9 +1,9 @@
 -- A thread that stands at a call stands there until it is answered, or its replica becomes a copy.
-use Rattle.std.specs.Prelude.{◌≡◌, ◌≢◌, ℕ, zero, suc, ◌⊎◌, Bool, true, false, not, cond, ◌&&◌, ◌||◌, List, [], ◌∷◌, ◌++◌, Option, Some, None, is_none, ◌==◌, slice_get}
+use Rattle.std.specs.Prelude.{◌≡◌, ◌≢◌, ℕ, zero, suc, ◌⊎◌, Bool, true, false, not, cond, ◌&&◌, ◌||◌, List, [], ◌∷◌, ◌++◌, Option, Some, None, is_none, slice_get}
 use Rattle.std.specs.List.{filter, list_any}
 use Rattle.std.specs.Option.{option_map_or, option_and_then}
 use Rattle.std.proofs.Common.{refl, sym, ap, ◌∙◌, subst, inl, inr}
-use Rattle.std.proofs.lemmas.Bool.{true≢false, and_parts, eqb-true, cases_Bool, cases_eq}
+use Rattle.std.proofs.lemmas.Bool.{true≢false, and_parts, cases_Bool, cases_eq}
 use Rattle.std.proofs.lemmas.Option.{option_and_then_some}
 use Rattle.ro_event.specs.declared.calls.Call.{Call}
 use Rattle.ro_event.specs.declared.effects.Made.{Made}
@@ -15,7 +15,7 @@ use Rattle.ro_journal.specs.Losers.{numbers}
 use Rattle.ro_journal.specs.declared.losers.Lost.{Lost}
 use Rattle.ro_vote.specs.Numbers.{is_among}
 use Rattle.ro_journal.specs.declared.Did.{Did}
-use Rattle.ro_journal.specs.declared.Did.TheVariants.{Served, Blocked, Mapped, Watch, Trapped}
+use Rattle.ro_journal.specs.declared.Did.TheVariants.{Served, Blocked, PageBacked, Watch, Trapped}
 use Rattle.ro_journal.specs.declared.How.{How}
 use Rattle.ro_journal.specs.declared.Entry.{Entry}
 use Rattle.ro_journal.specs.declared.Entry.TheVariants.{Take, Put, Vote, Free, End}
@@ -24,23 +24,23 @@ use Rattle.ro_kernel.specs.Kernel.{Setup, Kernel, lives_on}
 use Rattle.ro_kernel.specs.Serve.{Served as Serving, Done, Blocked as Blocks, Ends, serve}
 use Rattle.ro_thread.specs.declared.Thread.{Thread}
 use Rattle.ro_replica.specs.Replica.{Replica, changed_at, thread_after, with_made, without_cancelled, is_cancelled, applied, cancelled}
-use Rattle.ro_replica.specs.Runs.{Ran, run_of, with_stop}
+use Rattle.ro_replica.specs.Runs.{RanTo, run_of, with_stop}
 use Rattle.ro_replica.specs.Views.{is_unstopped}
 use Rattle.ro_plain.specs.Machine.{layout_of, setup_of}
 use Rattle.ro_plain.proofs.Calls.{some-injective, slice_get-append}
 use Rattle.ro_core.specs.declared.actions.Lease.{Lease}
 use Rattle.ro_core.specs.Core.{Job, Core, opening_core, is_home, is_out, is_lendable}
 use Rattle.ro_core.specs.Event.{Event, quiet_effect, call_event, event_of, with_recovered}
-use Rattle.ro_core.specs.Legal.{is_lease, arrival, arrived, core_after_put, core_after_event, event_in, freed_event, after, IsAllowed, MayPut, MayVote, MayFree, LegalFrom, Legal, replay_from, replay}
+use Rattle.ro_core.specs.Legal.{lease_run, is_lease, arrival, arrived, core_after_put, core_after_event, event_in, freed_event, after, IsAllowed, MayPut, MayVote, MayFree, LegalFrom, Legal, replay}
 use Rattle.ro_core.specs.Laws.{thread_in, LeavesBlocked, LetsGoOn}
 use Rattle.ro_core.proofs.Lists.{get-map-there, get-set-same, changed-is-set}
 use Rattle.ro_core.proofs.Copies.{copied-other}
 use Rattle.ro_core.proofs.Effects.{backed_after, threads_after}
 use Rattle.ro_core.proofs.Happens.{Happens, event-happens, call-happens}
-use Rattle.ro_core.proofs.Journals.{LegalFrom-parts}
+use Rattle.ro_core.proofs.Journals.{LegalFrom-parts, legal-keeps}
 use Rattle.ro_core.proofs.Homes.{replay_more}
-use Rattle.ro_core.proofs.Leases.{Apart, has_replica, out_has, gone, event_leases, apart_after}
-use Rattle.ro_core.proofs.Ordered.{going-parts, put-parts, PutParts, vote-parts, free-parts, event-parts, freed-is}
+use Rattle.ro_core.proofs.Leases.{Apart, has_replica, lease-parts, out_has, gone, event_leases, apart_after}
+use Rattle.ro_core.proofs.Ordered.{going-parts, put-parts, vote-parts, free-parts, event-parts, freed-is}
 use Rattle.ro_core.proofs.Retired.{RunMeets, meets}
 
 -- ---- what is lent can go on
@@ -78,15 +78,14 @@ go-take job core driver replica thread lendable h d r t e = by (is_lease d r t (
 
     by : (b : Bool) → is_lease d r t (record { driver = driver; replica = replica; thread = thread }) ≡ b → (b || is_out core d r t) ≡ true → goes_in core r t ≡ true
     by true is f =
-        let p = and_parts (driver == d && (replica == r)) (thread == t) is in
-        let q = and_parts (driver == d) (replica == r) p.0 in
-        subst (λ (n : ℕ). goes_in core n t ≡ true) (eqb-true replica r q.1) (subst (λ (n : ℕ). goes_in core replica n ≡ true) (eqb-true thread t p.1) lent)
+        let p = lease-parts d r t (record { driver = driver; replica = replica; thread = thread }) is in
+        subst (λ (n : ℕ). goes_in core n t ≡ true) p.1 (subst (λ (n : ℕ). goes_in core replica n ≡ true) p.2 lent)
     by false is f = h d r t f
 
 go-put : (job : Job) (core : Core) (driver replica thread count hit : ℕ) → MayPut job core driver replica thread count hit → Apart core.leases → LentGo core → LentGo (after job core (Put driver replica thread count hit))
 unfolding after
 go-put job core driver replica thread count hit may apart h =
-    subst (λ (o : Option Ran). LentGo (core_after_put job core driver replica thread count o)) (sym may.runs) there
+    subst (λ (o : Option RanTo). LentGo (core_after_put job core driver replica thread count o)) (sym may.runs) there
   where
     left : List Lease
     left = filter (λ l. not (is_lease driver replica thread l)) core.leases
@@ -111,14 +110,11 @@ go-after job core (Free thread) may apart h =
     go-none (core_after_event core thread 0 core.replicas (freed_event job core thread)) (event_leases core thread 0 core.replicas (freed_event job core thread) ∙ (free-parts job core thread may.may).alone)
 go-after job core (End how) may apart h = h
 
-go-from : (job : Job) (core : Core) (journal : List Entry) → LegalFrom job core journal → Apart core.leases → LentGo core → LentGo (replay_from job core journal)
-go-from job core [] legal apart h = h
-go-from job core (entry ∷ journal) legal apart h = go-from job (after job core entry) journal legal.1 (apart_after job core entry legal.0 apart) (go-after job core entry legal.0 apart h)
-
 -- in a legal journal each thread that is lent can go on
 pub lent-go : (job : Job) (journal : List Entry) → Legal job journal → LentGo (replay job journal)
 unfolding opening_core
-lent-go job journal legal = go-from job (opening_core job) journal legal tt (go-none (opening_core job) refl)
+lent-go job journal legal =
+    (legal-keeps job (λ core. Apart core.leases × LentGo core) (λ core entry may h. (apart_after job core entry may h.0, go-after job core entry may h.0 h.1)) (opening_core job) journal legal (tt, go-none (opening_core job) refl)).1
 
 -- the thread that a put gives back was there, and did not stand still
 pub record LentThread (core : Core) (replica thread : ℕ) : Type 0 where
@@ -142,6 +138,13 @@ lent-thread core replica thread e = by (slice_get core.replicas replica) refl e
     by : (o : Option Replica) → slice_get core.replicas replica ≡ o → option_map_or (is_unstopped thread) o false ≡ true → LentThread core replica thread
     by None f g = absurd (true≢false (sym g))
     by (Some r) f g = at r f (slice_get r.threads thread) refl g
+
+-- what its run did to the replica
+pub lent-meets : (job : Job) (core : Core) (replica thread count : ℕ) (ran : RanTo) (lent : LentThread core replica thread) → lease_run job core replica thread count ≡ Some ran → RunMeets thread count lent.went lent.lent ran
+lent-meets job core replica thread count ran lent runs =
+    let parts = put-parts job core replica thread count ran runs in
+    meets (layout_of job.program) job.settings.watchdog count thread lent.went lent.lent ran lent.in_lent
+    (ap (λ (r : Replica). run_of (layout_of job.program) job.settings.watchdog count r thread) (some-injective (sym lent.in_core ∙ parts.there)) ∙ parts.runs)
 
 -- ---- what stands at a call
 
@@ -226,7 +229,7 @@ blocked-stands core voted count replicas event replica value stands call quiet i
 -- an event that blocks changes nothing else
 blocked-quiet : (setup : Setup) (kernel : Kernel) (thread : ℕ) (stop : Stop) (payload : List ℕ) → (event_of setup kernel thread stop payload).did ≡ Blocked → (event_of setup kernel thread stop payload).effect ≡ quiet_effect thread None false
 unfolding event_of
-blocked-quiet setup kernel thread (PageFault page) payload e = absurd (let f : Mapped ≡ Blocked = e in cc)
+blocked-quiet setup kernel thread (PageFault page) payload e = absurd (let f : PageBacked ≡ Blocked = e in cc)
 blocked-quiet setup kernel thread Watchdog payload e = absurd (let f : Watch ≡ Blocked = e in cc)
 blocked-quiet setup kernel thread (Trap code) payload e = absurd (let f : Trapped ≡ Blocked = e in cc)
 blocked-quiet setup kernel thread (Calls call) payload e = by (serve setup kernel thread call) e
@@ -240,7 +243,7 @@ blocked-quiet setup kernel thread (Calls call) payload e = by (serve setup kerne
 blocked-cases : (did : Did) → (did ≡ Blocked) ⊎ (did ≢ Blocked)
 blocked-cases Served = inr (λ e. cc)
 blocked-cases Blocked = inl refl
-blocked-cases Mapped = inr (λ e. cc)
+blocked-cases PageBacked = inr (λ e. cc)
 blocked-cases Watch = inr (λ e. cc)
 blocked-cases Trapped = inr (λ e. cc)
 
@@ -253,23 +256,13 @@ put-keeps : (job : Job) (core : Core) (driver ran_in ran count hit : ℕ) → Ma
     → Found core replica thread stands → stands.stop ≡ Some (Calls call) → thread_in (after job core (Put driver ran_in ran count hit)) replica thread ≡ Some stands
 unfolding after
 put-keeps job core driver ran_in ran count hit may go replica thread stands call f at =
-    subst (λ (o : Option Ran). thread_in (core_after_put job core driver ran_in ran count o) replica thread ≡ Some stands) (sym may.runs) (by (cases_eq replica ran_in))
+    subst (λ (o : Option RanTo). thread_in (core_after_put job core driver ran_in ran count o) replica thread ≡ Some stands) (sym may.runs) (by (cases_eq replica ran_in))
   where
     new : Core
     new = core_after_put job core driver ran_in ran count (Some may.ran)
 
     lent : LentThread core ran_in ran
     lent = lent-thread core ran_in ran (go driver ran_in ran may.out)
-
-    parts : PutParts job core ran_in ran count may.ran
-    parts = put-parts job core ran_in ran count may.ran may.runs
-
-    same-lent : parts.lent ≡ lent.lent
-    same-lent = some-injective (sym parts.there ∙ lent.in_core)
-
-    ran-meets : RunMeets ran count lent.went lent.lent may.ran
-    ran-meets = meets (layout_of job.program) job.settings.watchdog count ran lent.went lent.lent may.ran lent.in_lent
-        (ap (λ (r : Replica). run_of (layout_of job.program) job.settings.watchdog count r ran) (sym same-lent) ∙ parts.runs)
 
     here : replica ≡ ran_in → thread_in new replica thread ≡ Some stands
     here same =
@@ -281,7 +274,7 @@ put-keeps job core driver ran_in ran count hit may go replica thread stands call
         found-is new replica thread stands (record {
           value = arrived job ran count may.ran.replica;
           in_core = ap (slice_get new.replicas) same ∙ get-set-same core.replicas ran_in lent.lent (arrived job ran count may.ran.replica) lent.in_core;
-          there = changed-other (with_stop (arrival job ran count may.ran.replica)) may.ran.replica.threads ran thread other ∙ ran-meets.only.others thread other ∙ there;
+          there = changed-other (with_stop (arrival job ran count may.ran.replica)) may.ran.replica.threads ran thread other ∙ (lent-meets job core ran_in ran count may.ran lent may.runs).only.others thread other ∙ there;
         })
 
     away : replica ≢ ran_in → thread_in new replica thread ≡ Some stands

@@ -12,12 +12,11 @@ use Rattle.ro_event.specs.declared.stops.Stop.{Stop}
 use Rattle.ro_event.specs.Effects.{Effect}
 use Rattle.ro_exec.specs.Next.{Backed}
 use Rattle.ro_group.specs.Groups.{Groups, stands_in, stands, is_ready, Changes}
-use Rattle.ro_plain.specs.Machine.{layout_of}
 use Rattle.ro_plain.proofs.Calls.{some-injective}
 use Rattle.ro_journal.specs.declared.Entry.TheVariants.{Put}
 use Rattle.ro_thread.specs.declared.Thread.{Thread}
 use Rattle.ro_replica.specs.Replica.{Replica, changed_at, thread_after, with_made, applied, is_cancelled, without_cancelled, cancelled, copied_threads, recovered, stop_of, opening_replica}
-use Rattle.ro_replica.specs.Runs.{run_of, with_stop}
+use Rattle.ro_replica.specs.Runs.{with_stop}
 use Rattle.ro_replica.specs.Seen.{ReplicaOf, replica_of}
 use Rattle.ro_core.specs.Core.{Job, Core, opening_core}
 use Rattle.ro_core.specs.Event.{with_copy, with_recovered, all_applied}
@@ -26,10 +25,9 @@ use Rattle.ro_core.specs.Fields.{AreHome}
 use Rattle.ro_core.specs.Grouped.{AreGrouped, AreMade, seat_stopped, Returns, CopiesRow, Copies, Releases, SettlesSeat, Settles}
 use Rattle.ro_core.specs.Opening.{NoneStands}
 use Rattle.ro_core.proofs.Lists.{MappedFrom, get-map, length-mapped, get-set-same}
-use Rattle.ro_core.proofs.Copies.{length-copy, still-there, recovered-threads, AfterCopy, not_lost, is_copy, after-copy, length-with-copy}
-use Rattle.ro_core.proofs.Ordered.{length-opening, get-opening, PutParts, put-parts}
-use Rattle.ro_core.proofs.Retired.{RunMeets, meets}
-use Rattle.ro_core.proofs.Grants.{LentGo, LentThread, lent-thread, changed-other}
+use Rattle.ro_core.proofs.Copies.{length-copy, still-there, recovered-threads, AfterCopy, not_lost, is_copy, after-copy}
+use Rattle.ro_core.proofs.Ordered.{length-opening, get-opening}
+use Rattle.ro_core.proofs.Grants.{LentGo, LentThread, lent-thread, lent-meets, changed-other}
 
 -- the stop of a thread in a list
 abbrev stop_in : List Thread → (thread : ℕ) → Option Stop
@@ -80,16 +78,6 @@ put-into job core driver replica thread count hit may lent groups new value beca
     kept number t d (inl e) = (back.noted e).others number t d
     kept number t d (inr e) = ap (λ (g : Groups). stands g number t) (back.same e)
 
-    parts : PutParts job core replica thread count may.ran
-    parts = put-parts job core replica thread count may.ran may.runs
-
-    same-lent : parts.lent ≡ lent.lent
-    same-lent = some-injective (sym parts.there ∙ lent.in_core)
-
-    ran-meets : RunMeets thread count lent.went lent.lent may.ran
-    ran-meets = meets (layout_of job.program) job.settings.watchdog count thread lent.went lent.lent may.ran lent.in_lent
-        (ap (λ (r : Replica). run_of (layout_of job.program) job.settings.watchdog count r thread) (sym same-lent) ∙ parts.runs)
-
     arrived-is : value ≡ arrived job thread count may.ran.replica
     arrived-is = some-injective (sym became ∙ get-set-same core.replicas replica lent.lent (arrived job thread count may.ran.replica) lent.in_core)
 
@@ -105,7 +93,7 @@ put-into job core driver replica thread count hit may lent groups new value beca
     beside t differs =
         kept replica t (inr differs) (cases_Bool (is_some (stop_of value thread))) ∙ h.each replica t lent.lent lent.in_core
         ∙ ap (λ (o : Option Thread). is_some (option_and_then (λ (x : Thread). x.stop) o))
-        (sym (changed-other (with_stop (arrival job thread count may.ran.replica)) may.ran.replica.threads thread t differs ∙ ran-meets.only.others t differs))
+        (sym (changed-other (with_stop (arrival job thread count may.ran.replica)) may.ran.replica.threads thread t differs ∙ (lent-meets job core replica thread count may.ran lent may.runs).only.others t differs))
         ∙ ap (λ (r : Replica). is_some (stop_of r t)) (sym arrived-is)
 
     by : (number t : ℕ) (r : Replica) → slice_get (core_after_put job core driver replica thread count (Some may.ran)).replicas number ≡ Some r → (number ≡ replica) ⊎ (number ≢ replica) → (t ≡ thread) ⊎ (t ≢ thread) → stands new number t ≡ is_some (stop_of r t)
@@ -242,13 +230,11 @@ unfolding cancelled
 settled-stop replica thread = cancelled-stop replica.backed replica.threads thread
 
 -- the seat of a replica that is home
-home-seat : (job : Job) (seats : List (Option ReplicaOf)) (replicas : List Replica) (number : ℕ) (replica : Replica) → AreHome job seats replicas → slice_get replicas number ≡ Some replica → (value : ReplicaOf) × (slice_get seats number ≡ Some (Some value)) × (replica_of value ≡ replica)
+pub home-seat : (job : Job) (seats : List (Option ReplicaOf)) (replicas : List Replica) (number : ℕ) (replica : Replica) → AreHome job seats replicas → slice_get replicas number ≡ Some replica → (value : ReplicaOf) × (slice_get seats number ≡ Some (Some value)) × (replica_of value ≡ replica)
 home-seat job [] [] number replica h e = absurd (let f : None ≡ Some replica = e in cc)
-home-seat job [] (r ∷ replicas) number replica h e = absurd h
-home-seat job (None ∷ seats) replicas number replica h e = absurd h
-home-seat job (Some value ∷ seats) [] number replica h e = absurd h
 home-seat job (Some value ∷ seats) (r ∷ replicas) zero replica h e = (value, refl, h.1 ∙ some-injective e)
 home-seat job (Some value ∷ seats) (r ∷ replicas) (suc number) replica h e = home-seat job seats replicas number replica h.2 e
+home-seat job seats replicas number replica h e = absurd h
 
 -- an effect in every replica keeps the groups
 pub regrouped : (job : Job) (effect : Effect) (before : List Replica) (seats : List (Option ReplicaOf)) (replicas threads : ℕ) (old mid new : Groups) → length old ≡ replicas → length mid ≡ length old → Releases effect old mid → Settles seats replicas threads mid new

@@ -1,7 +1,7 @@
 -- The fields of a run behind one entry more.
 use Rattle.std.proofs.Common.{◌≡◌, ◌⊎◌, inl, inr, ℕ, ◌+◌, ◌<◌, ◌≤◌, true, List, [], ◌∷◌, ◌++◌, length, Option, Some, None, refl, sym, ap, ◌∙◌, subst, arith}
 use Rattle.ro_journal.specs.declared.How.{How}
-use Rattle.ro_journal.specs.declared.How.TheVariants.{Exit, Deadlock, Trap, Limit, Differ, NoMajority, Sink}
+use Rattle.ro_journal.specs.declared.How.TheVariants.{Limit, Differ, NoMajority, Sink}
 use Rattle.ro_journal.specs.declared.Entry.{Entry}
 use Rattle.ro_journal.specs.declared.Entry.TheVariants.{End}
 use Rattle.ro_journal.specs.Plan.{outcome_of}
@@ -19,6 +19,12 @@ use Rattle.ro_core.proofs.Ordered.{going-parts}
 use Rattle.ro_core.proofs.Outcomes.{ended_is_outcome}
 
 -- ---- a failing sink makes an end due and changes nothing else
+
+-- an end that is due is that of a failing sink, or is none of one
+pub failed-cases : (o : Option How) → (failed_of o ≡ None) ⊎ ((bytes : ℕ) × (o ≡ Some (Sink bytes)))
+failed-cases (Some (Sink bytes)) = inr (bytes, refl)
+failed-cases (Some how) = inl refl
+failed-cases None = inl refl
 
 module _ (job : Job) (journal : List Entry) where
   pub with-leases : (o : Option ℕ) → (replay_with job journal o).leases ≡ (replay job journal).leases
@@ -110,17 +116,11 @@ module _ (f f' : Fields) (entry : Entry) (h : Holds f) (allowed : IsAllowed f.jo
   due_is : (o : Option ℕ) → failed_of f'.due ≡ o → (f'.due ≡ (after f.job (core_in f) entry).due) ⊎ ((bytes : ℕ) × (f'.due ≡ Some (Sink bytes))) → f'.due ≡ (state_in f').due
   due_is None e (inl d) = due-same f'.job f'.journal f'.due e (d ∙ sym (ap (λ (c : Core). c.due) core_is))
   due_is None e (inr d) = due-failed f'.job f'.journal f'.due d.0 d.1
-  due_is (Some bytes) e d = due-failed f'.job f'.journal f'.due bytes (failed-sink f'.due bytes e)
+  due_is (Some bytes) e d = by (failed-cases f'.due)
     where
-      failed-sink : (o : Option How) (n : ℕ) → failed_of o ≡ Some n → o ≡ Some (Sink n)
-      failed-sink None n g = absurd (let k : None ≡ Some n = g in cc)
-      failed-sink (Some (Sink m)) n g = ap (λ (x : ℕ). Some (Sink x)) (let k : Some m ≡ Some n = g in cc)
-      failed-sink (Some (Exit status)) n g = absurd (let k : None ≡ Some n = g in cc)
-      failed-sink (Some (Trap code)) n g = absurd (let k : None ≡ Some n = g in cc)
-      failed-sink (Some (Limit steps next)) n g = absurd (let k : None ≡ Some n = g in cc)
-      failed-sink (Some Deadlock) n g = absurd (let k : None ≡ Some n = g in cc)
-      failed-sink (Some Differ) n g = absurd (let k : None ≡ Some n = g in cc)
-      failed-sink (Some NoMajority) n g = absurd (let k : None ≡ Some n = g in cc)
+      by : (failed_of f'.due ≡ None) ⊎ ((n : ℕ) × (f'.due ≡ Some (Sink n))) → f'.due ≡ (state_in f').due
+      by (inl none) = absurd (let k : None ≡ Some bytes = sym none ∙ e in cc)
+      by (inr sink) = due-failed f'.job f'.journal f'.due sink.0 sink.1
 
   pub holds-step : Holds f'
   holds-step = record {

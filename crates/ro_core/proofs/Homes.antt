@@ -13,7 +13,7 @@ use Rattle.ro_kernel.specs.Kernel.{lives_on}
 use Rattle.ro_kernel.proofs.Kept.{slice_get-set_other}
 use Rattle.ro_plain.specs.Machine.{layout_of}
 use Rattle.ro_replica.specs.Replica.{Replica}
-use Rattle.ro_replica.specs.Runs.{Ran, run_of}
+use Rattle.ro_replica.specs.Runs.{RanTo, run_of}
 use Rattle.ro_replica.specs.Seen.{ReplicaOf, replica_of}
 use Rattle.ro_replica.specs.Views.{is_unstopped}
 use Rattle.ro_core.specs.declared.actions.Lease.{Lease}
@@ -91,14 +91,14 @@ take_seated job core seats driver replica thread value seated there = record {
         (same_seat job core (after job core (Take driver replica thread)) number (slice_get seats number) home refl (seated.each number))
 
 -- a run is of a replica that is there
-run_there : (job : Job) (core : Core) (replica thread count : ℕ) (ran : Ran) → lease_run job core replica thread count ≡ Some ran → (r : Replica) × (slice_get core.replicas replica ≡ Some r)
+run_there : (job : Job) (core : Core) (replica thread count : ℕ) (ran : RanTo) → lease_run job core replica thread count ≡ Some ran → (r : Replica) × (slice_get core.replicas replica ≡ Some r)
 run_there job core replica thread count ran e = by (slice_get core.replicas replica) refl e
   where
     by : (o : Option Replica) → slice_get core.replicas replica ≡ o → option_and_then (λ r. run_of (layout_of job.program) job.settings.watchdog count r thread) o ≡ Some ran → (r : Replica) × (slice_get core.replicas replica ≡ Some r)
     by None f g = absurd (let h : None ≡ Some ran = g in cc)
     by (Some r) f g = (r, f)
 
-pub seat_within : (job : Job) (core : Core) (seats : List (Option ReplicaOf)) (replica thread count : ℕ) (ran : Ran) → AreSeated job core seats → lease_run job core replica thread count ≡ Some ran → replica < length seats
+pub seat_within : (job : Job) (core : Core) (seats : List (Option ReplicaOf)) (replica thread count : ℕ) (ran : RanTo) → AreSeated job core seats → lease_run job core replica thread count ≡ Some ran → replica < length seats
 seat_within job core seats replica thread count ran seated e =
     let t = run_there job core replica thread count ran e in
     let h : replica < length core.replicas = slice_get_within core.replicas replica t.0 t.1 in

@@ -1,5 +1,5 @@
--- The leases that are out: no two of them are of one replica.
-use Rattle.std.proofs.Common.{◌≡◌, ℕ, Bool, true, false, true≢false, not, cond, ◌&&◌, ◌||◌, List, [], ◌∷◌, Option, Some, None, refl, sym, ap, ◌∙◌, subst, eqb-true}
+-- The leases that are out: no two of them are of one replica, nor of one driver.
+use Rattle.std.proofs.Common.{◌≡◌, ℕ, Bool, true, false, true≢false, not, cond, ◌&&◌, ◌||◌, List, [], ◌∷◌, Option, Some, None, refl, sym, ap, ◌∙◌, subst, eqb-true, eq-eqb}
 use Rattle.std.specs.Prelude.{◌==◌}
 use Rattle.std.specs.List.{filter, list_any}
 use Rattle.std.proofs.lemmas.Bool.{and_parts}
@@ -7,122 +7,158 @@ use Rattle.ro_journal.specs.Losers.{numbers}
 use Rattle.ro_journal.specs.declared.Entry.{Entry}
 use Rattle.ro_journal.specs.declared.Entry.TheVariants.{Take, Put, Vote, Free, End}
 use Rattle.ro_replica.specs.Replica.{Replica}
-use Rattle.ro_replica.specs.Runs.{Ran}
+use Rattle.ro_replica.specs.Runs.{RanTo}
 use Rattle.ro_core.specs.declared.actions.Lease.{Lease}
 use Rattle.ro_core.specs.Core.{Job, Core, opening_core, is_home}
 use Rattle.ro_kernel.specs.Kernel.{lives_on}
 use Rattle.ro_core.specs.Event.{Event, with_recovered}
-use Rattle.ro_core.specs.Legal.{is_lease, core_after_put, core_after_event, lease_run, event_in, freed_event, after, IsAllowed, LegalFrom, Legal, replay_from, replay}
+use Rattle.ro_core.specs.Legal.{is_lease, core_after_put, core_after_event, lease_run, event_in, freed_event, after, MayTake, IsAllowed, Legal, replay}
+use Rattle.ro_core.proofs.Journals.{legal-keeps}
 
--- whether a lease of the replica is in the list
+-- whether a lease with this number is in the list, by what its number is
+abbrev pub has_number : (key : Lease → ℕ) → ℕ → List Lease → Bool
+has_number key n leases = list_any (λ lease. key lease == n) leases
+
 abbrev pub has_replica : ℕ → List Lease → Bool
-has_replica replica leases = list_any (λ lease. lease.replica == replica) leases
+has_replica replica leases = has_number (λ lease. lease.replica) replica leases
+
+abbrev pub has_driver : ℕ → List Lease → Bool
+has_driver driver leases = has_number (λ lease. lease.driver) driver leases
+
+-- no two leases have one number
+abbrev pub Differ : (key : Lease → ℕ) → List Lease → Type 0
+Differ key [] = Unit {0}
+Differ key (lease ∷ leases) = (has_number key (key lease) leases ≡ false) × Differ key leases
 
 -- each replica is lent once at the most
 abbrev pub Apart : List Lease → Type 0
-Apart [] = Unit {0}
-Apart (lease ∷ leases) = (has_replica lease.replica leases ≡ false) × Apart leases
+Apart leases = Differ (λ lease. lease.replica) leases
+
+-- each driver holds one lease at the most
+abbrev pub OneEach : List Lease → Type 0
+OneEach leases = Differ (λ lease. lease.driver) leases
 
 or_false_parts : (a b : Bool) → (a || b) ≡ false → (a ≡ false) × (b ≡ false)
 or_false_parts true b e = absurd (true≢false e)
 or_false_parts false b e = (refl, e)
 
-not_false : (b : Bool) → not b ≡ true → b ≡ false
+pub or_true : (a b : Bool) → b ≡ true → (a || b) ≡ true
+or_true true b f = refl
+or_true false b f = f
+
+pub not_false : (b : Bool) → not b ≡ true → b ≡ false
 not_false true e = absurd (true≢false (sym e))
 not_false false e = refl
 
--- fewer leases have fewer replicas
-has_replica-filter : (p : Lease → Bool) (replica : ℕ) (leases : List Lease) → has_replica replica leases ≡ false → has_replica replica (filter p leases) ≡ false
-has_replica-filter p replica [] e = refl
-has_replica-filter p replica (lease ∷ leases) e =
-    let parts = or_false_parts (lease.replica == replica) (has_replica replica leases) e in
-    by (p lease) parts.0 (has_replica-filter p replica leases parts.1)
-  where
-    by : (b : Bool) → (lease.replica == replica) ≡ false → has_replica replica (filter p leases) ≡ false → has_replica replica (cond b (lease ∷ filter p leases) (filter p leases)) ≡ false
-    by true one rest = ap (λ (b : Bool). b || has_replica replica (filter p leases)) one ∙ rest
-    by false one rest = rest
+pub lease-parts : (driver replica thread : ℕ) (lease : Lease) → is_lease driver replica thread lease ≡ true → (lease.driver ≡ driver) × (lease.replica ≡ replica) × (lease.thread ≡ thread)
+lease-parts driver replica thread lease e =
+    let p = and_parts (lease.driver == driver && (lease.replica == replica)) (lease.thread == thread) e in
+    let q = and_parts (lease.driver == driver) (lease.replica == replica) p.0 in
+    (eqb-true lease.driver driver q.0, eqb-true lease.replica replica q.1, eqb-true lease.thread thread p.1)
 
-Apart-filter : (p : Lease → Bool) (leases : List Lease) → Apart leases → Apart (filter p leases)
-Apart-filter p [] h = tt
-Apart-filter p (lease ∷ leases) h = by (p lease) (has_replica-filter p lease.replica leases h.0) (Apart-filter p leases h.1)
-  where
-    by : (b : Bool) → has_replica lease.replica (filter p leases) ≡ false → Apart (filter p leases) → Apart (cond b (lease ∷ filter p leases) (filter p leases))
-    by true one rest = (one, rest)
-    by false one rest = rest
+-- ---- leases by a number of theirs
+
+module _ (key : Lease → ℕ) where
+  -- fewer leases have fewer numbers
+  pub has-filter : (p : Lease → Bool) (n : ℕ) (leases : List Lease) → has_number key n leases ≡ false → has_number key n (filter p leases) ≡ false
+  has-filter p n [] e = refl
+  has-filter p n (lease ∷ leases) e =
+      let parts = or_false_parts (key lease == n) (has_number key n leases) e in
+      by (p lease) parts.0 (has-filter p n leases parts.1)
+    where
+      by : (b : Bool) → (key lease == n) ≡ false → has_number key n (filter p leases) ≡ false → has_number key n (cond b (lease ∷ filter p leases) (filter p leases)) ≡ false
+      by true one rest = ap (λ (b : Bool). b || has_number key n (filter p leases)) one ∙ rest
+      by false one rest = rest
+
+  pub differ-filter : (p : Lease → Bool) (leases : List Lease) → Differ key leases → Differ key (filter p leases)
+  differ-filter p [] h = tt
+  differ-filter p (lease ∷ leases) h = by (p lease) (has-filter p (key lease) leases h.0) (differ-filter p leases h.1)
+    where
+      by : (b : Bool) → has_number key (key lease) (filter p leases) ≡ false → Differ key (filter p leases) → Differ key (cond b (lease ∷ filter p leases) (filter p leases))
+      by true one rest = (one, rest)
+      by false one rest = rest
+
+  -- of one lease, which has this number
+  module _ (driver replica thread n : ℕ) (its : (lease : Lease) → is_lease driver replica thread lease ≡ true → key lease ≡ n) where
+    -- where it is out its number is there
+    pub out_number : (leases : List Lease) → list_any (is_lease driver replica thread) leases ≡ true → has_number key n leases ≡ true
+    out_number [] e = absurd (true≢false (sym e))
+    out_number (lease ∷ leases) e = by (is_lease driver replica thread lease) refl (λ later. out_number leases later)
+      where
+        by : (b : Bool) → is_lease driver replica thread lease ≡ b → (list_any (is_lease driver replica thread) leases ≡ true → has_number key n leases ≡ true) → ((key lease == n) || has_number key n leases) ≡ true
+        by true is rest = ap (λ (b : Bool). b || has_number key n leases) (eq-eqb (key lease) n (its lease is))
+        by false is rest = or_true (key lease == n) (has_number key n leases) (rest (sym (ap (λ (b : Bool). b || list_any (is_lease driver replica thread) leases) is) ∙ e))
+
+    gone_by : (lease : Lease) (leases : List Lease) → Differ key (lease ∷ leases) → list_any (is_lease driver replica thread) (lease ∷ leases) ≡ true
+        → (list_any (is_lease driver replica thread) leases ≡ true → has_number key n (filter (λ l. not (is_lease driver replica thread l)) leases) ≡ false)
+        → (b : Bool) → is_lease driver replica thread lease ≡ b → has_number key n (cond (not b) (lease ∷ filter (λ l. not (is_lease driver replica thread l)) leases) (filter (λ l. not (is_lease driver replica thread l)) leases)) ≡ false
+    gone_by lease leases h e rest true is = has-filter (λ l. not (is_lease driver replica thread l)) n leases (ap (λ (m : ℕ). has_number key m leases) (sym (its lease is)) ∙ h.0)
+    gone_by lease leases h e rest false is =
+        let later : list_any (is_lease driver replica thread) leases ≡ true = sym (ap (λ (b : Bool). b || list_any (is_lease driver replica thread) leases) is) ∙ e in
+        ap (λ (b : Bool). b || has_number key n (filter (λ l. not (is_lease driver replica thread l)) leases)) (differs (key lease == n) refl (out_number leases later)) ∙ rest later
+      where
+        differs : (b : Bool) → (key lease == n) ≡ b → has_number key n leases ≡ true → b ≡ false
+        differs false f there = refl
+        differs true f there = absurd (true≢false (sym there ∙ ap (λ (m : ℕ). has_number key m leases) (sym (eqb-true (key lease) n f)) ∙ h.0))
+
+    -- and once it came back its number is gone
+    pub gone_number : (leases : List Lease) → Differ key leases → list_any (is_lease driver replica thread) leases ≡ true → has_number key n (filter (λ l. not (is_lease driver replica thread l)) leases) ≡ false
+    gone_number [] h e = refl
+    gone_number (lease ∷ leases) h e = gone_by lease leases h e (λ later. gone_number leases h.1 later) (is_lease driver replica thread lease) refl
+
+-- ---- along a journal
 
 -- the leases after an event are those before it
 pub event_leases : (core : Core) (thread count : ℕ) (replicas : List Replica) (event : Option Event) → (core_after_event core thread count replicas event).leases ≡ core.leases
 event_leases core thread count replicas None = refl
 event_leases core thread count replicas (Some event) = refl
 
-put_apart : (job : Job) (core : Core) (driver replica thread count : ℕ) (ran : Option Ran) → Apart core.leases → Apart (core_after_put job core driver replica thread count ran).leases
-put_apart job core driver replica thread count None h = h
-put_apart job core driver replica thread count (Some ran) h = Apart-filter (λ lease. not (is_lease driver replica thread lease)) core.leases h
-
-same_apart : (xs ys : List Lease) → xs ≡ ys → Apart ys → Apart xs
-same_apart xs ys e h = subst (λ (ls : List Lease). Apart ls) (sym e) h
+-- what fewer leases keep, and a take keeps, each entry keeps
+pub leases_keep : (job : Job) (Q : List Lease → Type 0) → ((p : Lease → Bool) (leases : List Lease) → Q leases → Q (filter p leases))
+    → ((core : Core) (driver replica thread : ℕ) → MayTake job core driver replica thread → Q core.leases → Q (record { driver = driver; replica = replica; thread = thread } ∷ core.leases))
+    → (core : Core) (entry : Entry) → IsAllowed job core entry → Q core.leases → Q (after job core entry).leases
+unfolding after
+leases_keep job Q fewer takes core (Take driver replica thread) m h = takes core driver replica thread m h
+leases_keep job Q fewer takes core (Put driver replica thread count hit) m h = by (lease_run job core replica thread count)
+  where
+    by : (ran : Option RanTo) → Q (core_after_put job core driver replica thread count ran).leases
+    by None = h
+    by (Some ran) = fewer (λ lease. not (is_lease driver replica thread lease)) core.leases h
+leases_keep job Q fewer takes core (Vote thread count won lost did) m h = subst Q (sym (event_leases core thread count (with_recovered won (numbers lost) core.replicas) (event_in job core thread won))) h
+leases_keep job Q fewer takes core (Free thread) m h = subst Q (sym (event_leases core thread 0 core.replicas (freed_event job core thread))) h
+leases_keep job Q fewer takes core (End how) m h = h
 
 -- each entry keeps them apart
 pub apart_after : (job : Job) (core : Core) (entry : Entry) → IsAllowed job core entry → Apart core.leases → Apart (after job core entry).leases
-unfolding after
-apart_after job core (Take driver replica thread) m h =
-    let p = and_parts (is_home core replica && lives_on core.kernel thread) _ m.lendable in
-    let q = and_parts (is_home core replica) (lives_on core.kernel thread) p.0 in
-    (not_false (has_replica replica core.leases) q.0, h)
-apart_after job core (Put driver replica thread count hit) m h = put_apart job core driver replica thread count (lease_run job core replica thread count) h
-apart_after job core (Vote thread count won lost did) m h =
-    same_apart _ core.leases (event_leases core thread count (with_recovered won (numbers lost) core.replicas) (event_in job core thread won)) h
-apart_after job core (Free thread) m h = same_apart _ core.leases (event_leases core thread 0 core.replicas (freed_event job core thread)) h
-apart_after job core (End how) m h = h
-
-apart_from : (job : Job) (core : Core) (journal : List Entry) → LegalFrom job core journal → Apart core.leases → Apart (replay_from job core journal).leases
-apart_from job core [] legal h = h
-apart_from job core (entry ∷ journal) legal h = apart_from job (after job core entry) journal legal.1 (apart_after job core entry legal.0 h)
+apart_after job core entry m h = leases_keep job (λ leases. Apart leases) (differ-filter (λ lease. lease.replica)) takes core entry m h
+  where
+    takes : (core : Core) (driver replica thread : ℕ) → MayTake job core driver replica thread → Apart core.leases → Apart (record { driver = driver; replica = replica; thread = thread } ∷ core.leases)
+    takes core driver replica thread m h =
+        let p = and_parts (is_home core replica && lives_on core.kernel thread) _ m.lendable in
+        let q = and_parts (is_home core replica) (lives_on core.kernel thread) p.0 in
+        (not_false (has_replica replica core.leases) q.0, h)
 
 -- in a legal journal no two leases are of one replica
 pub leases_apart : (job : Job) (journal : List Entry) → Legal job journal → Apart (replay job journal).leases
 unfolding opening_core
-leases_apart job journal legal = apart_from job (opening_core job) journal legal tt
+leases_apart job journal legal = legal-keeps job (λ core. Apart core.leases) (apart_after job) (opening_core job) journal legal tt
+
+-- nor of one driver
+pub one_each : (job : Job) (journal : List Entry) → Legal job journal → OneEach (replay job journal).leases
+unfolding opening_core
+one_each job journal legal = legal-keeps job (λ core. OneEach core.leases) (leases_keep job (λ leases. OneEach leases) (differ-filter (λ lease. lease.driver)) takes) (opening_core job) journal legal tt
+  where
+    takes : (core : Core) (driver replica thread : ℕ) → MayTake job core driver replica thread → OneEach core.leases → OneEach (record { driver = driver; replica = replica; thread = thread } ∷ core.leases)
+    takes core driver replica thread m h = (not_false (has_driver driver core.leases) m.driver_is_idle, h)
 
 -- a lease that is out is of its replica
 pub out_has : (driver replica thread : ℕ) (leases : List Lease) → list_any (is_lease driver replica thread) leases ≡ true → has_replica replica leases ≡ true
-out_has driver replica thread [] e = absurd (true≢false (sym e))
-out_has driver replica thread (lease ∷ leases) e = by (is_lease driver replica thread lease) refl (λ later. out_has driver replica thread leases later)
-  where
-    or_true : (a b : Bool) → b ≡ true → (a || b) ≡ true
-    or_true true b f = refl
-    or_true false b f = f
-
-    by : (b : Bool) → is_lease driver replica thread lease ≡ b → (list_any (is_lease driver replica thread) leases ≡ true → has_replica replica leases ≡ true) → ((lease.replica == replica) || has_replica replica leases) ≡ true
-    by true is rest =
-        let p = and_parts (lease.driver == driver && (lease.replica == replica)) (lease.thread == thread) is in
-        let q = and_parts (lease.driver == driver) (lease.replica == replica) p.0 in
-        ap (λ (b : Bool). b || has_replica replica leases) q.1
-    by false is rest = or_true (lease.replica == replica) (has_replica replica leases) (rest (sym (ap (λ (b : Bool). b || list_any (is_lease driver replica thread) leases) is) ∙ e))
+out_has driver replica thread = out_number (λ lease. lease.replica) driver replica thread replica (λ lease is. (lease-parts driver replica thread lease is).1)
 
 -- a lease that came back leaves its replica at home
-gone_by : (driver replica thread : ℕ) (lease : Lease) (leases : List Lease) → Apart (lease ∷ leases) → list_any (is_lease driver replica thread) (lease ∷ leases) ≡ true
-    → (list_any (is_lease driver replica thread) leases ≡ true → has_replica replica (filter (λ l. not (is_lease driver replica thread l)) leases) ≡ false)
-    → (b : Bool) → is_lease driver replica thread lease ≡ b → has_replica replica (cond (not b) (lease ∷ filter (λ l. not (is_lease driver replica thread l)) leases) (filter (λ l. not (is_lease driver replica thread l)) leases)) ≡ false
-gone_by driver replica thread lease leases h e rest true is =
-    let p = and_parts (lease.driver == driver && (lease.replica == replica)) (lease.thread == thread) is in
-    let q = and_parts (lease.driver == driver) (lease.replica == replica) p.0 in
-    let same : lease.replica ≡ replica = eqb-true lease.replica replica q.1 in
-    has_replica-filter (λ l. not (is_lease driver replica thread l)) replica leases (ap (λ (n : ℕ). has_replica n leases) (sym same) ∙ h.0)
-gone_by driver replica thread lease leases h e rest false is =
-    let later : list_any (is_lease driver replica thread) leases ≡ true = sym (ap (λ (b : Bool). b || list_any (is_lease driver replica thread) leases) is) ∙ e in
-    let there : has_replica replica leases ≡ true = out_has driver replica thread leases later in
-    let other : (lease.replica == replica) ≡ false = differs (lease.replica == replica) refl there in
-    ap (λ (b : Bool). b || has_replica replica (filter (λ l. not (is_lease driver replica thread l)) leases)) other ∙ rest later
-  where
-    differs : (b : Bool) → (lease.replica == replica) ≡ b → has_replica replica leases ≡ true → b ≡ false
-    differs false f there = refl
-    differs true f there = let same : lease.replica ≡ replica = eqb-true lease.replica replica f in absurd (true≢false (sym there ∙ ap (λ (n : ℕ). has_replica n leases) (sym same) ∙ h.0))
-
 pub gone : (driver replica thread : ℕ) (leases : List Lease) → Apart leases → list_any (is_lease driver replica thread) leases ≡ true
     → has_replica replica (filter (λ l. not (is_lease driver replica thread l)) leases) ≡ false
-gone driver replica thread [] h e = refl
-gone driver replica thread (lease ∷ leases) h e = gone_by driver replica thread lease leases h e (λ later. gone driver replica thread leases h.1 later) (is_lease driver replica thread lease) refl
+gone driver replica thread = gone_number (λ lease. lease.replica) driver replica thread replica (λ lease is. (lease-parts driver replica thread lease is).1)
 
 -- and every other replica as it was
 pub others_stay : (driver replica thread other : ℕ) (leases : List Lease) → (other ≡ replica → ⊥)
@@ -139,8 +175,6 @@ others_stay driver replica thread other (lease ∷ leases) ne = by (is_lease dri
 
     by : (b : Bool) → is_lease driver replica thread lease ≡ b → has_replica other kept ≡ has_replica other leases → has_replica other (cond (not b) (lease ∷ kept) kept) ≡ ((lease.replica == other) || has_replica other leases)
     by true is rest =
-        let p = and_parts (lease.driver == driver && (lease.replica == replica)) (lease.thread == thread) is in
-        let q = and_parts (lease.driver == driver) (lease.replica == replica) p.0 in
-        let other_is : (lease.replica == other) ≡ false = not_other (lease.replica == other) refl (eqb-true lease.replica replica q.1) in
+        let other_is : (lease.replica == other) ≡ false = not_other (lease.replica == other) refl (lease-parts driver replica thread lease is).1 in
         rest ∙ sym (ap (λ (b : Bool). b || has_replica other leases) other_is)
     by false is rest = ap (λ (b : Bool). (lease.replica == other) || b) rest

@@ -14,8 +14,8 @@ use Rattle.ro_faults.specs.declared.Fault.{Fault}
 use Rattle.ro_kernel.specs.Serve.{serve}
 use Rattle.ro_thread.specs.declared.Thread.{Thread}
 use Rattle.ro_replica.specs.Replica.{Replica, changed_at, unstopped, creator_of, thread_after, with_made, without_cancelled, applied, cancelled, copied_threads, recovered, opening_replica}
-use Rattle.ro_replica.specs.Runs.{Ran, run_of, with_stop}
-use Rattle.ro_plain.specs.Machine.{layout_of, setup_of}
+use Rattle.ro_replica.specs.Runs.{RanTo, with_stop}
+use Rattle.ro_plain.specs.Machine.{setup_of}
 use Rattle.ro_plain.proofs.Calls.{some-injective}
 use Rattle.ro_core.specs.Core.{Job, Core, opening_core}
 use Rattle.ro_core.specs.Event.{Event, call_event, with_copy, with_recovered}
@@ -26,9 +26,9 @@ use Rattle.ro_core.proofs.Lists.{ChangedFrom, unchanged, changed_here, get-chang
 use Rattle.ro_core.proofs.Copies.{AfterCopy, not_lost, is_copy, after-copy, still-there}
 use Rattle.ro_core.proofs.Effects.{backed_after, threads_after}
 use Rattle.ro_core.proofs.Leases.{Apart, apart_after}
-use Rattle.ro_core.proofs.Ordered.{AreSound, copied-sound, put-parts, PutParts, get-opening, one-thread, event-parts, free-parts, freed-is, ordered-after, ordered-opening}
-use Rattle.ro_core.proofs.Grants.{LentGo, go-after, go-none, LentThread, lent-thread}
-use Rattle.ro_core.proofs.Retired.{RunMeets, meets, filter-filter, filter-same, length-parts, is_passed, same-bool, not-or}
+use Rattle.ro_core.proofs.Ordered.{AreSound, copied-sound, get-opening, one-thread, event-parts, free-parts, freed-is, ordered-after, ordered-opening}
+use Rattle.ro_core.proofs.Grants.{LentGo, go-after, go-none, LentThread, lent-thread, lent-meets}
+use Rattle.ro_core.proofs.Retired.{RunMeets, filter-filter, filter-same, length-parts, is_passed, same-bool, not-or}
 
 -- ---- a journal with one entry more
 
@@ -287,7 +287,7 @@ module _ (job : Job) (journal : List Entry) (driver number thread count hit : �
           ∙ moment-or (has_run journal fault.replica fault.thread) fault.at done count none ∙ sym (λ t. has t && nat_le fault.at (now t))
 
   -- a put of a run that was made of what met the journal
-  meets-put : (lent new : Replica) (ran : Ran) (went : Thread) (stop : Thread → Thread) → ((x : Thread) → (stop x).done ≡ x.done) → slice_get lent.threads thread ≡ Some went → RunMeets thread count went lent ran → ran.hit ≡ hit
+  meets-put : (lent new : Replica) (ran : RanTo) (went : Thread) (stop : Thread → Thread) → ((x : Thread) → (stop x).done ≡ x.done) → slice_get lent.threads thread ≡ Some went → RunMeets thread count went lent ran → ran.hit ≡ hit
       → new.waiting ≡ ran.replica.waiting → new.threads ≡ changed_at stop ran.replica.threads thread → Meets job journal number lent → Meets job (journal ++ Put driver number thread count hit ∷ []) number new
   meets-put lent new ran went stop same there run hit_is waits threads h = record {
     waiting = waits ∙ run.waiting ∙ ap (filter (λ fault. not (is_passed thread went.done (went.done + count) fault))) h.waiting
@@ -377,19 +377,9 @@ meets-ran job journal core driver replica thread count hit may go h number r e =
     lent : LentThread core replica thread
     lent = lent-thread core replica thread (go driver replica thread may.out)
 
-    parts : PutParts job core replica thread count may.ran
-    parts = put-parts job core replica thread count may.ran may.runs
-
-    same-lent : parts.lent ≡ lent.lent
-    same-lent = some-injective (sym parts.there ∙ lent.in_core)
-
-    run : RunMeets thread count lent.went lent.lent may.ran
-    run = meets (layout_of job.program) job.settings.watchdog count thread lent.went lent.lent may.ran lent.in_lent
-        (ap (λ (x : Replica). run_of (layout_of job.program) job.settings.watchdog count x thread) (sym same-lent) ∙ parts.runs)
-
     came : Meets job (journal ++ Put driver replica thread count hit ∷ []) replica (arrived job thread count may.ran.replica)
     came = meets-put job journal driver replica thread count hit lent.lent (arrived job thread count may.ran.replica) may.ran lent.went (with_stop (arrival job thread count may.ran.replica)) (λ x. refl)
-        lent.in_lent run may.struck refl refl (h replica lent.lent lent.in_core)
+        lent.in_lent (lent-meets job core replica thread count may.ran lent may.runs) may.struck refl refl (h replica lent.lent lent.in_core)
 
     quiet : number ≢ replica → IsQuiet number (Put driver replica thread count hit)
     quiet d = ((λ t. and_left (replica == number) (thread == t) (ne_eqb replica number (λ (k : replica ≡ number). d (sym k)))), ap (λ (b : Bool). cond b hit 0) (ne_eqb replica number (λ (k : replica ≡ number). d (sym k))))
@@ -402,7 +392,7 @@ meets-after : (job : Job) (journal : List Entry) (core : Core) (entry : Entry) �
 unfolding after
 meets-after job journal core (Take driver replica thread) may ordered go h = λ number r e. meets-same job journal (Take driver replica thread) core (λ n. ((λ t. refl), refl)) h number r e
 meets-after job journal core (Put driver replica thread count hit) may ordered go h =
-    subst (λ (o : Option Ran). AllMeet job (journal ++ Put driver replica thread count hit ∷ []) (core_after_put job core driver replica thread count o)) (sym may.runs) (meets-ran job journal core driver replica thread count hit may go h)
+    subst (λ (o : Option RanTo). AllMeet job (journal ++ Put driver replica thread count hit ∷ []) (core_after_put job core driver replica thread count o)) (sym may.runs) (meets-ran job journal core driver replica thread count hit may go h)
 meets-after job journal core (Vote thread count won lost did) may ordered go h =
     let e = event-parts job core thread won may.event may.comes in
     subst (λ (o : Option Event). AllMeet job (journal ++ Vote thread count won lost did ∷ []) (core_after_event core thread count (with_recovered won (numbers lost) core.replicas) o)) (sym may.comes)

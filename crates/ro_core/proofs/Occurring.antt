@@ -1,14 +1,13 @@
 -- An event that is done in every replica and noted, in the fields of a run.
-use Rattle.std.proofs.Common.{◌≡◌, ℕ, ◌+◌, ◌*◌, ◌<◌, ◌≤◌, List, [], ◌∷◌, ◌++◌, length, Option, None, sym, ap, ◌∙◌, subst, arith}
+use Rattle.std.proofs.Common.{◌≡◌, ℕ, ◌+◌, ◌*◌, ◌<◌, ◌≤◌, List, [], ◌∷◌, ◌++◌, length, None, sym, ap, ◌∙◌, subst, arith}
 use Rattle.std.specs.Prelude.{◌^◌, is_none, slice_set}
 use Rattle.std.proofs.lemmas.Bool.{and_from}
-use Rattle.ro_journal.specs.declared.Entry.{Entry}
 use Rattle.ro_journal.specs.Plan.{event_steps}
 use Rattle.ro_kernel.specs.Kernel.{Kernel, lives_on}
 use Rattle.ro_kernel.specs.State.{State}
 use Rattle.ro_settings.proofs.Counts.{few-replicas}
 use Rattle.ro_core.specs.declared.runs.Run.{Run}
-use Rattle.ro_core.specs.declared.events.Event.{Event as Happening}
+use Rattle.ro_core.specs.declared.voting.Occurrence.{Occurrence}
 use Rattle.ro_core.specs.Core.{Job, Core, is_going}
 use Rattle.ro_core.specs.Event.{Event, event_of, all_applied, core_after}
 use Rattle.ro_core.specs.Legal.{replay, output_of}
@@ -16,7 +15,8 @@ use Rattle.ro_core.specs.Seen.{sent_of}
 use Rattle.ro_core.specs.Sound.{IsOrdered}
 use Rattle.ro_core.specs.Fields.{Fields, core_in, AreHome, CanTake, Holds}
 use Rattle.ro_core.specs.Grouped.{AreGrouped}
-use Rattle.ro_core.specs.Runs.{job_of, sent_in, payload_by, LastWrote, event_by, CanOccur}
+use Rattle.ro_core.specs.Happening.{event_by}
+use Rattle.ro_core.specs.Runs.{job_of, sent_in, payload_by, LastWrote, CanOccur}
 use Rattle.ro_core.proofs.Homes.{replay_more, legal_more}
 use Rattle.ro_core.proofs.Held.{Goes, goes}
 use Rattle.ro_core.proofs.Happens.{Happens, event-happens}
@@ -25,7 +25,7 @@ use Rattle.ro_core.proofs.Sitting.{home-count}
 use Rattle.ro_core.proofs.Behind.{happened-unfailed, happened-sent, happened-holds, all-can-take}
 use Rattle.ro_core.proofs.Votes.{lives-within, live-few, payload-due, payload-few, writes-step, length-applied}
 
-module _ (r : Run) (thread : ℕ) (e : Happening) (entry : Entry) (steps : ℕ) (writer : Option ℕ) (threads : ℕ) (can : CanOccur r thread e entry steps writer threads) where
+module _ (r : Run) (o : Occurrence) (can : CanOccur r o) where
   abbrev pub f : Fields
   f = can.before
 
@@ -33,44 +33,44 @@ module _ (r : Run) (thread : ℕ) (e : Happening) (entry : Entry) (steps : ℕ) 
   h = can.holds
 
   abbrev payload : List ℕ
-  payload = payload_by r.views.items writer
+  payload = payload_by r.views.items o.writer
 
   abbrev event : Event
-  event = event_by e r.kernel.kernel payload
+  event = event_by o.event r.kernel.kernel payload
 
   goes-on : Goes f
   goes-on = goes f h can.going
 
-  happens : Happens (core_in f).kernel thread event
+  happens : Happens (core_in f).kernel o.thread event
   happens =
-      subst (λ (x : Event). Happens (core_in f).kernel thread x) can.event_is
-      (subst (λ (k : Kernel). Happens k thread (event_of f.kernel.setup f.kernel.kernel thread can.stop can.shown)) h.kernel_is (event-happens f.kernel.setup f.kernel.kernel thread can.stop can.shown))
+      subst (λ (x : Event). Happens (core_in f).kernel o.thread x) can.event_is
+      (subst (λ (k : Kernel). Happens k o.thread (event_of f.kernel.setup f.kernel.kernel o.thread can.stop can.shown)) h.kernel_is (event-happens f.kernel.setup f.kernel.kernel o.thread can.stop can.shown))
 
-  pub occurs-few : thread < 16
-  occurs-few = live-few f h thread can.live
+  pub occurs-few : o.thread < 16
+  occurs-few = live-few f h o.thread can.live
 
   -- ---- what it asks of the seats
 
-  pub occurs-can : CanTake e.effect r.seats.homes.items
+  pub occurs-can : CanTake o.event.effect r.seats.homes.items
   occurs-can =
-      all-can-take f.job (core_in f) thread event r.seats.homes.items can.replicas happens (lives-within (core_in f).kernel thread (ap (λ (k : Kernel). lives_on k thread) (sym h.kernel_is) ∙ can.live)) can.low can.stands.home can.spared
+      all-can-take f.job (core_in f) o.thread event r.seats.homes.items can.replicas happens (lives-within (core_in f).kernel o.thread (ap (λ (k : Kernel). lives_on k o.thread) (sym h.kernel_is) ∙ can.live)) can.low can.stands.home can.spared
       (λ number replica g. can.made number replica g ∙ can.threads_are ∙ ap (λ (k : Kernel). length k.lives) h.kernel_is)
 
-  pub occurs-thread : e.effect.thread < 16
+  pub occurs-thread : o.event.effect.thread < 16
   occurs-thread = let own = can.own in let f = occurs-few in omega arith
 
-  pub occurs-threads : threads ≤ 16
+  pub occurs-threads : o.threads ≤ 16
   occurs-threads =
       let lives = (ordered f.job f.journal h.legal).few_lives in
       let same : length f.kernel.kernel.lives ≡ length (core_in f).kernel.lives = ap (λ (k : Kernel). length k.lives) h.kernel_is in
       let are = can.threads_are in
       omega arith
 
-  new : replay f.job (f.journal ++ entry ∷ []) ≡ core_after (core_in f) thread can.count can.replicas event
-  new = replay_more f.job f.journal entry ∙ can.came
+  new : replay f.job (f.journal ++ o.entry ∷ []) ≡ core_after (core_in f) o.thread can.count can.replicas event
+  new = replay_more f.job f.journal o.entry ∙ can.came
 
-  order : IsOrdered f.job (replay f.job (f.journal ++ entry ∷ []))
-  order = ordered f.job (f.journal ++ entry ∷ []) (legal_more f.job f.journal entry h.legal can.allowed)
+  order : IsOrdered f.job (replay f.job (f.journal ++ o.entry ∷ []))
+  order = ordered f.job (f.journal ++ o.entry ∷ []) (legal_more f.job f.journal o.entry h.legal can.allowed)
 
   many : length can.replicas ≡ f.job.settings.replicas
   many = sym (length-applied event.effect can.replicas) ∙ ap (λ (c : Core). length c.replicas) (sym new) ∙ order.replica_count
@@ -80,20 +80,20 @@ module _ (r : Run) (thread : ℕ) (e : Happening) (entry : Entry) (steps : ℕ) 
 
   -- ---- its counts
 
-  pub occurs-steps : r.steps + steps ≤ f.job.settings.limit
+  pub occurs-steps : r.steps + o.steps ≤ f.job.settings.limit
   occurs-steps =
       let within = order.within_limit in
-      let are : (replay f.job (f.journal ++ entry ∷ [])).steps ≡ (core_in f).steps + can.count + event_steps e.did = ap (λ (c : Core). c.steps) new in
+      let are : (replay f.job (f.journal ++ o.entry ∷ [])).steps ≡ (core_in f).steps + can.count + event_steps o.event.did = ap (λ (c : Core). c.steps) new in
       let before = h.steps_are in
       let same = can.amid.steps in
       let counted = can.counted in
       omega arith
 
   short : length payload ≤ 4096
-  short = subst (λ (x : Event). length x.payload ≤ 4096) can.event_is (payload-few f.kernel.setup f.kernel.kernel thread can.stop can.shown can.few)
+  short = subst (λ (x : Event). length x.payload ≤ 4096) can.event_is (payload-few f.kernel.setup f.kernel.kernel o.thread can.stop can.shown can.few)
 
-  fits : length payload ≤ 4096 * event_steps e.did
-  fits = subst (λ (x : Event). length x.payload ≤ 4096 * event_steps x.did) can.event_is (writes-step f.kernel.setup f.kernel.kernel thread can.stop can.shown can.few)
+  fits : length payload ≤ 4096 * event_steps o.event.did
+  fits = subst (λ (x : Event). length x.payload ≤ 4096 * event_steps x.did) can.event_is (writes-step f.kernel.setup f.kernel.kernel o.thread can.stop can.shown can.few)
 
   pub occurs-sent : r.sent + length payload < 2 ^ 64
   occurs-sent =
@@ -107,15 +107,15 @@ module _ (r : Run) (thread : ℕ) (e : Happening) (entry : Entry) (steps : ℕ) 
 
   -- ---- the fields behind it
 
-  module _ (f' : Fields) (job : f'.job ≡ f.job) (journal : f'.journal ≡ f.journal ++ entry ∷ []) (due : f'.due ≡ e.due) where
-    pub occurs-holds : AreHome f.job f'.seats (all_applied e.effect can.replicas) → AreGrouped (all_applied e.effect can.replicas) f'.groups → f'.leases ≡ f.leases → f'.kernel ≡ r.kernel → f'.blocked ≡ slice_set r.blocked thread e.blocked
-        → f'.steps ≡ r.steps + steps → f'.ended ≡ f.ended → f'.views ≡ f.views → f'.sent ≡ r.sent + length payload → 1 ≤ f'.places → Holds f'
+  module _ (f' : Fields) (job : f'.job ≡ f.job) (journal : f'.journal ≡ f.journal ++ o.entry ∷ []) (due : f'.due ≡ o.event.due) where
+    pub occurs-holds : AreHome f.job f'.seats (all_applied o.event.effect can.replicas) → AreGrouped (all_applied o.event.effect can.replicas) f'.groups → f'.leases ≡ f.leases → f'.kernel ≡ r.kernel → f'.blocked ≡ slice_set r.blocked o.thread o.event.blocked
+        → f'.steps ≡ r.steps + o.steps → f'.ended ≡ f.ended → f'.views ≡ f.views → f'.sent ≡ r.sent + length payload → 1 ≤ f'.places → Holds f'
     occurs-holds home groups leases kernel blocked counted ended views sent room =
-        happened-holds f f' h entry can.allowed thread can.count can.replicas event can.came goes-on can.alone happens occurs-few journal
+        happened-holds f f' h o.entry can.allowed o.thread can.count can.replicas event can.came goes-on can.alone happens occurs-few journal
         job home groups leases (ap (λ (k : State). k.setup) kernel ∙ can.amid.setup) (ap (λ (k : State). k.kernel) kernel)
-        (blocked ∙ ap (λ bs. slice_set bs thread e.blocked) can.amid.blocked)
+        (blocked ∙ ap (λ bs. slice_set bs o.thread o.event.blocked) can.amid.blocked)
         (let a = can.counted in let b = can.amid.steps in omega arith) due ended
-        (ap length views ∙ h.views_count ∙ h.seats_are.count ∙ (ordered f.job f.journal h.legal).replica_count ∙ sym many ∙ sym (length-applied e.effect can.replicas) ∙ sym (home-count f.job f'.seats (all_applied e.effect can.replicas) home))
+        (ap length views ∙ h.views_count ∙ h.seats_are.count ∙ (ordered f.job f.journal h.legal).replica_count ∙ sym many ∙ sym (length-applied o.event.effect can.replicas) ∙ sym (home-count f.job f'.seats (all_applied o.event.effect can.replicas) home))
         fits (let b = can.amid.sent in omega arith) can.no_end room
 
     before-is : sent_in f ≡ output_of (job_of r) r.journal.items
@@ -123,16 +123,16 @@ module _ (r : Run) (thread : ℕ) (e : Happening) (entry : Entry) (steps : ℕ) 
 
     pub occurs-wrote : LastWrote f' (output_of (job_of r) r.journal.items) payload
     occurs-wrote =
-        let core : core_in f' ≡ core_after (core_in f) thread can.count can.replicas event = ap (λ (j : Job). replay j f'.journal) job ∙ ap (replay f.job) journal ∙ new in
+        let core : core_in f' ≡ core_after (core_in f) o.thread can.count can.replicas event = ap (λ (j : Job). replay j f'.journal) job ∙ ap (replay f.job) journal ∙ new in
         record {
           few = short;
-          sent = ap (λ (j : Job). sent_in (record f' { job = j })) job ∙ happened-sent f f' h entry can.allowed thread can.count can.replicas event can.came goes-on can.alone happens occurs-few journal due ∙ ap (λ (xs : List ℕ). xs ++ payload) before-is;
+          sent = ap (λ (j : Job). sent_in (record f' { job = j })) job ∙ happened-sent f f' h o.entry can.allowed o.thread can.count can.replicas event can.came goes-on can.alone happens occurs-few journal due ∙ ap (λ (xs : List ℕ). xs ++ payload) before-is;
           wrote = ap (λ (c : Core). c.wrote) core;
-          not_failed = happened-unfailed f f' h entry can.allowed thread can.count can.replicas event can.came goes-on can.alone happens occurs-few journal due;
+          not_failed = happened-unfailed f f' h o.entry can.allowed o.thread can.count can.replicas event can.came goes-on can.alone happens occurs-few journal due;
           goes_on = λ some. ap is_going core ∙ and_from _ _ (ap is_none (none some)) (ap is_none (sym h.ended_is ∙ goes-on.not_ended));
         }
       where
-        none : 0 < length payload → e.due ≡ None
+        none : 0 < length payload → o.event.due ≡ None
         none some =
             ap (λ (x : Event). x.due) (sym can.event_is)
-            ∙ payload-due f.kernel.setup f.kernel.kernel thread can.stop can.shown 0 (subst (λ (x : Event). 0 < length x.payload) (sym can.event_is) some)
+            ∙ payload-due f.kernel.setup f.kernel.kernel o.thread can.stop can.shown 0 (subst (λ (x : Event). 0 < length x.payload) (sym can.event_is) some)

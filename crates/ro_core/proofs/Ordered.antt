@@ -15,7 +15,7 @@ use Rattle.ro_journal.specs.declared.losers.Lost.{Lost}
 use Rattle.ro_journal.specs.declared.Did.{Did}
 use Rattle.ro_journal.specs.declared.Did.TheVariants.{Served as WasServed}
 use Rattle.ro_journal.specs.declared.How.{How}
-use Rattle.ro_journal.specs.declared.How.TheVariants.{Exit, Deadlock, Trap, Limit, Differ, NoMajority, Sink}
+use Rattle.ro_journal.specs.declared.How.TheVariants.{Deadlock, Sink}
 use Rattle.ro_journal.specs.declared.Entry.{Entry}
 use Rattle.ro_journal.specs.declared.Entry.TheVariants.{Take, Put, Vote, Free, End}
 use Rattle.ro_journal.specs.Plan.{event_steps}
@@ -24,19 +24,20 @@ use Rattle.ro_kernel.specs.Serve.{Served, Done, Blocked, Ends, is_blocked, block
 use Rattle.ro_exec.specs.Next.{Backed}
 use Rattle.ro_thread.specs.declared.Thread.{Thread}
 use Rattle.ro_replica.specs.Replica.{Replica, opening_replica, applied, cancelled, stop_of}
-use Rattle.ro_replica.specs.Runs.{Ran, run_of, with_stop}
+use Rattle.ro_replica.specs.Runs.{RanTo, run_of, with_stop}
 use Rattle.ro_plain.specs.Machine.{layout_of, setup_of}
 use Rattle.ro_plain.proofs.Ahead.{is-none-from}
 use Rattle.ro_plain.proofs.Calls.{some-injective}
 use Rattle.ro_core.specs.declared.actions.Lease.{Lease}
 use Rattle.ro_core.specs.Core.{Job, Core, opening_replicas, opening_core, is_going, nothing_lent, may_vote, may_free}
 use Rattle.ro_core.specs.Event.{Event, call_event, with_copy, with_recovered, core_after}
-use Rattle.ro_core.specs.Legal.{lease_run, arrived, arrival, core_after_put, event_with, event_in, freed_event, core_after_event, after, IsAllowed, MayTake, MayPut, MayVote, MayFree, MayEnd, due, alone, for_vote, for_free, LegalFrom, Legal, replay_from, replay}
+use Rattle.ro_core.specs.Legal.{lease_run, arrived, arrival, core_after_put, event_with, event_in, freed_event, core_after_event, after, IsAllowed, MayTake, MayPut, MayVote, MayFree, MayEnd, due, alone, for_vote, for_free, Legal, replay}
 use Rattle.ro_core.specs.Sound.{IsSound, IsOrdered}
 use Rattle.ro_core.proofs.Lists.{get-set-cases, listed-filter, MappedFrom, get-map, length-mapped, get-append-cases}
 use Rattle.ro_core.proofs.Sound.{sound-changed, run-well}
 use Rattle.ro_core.proofs.Copies.{AfterCopy, not_lost, is_copy, after-copy, length-with-copy, still-there, sound-recovered}
 use Rattle.ro_core.proofs.Effects.{backed_after, sound-applied}
+use Rattle.ro_core.proofs.Journals.{legal-keeps}
 use Rattle.ro_core.proofs.Served.{made_count}
 use Rattle.ro_core.proofs.Happens.{Happens, event-happens, call-happens}
 
@@ -69,12 +70,12 @@ ordered-take job core driver replica thread may h = record {
 -- ---- a put
 
 -- the lent replica of a run
-pub record PutParts (job : Job) (core : Core) (replica thread count : ℕ) (ran : Ran) : Type 0 where
+pub record PutParts (job : Job) (core : Core) (replica thread count : ℕ) (ran : RanTo) : Type 0 where
   pub lent : Replica
   pub there : slice_get core.replicas replica ≡ Some lent
   pub runs : run_of (layout_of job.program) job.settings.watchdog count lent thread ≡ Some ran
 
-pub put-parts : (job : Job) (core : Core) (replica thread count : ℕ) (ran : Ran) → lease_run job core replica thread count ≡ Some ran → PutParts job core replica thread count ran
+pub put-parts : (job : Job) (core : Core) (replica thread count : ℕ) (ran : RanTo) → lease_run job core replica thread count ≡ Some ran → PutParts job core replica thread count ran
 put-parts job core replica thread count ran e =
     option_and_then_some (λ r. run_of (layout_of job.program) job.settings.watchdog count r thread) (slice_get core.replicas replica) ran e (λ lent there runs. record { lent = lent; there = there; runs = runs })
 
@@ -113,7 +114,7 @@ ordered-ran job core driver replica thread count hit may h = record {
 ordered-put : (job : Job) (core : Core) (driver replica thread count hit : ℕ) → MayPut job core driver replica thread count hit → IsOrdered job core → IsOrdered job (after job core (Put driver replica thread count hit))
 unfolding after
 ordered-put job core driver replica thread count hit may h =
-    subst (λ (o : Option Ran). IsOrdered job (core_after_put job core driver replica thread count o)) (sym may.runs) (ordered-ran job core driver replica thread count hit may h)
+    subst (λ (o : Option RanTo). IsOrdered job (core_after_put job core driver replica thread count o)) (sym may.runs) (ordered-ran job core driver replica thread count hit may h)
 
 -- ---- an event
 
@@ -271,15 +272,11 @@ ordered-free job core thread may h =
 -- ---- an end, and the opening
 
 -- nothing is lent where an end comes
-end-alone : (job : Job) (core : Core) (how : How) → MayEnd job core how → IsOrdered job core → core.leases ≡ []
+pub end-alone : (job : Job) (core : Core) (how : How) → MayEnd job core how → IsOrdered job core → core.leases ≡ []
 end-alone job core how (due e) h = h.due_alone how e
 end-alone job core Deadlock (alone e) h = none-lent-is core (and_parts _ _ (and_parts _ _ e).0).1
 end-alone job core (Sink bytes) (alone e) h = h.wrote_alone (let less : bytes < core.wrote = e.1 in omega arith)
-end-alone job core (Exit status) (alone e) h = absurd e
-end-alone job core (Trap code) (alone e) h = absurd e
-end-alone job core (Limit steps next) (alone e) h = absurd e
-end-alone job core Differ (alone e) h = absurd e
-end-alone job core NoMajority (alone e) h = absurd e
+end-alone job core how (alone e) h = absurd e
 end-alone job core how (for_vote thread may e) h = (vote-parts core thread may).alone
 end-alone job core how (for_free thread may e) h = (free-parts job core thread may).alone
 
@@ -350,10 +347,6 @@ ordered-after job core (Vote thread count won lost did) may h = ordered-vote job
 ordered-after job core (Free thread) may h = ordered-free job core thread may h
 ordered-after job core (End how) may h = ordered-end job core how may.1 h
 
-ordered-from : (job : Job) (core : Core) (journal : List Entry) → LegalFrom job core journal → IsOrdered job core → IsOrdered job (replay_from job core journal)
-ordered-from job core [] legal h = h
-ordered-from job core (entry ∷ journal) legal h = ordered-from job (after job core entry) journal legal.1 (ordered-after job core entry legal.0 h)
-
 -- what every legal journal keeps
 pub ordered : (job : Job) (journal : List Entry) → Legal job journal → IsOrdered job (replay job journal)
-ordered job journal legal = ordered-from job (opening_core job) journal legal (ordered-opening job)
+ordered job journal legal = legal-keeps job (IsOrdered job) (ordered-after job) (opening_core job) journal legal (ordered-opening job)

@@ -1,17 +1,17 @@
 -- A put, in the fields of a run.
-use Rattle.std.proofs.Common.{◌≡◌, inl, ℕ, ◌+◌, ◌<◌, ◌≤◌, Bool, true, false, true≢false, not, cond, List, [], ◌∷◌, ◌++◌, length, Option, Some, None, refl, sym, ap, ◌∙◌, subst, arith, eqb-true}
+use Rattle.std.proofs.Common.{◌≡◌, ◌⊎◌, inl, inr, ℕ, ◌+◌, ◌<◌, ◌≤◌, Bool, true, false, true≢false, not, cond, List, [], ◌∷◌, ◌++◌, length, Option, Some, None, refl, sym, ap, ◌∙◌, subst, arith, eqb-true}
 use Rattle.std.specs.Prelude.{◌==◌, is_some, slice_get, slice_set}
 use Rattle.std.specs.List.{filter, find, list_any}
 use Rattle.std.proofs.lemmas.List.{length-set}
 use Rattle.ro_journal.specs.declared.How.{How}
-use Rattle.ro_journal.specs.declared.How.TheVariants.{Exit, Deadlock, Trap, Limit, Differ, NoMajority, Sink}
+use Rattle.ro_journal.specs.declared.How.TheVariants.{Sink}
 use Rattle.ro_journal.specs.declared.Entry.{Entry}
 use Rattle.ro_journal.specs.declared.Entry.TheVariants.{Put}
 use Rattle.ro_journal.specs.Plan.{outcome_of}
 use Rattle.ro_event.specs.declared.calls.Call.{Call}
 use Rattle.ro_kernel.specs.State.{State}
 use Rattle.ro_replica.specs.Replica.{stop_of}
-use Rattle.ro_replica.specs.Runs.{Ran}
+use Rattle.ro_replica.specs.Runs.{RanTo}
 use Rattle.ro_replica.specs.Seen.{ReplicaOf, replica_of}
 use Rattle.ro_core.specs.declared.actions.Lease.{Lease}
 use Rattle.ro_core.specs.Core.{Job, Core, is_out}
@@ -27,7 +27,7 @@ use Rattle.ro_core.proofs.Grouped.{put-grouped}
 use Rattle.ro_core.proofs.Leases.{leases_apart}
 use Rattle.ro_core.proofs.Ordered.{ordered}
 use Rattle.ro_core.proofs.Journals.{outcome_of-append}
-use Rattle.ro_core.proofs.Held.{with-leases, with-ended, no-views, no-outcome, same-counts, holds-step}
+use Rattle.ro_core.proofs.Held.{failed-cases, with-leases, with-ended, no-views, no-outcome, same-counts, holds-step}
 use Rattle.ro_core.proofs.Takes.{Rest}
 
 pub found_driver : (driver : ℕ) (leases : List Lease) (lease : Lease) → find (λ l. l.driver == driver) leases ≡ Some lease → lease.driver ≡ driver
@@ -45,7 +45,7 @@ held-lease f h driver lease e = ap (find (λ (l : Lease). l.driver == driver)) (
 pub same-lease : (f : Fields) → Holds f → (driver : ℕ) (held found : Lease) → lease_of (state_in f) driver ≡ Some held → find (λ l. l.driver == driver) f.leases ≡ Some found → held ≡ found
 same-lease f h driver held found e g = let k : Some held ≡ Some found = sym (held-lease f h driver held e) ∙ g in cc
 
-put-sends : (job : Job) (core : Core) (driver replica thread count : ℕ) (ran : Option Ran) → (core_after_put job core driver replica thread count ran).output ≡ core.output
+put-sends : (job : Job) (core : Core) (driver replica thread count : ℕ) (ran : Option RanTo) → (core_after_put job core driver replica thread count ran).output ≡ core.output
 put-sends job core driver replica thread count None = refl
 put-sends job core driver replica thread count (Some ran) = refl
 
@@ -57,7 +57,7 @@ put-output job journal driver replica thread count hit =
 
 -- no end is due while a lease is out
 out-going : (f : Fields) → Holds f → (driver replica thread : ℕ) → f.ended ≡ None → is_out (core_in f) driver replica thread ≡ true → f.due ≡ None
-out-going f h driver replica thread still out = by f.due refl
+out-going f h driver replica thread still out = by f.due refl (failed-cases f.due)
   where
     out-of-none : (leases : List Lease) → (core_in f).leases ≡ leases → leases ≡ [] → ⊥
     out-of-none leases e none = true≢false (sym out ∙ ap (list_any (is_lease driver replica thread)) (e ∙ none))
@@ -71,15 +71,10 @@ out-going f h driver replica thread still out = by f.due refl
     from-sink : (bytes : ℕ) → f.due ≡ Some (Sink bytes) → ⊥
     from-sink bytes e = out-of-none (core_in f).leases refl (o.wrote_alone (let less = (h.failed_well bytes e).0 in omega arith))
 
-    by : (d : Option How) → f.due ≡ d → f.due ≡ None
-    by None e = e
-    by (Some (Sink bytes)) e = absurd (from-sink bytes e)
-    by (Some (Exit status)) e = absurd (from-core (Exit status) e (ap failed_of e))
-    by (Some (Trap code)) e = absurd (from-core (Trap code) e (ap failed_of e))
-    by (Some (Limit steps next)) e = absurd (from-core (Limit steps next) e (ap failed_of e))
-    by (Some Deadlock) e = absurd (from-core Deadlock e (ap failed_of e))
-    by (Some Differ) e = absurd (from-core Differ e (ap failed_of e))
-    by (Some NoMajority) e = absurd (from-core NoMajority e (ap failed_of e))
+    by : (d : Option How) → f.due ≡ d → (failed_of f.due ≡ None) ⊎ ((bytes : ℕ) × (f.due ≡ Some (Sink bytes))) → f.due ≡ None
+    by None e cases = e
+    by (Some how) e (inl none) = absurd (from-core how e none)
+    by (Some how) e (inr sink) = absurd (from-sink sink.0 sink.1)
 
 module _ (f : Fields) (h : Holds f) (driver replica thread count hit : ℕ) (allowed : MayPut f.job (state_in f) driver replica thread count hit) where
   still : f.ended ≡ None

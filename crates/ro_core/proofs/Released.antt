@@ -1,13 +1,11 @@
 -- A thread whose call is answered goes on in every replica.
-use Rattle.std.proofs.Common.{◌≡◌, ℕ, zero, suc, true, false, cond, List, [], ◌∷◌, ◌++◌, Option, Some, None, refl, sym, ap, ◌∙◌, subst}
+use Rattle.std.proofs.Common.{◌≡◌, ℕ, zero, suc, true, cond, List, [], ◌∷◌, ◌++◌, Option, Some, None, refl, sym, ap, ◌∙◌, subst}
 use Rattle.std.specs.Prelude.{map, slice_get, if◌then◌else◌}
 use Rattle.std.specs.Option.{option_and_then}
 use Rattle.ro_event.specs.declared.calls.Call.{Call}
 use Rattle.ro_event.specs.declared.stops.Stop.{Stop}
 use Rattle.ro_event.specs.declared.stops.Stop.TheVariants.{Calls, Trap, PageFault, Watchdog}
-use Rattle.ro_journal.specs.declared.Did.{Did}
-use Rattle.ro_journal.specs.declared.Did.TheVariants.{Served as WasServed, Blocked as WasBlocked, Mapped, Watch, Trapped}
-use Rattle.ro_journal.specs.declared.How.{How}
+use Rattle.ro_journal.specs.declared.Did.TheVariants.{Served as WasServed, Blocked as WasBlocked, PageBacked, Watch, Trapped}
 use Rattle.ro_journal.specs.declared.Entry.{Entry}
 use Rattle.ro_journal.specs.declared.Entry.TheVariants.{Take, Put, Vote, Free, End}
 use Rattle.ro_journal.specs.Losers.{numbers}
@@ -19,7 +17,7 @@ use Rattle.ro_replica.specs.Replica.{Replica, applied, cancelled, is_cancelled, 
 use Rattle.ro_plain.specs.Machine.{setup_of}
 use Rattle.ro_core.specs.Core.{Job, Core}
 use Rattle.ro_core.specs.Event.{Event, call_event, event_of, with_recovered, all_applied}
-use Rattle.ro_core.specs.Legal.{IsAllowed, Legal, core_after_event, freed_event, event_in, after, replay}
+use Rattle.ro_core.specs.Legal.{IsAllowed, Legal, core_after_event, after, replay}
 use Rattle.ro_core.specs.Laws.{Answers}
 use Rattle.ro_core.proofs.Lists.{MappedFrom, get-map}
 use Rattle.ro_core.proofs.Served.{Tidy, tidy_done, serve-tidy}
@@ -40,7 +38,7 @@ call-releases kernel thread call payload (Ends after how) t did due = absurd (le
 vote-releases : (setup : Setup) (kernel : Kernel) (thread : ℕ) (stop : Stop) (payload : List ℕ) → (event_of setup kernel thread stop payload).did ≡ WasServed → (event_of setup kernel thread stop payload).due ≡ None → (event_of setup kernel thread stop payload).effect.releases ≡ true
 unfolding event_of
 vote-releases setup kernel thread (Calls call) payload did due = call-releases kernel thread call payload (serve setup kernel thread call) (serve-tidy setup kernel thread call) did due
-vote-releases setup kernel thread (PageFault page) payload did due = absurd (let e : Mapped ≡ WasServed = did in cc)
+vote-releases setup kernel thread (PageFault page) payload did due = absurd (let e : PageBacked ≡ WasServed = did in cc)
 vote-releases setup kernel thread Watchdog payload did due = absurd (let e : Watch ≡ WasServed = did in cc)
 vote-releases setup kernel thread (Trap code) payload did due = absurd (let e : Trapped ≡ WasServed = did in cc)
 

@@ -12,7 +12,7 @@ use Rattle.ro_faults.specs.declared.Fault.{Fault}
 use Rattle.ro_faults.specs.declared.Target.{Target}
 use Rattle.ro_faults.specs.declared.Target.TheVariants.{Register, Pc, Byte}
 use Rattle.ro_replica.specs.Replica.{Replica, changed_at}
-use Rattle.ro_replica.specs.Runs.{is_due, struck_by, Ran, strike_in, struck, execute_next, execute_at, execute, plus_hit, run_of}
+use Rattle.ro_replica.specs.Runs.{is_due, struck_by, RanTo, strike_in, struck, execute_next, execute_at, execute, plus_hit, run_of}
 use Rattle.ro_plain.proofs.Calls.{some-injective}
 use Rattle.ro_core.proofs.Lists.{get-set-same, changed-is-set}
 use Rattle.ro_core.proofs.Sound.{Instructs, instructs, instructed, RunParts, run-parts, SameButWaiting, none-struck}
@@ -159,7 +159,7 @@ struck-all ranges t done (fault ∷ due) replica x there e =
     }
 
 -- due faults are struck, and they alone
-record StrikesDue (ranges : List Range) (t : ℕ) (x : Thread) (replica : Replica) (ran : Ran) : Type 0 where
+record StrikesDue (ranges : List Range) (t : ℕ) (x : Thread) (replica : Replica) (ran : RanTo) : Type 0 where
   only : OnlyThat t x.done replica ran.replica
   waiting : ran.replica.waiting ≡ filter (λ fault. not (is_due t x.done fault)) replica.waiting
   hit : ran.hit ≡ length (filter (is_due t x.done) replica.waiting)
@@ -173,12 +173,12 @@ strikes-due ranges t x replica there = subst (λ (o : Option Thread). StrikesDue
 -- ---- runs
 
 -- A run of so many instructions of the thread, which was x: it strikes the faults whose moments it passes.
-pub record RunMeets (thread count : ℕ) (x : Thread) (replica : Replica) (ran : Ran) : Type 0 where
+pub record RunMeets (thread count : ℕ) (x : Thread) (replica : Replica) (ran : RanTo) : Type 0 where
   pub only : OnlyThat thread (x.done + count) replica ran.replica
   pub waiting : ran.replica.waiting ≡ filter (λ fault. not (is_passed thread x.done (x.done + count) fault)) replica.waiting
   pub hit : ran.hit ≡ length (filter (is_passed thread x.done (x.done + count)) replica.waiting)
 
-meets-now : (ranges : List Range) (t : ℕ) (x : Thread) (replica : Replica) (ran : Ran) → StrikesDue ranges t x replica ran → RunMeets t 0 x replica ran
+meets-now : (ranges : List Range) (t : ℕ) (x : Thread) (replica : Replica) (ran : RanTo) → StrikesDue ranges t x replica ran → RunMeets t 0 x replica ran
 meets-now ranges t x replica ran h = record {
   only = record { self = h.only.self; there = h.only.there; has_done = h.only.has_done ∙ (let e : x.done ≡ x.done + 0 = omega arith in e); others = h.only.others };
   waiting = h.waiting ∙ filter-same _ _ (λ fault. ap not (passed-now t x.done fault)) replica.waiting;
@@ -203,7 +203,7 @@ one-more layout watchdog t replica after x there step = subst (λ (r : Replica).
 })
 
 -- a run of one instruction and more
-meets-more : (layout : Layout) (watchdog n t : ℕ) (x : Thread) (replica : Replica) (ran : Ran) (parts : RunParts layout watchdog n replica t ran) (first : StrikesDue layout.ranges t x replica (struck layout.ranges replica t))
+meets-more : (layout : Layout) (watchdog n t : ℕ) (x : Thread) (replica : Replica) (ran : RanTo) (parts : RunParts layout watchdog n replica t ran) (first : StrikesDue layout.ranges t x replica (struck layout.ranges replica t))
     (step : OneMore t (struck layout.ranges replica t).replica parts.after first.only.self) → RunMeets t n step.self parts.after parts.rest → RunMeets t (suc n) x replica ran
 meets-more layout watchdog n t x replica ran parts first step rest = subst (RunMeets t (suc n) x replica) parts.sum (record {
   only = record {
@@ -227,7 +227,7 @@ meets-more layout watchdog n t x replica ran parts first step rest = subst (RunM
     more : (fault : Fault) → (is_due t x.done fault || is_passed t step.self.done (step.self.done + n) fault) ≡ is_passed t x.done (x.done + suc n) fault
     more fault = ap (λ (d : ℕ). is_due t x.done fault || is_passed t d (d + n) fault) from ∙ passed-more t x.done n fault
 
-pub meets : (layout : Layout) (watchdog n t : ℕ) (x : Thread) (replica : Replica) (ran : Ran) → slice_get replica.threads t ≡ Some x → run_of layout watchdog n replica t ≡ Some ran → RunMeets t n x replica ran
+pub meets : (layout : Layout) (watchdog n t : ℕ) (x : Thread) (replica : Replica) (ran : RanTo) → slice_get replica.threads t ≡ Some x → run_of layout watchdog n replica t ≡ Some ran → RunMeets t n x replica ran
 meets layout watchdog zero t x replica ran there e =
     subst (RunMeets t 0 x replica) (some-injective e) (meets-now layout.ranges t x replica (struck layout.ranges replica t) (strikes-due layout.ranges t x replica there))
 meets layout watchdog (suc n) t x replica ran there e =
@@ -259,22 +259,22 @@ execute-bare layout watchdog t replica after step =
     ∙ ap (execute_next t (bare replica) step.thread) step.executes ∙ ap (λ (r : Replica). Some (bare r)) (sym step.is)
 
 -- a run in which nothing was struck is the run of a replica without faults
-pub no-flip : (layout : Layout) (watchdog n t : ℕ) (replica : Replica) (ran : Ran) → run_of layout watchdog n replica t ≡ Some ran → ran.hit ≡ 0 → run_of layout watchdog n (bare replica) t ≡ Some (record { replica = bare ran.replica; hit = 0 })
+pub no-flip : (layout : Layout) (watchdog n t : ℕ) (replica : Replica) (ran : RanTo) → run_of layout watchdog n replica t ≡ Some ran → ran.hit ≡ 0 → run_of layout watchdog n (bare replica) t ≡ Some (record { replica = bare ran.replica; hit = 0 })
 no-flip layout watchdog zero t replica ran e none =
     let is : struck layout.ranges replica t ≡ ran = some-injective e in
-    let same = none-struck layout.ranges t replica (ap (λ (r : Ran). r.hit) is ∙ none) in
-    ap Some (struck-bare layout.ranges t replica ∙ ap (λ (r : Replica). record { replica = r; hit = 0 }) (ap bare (sym same.is) ∙ ap (λ (r : Ran). bare r.replica) is))
+    let same = none-struck layout.ranges t replica (ap (λ (r : RanTo). r.hit) is ∙ none) in
+    ap Some (struck-bare layout.ranges t replica ∙ ap (λ (r : Replica). record { replica = r; hit = 0 }) (ap bare (sym same.is) ∙ ap (λ (r : RanTo). bare r.replica) is))
 no-flip layout watchdog (suc n) t replica ran e none =
-    ap (λ (r : Ran). option_map (plus_hit r.hit) (option_and_then (λ after. run_of layout watchdog n after t) (execute layout watchdog r.replica t))) (struck-bare layout.ranges t replica)
+    ap (λ (r : RanTo). option_map (plus_hit r.hit) (option_and_then (λ after. run_of layout watchdog n after t) (execute layout watchdog r.replica t))) (struck-bare layout.ranges t replica)
     ∙ ap (λ (o : Option Replica). option_map (plus_hit 0) (option_and_then (λ after. run_of layout watchdog n after t) o)) executes
     ∙ ap (option_map (plus_hit 0)) (no-flip layout watchdog n t parts.after parts.rest parts.runs (omega (arith, sum)))
-    ∙ ap (λ (r : Ran). Some (record { replica = bare r.replica; hit = 0 })) parts.sum
+    ∙ ap (λ (r : RanTo). Some (record { replica = bare r.replica; hit = 0 })) parts.sum
   where
     parts : RunParts layout watchdog n replica t ran
     parts = run-parts layout watchdog n replica t ran e
 
     sum : (struck layout.ranges replica t).hit + parts.rest.hit ≡ 0
-    sum = ap (λ (r : Ran). r.hit) parts.sum ∙ none
+    sum = ap (λ (r : RanTo). r.hit) parts.sum ∙ none
 
     same : SameButWaiting replica (struck layout.ranges replica t).replica
     same = none-struck layout.ranges t replica (omega (arith, sum))

@@ -19,10 +19,8 @@ use Rattle.ro_core.specs.Fields.{IsSeat, AreHome, AreSpared, AreAllTwins}
 
 pub home-count : (job : Job) (seats : List (Option ReplicaOf)) (replicas : List Replica) → AreHome job seats replicas → length seats ≡ length replicas
 home-count job [] [] h = refl
-home-count job [] (r ∷ replicas) h = absurd h
-home-count job (None ∷ seats) replicas h = absurd h
-home-count job (Some value ∷ seats) [] h = absurd h
 home-count job (Some value ∷ seats) (r ∷ replicas) h = ap suc (home-count job seats replicas h.2)
+home-count job seats replicas h = absurd h
 
 -- a seat is one of the seats
 pub seat-within : (seats : List (Option ReplicaOf)) (place : ℕ) → IsSeat seats place → place < length seats
@@ -41,11 +39,9 @@ home-get job (Some v ∷ seats) (r ∷ replicas) (suc i) value h e = home-get jo
 -- one replica changes
 pub home-set : (job : Job) (seats : List (Option ReplicaOf)) (replicas : List Replica) (i : ℕ) (value : ReplicaOf) (replica : Replica) → AreHome job seats replicas → IsOfJob job value → replica_of value ≡ replica → AreHome job (slice_set seats i (Some value)) (slice_set replicas i replica)
 home-set job [] [] i value replica h own same = tt
-home-set job [] (r ∷ replicas) i value replica h own same = absurd h
-home-set job (None ∷ seats) replicas i value replica h own same = absurd h
-home-set job (Some v ∷ seats) [] i value replica h own same = absurd h
 home-set job (Some v ∷ seats) (r ∷ replicas) zero value replica h own same = (own, same, h.2)
 home-set job (Some v ∷ seats) (r ∷ replicas) (suc i) value replica h own same = (h.0, h.1, home-set job seats replicas i value replica h.2 own same)
+home-set job seats replicas i value replica h own same = absurd h
 
 pub spared-get : (seats : List (Option ReplicaOf)) (i : ℕ) (value : ReplicaOf) → AreSpared seats → slice_get seats i ≡ Some (Some value) → 3 ≤ value.held.spare
 spared-get [] i value h e = absurd (let f : None ≡ Some (Some value) = e in cc)

@@ -14,7 +14,7 @@ use Rattle.ro_faults.specs.declared.Fault.{Fault}
 use Rattle.ro_faults.specs.declared.Target.{Target}
 use Rattle.ro_faults.specs.declared.Target.TheVariants.{Register, Pc, Byte}
 use Rattle.ro_replica.specs.Replica.{Replica, changed_at}
-use Rattle.ro_replica.specs.Runs.{is_due, struck_by, Ran, strike, strike_in, struck, executed, execute_next, execute_at, execute, plus_hit, run_of}
+use Rattle.ro_replica.specs.Runs.{is_due, struck_by, RanTo, strike, strike_in, struck, executed, execute_next, execute_at, execute, plus_hit, run_of}
 use Rattle.ro_core.specs.Core.{Job, Core}
 use Rattle.ro_plain.proofs.Calls.{some-injective}
 use Rattle.ro_core.specs.Sound.{Listed, IsSound}
@@ -55,18 +55,18 @@ instructed replica thread instr =
 -- ---- a run in parts
 
 -- the first instruction of a run, and the others
-pub record RunParts (layout : Layout) (watchdog n : ℕ) (replica : Replica) (t : ℕ) (ran : Ran) : Type 0 where
+pub record RunParts (layout : Layout) (watchdog n : ℕ) (replica : Replica) (t : ℕ) (ran : RanTo) : Type 0 where
   pub after : Replica
-  pub rest : Ran
+  pub rest : RanTo
   pub executes : execute layout watchdog (struck layout.ranges replica t).replica t ≡ Some after
   pub runs : run_of layout watchdog n after t ≡ Some rest
   pub sum : plus_hit (struck layout.ranges replica t).hit rest ≡ ran
 
 -- a run of one instruction and more has both
-pub run-parts : (layout : Layout) (watchdog n : ℕ) (replica : Replica) (t : ℕ) (ran : Ran) → run_of layout watchdog (suc n) replica t ≡ Some ran → RunParts layout watchdog n replica t ran
+pub run-parts : (layout : Layout) (watchdog n : ℕ) (replica : Replica) (t : ℕ) (ran : RanTo) → run_of layout watchdog (suc n) replica t ≡ Some ran → RunParts layout watchdog n replica t ran
 run-parts layout watchdog n replica t ran e = by (option_and_then (λ after. run_of layout watchdog n after t) (execute layout watchdog (struck layout.ranges replica t).replica t)) refl e
   where
-    by : (o : Option Ran) → option_and_then (λ after. run_of layout watchdog n after t) (execute layout watchdog (struck layout.ranges replica t).replica t) ≡ o → option_map (plus_hit (struck layout.ranges replica t).hit) o ≡ Some ran → RunParts layout watchdog n replica t ran
+    by : (o : Option RanTo) → option_and_then (λ after. run_of layout watchdog n after t) (execute layout watchdog (struck layout.ranges replica t).replica t) ≡ o → option_map (plus_hit (struck layout.ranges replica t).hit) o ≡ Some ran → RunParts layout watchdog n replica t ran
     by None f g = absurd (let h : None ≡ Some ran = g in cc)
     by (Some rest) f g = option_and_then_some (λ after. run_of layout watchdog n after t) (execute layout watchdog (struck layout.ranges replica t).replica t) rest f
         (λ after h k. record { after = after; rest = rest; executes = h; runs = k; sum = some-injective g })
@@ -115,7 +115,7 @@ module _ (job : Job) (core : Core) (backed : Backed) (number : ℕ) where
       (first.0, own.0, own.1)
 
   -- faults that are struck keep it, and each is one of the replica's own
-  pub record StruckWell (ran : Ran) : Type 0 where
+  pub record StruckWell (ran : RanTo) : Type 0 where
     pub sound : IsSound job core backed number ran.replica
     pub own : 0 < ran.hit → HasFault job number
 
@@ -154,7 +154,7 @@ module _ (job : Job) (core : Core) (backed : Backed) (number : ℕ) where
   hit-cases (suc m) n h = inl (omega arith)
 
   -- a run with its faults
-  pub run-well : (layout : Layout) (n t : ℕ) (replica : Replica) (ran : Ran) → run_of layout job.settings.watchdog n replica t ≡ Some ran → IsSound job core backed number replica → StruckWell ran
+  pub run-well : (layout : Layout) (n t : ℕ) (replica : Replica) (ran : RanTo) → run_of layout job.settings.watchdog n replica t ≡ Some ran → IsSound job core backed number replica → StruckWell ran
   run-well layout zero t replica ran e h = subst StruckWell (some-injective e) (struck-well layout.ranges t replica h)
   run-well layout (suc n) t replica ran e h =
       let parts = run-parts layout job.settings.watchdog n replica t ran e in

@@ -23,6 +23,7 @@ use Rattle.ro_core.specs.Grouped.{seat_stopped}
 use Rattle.ro_group.specs.Groups.{is_ready}
 use Rattle.ro_core.proofs.Grouped.{ready-all}
 use Rattle.ro_core.proofs.Ordered.{ordered}
+use Rattle.ro_core.proofs.Sitting.{home-count}
 use Rattle.ro_core.proofs.Held.{with-leases, with-kernel, with-replicas, with-ended}
 
 -- ---- the lowest number that passes
@@ -84,33 +85,22 @@ all-home job core seats h none = home-at job seats core.replicas h.count (λ n. 
 
 -- and the other way round
 pub seated-home : (job : Job) (core : Core) (seats : List (Option ReplicaOf)) → AreHome job seats core.replicas → core.leases ≡ [] → AreSeated job core seats
-seated-home job core seats h none = record { count = count seats core.replicas h; each = λ n. by n seats core.replicas h n (λ m e. e) }
+seated-home job core seats h none = record { count = home-count job seats core.replicas h; each = λ n. by n seats core.replicas h n (λ m e. e) }
   where
-    count : (seats : List (Option ReplicaOf)) (replicas : List Replica) → AreHome job seats replicas → length seats ≡ length replicas
-    count [] [] h = refl
-    count [] (r ∷ replicas) h = absurd h
-    count (None ∷ seats) replicas h = absurd h
-    count (Some value ∷ seats) [] h = absurd h
-    count (Some value ∷ seats) (r ∷ replicas) h = ap suc (count seats replicas h.2)
-
     home : (n : ℕ) → is_home core n ≡ true
     home n = ap (λ (ls : List Lease). not (list_any (λ lease. lease.replica == n) ls)) none
 
     by : (number : ℕ) (seats : List (Option ReplicaOf)) (replicas : List Replica) → AreHome job seats replicas → (n : ℕ) → ((r : Option Replica) → slice_get replicas n ≡ r → slice_get core.replicas number ≡ r) → Seated job core number (slice_get seats n)
     by number [] [] h n same = tt
-    by number [] (r ∷ replicas) h n same = absurd h
-    by number (None ∷ seats) replicas h n same = absurd h
-    by number (Some value ∷ seats) [] h n same = absurd h
     by number (Some value ∷ seats) (r ∷ replicas) h zero same = (home number, h.0, same (Some (replica_of value)) (ap (λ (x : Replica). Some x) (sym h.1)))
     by number (Some value ∷ seats) (r ∷ replicas) h (suc n) same = by number seats replicas h.2 n same
+    by number seats replicas h n same = absurd h
 
 pub stopped-home : (job : Job) (thread : ℕ) (seats : List (Option ReplicaOf)) (replicas : List Replica) → AreHome job seats replicas → list_all (seat_stopped thread) seats ≡ list_all (λ replica. is_some (stop_of replica thread)) replicas
 stopped-home job thread [] [] h = refl
-stopped-home job thread [] (r ∷ replicas) h = absurd h
-stopped-home job thread (None ∷ seats) replicas h = absurd h
-stopped-home job thread (Some value ∷ seats) [] h = absurd h
 stopped-home job thread (Some value ∷ seats) (r ∷ replicas) h =
     ap (λ (x : Replica). is_some (stop_of x thread) && list_all (seat_stopped thread) seats) h.1 ∙ ap (λ (b : Bool). is_some (stop_of r thread) && b) (stopped-home job thread seats replicas h.2)
+stopped-home job thread seats replicas h = absurd h
 
 -- ---- the tests
 

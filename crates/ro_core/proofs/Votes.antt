@@ -1,6 +1,7 @@
 -- A vote that was won, in the fields of a run.
-use Rattle.std.proofs.Common.{◌≡◌, ◌≢◌, ◌⊎◌, inl, inr, ℕ, zero, suc, ◌+◌, ◌*◌, ◌<◌, ◌≤◌, Bool, true, false, true≢false, List, [], ◌∷◌, length, Option, Some, None, get_or, refl, sym, ap, ◌∙◌, subst, arith, append-nil}
+use Rattle.std.proofs.Common.{◌≡◌, ◌⊎◌, inl, inr, ℕ, ◌+◌, ◌*◌, ◌<◌, ◌≤◌, Bool, true, false, true≢false, List, [], length, Option, Some, None, get_or, refl, sym, ap, ◌∙◌, subst, arith, append-nil}
 use Rattle.std.specs.Prelude.{◌^◌, if◌then◌else◌, IfSome, is_some, slice_get}
+use Rattle.std.specs.Bool.{then_some}
 use Rattle.std.specs.List.{list_all}
 use Rattle.std.specs.Option.{option_map_or}
 use Rattle.std.proofs.lemmas.Bool.{and_parts}
@@ -37,7 +38,8 @@ use Rattle.ro_core.specs.Legal.{event_in, core_after_event, after, MayVote, Pass
 use Rattle.ro_core.specs.Seen.{sent_of, IsOfMajority, KeepsViews}
 use Rattle.ro_core.specs.Sound.{IsFault}
 use Rattle.ro_core.specs.Fields.{failed_of, one_end, blocked_at, AreSeated, AreHome, AreSpared, IsSeat, AreAllTwins, AreLosers, Fields, core_in, state_in, CountsBytes, Holds}
-use Rattle.ro_core.specs.Runs.{fields_of, job_of, IsHeld, IsAmid, MakesRoom, CanOccur, event_by, payload_by}
+use Rattle.ro_core.specs.Happening.{event_by}
+use Rattle.ro_core.specs.Runs.{fields_of, job_of, IsHeld, IsAmid, MakesRoom, CanOccur, payload_by}
 use Rattle.ro_core.specs.Grouped.{AreGrouped, AreMade}
 use Rattle.ro_core.specs.Seated.{Stands}
 use Rattle.ro_core.proofs.Held.{Goes, goes, same-counts}
@@ -48,7 +50,13 @@ use Rattle.ro_core.proofs.FaultStops.{fault-stops}
 use Rattle.ro_core.proofs.Sitting.{home-count, home-get}
 use Rattle.ro_core.proofs.Winners.{WonIn, won-in, won-view, Showing, showing, showing-event, showing-since, showing-short, views-count}
 use Rattle.ro_core.proofs.Tests.{all-home, seated-home}
+use Rattle.ro_core.proofs.Grouped.{home-seat}
 use Rattle.ro_core.proofs.Lists.{get-within, length-mapped}
+
+-- the writer, where one is
+pub then-some : (b : Bool) (n : ℕ) → then_some b n ≡ (if b then Some n else None)
+then-some true n = refl
+then-some false n = refl
 
 -- a live thread was made
 pub lives-within : (kernel : Kernel) (thread : ℕ) → lives_on kernel thread ≡ true → thread < length kernel.lives
@@ -64,15 +72,6 @@ live-few f h thread e =
     let few = (ordered f.job f.journal h.legal).few_lives in
     let same : length f.kernel.kernel.lives ≡ length (core_in f).kernel.lives = ap (λ (k : Kernel). length k.lives) h.kernel_is in
     omega arith
-
--- each place of seats that are all home has a replica
-home-seat : (job : Job) (seats : List (Option ReplicaOf)) (replicas : List Replica) → AreHome job seats replicas → (n : ℕ) → n < length replicas → IsSeat seats n
-home-seat job [] [] h n less = absurd (omega arith)
-home-seat job [] (r ∷ replicas) h n less = absurd h
-home-seat job (None ∷ seats) replicas h n less = absurd h
-home-seat job (Some value ∷ seats) [] h n less = absurd h
-home-seat job (Some value ∷ seats) (r ∷ replicas) h zero less = (value, refl)
-home-seat job (Some value ∷ seats) (r ∷ replicas) h (suc n) less = home-seat job seats replicas h.2 n (omega arith)
 
 -- ---- the page that an event backs
 
@@ -170,7 +169,10 @@ module _ (f : Fields) (thread won : ℕ) (lost : Lost) (v : IsHeld f thread won 
   -- each loser can become as the winner, in seats that have the core's replicas
   module _ (seats : List (Option ReplicaOf)) (home : AreHome f.job seats (core_in f).replicas) where
     pub seat-of : (n : ℕ) → n < length f.views → IsSeat seats n
-    seat-of n less = home-seat f.job seats (core_in f).replicas home n (let e = as-many in omega arith)
+    seat-of n less =
+        let w = get-within (core_in f).replicas n (let e = as-many in omega arith) in
+        let seat = home-seat f.job seats (core_in f).replicas n w.0 home w.1 in
+        (seat.0, seat.1)
 
     pub hold-twins : AreAllTwins seats
     hold-twins place elsewhere one other a b =
@@ -258,7 +260,7 @@ module _ (f : Fields) (thread won : ℕ) (lost : Lost) (v : IsHeld f thread won 
 
     -- the event that the code has for it can be done
     pub hold-can : (r : Run) (e : Happening) (did : Did) (count next : ℕ) (threads : ℕ) → hold-event ≡ event_by e r.kernel.kernel (if e.writes then view.payload else []) → hold-event.did ≡ did → count ≡ view.since → next ≡ view.since + event_steps did → f.steps + next ≤ f.job.settings.limit
-        → IsAmid f r → Stands f.job r.seats (with_recovered won (numbers lost) (core_in f).replicas) → AreSpared r.seats.homes.items → threads ≡ length f.kernel.kernel.lives → CanOccur r thread e (Vote thread count won lost did) next (if e.writes then Some won else None) threads
+        → IsAmid f r → Stands f.job r.seats (with_recovered won (numbers lost) (core_in f).replicas) → AreSpared r.seats.homes.items → threads ≡ length f.kernel.kernel.lives → CanOccur r (record { thread = thread; event = e; entry = Vote thread count won lost did; steps = next; writer = if e.writes then Some won else None; threads = threads })
     hold-can r e did count next threads is did_is counts steps fits amid stands spared threads_are = record {
       before = f;
       holds = h;

@@ -1,21 +1,19 @@
 -- What a verdict says of the views, and of the replicas that showed them.
-use Rattle.std.proofs.Common.{◌≡◌, ◌≢◌, ℕ, zero, suc, ◌+◌, ◌<◌, ◌≤◌, Bool, true, false, true≢false, not, cond, ◌&&◌, List, [], ◌∷◌, length, Option, Some, None, get_or, refl, sym, ap, ◌∙◌, subst, arith, lit<}
+use Rattle.std.proofs.Common.{◌≡◌, ◌≢◌, ℕ, zero, suc, ◌+◌, ◌<◌, ◌≤◌, Bool, true, false, true≢false, cond, ◌&&◌, List, [], ◌∷◌, length, Option, Some, None, refl, sym, ap, ◌∙◌, subst, arith}
 use Rattle.std.specs.Prelude.{is_some, slice_get}
 use Rattle.std.specs.List.{list_all}
 use Rattle.std.specs.Option.{option_map, option_and_then}
 use Rattle.std.proofs.lemmas.Bool.{and_parts, and_from}
-use Rattle.std.proofs.lemmas.List.Quantifiers.{position-Some}
 use Rattle.std.proofs.lemmas.Option.{slice_get_within}
 use Rattle.ro_event.specs.declared.calls.Call.{Call}
 use Rattle.ro_event.specs.declared.stops.Stop.{Stop}
 use Rattle.ro_event.specs.declared.stops.Stop.TheVariants.{Calls, Trap, PageFault, Watchdog}
-use Rattle.ro_event.specs.Views.{View, same_view}
-use Rattle.ro_event.proofs.Same.{view-same, view-true}
+use Rattle.ro_event.specs.Views.{View}
 use Rattle.ro_region.specs.declared.Range.{Range}
 use Rattle.ro_pages.specs.Bytes.{Memory, bytes_at}
 use Rattle.ro_kernel.specs.Serve.{capped, is_write, is_good_write, payload_of}
 use Rattle.ro_thread.specs.declared.Thread.{Thread}
-use Rattle.ro_vote.specs.Verdict.{verdict_of, Won, Split}
+use Rattle.ro_vote.specs.Verdict.{verdict_of, Won}
 use Rattle.ro_vote.specs.Numbers.{is_among}
 use Rattle.ro_vote.proofs.Verdicts.{WonBy, won-by, loser-within, winner-stays}
 use Rattle.ro_replica.specs.Replica.{Replica, stop_of}

@@ -1,19 +1,17 @@
 -- The fields of a core against its journal.
 use Rattle.std.specs.Prelude.{◌≡◌, ◌≢◌, ◌<◌, ◌≤◌, ◌+◌, ◌*◌, ℕ, Bool, true, false, List, [], ◌∷◌, length, Option, Some, None, nat_lt, ◌==◌, if◌then◌else◌, slice_get, slice_index_or}
-use Rattle.ro_journal.specs.declared.Did.{Did}
 use Rattle.ro_journal.specs.declared.How.{How}
 use Rattle.ro_journal.specs.declared.How.TheVariants.{Differ, NoMajority, Sink}
 use Rattle.ro_journal.specs.declared.Entry.{Entry}
 use Rattle.ro_group.specs.Groups.{Groups}
 use Rattle.ro_event.specs.declared.calls.Call.{Call}
 use Rattle.ro_event.specs.Views.{View}
-use Rattle.ro_event.specs.declared.stops.Stop.{Stop}
 use Rattle.ro_event.specs.Effects.{Effect}
-use Rattle.ro_kernel.specs.Kernel.{Setup, Kernel}
+use Rattle.ro_kernel.specs.Kernel.{Kernel}
 use Rattle.ro_kernel.specs.State.{State}
 use Rattle.ro_kernel.specs.declared.outcome.Served.{Served}
 use Rattle.ro_kernel.specs.declared.outcome.Served.TheVariants.{Done, Blocked, Ends}
-use Rattle.ro_kernel.specs.Serve.{Served as Outcome, Done as DoneWith, Blocked as BlockedAtAll, Ends as EndsWith, serve}
+use Rattle.ro_kernel.specs.Serve.{Served as Outcome, Done as DoneWith, Blocked as BlockedAtAll, Ends as EndsWith}
 use Rattle.ro_vote.specs.Numbers.{is_among}
 use Rattle.ro_settings.specs.Ranges.{InRange}
 use Rattle.ro_replica.specs.Replica.{Replica}
@@ -22,7 +20,6 @@ use Rattle.ro_replica.specs.Seen.{ReplicaOf, replica_of, CanApply, AreTwins, Kee
 use Rattle.ro_plain.specs.Machine.{setup_of}
 use Rattle.ro_core.specs.declared.actions.Lease.{Lease}
 use Rattle.ro_core.specs.Core.{Job, Core, is_going, is_home}
-use Rattle.ro_core.specs.Event.{call_event, event_of}
 use Rattle.ro_core.specs.Legal.{Legal, replay, replay_with}
 use Rattle.ro_core.specs.Seen.{IsOfJob, KeepsViews, sent_of}
 use Rattle.ro_core.specs.Grouped.{AreGrouped}
@@ -146,16 +143,6 @@ AreAllTwins seats = (place elsewhere : ℕ) (one other : ReplicaOf) → slice_ge
 -- losers in their seats, none of which is the winner's
 abbrev pub AreLosers : List (Option ReplicaOf) → (won : ℕ) → List ℕ → Type 0
 AreLosers seats won lost = (loser : ℕ) → is_among lost loser ≡ true → IsSeat seats loser × (won ≢ loser)
-
--- what a code's event is, over the kernels before and after it: the definition's, whatever the payload
-abbrev pub IsEvent : Setup → (old new : Kernel) → (thread : ℕ) → Stop → (did : Did) → Effect → (blocked : Option Call) → (due : Option How) → (writes : Bool) → Type 0
-IsEvent setup old new thread stop did effect blocked due writes =
-    (payload : List ℕ) → event_of setup old thread stop payload ≡ record { did = did; kernel = new; effect = effect; payload = if writes then payload else []; blocked = blocked; due = due }
-
--- the same of a call
-abbrev pub IsCallEvent : Setup → (old new : Kernel) → (thread : ℕ) → Call → (did : Did) → Effect → (blocked : Option Call) → (due : Option How) → (writes : Bool) → Type 0
-IsCallEvent setup old new thread call did effect blocked due writes =
-    (payload : List ℕ) → call_event old thread call payload (serve setup old thread call) ≡ record { did = did; kernel = new; effect = effect; payload = if writes then payload else []; blocked = blocked; due = due }
 
 -- what comes of a call, by the code's answer and the kernel after it
 abbrev pub outcome_with : (after : Kernel) → Served → Outcome

@@ -1,5 +1,5 @@
 -- What the laws of legal journals speak of.
-use Rattle.std.specs.Prelude.{◌≡◌, ◌≢◌, ℕ, ◌+◌, Bool, false, true, ◌&&◌, ◌||◌, ◌⊎◌, List, [], ◌∷◌, Option, Some, nat_le, ◌==◌, if◌then◌else◌, slice_get}
+use Rattle.std.specs.Prelude.{◌≡◌, ◌≢◌, ℕ, ◌+◌, Bool, false, true, ◌&&◌, ◌||◌, ◌⊎◌, List, [], ◌∷◌, Option, nat_le, ◌==◌, if◌then◌else◌, slice_get}
 use Rattle.std.specs.Option.{option_and_then}
 use Rattle.ro_journal.specs.declared.Did.TheVariants.{Served, Blocked}
 use Rattle.ro_journal.specs.declared.Entry.{Entry}

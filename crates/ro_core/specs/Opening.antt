@@ -1,9 +1,13 @@
 -- The seats of replicas at the opening of a program.
-use Rattle.std.specs.Prelude.{◌≡◌, ℕ, false, List, length, Option, Some, None, slice_get}
+use Rattle.std.specs.Prelude.{◌≡◌, ◌≤◌, ◌-◌, ℕ, false, List, [], length, Option, Some, None, slice_get, vec_len, vec_capacity}
 use Rattle.ro_faults.specs.declared.Fault.{Fault}
 use Rattle.ro_group.specs.Groups.{Groups, stands}
 use Rattle.ro_image.specs.Image.{Image}
+use Rattle.ro_kernel.specs.Kernel.{opening_kernel}
+use Rattle.ro_plain.specs.Machine.{setup_of}
 use Rattle.ro_replica.specs.Seen.{ReplicaOf, IsOpening}
+use Rattle.ro_core.specs.declared.opening.Opening.{Opening}
+use Rattle.ro_core.specs.Core.{Job}
 
 -- in the seat stands the replica of this number at its opening
 abbrev pub IsFirst : Image → List Fault → (watchdog number : ℕ) → Option ReplicaOf → Type 0
@@ -18,3 +22,15 @@ AreFirst image faults watchdog seats = (number : ℕ) (seat : Option ReplicaOf) 
 pub record NoneStands (replicas : ℕ) (groups : Groups) : Type 0 where
   pub count : length groups ≡ replicas
   pub none : (replica thread : ℕ) → stands groups replica thread ≡ false
+
+-- what was made for the opening of a job
+pub record IsOpened (job : Job) (opening : Opening) : Type 0 where
+  pub faults : opening.faults.items ≡ job.faults
+  pub journal : opening.journal.items ≡ []
+  pub room : 1 ≤ vec_capacity opening.journal - vec_len opening.journal
+  pub first : AreFirst job.program.image job.faults job.settings.watchdog opening.seats.homes.items
+  pub count : length opening.seats.homes.items ≡ job.settings.replicas
+  pub none : NoneStands job.settings.replicas opening.seats.groups
+  pub setup : opening.kernel.setup ≡ setup_of job.program
+  pub kernel : opening.kernel.kernel ≡ opening_kernel job.program.image.heap
+  pub views : length opening.views.items ≡ job.settings.replicas

@@ -3,17 +3,17 @@ use Rattle.std.specs.Prelude.{◌≡◌, ◌+◌, ◌-◌, ◌^◌, ◌<◌, ◌
 use Rattle.std.specs.Option.{option_map_or}
 use Rattle.ro_event.specs.declared.stops.Stop.{Stop}
 use Rattle.ro_event.specs.Views.{View}
-use Rattle.ro_journal.specs.declared.Entry.{Entry}
 use Rattle.ro_journal.specs.declared.losers.Lost.{Lost}
 use Rattle.ro_journal.specs.Losers.{numbers}
 use Rattle.ro_journal.specs.Plan.{event_steps, outcome_of}
-use Rattle.ro_kernel.specs.Kernel.{Kernel, lives_on}
+use Rattle.ro_kernel.specs.Kernel.{lives_on}
 use Rattle.ro_replica.specs.Replica.{Replica}
 use Rattle.ro_vote.specs.Verdict.{Won, verdict_of}
 use Rattle.ro_core.specs.declared.runs.Run.{Run}
-use Rattle.ro_core.specs.declared.events.Event.{Event as Happening}
+use Rattle.ro_core.specs.declared.voting.Occurrence.{Occurrence}
 use Rattle.ro_core.specs.Core.{Job, Core, is_going, may_vote, views_of}
-use Rattle.ro_core.specs.Event.{Event, event_of, core_after}
+use Rattle.ro_core.specs.Event.{event_of, core_after}
+use Rattle.ro_core.specs.Happening.{event_by}
 use Rattle.ro_core.specs.Legal.{IsAllowed, after}
 use Rattle.ro_core.specs.Seen.{CoreOf, sent_of}
 use Rattle.ro_core.specs.Fields.{failed_of, spare_of, Fields, core_in, state_in, AreSpared, Holds}
@@ -111,10 +111,6 @@ pub record IsHeld (f : Fields) (thread won : ℕ) (lost : Lost) : Type 0 where
   pub views_are : f.views ≡ views_of f.job (state_in f) thread
   pub verdict : verdict_of f.views ≡ Won won (numbers lost)
 
--- the event of the code, with the kernel that it left, and what it writes
-abbrev pub event_by : Happening → Kernel → (payload : List ℕ) → Event
-event_by e kernel payload = record { did = e.did; kernel = kernel; effect = e.effect; payload = payload; blocked = e.blocked; due = e.due }
-
 -- what neither an event's kernel nor its copy changes, and room for an entry and the end
 pub record IsAmid (before : Fields) (r : Run) : Type 0 where
   pub job : job_of r ≡ before.job
@@ -128,9 +124,9 @@ pub record IsAmid (before : Fields) (r : Run) : Type 0 where
   pub views : r.views.items ≡ before.views
   pub room : 2 ≤ (fields_of r).places
 
--- An event that has changed the kernel of a run can be done in every replica, and noted by this entry with so many steps
--- and what it writes. `before` are the fields before it, and `replicas` stand in the seats.
-pub record CanOccur (r : Run) (thread : ℕ) (e : Happening) (entry : Entry) (steps : ℕ) (writer : Option ℕ) (threads : ℕ) : Type 0 where
+-- An event that has changed the kernel of a run can be done in every replica, and noted so. `before` are the fields before it,
+-- and `replicas` stand in the seats.
+pub record CanOccur (r : Run) (o : Occurrence) : Type 0 where
   pub before : Fields
   pub holds : Holds before
   pub going : is_going (state_in before) ≡ true
@@ -138,19 +134,19 @@ pub record CanOccur (r : Run) (thread : ℕ) (e : Happening) (entry : Entry) (st
   pub amid : IsAmid before r
   pub count : ℕ
   pub replicas : List Replica
-  pub allowed : IsAllowed before.job (core_in before) entry
-  pub came : after before.job (core_in before) entry ≡ core_after (core_in before) thread count replicas (event_by e r.kernel.kernel (payload_by r.views.items writer))
-  pub no_end : outcome_of (entry ∷ []) ≡ None
+  pub allowed : IsAllowed before.job (core_in before) o.entry
+  pub came : after before.job (core_in before) o.entry ≡ core_after (core_in before) o.thread count replicas (event_by o.event r.kernel.kernel (payload_by r.views.items o.writer))
+  pub no_end : outcome_of (o.entry ∷ []) ≡ None
   pub stop : Stop
   pub shown : List ℕ
   pub few : length shown ≤ 4096
-  pub event_is : event_of before.kernel.setup before.kernel.kernel thread stop shown ≡ event_by e r.kernel.kernel (payload_by r.views.items writer)
-  pub live : lives_on before.kernel.kernel thread ≡ true
-  pub own : e.effect.thread ≡ thread
-  pub low : IfSome e.effect.page (λ page. page < 2 ^ 20)
+  pub event_is : event_of before.kernel.setup before.kernel.kernel o.thread stop shown ≡ event_by o.event r.kernel.kernel (payload_by r.views.items o.writer)
+  pub live : lives_on before.kernel.kernel o.thread ≡ true
+  pub own : o.event.effect.thread ≡ o.thread
+  pub low : IfSome o.event.effect.page (λ page. page < 2 ^ 20)
   pub stands : Stands before.job r.seats replicas
   pub spared : AreSpared r.seats.homes.items
-  pub made : AreMade threads replicas
-  pub threads_are : threads ≡ length before.kernel.kernel.lives
-  pub counted : steps ≡ count + event_steps e.did
-  pub writes : IfSome writer (λ number. number < length r.views.items)
+  pub made : AreMade o.threads replicas
+  pub threads_are : o.threads ≡ length before.kernel.kernel.lives
+  pub counted : o.steps ≡ count + event_steps o.event.did
+  pub writes : IfSome o.writer (λ number. number < length r.views.items)

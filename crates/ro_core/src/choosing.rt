@@ -99,15 +99,16 @@ impl Run {
         None
     }
 
-    fn is_going(&self) -> bool
+    /// Whether no end has come, and none must.
+    pub fn is_going(&self) -> bool
         requires holds { Holds (fields_of self.now) }
         ensures { result ≡ is_going (state_of self.now) }
     {
         self.due.is_none() && self.ended.is_none()
     }
 
-    // The call on which a thread is blocked, if it is.
-    fn blocked_call(&self, thread: u32) -> Option<Call>
+    /// The call on which a thread is blocked, if it is.
+    pub fn blocked_call(&self, thread: u32) -> Option<Call>
         requires holds { Holds (fields_of self.now) }
         ensures { result ≡ (state_of self.now).blocked thread }
     {
@@ -125,8 +126,8 @@ impl Run {
         self.is_going() && self.leases.is_empty()
     }
 
-    // Whether a thread stands still in every replica, and is not blocked.
-    fn may_vote(&self, thread: u32) -> bool
+    /// Whether a thread stands still in every replica, and is not blocked.
+    pub fn may_vote(&self, thread: u32) -> bool
         requires holds { Holds (fields_of self.now) }
         ensures { result ≡ may_vote (state_of self.now) thread }
     {
@@ -139,8 +140,8 @@ impl Run {
         }
     }
 
-    // Whether the call on which a thread is blocked no longer blocks.
-    fn may_free(&self, thread: u32) -> bool
+    /// Whether the call on which a thread is blocked no longer blocks.
+    pub fn may_free(&self, thread: u32) -> bool
         requires holds { Holds (fields_of self.now) }
         ensures { result ≡ may_free (job_of self.now) (state_of self.now) thread }
     {
@@ -153,8 +154,8 @@ impl Run {
         }
     }
 
-    // Whether a thread may be lent in a replica.
-    fn is_lendable(&self, replica: u32, thread: u32) -> bool
+    /// Whether a thread may be lent in a replica.
+    pub fn is_lendable(&self, replica: u32, thread: u32) -> bool
         requires holds { Holds (fields_of self.now) }
         requires replica { replica < length (state_of self.now).replicas }
         ensures { result ≡ is_lendable (state_of self.now) replica thread }

@@ -53,11 +53,17 @@ pub struct Finished<K> {
     pub out: K,
 }
 
+/// What `begin` was given to keep.
+pub struct Refused<K> {
+    pub image: Executable,
+    pub out: K,
+}
+
 impl<K: Sink> Core<K> {
     /// Opens a core for the program of an image, an input and faults to be struck.
     ///
     /// # Errors
-    /// Where there is no memory; the sink comes back.
+    /// Where there is no memory; the image and the sink come back.
     pub fn begin(
         alloc: Global,
         image: Executable,
@@ -65,15 +71,15 @@ impl<K: Sink> Core<K> {
         faults: &[Fault],
         settings: Settings,
         out: K,
-    ) -> Result<Core<K>, K>
+    ) -> Result<Core<K>, Refused<K>>
         requires settings { InRange settings }
         requires faults { AreFaults faults.now }
         ensures opens { IfOk result (λ c. Opens (record { program = record { image = image; input = input.now }; faults = faults.now; settings = settings }) (K.held out) (K.failures out) c) }
-        ensures back { IfErr result (λ k. k ≡ out) }
+        ensures back { IfErr result (λ r. (r.image ≡ image) × (r.out ≡ out)) }
     {
         match Run::begin(alloc, image, input, faults, settings) {
             Ok(run) => Ok(Core { run, out }),
-            Err(_) => Err(out),
+            Err(image) => Err(Refused { image, out }),
         }
     }
 

@@ -1,8 +1,11 @@
 //! The event of a vote: what the winner's stop comes to.
-ghost use Rattle.std.specs.Prelude.{ℕ, ◌≡◌, List, [], IfOk, OnErr, None, true, false, if◌then◌else◌};
+ghost use Rattle.std.specs.Prelude.{ℕ, ◌≡◌, List, IfOk, OnErr, [], None, true, false, if◌then◌else◌};
 ghost use Rattle.ro_kernel.specs.Kernel.{lives_on, Kernel as KernelSeen};
-ghost use Rattle.ro_core.specs.Event.{event_of, quiet_effect as quiet, call_event};
-ghost use Rattle.ro_core.specs.Fields.{IsEvent, IsCallEvent, outcome_with};
+ghost use Rattle.ro_event.specs.declared.stops.Stop.{Stop as At};
+ghost use Rattle.ro_event.specs.declared.stops.Stop.TheVariants.{Calls};
+ghost use Rattle.ro_core.specs.Event.{event_of, quiet_effect, call_event};
+ghost use Rattle.ro_core.specs.Fields.{outcome_with};
+ghost use Rattle.ro_core.specs.Happening.{event_by, IsCause, IsEvent, IsCallEvent};
 
 use ro_event::{Call, Effect, Goes, Stop};
 use ro_journal::{Did, How};
@@ -22,60 +25,93 @@ pub(crate) struct Event {
     pub writes: bool,
 }
 
-/// What the event of a thread that stands at this stop will be.
-#[tactic(auto, unfolding(crate::specs::Event::event_of))]
-pub(crate) fn did_of(kernel: &Kernel, thread: u32, stop: &Stop) -> Did
-    ensures { (payload : List ℕ) → (event_of kernel.now.setup kernel.now.kernel thread stop.now payload).did ≡ result }
-{
-    match stop {
-        Stop::Calls(call) => {
-            if kernel.blocks(thread, *call) {
-                Did::Blocked
-            } else {
-                Did::Served
-            }
+/// What the stop of a thread comes to.
+#[derive(Clone, Copy)]
+pub(crate) struct Coming {
+    pub did: Did,
+    cause: Cause,
+}
+
+/// Where an event comes from.
+#[derive(Clone, Copy)]
+pub(crate) enum Cause {
+    /// The kernel serves this call.
+    Call(Call),
+    /// The kernel stays as it is.
+    Quiet {
+        page: Option<u32>,
+        releases: bool,
+        due: Option<How>,
+    },
+}
+
+impl Coming {
+    /// What comes of a thread that stands at this stop.
+    #[tactic(auto, unfolding(crate::specs::Event::event_of))]
+    pub(crate) fn of(kernel: &Kernel, thread: u32, stop: &Stop) -> Coming
+        ensures did { (payload : List ℕ) → (event_of kernel.now.setup kernel.now.kernel thread stop.now payload).did ≡ result.did }
+        ensures cause { IsCause kernel.now.setup kernel.now.kernel thread stop.now result.did result.cause }
+    {
+        match stop {
+            Stop::Calls(call) => Coming {
+                did: did_of(kernel, thread, *call),
+                cause: Cause::Call(*call),
+            },
+            Stop::Trap(cause) => quiet(Did::Trapped, None, false, Some(How::Trap(*cause))),
+            Stop::PageFault(page) => quiet(Did::PageBacked, Some(*page), true, None),
+            Stop::Watchdog => quiet(Did::Watch, None, true, None),
         }
-        Stop::Trap(_) => Did::Trapped,
-        Stop::PageFault(_) => Did::Mapped,
-        Stop::Watchdog => Did::Watch,
+    }
+
+    /// The event of a live thread of which this comes.
+    ///
+    /// # Errors
+    /// Where there is no memory; the kernel is as it was.
+    pub(crate) fn happen(
+        &self,
+        alloc: Global,
+        kernel: &mut Kernel,
+        thread: u32,
+    ) -> Result<Event, AllocError>
+        requires { lives_on kernel.old.kernel thread ≡ true }
+        ensures event { IfOk result (λ e. (stop : At) → IsCause kernel.old.setup kernel.old.kernel thread stop self.now.did self.now.cause → IsEvent kernel.old.setup kernel.old.kernel kernel.new.kernel thread stop e) }
+        ensures setup { kernel.new.setup ≡ kernel.old.setup }
+        ensures err { OnErr result (kernel.new ≡ kernel.old) }
+    {
+        match self.cause {
+            Cause::Call(call) => serve(alloc, kernel, thread, call),
+            Cause::Quiet {
+                page,
+                releases,
+                due,
+            } => Ok(quiet_event(alloc, self.did, thread, page, releases, due)),
+        }
     }
 }
 
-/// The event of a live thread that stands at this stop.
-///
-/// # Errors
-/// Where there is no memory; the kernel is as it was.
+// Whether a call is served or blocks.
 #[tactic(auto, unfolding(crate::specs::Event::event_of))]
-pub(crate) fn happen(
-    alloc: Global,
-    kernel: &mut Kernel,
-    thread: u32,
-    stop: &Stop,
-) -> Result<Event, AllocError>
-    requires { lives_on kernel.old.kernel thread ≡ true }
-    ensures event { IfOk result (λ e. IsEvent kernel.old.setup kernel.old.kernel kernel.new.kernel thread stop.now e.did e.effect e.blocked e.due e.writes) }
-    ensures setup { kernel.new.setup ≡ kernel.old.setup }
-    ensures err { OnErr result (kernel.new ≡ kernel.old) }
+fn did_of(kernel: &Kernel, thread: u32, call: Call) -> Did
+    ensures { (payload : List ℕ) → (event_of kernel.now.setup kernel.now.kernel thread (Calls call) payload).did ≡ result }
 {
-    match stop {
-        Stop::Calls(call) => serve(alloc, kernel, thread, *call),
-        Stop::Trap(cause) => Ok(quiet_event(
-            alloc,
-            Did::Trapped,
-            thread,
-            None,
-            false,
-            Some(How::Trap(*cause)),
-        )),
-        Stop::PageFault(page) => Ok(quiet_event(
-            alloc,
-            Did::Mapped,
-            thread,
-            Some(*page),
-            true,
-            None,
-        )),
-        Stop::Watchdog => Ok(quiet_event(alloc, Did::Watch, thread, None, true, None)),
+    if kernel.blocks(thread, call) {
+        Did::Blocked
+    } else {
+        Did::Served
+    }
+}
+
+// What comes to an event that leaves the kernel as it is.
+fn quiet(did: Did, page: Option<u32>, releases: bool, due: Option<How>) -> Coming
+    ensures { result ≡ record { did = did; cause = Cause.Quiet page releases due } }
+{
+    Coming {
+        did,
+        cause: Cause::Quiet {
+            page,
+            releases,
+            due,
+        },
     }
 }
 
@@ -90,7 +126,7 @@ pub(crate) fn serve(
     call: Call,
 ) -> Result<Event, AllocError>
     requires { lives_on kernel.old.kernel thread ≡ true }
-    ensures event { IfOk result (λ e. IsCallEvent kernel.old.setup kernel.old.kernel kernel.new.kernel thread call e.did e.effect e.blocked e.due e.writes) }
+    ensures event { IfOk result (IsCallEvent kernel.old.setup kernel.old.kernel kernel.new.kernel thread call) }
     ensures setup { kernel.new.setup ≡ kernel.old.setup }
     ensures err { OnErr result (kernel.new ≡ kernel.old) }
 {
@@ -100,7 +136,7 @@ pub(crate) fn serve(
 
 // The event of a call that came to this.
 fn event_of_call(alloc: Global, thread: u32, call: Call, served: Served) -> Event
-    ensures { (kernel after : KernelSeen) (payload : List ℕ) → (served ≡ Served.Blocked → after ≡ kernel) → call_event kernel thread call payload (outcome_with after served) ≡ record { did = result.did; kernel = after; effect = result.effect; payload = if result.writes then payload else []; blocked = result.blocked; due = result.due } }
+    ensures { (kernel after : KernelSeen) (payload : List ℕ) → (served ≡ Served.Blocked → after ≡ kernel) → call_event kernel thread call payload (outcome_with after served) ≡ event_by result after (if result.writes then payload else []) }
 {
     match served {
         Served::Done(effect) => Event {
@@ -130,11 +166,7 @@ fn quiet_event(
     releases: bool,
     due: Option<How>,
 ) -> Event
-    ensures did { result.did ≡ did }
-    ensures effect { result.effect ≡ quiet thread page releases }
-    ensures blocked { result.blocked ≡ None }
-    ensures due { result.due ≡ due }
-    ensures writes { result.writes ≡ false }
+    ensures { result ≡ record { did = did; effect = quiet_effect thread page releases; blocked = None; due = due; writes = false } }
 {
     Event {
         did,
@@ -147,7 +179,7 @@ fn quiet_event(
 
 // An effect that stores nothing and changes no register.
 fn quiet_effect(alloc: Global, thread: u32, page: Option<u32>, releases: bool) -> Effect
-    ensures { result ≡ quiet thread page releases }
+    ensures { result ≡ quiet_effect thread page releases }
 {
     Effect {
         thread,

@@ -1,19 +1,23 @@
 //! What holds of every legal journal.
-ghost use Rattle.std.specs.Prelude.{false, true, is_some, ◌≡◌, ◌⊎◌, ◌&&◌, ◌==◌, ◌∷◌, ◌++◌, ℕ, List, [], Some, None, not, length, slice_get};
+ghost use Rattle.std.specs.Prelude.{false, true, is_some, ◌≡◌, ◌≢◌, ◌<◌, ◌⊎◌, ◌&&◌, ◌==◌, ◌∷◌, ◌++◌, ℕ, List, [], Some, None, not, length, slice_get};
 ghost use Rattle.std.specs.List.{filter};
 ghost use Rattle.ro_event.specs.declared.calls.Call.{Call};
 ghost use Rattle.ro_event.specs.declared.stops.Stop.TheVariants.{Calls, PageFault};
 ghost use Rattle.ro_exec.specs.Next.{Layout};
 ghost use Rattle.ro_thread.specs.declared.Thread.{Thread};
 ghost use Rattle.ro_replica.specs.Replica.{Replica, stop_of};
-ghost use Rattle.ro_replica.specs.Runs.{Ran, run_of};
+ghost use Rattle.ro_replica.specs.Runs.{RanTo, run_of};
 ghost use Rattle.ro_journal.specs.declared.Entry.{Entry};
-ghost use Rattle.ro_journal.specs.declared.Entry.TheVariants.{End};
+ghost use Rattle.ro_journal.specs.declared.Entry.TheVariants.{Put, End};
 ghost use Rattle.ro_journal.specs.declared.How.{How};
 ghost use Rattle.ro_core.specs.declared.actions.Action.TheVariants as act;
-ghost use Rattle.ro_core.specs.Core.{Job, Core, is_going, is_lendable, may_vote, may_free, nothing_lent};
+ghost use Rattle.ro_core.specs.declared.actions.Lease.{Lease};
+ghost use Rattle.ro_core.specs.Core.{Job, Core, is_going, is_idle, is_lendable, may_vote, may_free, nothing_lent};
 ghost use Rattle.ro_core.specs.Legal.{Legal, MayEnd, replay};
 ghost use Rattle.ro_core.specs.Action.{next_action};
+ghost use Rattle.ro_core.specs.Seen.{CoreOf};
+ghost use Rattle.ro_core.specs.Driven.{Goes, Names, HasLease};
+ghost use Rattle.ro_core.specs.Turns.{TakesTurns};
 ghost use Rattle.ro_core.specs.Laws.{thread_in, Answers, LeavesBlocked, LetsGoOn, hits, has_come};
 
 /// Nothing follows an end.
@@ -43,7 +47,7 @@ pub fn struck_once()
 
 /// No other bit flips: a run in which no fault was struck is the run of a replica that has none.
 pub fn no_other_flip()
-    ensures { (layout : Layout) (watchdog count thread : ℕ) (replica : Replica) (ran : Ran) → run_of layout watchdog count replica thread ≡ Some ran → ran.hit ≡ 0 → run_of layout watchdog count (record replica { waiting = [] }) thread ≡ Some (record { replica = record ran.replica { waiting = [] }; hit = 0 }) }
+    ensures { (layout : Layout) (watchdog count thread : ℕ) (replica : Replica) (ran : RanTo) → run_of layout watchdog count replica thread ≡ Some ran → ran.hit ≡ 0 → run_of layout watchdog count (record replica { waiting = [] }) thread ≡ Some (record { replica = record ran.replica { waiting = [] }; hit = 0 }) }
 {}
 
 /// The same pages are backed in every replica.
@@ -65,4 +69,30 @@ pub fn next_may_be_done()
     ensures end { (job : Job) (core : Core) (how : How) → next_action job core ≡ act.End how → (core.ended ≡ None) × MayEnd job core how }
     ensures wait { (job : Job) (core : Core) → next_action job core ≡ act.Wait → nothing_lent core ≡ false }
     ensures over { (job : Job) (core : Core) → next_action job core ≡ act.Over → is_some core.ended ≡ true }
+{}
+
+/// A lease lasts: an entry that doesn't name its driver leaves it out, and its replica as it was.
+pub fn leases_last()
+    ensures { (job : Job) (journal : List Entry) (entry : Entry) → Legal job (journal ++ entry ∷ []) → (driver by : ℕ) → Names by entry → by ≢ driver → (lease : Lease) (replica : Replica) → HasLease (replay job journal) driver lease replica → HasLease (replay job (journal ++ entry ∷ [])) driver lease replica }
+{}
+
+/// A driver holds one lease at the most: behind its put it holds none.
+pub fn leases_come_back()
+    ensures { (job : Job) (journal : List Entry) (driver replica thread count hit : ℕ) → Legal job (journal ++ Put driver replica thread count hit ∷ []) → is_idle (replay job (journal ++ Put driver replica thread count hit ∷ [])) driver ≡ true }
+{}
+
+/// Where no driver holds a lease, nothing is lent.
+pub fn idle_drivers_hold_nothing()
+    ensures { (job : Job) (journal : List Entry) → Legal job journal → ((driver : ℕ) → driver < job.settings.drivers → is_idle (replay job journal) driver ≡ true) → (replay job journal).leases ≡ [] }
+{}
+
+/// With one driver, what it takes comes back in the next entry.
+pub fn one_driver_takes_turns()
+    ensures { (job : Job) → job.settings.drivers ≡ 1 → (journal : List Entry) → Legal job journal → (replay job journal).leases ≡ [] → TakesTurns journal }
+{}
+
+/// A core that goes on twice goes on.
+pub fn going_on()
+    ensures none { (core : CoreOf) → Goes core core }
+    ensures twice { (first next last : CoreOf) → Goes first next → Goes next last → Goes first last }
 {}

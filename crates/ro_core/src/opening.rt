@@ -1,11 +1,11 @@
 //! Opening a run.
-ghost use Rattle.std.specs.Prelude.{◌≡◌, ℕ, List, Option, IfOk, length};
+ghost use Rattle.std.specs.Prelude.{◌≡◌, ℕ, List, Option, IfErr, IfOk, length};
 ghost use Rattle.std.specs.Arc.{arc_value};
 ghost use Rattle.ro_settings.specs.Ranges.{InRange};
 ghost use Rattle.ro_replica.specs.Seen.{AreFaults};
 ghost use Rattle.ro_core.specs.Seen.{Opens};
 ghost use Rattle.ro_core.specs.Fields.{Holds};
-ghost use Rattle.ro_core.specs.Opening.{AreFirst};
+ghost use Rattle.ro_core.specs.Opening.{AreFirst, IsOpened};
 ghost use Rattle.ro_core.specs.Runs.{fields_of, core_of};
 
 use crate::runs::{Run, THREADS};
@@ -14,6 +14,7 @@ use ro_event::{Stop, View};
 use ro_faults::Fault;
 use ro_group::Groups;
 use ro_image::Executable;
+use ro_journal::Entry;
 use ro_kernel::Kernel;
 use ro_region::Regions;
 use ro_replica::{Replica, ReplicaBox};
@@ -21,43 +22,79 @@ use ro_settings::Settings;
 use std::alloc::{AllocError, Global};
 use std::sync::Arc;
 
+/// All of a run's opening for which memory is taken.
+#[derive(Drop)]
+pub(crate) struct Opening {
+    faults: Vec<Fault>,
+    journal: Vec<Entry>,
+    seats: Seats,
+    kernel: Kernel,
+    views: Vec<View>,
+}
+
 impl Run {
     /// Opens a run of the program of an image, with an input and faults to be struck.
     ///
     /// # Errors
-    /// Where there is no memory.
+    /// Where there is no memory; the image comes back.
     pub fn begin(
         alloc: Global,
         image: Executable,
         input: &[u8],
         faults: &[Fault],
         settings: Settings,
-    ) -> Result<Run, AllocError>
+    ) -> Result<Run, Executable>
         requires settings { InRange settings }
         requires faults { AreFaults faults.now }
         ensures holds { IfOk result (λ run. Holds (fields_of run)) }
         ensures opens { IfOk result (λ run. (held : Option (List ℕ)) (count : ℕ) → Opens (record { program = record { image = image; input = input.now }; faults = faults.now; settings = settings }) held count (core_of (fields_of run) held count)) }
+        ensures back { IfErr result (λ given. given ≡ image) }
+    {
+        match Opening::new(alloc, &image, input, faults, settings) {
+            Ok(opening) => Ok(Run {
+                image,
+                faults: opening.faults,
+                settings,
+                journal: opening.journal,
+                seats: opening.seats,
+                leases: Vec::new(alloc),
+                kernel: opening.kernel,
+                blocked: [None; THREADS],
+                steps: 0,
+                sent: 0,
+                due: None,
+                ended: None,
+                views: opening.views,
+                alloc,
+            }),
+            Err(_) => Err(image),
+        }
+    }
+}
+
+impl Opening {
+    // Takes the memory for the opening of an image.
+    fn new(
+        alloc: Global,
+        image: &Executable,
+        input: &[u8],
+        faults: &[Fault],
+        settings: Settings,
+    ) -> Result<Opening, AllocError>
+        requires { AreFaults faults.now }
+        ensures { IfOk result (IsOpened (record { program = record { image = image.now; input = input.now }; faults = faults.now; settings = settings })) }
     {
         let regions = Arc::new(alloc, Regions::new(alloc, image.ranges())?)?;
-        let homes = opening_seats(alloc, &image, &regions, faults, settings)?;
-        Ok(Run {
+        let homes = opening_seats(alloc, image, &regions, faults, settings)?;
+        Ok(Opening {
             faults: faults.to_vec(alloc)?,
-            settings,
             journal: Vec::with_capacity(alloc, 1)?,
             seats: Seats {
                 homes,
                 groups: Groups::new(alloc, settings.replicas)?,
             },
-            leases: Vec::new(alloc),
             kernel: Kernel::new(alloc, image.heap(), regions, input)?,
-            blocked: [None; THREADS],
-            steps: 0,
-            sent: 0,
-            due: None,
-            ended: None,
             views: blank_views(alloc, settings.replicas)?,
-            alloc,
-            image,
         })
     }
 }

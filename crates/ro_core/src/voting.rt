@@ -1,5 +1,5 @@
 //! Votes, and the calls that are served after one.
-ghost use Rattle.std.specs.Prelude.{◌≡◌, ◌⊎◌, ◌<◌, ◌≤◌, ◌∷◌, ◌++◌, ℕ, List, [], Some, None, true, IfOk, IfSome, OnErr, OnOk, if◌then◌else◌, length};
+ghost use Rattle.std.specs.Prelude.{◌≡◌, ◌⊎◌, ◌<◌, ◌≤◌, ◌∷◌, ◌++◌, ℕ, List, [], Some, true, IfOk, IfSome, OnErr, OnOk, length};
 ghost use Rattle.ro_vote.specs.Verdict.{verdict_of, Split};
 ghost use Rattle.ro_core.specs.Core.{may_vote, may_free, views_of};
 ghost use Rattle.ro_core.specs.Legal.{IsAllowed, output_of};
@@ -7,7 +7,7 @@ ghost use Rattle.ro_core.specs.Fields.{Holds, AreSpared, split_end};
 ghost use Rattle.ro_core.specs.Seen.{Appends, Quiet, IsOfMajority, Stays, DecidesVote, DecidesFree, IsSplit};
 ghost use Rattle.ro_core.specs.Runs.{fields_of, job_of, state_of, sent_in, payload_by, bytes_by, WithAnySink, MakesRoom, IsHeld, CanOccur, LastWrote, Notes};
 
-use crate::events::{Event, did_of, happen, serve};
+use crate::events::{Coming, Event, serve};
 use crate::runs::Run;
 use ro_journal::{Entry, How};
 use ro_vote::{Won, verdict};
@@ -18,6 +18,19 @@ use std::alloc::AllocError;
 pub(crate) struct Voted {
     pub entry: Entry,
     pub writer: Option<u32>,
+}
+
+/// An event that has changed the kernel, and what is to be noted of it.
+pub(crate) struct Occurrence {
+    pub thread: u32,
+    pub event: Event,
+    pub entry: Entry,
+    /// By how much the plan grows.
+    pub steps: u64,
+    /// The replica whose payload is written, if any is.
+    pub writer: Option<u32>,
+    /// How many threads there were before it.
+    pub threads: u32,
 }
 
 impl Run {
@@ -102,9 +115,9 @@ impl Run {
         ensures err { OnErr result (WithAnySink Stays self.old self.new) }
     {
         let view = &self.views[won.won as usize];
-        let (count, stop) = (view.since(), *view.stop());
-        let did = did_of(&self.kernel, thread, &stop);
-        let next = u64::from(count) + did.steps();
+        let count = view.since();
+        let coming = Coming::of(&self.kernel, thread, view.stop());
+        let next = u64::from(count) + coming.did.steps();
         if next > self.settings.limit - self.steps {
             let steps = self.steps;
             let entry = self.conclude(How::Limit { steps, next });
@@ -115,17 +128,24 @@ impl Run {
         }
         self.prepare()?;
         let threads = self.kernel.made();
-        let event = happen(self.alloc, &mut self.kernel, thread, &stop)?;
+        let event = coming.happen(self.alloc, &mut self.kernel, thread)?;
         self.seats.heal(&won, threads);
         let entry = Entry::Vote {
             thread,
             count,
             won: won.won,
             lost: won.lost,
-            did,
+            did: coming.did,
         };
-        let writer = writer_of(event.writes, won.won);
-        self.occur(thread, event, entry, next, writer, threads);
+        let writer = event.writes.then_some(won.won);
+        self.occur(Occurrence {
+            thread,
+            event,
+            entry,
+            steps: next,
+            writer,
+            threads,
+        });
         Ok(Voted { entry, writer })
     }
 
@@ -153,7 +173,14 @@ impl Run {
         let threads = self.kernel.made();
         let event = serve(self.alloc, &mut self.kernel, thread, call)?;
         let entry = Entry::Free { thread };
-        self.occur(thread, event, entry, 1, None, threads);
+        self.occur(Occurrence {
+            thread,
+            event,
+            entry,
+            steps: 1,
+            writer: None,
+            threads,
+        });
         Ok(entry)
     }
 
@@ -170,23 +197,23 @@ impl Run {
         Ok(())
     }
 
-    // An event that has changed the kernel is done in every replica and noted, with so many steps and what it writes.
-    fn occur(
-        &mut self,
-        thread: u32,
-        event: Event,
-        entry: Entry,
-        steps: u64,
-        writer: Option<u32>,
-        threads: u32,
-    )
-        requires can { CanOccur self.old thread event entry steps writer threads }
+    // An event that has changed the kernel is done in every replica and noted.
+    fn occur(&mut self, occurrence: Occurrence)
+        requires can { CanOccur self.old occurrence }
         ensures holds { Holds (fields_of self.new) }
         ensures job { job_of self.new ≡ job_of self.old }
-        ensures journal { self.new.journal.items ≡ self.old.journal.items ++ entry ∷ [] }
-        ensures wrote { LastWrote (fields_of self.new) (output_of (job_of self.old) self.old.journal.items) (payload_by self.old.views.items writer) }
+        ensures journal { self.new.journal.items ≡ self.old.journal.items ++ occurrence.entry ∷ [] }
+        ensures wrote { LastWrote (fields_of self.new) (output_of (job_of self.old) self.old.journal.items) (payload_by self.old.views.items occurrence.writer) }
         ensures views { self.new.views.items ≡ self.old.views.items }
     {
+        let Occurrence {
+            thread,
+            event,
+            entry,
+            steps,
+            writer,
+            threads,
+        } = occurrence;
         let written = self.payload(writer).len();
         self.seats.apply(&event.effect, threads);
         self.journal.push_reserved(entry);
@@ -197,8 +224,8 @@ impl Run {
     }
 }
 
-// How a run of so many replicas ends where their views have no majority.
-fn split_of(replicas: usize) -> How
+/// How a run of so many replicas ends where their views have no majority.
+pub(crate) fn split_of(replicas: usize) -> How
     ensures { result ≡ split_end replicas }
 {
     if replicas == 2 {
@@ -206,11 +233,4 @@ fn split_of(replicas: usize) -> How
     } else {
         How::NoMajority
     }
-}
-
-// The replica whose payload is written, where one is.
-fn writer_of(writes: bool, won: u32) -> Option<u32>
-    ensures { result ≡ (if writes then Some won else None) }
-{
-    if writes { Some(won) } else { None }
 }

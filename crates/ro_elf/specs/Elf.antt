@@ -27,12 +27,12 @@ pub record IsLoaded (size : ℕ) (segment : Segment) : Type 0 where
   pub below : segment.address + segment.memory_size ≤ 0x40000000
 
 -- an address is that of one of the segment's bytes
-abbrev pub Holds : Segment → (address : ℕ) → Type 0
-Holds segment address = (segment.address ≤ address) × (address < segment.address + segment.memory_size)
+abbrev pub HasAddress : Segment → (address : ℕ) → Type 0
+HasAddress segment address = (segment.address ≤ address) × (address < segment.address + segment.memory_size)
 
 -- no address is that of bytes of both
 abbrev pub SharesNone : Segment → Segment → Type 0
-SharesNone a b = (address : ℕ) → Holds a address → Holds b address → ⊥
+SharesNone a b = (address : ℕ) → HasAddress a address → HasAddress b address → ⊥
 
 -- how many bytes of memory segments have
 abbrev pub memory_of : List Segment → ℕ

@@ -156,7 +156,7 @@ fn execute<M: Memory>(
 
 /// Executes what a word spells, by one jump, or changes nothing.
 #[inline(always)]
-fn read_and_execute<M: Memory>(
+fn read_and_execute<M: Memory, User>(
     word: u32,
     registers: &mut Bank,
     pc: &mut u32,
@@ -614,10 +614,11 @@ fn read_and_execute<M: Memory>(
 }
 
 /// Does the next instruction of a thread, or changes nothing of the thread and the memory. The stretch is of code that was
-/// found last, and the other two are of data.
+/// found last, and the other two are of data. `User` names whoever calls it: each has an instance of its own then, and so large
+/// a function becomes a part of a loop only where it is called from one place.
 #[tactic(auto, unfolding(crate::specs::Next::next))]
 #[inline(always)]
-pub fn quick_step<M: Memory>(
+pub fn quick_step<M: Memory, User>(
     registers: &mut Bank,
     pc: &mut u32,
     memory: &mut M,
@@ -647,5 +648,5 @@ pub fn quick_step<M: Memory>(
         return false;
     }
     let word = memory.load_at(stretch.place, *pc);
-    read_and_execute(word, registers, pc, memory, reads, writes, regions)
+    read_and_execute::<M, User>(word, registers, pc, memory, reads, writes, regions)
 }

@@ -148,7 +148,7 @@ fn does(
     bank.set(5, DATA);
     bank.set(6, 2);
     let mut pc = CODE;
-    quick_step(
+    quick_step::<Pages, Cpu>(
         &mut bank,
         &mut pc,
         pages,

@@ -11,7 +11,7 @@ use Rattle.ro_text.specs.Lines.{spaced, is_plain, parts_of}
 use Rattle.ro_text.proofs.Spellings.{number_spelled, number_value}
 use Rattle.ro_text.proofs.Plain.{number_plain, words_back, line_back}
 use Rattle.ro_journal.specs.declared.Did.{Did}
-use Rattle.ro_journal.specs.declared.Did.TheVariants.{Served, Blocked, Mapped, Watch, Trapped}
+use Rattle.ro_journal.specs.declared.Did.TheVariants.{Served, Blocked, PageBacked, Watch, Trapped}
 use Rattle.ro_journal.specs.declared.How.{How}
 use Rattle.ro_journal.specs.declared.How.TheVariants.{Exit, Deadlock, Trap, Limit, Differ, NoMajority, Sink}
 use Rattle.ro_journal.specs.declared.losers.Lost.{Lost}
@@ -100,7 +100,7 @@ Back words of x = (list_all is_plain words ≡ true) × (of words ≡ Some x)
 did_back : (did : Did) → (is_plain (did_word did) ≡ true) × (did_of (did_word did) ≡ Some did)
 did_back Served = (refl, refl)
 did_back Blocked = (refl, refl)
-did_back Mapped = (refl, refl)
+did_back PageBacked = (refl, refl)
 did_back Watch = (refl, refl)
 did_back Trapped = (refl, refl)
 

@@ -8,7 +8,7 @@ use Rattle.std.proofs.lemmas.Slice.Eq.{bytes_eq-Decides}
 use Rattle.ro_text.specs.Numbers.{is_number, value_of, within}
 use Rattle.ro_text.proofs.Spellings.{number_once}
 use Rattle.ro_journal.specs.declared.Did.{Did}
-use Rattle.ro_journal.specs.declared.Did.TheVariants.{Served, Blocked, Mapped, Watch, Trapped}
+use Rattle.ro_journal.specs.declared.Did.TheVariants.{Served, Blocked, PageBacked, Watch, Trapped}
 use Rattle.ro_journal.specs.declared.How.{How}
 use Rattle.ro_journal.specs.declared.How.TheVariants.{Exit, Deadlock, Trap, Limit, Differ, NoMajority, Sink}
 use Rattle.ro_journal.specs.declared.losers.Lost.{Lost}
@@ -41,8 +41,8 @@ did_once word did h = elim (pick (bytes_eq word (codes "served")) (Some Served) 
   | inl p ↦ ap did_word (sym (inner Served did p.1)) ∙ sym (same word (codes "served") p.0)
   | inr q ↦ elim (pick (bytes_eq word (codes "blocked")) (Some Blocked) _ did q.1) [
     | inl p ↦ ap did_word (sym (inner Blocked did p.1)) ∙ sym (same word (codes "blocked") p.0)
-    | inr q ↦ elim (pick (bytes_eq word (codes "mapped")) (Some Mapped) _ did q.1) [
-      | inl p ↦ ap did_word (sym (inner Mapped did p.1)) ∙ sym (same word (codes "mapped") p.0)
+    | inr q ↦ elim (pick (bytes_eq word (codes "mapped")) (Some PageBacked) _ did q.1) [
+      | inl p ↦ ap did_word (sym (inner PageBacked did p.1)) ∙ sym (same word (codes "mapped") p.0)
       | inr q ↦ elim (pick (bytes_eq word (codes "watch")) (Some Watch) _ did q.1) [
         | inl p ↦ ap did_word (sym (inner Watch did p.1)) ∙ sym (same word (codes "watch") p.0)
         | inr q ↦ let p = chosen (bytes_eq word (codes "trapped")) (Some Trapped) did q.1 in

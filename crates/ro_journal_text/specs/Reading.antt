@@ -6,7 +6,7 @@ use Rattle.std.specs.Str.{bytes_eq}
 use Rattle.ro_text.specs.Numbers.{is_number, value_of, within}
 use Rattle.ro_text.specs.Lines.{words_of, parts_of}
 use Rattle.ro_journal.specs.declared.Did.{Did}
-use Rattle.ro_journal.specs.declared.Did.TheVariants.{Served, Blocked, Mapped, Watch, Trapped}
+use Rattle.ro_journal.specs.declared.Did.TheVariants.{Served, Blocked, PageBacked, Watch, Trapped}
 use Rattle.ro_journal.specs.declared.How.{How}
 use Rattle.ro_journal.specs.declared.How.TheVariants.{Exit, Deadlock, Trap, Limit, Differ, NoMajority, Sink}
 use Rattle.ro_journal.specs.declared.losers.Lost.{Lost}
@@ -27,7 +27,7 @@ abbrev pub did_of : List ℕ → Option Did
 did_of word =
     if bytes_eq word (codes "served") then Some Served
     else (if bytes_eq word (codes "blocked") then Some Blocked
-    else (if bytes_eq word (codes "mapped") then Some Mapped
+    else (if bytes_eq word (codes "mapped") then Some PageBacked
     else (if bytes_eq word (codes "watch") then Some Watch
     else (if bytes_eq word (codes "trapped") then Some Trapped else None))))
 

@@ -2,7 +2,7 @@
 use Rattle.std.specs.Prelude.{ℕ, List, [], ◌∷◌, ◌++◌, codes, decimal}
 use Rattle.ro_text.specs.Lines.{line_text}
 use Rattle.ro_journal.specs.declared.Did.{Did}
-use Rattle.ro_journal.specs.declared.Did.TheVariants.{Served, Blocked, Mapped, Watch, Trapped}
+use Rattle.ro_journal.specs.declared.Did.TheVariants.{Served, Blocked, PageBacked, Watch, Trapped}
 use Rattle.ro_journal.specs.declared.How.{How}
 use Rattle.ro_journal.specs.declared.How.TheVariants.{Exit, Deadlock, Trap, Limit, Differ, NoMajority, Sink}
 use Rattle.ro_journal.specs.declared.losers.Lost.{Lost}
@@ -15,7 +15,7 @@ use Rattle.ro_journal_text.specs.declared.versions.Version.TheVariants.{First, S
 abbrev pub did_word : Did → List ℕ
 did_word Served = codes "served"
 did_word Blocked = codes "blocked"
-did_word Mapped = codes "mapped"
+did_word PageBacked = codes "mapped"
 did_word Watch = codes "watch"
 did_word Trapped = codes "trapped"
 

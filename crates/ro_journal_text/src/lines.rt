@@ -103,7 +103,7 @@ fn did_word(did: Did) -> &'static str
     match did {
         Did::Served => "served",
         Did::Blocked => "blocked",
-        Did::Mapped => "mapped",
+        Did::PageBacked => "mapped",
         Did::Watch => "watch",
         Did::Trapped => "trapped",
     }

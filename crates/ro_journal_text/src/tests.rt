@@ -106,7 +106,7 @@ const WRITTEN: &[Written] = &[
             count: 1,
             won: 0,
             lost: Lost::Nobody,
-            did: Did::Mapped,
+            did: Did::PageBacked,
         },
         line: "vote 0 1 0 - mapped\n",
     },

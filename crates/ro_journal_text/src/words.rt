@@ -18,7 +18,7 @@ pub(crate) fn read_did(word: &[u8]) -> Option<Did>
     } else if word == b"blocked".as_slice() {
         Some(Did::Blocked)
     } else if word == b"mapped".as_slice() {
-        Some(Did::Mapped)
+        Some(Did::PageBacked)
     } else if word == b"watch".as_slice() {
         Some(Did::Watch)
     } else if word == b"trapped".as_slice() {

@@ -1,7 +1,7 @@
 -- Parts of a plan, one after another.
 use Rattle.std.specs.Prelude.{◌≡◌, ℕ, zero, suc, drop, Result, Ok, Err, IfOk, ◌+◌, ◌<◌, ◌≤◌, List, [], ◌∷◌, ◌++◌, length, take, replicate, ◌-◌, Option, Some}
 use Rattle.std.specs.Option.{option_and_then}
-use Rattle.std.proofs.Common.{refl, sym, ap, ◌∙◌, subst, arith, inl, inr, append_assoc, append-nil, length-append, get_or}
+use Rattle.std.proofs.Common.{refl, sym, ap, ◌∙◌, subst, arith, append_assoc, append-nil, length-append, get_or}
 use Rattle.std.proofs.lemmas.List.{replicate-append-replicate, length-replicate}
 use Rattle.ro_journal.specs.declared.Entry.{Entry}
 use Rattle.ro_journal.specs.Plan.{entry_plan, plan_of}
@@ -59,25 +59,24 @@ module _ (old mid : PlainOf) (xs ys : List ℕ) (h g k : Option (List ℕ)) (s t
     bytes_are = omega (arith, p.bytes_are, q.bytes_are, length-append p.bytes q.bytes);
   }
 
-  rose : (before between after : ℕ) → before ≤ between → Rose between after → Rose before after
-  rose before between after less (inl e) = inl (omega arith)
-  rose before between after less (inr e) = inr e
-
   -- a part was run, and the next one halts
-  pub halts-later : (before between after : ℕ) (e : PlanErr) → before ≤ between → Halts mid ys g k t between after e → Halts old (xs ++ ys) h k s before after e
-  halts-later before between after (NoStep place) less q = record {
-    played = xs ++ q.played;
-    thread = q.thread;
-    rest = q.rest;
-    mid = q.mid;
-    bytes = p.bytes ++ q.bytes;
-    all = ap (λ r. xs ++ r) q.all ∙ sym (append_assoc xs q.played (q.thread ∷ q.rest));
-    plays = plays-join old mid q.mid xs q.played p.bytes q.bytes p.plays q.plays;
-    none = q.none;
-    place_is = omega (arith, p.steps_are, q.place_is, length-append xs q.played);
-    held = q.held ∙ (ap (λ x. more x q.bytes) p.held ∙ more-more h p.bytes q.bytes);
-  }
-  halts-later before between after (SinkFailed taken) less (q, r) = (
+  pub halts-later : (before between after : ℕ) (e : PlanErr) → between ≡ before → Halts mid ys g k t between after e → Halts old (xs ++ ys) h k s before after e
+  halts-later before between after (NoStep place) same (q, calm) = (
+    record {
+      played = xs ++ q.played;
+      thread = q.thread;
+      rest = q.rest;
+      mid = q.mid;
+      bytes = p.bytes ++ q.bytes;
+      all = ap (λ r. xs ++ r) q.all ∙ sym (append_assoc xs q.played (q.thread ∷ q.rest));
+      plays = plays-join old mid q.mid xs q.played p.bytes q.bytes p.plays q.plays;
+      none = q.none;
+      place_is = omega (arith, p.steps_are, q.place_is, length-append xs q.played);
+      held = q.held ∙ (ap (λ x. more x q.bytes) p.held ∙ more-more h p.bytes q.bytes);
+    },
+    calm ∙ same,
+  )
+  halts-later before between after (SinkFailed taken) same (q, r) = (
     record {
       played = xs ++ q.played;
       thread = q.thread;
@@ -91,32 +90,38 @@ module _ (old mid : PlainOf) (xs ys : List ℕ) (h g k : Option (List ℕ)) (s t
       short = q.short;
       held = q.held ∙ (ap (λ x. more x (q.bytes ++ take taken q.after.written)) p.held ∙ (more-more h p.bytes (q.bytes ++ take taken q.after.written) ∙ ap (more h) (sym (append_assoc p.bytes q.bytes (take taken q.after.written)))));
     },
-    rose before between after less r,
+    subst (λ (n : ℕ). Rose n after) same r,
   )
-  halts-later before between after NoMemory less q = record {
-    played = xs ++ q.played;
-    rest = q.rest;
-    mid = q.mid;
-    bytes = p.bytes ++ q.bytes;
-    all = ap (λ r. xs ++ r) q.all ∙ sym (append_assoc xs q.played q.rest);
-    plays = plays-join old mid q.mid xs q.played p.bytes q.bytes p.plays q.plays;
-    held = q.held ∙ (ap (λ x. more x q.bytes) p.held ∙ more-more h p.bytes q.bytes);
-  }
+  halts-later before between after NoMemory same (q, calm) = (
+    record {
+      played = xs ++ q.played;
+      rest = q.rest;
+      mid = q.mid;
+      bytes = p.bytes ++ q.bytes;
+      all = ap (λ r. xs ++ r) q.all ∙ sym (append_assoc xs q.played q.rest);
+      plays = plays-join old mid q.mid xs q.played p.bytes q.bytes p.plays q.plays;
+      held = q.held ∙ (ap (λ x. more x q.bytes) p.held ∙ more-more h p.bytes q.bytes);
+    },
+    calm ∙ same,
+  )
 
 -- a part halts, whatever comes after it
 pub halts-sooner : (old : PlainOf) (xs ys : List ℕ) (h k : Option (List ℕ)) (s before after : ℕ) (e : PlanErr) → Halts old xs h k s before after e → Halts old (xs ++ ys) h k s before after e
-halts-sooner old xs ys h k s before after (NoStep place) q = record {
-  played = q.played;
-  thread = q.thread;
-  rest = q.rest ++ ys;
-  mid = q.mid;
-  bytes = q.bytes;
-  all = ap (λ r. r ++ ys) q.all ∙ append_assoc q.played (q.thread ∷ q.rest) ys;
-  plays = q.plays;
-  none = q.none;
-  place_is = q.place_is;
-  held = q.held;
-}
+halts-sooner old xs ys h k s before after (NoStep place) (q, calm) = (
+  record {
+    played = q.played;
+    thread = q.thread;
+    rest = q.rest ++ ys;
+    mid = q.mid;
+    bytes = q.bytes;
+    all = ap (λ r. r ++ ys) q.all ∙ append_assoc q.played (q.thread ∷ q.rest) ys;
+    plays = q.plays;
+    none = q.none;
+    place_is = q.place_is;
+    held = q.held;
+  },
+  calm,
+)
 halts-sooner old xs ys h k s before after (SinkFailed taken) (q, r) = (
   record {
     played = q.played;
@@ -133,15 +138,18 @@ halts-sooner old xs ys h k s before after (SinkFailed taken) (q, r) = (
   },
   r,
 )
-halts-sooner old xs ys h k s before after NoMemory q = record {
-  played = q.played;
-  rest = q.rest ++ ys;
-  mid = q.mid;
-  bytes = q.bytes;
-  all = ap (λ r. r ++ ys) q.all ∙ append_assoc q.played q.rest ys;
-  plays = q.plays;
-  held = q.held;
-}
+halts-sooner old xs ys h k s before after NoMemory (q, calm) = (
+  record {
+    played = q.played;
+    rest = q.rest ++ ys;
+    mid = q.mid;
+    bytes = q.bytes;
+    all = ap (λ r. r ++ ys) q.all ∙ append_assoc q.played q.rest ys;
+    plays = q.plays;
+    held = q.held;
+  },
+  calm,
+)
 
 -- the first step halts
 pub lacks-first : (old : PlainOf) (thread : ℕ) (h : Option (List ℕ)) (s : ℕ) → HasNoStep old thread → LacksOne old (thread ∷ []) h h s s
@@ -170,12 +178,12 @@ part-counted old new thread ran h k s t a b p =
 
 -- the part that was run, by the counts of steps, and what is left of all steps
 pub halts-left : (old mid : PlainOf) (thread count : ℕ) (h g k : Option (List ℕ)) (s t a b before between after : ℕ) (e : PlanErr) → s ≤ t → t ≤ s + count
-    → Played old (replicate (t - s) thread) mid h g s t a b → before ≤ between → Halts mid (replicate ((s + count) - t) thread) g k t between after e → Halts old (replicate count thread) h k s before after e
-halts-left old mid thread count h g k s t a b before between after e one other p less q =
+    → Played old (replicate (t - s) thread) mid h g s t a b → between ≡ before → Halts mid (replicate ((s + count) - t) thread) g k t between after e → Halts old (replicate count thread) h k s before after e
+halts-left old mid thread count h g k s t a b before between after e one other p same q =
     let whole : replicate (t - s) thread ++ replicate ((s + count) - t) thread ≡ replicate count thread =
     more-of thread s t (s + count) one other ∙ ap (λ n. replicate n thread) (let m : (s + count) - s ≡ count = omega arith in m) in
     subst (λ (xs : List ℕ). Halts old xs h k s before after e) whole
-    (halts-later old mid (replicate (t - s) thread) (replicate ((s + count) - t) thread) h g k s t 0 a b 0 p before between after e less q)
+    (halts-later old mid (replicate (t - s) thread) (replicate ((s + count) - t) thread) h g k s t 0 a b 0 p before between after e same q)
 
 -- one part more of many steps
 pub played-more : (old mid new : PlainOf) (thread : ℕ) (h g k : Option (List ℕ)) (s t u a b c : ℕ) → s ≤ t → t ≤ u

@@ -47,15 +47,17 @@ module _ (program : Program) (old : PlainOf) (same : old.program ≡ program) (s
 
   -- why the plan was not run to its end
   pub fails : (plan : List ℕ) (h k : Option (List ℕ)) (before after : ℕ) (e : PlanErr) → Halts old plan h k 0 before after e → Fails program plan h k before after e
-  fails plan h k before after (NoStep place) q =
-      let at : length q.played ≡ place = omega (arith, q.place_is) in
-      subst (LacksStep program plan h k) at (record {
-        machine = machine_of q.mid q.bytes;
-        reaches = reached plan q.played (q.thread ∷ q.rest) q.bytes q.mid q.all q.plays;
-        within = within-there plan q.played q.rest q.thread q.all;
-        none = step-there plan q.played q.rest q.thread q.mid q.bytes None q.all q.plays (q.none q.bytes);
-        held = q.held;
-      })
+  fails plan h k before after (NoStep place) (q, calm) =
+      let at : length q.played ≡ place = omega (arith, q.place_is) in (
+        subst (LacksStep program plan h k) at (record {
+          machine = machine_of q.mid q.bytes;
+          reaches = reached plan q.played (q.thread ∷ q.rest) q.bytes q.mid q.all q.plays;
+          within = within-there plan q.played q.rest q.thread q.all;
+          none = step-there plan q.played q.rest q.thread q.mid q.bytes None q.all q.plays (q.none q.bytes);
+          held = q.held;
+        }),
+        calm,
+      )
   fails plan h k before after (SinkFailed taken) (q, r) = (
     record {
       place = length q.played;
@@ -71,12 +73,15 @@ module _ (program : Program) (old : PlainOf) (same : old.program ≡ program) (s
     },
     r,
   )
-  fails plan h k before after NoMemory q = record {
-    place = length q.played;
-    machine = machine_of q.mid q.bytes;
-    reaches = reached plan q.played q.rest q.bytes q.mid q.all q.plays;
-    held = q.held;
-  }
+  fails plan h k before after NoMemory (q, calm) = (
+    record {
+      place = length q.played;
+      machine = machine_of q.mid q.bytes;
+      reaches = reached plan q.played q.rest q.bytes q.mid q.all q.plays;
+      held = q.held;
+    },
+    calm,
+  )
 
   -- the plan was run to its end
   pub runs-plan : (new : PlainOf) (plan : List ℕ) (h k : Option (List ℕ)) (s t b : ℕ) (how : Option How) → Played old plan new h k s t 0 b → ((output : List ℕ) → EndsAs new.program (machine_of new output) new.ended how) → RunsPlan program plan h k how b

@@ -53,8 +53,8 @@ pub record StopsIn (old : PlainOf) (threads : List ℕ) (held_before held_after 
   pub plays : Plays old played mid bytes
   pub held : held_after ≡ more held_before bytes
 
--- why these steps were not all run
+-- Why these steps were not all run, where the sink's count of failures went from one number to the other: it stays where the sink didn't fail.
 abbrev pub Halts : (old : PlainOf) → (threads : List ℕ) → (held_before held_after : Option (List ℕ)) → (steps before after : ℕ) → PlanErr → Type 0
-Halts old threads h g steps before after (NoStep place) = LacksOne old threads h g steps place
+Halts old threads h g steps before after (NoStep place) = LacksOne old threads h g steps place × (after ≡ before)
 Halts old threads h g steps before after (SinkFailed taken) = BreaksIn old threads h g taken × Rose before after
-Halts old threads h g steps before after NoMemory = StopsIn old threads h g
+Halts old threads h g steps before after NoMemory = StopsIn old threads h g × (after ≡ before)

@@ -66,8 +66,9 @@ pub record StopsShort (program : Program) (plan : List ℕ) (old new : Option (L
   pub reaches : Reaches program plan place machine
   pub held : new ≡ more old machine.output
 
--- why a plan was not run to its end, where the sink's count of failures went from one number to the other
+-- Why a plan was not run to its end, where the sink's count of failures went from one number to the other: it stays where the sink
+-- didn't fail.
 abbrev pub Fails : Program → (plan : List ℕ) → (old new : Option (List ℕ)) → (before after : ℕ) → PlanErr → Type 0
-Fails program plan old new before after (NoStep place) = LacksStep program plan old new place
+Fails program plan old new before after (NoStep place) = LacksStep program plan old new place × (after ≡ before)
 Fails program plan old new before after (SinkFailed taken) = BreaksOff program plan old new taken × Rose before after
-Fails program plan old new before after NoMemory = StopsShort program plan old new
+Fails program plan old new before after NoMemory = StopsShort program plan old new × (after ≡ before)

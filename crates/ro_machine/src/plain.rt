@@ -202,7 +202,7 @@ impl Plain {
         ensures same { result ≡ None → SameMachine (closed self.new lane.new) (closed self.old lane.old) }
     {
         let look = look_quickly(lane, &self.pages)?;
-        let done = quick_step(
+        let done = quick_step::<Pages, Lane>(
             &mut lane.registers,
             &mut lane.pc,
             &mut self.pages,

@@ -28,6 +28,7 @@ pub(crate) fn play_one<K: Sink>(
     requires bytes { progress.bytes ≤ 4096 * progress.steps }
     ensures bytes { IfOk result (λ p. p.bytes ≤ 4096 * p.steps) }
     ensures failures { K.failures out.old ≤ K.failures out.new }
+    ensures calm { IfOk result (λ _. K.failures out.new ≡ K.failures out.old) }
     ensures played { IfOk result (λ p. Played plain.old (thread ∷ []) plain.new (K.held out.old) (K.held out.new) progress.steps p.steps progress.bytes p.bytes) }
     ensures halts { IfErr result (Halts plain.old (thread ∷ []) (K.held out.old) (K.held out.new) progress.steps (K.failures out.old) (K.failures out.new)) }
 {
@@ -66,6 +67,7 @@ fn play_part<K: Sink>(
     ensures most { IfOk result (λ p. p.steps ≤ progress.steps + most) }
     ensures bytes { IfOk result (λ p. p.bytes ≤ 4096 * p.steps) }
     ensures failures { K.failures out.old ≤ K.failures out.new }
+    ensures calm { IfOk result (λ _. K.failures out.new ≡ K.failures out.old) }
     ensures played { IfOk result (λ p. Played plain.old (replicate (p.steps - progress.steps) thread) plain.new (K.held out.old) (K.held out.new) progress.steps p.steps progress.bytes p.bytes) }
     ensures halts { IfErr result (Halts plain.old (replicate most thread) (K.held out.old) (K.held out.new) progress.steps (K.failures out.old) (K.failures out.new)) }
 {
@@ -92,6 +94,7 @@ fn play<K: Sink>(
     requires bytes { progress.bytes ≤ 4096 * progress.steps }
     ensures bytes { IfOk result (λ p. p.bytes ≤ 4096 * p.steps) }
     ensures failures { K.failures out.old ≤ K.failures out.new }
+    ensures calm { IfOk result (λ _. K.failures out.new ≡ K.failures out.old) }
     ensures played { IfOk result (λ p. Played plain.old (replicate count thread) plain.new (K.held out.old) (K.held out.new) progress.steps p.steps progress.bytes p.bytes) }
     ensures halts { IfErr result (Halts plain.old (replicate count thread) (K.held out.old) (K.held out.new) progress.steps (K.failures out.old) (K.failures out.new)) }
 {
@@ -115,6 +118,7 @@ fn play_entry<K: Sink>(
     requires bytes { progress.bytes ≤ 4096 * progress.steps }
     ensures bytes { IfOk result (λ p. p.bytes ≤ 4096 * p.steps) }
     ensures failures { K.failures out.old ≤ K.failures out.new }
+    ensures calm { IfOk result (λ _. K.failures out.new ≡ K.failures out.old) }
     ensures played { IfOk result (λ p. Played plain.old (entry_plan entry.now) plain.new (K.held out.old) (K.held out.new) progress.steps p.steps progress.bytes p.bytes) }
     ensures halts { IfErr result (Halts plain.old (entry_plan entry.now) (K.held out.old) (K.held out.new) progress.steps (K.failures out.old) (K.failures out.new)) }
 {
@@ -143,6 +147,7 @@ fn play_vote<K: Sink>(
     requires bytes { progress.bytes ≤ 4096 * progress.steps }
     ensures bytes { IfOk result (λ p. p.bytes ≤ 4096 * p.steps) }
     ensures failures { K.failures out.old ≤ K.failures out.new }
+    ensures calm { IfOk result (λ _. K.failures out.new ≡ K.failures out.old) }
     ensures played { IfOk result (λ p. Played plain.old (replicate count thread ++ replicate event thread) plain.new (K.held out.old) (K.held out.new) progress.steps p.steps progress.bytes p.bytes) }
     ensures halts { IfErr result (Halts plain.old (replicate count thread ++ replicate event thread) (K.held out.old) (K.held out.new) progress.steps (K.failures out.old) (K.failures out.new)) }
 {
@@ -158,6 +163,7 @@ pub(crate) fn play_all<K: Sink>(
 ) -> Result<Progress, PlanErr>
     requires { length (plan_of journal.now) ≤ 1000000000 }
     ensures failures { K.failures out.old ≤ K.failures out.new }
+    ensures calm { IfOk result (λ _. K.failures out.new ≡ K.failures out.old) }
     ensures played { IfOk result (λ p. Played plain.old (plan_of journal.now) plain.new (K.held out.old) (K.held out.new) 0 p.steps 0 p.bytes) }
     ensures halts { IfErr result (Halts plain.old (plan_of journal.now) (K.held out.old) (K.held out.new) 0 (K.failures out.old) (K.failures out.new)) }
 {

@@ -1,5 +1,5 @@
 //! Running the plan of a journal.
-ghost use Rattle.std.specs.Prelude.{ℕ, List, ◌≤◌, IfOk, IfErr, length};
+ghost use Rattle.std.specs.Prelude.{◌≡◌, ℕ, List, ◌≤◌, IfOk, IfErr, length};
 ghost use Rattle.ro_journal.specs.Plan.{plan_of};
 ghost use Rattle.ro_machine.specs.Seen.{machine_of};
 ghost use Rattle.ro_machine.specs.Plans.{RunsPlan, Fails, EndsAs};
@@ -17,7 +17,7 @@ use std::alloc::{AllocError, Global};
 ///
 /// # Errors
 /// `NoStep` at the plan's first step that does not exist, `SinkFailed` where the sink failed, and `NoMemory`. The steps
-/// before it were taken, and the sink has what they wrote.
+/// before it were taken, and the sink has what they wrote. Its count of failures rose with `SinkFailed` alone.
 pub fn run_plan<K: Sink>(
     alloc: Global,
     image: Executable,
@@ -28,6 +28,7 @@ pub fn run_plan<K: Sink>(
     requires { length (plan_of journal.now) ≤ 1000000000 }
     ensures runs { IfOk result (λ end. RunsPlan (record { image = image; input = input.now }) (plan_of journal.now) (K.held out.old) (K.held out.new) end.how end.bytes) }
     ensures fails { IfErr result (Fails (record { image = image; input = input.now }) (plan_of journal.now) (K.held out.old) (K.held out.new) (K.failures out.old) (K.failures out.new)) }
+    ensures calm { IfOk result (λ _. K.failures out.new ≡ K.failures out.old) }
     ensures failures { K.failures out.old ≤ K.failures out.new }
 {
     let Ok(mut plain) = Plain::begin(alloc, image, input) else {

@@ -2,20 +2,20 @@
 use Rattle.std.specs.Prelude.{◌≡◌, ◌<◌, ℕ, IsTrue, IsSome, List, [], ◌∷◌, ◌++◌, None, Result, Ok}
 use Rattle.std.specs.declared.alloc.AllocError.{AllocError}
 use Rattle.ro_journal.specs.declared.Entry.{Entry}
-use Rattle.ro_journal.specs.declared.Entry.TheVariants.{Take, Put, Vote, Free, End}
+use Rattle.ro_journal.specs.declared.Entry.TheVariants.{Take, Put, End}
 use Rattle.ro_journal.specs.declared.How.{How}
 use Rattle.ro_core.specs.declared.actions.Action.{Action}
 use Rattle.ro_core.specs.declared.actions.Action.TheVariants as act
 use Rattle.ro_core.specs.Core.{Job, Core, is_idle}
 use Rattle.ro_core.specs.Legal.{replay}
 use Rattle.ro_core.specs.Action.{next_action}
+use Rattle.ro_core.specs.Driven.{IsDriven, Goes, KeepsLast, Names}
 use Rattle.ro_core.specs.Seen.{CoreOf, state, Appends, Stays, IsLent, MayReturn, DecidesVote, DecidesFree}
 use Rattle.ro_post.specs.declared.posts.Turn.{Turn}
 use Rattle.ro_post.specs.Turns.{MatchLeased}
 use Rattle.ro_post.specs.declared.posts.Turn.TheVariants as a
 use Rattle.ro_master.specs.History.{Turned, turned, journal_of}
 use Rattle.ro_master.specs.Passes.{CountOf, PassOf, Knew, added, shown}
-use Rattle.ro_master.specs.Driven.{IsDriven, Goes, KeepsLast}
 use Rattle.ro_lease.specs.Loans.{LentOf, BackOf, Gives}
 
 -- the core, and the count of its journal
@@ -23,14 +23,7 @@ pub record DeskOf : Type 0 where
   pub core : CoreOf
   pub count : CountOf
 
--- an entry of a take or a put names the driver that appended it
-abbrev pub Names : ℕ → Entry → Type 0
-Names by (Take driver replica thread) = driver ≡ by
-Names by (Put driver replica thread count hit) = driver ≡ by
-Names by (Vote thread count won lost did) = Unit {0}
-Names by (Free thread) = Unit {0}
-Names by (End how) = Unit {0}
-
+-- each entry of a take or a put names the driver that appended it
 abbrev pub Owned : List Turned → Type 0
 Owned [] = Unit {0}
 Owned (t ∷ ts) = Names t.by t.entry × Owned ts

@@ -38,7 +38,7 @@ impl<K: Sink, N: Naming> Model for Desk<K, N> {
 
 impl<K: Sink, N: Naming> Desk<K, N> {
     ghost use Rattle.ro_master.specs.Passes.{empty_count, shown, Knew};
-    ghost use Rattle.ro_master.specs.Driven.{CanRun};
+    ghost use Rattle.ro_core.specs.Driven.{CanRun};
     ghost use Rattle.ro_master.specs.Desks.{AtRest, MayGiveBack, Moved, Looked, IsLoan, Decides, TurnIs, PutIs, TakesMemory, Rests, IsOver, AnswersOver, Tied};
 
     /// A desk for a core that was just opened, whose passes have their numbers.

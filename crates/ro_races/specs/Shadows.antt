@@ -70,6 +70,13 @@ pub record Marks (old : Shadow) (span : Span) (thread place : ℕ) (new : Shadow
   pub inside : (byte : ℕ) → within span byte ≡ true → IsStepped (marks_at old byte) thread place (marks_at new byte)
   pub outside : (byte : ℕ) → within span byte ≡ false → (other : ℕ) → marks_at new byte other ≡ marks_at old byte other
 
+-- the bytes that a step loads, and those of its instruction, have one more mark of reads, and those that it stores one of writes
+pub record MarksAll (reads writes : Shadow) (step : Watched) (thread place : ℕ) (new_reads new_writes : Shadow) : Type 0 where
+  pub between : Shadow
+  pub loads : Marks reads (span_of step.loaded) thread place between
+  pub fetches : Marks between (span_of step.code) thread place new_reads
+  pub stores : Marks writes (span_of step.stored) thread place new_writes
+
 -- a mark at a byte that a clock does not know of
 pub record IsHit (table : Shadow) (span : Span) (past : ClockOf) (mark byte : ℕ) : Type 0 where
   pub thread : ℕ

@@ -5,7 +5,7 @@ ghost use Rattle.ro_machine.specs.Watched.{sync_of_relation};
 ghost use Rattle.ro_races.specs.Clocks.{learns_from as learns, passes_to as passes};
 ghost use Rattle.ro_machine.specs.Lanes.{IsOpen};
 ghost use Rattle.ro_races.specs.Seen.{seen_by, IsPast, PassesOn, IsOwn};
-ghost use Rattle.ro_races.specs.Shadows.{IsTable, IsFirstOf, AnyHit};
+ghost use Rattle.ro_races.specs.Shadows.{IsTable, IsFirstOf, AnyHit, MarksAll};
 ghost use Rattle.ro_races.specs.Follows.{Follows, Lacks, notes, put_back};
 
 use crate::found::{Found, RacesErr};
@@ -62,9 +62,14 @@ pub(crate) fn check_quickly(
     let past = &checker.rows[own].clock;
     let hit = hit_of(&checker.reads, &checker.writes, &watched, past);
     checker.rows[own].clock.advance(thread, place);
-    mark(alloc, &mut checker.reads, watched.loaded, thread, place)?;
-    mark(alloc, &mut checker.reads, watched.code, thread, place)?;
-    mark(alloc, &mut checker.writes, watched.stored, thread, place)?;
+    mark_all(
+        alloc,
+        &mut checker.reads,
+        &mut checker.writes,
+        &watched,
+        thread,
+        place,
+    )?;
     checker.found = noted(checker.found, hit, place);
     checker.steps += 1;
     Ok(true)
@@ -96,24 +101,11 @@ pub(crate) fn check_step(alloc: Global, checker: &mut Checker, thread: u32) -> R
     let mut past = past_of(checker.rows.as_slice(), thread, watched.relation);
     let hit = hit_of(&checker.reads, &checker.writes, &watched, &past);
     past.advance(thread, checker.steps);
-    mark(
+    mark_all(
         alloc,
         &mut checker.reads,
-        watched.loaded,
-        thread,
-        checker.steps,
-    )?;
-    mark(
-        alloc,
-        &mut checker.reads,
-        watched.code,
-        thread,
-        checker.steps,
-    )?;
-    mark(
-        alloc,
         &mut checker.writes,
-        watched.stored,
+        &watched,
         thread,
         checker.steps,
     )?;
@@ -170,6 +162,36 @@ fn hit_among(reads: &Table, writes: &Table, watched: &Watched, past: &Clock) -> 
     let stored = first_hit(writes, watched.stored, past);
     let read = first_hit(reads, watched.stored, past);
     better(better(loaded, code), better(stored, read))
+}
+
+/// Marks all that the step of a thread at a place accessed.
+///
+/// # Errors
+/// Where there is no memory.
+#[inline(always)]
+fn mark_all(
+    alloc: Global,
+    reads: &mut Table,
+    writes: &mut Table,
+    watched: &Watched,
+    thread: u32,
+    place: u32,
+) -> Result<(), AllocError>
+    requires reads { IsTable reads.old.items }
+    requires writes { IsTable writes.old.items }
+    requires loaded { watched.now.loaded.count ≤ 4096 }
+    requires code { watched.now.code.count ≤ 4096 }
+    requires stored { watched.now.stored.count ≤ 4096 }
+    requires thread { thread < 16 }
+    requires place { place + 1 < 2 ^ 32 }
+    ensures reads { IsTable reads.new.items }
+    ensures writes { IsTable writes.new.items }
+    ensures marks { OnOk result (MarksAll reads.old.items writes.old.items watched.now thread place reads.new.items writes.new.items) }
+{
+    mark(alloc, reads, watched.loaded, thread, place)?;
+    mark(alloc, reads, watched.code, thread, place)?;
+    mark(alloc, writes, watched.stored, thread, place)?;
+    Ok(())
 }
 
 /// Keeps what a step knows for its thread's next step, and passes it on to what else it means.

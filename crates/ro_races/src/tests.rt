@@ -257,7 +257,7 @@ fn run(
 fn bytes_of_a_page(rt: HostRuntime) -> Result<(), Fail> {
     let journal = [
         vote(0, 6, Did::Served),
-        vote(0, 1, Did::Mapped),
+        vote(0, 1, Did::PageBacked),
         vote(0, 4, Did::Blocked),
         vote(1, 4, Did::Served),
         Entry::Free { thread: 0 },

@@ -1,6 +1,6 @@
 //! The ranges and their windows together.
 ghost use Rattle.std.specs.Prelude.{ℕ, ◌≡◌, ◌+◌, ◌-◌, ◌*◌, ◌%◌, ◌^◌, ◌<◌, ◌≤◌, true, IsTrue, IfOk};
-ghost use Rattle.ro_region.specs.Permission.{is_mapped, permits_byte, permits_each, permits_of};
+ghost use Rattle.ro_region.specs.Permission.{lies_in_range, permits_byte, permits_each, permits_of};
 ghost use Rattle.ro_region.specs.Windows.{IsOpen};
 
 use crate::windows::{Window, Windows};
@@ -96,7 +96,7 @@ impl Regions {
 
     /// Whether a byte lies in a range, whatever that permits.
     pub fn contains(&self, address: u32) -> bool
-        ensures { result ≡ is_mapped self.now address }
+        ensures { result ≡ lies_in_range self.now address }
     {
         self.ranges.iter().any(|range| range.contains(address))
     }

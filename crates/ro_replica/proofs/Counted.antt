@@ -11,7 +11,7 @@ use Rattle.ro_thread.specs.declared.Thread.{Thread}
 use Rattle.ro_thread.specs.Stops.{standing}
 use Rattle.ro_thread.specs.Runs.{Running, IsRun, after_instruction, after_next, one_instruction, instructions}
 use Rattle.ro_replica.specs.Replica.{Replica}
-use Rattle.ro_replica.specs.Runs.{Ran, is_due}
+use Rattle.ro_replica.specs.Runs.{RanTo, is_due}
 use Rattle.ro_replica.specs.Rounds.{IsStruck}
 use Rattle.ro_replica.proofs.Strikes.{NoneDue, strike_at, struck_is}
 use Rattle.ro_replica.proofs.Segments.{one_is_done}
@@ -59,7 +59,7 @@ instructions_watched layout watchdog backed (suc n) running after watched e = by
 pub none_due : (layout : Layout) (replica : Replica) (thread : ℕ) (x : Thread) → slice_get replica.threads thread ≡ Some x → IsStruck layout replica thread → NoneDue thread x.done replica
 none_due layout replica thread x there is =
     empty (filter (is_due thread x.done) replica.waiting)
-    (ap (λ (ran : Ran). ran.hit) (sym (struck_is layout.ranges replica thread ∙ ap (strike_at layout.ranges thread replica) (ap (option_map (λ (t : Thread). t.done)) there)) ∙ is))
+    (ap (λ (ran : RanTo). ran.hit) (sym (struck_is layout.ranges replica thread ∙ ap (strike_at layout.ranges thread replica) (ap (option_map (λ (t : Thread). t.done)) there)) ∙ is))
   where
     empty : (faults : List Fault) → length faults ≡ 0 → faults ≡ []
     empty [] h = refl

@@ -17,7 +17,7 @@ use Rattle.ro_thread.specs.declared.Thread.{Thread}
 use Rattle.ro_thread.specs.Stops.{standing}
 use Rattle.ro_thread.specs.Runs.{Running, IsRun}
 use Rattle.ro_replica.specs.Replica.{Replica}
-use Rattle.ro_replica.specs.Runs.{Ran, is_due, struck, plus_hit, run_of, standing_in, standing_at}
+use Rattle.ro_replica.specs.Runs.{RanTo, is_due, struck, plus_hit, run_of, standing_in, standing_at}
 use Rattle.ro_replica.specs.Rounds.{IsStruck, Leads}
 use Rattle.ro_replica.specs.Seen.{ReplicaOf, replica_of, SameProgram, CanCount, IsReplica}
 use Rattle.ro_replica.proofs.Elements.{get_set}
@@ -94,7 +94,7 @@ advanced_countable value old thread most until count x end held stop value_is wi
 pub countable_struck : (mid new : ReplicaOf) (thread n hit : ℕ) → struck mid.layout.ranges (replica_of mid) thread ≡ record { replica = replica_of new; hit = hit } → CanCount n mid thread → CanCount n new thread
 countable_struck mid new thread n hit is can =
     by (slice_get mid.threads thread) (slice_get new.threads thread)
-    (sym (ap (λ (ran : Ran). done_at thread ran.replica) (sym is) ∙ struck_done mid.layout.ranges (replica_of mid) thread)) can
+    (sym (ap (λ (ran : RanTo). done_at thread ran.replica) (sym is) ∙ struck_done mid.layout.ranges (replica_of mid) thread)) can
   where
     by : (o p : Option Thread) → option_map (λ (t : Thread). t.done) o ≡ option_map (λ (t : Thread). t.done) p → IfSome o (λ t. t.done + n < 2 ^ 128) → IfSome p (λ t. t.done + n < 2 ^ 128)
     by o None e h = tt
@@ -104,7 +104,7 @@ countable_struck mid new thread n hit is can =
 pub struck_now : (mid new : ReplicaOf) (thread hit : ℕ) → new.layout ≡ mid.layout → struck mid.layout.ranges (replica_of mid) thread ≡ record { replica = replica_of new; hit = hit } → IsStruck new.layout (replica_of new) thread
 struck_now mid new thread hit layout is =
     ap (λ (l : Layout). struck l.ranges (replica_of new) thread) layout
-    ∙ subst (λ (ran : Ran). struck mid.layout.ranges ran.replica thread ≡ record { replica = ran.replica; hit = 0 }) is (struck_twice mid.layout.ranges (replica_of mid) thread)
+    ∙ subst (λ (ran : RanTo). struck mid.layout.ranges ran.replica thread ≡ record { replica = ran.replica; hit = 0 }) is (struck_twice mid.layout.ranges (replica_of mid) thread)
 
 -- a strike behind a part of a run
 pub leads_struck : (layout : Layout) (watchdog thread most : ℕ) (old mid new : Replica) (count hit : ℕ) (stop : Option Stop) → Leads layout watchdog thread most old mid count 0 stop → struck layout.ranges mid thread ≡ record { replica = new; hit = hit }
@@ -112,7 +112,7 @@ pub leads_struck : (layout : Layout) (watchdog thread most : ℕ) (old mid new :
 leads_struck layout watchdog thread most old mid new count hit stop leads is =
     record {
       leads = λ rest. leads.leads rest ∙ plus_none (run_of layout watchdog rest mid thread) ∙ run_of_struck layout watchdog rest mid thread
-          ∙ ap (λ (ran : Ran). option_map (plus_hit ran.hit) (run_of layout watchdog rest ran.replica thread)) is;
+          ∙ ap (λ (ran : RanTo). option_map (plus_hit ran.hit) (run_of layout watchdog rest ran.replica thread)) is;
       arrives = by leads.arrives;
     }
   where
@@ -120,7 +120,7 @@ leads_struck layout watchdog thread most old mid new count hit stop leads is =
         → ((stop ≡ None) × (0 < count) × (count ≤ most)) ⊎ ((count < most) × IsSome stop × (stop ≡ standing_at layout watchdog new thread) × IsStruck layout new thread)
     by (inl h) = inl h
     by (inr (early, is_some, at, nothing)) =
-        let same : mid ≡ new = ap (λ (ran : Ran). ran.replica) (sym nothing ∙ is) in
+        let same : mid ≡ new = ap (λ (ran : RanTo). ran.replica) (sym nothing ∙ is) in
         inr (early, is_some, at ∙ ap (λ (r : Replica). standing_at layout watchdog r thread) same, subst (λ (r : Replica). IsStruck layout r thread) same nothing)
 
 pub with_ranges : (ranges other : List Range) (calls : CallTable) (watchdog : ℕ) (backed : Backed) (most count : ℕ) (stop : Option Stop) (old new : Running) → ranges ≡ other

@@ -6,28 +6,28 @@ use Rattle.ro_exec.specs.Next.{Layout, Backed, Next, Stands, Executes, next}
 use Rattle.ro_thread.specs.declared.Thread.{Thread}
 use Rattle.ro_thread.specs.Runs.{Running, after_instruction, after_next, one_instruction, instructions}
 use Rattle.ro_replica.specs.Replica.{Replica}
-use Rattle.ro_replica.specs.Runs.{Ran, struck, execute_next, execute_at, execute, plus_hit, run_of}
+use Rattle.ro_replica.specs.Runs.{RanTo, struck, execute_next, execute_at, execute, plus_hit, run_of}
 use Rattle.ro_replica.proofs.Elements.{get_set, set_twice, set_itself}
 use Rattle.ro_replica.proofs.Strikes.{NoneDue, struck_twice, struck_none}
 
-pub plus_none : (o : Option Ran) → option_map (plus_hit 0) o ≡ o
+pub plus_none : (o : Option RanTo) → option_map (plus_hit 0) o ≡ o
 plus_none None = refl
 plus_none (Some ran) = let e : 0 + ran.hit ≡ ran.hit = omega arith in ap (λ (hit : ℕ). Some (record ran { hit = hit })) e
 
-pub plus_both : (m n : ℕ) (o : Option Ran) → option_map (plus_hit m) (option_map (plus_hit n) o) ≡ option_map (plus_hit (m + n)) o
+pub plus_both : (m n : ℕ) (o : Option RanTo) → option_map (plus_hit m) (option_map (plus_hit n) o) ≡ option_map (plus_hit (m + n)) o
 plus_both m n None = refl
 plus_both m n (Some ran) = let e : m + (n + ran.hit) ≡ (m + n) + ran.hit = omega arith in ap (λ (hit : ℕ). Some (record ran { hit = hit })) e
 
 -- a run begins with a strike
 pub run_of_struck : (layout : Layout) (watchdog count : ℕ) (replica : Replica) (thread : ℕ) → run_of layout watchdog count replica thread ≡ option_map (plus_hit (struck layout.ranges replica thread).hit) (run_of layout watchdog count (struck layout.ranges replica thread).replica thread)
 run_of_struck layout watchdog zero replica thread =
-    let ran : Ran = struck layout.ranges replica thread in
+    let ran : RanTo = struck layout.ranges replica thread in
     let e : ran.hit ≡ ran.hit + 0 = omega arith in
-    ap (λ (hit : ℕ). Some (record ran { hit = hit })) e ∙ ap (λ (r : Ran). Some (plus_hit ran.hit r)) (sym (struck_twice layout.ranges replica thread))
+    ap (λ (hit : ℕ). Some (record ran { hit = hit })) e ∙ ap (λ (r : RanTo). Some (plus_hit ran.hit r)) (sym (struck_twice layout.ranges replica thread))
 run_of_struck layout watchdog (suc n) replica thread =
-    let ran : Ran = struck layout.ranges replica thread in
-    let goes : Ran → Option Ran = λ r. option_and_then (λ after. run_of layout watchdog n after thread) (execute layout watchdog r.replica thread) in
-    ap (option_map (plus_hit ran.hit)) (sym (ap (λ (r : Ran). option_map (plus_hit r.hit) (goes r)) (struck_twice layout.ranges replica thread) ∙ plus_none (goes ran)))
+    let ran : RanTo = struck layout.ranges replica thread in
+    let goes : RanTo → Option RanTo = λ r. option_and_then (λ after. run_of layout watchdog n after thread) (execute layout watchdog r.replica thread) in
+    ap (option_map (plus_hit ran.hit)) (sym (ap (λ (r : RanTo). option_map (plus_hit r.hit) (goes r)) (struck_twice layout.ranges replica thread) ∙ plus_none (goes ran)))
 
 -- the replica with a thread and a memory in the place of its own
 abbrev pub placed : Replica → (thread : ℕ) → Running → Replica
@@ -67,9 +67,9 @@ run_of_instructions layout watchdog (suc n) rest replica number thread end there
     let now : struck layout.ranges replica number ≡ record { replica = replica; hit = 0 } =
     struck_none layout.ranges replica number thread.done (ap (option_map (λ (x : Thread). x.done)) there)
     (subst (λ (done : ℕ). NoneDue number done replica) (let z : thread.done + 0 ≡ thread.done = omega arith in z) (none 0 (omega arith))) in
-    let goes : Option Replica → Option Ran = option_and_then (λ after. run_of layout watchdog (n + rest) after number) in
+    let goes : Option Replica → Option RanTo = option_and_then (λ after. run_of layout watchdog (n + rest) after number) in
     ap (λ (m : ℕ). run_of layout watchdog m replica number) e1
-    ∙ ap (λ (r : Ran). option_map (plus_hit r.hit) (goes (execute layout watchdog r.replica number))) now
+    ∙ ap (λ (r : RanTo). option_map (plus_hit r.hit) (goes (execute layout watchdog r.replica number))) now
     ∙ plus_none (goes (execute layout watchdog replica number))
     ∙ ap goes (execute_is layout watchdog replica number thread there)
     ∙ by (one_instruction layout watchdog replica.backed first) refl e (run_of_instructions layout watchdog n rest)

@@ -11,7 +11,7 @@ use Rattle.ro_faults.specs.declared.Fault.{Fault}
 use Rattle.ro_faults.specs.declared.Target.{Target}
 use Rattle.ro_faults.specs.declared.Target.TheVariants.{Register, Pc, Byte}
 use Rattle.ro_replica.specs.Replica.{Replica}
-use Rattle.ro_replica.specs.Runs.{Ran, is_due, with_cpu, struck_by, strike, strike_in, struck}
+use Rattle.ro_replica.specs.Runs.{RanTo, is_due, with_cpu, struck_by, strike, strike_in, struck}
 use Rattle.ro_replica.proofs.Elements.{get_changed, filter_other, filter_none}
 
 -- no fault of the thread waits for this moment
@@ -22,7 +22,7 @@ NoneDue thread done replica = filter (is_due thread done) replica.waiting ≡ []
 abbrev pub done_at : (thread : ℕ) → Replica → Option ℕ
 done_at thread replica = option_map (λ x. x.done) (slice_get replica.threads thread)
 
-abbrev pub strike_at : List Range → (thread : ℕ) → Replica → Option ℕ → Ran
+abbrev pub strike_at : List Range → (thread : ℕ) → Replica → Option ℕ → RanTo
 strike_at ranges thread replica None = record { replica = replica; hit = 0 }
 strike_at ranges thread replica (Some done) = strike ranges thread done replica
 
@@ -80,7 +80,7 @@ strike_twice ranges thread done replica =
     (filter_other (is_due thread done) replica.waiting)
 
 pub struck_done : (ranges : List Range) (replica : Replica) (thread : ℕ) → done_at thread (struck ranges replica thread).replica ≡ done_at thread replica
-struck_done ranges replica thread = ap (λ (ran : Ran). done_at thread ran.replica) (struck_is ranges replica thread) ∙ by (done_at thread replica)
+struck_done ranges replica thread = ap (λ (ran : RanTo). done_at thread ran.replica) (struck_is ranges replica thread) ∙ by (done_at thread replica)
   where
     by : (o : Option ℕ) → done_at thread (strike_at ranges thread replica o).replica ≡ done_at thread replica
     by None = refl
@@ -95,7 +95,7 @@ struck_twice ranges replica thread =
   where
     by : (o : Option ℕ) → struck ranges replica thread ≡ strike_at ranges thread replica o → strike_at ranges thread (struck ranges replica thread).replica o ≡ record { replica = (struck ranges replica thread).replica; hit = 0 }
     by None e = refl
-    by (Some done) e = strike_none ranges thread done (struck ranges replica thread).replica (subst (λ (ran : Ran). NoneDue thread done ran.replica) (sym e) (strike_twice ranges thread done replica))
+    by (Some done) e = strike_none ranges thread done (struck ranges replica thread).replica (subst (λ (ran : RanTo). NoneDue thread done ran.replica) (sym e) (strike_twice ranges thread done replica))
 
 -- a strike where nothing is due at the thread's count
 pub struck_none : (ranges : List Range) (replica : Replica) (thread done : ℕ) → done_at thread replica ≡ Some done → NoneDue thread done replica → struck ranges replica thread ≡ record { replica = replica; hit = 0 }

@@ -5,7 +5,7 @@ use Rattle.std.proofs.Common.{refl, sym, ap, ◌∙◌, subst, arith}
 use Rattle.std.proofs.lemmas.Bool.{and_parts, and_from, leb-true}
 use Rattle.std.proofs.lemmas.Nat.{xor_of_8, pow_below}
 use Rattle.std.proofs.lemmas.Option.{slice_get_read}
-use Rattle.ro_region.specs.Permission.{is_mapped}
+use Rattle.ro_region.specs.Permission.{lies_in_range}
 use Rattle.ro_pages.specs.Bytes.{Memory, stored, page_of}
 use Rattle.ro_pages.specs.Held.{memory_of, has_page}
 use Rattle.ro_exec.specs.declared.Cpu.{Cpu}
@@ -54,7 +54,7 @@ byte_flips byte bit small few =
     omega arith
 
 pub byte_struck : (value old : ReplicaOf) (thread address bit byte flip : ℕ) (memory : Memory) (backed : Backed) (target : Target) → value ≡ old → is_target target ≡ true → target ≡ Byte address bit
-    → has_page value.held.pages (address / 4096) ≡ true → is_mapped value.layout.ranges address ≡ true → byte ≡ memory_of value.held.pages address + 0 → byte < 256 → flip ≡ flipped byte bit
+    → has_page value.held.pages (address / 4096) ≡ true → lies_in_range value.layout.ranges address ≡ true → byte ≡ memory_of value.held.pages address + 0 → byte < 256 → flip ≡ flipped byte bit
     → memory ≡ stored (memory_of value.held.pages) address (flip % 256 ∷ []) → backed ≡ has_page value.held.pages
     → record (replica_of value) { memory = memory; backed = backed } ≡ struck_by old.layout.ranges thread (replica_of old) target
 byte_struck value old thread address bit byte flip memory backed target same good at has maps read small flips stores pages =
@@ -65,7 +65,7 @@ byte_struck value old thread address bit byte flip memory backed target same goo
     let value_is : flip % 256 ≡ flipped (bytes address) bit =
     ap (λ (n : ℕ). n % 256) flips ∙ byte_flips byte bit small seven ∙ ap (λ (n : ℕ). flipped n bit) here in
     let stored_is : memory ≡ stored bytes address (flipped (bytes address) bit ∷ []) = stores ∙ ap (λ (n : ℕ). stored bytes address (n ∷ [])) value_is in
-    let test : (has_page value.held.pages (page_of address) && is_mapped value.layout.ranges address) ≡ true = and_from (has_page value.held.pages (page_of address)) (is_mapped value.layout.ranges address) has maps in
+    let test : (has_page value.held.pages (page_of address) && lies_in_range value.layout.ranges address) ≡ true = and_from (has_page value.held.pages (page_of address)) (lies_in_range value.layout.ranges address) has maps in
     ap (λ (m : Memory). record (replica_of value) { memory = m; backed = backed }) stored_is
     ∙ ap (λ (b : Backed). record (replica_of value) { memory = stored bytes address (flipped (bytes address) bit ∷ []); backed = b }) pages
     ∙ ap (λ (t : Bool). record (replica_of value) { memory = if t then stored bytes address (flipped (bytes address) bit ∷ []) else bytes }) (sym test)

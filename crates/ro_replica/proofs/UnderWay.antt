@@ -6,7 +6,7 @@ use Rattle.std.proofs.lemmas.Bool.{ne_eqb}
 use Rattle.ro_event.specs.declared.stops.Stop.{Stop}
 use Rattle.ro_exec.specs.Next.{Layout}
 use Rattle.ro_replica.specs.Replica.{Replica, changed_at}
-use Rattle.ro_replica.specs.Runs.{Ran, struck, plus_hit, run_of, standing_at, with_stop}
+use Rattle.ro_replica.specs.Runs.{RanTo, struck, plus_hit, run_of, standing_at, with_stop}
 use Rattle.ro_replica.specs.Rounds.{IsStruck, Leads}
 use Rattle.ro_replica.specs.Seen.{Runs, stop_after}
 use Rattle.ro_replica.proofs.Segments.{plus_both, run_of_struck}
@@ -20,7 +20,7 @@ pub begins : (layout : Layout) (watchdog quantum thread : ℕ) (old now : Replic
 begins layout watchdog quantum thread old now hit is = record {
   leads = λ rest. ap (λ (n : ℕ). run_of layout watchdog n old thread) (let z : 0 + rest ≡ rest = omega arith in z)
       ∙ run_of_struck layout watchdog rest old thread
-      ∙ ap (λ (ran : Ran). option_map (plus_hit ran.hit) (run_of layout watchdog rest ran.replica thread)) is;
+      ∙ ap (λ (ran : RanTo). option_map (plus_hit ran.hit) (run_of layout watchdog rest ran.replica thread)) is;
   arrives = inl (refl, omega arith);
 }
 
@@ -43,7 +43,7 @@ pub ends : (layout : Layout) (watchdog quantum thread : ℕ) (old now new : Repl
 ends layout watchdog quantum thread old now new count hit stop so is over new_is = record {
   end = record { replica = now; hit = hit };
   runs = ap (λ (n : ℕ). run_of layout watchdog n old thread) (let z : count ≡ count + 0 = omega arith in z) ∙ so.leads 0
-      ∙ ap (λ (ran : Ran). Some (plus_hit hit ran)) is
+      ∙ ap (λ (ran : RanTo). Some (plus_hit hit ran)) is
       ∙ ap (λ (n : ℕ). Some (record { replica = now; hit = n })) (let z : hit + 0 ≡ hit = omega arith in z);
   hit_is = refl;
   stop_is = (by so.arrives).0;

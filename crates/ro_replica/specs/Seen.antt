@@ -10,7 +10,7 @@ use Rattle.ro_exec.specs.Next.{Layout}
 use Rattle.ro_thread.specs.declared.Thread.{Thread}
 use Rattle.ro_image.specs.Image.{Image}
 use Rattle.ro_replica.specs.Replica.{Replica, opening_replica, changed_at, recovered}
-use Rattle.ro_replica.specs.Runs.{Ran, run_of, standing_at, with_stop}
+use Rattle.ro_replica.specs.Runs.{RanTo, run_of, standing_at, with_stop}
 
 pub record ReplicaOf : Type 0 where
   pub layout : Layout
@@ -61,7 +61,7 @@ stop_after layout watchdog quantum thread count replica = if count == quantum th
 -- A run of so many instructions, from one replica to another: no stop stood before the last of them, and the thread
 -- has come to a stop or done a whole quantum.
 pub record Runs (layout : Layout) (watchdog quantum thread : ℕ) (old new : Replica) (count hit : ℕ) (stop : Option Stop) : Type 0 where
-  pub end : Ran
+  pub end : RanTo
   pub runs : run_of layout watchdog count old thread ≡ Some end
   pub hit_is : end.hit ≡ hit
   pub stop_is : stop ≡ stop_after layout watchdog quantum thread count end.replica

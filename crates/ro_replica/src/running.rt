@@ -71,7 +71,7 @@ impl Replica {
     }
 
     // Runs a thread of which no fault is due to the moment of the next one.
-    fn advance(&mut self, thread: u32, most: u32) -> ro_thread::Ran
+    fn advance(&mut self, thread: u32, most: u32) -> ro_thread::RunEnd
         requires thread { thread < length self.old.threads }
         requires some { 0 < most }
         requires countable { CanCount most self.old thread }

@@ -109,7 +109,7 @@ fn copies_and_frees(rt: HostRuntime) {
         put(0, 1),
         put(1, 2),
         vote(100, Lost::Two(1, 4), Did::Blocked),
-        vote(20, Lost::Nobody, Did::Mapped),
+        vote(20, Lost::Nobody, Did::PageBacked),
         vote(3, Lost::One(0), Did::Trapped),
         Entry::Free { thread: 0 },
     ];

@@ -21,7 +21,7 @@ use Rattle.ro_journal.specs.declared.Entry.TheVariants.{Take, Put, Vote, Free, E
 use Rattle.ro_journal.specs.Plan.{plan_of}
 use Rattle.ro_vote.specs.Verdict.{verdict_of}
 use Rattle.ro_replica.specs.Replica.{opening_replica, applied, cancelled, recovered}
-use Rattle.ro_replica.specs.Runs.{Ran, struck, execute}
+use Rattle.ro_replica.specs.Runs.{RanTo, struck, execute}
 use Rattle.ro_plain.specs.Machine.{Machine, opening, steppable, step, AllEnd}
 use Rattle.ro_plain.proofs.Calls.{some-injective}
 use Rattle.ro_core.specs.declared.actions.Action.TheVariants as act
@@ -55,14 +55,14 @@ no-stop None e s = let f : false ≡ true = s in cc
 no-stop (Some stop) e s = absurd (let f : false ≡ true = e in cc)
 
 -- a run of so many instructions, fewer than a quantum, that comes to no stop
-no-arrival : (job : Job) (thread count : ℕ) (o : Option Ran) (ran : Ran) → o ≡ Some ran → option_map (λ (r : Ran). is_none (arrival job thread count r.replica)) o ≡ Some true → count < job.settings.quantum → HasArrived job thread count ran.replica → ⊥
+no-arrival : (job : Job) (thread count : ℕ) (o : Option RanTo) (ran : RanTo) → o ≡ Some ran → option_map (λ (r : RanTo). is_none (arrival job thread count r.replica)) o ≡ Some true → count < job.settings.quantum → HasArrived job thread count ran.replica → ⊥
 no-arrival job thread count o ran e f low (inl whole) = omega arith
 no-arrival job thread count o ran e f low (inr g) =
-    no-stop (arrival job thread count ran.replica) (some-injective (sym (ap (option_map (λ (r : Ran). is_none (arrival job thread count r.replica))) e) ∙ f)) g.1
+    no-stop (arrival job thread count ran.replica) (some-injective (sym (ap (option_map (λ (r : RanTo). is_none (arrival job thread count r.replica))) e) ∙ f)) g.1
 
 -- how many faults a run struck
-hit-is : (o : Option Ran) (ran : Ran) (hit : ℕ) → o ≡ Some ran → option_map (λ (r : Ran). r.hit) o ≡ Some hit → ran.hit ≡ hit
-hit-is o ran hit e f = some-injective (sym (ap (option_map (λ (r : Ran). r.hit)) e) ∙ f)
+hit-is : (o : Option RanTo) (ran : RanTo) (hit : ℕ) → o ≡ Some ran → option_map (λ (r : RanTo). r.hit) o ≡ Some hit → ran.hit ≡ hit
+hit-is o ran hit e f = some-injective (sym (ap (option_map (λ (r : RanTo). r.hit)) e) ∙ f)
 
 -- ---- length_row
 

@@ -10,7 +10,7 @@ use Rattle.ro_exec.specs.Meaning.{meaning}
 use Rattle.ro_exec.specs.Next.{fetch_stop, instruction_stop, next}
 use Rattle.ro_exec.specs.Threads.{first_cpu, made_cpu}
 use Rattle.ro_kernel.specs.Serve.{serve, payload_of}
-use Rattle.ro_journal.specs.declared.Did.TheVariants.{Served, Mapped, Blocked as WasBlocked}
+use Rattle.ro_journal.specs.declared.Did.TheVariants.{Served, PageBacked, Blocked as WasBlocked}
 use Rattle.ro_journal.specs.declared.How.TheVariants.{Exit}
 use Rattle.ro_journal.specs.declared.Entry.TheVariants.{Vote, Free, End}
 use Rattle.ro_vote.specs.Verdict.{verdict_of}
@@ -35,7 +35,7 @@ pub page-legal : Legal page_job (driven 100 page_job)
 page-legal = legal-by-test page_job (opening_core page_job) (driven 100 page_job) passes
 
 -- this is what it decides
-pub page-decides : decisions (driven 100 page_job) ≡ Vote 0 6 0 Nobody Served ∷ Vote 0 1 0 Nobody Mapped ∷ Vote 0 4 0 Nobody WasBlocked ∷ Vote 1 4 0 Nobody Served ∷ Free 0 ∷ Vote 0 2 0 Nobody Served ∷ End (Exit 0) ∷ []
+pub page-decides : decisions (driven 100 page_job) ≡ Vote 0 6 0 Nobody Served ∷ Vote 0 1 0 Nobody PageBacked ∷ Vote 0 4 0 Nobody WasBlocked ∷ Vote 1 4 0 Nobody Served ∷ Free 0 ∷ Vote 0 2 0 Nobody Served ∷ End (Exit 0) ∷ []
 unfolding opening_core opening_replica struck execute applied cancelled recovered verdict_of event_of after next_action first_cpu made_cpu next fetch_stop instruction_stop instruction_of call_at permits_of alu_of taken_by meaning serve payload_of
 page-decides = refl
 

@@ -9,7 +9,7 @@ mod tables;
 ghost use Rattle.std.specs.Prelude.{◌≡◌, ◌≢◌, ℕ, List, [], ◌∷◌, length, replicate, Some, None};
 ghost use Rattle.std.specs.Option.{option_map};
 ghost use Rattle.ro_image.specs.Executable.{bad_code, image_of};
-ghost use Rattle.ro_journal.specs.declared.Did.TheVariants.{Served, Mapped, Blocked};
+ghost use Rattle.ro_journal.specs.declared.Did.TheVariants.{Served, PageBacked, Blocked};
 ghost use Rattle.ro_journal.specs.declared.How.TheVariants.{Exit, Deadlock, Differ, Sink};
 ghost use Rattle.ro_journal.specs.declared.Entry.TheVariants.{Vote, Free, End};
 ghost use Rattle.ro_journal.specs.declared.losers.Lost.TheVariants.{Nobody, One, Two};
@@ -65,7 +65,7 @@ pub fn driven_is_next()
 /// thread 1, is freed when that has exited, and exits with 0.
 pub fn page_row()
     ensures legal { Legal page_job (driven 100 page_job) }
-    ensures decides { decisions (driven 100 page_job) ≡ Vote 0 6 0 Nobody Served ∷ Vote 0 1 0 Nobody Mapped ∷ Vote 0 4 0 Nobody Blocked ∷ Vote 1 4 0 Nobody Served ∷ Free 0 ∷ Vote 0 2 0 Nobody Served ∷ End (Exit 0) ∷ [] }
+    ensures decides { decisions (driven 100 page_job) ≡ Vote 0 6 0 Nobody Served ∷ Vote 0 1 0 Nobody PageBacked ∷ Vote 0 4 0 Nobody Blocked ∷ Vote 1 4 0 Nobody Served ∷ Free 0 ∷ Vote 0 2 0 Nobody Served ∷ End (Exit 0) ∷ [] }
     ensures ideal { IdealEnds page_job (driven 100 page_job) (Exit 0) [] }
 {}
 

@@ -3,7 +3,11 @@
 #![tactic(auto)]
 
 #[cfg(test)]
+mod commands;
+#[cfg(test)]
 mod guests;
+#[cfg(test)]
+mod outside;
 #[cfg(test)]
 mod rows;
 #[cfg(test)]

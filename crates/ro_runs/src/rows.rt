@@ -499,6 +499,38 @@ pub(crate) const STRUCK: &[Row] = &[
         answer: "answer no-majority\n",
     },
     Row {
+        title: "two faults of five replicas",
+        guest: "exit_7",
+        options: &["--replicas", "5", "--journal", "--drivers", "1"],
+        input: None,
+        faults: Some(Text {
+            part: "0 0 1 reg 10 0\n3 0 1 reg 10 0\n",
+            times: 1,
+        }),
+        status: 7,
+        written: Text { part: "", times: 1 },
+        summary: Some(
+            "romain 2\ntake 0 0 0\nput 0 0 0 2 1\ntake 0 1 0\nput 0 1 0 2 0\ntake 0 2 0\nput 0 2 0 2 0\n\
+            take 0 3 0\nput 0 3 0 2 1\ntake 0 4 0\nput 0 4 0 2 0\nvote 0 2 1 0,3 served\nend exit 7\n\
+            votes 1 copies 2 struck 2 steps 3 bytes 0\n",
+        ),
+        answer: "answer exit 7\n",
+    },
+    Row {
+        title: "three values of five replicas",
+        guest: "exit_7",
+        options: &["--replicas", "5"],
+        input: None,
+        faults: Some(Text {
+            part: "0 0 1 reg 10 0\n1 0 1 reg 10 1\n2 0 1 reg 10 2\n",
+            times: 1,
+        }),
+        status: 243,
+        written: Text { part: "", times: 1 },
+        summary: Some("votes 0 copies 0 struck 3 steps 0 bytes 0\n"),
+        answer: "answer no-majority\n",
+    },
+    Row {
         title: "a fault that vanishes",
         guest: "exit_7",
         options: &[],

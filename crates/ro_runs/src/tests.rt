@@ -11,7 +11,7 @@ use std::test::Fail;
 use std::thread::Threads;
 
 /// How many bytes the output of a row takes at most, and its report.
-const ROOM: usize = 8192;
+pub(crate) const ROOM: usize = 8192;
 
 #[test]
 fn one_thread(rt: HostRuntime) -> Result<(), Fail> {
@@ -126,7 +126,7 @@ fn store_of(rt: &impl Abort, alloc: Global, row: &Row) -> Result<MemStore, Fail>
     Ok(store)
 }
 
-fn file_of(rt: &impl Abort, alloc: Global, guest: &Guest) -> Result<Vec<u8>, Fail> {
+pub(crate) fn file_of(rt: &impl Abort, alloc: Global, guest: &Guest) -> Result<Vec<u8>, Fail> {
     assert!(rt; guest.words.len() <= 65_536);
     assert!(rt; guest.functions.len() <= 9);
     assert!(rt;

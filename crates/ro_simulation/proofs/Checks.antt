@@ -3,7 +3,7 @@ use Rattle.std.specs.Prelude.{◌≡◌, ℕ, ◌+◌, ◌≤◌, ◌⊎◌, Boo
 use Rattle.std.proofs.Common.{refl, ap, ◌∙◌, inl, inr}
 use Rattle.std.proofs.lemmas.Bool.{false≢true, eqb-true, leb-true, ltb-true, and_parts}
 use Rattle.ro_journal.specs.declared.Did.{Did}
-use Rattle.ro_journal.specs.declared.Did.TheVariants.{Served, Blocked, Mapped, Watch, Trapped}
+use Rattle.ro_journal.specs.declared.Did.TheVariants.{Served, Blocked, PageBacked, Watch, Trapped}
 use Rattle.ro_journal.specs.declared.How.{How}
 use Rattle.ro_journal.specs.declared.How.TheVariants.{Exit}
 use Rattle.ro_journal.specs.declared.Entry.{Entry}
@@ -12,7 +12,7 @@ use Rattle.ro_journal.specs.declared.losers.Lost.{Lost}
 use Rattle.ro_journal.specs.Losers.{numbers}
 use Rattle.ro_journal.specs.Plan.{event_steps}
 use Rattle.ro_vote.specs.Verdict.{Verdict, Won, Split, verdict_of}
-use Rattle.ro_replica.specs.Runs.{Ran}
+use Rattle.ro_replica.specs.Runs.{RanTo}
 use Rattle.ro_plain.proofs.Ahead.{is-none-from}
 use Rattle.ro_simulation.proofs.Entries.{or-cases}
 use Rattle.ro_core.specs.Core.{Job, Core, is_going, is_idle, is_out, is_lendable, may_vote, may_free, views_of}
@@ -24,7 +24,7 @@ abbrev pub test_take : Job → Core → (driver replica thread : ℕ) → Bool
 test_take job core driver replica thread = is_going core && nat_lt driver job.settings.drivers && is_idle core driver && is_lendable core replica thread
 
 -- whether a run struck so many faults and arrived
-abbrev pub test_ran : Job → (thread count hit : ℕ) → Option Ran → Bool
+abbrev pub test_ran : Job → (thread count hit : ℕ) → Option RanTo → Bool
 test_ran job thread count hit None = false
 test_ran job thread count hit (Some ran) =
     (ran.hit == hit) && ((count == job.settings.quantum) || (nat_lt count job.settings.quantum && is_some (arrival job thread count ran.replica)))
@@ -54,7 +54,7 @@ test_verdict (Won w l) won lost = (w == won) && same_list l lost
 abbrev pub same_did : Did → Did → Bool
 same_did Served Served = true
 same_did Blocked Blocked = true
-same_did Mapped Mapped = true
+same_did PageBacked PageBacked = true
 same_did Watch Watch = true
 same_did Trapped Trapped = true
 same_did _ _ = false
@@ -101,7 +101,7 @@ same-number (Some m) None e = absurd (false≢true e)
 same-did : (a b : Did) → same_did a b ≡ true → a ≡ b
 same-did Served Served e = refl
 same-did Blocked Blocked e = refl
-same-did Mapped Mapped e = refl
+same-did PageBacked PageBacked e = refl
 same-did Watch Watch e = refl
 same-did Trapped Trapped e = refl
 same-did a b e = absurd (false≢true e)
@@ -118,7 +118,7 @@ verdict-is Split won lost e = absurd (false≢true e)
 verdict-is (Won w l) won lost e = let p = and_parts _ _ e in let a = eqb-true w won p.0 in let b = same-list l lost p.1 in λ i. Won (a i) (b i)
 
 -- a put that passes is allowed
-put-allowed : (job : Job) (core : Core) (driver replica thread count hit : ℕ) → core.ended ≡ None → is_out core driver replica thread ≡ true → (o : Option Ran) → lease_run job core replica thread count ≡ o → test_ran job thread count hit o ≡ true → MayPut job core driver replica thread count hit
+put-allowed : (job : Job) (core : Core) (driver replica thread count hit : ℕ) → core.ended ≡ None → is_out core driver replica thread ≡ true → (o : Option RanTo) → lease_run job core replica thread count ≡ o → test_ran job thread count hit o ≡ true → MayPut job core driver replica thread count hit
 put-allowed job core driver replica thread count hit on out None e f = absurd (false≢true f)
 put-allowed job core driver replica thread count hit on out (Some ran) e f =
     let p = and_parts _ _ f in

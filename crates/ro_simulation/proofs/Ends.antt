@@ -23,7 +23,7 @@ use Rattle.ro_core.specs.Core.{Job, Core, is_going, nothing_lent, is_home, is_le
 use Rattle.ro_replica.specs.Views.{is_unstopped}
 use Rattle.ro_core.specs.Legal.{any_below, is_stuck, MayEnd, due, alone, for_vote, for_free}
 use Rattle.ro_core.specs.Sound.{IsOver, exits, traps}
-use Rattle.ro_simulation.specs.Invariant.{Holds}
+use Rattle.ro_simulation.specs.Invariant.{TracksIdeal}
 use Rattle.ro_simulation.specs.Theorem.{EndsAs, TwoThreeOrFive}
 use Rattle.ro_simulation.proofs.Stays.{live-within}
 use Rattle.ro_core.proofs.Lists.{get-within, all-from}
@@ -93,7 +93,7 @@ no-step program machine u h = by (steppable machine u) refl
     by None e = ap (option_and_then (λ cpu. step_by program machine u cpu (next_of program machine cpu))) e
     by (Some cpu) e = h cpu e
 
-module _ (job : Job) (odds : List ℕ) (journal : List Entry) (core : Core) (h : Holds job odds journal core) where
+module _ (job : Job) (odds : List ℕ) (journal : List Entry) (core : Core) (h : TracksIdeal job odds journal core) where
   -- the machine goes on where the core does
   pub going-machine : is_going core ≡ true → h.machine.ended ≡ None
   going-machine e = sym h.same_end ∙ (going-from core e).not_due

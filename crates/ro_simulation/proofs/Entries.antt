@@ -11,7 +11,7 @@ use Rattle.ro_journal.specs.Plan.{plan_of}
 use Rattle.ro_kernel.specs.Kernel.{Kernel, lives_on}
 use Rattle.ro_exec.specs.Next.{Backed}
 use Rattle.ro_replica.specs.Replica.{Replica}
-use Rattle.ro_replica.specs.Runs.{Ran, run_of, with_stop}
+use Rattle.ro_replica.specs.Runs.{RanTo, run_of, with_stop}
 use Rattle.ro_plain.specs.Machine.{layout_of}
 use Rattle.ro_plain.specs.Order.{RaceFree}
 use Rattle.ro_core.specs.declared.actions.Lease.{Lease}
@@ -19,7 +19,7 @@ use Rattle.ro_core.specs.Core.{Job, Core, is_out}
 use Rattle.ro_core.specs.Legal.{arrived, arrival, is_lease, core_after_put, after, lease_run, MayTake, MayPut}
 use Rattle.ro_core.specs.Sound.{IsSound}
 use Rattle.ro_vote.specs.Numbers.{is_among, AtMostHalf}
-use Rattle.ro_simulation.specs.Invariant.{Agrees, Holds}
+use Rattle.ro_simulation.specs.Invariant.{Agrees, TracksIdeal}
 use Rattle.ro_core.proofs.Lists.{get-set-cases}
 use Rattle.ro_core.proofs.Sound.{HasFault}
 use Rattle.ro_core.proofs.Sound.{StruckWell, run-well, sound-changed}
@@ -66,7 +66,7 @@ any-filter p q (x ∷ xs) e = any-filter-cons p q x xs (any-filter p q xs) (q x)
 
 -- ---- take
 
-module _ (job : Job) (odds : List ℕ) (journal : List Entry) (core : Core) (h : Holds job odds journal core) (driver replica t : ℕ) (may : MayTake job core driver replica t) where
+module _ (job : Job) (odds : List ℕ) (journal : List Entry) (core : Core) (h : TracksIdeal job odds journal core) (driver replica t : ℕ) (may : MayTake job core driver replica t) where
   -- the taken thread lives
   live : IsTrue (lives_on core.kernel t)
   live = (and_parts _ _ (and_parts _ _ may.lendable).0).1
@@ -83,7 +83,7 @@ module _ (job : Job) (odds : List ℕ) (journal : List Entry) (core : Core) (h :
   lent-after d r u (inr e) = h.lent_live d r u e
 
   -- the invariant after a take
-  pub after-take : Holds job odds (journal ++ Take driver replica t ∷ []) (after job core (Take driver replica t))
+  pub after-take : TracksIdeal job odds (journal ++ Take driver replica t ∷ []) (after job core (Take driver replica t))
   unfolding after
   after-take = record {
     machine = h.machine;
@@ -107,18 +107,18 @@ module _ (job : Job) (odds : List ℕ) (journal : List Entry) (core : Core) (h :
 -- ---- put
 
 -- the lent replica of a put, and its run
-pub record PutParts (job : Job) (core : Core) (replica t count : ℕ) (ran : Ran) : Type 0 where
+pub record PutParts (job : Job) (core : Core) (replica t count : ℕ) (ran : RanTo) : Type 0 where
   pub lent : Replica
   pub lent_there : slice_get core.replicas replica ≡ Some lent
   pub runs : run_of (layout_of job.program) job.settings.watchdog count lent t ≡ Some ran
 
 -- a put has its replica and its run
-pub put-parts : (job : Job) (core : Core) (replica t count : ℕ) (ran : Ran) → lease_run job core replica t count ≡ Some ran → PutParts job core replica t count ran
+pub put-parts : (job : Job) (core : Core) (replica t count : ℕ) (ran : RanTo) → lease_run job core replica t count ≡ Some ran → PutParts job core replica t count ran
 put-parts job core replica t count ran e =
     option_and_then_some (λ r. run_of (layout_of job.program) job.settings.watchdog count r t) (slice_get core.replicas replica) ran e
     (λ r there runs. record { lent = r; lent_there = there; runs = runs })
 
-module _ (job : Job) (odds : List ℕ) (journal : List Entry) (core : Core) (h : Holds job odds journal core) (driver replica t count hit : ℕ) (may : MayPut job core driver replica t count hit) where
+module _ (job : Job) (odds : List ℕ) (journal : List Entry) (core : Core) (h : TracksIdeal job odds journal core) (driver replica t count hit : ℕ) (may : MayPut job core driver replica t count hit) where
   -- the replica of this put, and its run
   parts : PutParts job core replica t count may.ran
   parts = put-parts job core replica t count may.ran may.runs
@@ -148,8 +148,8 @@ module _ (job : Job) (odds : List ℕ) (journal : List Entry) (core : Core) (h :
   after-put-is = ap (core_after_put job core driver replica t count) (sym may.runs)
 
   -- the invariant, where the replicas but one agree after the put
-  put-with : (odds' : List ℕ) → AtMostHalf job.settings.replicas odds' → ((number : ℕ) (r : Replica) → is_among odds' number ≡ false → ((number ≢ replica) × (slice_get core.replicas number ≡ Some r)) ⊎ ((number ≡ replica) × (arrived job t count may.ran.replica ≡ r)) → Agrees job h.machine r) → Holds job odds' (journal ++ Put driver replica t count hit ∷ []) (after job core (Put driver replica t count hit))
-  put-with odds' few' agree = subst (Holds job odds' (journal ++ Put driver replica t count hit ∷ [])) after-put-is (record {
+  put-with : (odds' : List ℕ) → AtMostHalf job.settings.replicas odds' → ((number : ℕ) (r : Replica) → is_among odds' number ≡ false → ((number ≢ replica) × (slice_get core.replicas number ≡ Some r)) ⊎ ((number ≡ replica) × (arrived job t count may.ran.replica ≡ r)) → Agrees job h.machine r) → TracksIdeal job odds' (journal ++ Put driver replica t count hit ∷ []) (after job core (Put driver replica t count hit))
+  put-with odds' few' agree = subst (TracksIdeal job odds' (journal ++ Put driver replica t count hit ∷ [])) after-put-is (record {
     machine = h.machine;
     ideal_is = ideal-same job journal (Put driver replica t count hit) refl ∙ h.ideal_is;
     same_kernel = h.same_kernel;
@@ -170,7 +170,7 @@ module _ (job : Job) (odds : List ℕ) (journal : List Entry) (core : Core) (h :
   })
 
   -- no fault was struck
-  pub after-calm-put : RaceFree job.program → hit ≡ 0 → Holds job odds (journal ++ Put driver replica t count hit ∷ []) (after job core (Put driver replica t count hit))
+  pub after-calm-put : RaceFree job.program → hit ≡ 0 → TracksIdeal job odds (journal ++ Put driver replica t count hit ∷ []) (after job core (Put driver replica t count hit))
   after-calm-put free none = put-with odds h.few by
     where
       by : (number : ℕ) (r : Replica) → is_among odds number ≡ false → ((number ≢ replica) × (slice_get core.replicas number ≡ Some r)) ⊎ ((number ≡ replica) × (arrived job t count may.ran.replica ≡ r)) → Agrees job h.machine r
@@ -181,7 +181,7 @@ module _ (job : Job) (odds : List ℕ) (journal : List Entry) (core : Core) (h :
           (h.others_agree put-going.0 replica parts.lent (ap (is_among odds) (sym e.0) ∙ d) parts.lent_there))
 
   -- faults were struck while all replicas but a few, of which the struck one is, agreed
-  pub after-struck-put : (odds' : List ℕ) → AtMostHalf job.settings.replicas odds' → is_among odds' replica ≡ true → ((number : ℕ) (r : Replica) → is_among odds' number ≡ false → slice_get core.replicas number ≡ Some r → Agrees job h.machine r) → Holds job odds' (journal ++ Put driver replica t count hit ∷ []) (after job core (Put driver replica t count hit))
+  pub after-struck-put : (odds' : List ℕ) → AtMostHalf job.settings.replicas odds' → is_among odds' replica ≡ true → ((number : ℕ) (r : Replica) → is_among odds' number ≡ false → slice_get core.replicas number ≡ Some r → Agrees job h.machine r) → TracksIdeal job odds' (journal ++ Put driver replica t count hit ∷ []) (after job core (Put driver replica t count hit))
   after-struck-put odds' few' struck others = put-with odds' few' by
     where
       by : (number : ℕ) (r : Replica) → is_among odds' number ≡ false → ((number ≢ replica) × (slice_get core.replicas number ≡ Some r)) ⊎ ((number ≡ replica) × (arrived job t count may.ran.replica ≡ r)) → Agrees job h.machine r

@@ -21,7 +21,7 @@ use Rattle.ro_core.specs.Core.{Job, Core, may_free}
 use Rattle.ro_core.specs.Event.{Event, call_event, core_after}
 use Rattle.ro_core.specs.Legal.{freed_event, core_after_event, after, MayFree}
 use Rattle.ro_vote.specs.Numbers.{is_among}
-use Rattle.ro_simulation.specs.Invariant.{Agrees, StandsAtCall, Holds}
+use Rattle.ro_simulation.specs.Invariant.{Agrees, StandsAtCall, TracksIdeal}
 use Rattle.ro_simulation.proofs.Stays.{live-within}
 use Rattle.ro_simulation.proofs.Ahead.{BackedRun-head, plain-executes}
 use Rattle.ro_core.proofs.Lists.{get-within}
@@ -58,7 +58,7 @@ one-step kernel t call (Done after effect) e = refl
 one-step kernel t call Blocked e = absurd (true≢false e)
 one-step kernel t call (Ends after how) e = refl
 
-module _ (job : Job) (free : RaceFree job.program) (odds : List ℕ) (journal : List Entry) (core : Core) (h : Holds job odds journal core) (t : ℕ) (parts : FreeParts job core t) where
+module _ (job : Job) (free : RaceFree job.program) (odds : List ℕ) (journal : List Entry) (core : Core) (h : TracksIdeal job odds journal core) (t : ℕ) (parts : FreeParts job core t) where
   -- the program goes on at a free
   going : h.machine.ended ≡ None
   going = sym h.same_end ∙ parts.going.not_due
@@ -127,20 +127,20 @@ module _ (job : Job) (free : RaceFree job.program) (odds : List ℕ) (journal : 
       meets-free r (h.others_agree going number r d e) thread.0 thread.1 sound.same_backed _
 
   -- the invariant after the free
-  freed : Holds job odds (journal ++ Free t ∷ []) (after job core (Free t))
+  freed : TracksIdeal job odds (journal ++ Free t ∷ []) (after job core (Free t))
   freed =
       let event = has-event in
-      subst (Holds job odds (journal ++ Free t ∷ [])) after-is
+      subst (TracksIdeal job odds (journal ++ Free t ∷ [])) after-is
       (event-holds job odds journal core h going parts.no_lease t 0 live h.machine nothing_left _ event.0 event.1
       (Free t) (ap (λ (n : ℕ). replicate n t) (sym (one-step h.machine.kernel t parts.call _ unblocked))) core.replicas refl h.sound odds h.few meets-at)
 
 -- the step of the call that is freed
-pub free-runs : (job : Job) (free : RaceFree job.program) (odds : List ℕ) (journal : List Entry) (core : Core) (h : Holds job odds journal core) (t : ℕ) (parts : FreeParts job core t) → IsExecution job.program (plan_of journal ++ t ∷ [])
+pub free-runs : (job : Job) (free : RaceFree job.program) (odds : List ℕ) (journal : List Entry) (core : Core) (h : TracksIdeal job odds journal core) (t : ℕ) (parts : FreeParts job core t) → IsExecution job.program (plan_of journal ++ t ∷ [])
 free-runs job free odds journal core h t parts =
     let event = has-event job free odds journal core h t parts in
     subst (λ (n : ℕ). IsExecution job.program (plan_of journal ++ replicate n t)) (one-step h.machine.kernel t parts.call _ (unblocked job free odds journal core h t parts))
     (event.0, run-more job.program (plan_of journal) h.machine h.machine [] _ h.ideal_is refl event.1.run_event)
 
 -- the invariant after a free
-pub after-free : (job : Job) (free : RaceFree job.program) (odds : List ℕ) (journal : List Entry) (core : Core) → Holds job odds journal core → (t : ℕ) → MayFree job core t → Holds job odds (journal ++ Free t ∷ []) (after job core (Free t))
+pub after-free : (job : Job) (free : RaceFree job.program) (odds : List ℕ) (journal : List Entry) (core : Core) → TracksIdeal job odds journal core → (t : ℕ) → MayFree job core t → TracksIdeal job odds (journal ++ Free t ∷ []) (after job core (Free t))
 after-free job free odds journal core h t may = freed job free odds journal core h t (free-parts job core t may.may)

@@ -13,14 +13,14 @@ use Rattle.ro_journal.specs.Plan.{outcome_of}
 use Rattle.ro_kernel.specs.Serve.{Served, Done, Blocked, Ends, serve}
 use Rattle.ro_kernel.specs.Kernel.{Kernel}
 use Rattle.ro_replica.specs.Replica.{Replica}
-use Rattle.ro_replica.specs.Runs.{Ran}
+use Rattle.ro_replica.specs.Runs.{RanTo}
 use Rattle.ro_plain.specs.Machine.{Machine, setup_of}
 use Rattle.ro_plain.specs.Order.{RaceFree}
 use Rattle.ro_core.specs.Core.{Job, Core, opening_core}
 use Rattle.ro_core.specs.Event.{Event, call_event, with_recovered}
 use Rattle.ro_core.specs.Legal.{lease_run, core_after_put, event_in, freed_event, core_after_event, after, MayPut, MayEnd, IsAllowed, LegalFrom, Legal, replay_from, replay}
 use Rattle.ro_vote.specs.Numbers.{is_among, AtMostHalf}
-use Rattle.ro_simulation.specs.Invariant.{Agrees, Holds}
+use Rattle.ro_simulation.specs.Invariant.{Agrees, TracksIdeal}
 use Rattle.ro_simulation.specs.Theorem.{event_payload, payload_by, payloads_from, payloads_of}
 use Rattle.ro_simulation.proofs.Kept.{going-from}
 use Rattle.ro_simulation.proofs.Votes.{vote-parts, after-vote}
@@ -80,7 +80,7 @@ pub record Leaves (core other : Core) (payload : List ℕ) : Type 0 where
   pub ended : other.ended ≡ core.ended
 
 -- a put writes nothing
-put-leaves : (job : Job) (core : Core) (driver replica thread count : ℕ) (o : Option Ran) → Leaves core (core_after_put job core driver replica thread count o) []
+put-leaves : (job : Job) (core : Core) (driver replica thread count : ℕ) (o : Option RanTo) → Leaves core (core_after_put job core driver replica thread count o) []
 put-leaves job core driver replica thread count None = record { output = sym (append-nil core.output); ended = refl }
 put-leaves job core driver replica thread count (Some ran) = record { output = sym (append-nil core.output); ended = refl }
 
@@ -141,7 +141,7 @@ ended-outcome job core (Free thread ∷ rest) how on h e = ended-outcome job (af
 
 -- the invariant, in the core of the journal, whose output is that of its payloads
 pub record Reached (job : Job) (odds : List ℕ) (journal : List Entry) (core : Core) : Type 0 where
-  pub holds : Holds job odds journal core
+  pub holds : TracksIdeal job odds journal core
   pub is_replay : replay job journal ≡ core
   pub written : core.output ≡ payloads_of job journal
 
@@ -151,7 +151,7 @@ unfolding opening_core
 opening-reached job odds few = record { holds = opening-holds job odds few; is_replay = refl; written = refl }
 
 -- one entry further
-reached-next : (job : Job) (odds odds' : List ℕ) (journal : List Entry) (core : Core) (entry : Entry) → IsStep entry → Reached job odds journal core → Holds job odds' (journal ++ entry ∷ []) (after job core entry) → Reached job odds' (journal ++ entry ∷ []) (after job core entry)
+reached-next : (job : Job) (odds odds' : List ℕ) (journal : List Entry) (core : Core) (entry : Entry) → IsStep entry → Reached job odds journal core → TracksIdeal job odds' (journal ++ entry ∷ []) (after job core entry) → Reached job odds' (journal ++ entry ∷ []) (after job core entry)
 reached-next job odds odds' journal core entry kind r h = record {
   holds = h;
   is_replay = replay-append job (opening_core job) journal (entry ∷ []) ∙ ap (λ (c : Core). after job c entry) r.is_replay;
@@ -183,7 +183,7 @@ pub data Stage (job : Job) (Q : List ℕ → Type 0) (journal : List Entry) (cor
 
 -- one entry
 pub data AfterEntry (job : Job) (Q : List ℕ → Type 0) (journal : List Entry) (core : Core) (entry : Entry) : Type 0 where
-  is_step : (odds : List ℕ) → Q odds → IsStep entry → Holds job odds (journal ++ entry ∷ []) (after job core entry) → AfterEntry job Q journal core entry
+  is_step : (odds : List ℕ) → Q odds → IsStep entry → TracksIdeal job odds (journal ++ entry ∷ []) (after job core entry) → AfterEntry job Q journal core entry
   is_end : (how : How) → entry ≡ End how → MayEnd job core how → AfterEntry job Q journal core entry
 
 module _ (job : Job) (free : RaceFree job.program) (Q : List ℕ → Type 0) (whole : List Entry) (policy : Policy job Q whole) where

@@ -24,7 +24,7 @@ use Rattle.ro_core.specs.Event.{Event, core_after}
 use Rattle.ro_core.specs.Ideal.{ideal}
 use Rattle.ro_core.specs.Sound.{IsSound}
 use Rattle.ro_vote.specs.Numbers.{is_among, AtMostHalf}
-use Rattle.ro_simulation.specs.Invariant.{Agrees, StandsAtCall, Holds}
+use Rattle.ro_simulation.specs.Invariant.{Agrees, StandsAtCall, TracksIdeal}
 use Rattle.ro_simulation.proofs.Stays.{live-within}
 use Rattle.ro_simulation.proofs.Ahead.{KeepsRest, BackedRun-keeps, BackedRun-run}
 use Rattle.ro_core.proofs.Lists.{MappedFrom, get-map, length-mapped}
@@ -83,7 +83,7 @@ pub record Meets (job : Job) (machine middle : Machine) (backed : Backed) (t : �
   pub comes : Comes job backed machine middle r t thread
   pub own_stop : (stop : Stop) → event.effect.releases ≡ false → thread.stop ≡ Some stop → standing (layout_of job.program) job.settings.watchdog r.backed r.memory thread.cpu 0 ≡ Some stop
 
-module _ (job : Job) (odds : List ℕ) (journal : List Entry) (core : Core) (h : Holds job odds journal core) (going : h.machine.ended ≡ None) (no_lease : core.leases ≡ []) (t count : ℕ) (live : IsTrue (lives_on h.machine.kernel t)) (middle : Machine) (own : BackedRun job.program h.backed h.machine (replicate count t) middle) (event : Event) (after : Machine) (step : EventStep job h.backed h.machine middle t event after)
+module _ (job : Job) (odds : List ℕ) (journal : List Entry) (core : Core) (h : TracksIdeal job odds journal core) (going : h.machine.ended ≡ None) (no_lease : core.leases ≡ []) (t count : ℕ) (live : IsTrue (lives_on h.machine.kernel t)) (middle : Machine) (own : BackedRun job.program h.backed h.machine (replicate count t) middle) (event : Event) (after : Machine) (step : EventStep job h.backed h.machine middle t event after)
     (entry : Entry) (plan_is : entry_plan entry ≡ replicate count t ++ replicate (event_steps event.did) t) (replicas : List Replica) (as_many : length replicas ≡ length core.replicas) (sound : (number : ℕ) (r : Replica) → slice_get replicas number ≡ Some r → IsSound job core h.backed number r) (odds' : List ℕ) (few' : AtMostHalf job.settings.replicas odds') where
   -- the thread's own steps keep the kernel
   kept : KeepsRest h.machine middle
@@ -141,7 +141,7 @@ module _ (job : Job) (odds : List ℕ) (journal : List Entry) (core : Core) (h :
       omega arith
 
   -- the invariant after the entry
-  pub event-holds : ((number : ℕ) (r : Replica) → is_among odds' number ≡ false → slice_get replicas number ≡ Some r → Meets job h.machine middle h.backed t event r) → Holds job odds' (journal ++ entry ∷ []) (core_after core t count replicas event)
+  pub event-holds : ((number : ℕ) (r : Replica) → is_among odds' number ≡ false → slice_get replicas number ≡ Some r → Meets job h.machine middle h.backed t event r) → TracksIdeal job odds' (journal ++ entry ∷ []) (core_after core t count replicas event)
   event-holds meets = record {
     machine = after;
     ideal_is = ideal_after;

@@ -14,7 +14,7 @@ use Rattle.ro_core.specs.Core.{Job, Core, opening_core}
 use Rattle.ro_core.specs.Legal.{MayEnd, due, alone, for_vote, for_free, Legal, replay}
 use Rattle.ro_core.specs.Ideal.{StaysApart}
 use Rattle.ro_core.specs.Sound.{IsOver}
-use Rattle.ro_simulation.specs.Invariant.{Holds}
+use Rattle.ro_simulation.specs.Invariant.{TracksIdeal}
 use Rattle.ro_simulation.specs.Theorem.{TwoThreeOrFive, IsComplete, by_exit, by_trap, by_deadlock, PassedLimit, CannotDiffer, EndsComplete}
 use Rattle.ro_simulation.proofs.Kept.{plan-same}
 use Rattle.ro_simulation.proofs.Votes.{vote-parts, vote-runs}
@@ -31,7 +31,7 @@ no-over-differ h = elim h [ ]
 no-over-limit : (steps next : ℕ) → IsOver (Limit steps next) → ⊥
 no-over-limit steps next h = elim h [ ]
 
-module _ (job : Job) (free : RaceFree job.program) (odds : List ℕ) (journal : List Entry) (core : Core) (h : Holds job odds journal core) where
+module _ (job : Job) (free : RaceFree job.program) (odds : List ℕ) (journal : List Entry) (core : Core) (h : TracksIdeal job odds journal core) where
   -- an end by a limit in a core that the invariant holds of
   passed : (steps next : ℕ) → MayEnd job core (Limit steps next) → PassedLimit job journal steps next
   passed steps next (due e) = absurd (no-over-limit steps next (h.ends_well (Limit steps next) (sym h.same_end ∙ e)))

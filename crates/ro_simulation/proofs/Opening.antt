@@ -11,7 +11,7 @@ use Rattle.ro_plain.proofs.Calls.{some-injective}
 use Rattle.ro_core.specs.Core.{Job, Core, opening_replicas, opening_core}
 use Rattle.ro_core.specs.Sound.{IsSound}
 use Rattle.ro_vote.specs.Numbers.{AtMostHalf}
-use Rattle.ro_simulation.specs.Invariant.{Agrees, Holds}
+use Rattle.ro_simulation.specs.Invariant.{Agrees, TracksIdeal}
 use Rattle.ro_core.proofs.Lists.{get-append-cases, listed-filter}
 
 -- so many replicas are made
@@ -62,7 +62,7 @@ opening-agrees job number = record {
 }
 
 -- the invariant, whichever replicas, at most half, may be odd
-pub opening-holds : (job : Job) (odds : List ℕ) → AtMostHalf job.settings.replicas odds → Holds job odds [] (opening_core job)
+pub opening-holds : (job : Job) (odds : List ℕ) → AtMostHalf job.settings.replicas odds → TracksIdeal job odds [] (opening_core job)
 unfolding opening_core opening
 opening-holds job odds few = record {
   few = few;

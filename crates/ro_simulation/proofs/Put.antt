@@ -9,7 +9,7 @@ use Rattle.ro_kernel.specs.Kernel.{lives_on}
 use Rattle.ro_exec.specs.Next.{Next, next, stop_in, change_of}
 use Rattle.ro_thread.specs.declared.Thread.{Thread}
 use Rattle.ro_replica.specs.Replica.{Replica}
-use Rattle.ro_replica.specs.Runs.{Ran, struck, executed, run_of, with_stop, standing_in, standing_at}
+use Rattle.ro_replica.specs.Runs.{RanTo, struck, executed, run_of, with_stop, standing_in, standing_at}
 use Rattle.ro_plain.specs.Machine.{layout_of, Machine, opening, executed as machine_executed, steppable, step, run, BackedRun}
 use Rattle.ro_plain.specs.Order.{RaceFree}
 use Rattle.ro_plain.proofs.Calls.{some-injective}
@@ -135,17 +135,17 @@ module _ (job : Job) (free : RaceFree job.program) (before : List ℕ) (machine 
   no-hit m n e = (omega arith, omega arith)
 
   -- any number of them
-  pub but-ran : (n : ℕ) (replica : Replica) (ran : Ran) → run_of (layout_of job.program) job.settings.watchdog n replica t ≡ Some ran → ran.hit ≡ 0 → AgreesBut job machine replica t → AgreesBut job machine ran.replica t
+  pub but-ran : (n : ℕ) (replica : Replica) (ran : RanTo) → run_of (layout_of job.program) job.settings.watchdog n replica t ≡ Some ran → ran.hit ≡ 0 → AgreesBut job machine replica t → AgreesBut job machine ran.replica t
   but-ran zero replica ran e none h =
       let same : struck job.program.image.ranges replica t ≡ ran = some-injective e in
-      subst (λ (x : Ran). AgreesBut job machine x.replica t) same
-      (but-waiting replica _ (none-struck job.program.image.ranges t replica (ap (λ (x : Ran). x.hit) same ∙ none)) h)
+      subst (λ (x : RanTo). AgreesBut job machine x.replica t) same
+      (but-waiting replica _ (none-struck job.program.image.ranges t replica (ap (λ (x : RanTo). x.hit) same ∙ none)) h)
   but-ran (suc n) replica ran e none h =
       let parts = run-parts (layout_of job.program) job.settings.watchdog n replica t ran e in
-      let zeros = no-hit (struck job.program.image.ranges replica t).hit parts.rest.hit (ap (λ (x : Ran). x.hit) parts.sum ∙ none) in
+      let zeros = no-hit (struck job.program.image.ranges replica t).hit parts.rest.hit (ap (λ (x : RanTo). x.hit) parts.sum ∙ none) in
       let first = but-waiting replica _ (none-struck job.program.image.ranges t replica zeros.0) h in
       let here = but-executed (struck job.program.image.ranges replica t).replica parts.after first (instructs (layout_of job.program) job.settings.watchdog _ t parts.after parts.executes) in
-      subst (λ (x : Ran). AgreesBut job machine x.replica t) parts.sum (let rest = but-ran n parts.after parts.rest parts.runs zeros.1 here in record { runs_ahead = rest.runs_ahead; stops = rest.stops })
+      subst (λ (x : RanTo). AgreesBut job machine x.replica t) parts.sum (let rest = but-ran n parts.after parts.rest parts.runs zeros.1 here in record { runs_ahead = rest.runs_ahead; stops = rest.stops })
 
   -- ---- the stop at which the thread arrives
 
@@ -184,5 +184,5 @@ module _ (job : Job) (free : RaceFree job.program) (before : List ℕ) (machine 
     }
 
   -- a whole lease without a fault
-  pub agrees-after-lease : (n : ℕ) (replica : Replica) (ran : Ran) → run_of (layout_of job.program) job.settings.watchdog n replica t ≡ Some ran → ran.hit ≡ 0 → Agrees job machine replica → Agrees job machine (arrived job t n ran.replica)
+  pub agrees-after-lease : (n : ℕ) (replica : Replica) (ran : RanTo) → run_of (layout_of job.program) job.settings.watchdog n replica t ≡ Some ran → ran.hit ≡ 0 → Agrees job machine replica → Agrees job machine (arrived job t n ran.replica)
   agrees-after-lease n replica ran e none h = agrees-arrived n ran.replica (but-ran n replica ran e none (record { runs_ahead = h.runs_ahead; stops = λ number d. h.stops number }))

@@ -19,7 +19,7 @@ use Rattle.ro_vote.specs.Numbers.{is_among, without, AtMostHalf}
 use Rattle.ro_journal.specs.Losers.{numbers}
 use Rattle.ro_vote.proofs.Places.{without-itself}
 use Rattle.std.proofs.lemmas.Bool.{eq-eqb}
-use Rattle.ro_simulation.specs.Invariant.{Agrees, Holds}
+use Rattle.ro_simulation.specs.Invariant.{Agrees, TracksIdeal}
 use Rattle.ro_simulation.specs.Theorem.{payloads_of, IsFront, FewDiffer, GoesOn, AlikeAt, HaveEqualViews, HaveEqualPages, CopiesWell, EachCopiesWell, EndsAs, Simulates, TwoThreeOrFive}
 use Rattle.ro_simulation.proofs.Alike.{agrees-is-alike, alike-agrees}
 use Rattle.ro_simulation.proofs.Views.{arrives, equal-views}
@@ -36,7 +36,7 @@ pub record SameState (job : Job) (journal before : List Entry) (core : Core) : T
   pub same_replicas : (replay job journal).replicas ≡ core.replicas
   pub same_kernel : (replay job journal).kernel ≡ core.kernel
 
-module _ (job : Job) (free : RaceFree job.program) (odds : List ℕ) (journal before : List Entry) (core : Core) (h : Holds job odds before core) (s : SameState job journal before core) where
+module _ (job : Job) (free : RaceFree job.program) (odds : List ℕ) (journal before : List Entry) (core : Core) (h : TracksIdeal job odds before core) (s : SameState job journal before core) where
   -- the ideal machine
   ideal_is : ideal job journal ≡ Some h.machine
   ideal_is = s.same_ideal ∙ h.ideal_is
@@ -118,7 +118,7 @@ module _ (job : Job) (free : RaceFree job.program) (Q : List ℕ → Type 0) (jo
           agreed : (r : Replica) → IsAlike job before r → Agrees job reached.holds.machine r
           agreed r alike = alike-agrees job before reached.holds.machine r reached.holds.ideal_is alike
 
-          alike-after : (odds' : List ℕ) → Holds job odds' (before ++ Vote thread count won lost did ∷ []) (after job (replay job before) (Vote thread count won lost did)) → GoesOn job (before ++ Vote thread count won lost did ∷ [])
+          alike-after : (odds' : List ℕ) → TracksIdeal job odds' (before ++ Vote thread count won lost did ∷ []) (after job (replay job before) (Vote thread count won lost did)) → GoesOn job (before ++ Vote thread count won lost did ∷ [])
               → (number : ℕ) → is_among odds' number ≡ false → AlikeAt job (before ++ Vote thread count won lost did ∷ []) number
           alike-after odds' all on number d r there =
               let same : on.0 ≡ all.machine = some-injective (sym on.1 ∙ all.ideal_is) in

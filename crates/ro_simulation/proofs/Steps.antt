@@ -11,7 +11,7 @@ use Rattle.ro_event.specs.declared.stops.Stop.{Stop}
 use Rattle.ro_event.specs.declared.stops.Stop.TheVariants.{Calls, Trap, PageFault, Watchdog}
 use Rattle.ro_event.specs.Effects.{Effect}
 use Rattle.ro_journal.specs.declared.Did.{Did}
-use Rattle.ro_journal.specs.declared.Did.TheVariants.{Blocked as WasBlocked, Mapped, Watch, Trapped}
+use Rattle.ro_journal.specs.declared.Did.TheVariants.{Blocked as WasBlocked, PageBacked, Watch, Trapped}
 use Rattle.ro_journal.specs.declared.How.{How}
 use Rattle.ro_journal.specs.declared.How.TheVariants.{Trap as TrapHow}
 use Rattle.ro_journal.specs.Plan.{event_steps}
@@ -227,5 +227,5 @@ module _ (job : Job) (free : RaceFree job.program) (before : List ℕ) (backed :
   unfolding event_of
   step-of-stop (Calls call) h = step-of-call call (h a_call) _ refl
   step-of-stop (Trap code) h = trap-step code (h a_trap)
-  step-of-stop (PageFault page) h = (middle, quiet-step Mapped (Some page) true _ refl refl (λ call (f : None ≡ Some call). absurd cc))
+  step-of-stop (PageFault page) h = (middle, quiet-step PageBacked (Some page) true _ refl refl (λ call (f : None ≡ Some call). absurd cc))
   step-of-stop Watchdog h = (middle, quiet-step Watch None true _ refl refl (λ call (f : None ≡ Some call). absurd cc))

@@ -28,7 +28,7 @@ use Rattle.ro_replica.specs.Views.{payload_at, view_with, view_of}
 use Rattle.ro_core.specs.Event.{Event, event_of, with_recovered, core_after}
 use Rattle.ro_core.specs.Legal.{event_with, event_in, core_after_event, after, since_in, MayVote}
 use Rattle.ro_core.specs.Sound.{IsSound}
-use Rattle.ro_simulation.specs.Invariant.{Agrees, Holds}
+use Rattle.ro_simulation.specs.Invariant.{Agrees, TracksIdeal}
 use Rattle.ro_core.proofs.Lists.{get-within, get-filter-map, length-filter-map, get-all, all-from}
 use Rattle.ro_simulation.proofs.Views.{Comes, Arrives, arrives, SameArrival, same-arrival, machine_view, next-at-middle, view-is, standing_by, stands-next, not-equal}
 use Rattle.ro_simulation.proofs.Ahead.{KeepsRest, BackedRun-keeps, BackedRun-run}
@@ -101,7 +101,7 @@ vote-parts core t h =
     let a = and_parts _ _ h in let b = and_parts _ _ a.0 in let c = and_parts _ _ b.0 in let d = and_parts _ _ c.0 in
     record { going = going-from core d.0; no_lease = none-lent core d.1; live = c.1; stopped = a.1 }
 
-module _ (job : Job) (free : RaceFree job.program) (odds : List ℕ) (journal : List Entry) (core : Core) (h : Holds job odds journal core) (t : ℕ) (parts : VoteParts core t) where
+module _ (job : Job) (free : RaceFree job.program) (odds : List ℕ) (journal : List Entry) (core : Core) (h : TracksIdeal job odds journal core) (t : ℕ) (parts : VoteParts core t) where
   -- the program goes on at a vote
   going : h.machine.ended ≡ None
   going = sym h.same_end ∙ parts.going.not_due
@@ -411,10 +411,10 @@ module _ (job : Job) (free : RaceFree job.program) (odds : List ℕ) (journal : 
           ∙ ap (core_after_event core t count (with_recovered won (numbers lost) core.replicas)) (sym (event-is won (winner-shows won well.winner)))
 
       -- the invariant with any odd replicas, at most half, where all others fit
-      voted-with : (odds' : List ℕ) → AtMostHalf job.settings.replicas odds' → ((number : ℕ) (r : Replica) → is_among odds' number ≡ false → slice_get (with_recovered won (numbers lost) core.replicas) number ≡ Some r → Fits r) → Holds job odds' (journal ++ Vote t count won lost did ∷ []) (after job core (Vote t count won lost did))
+      voted-with : (odds' : List ℕ) → AtMostHalf job.settings.replicas odds' → ((number : ℕ) (r : Replica) → is_among odds' number ≡ false → slice_get (with_recovered won (numbers lost) core.replicas) number ≡ Some r → Fits r) → TracksIdeal job odds' (journal ++ Vote t count won lost did ∷ []) (after job core (Vote t count won lost did))
       voted-with odds' few' fit =
           let event = has-good-event in
-          subst (Holds job odds' (journal ++ Vote t count won lost did ∷ [])) after-is
+          subst (TracksIdeal job odds' (journal ++ Vote t count won lost did ∷ [])) after-is
           (event-holds job odds journal core h going parts.no_lease t good.thread.since live-in-machine good.arrival.middle good.arrival.comes.own _ event.0 event.1
           (Vote t count won lost did) plan_same (with_recovered won (numbers lost) core.replicas) (length-with-copy won (numbers lost) core.replicas)
           (sound-with-copy won lost well may.verdict) odds' few'
@@ -426,7 +426,7 @@ some-voted views replicas won lost n e = let w = won-by views won lost e in let 
 
 -- ---- the steps that a vote would retire
 
-module _ (job : Job) (free : RaceFree job.program) (odds : List ℕ) (journal : List Entry) (core : Core) (h : Holds job odds journal core) (t : ℕ) (parts : VoteParts core t) where
+module _ (job : Job) (free : RaceFree job.program) (odds : List ℕ) (journal : List Entry) (core : Core) (h : TracksIdeal job odds journal core) (t : ℕ) (parts : VoteParts core t) where
   -- they are an execution, whether the vote fits the limit or not
   pub vote-runs : (won : ℕ) (lost : List ℕ) → verdict_of (views_of job core t) ≡ Won won lost → (count : ℕ) → since_in core t won ≡ Some count → (event : Event) → event_in job core t won ≡ Some event → IsExecution job.program (plan_of journal ++ (replicate count t ++ replicate (event_steps event.did) t))
   vote-runs won lost verdict count since event comes =
@@ -443,15 +443,15 @@ module _ (job : Job) (free : RaceFree job.program) (odds : List ℕ) (journal : 
 
 -- what a vote leaves
 pub record AfterVote (job : Job) (odds : List ℕ) (journal : List Entry) (core : Core) (machine : Machine) (t count won : ℕ) (lost : Lost) (did : Did) : Type 0 where
-  pub holds : Holds job odds (journal ++ Vote t count won lost did ∷ []) (after job core (Vote t count won lost did))
+  pub holds : TracksIdeal job odds (journal ++ Vote t count won lost did ∷ []) (after job core (Vote t count won lost did))
   pub losers_odd : (l : ℕ) → is_among (numbers lost) l ≡ true → is_among odds l ≡ true
   pub losers_differ : (l : ℕ) (r : Replica) → is_among (numbers lost) l ≡ true → slice_get core.replicas l ≡ Some r → Agrees job machine r → ⊥
-  pub stays : (number : ℕ) (r : Replica) → slice_get core.replicas number ≡ Some r → Agrees job machine r → Holds job (without number odds) (journal ++ Vote t count won lost did ∷ []) (after job core (Vote t count won lost did))
-  pub heals : (winner : Replica) → slice_get core.replicas won ≡ Some winner → Agrees job machine winner → (l : ℕ) → is_among (numbers lost) l ≡ true → Holds job (without l odds) (journal ++ Vote t count won lost did ∷ []) (after job core (Vote t count won lost did))
+  pub stays : (number : ℕ) (r : Replica) → slice_get core.replicas number ≡ Some r → Agrees job machine r → TracksIdeal job (without number odds) (journal ++ Vote t count won lost did ∷ []) (after job core (Vote t count won lost did))
+  pub heals : (winner : Replica) → slice_get core.replicas won ≡ Some winner → Agrees job machine winner → (l : ℕ) → is_among (numbers lost) l ≡ true → TracksIdeal job (without l odds) (journal ++ Vote t count won lost did ∷ []) (after job core (Vote t count won lost did))
   pub winner_even : length core.replicas < 2 * suc (length (numbers lost)) → is_among odds won ≡ false
-  pub then_all : length core.replicas < 2 * suc (length (numbers lost)) → Holds job [] (journal ++ Vote t count won lost did ∷ []) (after job core (Vote t count won lost did))
+  pub then_all : length core.replicas < 2 * suc (length (numbers lost)) → TracksIdeal job [] (journal ++ Vote t count won lost did ∷ []) (after job core (Vote t count won lost did))
 
-module _ (job : Job) (free : RaceFree job.program) (odds : List ℕ) (journal : List Entry) (core : Core) (h : Holds job odds journal core) (t count won : ℕ) (did : Did) where
+module _ (job : Job) (free : RaceFree job.program) (odds : List ℕ) (journal : List Entry) (core : Core) (h : TracksIdeal job odds journal core) (t count won : ℕ) (did : Did) where
   -- the invariant after a vote
   pub after-vote : (lost : Lost) → MayVote job core t count won lost did → AfterVote job odds journal core h.machine t count won lost did
   after-vote lost may =

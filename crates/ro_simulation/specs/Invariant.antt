@@ -44,7 +44,7 @@ pub record StandsAtCall (program : Program) (machine : Machine) (number : ℕ) (
   pub writes_nothing : (memory : Memory) → payload_of program.image.ranges memory call ≡ []
 
 -- The core stands to the ideal machine as it must; every replica but these, at most half, agrees with it.
-pub record Holds (job : Job) (odds : List ℕ) (journal : List Entry) (core : Core) : Type 0 where
+pub record TracksIdeal (job : Job) (odds : List ℕ) (journal : List Entry) (core : Core) : Type 0 where
   pub machine : Machine
   pub ideal_is : ideal job journal ≡ Some machine
   pub same_kernel : core.kernel ≡ machine.kernel

@@ -2,7 +2,7 @@
 use Rattle.std.specs.Prelude.{◌≡◌, ◌≢◌, ℕ, ◌<◌, IsTrue, false, List, [], ◌∷◌, ◌++◌, Some, None, slice_get}
 use Rattle.ro_journal.specs.declared.losers.Lost.TheVariants.{Nobody}
 use Rattle.ro_event.specs.declared.stops.Stop.{Stop}
-use Rattle.ro_journal.specs.declared.Did.TheVariants.{Mapped}
+use Rattle.ro_journal.specs.declared.Did.TheVariants.{PageBacked}
 use Rattle.ro_journal.specs.declared.How.TheVariants.{NoMajority}
 use Rattle.ro_journal.specs.declared.Entry.{Entry}
 use Rattle.ro_journal.specs.declared.Entry.TheVariants.{Take, Put, Vote, End}
@@ -46,12 +46,12 @@ slipping = record { replica = 0; thread = 0; at = 3; target = Register 6 13 } �
 
 -- before each of the two strikes
 abbrev pub until_first : List Entry
-until_first = Take 0 0 0 ∷ Put 0 0 0 1 0 ∷ Take 0 1 0 ∷ Put 0 1 0 1 0 ∷ Take 0 2 0 ∷ Put 0 2 0 1 0 ∷ Vote 0 1 0 Nobody Mapped ∷ Take 0 0 0 ∷ []
+until_first = Take 0 0 0 ∷ Put 0 0 0 1 0 ∷ Take 0 1 0 ∷ Put 0 1 0 1 0 ∷ Take 0 2 0 ∷ Put 0 2 0 1 0 ∷ Vote 0 1 0 Nobody PageBacked ∷ Take 0 0 0 ∷ []
 
 -- before the second strike
 abbrev pub until_second : List Entry
-until_second = Take 0 0 0 ∷ Put 0 0 0 1 0 ∷ Take 0 1 0 ∷ Put 0 1 0 1 0 ∷ Take 0 2 0 ∷ Put 0 2 0 1 0 ∷ Vote 0 1 0 Nobody Mapped ∷ Take 0 0 0 ∷ Put 0 0 0 6 1 ∷ Take 0 1 0 ∷ []
+until_second = Take 0 0 0 ∷ Put 0 0 0 1 0 ∷ Take 0 1 0 ∷ Put 0 1 0 1 0 ∷ Take 0 2 0 ∷ Put 0 2 0 1 0 ∷ Vote 0 1 0 Nobody PageBacked ∷ Take 0 0 0 ∷ Put 0 0 0 6 1 ∷ Take 0 1 0 ∷ []
 
 -- three different views
 abbrev pub slipped : List Entry
-slipped = Take 0 0 0 ∷ Put 0 0 0 1 0 ∷ Take 0 1 0 ∷ Put 0 1 0 1 0 ∷ Take 0 2 0 ∷ Put 0 2 0 1 0 ∷ Vote 0 1 0 Nobody Mapped ∷ Take 0 0 0 ∷ Put 0 0 0 6 1 ∷ Take 0 1 0 ∷ Put 0 1 0 2 1 ∷ Take 0 2 0 ∷ Put 0 2 0 2 0 ∷ End NoMajority ∷ []
+slipped = Take 0 0 0 ∷ Put 0 0 0 1 0 ∷ Take 0 1 0 ∷ Put 0 1 0 1 0 ∷ Take 0 2 0 ∷ Put 0 2 0 1 0 ∷ Vote 0 1 0 Nobody PageBacked ∷ Take 0 0 0 ∷ Put 0 0 0 6 1 ∷ Take 0 1 0 ∷ Put 0 1 0 2 1 ∷ Take 0 2 0 ∷ Put 0 2 0 2 0 ∷ End NoMajority ∷ []

@@ -12,7 +12,7 @@ use ro_region::Regions;
 
 /// What a run of a thread came to.
 #[derive(Clone, Copy, PartialEq, Eq, Debug)]
-pub struct Ran {
+pub struct RunEnd {
     /// How many instructions were retired.
     pub count: u32,
     /// Where the thread stands still; none where it has done all that it was to do.
@@ -32,7 +32,7 @@ pub fn run<M: Memory>(
     calls: &CallTable,
     most: u32,
     watchdog: u32,
-) -> Ran
+) -> RunEnd
     requires watched { thread.old.since ≤ watchdog }
     requires countable { thread.old.done + most < 2 ^ 128 }
     ensures run { IsRun (record { ranges = regions.now; calls = calls.now }) watchdog (M.backing memory.old) most result.count result.stop (record { thread = thread.old; memory = M.memory memory.old }) (record { thread = thread.new; memory = M.memory memory.new }) }
@@ -45,7 +45,7 @@ pub fn run<M: Memory>(
     let mut reads = Open::new();
     let mut writes = Open::new();
     for count in 0..bound {
-        if !quick_step(
+        if !quick_step::<M, Thread>(
             &mut registers,
             &mut pc,
             memory,
@@ -77,7 +77,7 @@ pub fn run<M: Memory>(
 // Ends a run of so many instructions: gives the thread what its registers are then, and counts them.
 #[cold]
 #[inline(never)]
-fn ended(thread: &mut Thread, registers: &Bank, pc: u32, count: u32, stop: Option<Stop>) -> Ran
+fn ended(thread: &mut Thread, registers: &Bank, pc: u32, count: u32, stop: Option<Stop>) -> RunEnd
     requires since { thread.old.since + count < 2 ^ 32 }
     requires done { thread.old.done + count < 2 ^ 128 }
     ensures ran { result ≡ record { count = count; stop = stop } }
@@ -89,7 +89,7 @@ fn ended(thread: &mut Thread, registers: &Bank, pc: u32, count: u32, stop: Optio
     };
     thread.since += count;
     thread.done += u128::from(count);
-    Ran { count, stop }
+    RunEnd { count, stop }
 }
 
 // A step that `quick_step` left: a stop, or a rare instruction or access.

@@ -115,7 +115,7 @@ fn ran(
     guest: &Guest,
     most: u32,
     watchdog: u32,
-) -> Ran {
+) -> RunEnd {
     assert!(rt; thread.since <= watchdog);
     assert!(rt; thread.done < 1000);
     run(thread, pages, &guest.regions, &guest.calls, most, watchdog)
@@ -124,7 +124,7 @@ fn ran(
 // What a thread is after a run: its count, where it stands, x6, pc, its counts, and the word that it stored last.
 #[derive(Drop)]
 struct After {
-    ran: Ran,
+    ran: RunEnd,
     x6: u32,
     pc: u32,
     since: u32,
@@ -132,7 +132,7 @@ struct After {
     stored: u32,
 }
 
-fn assert_after(rt: &impl Abort, ran: Ran, thread: &Thread, pages: &Pages, after: &After) {
+fn assert_after(rt: &impl Abort, ran: RunEnd, thread: &Thread, pages: &Pages, after: &After) {
     assert_eq!(rt; ran, after.ran);
     assert_eq!(rt; thread.cpu.get(6), after.x6);
     assert_eq!(rt; thread.cpu.pc, after.pc);
@@ -161,7 +161,7 @@ fn stops(rt: HostRuntime) -> Result<(), Fail> {
         let mut thread = thread(5, x7);
         let ran = ran(&rt, &mut thread, &mut pages, &guest, 4096, 10_000);
         let after = After {
-            ran: Ran {
+            ran: RunEnd {
                 count: 9,
                 stop: Some(stop),
             },
@@ -190,7 +190,7 @@ fn stops_where_it_jumps(rt: HostRuntime) -> Result<(), Fail> {
         let mut thread = thread(0, x7);
         let ran = ran(&rt, &mut thread, &mut pages, &guest, 4096, 10_000);
         let after = After {
-            ran: Ran {
+            ran: RunEnd {
                 count: 10,
                 stop: Some(stop),
             },
@@ -246,7 +246,7 @@ fn counts(rt: HostRuntime) -> Result<(), Fail> {
         let mut thread = thread(since, 0);
         let ran = ran(&rt, &mut thread, &mut pages, &guest, most, watchdog);
         let after = After {
-            ran: Ran { count, stop },
+            ran: RunEnd { count, stop },
             x6,
             pc,
             since: since + count,
@@ -285,7 +285,7 @@ fn quanta(rt: HostRuntime) -> Result<(), Fail> {
             }
         }
         let after = After {
-            ran: Ran {
+            ran: RunEnd {
                 count,
                 stop: Some(stop),
             },
@@ -295,7 +295,7 @@ fn quanta(rt: HostRuntime) -> Result<(), Fail> {
             done: 40 + u128::from(count),
             stored,
         };
-        let ran = Ran {
+        let ran = RunEnd {
             count: all,
             stop: Some(stop),
         };

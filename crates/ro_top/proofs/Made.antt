@@ -22,9 +22,9 @@ drawn_in asked image = faults_text (faults_drawn (segments_in image.ranges) aske
 
 pub is_draw : (files : Option Files) (asked : AskedInject) (image : Image) (file : List ℕ) → IsContent files Exe (Some asked.executable) file → bad_code file ≡ None
     → image ≡ image_of file → (old new : Option (List ℕ)) (before after : ℕ) (answer : Answer)
-    → ((answer ≡ NoMemory) × (new ≡ old)) ⊎ WritesText (drawn_in asked image) old new before after answer
+    → ((answer ≡ NoMemory) × (new ≡ old) × (after ≡ before)) ⊎ WritesText (drawn_in asked image) old new before after answer
     → OfItsDraw files asked old new before after answer
-is_draw files asked image file content accepted is old new before after answer (inl none) = inl (inr none.0, none.1)
+is_draw files asked image file content accepted is old new before after answer (inl none) = inl (inr none.0, none.1, none.2)
 is_draw files asked image file content accepted is old new before after answer (inr writes) = inr (
   faults_drawn (segments_in image.ranges) asked.replica asked.seed asked.count,
   record {

@@ -1,7 +1,7 @@
 //! The run of a made executable.
 ghost use Rattle.std.specs.Prelude.{◌≡◌, ◌≢◌, ℕ, [], Option, IfOk, IfErr, Some};
 ghost use Rattle.ro_make.specs.Bench.{bench_file};
-ghost use Rattle.ro_master.specs.Driven.{CanRun};
+ghost use Rattle.ro_core.specs.Driven.{CanRun};
 ghost use Rattle.ro_report.specs.declared.answers.Answer.TheVariants as a;
 ghost use Rattle.ro_words.specs.Commands.{bench_by, to_bench};
 ghost use Rattle.ro_top.specs.Causes.{IsRefusal, JobCause};

@@ -5,7 +5,7 @@ ghost use Rattle.ro_core.specs.declared.actions.Action.TheVariants as act;
 ghost use Rattle.ro_core.specs.Legal.{output_of};
 ghost use Rattle.ro_core.specs.Action.{next_action};
 ghost use Rattle.ro_core.specs.Seen.{state, sent};
-ghost use Rattle.ro_master.specs.Driven.{CanRun, IsDriven, IsHome, KeepsLast, Goes};
+ghost use Rattle.ro_core.specs.Driven.{CanRun, IsDriven, IsHome, KeepsLast, Goes};
 
 use ro_core::{Action, Core};
 use ro_drive::drive_all;

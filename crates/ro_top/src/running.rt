@@ -3,13 +3,13 @@ ghost use Rattle.std.specs.Prelude.{◌≡◌, ◌≢◌, []};
 ghost use Rattle.ro_journal.specs.Plan.{outcome_of};
 ghost use Rattle.ro_report.specs.declared.answers.Answer.TheVariants as a;
 ghost use Rattle.ro_top.specs.Files.{job_of};
-ghost use Rattle.ro_master.specs.Driven.{CanRun};
+ghost use Rattle.ro_core.specs.Driven.{CanRun};
 ghost use Rattle.ro_top.specs.Driven.{AreCounts};
 ghost use Rattle.ro_top.specs.Causes.{IsRefusal, IsOutcome};
 ghost use Rattle.ro_top.specs.Top.{IsRunOf};
 
 use crate::driving::drive;
-use ro_core::{Core, Finished};
+use ro_core::{Core, Finished, Refused};
 use ro_event::View;
 use ro_faults::Fault;
 use ro_image::Executable;
@@ -97,7 +97,7 @@ pub fn run_job<R: Threads + Wait + Sync, K: Sink + Send, G: Gate + Sync>(
         out,
     ) {
         Ok(core) => core,
-        Err(out) => return nothing(alloc, Answer::NoMemory, out),
+        Err(Refused { image: _, out }) => return nothing(alloc, Answer::NoMemory, out),
     };
     // Where there was no memory the journal has no end, and that is the answer.
     let core = drive(rt, alloc, core, gate);

@@ -92,114 +92,6 @@ fn exit_call(status: u32) -> Stop {
     })
 }
 
-/// The acts of a sink, and what the command comes to.
-struct Failing {
-    out: &'static [Act],
-    report: &'static [Act],
-    answer: Answer,
-    end: How,
-    status: u8,
-    told: Told,
-    held: &'static str,
-    reported: &'static str,
-}
-
-const FAILING: &[Failing] = &[
-    Failing {
-        out: &[Act::Take(2), Act::Fail],
-        report: &[],
-        answer: Answer::SinkFailed { taken: 2 },
-        end: How::Sink(2),
-        status: 245,
-        told: Told::Whole,
-        held: "he",
-        reported: "votes 1 copies 0 struck 0 steps 6 bytes 2\nanswer sink 2\n",
-    },
-    // It takes one write in two pieces, and fails at the third.
-    Failing {
-        out: &[Act::Take(2), Act::Take(1), Act::Fail],
-        report: &[],
-        answer: Answer::SinkFailed { taken: 3 },
-        end: How::Sink(3),
-        status: 245,
-        told: Told::Whole,
-        held: "hel",
-        reported: "votes 1 copies 0 struck 0 steps 6 bytes 3\nanswer sink 3\n",
-    },
-    Failing {
-        out: &[
-            Act::Take(1),
-            Act::Take(1),
-            Act::Take(1),
-            Act::Take(1),
-            Act::Take(1),
-        ],
-        report: &[],
-        answer: Answer::Exit(0),
-        end: How::Exit(0),
-        status: 0,
-        told: Told::Whole,
-        held: "hello",
-        reported: "votes 2 copies 0 struck 0 steps 9 bytes 5\nanswer exit 0\n",
-    },
-    Failing {
-        out: &[Act::Fail],
-        report: &[],
-        answer: Answer::SinkFailed { taken: 0 },
-        end: How::Sink(0),
-        status: 245,
-        told: Told::Whole,
-        held: "",
-        reported: "votes 1 copies 0 struck 0 steps 6 bytes 0\nanswer sink 0\n",
-    },
-    Failing {
-        out: &[Act::Take(2)],
-        report: &[Act::Fail],
-        answer: Answer::Exit(0),
-        end: How::Exit(0),
-        status: 251,
-        told: Told::Failed,
-        held: "hello",
-        reported: "",
-    },
-    Failing {
-        out: &[],
-        report: &[Act::Take(5), Act::Fail],
-        answer: Answer::Exit(0),
-        end: How::Exit(0),
-        status: 251,
-        told: Told::Failed,
-        held: "hello",
-        reported: "votes",
-    },
-];
-
-#[test]
-fn failing_sinks(rt: HostRuntime) -> Result<(), Fail> {
-    for row in FAILING {
-        let words = words_of(rt.alloc(), &["run", "hello"])?;
-        let mut store = store(&rt, rt.alloc())?;
-        let mut report = sink(rt.alloc(), row.report)?;
-        let out = sink(rt.alloc(), row.out)?;
-        let done = romain(
-            &rt,
-            rt.alloc(),
-            words.as_slice(),
-            &mut store,
-            out,
-            &mut report,
-            &OpenGate,
-        );
-        assert_eq!(rt; done.answer, row.answer);
-        assert_eq!(rt; done.journal.last(), Some(&Entry::End { how: row.end }));
-        assert_eq!(rt; done.status(), row.status);
-        assert_eq!(rt; done.told, row.told);
-        assert_eq!(rt; done.out.bytes(), row.held.as_bytes());
-        assert_eq!(rt; report.bytes(), row.reported.as_bytes());
-    }
-    Ok(())
-}
-
 /// The journal of a run of `seven`, as it is reported.
 const SEVEN: &str = "romain 2
 take 0 0 0
@@ -322,22 +214,6 @@ const PLANS: &[Plan] = &[
         held: "hello",
         reported: "answer no-step 9\n",
     },
-    Plan {
-        words: &["plain", "hello", "--plan", "hello-plan"],
-        acts: &[Act::Take(2), Act::Fail],
-        answer: Answer::SinkFailed { taken: 2 },
-        status: 245,
-        held: "he",
-        reported: "answer sink 2\n",
-    },
-    Plan {
-        words: &["plain", "hello", "--plan", "hello-plan"],
-        acts: &[Act::Fail],
-        answer: Answer::SinkFailed { taken: 0 },
-        status: 245,
-        held: "",
-        reported: "answer sink 0\n",
-    },
     // The input is read.
     Plan {
         words: &["plain", "read", "--plan", "read-plan", "--input", "header"],
@@ -347,10 +223,10 @@ const PLANS: &[Plan] = &[
         held: "",
         reported: "steps 7 bytes 0\nanswer exit 4\n",
     },
-    // Two threads store to one page, each a byte of its own; a check gives the sink nothing.
+    // Two threads store to one page, each a byte of its own.
     Plan {
         words: &["races", "page", "--plan", "page-plan"],
-        acts: &[Act::Fail],
+        acts: &[],
         answer: Answer::NoRace,
         status: 0,
         held: "",
@@ -359,7 +235,7 @@ const PLANS: &[Plan] = &[
     // Both store the same byte.
     Plan {
         words: &["races", "--plan=page-plan", "byte"],
-        acts: &[Act::Fail],
+        acts: &[],
         answer: Answer::Race {
             i: 8,
             j: 13,
@@ -390,7 +266,7 @@ const PLANS: &[Plan] = &[
     // What the program writes goes nowhere, and its input is read.
     Plan {
         words: &["races", "hello", "--plan", "hello-plan"],
-        acts: &[Act::Fail],
+        acts: &[],
         answer: Answer::NoRace,
         status: 0,
         held: "",
@@ -482,14 +358,6 @@ const TOLD: &[Plan] = &[
         reported: "answer exit 0\n",
     },
     Plan {
-        words: &["inject", "42", "1", "seven"],
-        acts: &[Act::Take(1), Act::Take(2), Act::Fail],
-        answer: Answer::SinkFailed { taken: 3 },
-        status: 245,
-        held: "0 1",
-        reported: "answer sink 3\n",
-    },
-    Plan {
         words: &["inject", "42", "0", "seven"],
         acts: &[],
         answer: Answer::BadWords,
@@ -553,40 +421,29 @@ fn drawn_texts(rt: HostRuntime) -> Result<(), Fail> {
     Ok(())
 }
 
-// A made executable, and a sink that fails at the line of its run.
+// A made executable.
 #[test]
 fn made(rt: HostRuntime) -> Result<(), Fail> {
-    let rows: [(&[Act], Answer, &str); 2] = [
-        (
-            &[],
-            Answer::Exit(0),
-            "bench 1 1 status 0 bytes 9 sum 1890\n",
-        ),
-        (
-            &[Act::Take(5), Act::Fail],
-            Answer::SinkFailed { taken: 5 },
-            "bench",
-        ),
-    ];
-    for (acts, answer, held) in rows {
-        let words = words_of(rt.alloc(), &["bench", "1", "1"])?;
-        let mut store = store(&rt, rt.alloc())?;
-        let mut report = sink(rt.alloc(), &[])?;
-        let out = sink(rt.alloc(), acts)?;
-        let done = romain(
-            &rt,
-            rt.alloc(),
-            words.as_slice(),
-            &mut store,
-            out,
-            &mut report,
-            &OpenGate,
-        );
-        assert_eq!(rt; done.answer, answer);
-        assert_eq!(rt; done.out.bytes(), held.as_bytes());
-        let end = Entry::End { how: How::Exit(0) };
-        assert_eq!(rt; done.journal.last(), Some(&end));
-    }
+    let words = words_of(rt.alloc(), &["bench", "1", "1"])?;
+    let mut store = store(&rt, rt.alloc())?;
+    let mut report = sink(rt.alloc(), &[])?;
+    let out = sink(rt.alloc(), &[])?;
+    let done = romain(
+        &rt,
+        rt.alloc(),
+        words.as_slice(),
+        &mut store,
+        out,
+        &mut report,
+        &OpenGate,
+    );
+    assert_eq!(rt; done.answer, Answer::Exit(0));
+    assert_eq!(rt;
+        done.out.bytes(),
+        b"bench 1 1 status 0 bytes 9 sum 1890\n".as_slice()
+    );
+    let end = Entry::End { how: How::Exit(0) };
+    assert_eq!(rt; done.journal.last(), Some(&end));
     Ok(())
 }
 
@@ -626,57 +483,7 @@ fn longest_plan(rt: HostRuntime) -> Result<(), Fail> {
     Ok(())
 }
 
-// Each call of the store of a command fails in turn, and each call of its sinks.
-#[test]
-fn failing_in_turn(rt: HostRuntime) -> Result<(), Fail> {
-    let command = ["plain", "hello", "--plan", "hello-plan", "--input", "one"];
-    for call in 1..4 {
-        let words = words_of(rt.alloc(), &command)?;
-        let mut store = store(&rt, rt.alloc())?;
-        store.fail_at(call)?;
-        let mut report = sink(rt.alloc(), &[])?;
-        let out = sink(rt.alloc(), &[])?;
-        let done = romain(
-            &rt,
-            rt.alloc(),
-            words.as_slice(),
-            &mut store,
-            out,
-            &mut report,
-            &OpenGate,
-        );
-        assert_eq!(rt; done.answer, Answer::StoreFailed, "at {call}");
-        assert!(rt; done.out.bytes().is_empty());
-    }
-    let acts: [&[Act]; 3] = [
-        &[Act::Fail],
-        &[Act::Take(3), Act::Fail],
-        &[Act::Take(100), Act::Fail],
-    ];
-    let told = ["", "ste", "steps 9 bytes 5\n"];
-    for (acts, told) in acts.iter().zip(told) {
-        let words = words_of(rt.alloc(), &command)?;
-        let mut store = store(&rt, rt.alloc())?;
-        let mut report = sink(rt.alloc(), acts)?;
-        let out = sink(rt.alloc(), &[])?;
-        let done = romain(
-            &rt,
-            rt.alloc(),
-            words.as_slice(),
-            &mut store,
-            out,
-            &mut report,
-            &OpenGate,
-        );
-        assert_eq!(rt; done.answer, Answer::Exit(0));
-        assert_eq!(rt; done.told, Told::Failed);
-        assert_eq!(rt; done.status(), 251);
-        assert_eq!(rt; report.bytes(), told.as_bytes());
-    }
-    Ok(())
-}
-
-// Files of as many bytes as they may have, and of one more; and which call of the store fails.
+// Files of as many bytes as they may have, and of one more.
 #[test]
 fn long_files(rt: HostRuntime) -> Result<(), Fail> {
     let cases: [(&[&str], usize, Answer); 6] = [

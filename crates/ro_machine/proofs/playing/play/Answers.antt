@@ -1,4 +1,4 @@
-use Rattle.std.proofs.Common.{◌≤◌, arith}
+use Rattle.std.proofs.Common.{◌≤◌, ◌∙◌, arith}
 use Rattle.std.proofs.lemmas.Result.{err_from_is_err_and}
 use Rattle.ro_machine.proofs.Joined.{halts-left, played-more}
 use Rattle.ro_machine.proofs.playing.play.Goals as goal
@@ -12,7 +12,7 @@ loop-now-preserved g c =
       from = omega (arith, i.from, further);
       most = omega (arith, i.most, e.most);
       bytes = e.bytes;
-      failures = omega (arith, i.failures, e.failures);
+      calm = e.calm ∙ i.calm;
       played = played-more c.args.plain.now c.loop-now.plain c.play_part.new.plain c.args.thread _ _ _ c.args.progress.steps c.loop-now.now.steps c.in_ok-now.now.steps _ _ _ i.from further i.played e.played;
     }
 
@@ -22,4 +22,4 @@ returns-in_err-now-clause-halts g c =
     let i = c.loop-now.invariant in
     let e = c.in_err-now.field-0.0 in
     rw (p.1, p.2)
-    (halts-left c.args.plain.now c.loop-now.plain c.args.thread c.args.count _ _ _ c.args.progress.steps c.loop-now.now.steps _ _ (g.K.Sink.failures c.args.out.now) (g.K.Sink.failures c.loop-now.out) (g.K.Sink.failures c.play_part.new.out) e i.from i.most i.played i.failures c.in_err-now.ensures.halts)
+    (halts-left c.args.plain.now c.loop-now.plain c.args.thread c.args.count _ _ _ c.args.progress.steps c.loop-now.now.steps _ _ (g.K.Sink.failures c.args.out.now) (g.K.Sink.failures c.loop-now.out) (g.K.Sink.failures c.play_part.new.out) e i.from i.most i.played i.calm c.in_err-now.ensures.halts)

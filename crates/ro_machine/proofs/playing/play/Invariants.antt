@@ -1,4 +1,4 @@
-use Rattle.std.proofs.Common.{◌+◌, ◌-◌, ◌*◌, ◌≤◌, replicate}
+use Rattle.std.proofs.Common.{◌≡◌, ◌+◌, ◌-◌, ◌*◌, ◌≤◌, replicate}
 use Rattle.ro_machine.specs.Parts.{Played}
 use Rattle.ro_machine.proofs.playing.play.Given as goal
 
@@ -7,7 +7,7 @@ invariant-loop-now g l = record {
   from : l.fn.progress.steps ≤ l.now.steps;
   most : l.now.steps ≤ l.fn.progress.steps + l.fn.count;
   bytes : l.now.bytes ≤ 4096 * l.now.steps;
-  failures : g.K.Sink.failures l.fn.out ≤ g.K.Sink.failures l.out;
+  calm : g.K.Sink.failures l.out ≡ g.K.Sink.failures l.fn.out;
   played : Played l.fn.plain (replicate (l.now.steps - l.fn.progress.steps) l.thread) l.plain (g.K.Sink.held l.fn.out) (g.K.Sink.held l.out) l.fn.progress.steps l.now.steps l.fn.progress.bytes l.now.bytes;
 }
 

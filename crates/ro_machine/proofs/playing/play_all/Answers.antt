@@ -1,4 +1,4 @@
-use Rattle.std.proofs.Common.{ℕ, List, ◌<◌, subst, arith, take, get_or, length}
+use Rattle.std.proofs.Common.{ℕ, List, ◌<◌, ◌∙◌, subst, arith, take, get_or, length}
 use Rattle.std.proofs.lemmas.Result.{err_from_is_err_and}
 use Rattle.ro_journal.specs.declared.Entry.TheVariants.{Take}
 use Rattle.ro_journal.specs.Plan.{entry_plan, plan_of}
@@ -17,7 +17,7 @@ returns-in_err-now-clause-halts g c =
     let less : c.loop-entry.entry-index < length c.args.journal.now = omega arith in
     rw (p.1, p.2)
     (halts-plan c.args.plain.now c.args.journal.now c.loop-entry.entry-index (Take 0 0 0) _ _ _ _ _ e less
-    (halts-later c.args.plain.now c.loop-entry.plain (plan_of (take c.loop-entry.entry-index c.args.journal.now)) (entry_plan (get_or c.args.journal.now c.loop-entry.entry-index (Take 0 0 0))) _ _ _ _ _ 0 _ _ 0 i.played (g.K.Sink.failures c.args.out.now) (g.K.Sink.failures c.loop-entry.out) (g.K.Sink.failures c.play_entry.new.out) e i.failures c.in_err-now.ensures.halts))
+    (halts-later c.args.plain.now c.loop-entry.plain (plan_of (take c.loop-entry.entry-index c.args.journal.now)) (entry_plan (get_or c.args.journal.now c.loop-entry.entry-index (Take 0 0 0))) _ _ _ _ _ 0 _ _ 0 i.played (g.K.Sink.failures c.args.out.now) (g.K.Sink.failures c.loop-entry.out) (g.K.Sink.failures c.play_entry.new.out) e i.calm c.in_err-now.ensures.halts))
 
 pub loop-entry-preserved : goal.loop-entry-preserved
 loop-entry-preserved g c =
@@ -25,7 +25,7 @@ loop-entry-preserved g c =
     let less : c.loop-entry.entry-index < length c.args.journal.now = omega arith in
     record {
       bytes = c.in_ok-now.ensures.bytes;
-      failures = omega (arith, i.failures, c.in_ok-now.ensures.failures);
+      calm = c.in_ok-now.ensures.calm ∙ i.calm;
       played = subst (λ (xs : List ℕ). Played c.args.plain.now xs c.play_entry.new.plain (g.K.Sink.held c.args.out.now) (g.K.Sink.held c.play_entry.new.out) 0 c.in_ok-now.now.steps 0 c.in_ok-now.now.bytes) (plan-next c.args.journal.now c.loop-entry.entry-index (Take 0 0 0) less)
           (played-join c.args.plain.now c.loop-entry.plain (plan_of (take c.loop-entry.entry-index c.args.journal.now)) (entry_plan (get_or c.args.journal.now c.loop-entry.entry-index (Take 0 0 0))) _ _ _ _ _ _ _ _ _ i.played c.play_entry.new.plain c.in_ok-now.ensures.played);
     }

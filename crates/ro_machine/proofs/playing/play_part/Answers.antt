@@ -1,4 +1,4 @@
-use Rattle.std.proofs.Common.{◌<◌, ◌+◌, ◌∷◌, [], ℕ, replicate, ap, arith}
+use Rattle.std.proofs.Common.{◌<◌, ◌+◌, ◌∷◌, [], ℕ, replicate, refl, ap, arith}
 use Rattle.ro_machine.proofs.Stepping.{if-err}
 use Rattle.ro_machine.proofs.Joined.{if-ok, played-plain, played-join, part-counted, halts-later, halts-all}
 use Rattle.ro_machine.proofs.playing.play_part.Goals as goal
@@ -19,5 +19,5 @@ returns-clause-halts g c =
     let less : c.run_on-ran.result < c.args.most = omega (arith, c.run_on-ran.ensures.count, c.if-ran-most.false) in
     if-err c.play_one.result _ _
     (λ e q. halts-all c.args.plain.now c.args.thread c.run_on-ran.result c.args.most h (g.K.Sink.held c.play_one.new.out) c.args.progress.steps (g.K.Sink.failures c.args.out.now) (g.K.Sink.failures c.play_one.new.out) e less
-    (halts-later c.args.plain.now c.run_on-ran.new.self (replicate c.run_on-ran.result c.args.thread) (c.args.thread ∷ []) h h (g.K.Sink.held c.play_one.new.out) _ _ 0 _ _ 0 first (g.K.Sink.failures c.args.out.now) (g.K.Sink.failures c.args.out.now) (g.K.Sink.failures c.play_one.new.out) e (omega arith) q))
+    (halts-later c.args.plain.now c.run_on-ran.new.self (replicate c.run_on-ran.result c.args.thread) (c.args.thread ∷ []) h h (g.K.Sink.held c.play_one.new.out) _ _ 0 _ _ 0 first (g.K.Sink.failures c.args.out.now) (g.K.Sink.failures c.args.out.now) (g.K.Sink.failures c.play_one.new.out) e refl q))
     c.play_one.ensures.halts

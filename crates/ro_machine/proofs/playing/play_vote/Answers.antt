@@ -24,5 +24,5 @@ pub returns-clause-halts : goal.returns-clause-halts
 returns-clause-halts g c =
     if-err c.play-2.result _ _
     (λ e q. subst (λ (n : ℕ). Halts c.args.plain.now (replicate n c.args.thread ++ replicate c.args.event c.args.thread) (g.K.Sink.held c.args.out.now) (g.K.Sink.held c.play-2.new.out) c.args.progress.steps (g.K.Sink.failures c.args.out.now) (g.K.Sink.failures c.play-2.new.out) e) c.from.ensures
-    (halts-later c.args.plain.now c.play.new.plain (replicate c.from.result c.args.thread) (replicate c.args.event c.args.thread) _ _ _ _ _ 0 _ _ 0 c.in_ok-now.ensures.played _ _ _ e c.in_ok-now.ensures.failures q))
+    (halts-later c.args.plain.now c.play.new.plain (replicate c.from.result c.args.thread) (replicate c.args.event c.args.thread) _ _ _ _ _ 0 _ _ 0 c.in_ok-now.ensures.played _ _ _ e c.in_ok-now.ensures.calm q))
     c.play-2.ensures.halts

@@ -28,14 +28,14 @@ hit_of-hit-requires-clause-code c = (c.in-Some.ensures.sees []).code_few
 pub hit_of-hit-requires-clause-stored : goal.hit_of-hit-requires-clause-stored
 hit_of-hit-requires-clause-stored c = (c.in-Some.ensures.sees []).stored_few
 
-pub mark-requires-clause-count : goal.mark-requires-clause-count
-mark-requires-clause-count c = (c.in-Some.ensures.sees []).loaded_few
+pub mark_all-requires-clause-loaded : goal.mark_all-requires-clause-loaded
+mark_all-requires-clause-loaded c = (c.in-Some.ensures.sees []).loaded_few
 
-pub mark-requires-2-clause-count : goal.mark-requires-2-clause-count
-mark-requires-2-clause-count c = (c.in-Some.ensures.sees []).code_few
+pub mark_all-requires-clause-code : goal.mark_all-requires-clause-code
+mark_all-requires-clause-code c = (c.in-Some.ensures.sees []).code_few
 
-pub mark-requires-3-clause-count : goal.mark-requires-3-clause-count
-mark-requires-3-clause-count c = (c.in-Some.ensures.sees []).stored_few
+pub mark_all-requires-clause-stored : goal.mark_all-requires-clause-stored
+mark_all-requires-clause-stored c = (c.in-Some.ensures.sees []).stored_few
 
 pub returns-clause-own : goal.returns-clause-own
 returns-clause-own c =
@@ -64,6 +64,6 @@ returns-clause-follows c program threads follows there =
     (keeps-at rows c.args.own c.index_mut.result.now row (Thread t) c.advance.new.self at refl refl own.first) in
     next program threads (put_back old c.args.lane.now) follows t (there ∙ ap Some (sym thread)) w
     (λ output. subst (λ (n : ℕ). Sees old.plain.program (machine_of (closed old.plain c.args.lane.now) output) n w) (sym thread) (c.in-Some.ensures.sees output))
-    (record { plain = closed c.watch_quickly.new.self c.watch_quickly.new.lane; rows = with_item old.rows c.args.own row; reads = c.mark-2.new.table; writes = c.mark-3.new.table; steps = old.steps + 1; found = c.noted-checker.result })
-    c.index.result.now.clock c.advance.new.self c.hit_of-hit.result c.mark.new.table.items c.watch_quickly.ensures.program steps is_past c.hit_of-hit.ensures stepped
-    c.in_ok-mark.ensures.marks c.in_ok-mark-2.ensures.marks c.in_ok-mark-3.ensures.marks passed refl c.noted-checker.ensures
+    (record { plain = closed c.watch_quickly.new.self c.watch_quickly.new.lane; rows = with_item old.rows c.args.own row; reads = c.mark_all.new.reads; writes = c.mark_all.new.writes; steps = old.steps + 1; found = c.noted-checker.result })
+    c.index.result.now.clock c.advance.new.self c.hit_of-hit.result c.in_ok-mark_all.ensures.marks.between c.watch_quickly.ensures.program steps is_past c.hit_of-hit.ensures stepped
+    c.in_ok-mark_all.ensures.marks.loads c.in_ok-mark_all.ensures.marks.fetches c.in_ok-mark_all.ensures.marks.stores passed refl c.noted-checker.ensures

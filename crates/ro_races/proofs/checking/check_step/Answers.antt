@@ -24,28 +24,22 @@ hit_of-hit-requires-clause-stored c = (c.in-Ok.ensures.sees []).stored_few
 pub advance-requires-clause-thread : goal.advance-requires-clause-thread
 advance-requires-clause-thread c = (c.in-Ok.ensures.sees []).known_thread
 
-pub mark-requires-clause-count : goal.mark-requires-clause-count
-mark-requires-clause-count c = (c.in-Ok.ensures.sees []).loaded_few
+pub mark_all-requires-clause-loaded : goal.mark_all-requires-clause-loaded
+mark_all-requires-clause-loaded c = (c.in-Ok.ensures.sees []).loaded_few
 
-pub mark-requires-clause-thread : goal.mark-requires-clause-thread
-mark-requires-clause-thread c = (c.in-Ok.ensures.sees []).known_thread
+pub mark_all-requires-clause-code : goal.mark_all-requires-clause-code
+mark_all-requires-clause-code c = (c.in-Ok.ensures.sees []).code_few
 
-pub mark-requires-2-clause-count : goal.mark-requires-2-clause-count
-mark-requires-2-clause-count c = (c.in-Ok.ensures.sees []).code_few
+pub mark_all-requires-clause-stored : goal.mark_all-requires-clause-stored
+mark_all-requires-clause-stored c = (c.in-Ok.ensures.sees []).stored_few
 
-pub mark-requires-2-clause-thread : goal.mark-requires-2-clause-thread
-mark-requires-2-clause-thread c = (c.in-Ok.ensures.sees []).known_thread
-
-pub mark-requires-3-clause-count : goal.mark-requires-3-clause-count
-mark-requires-3-clause-count c = (c.in-Ok.ensures.sees []).stored_few
-
-pub mark-requires-3-clause-thread : goal.mark-requires-3-clause-thread
-mark-requires-3-clause-thread c = (c.in-Ok.ensures.sees []).known_thread
+pub mark_all-requires-clause-thread : goal.mark_all-requires-clause-thread
+mark_all-requires-clause-thread c = (c.in-Ok.ensures.sees []).known_thread
 
 pub returns-clause-follows : goal.returns-clause-follows
 returns-clause-follows c program threads follows there =
     let is_past = subst (λ (rows : List Row). IsPast rows c.args.thread (learns_from (sync_of_relation c.in-Ok.watched.relation)) c.past_of-past.result) c.as_slice.ensures.value c.past_of-past.ensures in
     next program threads c.args.checker.now follows c.args.thread there c.in-Ok.watched c.in-Ok.ensures.sees
-    (record { plain = c.watch.new.self; rows = c.pass_on.new.rows; reads = c.mark-2.new.table; writes = c.mark-3.new.table; steps = c.args.checker.now.steps + 1; found = c.noted-checker.result })
-    c.past_of-past.result c.advance.new.self c.hit_of-hit.result c.mark.new.table.items c.in-Ok.ensures.program c.in-Ok.ensures.steps is_past c.hit_of-hit.ensures c.advance.ensures
-    c.in_ok-mark.ensures.marks c.in_ok-mark-2.ensures.marks c.in_ok-mark-3.ensures.marks c.in_ok-pass_on.ensures refl c.noted-checker.ensures
+    (record { plain = c.watch.new.self; rows = c.pass_on.new.rows; reads = c.mark_all.new.reads; writes = c.mark_all.new.writes; steps = c.args.checker.now.steps + 1; found = c.noted-checker.result })
+    c.past_of-past.result c.advance.new.self c.hit_of-hit.result c.in_ok-mark_all.ensures.marks.between c.in-Ok.ensures.program c.in-Ok.ensures.steps is_past c.hit_of-hit.ensures c.advance.ensures
+    c.in_ok-mark_all.ensures.marks.loads c.in_ok-mark_all.ensures.marks.fetches c.in_ok-mark_all.ensures.marks.stores c.in_ok-pass_on.ensures refl c.noted-checker.ensures

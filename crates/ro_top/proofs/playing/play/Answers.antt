@@ -10,6 +10,7 @@ pub returns-in-Ok-run_plan : goal.returns-in-Ok-run_plan
 returns-in-Ok-run_plan g c = record {
   cause = whole_cause _ _ c.args.replay.journal.items c.in-Ok-run_plan.field-0.how c.answer_behind.result c.answer_behind.ensures (record {
     length_is = subst (λ (js : List Entry). IsLength js c.in-Ok.steps) c.as_slice.ensures.value c.in-Ok.ensures.steps;
+    calm = c.in-Ok-run_plan.ensures.calm;
     runs =
         subst (λ (js : List Entry). RunsPlan (record { image = c.args.replay.image; input = c.args.replay.input.items }) (plan_of js) (g.K.Sink.held c.args.out.now) (g.K.Sink.held c.run_plan.new.out) c.in-Ok-run_plan.field-0.how c.in-Ok-run_plan.field-0.bytes)
         c.as_slice-3.ensures.value

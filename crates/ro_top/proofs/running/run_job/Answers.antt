@@ -1,7 +1,7 @@
 use Rattle.std.proofs.Common.{length, sym, ap, ◌∙◌, subst}
 use Rattle.ro_core.specs.Core.{Job}
 use Rattle.ro_journal.specs.Plan.{outcome_of}
-use Rattle.ro_master.specs.Driven.{CanRun, HasRun, ShowsLast}
+use Rattle.ro_core.specs.Driven.{CanRun, HasRun, ShowsLast}
 use Rattle.ro_top.specs.Files.{job_of}
 use Rattle.ro_top.specs.Causes.{IsOutcome, EndCause}
 use Rattle.ro_top.proofs.Claims.{is_run, not_differ, not_majority}
@@ -15,9 +15,9 @@ returns-in-Err-clause-run g c =
     is_run _ job (subst (λ a. IsOutcome a (outcome_of c.nothing.result.journal.items)) (sym e.answer) (ap outcome_of e.journal)) (record {
       ran = subst (HasRun job) (sym e.journal) (record { can_run = c.requires; legal = tt; next = tt });
       home = none_home job _ e.journal;
-      output = none_given _ _ _ _ e.journal (ap g.K.Sink.held (e.out ∙ c.in-Err.ensures.back));
+      output = none_given _ _ _ _ e.journal (ap g.K.Sink.held (e.out ∙ c.in-Err.ensures.back.1));
       bytes = none_bytes _ _ _ e.journal e.bytes;
-      calm = λ other. ap g.K.Sink.failures (e.out ∙ c.in-Err.ensures.back);
+      calm = λ other. ap g.K.Sink.failures (e.out ∙ c.in-Err.ensures.back.1);
       end = subst (EndCause job c.nothing.result.journal.items c.nothing.result.views.items (g.K.Sink.failures c.args.out) (g.K.Sink.failures c.nothing.result.out)) (sym e.answer) tt;
     })
 

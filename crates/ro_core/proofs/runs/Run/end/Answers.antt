@@ -1,4 +1,4 @@
-use Rattle.std.proofs.Common.{◌∷◌, ◌++◌, [], None, refl, ap, ◌∙◌, arith}
+use Rattle.std.proofs.Common.{None, refl, ap, ◌∙◌, arith}
 use Rattle.ro_core.specs.Seen.{sent_of}
 use Rattle.ro_core.specs.Runs.{fields_of}
 use Rattle.ro_core.proofs.Ends.{end-not-over, end-allowed, end-room, end-holds, end-sent}

@@ -14,10 +14,11 @@ use Rattle.ro_core.specs.Legal.{IsAllowed, output_of}
 use Rattle.ro_core.specs.Seen.{sent_of, Appends, DecidesVote, IsOfMajority}
 use Rattle.ro_core.specs.Fields.{Fields, core_in}
 use Rattle.ro_core.specs.Grouped.{AreMade}
+use Rattle.ro_core.specs.Happening.{IsCause}
 use Rattle.ro_core.specs.Runs.{fields_of, job_of, state_of, payload_by, WithAnySink, CanOccur, LastWrote}
 use Rattle.ro_core.proofs.Concludes.{ended-wrote}
 use Rattle.ro_core.proofs.Held.{limit-keeps}
-use Rattle.ro_core.proofs.Votes.{hold-within, hold-there, hold-steps, hold-goes, hold-not-over, hold-alone, hold-home, hold-made-all, hold-twins, hold-losers, seat-of, hold-over, hold-entry, hold-can, hold-writer, hold-majority, held-room, ready-stands}
+use Rattle.ro_core.proofs.Votes.{then-some, hold-within, hold-there, hold-steps, hold-goes, hold-not-over, hold-alone, hold-home, hold-made-all, hold-twins, hold-losers, seat-of, hold-over, hold-entry, hold-can, hold-writer, hold-majority, held-room, ready-stands}
 use Rattle.ro_core.proofs.runs.Run.hold.Goals as goal
 
 pub index-view-requires : goal.index-view-requires
@@ -32,8 +33,8 @@ conclude-entry-requires-clause-allowed c =
     let view = c.index-view.result.now in
     let low = hold-steps f c.args.thread c.args.won.won c.args.won.lost c.requires.held in
     let over = c.if-next-self.true in
-    (hold-over f c.args.thread c.args.won.won c.args.won.lost c.requires.held view (hold-there f c.args.thread c.args.won.won c.args.won.lost c.requires.held view c.index-view.ensures) c.did_of-did.result (c.from.result + c.steps.result)
-    (ap (λ (x : Stop). (event_of f.kernel.setup f.kernel.kernel c.args.thread x view.payload).did) (sym c.stop.ensures) ∙ c.did_of-did.ensures view.payload)
+    (hold-over f c.args.thread c.args.won.won c.args.won.lost c.requires.held view (hold-there f c.args.thread c.args.won.won c.args.won.lost c.requires.held view c.index-view.ensures) c.of-coming.result.did (c.from.result + c.steps.result)
+    (ap (λ (x : Stop). (event_of f.kernel.setup f.kernel.kernel c.args.thread x view.payload).did) (sym c.stop.ensures) ∙ c.of-coming.ensures.did view.payload)
     (let a = c.since-count.ensures in let b = c.from.ensures in let d = c.steps.ensures in omega arith) (omega arith)).0
 
 pub conclude-entry-requires-clause-views : goal.conclude-entry-requires-clause-views
@@ -47,8 +48,8 @@ returns-then-next-self-clause-entry c =
     let view = c.index-view.result.now in
     let low = hold-steps f c.args.thread c.args.won.won c.args.won.lost c.requires.held in
     let over = c.if-next-self.true in
-    let ends = hold-over f c.args.thread c.args.won.won c.args.won.lost c.requires.held view (hold-there f c.args.thread c.args.won.won c.args.won.lost c.requires.held view c.index-view.ensures) c.did_of-did.result (c.from.result + c.steps.result)
-    (ap (λ (x : Stop). (event_of f.kernel.setup f.kernel.kernel c.args.thread x view.payload).did) (sym c.stop.ensures) ∙ c.did_of-did.ensures view.payload)
+    let ends = hold-over f c.args.thread c.args.won.won c.args.won.lost c.requires.held view (hold-there f c.args.thread c.args.won.won c.args.won.lost c.requires.held view c.index-view.ensures) c.of-coming.result.did (c.from.result + c.steps.result)
+    (ap (λ (x : Stop). (event_of f.kernel.setup f.kernel.kernel c.args.thread x view.payload).did) (sym c.stop.ensures) ∙ c.of-coming.ensures.did view.payload)
     (let a = c.since-count.ensures in let b = c.from.ensures in let d = c.steps.ensures in omega arith) (omega arith)
     in
     subst (λ (e : Entry). IsAllowed f.job (state_of c.args.self.now) e × DecidesVote f.job (state_of c.args.self.now) c.args.thread e × WithAnySink (λ old new. Appends old new e) c.args.self.now c.conclude-entry.new.self) (sym c.conclude-entry.ensures.entry)
@@ -95,12 +96,13 @@ occur-requires c =
     let steps = m.steps in
     let setup = c.happen.ensures.setup in
     let r : Run = record c.prepare.new.self { seats = c.heal.new.self; kernel = c.happen.new.kernel } in
+    let caused = subst (λ (k : State). IsCause k.setup k.kernel c.args.thread c.stop.result.now c.of-coming.result.did c.of-coming.result.cause) (sym m.kernel) c.of-coming.ensures.cause in
     let made = subst (λ (n : ℕ). AreMade n (core_in f).replicas) (sym c.made-threads.ensures.made) (hold-made-all f c.args.thread c.args.won.won c.args.won.lost v) in
     record {
-      can = subst (λ (w : Option ℕ). CanOccur r c.args.thread c.in_ok-event.event (Vote c.args.thread c.since-count.result c.args.won.won c.args.won.lost c.did_of-did.result) (c.from.result + c.steps.result) w c.made-threads.result) (sym c.writer_of-writer.ensures)
-          (hold-can f c.args.thread c.args.won.won c.args.won.lost v view there r c.in_ok-event.event c.did_of-did.result c.since-count.result (c.from.result + c.steps.result) c.made-threads.result
-          (ap (λ (x : Stop). event_of f.kernel.setup f.kernel.kernel c.args.thread x view.payload) (sym c.stop.ensures) ∙ c.in_ok-event.ensures.event view.payload)
-          (ap (λ (k : State). (event_of k.setup k.kernel c.args.thread view.stop view.payload).did) m.kernel ∙ ap (λ (x : Stop). (event_of old.kernel.setup old.kernel.kernel c.args.thread x view.payload).did) (sym c.stop.ensures) ∙ c.did_of-did.ensures view.payload)
+      can = subst (λ (w : Option ℕ). CanOccur r (record { thread = c.args.thread; event = c.in_ok-event.event; entry = Vote c.args.thread c.since-count.result c.args.won.won c.args.won.lost c.of-coming.result.did; steps = c.from.result + c.steps.result; writer = w; threads = c.made-threads.result })) (sym (c.then_some-writer.ensures ∙ then-some c.in_ok-event.event.writes c.args.won.won))
+          (hold-can f c.args.thread c.args.won.won c.args.won.lost v view there r c.in_ok-event.event c.of-coming.result.did c.since-count.result (c.from.result + c.steps.result) c.made-threads.result
+          (ap (λ (x : Stop). event_of f.kernel.setup f.kernel.kernel c.args.thread x view.payload) (sym c.stop.ensures) ∙ c.in_ok-event.ensures.event c.stop.result.now caused view.payload)
+          (ap (λ (k : State). (event_of k.setup k.kernel c.args.thread view.stop view.payload).did) m.kernel ∙ ap (λ (x : Stop). (event_of old.kernel.setup old.kernel.kernel c.args.thread x view.payload).did) (sym c.stop.ensures) ∙ c.of-coming.ensures.did view.payload)
           c.since-count.ensures (let a = c.since-count.ensures in let b = c.from.ensures in let d = c.steps.ensures in omega arith) (omega arith)
           (record {
             job = ap (λ (x : Setup). record { program = record { image = c.prepare.new.self.image; input = x.input }; faults = c.prepare.new.self.faults.items; settings = c.prepare.new.self.settings }) setup;
@@ -124,13 +126,13 @@ returns-clause-entry c =
     let m = c.prepare.ensures.makes in
     let low = hold-steps f c.args.thread c.args.won.won c.args.won.lost c.requires.held in
     let under = c.if-next-self.false in (
-      hold-entry f c.args.thread c.args.won.won c.args.won.lost c.requires.held view (hold-there f c.args.thread c.args.won.won c.args.won.lost c.requires.held view c.index-view.ensures) c.did_of-did.result c.since-count.result (c.from.result + c.steps.result)
-          (ap (λ (x : Stop). (event_of f.kernel.setup f.kernel.kernel c.args.thread x view.payload).did) (sym c.stop.ensures) ∙ c.did_of-did.ensures view.payload)
+      hold-entry f c.args.thread c.args.won.won c.args.won.lost c.requires.held view (hold-there f c.args.thread c.args.won.won c.args.won.lost c.requires.held view c.index-view.ensures) c.of-coming.result.did c.since-count.result (c.from.result + c.steps.result)
+          (ap (λ (x : Stop). (event_of f.kernel.setup f.kernel.kernel c.args.thread x view.payload).did) (sym c.stop.ensures) ∙ c.of-coming.ensures.did view.payload)
           c.since-count.ensures (let a = c.since-count.ensures in let b = c.from.ensures in let d = c.steps.ensures in omega arith) (omega arith),
       refl,
       λ held failures. record {
         job = c.occur.ensures.job ∙ ap (λ (x : Setup). record { program = record { image = c.prepare.new.self.image; input = x.input }; faults = c.prepare.new.self.faults.items; settings = c.prepare.new.self.settings }) c.happen.ensures.setup ∙ m.job;
-        journal = c.occur.ensures.journal ∙ ap (λ (js : List Entry). js ++ Vote c.args.thread c.since-count.result c.args.won.won c.args.won.lost c.did_of-did.result ∷ []) m.journal;
+        journal = c.occur.ensures.journal ∙ ap (λ (js : List Entry). js ++ Vote c.args.thread c.since-count.result c.args.won.won c.args.won.lost c.of-coming.result.did ∷ []) m.journal;
       },
     )
 
@@ -138,7 +140,7 @@ pub returns-clause-writer : goal.returns-clause-writer
 returns-clause-writer c =
     let f : Fields = fields_of c.args.self.now in
     let view = c.index-view.result.now in
-    subst (λ (w : Option ℕ). IfSome w (λ number. number < length c.occur.new.self.views.items)) (sym c.writer_of-writer.ensures)
+    subst (λ (w : Option ℕ). IfSome w (λ number. number < length c.occur.new.self.views.items)) (sym (c.then_some-writer.ensures ∙ then-some c.in_ok-event.event.writes c.args.won.won))
     (hold-writer f c.args.thread c.args.won.won c.args.won.lost c.requires.held view (hold-there f c.args.thread c.args.won.won c.args.won.lost c.requires.held view c.index-view.ensures) c.occur.new.self.views.items c.in_ok-event.event.writes (c.occur.ensures.views ∙ c.prepare.ensures.makes.views))
 
 pub returns-clause-wrote : goal.returns-clause-wrote
@@ -147,12 +149,12 @@ returns-clause-wrote c =
     let m = c.prepare.ensures.makes in
     let job = ap (λ (x : Setup). record { program = record { image = c.prepare.new.self.image; input = x.input }; faults = c.prepare.new.self.faults.items; settings = c.prepare.new.self.settings }) c.happen.ensures.setup ∙ m.job in
     let before = ap (λ (j : Job). output_of j c.prepare.new.self.journal.items) job ∙ ap (output_of f.job) m.journal ∙ sym (ap (sent_of f.job f.journal) (hold-goes f c.args.thread c.args.won.won c.args.won.lost c.requires.held).not_failed) in
-    subst (λ (xs : List ℕ). LastWrote (fields_of c.occur.new.self) xs (payload_by c.occur.new.self.views.items c.writer_of-writer.result)) before
-    (subst (λ (vs : List View). LastWrote (fields_of c.occur.new.self) (output_of (record { program = record { image = c.prepare.new.self.image; input = c.happen.new.kernel.setup.input }; faults = c.prepare.new.self.faults.items; settings = c.prepare.new.self.settings }) c.prepare.new.self.journal.items) (payload_by vs c.writer_of-writer.result)) (sym c.occur.ensures.views) c.occur.ensures.wrote)
+    subst (λ (xs : List ℕ). LastWrote (fields_of c.occur.new.self) xs (payload_by c.occur.new.self.views.items c.then_some-writer.result)) before
+    (subst (λ (vs : List View). LastWrote (fields_of c.occur.new.self) (output_of (record { program = record { image = c.prepare.new.self.image; input = c.happen.new.kernel.setup.input }; faults = c.prepare.new.self.faults.items; settings = c.prepare.new.self.settings }) c.prepare.new.self.journal.items) (payload_by vs c.then_some-writer.result)) (sym c.occur.ensures.views) c.occur.ensures.wrote)
 
 pub returns-clause-majority : goal.returns-clause-majority
 returns-clause-majority c =
     let f : Fields = fields_of c.args.self.now in
     let view = c.index-view.result.now in
-    subst (λ (w : Option ℕ). (payload_by c.occur.new.self.views.items w ≡ []) ⊎ IsOfMajority f.views (payload_by c.occur.new.self.views.items w)) (sym c.writer_of-writer.ensures)
+    subst (λ (w : Option ℕ). (payload_by c.occur.new.self.views.items w ≡ []) ⊎ IsOfMajority f.views (payload_by c.occur.new.self.views.items w)) (sym (c.then_some-writer.ensures ∙ then-some c.in_ok-event.event.writes c.args.won.won))
     (hold-majority f c.args.thread c.args.won.won c.args.won.lost c.requires.held view (hold-there f c.args.thread c.args.won.won c.args.won.lost c.requires.held view c.index-view.ensures) c.occur.new.self.views.items c.in_ok-event.event.writes (c.occur.ensures.views ∙ c.prepare.ensures.makes.views))

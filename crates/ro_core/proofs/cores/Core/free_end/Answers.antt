@@ -1,0 +1,8 @@
+use Rattle.std.proofs.Common.{◌≡◌, Some, subst}
+use Rattle.std.specs.Prelude.{◌↔◌}
+use Rattle.ro_core.specs.Legal.{EndsFree}
+use Rattle.ro_core.specs.Seen.{CoreOf, state}
+use Rattle.ro_core.proofs.cores.Core.free_end.Goals as goal
+
+pub returns : goal.returns
+returns g c how = subst (λ (v : CoreOf). (c.free_end.result ≡ Some how) ↔ EndsFree v.job (state v) how) c.self.view_is (c.free_end.ensures how)

@@ -1,0 +1,237 @@
+"""The core of a run and its journal, after crates/ro_core/specs: which entries are allowed in a core, and what each does. Written
+after the definitions and for no speed, so that one shows an error of the other."""
+import dataclasses
+
+from auditing.jobs import Entry, Job
+from auditing.kernel import Blocked, Call, Done, Effect, Ends, Kernel, Served, opening_kernel
+from auditing.replicas import Change, PageFault, Replica, Stands, Stop, Trap, View
+from journals import Free, Put, Take, Vote
+
+
+class Illegal(Exception):
+    """The entry is not allowed, and why."""
+
+
+def needs(holds: bool, why: str):
+    if not holds:
+        raise Illegal(why)
+
+
+STEPS = {"served": 1, "trapped": 1, "blocked": 0, "mapped": 0, "watch": 0}  # that an event itself adds to the plan
+
+
+@dataclasses.dataclass
+class Event:
+    """What a stop comes to."""
+    did: str
+    kernel: Kernel
+    effect: Effect
+    payload: bytes = b""
+    blocked: Call | None = None  # the call on which the thread is blocked from now on
+    due: str | None = None  # the end, if the program ended
+
+
+@dataclasses.dataclass
+class Won:
+    """More than half of the views are one: the lowest replica that shows it, those that show another, and what it comes to."""
+    winner: int
+    losers: tuple[int, ...]
+    count: int  # instructions since the thread was last released
+    event: Event
+
+
+def verdict(views: list[View]) -> tuple[int, tuple[int, ...]] | None:
+    for number, view in enumerate(views):
+        if 2 * views.count(view) > len(views):
+            return number, tuple(loser for loser, other in enumerate(views) if other != view)
+    return None
+
+
+class Core:
+    def __init__(self, job: Job):
+        self.job = job
+        self.replicas = [Replica(job, number) for number in range(job.replicas)]
+        self.leases: list[Take] = []
+        self.kernel = opening_kernel(self.replicas[0])
+        self.blocked: dict[int, Call] = {}  # by thread, the voted call on which it is blocked
+        self.steps = 0
+        self.output = b""
+        self.wrote = 0  # how many bytes the last entry's event wrote
+        self.due: str | None = None  # an end that must come next
+        self.ended: str | None = None
+
+    def do(self, entry: Entry):
+        """What an entry does; Illegal where it isn't allowed."""
+        if isinstance(entry, Take):
+            self.take(entry)
+        elif isinstance(entry, Put):
+            self.put(entry)
+        elif isinstance(entry, Vote):
+            self.vote(entry)
+        elif isinstance(entry, Free):
+            self.free(entry.thread)
+        else:
+            self.end(entry.how)
+
+    # ---- What can be done
+
+    def is_going(self) -> bool:
+        return self.due is None and self.ended is None
+
+    def stop_of(self, replica: Replica, thread: int) -> Stop | None:
+        return replica.threads[thread].stop if thread < len(replica.threads) else None
+
+    def is_lendable(self, number: int, thread: int) -> bool:
+        """The replica is at home, and its thread lives and stands at no stop."""
+        is_home = number < len(self.replicas) and all(lease.replica != number for lease in self.leases)
+        return is_home and self.kernel.lives_on(thread) and self.replicas[number].threads[thread].stop is None
+
+    def may_vote(self, thread: int) -> bool:
+        """Nothing is lent, and the thread stands at a stop in every replica, and isn't blocked."""
+        return (self.is_going() and not self.leases and self.kernel.lives_on(thread) and thread not in self.blocked
+                and all(self.stop_of(replica, thread) is not None for replica in self.replicas))
+
+    def may_free(self, thread: int) -> bool:
+        """Nothing is lent, and the call on which the thread is blocked no longer blocks."""
+        return (self.is_going() and not self.leases and thread in self.blocked
+                and not self.kernel.blocks(thread, self.blocked[thread]))
+
+    # ---- A replica is lent, runs, and comes back
+
+    def take(self, entry: Take):
+        needs(self.is_going(), "the run ends")
+        needs(entry.driver < self.job.drivers, "there is no such driver")
+        needs(all(lease.driver != entry.driver for lease in self.leases), "the driver has a replica")
+        needs(self.is_lendable(entry.replica, entry.thread), "the thread can't be lent")
+        self.leases.append(entry)
+        self.wrote = 0
+
+    def put(self, entry: Put):
+        needs(self.ended is None, "the run has ended")
+        lease = Take(entry.driver, entry.replica, entry.thread)
+        needs(lease in self.leases, "it isn't lent")
+        needs(entry.retired <= self.job.quantum, "it ran past the quantum")
+        replica, stop = self.replicas[entry.replica], None
+        thread = replica.threads[entry.thread]
+        try:
+            needs(replica.run(entry.thread, entry.retired) == entry.struck, "another number of faults was struck")
+        except Stands as stands:
+            raise Illegal(f"it ran past {stands.stop}") from stands
+        if entry.retired < self.job.quantum:
+            stop = replica.next(thread)
+            needs(not isinstance(stop, Change), "it came back at no stop")
+        thread.stop = stop
+        self.leases.remove(lease)
+        self.wrote = 0
+
+    # ---- A vote is held, a call that waits is served
+
+    def won(self, thread: int) -> Won | None:
+        """What a vote on the thread comes to; None where there is no majority."""
+        found = verdict([replica.view(thread) for replica in self.replicas])
+        if found is None:
+            return None
+        winner = self.replicas[found[0]]
+        stop = winner.threads[thread].stop
+        return Won(*found, winner.threads[thread].since, self.event(thread, stop, winner.payload(stop)))
+
+    def event(self, thread: int, stop: Stop, payload: bytes) -> Event:
+        if isinstance(stop, Call):
+            return self.call_event(thread, stop, payload, self.kernel.serve(thread, stop))
+        if isinstance(stop, PageFault):
+            return Event("mapped", self.kernel, Effect(thread, page=stop.page, releases=True))
+        if isinstance(stop, Trap):
+            return Event("trapped", self.kernel, Effect(thread), due=f"trap {stop.cause}")
+        return Event("watch", self.kernel, Effect(thread, releases=True))
+
+    def call_event(self, thread: int, call: Call, payload: bytes, served: Served) -> Event:
+        if isinstance(served, Done):
+            return Event("served", served.kernel, served.effect, payload)
+        if isinstance(served, Blocked):
+            return Event("blocked", self.kernel, Effect(thread), blocked=call)
+        return Event("served", served.kernel, Effect(thread), due=f"exit {served.status}")
+
+    def occur(self, thread: int, count: int, event: Event):
+        """An event, so many instructions behind the thread's last release."""
+        for replica in self.replicas:
+            replica.apply(event.effect)
+        self.kernel = event.kernel
+        self.blocked.pop(thread, None)
+        if event.blocked is not None:
+            self.blocked[thread] = event.blocked
+        self.steps += count + STEPS[event.did]
+        self.output += event.payload
+        self.wrote = len(event.payload)
+        self.due = event.due
+
+    def vote(self, entry: Vote):
+        needs(self.may_vote(entry.thread), "there can be no vote on the thread")
+        won = self.won(entry.thread)
+        needs(won is not None, "there is no majority")
+        came = won.winner, won.losers, won.count, won.event.did
+        needs(came == (entry.winner, entry.losers, entry.steps, entry.did), f"the vote comes to {came}")
+        needs(self.steps + won.count + STEPS[entry.did] <= self.job.limit, "it passes the limit")
+        for loser in won.losers:
+            self.replicas[loser].become(self.replicas[won.winner])
+        self.occur(entry.thread, won.count, won.event)
+
+    def free(self, thread: int):
+        needs(self.may_free(thread), "the thread can't be freed")
+        needs(self.steps + 1 <= self.job.limit, "it passes the limit")
+        call = self.blocked[thread]
+        self.occur(thread, 0, self.call_event(thread, call, b"", self.kernel.serve(thread, call)))
+
+    # ---- Ends
+
+    def end(self, how: str):
+        needs(self.ended is None, "the run has ended")
+        threads = range(len(self.kernel.lives))
+        needs(how == self.due or self.ends_alone(how)
+              or any(self.may_vote(thread) and self.ends_vote(thread, how) for thread in threads)
+              or any(self.may_free(thread) and self.is_passed(how, 1) for thread in threads), "the run doesn't end so")
+        if how.startswith("sink "):
+            self.output = self.output[:len(self.output) - self.wrote + int(how.split(" ")[1])]
+        self.wrote, self.due, self.ended = 0, None, how
+
+    def ends_alone(self, how: str) -> bool:
+        """Whether the end comes of no entry: nothing can be done, or a sink took a part of the last write alone."""
+        kind, *numbers = how.split(" ")
+        return kind == "deadlock" and self.is_stuck() or kind == "sink" and self.is_going() and int(numbers[0]) < self.wrote
+
+    def is_stuck(self) -> bool:
+        threads = range(len(self.kernel.lives))
+        return self.is_going() and not self.leases and not any(
+            self.may_vote(thread) or self.may_free(thread)
+            or any(self.is_lendable(number, thread) for number in range(len(self.replicas))) for thread in threads)
+
+    def ends_vote(self, thread: int, how: str) -> bool:
+        """Whether the end comes in the place of a vote on the thread: no majority, or the limit would be passed."""
+        won = self.won(thread)
+        if won is None:
+            return how == ("differ" if len(self.replicas) == 2 else "no-majority")
+        return self.is_passed(how, won.count + STEPS[won.event.did])
+
+    def is_passed(self, how: str, more: int) -> bool:
+        """Whether the end says that so many steps more would pass the limit, and they would."""
+        return how == f"limit {self.steps} {more}" and self.steps + more > self.job.limit
+
+
+@dataclasses.dataclass
+class Judged:
+    core: Core  # that the legal entries leave
+    place: int | None = None  # of the first entry that isn't allowed, from 0
+    why: str = ""
+
+    def __str__(self):
+        return "legal" if self.place is None else f"illegal {self.place}"
+
+
+def judge(job: Job, entries: list[Entry]) -> Judged:
+    """Whether each entry is allowed in the core that those before it leave."""
+    core = Core(job)
+    for place, entry in enumerate(entries):
+        try:
+            core.do(entry)
+        except Illegal as illegal:
+            return Judged(core, place, str(illegal))
+    return Judged(core)

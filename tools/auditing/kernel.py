@@ -1,0 +1,219 @@
+"""The kernel of a run, after crates/ro_kernel/specs: what comes of a call. It changes no replica; what is to be changed in each
+of them is an effect (crates/ro_event/specs/Effects.antt)."""
+import dataclasses
+import enum
+
+from fuzzing.machine import (EAGAIN, EBADF, EBUSY, EDEADLK, EFAULT, EINVAL, ENOSYS, EPERM, ESRCH, HEAP_SIZE, MOST_BYTES,
+                             MOST_MUTEXES, READ, THREADS, WORD, WRITE, Machine, low_bytes)
+from racing.machine import Life
+
+
+@dataclasses.dataclass(frozen=True)
+class Call:
+    """Its function's name, or the number of a system call; and the registers a0 to a3."""
+    which: str | int
+    a0: int
+    a1: int
+    a2: int
+    a3: int
+
+
+class Goes(enum.Enum):
+    """Where a thread goes on."""
+    STAYS = "stays"
+    NEXT = "next"  # behind the instruction
+    RETURNS = "returns"  # at ra
+
+
+@dataclasses.dataclass
+class Made:
+    """A thread that is made."""
+    start: int
+    argument: int
+    creator: int
+
+
+@dataclasses.dataclass
+class Effect:
+    """What a call that is served changes, alike in every replica."""
+    thread: int
+    answer: int | None = None
+    goes: Goes = Goes.STAYS
+    place: int = 0  # where the bytes are stored; their pages are backed
+    data: bytes = b""
+    page: int | None = None  # a page to back
+    made: Made | None = None
+    releases: bool = False  # whether the thread's stop goes
+
+
+@dataclasses.dataclass
+class Done:
+    """The call is served."""
+    kernel: "Kernel"
+    effect: Effect
+
+
+class Blocked:
+    """The call waits, and nothing changes."""
+
+
+@dataclasses.dataclass
+class Ends:
+    """The program ends with this status."""
+    kernel: "Kernel"
+    status: int
+
+
+Served = Done | Blocked | Ends
+
+
+def moved(call: Call) -> int:
+    """How many bytes a read or a write moves."""
+    return min(call.a2, MOST_BYTES)
+
+
+def is_good_write(machine: Machine, call: Call) -> bool:
+    """Whether it is a write that passes its checks."""
+    return call.which == 64 and call.a0 in (1, 2) and moved(call) > 0 and machine.permits(call.a1, moved(call), READ)
+
+
+@dataclasses.dataclass
+class Kernel:
+    machine: Machine  # of which ranges, heap and input are looked at, which never change
+    lives: list[Life]  # one for each thread that was made
+    values: dict[int, int]  # by thread, what it exited with
+    owners: dict[int, int | None]  # of each mutex that was ever locked
+    broken: int  # the program's break
+    taken: int = 0  # how much of the input was read
+
+    def lives_on(self, thread: int) -> bool:
+        return thread < len(self.lives) and self.lives[thread] is Life.LIVE
+
+    def blocks(self, thread: int, call: Call) -> bool:
+        return isinstance(self.serve(thread, call), Blocked)
+
+    def serve(self, thread: int, call: Call) -> Served:
+        """What comes of a thread's call. The kernel itself stays as it is; a new one is answered."""
+        calling = Calling(self, thread, call)
+        if isinstance(call.which, int):
+            return calling.system()
+        if call.which.startswith("pthread_mutex_"):
+            return calling.on_mutex(call.which.removeprefix("pthread_mutex_"))
+        return {"pthread_create": calling.create, "pthread_join": calling.join, "pthread_exit": calling.exit,
+                "pthread_self": lambda: calling.answers(thread)}[call.which]()
+
+
+def opening_kernel(machine: Machine) -> Kernel:
+    return Kernel(machine, [Life.LIVE], {}, {}, machine.heap)
+
+
+@dataclasses.dataclass
+class Calling:
+    """A call of a thread, and the kernel that it meets."""
+    kernel: Kernel
+    thread: int
+    call: Call
+
+    def answers(self, value: int, place: int = 0, data: bytes = b"", made: Made | None = None, **changes) -> Done:
+        """It is served with this answer; of the kernel these fields change. A system call goes on behind it, a function at ra."""
+        goes = Goes.NEXT if isinstance(self.call.which, int) else Goes.RETURNS
+        effect = Effect(self.thread, value & WORD, goes, place, data, None, made, releases=True)
+        return Done(dataclasses.replace(self.kernel, **changes), effect)
+
+    def with_life(self, thread: int, life: Life) -> list[Life]:
+        return [life if number == thread else other for number, other in enumerate(self.kernel.lives)]
+
+    # ---- System calls
+
+    def system(self) -> Served:
+        if self.call.which == 63:
+            return self.read()
+        if self.call.which == 64:
+            return self.write()
+        if self.call.which in (93, 94):
+            return Ends(self.kernel, self.call.a0 % 256)
+        if self.call.which == 214:
+            return self.brk()
+        return self.answers(-ENOSYS)
+
+    def read(self) -> Served:
+        call, kernel, size = self.call, self.kernel, moved(self.call)
+        if call.a0 != 0:
+            return self.answers(-EBADF)
+        if size == 0:
+            return self.answers(0)
+        if not kernel.machine.permits(call.a1, size, WRITE):
+            return self.answers(-EFAULT)
+        got = kernel.machine.input[kernel.taken:kernel.taken + size]
+        return self.answers(len(got), call.a1, got, taken=kernel.taken + len(got))
+
+    def write(self) -> Served:
+        if self.call.a0 not in (1, 2):
+            return self.answers(-EBADF)
+        if moved(self.call) > 0 and not is_good_write(self.kernel.machine, self.call):
+            return self.answers(-EFAULT)
+        return self.answers(moved(self.call))
+
+    def brk(self) -> Served:
+        wish, heap = self.call.a0, self.kernel.machine.heap
+        if heap <= wish <= heap + HEAP_SIZE:
+            return self.answers(wish, broken=wish)
+        return self.answers(self.kernel.broken)
+
+    # ---- Threads
+
+    def create(self) -> Served:
+        call, kernel = self.call, self.kernel
+        if call.a1 != 0 or call.a2 % 4 != 0:
+            return self.answers(EINVAL)
+        if not kernel.machine.room(call.a0):
+            return self.answers(EFAULT)
+        number = len(kernel.lives)
+        if number >= THREADS:
+            return self.answers(EAGAIN)
+        return self.answers(0, call.a0, low_bytes(number, 4), Made(call.a2, call.a3, self.thread),
+                            lives=[*kernel.lives, Life.LIVE])
+
+    def join(self) -> Served:
+        other, place = self.call.a0, self.call.a1
+        if other >= len(self.kernel.lives):
+            return self.answers(ESRCH)
+        if other == self.thread:
+            return self.answers(EDEADLK)
+        life = self.kernel.lives[other]
+        if life is Life.JOINED:
+            return self.answers(ESRCH)
+        if place != 0 and not self.kernel.machine.room(place):
+            return self.answers(EFAULT)
+        if life is Life.LIVE:
+            return Blocked()
+        data = low_bytes(self.kernel.values[other], 4) if place != 0 else b""
+        return self.answers(0, place, data, lives=self.with_life(other, Life.JOINED))
+
+    def exit(self) -> Served:
+        """The program ends with the last live thread."""
+        after = dataclasses.replace(self.kernel, lives=self.with_life(self.thread, Life.EXITED),
+                                    values=self.kernel.values | {self.thread: self.call.a0})
+        if Life.LIVE in after.lives:
+            return Done(after, Effect(self.thread, releases=True))
+        return Ends(after, 0)
+
+    # ---- Mutexes
+
+    def on_mutex(self, what: str) -> Served:
+        """A mutex is its address; its word must be one that can be stored."""
+        mutex, owners = self.call.a0, self.kernel.owners
+        if not self.kernel.machine.room(mutex):
+            return self.answers(EFAULT)
+        if what in ("init", "destroy"):
+            return self.answers(0)
+        owner = owners.get(mutex)
+        if what == "unlock":
+            return self.answers(0, owners=owners | {mutex: None}) if owner == self.thread else self.answers(EPERM)
+        if owner is not None:
+            if what == "trylock":
+                return self.answers(EBUSY)
+            return self.answers(EDEADLK) if owner == self.thread else Blocked()
+        if mutex not in owners and len(owners) >= MOST_MUTEXES:
+            return self.answers(EAGAIN)
+        return self.answers(0, owners=owners | {mutex: self.thread})

@@ -1,0 +1,178 @@
+"""A replica, after crates/ro_replica/specs and crates/ro_thread/specs: its own memory and backed pages, its threads, and the
+faults that wait. What an instruction does is told by the machine that tools/fuzz.py has."""
+import dataclasses
+
+from auditing.jobs import Fault, Job
+from auditing.kernel import Call, Effect, Goes, is_good_write, moved
+from fuzzing.machine import EBREAK, ECALL, PAGE, WORD, Machine, low_bytes
+from racing.machine import made_registers
+
+
+@dataclasses.dataclass(frozen=True)
+class Trap:
+    cause: int
+
+
+@dataclasses.dataclass(frozen=True)
+class PageFault:
+    page: int
+
+
+@dataclasses.dataclass(frozen=True)
+class Watchdog:
+    pass
+
+
+Stop = Call | Trap | PageFault | Watchdog
+
+
+class Stands(Exception):
+    """The thread can do no instruction: it stands at a stop."""
+
+    def __init__(self, stop: Stop):
+        super().__init__(stop)
+        self.stop = stop
+
+
+@dataclasses.dataclass
+class Change:
+    """What an instruction changes."""
+    register: int
+    value: int
+    pc: int
+    place: int = 0
+    data: bytes = b""
+
+
+@dataclasses.dataclass
+class Thread:
+    registers: list[int]
+    pc: int
+    since: int = 0  # instructions since it was last released
+    done: int = 0  # instructions in all
+    stop: Stop | None = None
+
+
+View = tuple[list[int], int, int, Stop, bytes]  # registers, pc, instructions since, stop, bytes that go out
+
+
+class Replica(Machine):
+    def __init__(self, job: Job, number: int):
+        super().__init__(job.file, job.functions, job.input, job.watchdog, job.limit)
+        self.threads = [Thread(self.registers, self.pc)]
+        self.waiting = [fault for fault in job.faults if fault.replica == number]
+        self.storing = 0, b""
+
+    # ---- What a thread does next
+
+    def next(self, thread: Thread) -> Stop | Change:
+        """The watchdog's stop, or what the thread does next. Nothing changes."""
+        if thread.since == self.watchdog:
+            return Watchdog()
+        try:
+            return self.change(thread.pc, thread.registers)
+        except Stands as stands:
+            return stands.stop
+
+    def change(self, pc: int, x: list[int]) -> Change:
+        name, word = self.fetched(pc)
+        if name:
+            raise Stands(Call(name.decode(), *x[10:14]))
+        if word == ECALL:
+            raise Stands(Call(x[17], *x[10:14]))
+        if word == EBREAK:
+            self.trap(9)
+        self.storing = 0, b""
+        register, value, after = self.instruction(word, pc, x) or self.trap(3)
+        return Change(register, value & WORD, after & WORD, *self.storing)
+
+    def trap(self, cause: int):
+        raise Stands(Trap(cause))
+
+    def place(self, address: int) -> tuple[bytearray, int]:
+        if address // PAGE not in self.pages:
+            raise Stands(PageFault(address // PAGE))
+        return self.pages[address // PAGE], address % PAGE
+
+    def store(self, address: int, size: int, value: int):
+        self.storable(address, size)
+        self.storing = address, low_bytes(value, size)
+
+    # ---- Runs
+
+    def run(self, number: int, count: int) -> int:
+        """So many instructions of a thread, and the faults that are due before, between and after them: how many were struck."""
+        struck = self.strike(number)
+        for _ in range(count):
+            self.execute(self.threads[number])
+            struck += self.strike(number)
+        return struck
+
+    def execute(self, thread: Thread):
+        change = self.next(thread)
+        if not isinstance(change, Change):
+            raise Stands(change)
+        self.fill(change.place, change.data)
+        if change.register:
+            thread.registers[change.register] = change.value
+        thread.pc, thread.since, thread.done = change.pc, thread.since + 1, thread.done + 1
+
+    def strike(self, number: int) -> int:
+        """Strikes the faults of a thread whose moment has come, in the order of the list."""
+        thread = self.threads[number]
+        due = [fault for fault in self.waiting if fault.thread == number and fault.moment == thread.done]
+        self.waiting = [fault for fault in self.waiting if fault not in due]
+        for fault in due:
+            self.flip(thread, fault)
+        return len(due)
+
+    def flip(self, thread: Thread, fault: Fault):
+        if fault.kind == "reg":
+            thread.registers[fault.number] ^= 1 << fault.bit
+        elif fault.kind == "pc":
+            thread.pc ^= 1 << fault.bit
+        elif fault.number // PAGE in self.pages and self.is_mapped(fault.number):
+            self.pages[fault.number // PAGE][fault.number % PAGE] ^= 1 << fault.bit
+
+    def is_mapped(self, address: int) -> bool:
+        """Whether it lies in a range, whatever that permits."""
+        return any(start <= address < end for start, end, _ in self.ranges)
+
+    # ---- Votes
+
+    def payload(self, stop: Stop) -> bytes:
+        """The bytes that go out."""
+        if isinstance(stop, Call) and is_good_write(self, stop):
+            return self.bytes_at(stop.a1, moved(stop))
+        return b""
+
+    def view(self, number: int) -> View:
+        """All that a vote compares of a thread that stands still."""
+        thread = self.threads[number]
+        return thread.registers, thread.pc, thread.since, thread.stop, self.payload(thread.stop)
+
+    def become(self, winner: "Replica"):
+        """A copy of the winner, but for what this replica has retired itself and its own faults."""
+        self.pages = {page: bytearray(data) for page, data in winner.pages.items()}
+        self.threads = [dataclasses.replace(theirs, registers=[*theirs.registers], done=own.done)
+                        for theirs, own in zip(winner.threads, self.threads)]
+
+    def apply(self, effect: Effect):
+        """What an event changes; and page faults that are settled by it are forgotten."""
+        thread = self.threads[effect.thread]
+        thread.pc = {Goes.STAYS: thread.pc, Goes.NEXT: thread.pc + 4 & WORD, Goes.RETURNS: thread.registers[1]}[effect.goes]
+        if effect.answer is not None:
+            thread.registers[10] = effect.answer
+        thread.since = 0
+        if effect.releases:
+            thread.stop = None
+        self.fill(effect.place, effect.data)
+        if effect.page is not None:
+            self.pages.setdefault(effect.page, bytearray(PAGE))
+        if effect.made:
+            creator = self.threads[effect.made.creator].registers
+            registers = made_registers(creator, len(self.threads), effect.made.argument)
+            self.threads.append(Thread(registers, effect.made.start))
+        for other in self.threads:
+            if isinstance(other.stop, PageFault) and other.stop.page in self.pages:
+                other.stop = None

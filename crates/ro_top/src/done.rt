@@ -50,9 +50,15 @@ impl<K> Done<K> {
 pub fn without_words<E: Sink>(report: &mut E) -> u8
     ensures { (told : Told) × (result ≡ status_of told a.NoMemory) × IsTold told (E.held report.old) (E.held report.new) (answer_text a.NoMemory) × (told ≡ t.Failed → Rose (E.failures report.old) (E.failures report.new)) × (told ≡ t.Whole → E.failures report.new ≡ E.failures report.old) }
 {
-    let answer = Answer::NoMemory;
-    let told = tell_answer(report, &answer);
-    status_of(told, &answer)
+    answered(report, &Answer::NoMemory)
+}
+
+/// Tells an answer, which is then the whole report, and answers the status with which a process ends.
+pub fn answered<E: Sink>(report: &mut E, answer: &Answer) -> u8
+    ensures { (told : Told) × (result ≡ status_of told answer.now) × IsTold told (E.held report.old) (E.held report.new) (answer_text answer.now) × (told ≡ t.Failed → Rose (E.failures report.old) (E.failures report.new)) × (told ≡ t.Whole → E.failures report.new ≡ E.failures report.old) }
+{
+    let told = tell_answer(report, answer);
+    status_of(told, answer)
 }
 
 // The status of a process that came to this answer, where it was reported or could not be.

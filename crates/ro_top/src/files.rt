@@ -30,7 +30,7 @@ fn most_bytes(kind: FileKind) -> usize
 }
 
 // The content of a file, of which one byte more is fetched than it may have.
-pub(crate) fn fetch<S: Store>(
+pub fn fetch<S: Store>(
     store: &mut S,
     alloc: Global,
     kind: FileKind,
@@ -100,7 +100,7 @@ pub(crate) fn faults(alloc: Global, bytes: &[u8], replicas: u32) -> Result<Vec<F
 }
 
 // The journal of a text.
-pub(crate) fn journal(alloc: Global, bytes: &[u8]) -> Result<Vec<Entry>, Answer>
+pub fn journal(alloc: Global, bytes: &[u8]) -> Result<Vec<Entry>, Answer>
     ensures journal { IfOk result (λ journal. file_journal bytes.now ≡ Ok journal.items) }
     ensures refused { IfErr result (RefusesPlan bytes.now) }
 {

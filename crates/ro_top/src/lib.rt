@@ -15,7 +15,9 @@ mod running;
 mod top;
 mod writing;
 
-pub use done::{Done, Told, without_words};
+pub use asking::job_from;
+pub use done::{Done, Told, answered, without_words};
+pub use files::{fetch, journal};
 pub use ro_report::{Answer, FileKind, JournalCode};
 pub use running::{Job, JobRun, run_job};
 pub use top::romain;

@@ -1,0 +1,20 @@
+use Rattle.std.proofs.Common.{sym, ap, ◌∙◌, true≢false}
+use Rattle.ro_journal.specs.declared.Entry.TheVariants.{End}
+use Rattle.ro_core.specs.Action.{next_action}
+use Rattle.ro_core.proofs.Ordered.{ordered}
+use Rattle.ro_audit.specs.Following.{core_at}
+use Rattle.ro_audit.proofs.Ends.{no-such-end}
+use Rattle.ro_audit.proofs.Steps.{state-is, end-follows, refused}
+use Rattle.ro_audit.proofs.follower.Follower.end.Goals as goal
+
+pub returns-then-is_end : goal.returns-then-is_end
+returns-then-is_end c =
+    let x = c.end.ensures.entry in
+    (x.0, x.2, end-follows c.args.self.now.core c.end.new.self c.args.how c.args.self.now.lent.items c.args.self.now.wrote c.requires.follows x.0 x.2 c.end.ensures.quiet)
+
+pub returns-in-None : goal.returns-in-None
+returns-in-None c =
+    let core = c.args.self.now.core in
+    refused core c.refuse.new.self.core (End c.args.how) c.refuse.result c.refuse.new.self.lent.items c.refuse.new.self.wrote c.refuse.ensures
+    (no-such-end core.job (core_at core) c.args.how (ordered core.job core.journal c.requires.follows.legal)
+    (λ e. true≢false (sym (c.is_end.ensures.1 (c.next_action.ensures.next ∙ ap (next_action core.job) (state-is core c.requires.follows.calm) ∙ e)) ∙ c.if-is_end.false)) c.requires.not_sink (c.place_of.ensures.none c.in-None.is))

@@ -1,0 +1,91 @@
+-- A journal that is followed.
+use Rattle.std.specs.Prelude.{◌≡◌, ◌<◌, ◌≤◌, ℕ, Bool, true, false, List, [], ◌∷◌, ◌++◌, length, Option, Some, None, slice_get, slice_index_or}
+use Rattle.ro_journal.specs.declared.How.{How}
+use Rattle.ro_journal.specs.declared.How.TheVariants.{Sink}
+use Rattle.ro_journal.specs.declared.Entry.{Entry}
+use Rattle.ro_journal.specs.declared.Entry.TheVariants.{End}
+use Rattle.ro_faults.specs.declared.Fault.{Fault}
+use Rattle.ro_image.specs.Image.{Image}
+use Rattle.ro_settings.specs.declared.Settings.{Settings}
+use Rattle.ro_settings.specs.Ranges.{InRange}
+use Rattle.ro_replica.specs.Seen.{replica_of}
+use Rattle.ro_lease.specs.Loans.{LentOf}
+use Rattle.ro_core.specs.Core.{Job, Core, is_going, is_idle, may_vote, may_free}
+use Rattle.ro_core.specs.Legal.{IsAllowed, Legal, EndsVote, EndsFree, replay, output_of}
+use Rattle.ro_core.specs.Seen.{CoreOf, IsOfJob, Appends, lease_of}
+use Rattle.ro_audit.specs.declared.audits.Trail.{Trail}
+use Rattle.ro_audit.specs.declared.follower.InPlace.{InPlace}
+use Rattle.ro_audit.specs.declared.follower.InPlace.TheVariants.{OfVote, OfFree}
+use Rattle.ro_audit.specs.declared.follower.Walk.{Walk}
+use Rattle.ro_audit.specs.declared.follower.Walk.TheVariants.{Whole, Cut, Stopped}
+use Rattle.ro_audit.specs.Audits.{FirstIllegal}
+
+-- what is lent to a driver: its lease is out, and the replica is the core's
+pub record Lends (job : Job) (core : Core) (driver : ℕ) (lent : LentOf) : Type 0 where
+  pub driver_is : lent.driver ≡ driver
+  pub quantum_is : lent.quantum ≡ job.settings.quantum
+  pub program : IsOfJob job lent.replica
+  pub held : lease_of core driver ≡ Some (record { driver = driver; replica = lent.number; thread = lent.thread })
+  pub there : slice_get core.replicas lent.number ≡ Some (replica_of lent.replica)
+  pub not_ended : core.ended ≡ None
+
+-- a driver's slot: what is lent to it, if anything is
+abbrev pub Slot : Job → Core → (driver : ℕ) → Option LentOf → Type 0
+Slot job core driver None = is_idle core driver ≡ true
+Slot job core driver (Some lent) = Lends job core driver lent
+
+-- a core that has made the entries of a journal, what is lent, and how many bytes the last entry wrote
+pub record Follows (core : CoreOf) (lent : List (Option LentOf)) (wrote : ℕ) : Type 0 where
+  pub calm : core.failed ≡ None
+  pub held : core.held ≡ Some (output_of core.job core.journal)
+  pub legal : Legal core.job core.journal
+  pub in_range : InRange core.job.settings
+  pub wrote_is : wrote ≡ (replay core.job core.journal).wrote
+  pub few : wrote ≤ length (output_of core.job core.journal)
+  pub drivers : length lent ≡ core.job.settings.drivers
+  pub slots : (driver : ℕ) → Slot core.job (replay core.job core.journal) driver (slice_index_or lent driver None)
+
+-- the core that its journal leaves
+abbrev pub core_at : CoreOf → Core
+core_at core = replay core.job core.journal
+
+-- the entry was followed, or it is not allowed
+abbrev pub Followed : CoreOf → Entry → Bool → CoreOf → List (Option LentOf) → ℕ → Type 0
+Followed old entry true core lent wrote = IsAllowed old.job (core_at old) entry × Appends old core entry × Follows core lent wrote
+Followed old entry false core lent wrote = IsAllowed old.job (core_at old) entry → ⊥
+
+-- in the place of what the run would end so
+abbrev pub IsInPlace : Job → Core → How → InPlace → Type 0
+IsInPlace job core how (OfVote thread) = (may_vote core thread ≡ true) × EndsVote job core thread how
+IsInPlace job core how (OfFree thread) = (may_free job core thread ≡ true) × EndsFree job core how
+
+-- no vote on the thread and no free of it would end so
+abbrev pub NotInPlace : Job → Core → How → (thread : ℕ) → Type 0
+NotInPlace job core how thread = (may_vote core thread ≡ true → EndsVote job core thread how → ⊥) × (may_free job core thread ≡ true → EndsFree job core how → ⊥)
+
+-- the same journal, with nothing but room and views of its own
+pub record Same (old new : CoreOf) : Type 0 where
+  pub job : new.job ≡ old.job
+  pub journal : new.journal ≡ old.journal
+
+-- the entry comes next in a journal that was followed so far
+pub record AtEntry (core : CoreOf) (journal : List Entry) (place : ℕ) (entry : Entry) : Type 0 where
+  pub rest : List Entry
+  pub journal_is : journal ≡ core.journal ++ entry ∷ rest
+  pub place_is : length core.journal ≡ place
+
+-- what became of a journal: all of it was followed, or all but a failing sink's end, which may come; or an entry is not
+-- allowed
+abbrev pub Walked : Job → List Entry → Walk → CoreOf → List (Option LentOf) → ℕ → Type 0
+Walked job journal Whole core lent wrote = (core.job ≡ job) × (core.journal ≡ journal) × Follows core lent wrote
+Walked job journal (Cut taken) core lent wrote =
+    (core.job ≡ job) × (core.journal ++ End (Sink taken) ∷ [] ≡ journal) × (is_going (core_at core) ≡ true) × (taken < wrote) × Follows core lent wrote
+Walked job journal (Stopped place) core lent wrote = FirstIllegal job journal place
+
+-- the job of a run
+abbrev pub job_by : Image → (input : List ℕ) → List Fault → Settings → Job
+job_by image input faults settings = record { program = record { image = image; input = input }; faults = faults; settings = settings }
+
+-- the trail of a journal
+abbrev pub IsTrail : Job → List Entry → Trail → Type 0
+IsTrail job journal trail = Walked job journal trail.walk trail.follower.core trail.follower.lent.items trail.follower.wrote

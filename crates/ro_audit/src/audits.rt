@@ -1,0 +1,176 @@
+//! The audit of a journal.
+ghost use Rattle.std.specs.Prelude.{◌≡◌, ◌<◌, ◌++◌, ◌∷◌, [], List, IfOk, MatchResult, true};
+ghost use Rattle.ro_journal.specs.declared.Entry.{Entry as EntrySeen};
+ghost use Rattle.ro_journal.specs.declared.How.TheVariants.{Sink as BySink};
+ghost use Rattle.ro_journal.specs.declared.Entry.TheVariants.{End};
+ghost use Rattle.ro_settings.specs.Ranges.{InRange};
+ghost use Rattle.ro_replica.specs.Seen.{AreFaults};
+ghost use Rattle.ro_core.specs.Core.{Job, is_going};
+ghost use Rattle.ro_audit.specs.Audits.{Tells, IsCause};
+ghost use Rattle.ro_audit.specs.Following.{Follows, IsTrail, core_at, job_by};
+
+use crate::follower::{Follower, Walk, Why};
+use crate::kept::Kept;
+use ro_core::{Core, Finished};
+use ro_event::View;
+use ro_faults::Fault;
+use ro_image::Executable;
+use ro_journal::{Entry, How};
+use ro_settings::Settings;
+use std::alloc::{AllocError, Global};
+
+/// What a legal journal comes to.
+#[derive(Drop)]
+pub struct Audited {
+    /// How the run ended, if it did.
+    pub how: Option<How>,
+    /// The length of its plan.
+    pub steps: u64,
+    /// What it wrote.
+    pub output: Vec<u8>,
+    /// Where it ended by a vote of views that had no majority, those views in the order of the replicas.
+    pub views: Vec<View>,
+}
+
+/// Why there is no audit.
+#[derive(Clone, Copy, Debug, PartialEq, Eq)]
+pub enum AuditError {
+    /// The entry at this place, from 0, is the first that is not allowed.
+    Illegal { place: usize },
+    NoMemory,
+}
+
+impl From<AllocError> for AuditError {
+    ghost use Rattle.std.specs.Prelude.{◌≡◌};
+    ghost use Rattle.ro_audit.specs.declared.audits.AuditError.TheVariants.{NoMemory};
+
+    ghost from_gives = { λ _ e. e ≡ NoMemory };
+
+    fn from(_: AllocError) -> AuditError {
+        AuditError::NoMemory
+    }
+}
+
+/// A journal that was followed, and where that ended.
+pub struct Trail {
+    pub(crate) follower: Follower,
+    pub(crate) walk: Walk,
+}
+
+/// Follows the journal of a run entry by entry, and tells what it comes to.
+///
+/// # Errors
+/// `Illegal` exactly where the journal is not legal, with the place of the first entry that is not allowed in the core that
+/// those before it leave; `NoMemory` where there is no memory.
+pub fn audit(
+    alloc: Global,
+    image: Executable,
+    input: &[u8],
+    faults: &[Fault],
+    settings: Settings,
+    journal: &[Entry],
+) -> Result<Audited, AuditError>
+    requires settings { InRange settings }
+    requires faults { AreFaults faults.now }
+    ensures { MatchResult result (Tells (job_by image input.now faults.now settings) journal.now) (IsCause (job_by image input.now faults.now settings) journal.now) }
+{
+    let trail = trace(alloc, image, input, faults, settings, journal)?;
+    trail.tell()
+}
+
+/// Follows the journal of a run entry by entry, up to the first that is not allowed.
+///
+/// # Errors
+/// Where there is no memory.
+pub fn trace(
+    alloc: Global,
+    image: Executable,
+    input: &[u8],
+    faults: &[Fault],
+    settings: Settings,
+    journal: &[Entry],
+) -> Result<Trail, AllocError>
+    requires settings { InRange settings }
+    requires faults { AreFaults faults.now }
+    ensures { IfOk result (IsTrail (job_by image input.now faults.now settings) journal.now) }
+{
+    let mut follower = Follower::begin(alloc, image, input, faults, settings)?;
+    match follower.walk(journal) {
+        Ok(walk) => Ok(Trail { follower, walk }),
+        Err(error) => {
+            follower.discard();
+            Err(error)
+        }
+    }
+}
+
+impl Trail {
+    /// The core that the entries leave up to where they were followed. Where an entry that is not allowed names a vote or a
+    /// call that is served, it has come to another entry by now.
+    pub fn core(&self) -> &Core<Kept>
+        ensures { result.now ≡ self.now.follower.core }
+    {
+        &self.follower.core
+    }
+
+    /// The place of the first entry that is not allowed, and why it is not.
+    pub fn refused(&self) -> Option<(usize, Why)> {
+        match self.walk {
+            Walk::Stopped(place) => Some((place, self.follower.why)),
+            _ => None,
+        }
+    }
+
+    /// What the journal comes to, or the first entry that is not allowed.
+    pub fn tell(self) -> Result<Audited, AuditError>
+        ensures { (job : Job) (journal : List EntrySeen) → IsTrail job journal self → MatchResult result (Tells job journal) (IsCause job journal) }
+    {
+        let Trail { follower, walk } = self;
+        match walk {
+            Walk::Whole => Ok(whole(follower)),
+            Walk::Cut(taken) => Ok(cut(follower, taken)),
+            Walk::Stopped(place) => {
+                follower.discard();
+                Err(AuditError::Illegal { place })
+            }
+        }
+    }
+}
+
+// What a journal that was followed to its end comes to.
+fn whole(follower: Follower) -> Audited
+    ensures { Follows follower.core follower.lent.items follower.wrote → Tells follower.core.job follower.core.journal result }
+{
+    let Follower {
+        core,
+        lent: _,
+        wrote: _,
+        why: _,
+    } = follower;
+    let steps = core.steps();
+    let Finished {
+        how,
+        views,
+        journal: _,
+        bytes: _,
+        out,
+    } = core.finish();
+    Audited {
+        how,
+        steps,
+        output: out.into_bytes(),
+        views,
+    }
+}
+
+// The same, with the end by a failing sink behind it.
+fn cut(follower: Follower, taken: u32) -> Audited
+    ensures { Follows follower.core follower.lent.items follower.wrote → is_going (core_at follower.core) ≡ true → taken < follower.wrote → Tells follower.core.job (follower.core.journal ++ End (BySink taken) ∷ []) result }
+{
+    let left = follower.wrote.saturating_sub(u64::from(taken));
+    let mut audited = whole(follower);
+    audited.how = Some(How::Sink(taken));
+    let kept = audited.output.len().saturating_sub(left as usize);
+    audited.output.truncate(kept);
+    audited
+}

@@ -1,0 +1,431 @@
+//! A follower of a journal: a core that makes the same entries, and the replicas that are lent.
+ghost use Rattle.std.specs.Prelude.{◌≡◌, ◌≢◌, ◌<◌, ◌↔◌, ℕ, [], IfOk, IfSome, IsSome, IsTrue, None, Some, length, slice_index_or, slice_set, false, true};
+ghost use Rattle.ro_journal.specs.declared.How.TheVariants.{Sink as BySink};
+ghost use Rattle.ro_journal.specs.declared.Entry.TheVariants.{Take, Put, End};
+ghost use Rattle.ro_settings.specs.Ranges.{InRange};
+ghost use Rattle.ro_replica.specs.Seen.{AreFaults};
+ghost use Rattle.ro_core.specs.declared.actions.Action.TheVariants as act;
+ghost use Rattle.ro_core.specs.Core.{is_going, may_vote, may_free};
+ghost use Rattle.ro_core.specs.Legal.{EndsVote, EndsFree};
+ghost use Rattle.ro_core.specs.Seen.{DecidesVote, DecidesFree};
+ghost use Rattle.ro_audit.specs.Following.{Follows, Followed, IsInPlace, NotInPlace, Same, AtEntry, Walked, core_at};
+
+use crate::kept::Kept;
+use ro_core::{Action, Core, Finished, Refused};
+use ro_faults::Fault;
+use ro_image::Executable;
+use ro_journal::{Entry, How};
+use ro_lease::{Back, Lent};
+use ro_post::Work;
+use ro_replica::Ran;
+use ro_settings::Settings;
+use std::alloc::{AllocError, Global};
+
+/// Follows a journal.
+pub(crate) struct Follower {
+    pub core: Core<Kept>,
+    /// Of each driver what is lent to it.
+    pub lent: Vec<Option<Lent>>,
+    /// How many bytes the last entry wrote.
+    pub wrote: u64,
+    /// Why the last entry is not allowed.
+    pub why: Why,
+}
+
+/// Why an entry is not allowed.
+#[derive(Clone, Copy, Debug, PartialEq, Eq)]
+pub enum Why {
+    /// The driver holds a lease, or the thread can't be lent in that replica.
+    NotLendable,
+    /// No such lease is out.
+    NotOut,
+    /// The run of the lease comes back after so many instructions and faults.
+    Ran { count: u32, hit: u32 },
+    /// The thread can't be voted on.
+    NoVote,
+    /// The thread has no call that may be served.
+    NoFree,
+    /// The vote, or the call that is served, comes to this entry.
+    Comes(Entry),
+    /// The run does not end so here.
+    NoEnd,
+    /// The run has ended.
+    Behind,
+}
+
+/// What became of a journal that was followed.
+#[derive(Clone, Copy, Debug, PartialEq, Eq)]
+pub(crate) enum Walk {
+    /// All of it was followed.
+    Whole,
+    /// It ends by a failing sink, which took so many bytes of the last write.
+    Cut(u32),
+    /// The entry at this place is not allowed.
+    Stopped(usize),
+}
+
+/// In the place of what a run ends.
+#[derive(Clone, Copy, Debug, PartialEq, Eq)]
+pub(crate) enum InPlace {
+    /// Of the vote on this thread.
+    OfVote(u32),
+    /// Of the call that is served for this thread.
+    OfFree(u32),
+}
+
+impl Follower {
+    /// A follower of the journals of a run.
+    ///
+    /// # Errors
+    /// Where there is no memory.
+    pub fn begin(
+        alloc: Global,
+        image: Executable,
+        input: &[u8],
+        faults: &[Fault],
+        settings: Settings,
+    ) -> Result<Follower, AllocError>
+        requires settings { InRange settings }
+        requires faults { AreFaults faults.now }
+        ensures follows { IfOk result (λ f. Follows f.core f.lent.items f.wrote) }
+        ensures job { IfOk result (λ f. f.core.job ≡ record { program = record { image = image; input = input.now }; faults = faults.now; settings = settings }) }
+        ensures journal { IfOk result (λ f. f.core.journal ≡ []) }
+    {
+        let lent = vacant(alloc, settings.drivers)?;
+        match Core::begin(alloc, image, input, faults, settings, Kept::new(alloc)) {
+            Ok(core) => Ok(Follower {
+                core,
+                lent,
+                wrote: 0,
+                why: Why::NoEnd,
+            }),
+            Err(Refused { image: _, out: _ }) => Err(AllocError),
+        }
+    }
+
+    /// Follows the entries up to the first that is not allowed.
+    ///
+    /// # Errors
+    /// Where there is no memory.
+    pub fn walk(&mut self, journal: &[Entry]) -> Result<Walk, AllocError>
+        requires follows { Follows self.old.core self.old.lent.items self.old.wrote }
+        requires journal { self.old.core.journal ≡ [] }
+        ensures { IfOk result (λ walk. Walked self.old.core.job journal.now walk self.new.core self.new.lent.items self.new.wrote) }
+    {
+        for (place, entry) in journal.iter().enumerate() {
+            if let Entry::End {
+                how: How::Sink(taken),
+            } = *entry
+            {
+                return Ok(self.cut(taken, place, journal));
+            }
+            if !self.follow(entry)? {
+                return Ok(Walk::Stopped(place));
+            }
+        }
+        Ok(Walk::Whole)
+    }
+
+    /// Lets it go.
+    pub fn discard(self) {
+        let Follower {
+            core,
+            lent: _,
+            wrote: _,
+            why: _,
+        } = self;
+        let Finished {
+            how: _,
+            views: _,
+            journal: _,
+            bytes: _,
+            out: _,
+        } = core.finish();
+    }
+
+    // Follows one entry, which is no failing sink's end; answers whether it is allowed.
+    fn follow(&mut self, entry: &Entry) -> Result<bool, AllocError>
+        requires follows { Follows self.old.core self.old.lent.items self.old.wrote }
+        requires not_sink { (bytes : ℕ) → entry.now ≢ End (BySink bytes) }
+        ensures { IfOk result (λ yes. Followed self.old.core entry.now yes self.new.core self.new.lent.items self.new.wrote) }
+    {
+        match *entry {
+            Entry::Take {
+                driver,
+                replica,
+                thread,
+            } => self.take(driver, replica, thread),
+            Entry::Put {
+                driver,
+                replica,
+                thread,
+                count,
+                hit,
+            } => Ok(self.put(driver, replica, thread, count, hit)),
+            Entry::Vote { thread, .. } => {
+                if self.core.may_vote(thread) {
+                    self.vote(thread, entry)
+                } else {
+                    Ok(self.refuse(Why::NoVote))
+                }
+            }
+            Entry::Free { thread } => {
+                if self.core.may_free(thread) {
+                    self.free(thread, entry)
+                } else {
+                    Ok(self.refuse(Why::NoFree))
+                }
+            }
+            Entry::End { how } => self.end(how),
+        }
+    }
+
+    // Notes why an entry is not allowed.
+    fn refuse(&mut self, why: Why) -> bool
+        ensures { result ≡ false }
+    {
+        self.why = why;
+        false
+    }
+
+    // Lends a thread of a replica to a driver, where that is allowed.
+    fn take(&mut self, driver: u32, replica: u32, thread: u32) -> Result<bool, AllocError>
+        requires { Follows self.old.core self.old.lent.items self.old.wrote }
+        ensures { IfOk result (λ yes. Followed self.old.core (Take driver replica thread) yes self.new.core self.new.lent.items self.new.wrote) }
+    {
+        if !self.core.may_take(driver, replica, thread) {
+            return Ok(self.refuse(Why::NotLendable));
+        }
+        self.core.room()?;
+        let quantum = self.core.settings().quantum;
+        let taken = self.core.take(driver, replica, thread);
+        let lent = Lent::new(driver, replica, thread, quantum, taken);
+        lend(self.lent.as_mut_slice(), driver, lent);
+        self.wrote = 0;
+        Ok(true)
+    }
+
+    // Runs what is lent to a driver and puts it back, where the entry is that of its run.
+    fn put(&mut self, driver: u32, replica: u32, thread: u32, count: u32, hit: u32) -> bool
+        requires { Follows self.old.core self.old.lent.items self.old.wrote }
+        ensures { Followed self.old.core (Put driver replica thread count hit) result self.new.core self.new.lent.items self.new.wrote }
+    {
+        let Some(lent) = take_back(self.lent.as_mut_slice(), driver) else {
+            return self.refuse(Why::NotOut);
+        };
+        if !is_of(&lent, replica, thread) {
+            return self.refuse(Why::NotOut);
+        }
+        let Back {
+            replica: returned,
+            ran,
+            ..
+        } = lent.run();
+        if !came_to(&ran, count, hit) {
+            let (count, hit) = (ran.count, ran.hit);
+            return self.refuse(Why::Ran { count, hit });
+        }
+        self.core.put(driver, returned, ran);
+        self.wrote = 0;
+        true
+    }
+
+    // Holds a vote that may be held, and answers whether it comes to this entry, which would decide it.
+    fn vote(&mut self, thread: u32, entry: &Entry) -> Result<bool, AllocError>
+        requires follows { Follows self.old.core self.old.lent.items self.old.wrote }
+        requires may { IsTrue (may_vote (core_at self.old.core) thread) }
+        requires decides { DecidesVote self.old.core.job (core_at self.old.core) thread entry.now }
+        ensures { IfOk result (λ yes. Followed self.old.core entry.now yes self.new.core self.new.lent.items self.new.wrote) }
+    {
+        let before = self.core.bytes();
+        let came = self.core.vote(thread)?;
+        if self.core.failed().is_some() {
+            return Err(AllocError);
+        }
+        self.wrote = self.core.bytes() - before;
+        self.why = Why::Comes(came);
+        Ok(is_same(&came, entry))
+    }
+
+    // Serves a call that may be served, and answers whether that comes to this entry, which would decide it.
+    fn free(&mut self, thread: u32, entry: &Entry) -> Result<bool, AllocError>
+        requires follows { Follows self.old.core self.old.lent.items self.old.wrote }
+        requires may { IsTrue (may_free self.old.core.job (core_at self.old.core) thread) }
+        requires decides { DecidesFree self.old.core.job (core_at self.old.core) thread entry.now }
+        ensures { IfOk result (λ yes. Followed self.old.core entry.now yes self.new.core self.new.lent.items self.new.wrote) }
+    {
+        let came = self.core.free(thread)?;
+        self.wrote = 0;
+        self.why = Why::Comes(came);
+        Ok(is_same(&came, entry))
+    }
+
+    // Ends the run so, where that is allowed: the end is due, or nothing can be done, or it comes in the place of a vote or a
+    // free.
+    fn end(&mut self, how: How) -> Result<bool, AllocError>
+        requires follows { Follows self.old.core self.old.lent.items self.old.wrote }
+        requires not_sink { (bytes : ℕ) → how ≢ BySink bytes }
+        ensures { IfOk result (λ yes. Followed self.old.core (End how) yes self.new.core self.new.lent.items self.new.wrote) }
+    {
+        if is_end(self.core.next_action(), how) {
+            self.core.end(how);
+            self.wrote = 0;
+            return Ok(true);
+        }
+        let entry = Entry::End { how };
+        match self.place_of(how) {
+            Some(InPlace::OfVote(thread)) => self.vote(thread, &entry),
+            Some(InPlace::OfFree(thread)) => self.free(thread, &entry),
+            None => Ok(self.refuse(Why::NoEnd)),
+        }
+    }
+
+    // In the place of what the run would end so.
+    fn place_of(&mut self, how: How) -> Option<InPlace>
+        requires { Follows self.old.core self.old.lent.items self.old.wrote }
+        ensures follows { Follows self.new.core self.new.lent.items self.new.wrote }
+        ensures same { Same self.old.core self.new.core }
+        ensures some { IfSome result (λ place. IsInPlace self.old.core.job (core_at self.old.core) how place) }
+        ensures none { result ≡ None → (thread : ℕ) → thread < 16 → NotInPlace self.old.core.job (core_at self.old.core) how thread }
+    {
+        for thread in 0..ro_limits::MOST_THREADS {
+            let place = self.place_at(thread, how);
+            if place.is_some() {
+                return place;
+            }
+        }
+        None
+    }
+
+    // The same of one thread.
+    fn place_at(&mut self, thread: u32, how: How) -> Option<InPlace>
+        requires { Follows self.old.core self.old.lent.items self.old.wrote }
+        ensures follows { Follows self.new.core self.new.lent.items self.new.wrote }
+        ensures same { Same self.old.core self.new.core }
+        ensures some { IfSome result (λ place. IsInPlace self.old.core.job (core_at self.old.core) how place) }
+        ensures none { result ≡ None → NotInPlace self.old.core.job (core_at self.old.core) how thread }
+    {
+        if self.ends_vote(thread, how) {
+            return Some(InPlace::OfVote(thread));
+        }
+        if self.ends_free(thread, how) {
+            return Some(InPlace::OfFree(thread));
+        }
+        None
+    }
+
+    // Whether the run would end so in the place of a vote on a thread.
+    fn ends_vote(&mut self, thread: u32, how: How) -> bool
+        requires { Follows self.old.core self.old.lent.items self.old.wrote }
+        ensures follows { Follows self.new.core self.new.lent.items self.new.wrote }
+        ensures same { Same self.old.core self.new.core }
+        ensures ends { IsTrue result ↔ ((may_vote (core_at self.old.core) thread ≡ true) × EndsVote self.old.core.job (core_at self.old.core) thread how) }
+    {
+        if !self.core.may_vote(thread) {
+            return false;
+        }
+        let end = self.core.vote_end(thread);
+        is_how(end, how)
+    }
+
+    // Whether the run would end so in the place of a call that is served for a thread.
+    fn ends_free(&self, thread: u32, how: How) -> bool
+        requires { Follows self.now.core self.now.lent.items self.now.wrote }
+        ensures { IsTrue result ↔ ((may_free self.now.core.job (core_at self.now.core) thread ≡ true) × EndsFree self.now.core.job (core_at self.now.core) how) }
+    {
+        if !self.core.may_free(thread) {
+            return false;
+        }
+        is_how(self.core.free_end(), how)
+    }
+
+    // A failing sink's end at this place of the journal: it may come while bytes of the last write are left, and is the last
+    // entry.
+    fn cut(&mut self, taken: u32, place: usize, journal: &[Entry]) -> Walk
+        requires follows { Follows self.old.core self.old.lent.items self.old.wrote }
+        requires there { AtEntry self.old.core journal.now place (End (BySink taken)) }
+        ensures { Walked self.old.core.job journal.now result self.new.core self.new.lent.items self.new.wrote }
+    {
+        if !self.may_cut(taken) {
+            self.why = Why::NoEnd;
+            return Walk::Stopped(place);
+        }
+        if place + 1 < journal.len() {
+            self.why = Why::Behind;
+            return Walk::Stopped(place + 1);
+        }
+        Walk::Cut(taken)
+    }
+
+    // Whether the run may end by a sink that took so many bytes of the last write.
+    fn may_cut(&self, taken: u32) -> bool
+        requires { Follows self.now.core self.now.lent.items self.now.wrote }
+        ensures { IsTrue result ↔ ((is_going (core_at self.now.core) ≡ true) × (taken < self.now.wrote)) }
+    {
+        self.core.is_going() && u64::from(taken) < self.wrote
+    }
+}
+
+// A slot for each driver, with nothing lent.
+fn vacant(alloc: Global, drivers: u32) -> Result<Vec<Option<Lent>>, AllocError>
+    ensures count { IfOk result (λ lent. length lent.items ≡ drivers) }
+    ensures vacant { IfOk result (λ lent. (driver : ℕ) → slice_index_or lent.items driver None ≡ None) }
+{
+    let mut lent = Vec::with_capacity(alloc, drivers as usize)?;
+    for _ in 0..drivers {
+        lent.push(None)?;
+    }
+    Ok(lent)
+}
+
+// Notes what is lent to a driver.
+fn lend(lent: &mut [Option<Lent>], driver: u32, loan: Lent)
+    requires { driver < length lent.old }
+    ensures { lent.new ≡ slice_set lent.old driver (Some loan) }
+{
+    lent[driver as usize] = Some(loan);
+}
+
+// Takes what is lent to a driver out of its slot.
+fn take_back(lent: &mut [Option<Lent>], driver: u32) -> Option<Lent>
+    ensures lent { result ≡ slice_index_or lent.old driver None }
+    ensures vacant { IsSome result → (lent.new ≡ slice_set lent.old driver None) × (driver < length lent.old) }
+{
+    if driver as usize >= lent.len() {
+        return None;
+    }
+    lent[driver as usize].take()
+}
+
+// Whether what is lent is a thread of this replica.
+fn is_of(lent: &Lent, replica: u32, thread: u32) -> bool
+    ensures { IsTrue result ↔ ((lent.now.number ≡ replica) × (lent.now.thread ≡ thread)) }
+{
+    let (_, lent_replica, lent_thread) = lent.place();
+    lent_replica == replica && lent_thread == thread
+}
+
+// Whether a run came to so many instructions and faults.
+fn came_to(ran: &Ran, count: u32, hit: u32) -> bool
+    ensures { IsTrue result ↔ ((ran.now.count ≡ count) × (ran.now.hit ≡ hit)) }
+{
+    ran.count == count && ran.hit == hit
+}
+
+fn is_same(came: &Entry, entry: &Entry) -> bool
+    ensures { IsTrue result ↔ (came.now ≡ entry.now) }
+{
+    came == entry
+}
+
+fn is_end(action: Action, how: How) -> bool
+    ensures { IsTrue result ↔ (action ≡ act.End how) }
+{
+    action == Action::End(how)
+}
+
+fn is_how(end: Option<How>, how: How) -> bool
+    ensures { IsTrue result ↔ (end ≡ Some how) }
+{
+    end == Some(how)
+}

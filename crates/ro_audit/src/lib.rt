@@ -1,0 +1,13 @@
+//! An audit: whether a journal is legal, and what it comes to. It is followed entry by entry through a core of its own.
+#![tactic(auto)]
+
+mod audits;
+mod follower;
+mod kept;
+
+pub use audits::{AuditError, Audited, Trail, audit, trace};
+pub use follower::Why;
+pub use kept::Kept;
+
+#[cfg(test)]
+mod tests;

@@ -1,0 +1,73 @@
+//! Audits a journal: `romain audit EXE --journal F`, and the options of the run that it is said to be of.
+//!
+//! What is told goes to standard output. The process ends with 0 where the journal is legal, with 238 where it is not, and else
+//! with the status of a run whose words or files are bad.
+#![tactic(auto)]
+
+use ro_io::{FileStore, OutSink};
+use ro_tell::{Judged, audit_words};
+use ro_top::{answered, without_words};
+use std::alloc::{AllocError, Global};
+use std::env::{self, Args};
+use std::io::ErrorKind;
+use std::process::ExitCode;
+
+/// The status where an entry is not allowed.
+const ILLEGAL: u8 = 238;
+
+/// The status where standard output can't be written.
+const UNTOLD: u8 = 251;
+
+fn main(rt: HostRuntime) -> ExitCode {
+    let alloc = rt.alloc();
+    let mut report = OutSink::new(rt.stderr());
+    let Ok(words) = words(&rt, alloc) else {
+        return ExitCode::from(without_words(&mut report));
+    };
+    let Ok(texts) = texts(alloc, words.as_slice()) else {
+        return ExitCode::from(without_words(&mut report));
+    };
+    let mut store = FileStore::new(&rt);
+    let status = match audit_words(alloc, texts.as_slice(), &mut store) {
+        Ok(judged) => tell(&rt, &judged),
+        Err(answer) => answered(&mut report, &answer),
+    };
+    ExitCode::from(status)
+}
+
+// Prints what was judged, and answers the status.
+fn tell(rt: &HostRuntime, judged: &Judged) -> u8 {
+    let text = judged.text.as_str();
+    if print!(rt; "{text}").is_err() {
+        return UNTOLD;
+    }
+    match judged.place {
+        None => 0,
+        Some(_) => ILLEGAL,
+    }
+}
+// The words of the command line. Words that are no texts are no command, and so are none.
+fn words(rt: &HostRuntime, alloc: Global) -> Result<Vec<String>, AllocError> {
+    match env::args(rt) {
+        Ok(args) => all_of(alloc, args),
+        Err(error) if error.kind() == ErrorKind::OutOfMemory => Err(AllocError),
+        Err(_) => Ok(Vec::new(alloc)),
+    }
+}
+
+fn all_of(alloc: Global, args: Args) -> Result<Vec<String>, AllocError> {
+    let mut words = Vec::with_capacity(alloc, args.len())?;
+    for word in args {
+        words.push(word)?;
+    }
+    Ok(words)
+}
+
+// The same as texts.
+fn texts<'a>(alloc: Global, words: &'a [String]) -> Result<Vec<&'a str>, AllocError> {
+    let mut texts = Vec::with_capacity(alloc, words.len())?;
+    for word in words {
+        texts.push(word.as_str())?;
+    }
+    Ok(texts)
+}

@@ -14,8 +14,8 @@ own under --keep: its files, the command, and what is wrong. Status 1 where a ca
 ./romain.
 """
 import argparse
+import collections
 import concurrent.futures
-import itertools
 import os
 import pathlib
 import random
@@ -30,6 +30,8 @@ ROOT = kinds.ROOT
 ROMAIN = os.path.abspath(os.environ.get("ROMAIN", ROOT / "romain"))
 # The script answers --help itself, so cases are run by what it builds.
 PROGRAM = ROMAIN if "ROMAIN" in os.environ else str(ROOT / "crates/romain/out/romain")
+
+PART = 100  # cases that are drawn, run and judged in a row by one process
 
 
 def read_arguments():
@@ -61,21 +63,22 @@ def build():
         sys.exit(f"fuzz: failed, nothing was run: {ROMAIN} run ends with status {done.returncode}, not 249")
 
 
-def run(case, seconds):
-    """What comes of a case, or None where it doesn't end in time."""
-    with tempfile.TemporaryDirectory() as folder:
-        kinds.write(case, folder)
-        try:
-            done = subprocess.run([PROGRAM, *case.words], cwd=folder, stdin=subprocess.DEVNULL, capture_output=True,
-                                  timeout=seconds)
-        except subprocess.TimeoutExpired:
-            return None
+def run(case, seconds, folder=None):
+    """What comes of a case, or None where it doesn't end in time. A folder that is given has been laid down."""
+    if folder is None:
+        with tempfile.TemporaryDirectory() as own:
+            kinds.write(case, own)
+            return run(case, seconds, own)
+    try:
+        done = subprocess.run([PROGRAM, *case.words], cwd=folder, stdin=subprocess.DEVNULL, capture_output=True, timeout=seconds)
+    except subprocess.TimeoutExpired:
+        return None
     return kinds.Came(done.returncode, done.stdout, done.stderr)
 
 
-def troubles(kind, case, seconds):
+def troubles(kind, case, seconds, folder=None):
     """What is wrong with a case, line by line."""
-    came = run(case, seconds)
+    came = run(case, seconds, folder)
     if came is None:
         return [f"no end within {seconds} seconds"]
     return [*kinds.usual_troubles(case, came), *kind.troubles(case, came)]
@@ -100,43 +103,58 @@ def knows_plain(kind):
     return came is not None and came.answer() != "words"
 
 
-def fuzz(arguments, name):
+def some(name, seed, numbers, seconds):
+    """The cases of these numbers: how many there are of each answer, and what is wrong with which."""
+    kind, answers, bad = kinds.KINDS[name](), collections.Counter(), []
+    with tempfile.TemporaryDirectory() as folder:
+        laid = {}
+        for number in numbers:
+            case = draw(kind, name, seed, number)
+            kinds.write(case, folder, laid)
+            laid = case.files
+            answers[(case.wanted or "any").split(" ")[0]] += 1
+            found = troubles(kind, case, seconds, folder)
+            if found:
+                bad.append((number, found))
+    return answers, bad
+
+
+def tell(arguments, name, number, found):
+    """Keeps a case, and says what is wrong with it."""
+    folder = arguments.keep / f"{name}-{arguments.seed}-{number}"
+    again = f"tools/fuzz.py --kinds {name} --seed {arguments.seed} --only {number}"
+    keep(draw(kinds.KINDS[name](), name, arguments.seed, number), folder, found, again)
+    print(f"{name} {number}, kept in {folder}:", *found, again, sep="\n    ", flush=True)
+
+
+def fuzz(arguments, name, pool):
     """How many cases of a kind were run, and how many failed; those are kept and told at once."""
-    kind, failed, start = kinds.KINDS[name](), 0, time.monotonic()
-    if name == "journals" and not knows_plain(kind):
+    start = time.monotonic()
+    if name == "journals" and not knows_plain(kinds.KINDS[name]()):
         print("fuzz: journals are left out, the program has no command plain")
         return 0, 0
-    numbers = range(arguments.count) if arguments.only is None else [arguments.only]
-
-    def job(number):
-        case = draw(kind, name, arguments.seed, number)
-        return number, case, troubles(kind, case, arguments.seconds)
-
-    with concurrent.futures.ThreadPoolExecutor(arguments.jobs) as pool:
-        rest, answers = iter(numbers), {}
-        waiting = {pool.submit(job, number) for number in itertools.islice(rest, 4 * arguments.jobs)}
-        while waiting:
-            done, waiting = concurrent.futures.wait(waiting, return_when=concurrent.futures.FIRST_COMPLETED)
-            waiting |= {pool.submit(job, number) for number in itertools.islice(rest, len(done))}
-            for future in done:
-                number, case, found = future.result()
-                wanted = (case.wanted or "any").split(" ")[0]
-                answers[wanted] = answers.get(wanted, 0) + 1
-                if found or arguments.only is not None:
-                    failed += bool(found)
-                    folder = arguments.keep / f"{name}-{arguments.seed}-{number}"
-                    again = f"tools/fuzz.py --kinds {name} --seed {arguments.seed} --only {number}"
-                    keep(case, folder, found, again)
-                    print(f"{name} {number}, kept in {folder}:", *found, again, sep="\n    ", flush=True)
+    numbers = range(arguments.count) if arguments.only is None else range(arguments.only, arguments.only + 1)
+    parts = [numbers[place:place + PART] for place in range(0, len(numbers), PART)]
+    answers, failed = collections.Counter(), 0
+    for part in concurrent.futures.as_completed(
+            [pool.submit(some, name, arguments.seed, part, arguments.seconds) for part in parts]):
+        came, bad = part.result()
+        answers += came
+        failed += len(bad)
+        for number, found in bad:
+            tell(arguments, name, number, found)
+    if arguments.only is not None and not failed:
+        tell(arguments, name, arguments.only, [])
     told = ", ".join(f"{count} {answer}" for answer, count in sorted(answers.items()))
-    print(f"fuzz: {name}: {len(numbers)} cases in {time.monotonic() - start:.0f} s: {told}")
+    print(f"fuzz: {name}: {len(numbers)} cases in {time.monotonic() - start:.0f} s: {told}", flush=True)
     return len(numbers), failed
 
 
 def main():
     arguments = read_arguments()
     build()
-    counts = [fuzz(arguments, name) for name in arguments.kinds]
+    with concurrent.futures.ProcessPoolExecutor(arguments.jobs) as pool:
+        counts = [fuzz(arguments, name, pool) for name in arguments.kinds]
     ran, failed = (sum(column) for column in zip(*counts))
     print(f"fuzz: passed, {ran} cases" if failed == 0 else f"fuzz: failed, {failed} of {ran} cases")
     sys.exit(1 if failed else 0)

@@ -1,21 +1,13 @@
 // What newlib asks of a system: input and output, a heap and an end. There are no files and no other
 // processes.
+#include "call.h"
 #include <errno.h>
 #include <stddef.h>
+#include <stdint.h>
 #include <sys/stat.h>
 
 #undef errno
 extern int errno;
-
-static int kernel(int number, int first, const void *second, unsigned third)
-{
-    register int a0 __asm__("a0") = first;
-    register const void *a1 __asm__("a1") = second;
-    register unsigned a2 __asm__("a2") = third;
-    register int a7 __asm__("a7") = number;
-    __asm__ volatile("ecall" : "+r"(a0) : "r"(a1), "r"(a2), "r"(a7) : "memory");
-    return a0;
-}
 
 static int fails(int error)
 {
@@ -31,19 +23,19 @@ static int answer(int value)
 
 int _read(int descriptor, void *place, size_t length)
 {
-    return answer(kernel(63, descriptor, place, length));
+    return answer(romain_call(63, (uint32_t)descriptor, (uint32_t)(uintptr_t)place, length));
 }
 
 int _write(int descriptor, const void *place, size_t length)
 {
-    return answer(kernel(64, descriptor, place, length));
+    return answer(romain_call(64, (uint32_t)descriptor, (uint32_t)(uintptr_t)place, length));
 }
 
 // The heap's end before so many bytes more.
 void *_sbrk(ptrdiff_t more)
 {
-    int old = kernel(214, 0, NULL, 0);
-    return kernel(214, old + more, NULL, 0) == old + more ? (void *)old : (void *)fails(ENOMEM);
+    int old = romain_call(214, 0, 0, 0);
+    return romain_call(214, (uint32_t)(old + more), 0, 0) == old + more ? (void *)old : (void *)fails(ENOMEM);
 }
 
 // Streams are held until their buffers are full, or the program ends.
@@ -92,6 +84,6 @@ int _kill(int process, int signal)
 
 __attribute__((noreturn)) void _exit(int status)
 {
-    kernel(93, status, NULL, 0);
+    romain_call(93, (uint32_t)status, 0, 0);
     __builtin_unreachable();
 }

@@ -1,6 +1,8 @@
 // For a program with picolibc: its thread-local data, its streams and its end. The library keeps errno and what some of its
 // functions remember in thread-local data. Thread 0 finds its own at tp, which is set before anything else is run; a made thread
 // has none, so it may call no function that looks at them.
+#include "call.h"
+#include <stdint.h>
 #include <stdio.h>
 #include <stdlib.h>
 
@@ -18,23 +20,13 @@ __attribute__((used, section(".preinit_array"))) static constructor *const first
 // Bytes of a stream that are held between two calls of the kernel.
 enum { PIECE = 256 };
 
-static int kernel(int number, int first, const void *second, unsigned third)
-{
-    register int a0 __asm__("a0") = first;
-    register const void *a1 __asm__("a1") = second;
-    register unsigned a2 __asm__("a2") = third;
-    register int a7 __asm__("a7") = number;
-    __asm__ volatile("ecall" : "+r"(a0) : "r"(a1), "r"(a2), "r"(a7) : "memory");
-    return a0;
-}
-
 static char going[PIECE], came[PIECE];
 static unsigned held, next, end;
 
 static int flush(FILE *stream)
 {
     (void)stream;
-    int gone = held == 0 ? 0 : kernel(64, 1, going, held);
+    int gone = held == 0 ? 0 : romain_call(64, 1, (uint32_t)(uintptr_t)going, held);
     held = 0;
     return gone < 0 ? EOF : 0;
 }
@@ -52,7 +44,7 @@ static int get(FILE *stream)
 {
     (void)stream;
     if (next == end) {
-        int got = kernel(63, 0, came, PIECE);
+        int got = romain_call(63, 0, (uint32_t)(uintptr_t)came, PIECE);
         if (got <= 0)
             return got == 0 ? _FDEV_EOF : _FDEV_ERR;
         next = 0;
@@ -69,7 +61,7 @@ FILE *const stdin = &input, *const stdout = &output, *const stderr = &output;
 __attribute__((noreturn)) void _exit(int status)
 {
     flush(stdout);
-    kernel(93, status, NULL, 0);
+    romain_call(93, (uint32_t)status, 0, 0);
     __builtin_unreachable();
 }
 

@@ -2,6 +2,7 @@
 #ifndef ROMAIN_UNISTD_H
 #define ROMAIN_UNISTD_H
 
+#include "call.h"
 #include <stddef.h>
 #include <stdint.h>
 
@@ -13,17 +14,6 @@ typedef int32_t ssize_t;
 
 // What one read or write moves at most.
 enum { ROMAIN_PIECE = 4096 };
-
-// A call of the kernel by its number: up to three words in, one word out. A negative answer is an error.
-static inline int32_t romain_call(int32_t number, uint32_t first, uint32_t second, uint32_t third)
-{
-    register uint32_t a0 __asm__("a0") = first;
-    register uint32_t a1 __asm__("a1") = second;
-    register uint32_t a2 __asm__("a2") = third;
-    register int32_t a7 __asm__("a7") = number;
-    __asm__ volatile("ecall" : "+r"(a0) : "r"(a1), "r"(a2), "r"(a7) : "memory");
-    return (int32_t)a0;
-}
 
 // At most 4,096 of the input's next bytes, from descriptor 0: how many came, 0 at the input's end. There is no errno: a
 // negative answer is the error.

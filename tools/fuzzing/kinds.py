@@ -286,10 +286,11 @@ class Journals:
 KINDS = {"executables": Executables, "programs": Programs, "faults": Faults, "words": Words, "journals": Journals}
 
 
-def write(case, folder):
-    """Lays down a case's files. A folder may not be in the way of a name."""
+def write(case, folder, laid=None):
+    """Lays down a case's files, but for those that were laid there before. A folder may not be in the way of a name."""
     for name, data in case.files.items():
-        (pathlib.Path(folder) / name).write_bytes(data)
+        if laid is None or laid.get(name) is not data:
+            (pathlib.Path(folder) / name).write_bytes(data)
 
 
 def shown(case, program):

@@ -20,7 +20,8 @@ use Rattle.ro_core.proofs.Outcomes.{ended_is_outcome}
 use Rattle.ro_core.proofs.Nexts.{vote_next, free_next, end_is, over_is_next}
 use Rattle.ro_core.specs.Sound.{IsOver}
 use Rattle.ro_core.specs.Driven.{IsDriven, IsHome, HasFailed, Goes}
-use Rattle.ro_core.proofs.Lasts.{due_over, ended_cut}
+use Rattle.ro_core.proofs.Lasts.{ended_cut}
+use Rattle.ro_core.proofs.Ordered.{ordered}
 use Rattle.ro_core.proofs.Journals.{outcome_of-append}
 use Rattle.ro_core.proofs.LastViews.{going_open, end_open}
 use Rattle.ro_core.proofs.Turns.{going_calm, calm_state, driven_more, home_new, not_failed, goes_quiet, goes_sending}
@@ -120,15 +121,15 @@ no_over_sink : (taken : ℕ) → IsOver (Sink taken) → ⊥
 no_over_sink taken h = elim h [ ]
 
 -- an end by a failing sink comes where the sink failed
-end_failed : (core : CoreOf) (how : How) → next_action core.job (state core) ≡ DoEnd how → (taken : ℕ) → outcome_of (End how ∷ []) ≡ Some (Sink taken) → HasFailed core
-end_failed core how next taken e = by core.failed refl
+end_failed : (core : CoreOf) (how : How) → IsDriven core → next_action core.job (state core) ≡ DoEnd how → (taken : ℕ) → outcome_of (End how ∷ []) ≡ Some (Sink taken) → HasFailed core
+end_failed core how driven next taken e = by core.failed refl
   where
     how_is : how ≡ Sink taken
     how_is = let f : Some how ≡ Some (Sink taken) = e in cc
 
     due_is : (o : Option How) → (replay core.job core.journal).due ≡ o → unwrap_or o Deadlock ≡ Sink taken → ⊥
     due_is None f g = let h : Deadlock ≡ Sink taken = g in cc
-    due_is (Some other) f g = no_over_sink taken (subst IsOver g (due_over core.job core.journal other f))
+    due_is (Some other) f g = no_over_sink taken (subst IsOver g ((ordered core.job core.journal driven.legal).due_over other f))
 
     by : (o : Option ℕ) → core.failed ≡ o → HasFailed core
     by (Some n) f = inl (subst (λ (x : Option ℕ). IsSome x) (sym f) refl)
@@ -156,7 +157,7 @@ module _ (old new : CoreOf) (how : How) (driven : IsDriven old) (next : next_act
   end_driven = driven_more old new (End how) driven a allowed is
 
   pub end_goes : Goes old new
-  end_goes = goes_quiet old new (End how) a q (end_failed old how next) (ends_failed old new how driven next a)
+  end_goes = goes_quiet old new (End how) a q (end_failed old how driven next) (ends_failed old new how driven next a)
 
 -- ---- all has left
 

@@ -1,5 +1,5 @@
 -- Every stop for a page that stands in a legal journal's replicas is for one of the 2^20 pages, which is not backed.
-use Rattle.std.specs.Prelude.{◌≡◌, ◌≢◌, ◌<◌, ◌^◌, ℕ, zero, suc, ◌⊎◌, Bool, true, false, cond, ◌==◌, List, [], ◌∷◌, length, not, Option, Some, None, slice_get}
+use Rattle.std.specs.Prelude.{◌≡◌, ◌≢◌, ◌<◌, ◌^◌, ℕ, zero, suc, ◌⊎◌, ◌||◌, Bool, true, false, cond, ◌==◌, List, [], ◌∷◌, length, map, not, Option, Some, None, slice_get}
 use Rattle.std.specs.List.{filter, fold}
 use Rattle.std.specs.Option.{option_and_then}
 use Rattle.std.proofs.Common.{refl, sym, ap, ◌∙◌, subst, inl, inr}
@@ -12,12 +12,13 @@ use Rattle.ro_journal.specs.Losers.{numbers}
 use Rattle.ro_journal.specs.declared.Entry.{Entry}
 use Rattle.ro_journal.specs.declared.Entry.TheVariants.{Take, Put, Vote, Free, End}
 use Rattle.ro_exec.specs.Next.{Layout, Backed}
+use Rattle.ro_pages.specs.Bytes.{covers_page}
 use Rattle.ro_exec.specs.Threads.{made_cpu}
 use Rattle.ro_thread.specs.declared.Thread.{Thread}
 use Rattle.ro_faults.specs.declared.Fault.{Fault}
 use Rattle.ro_faults.specs.declared.Target.{Target}
 use Rattle.ro_faults.specs.declared.Target.TheVariants.{Register, Pc, Byte}
-use Rattle.ro_replica.specs.Replica.{Replica, unstopped, changed_at, thread_after, creator_of, with_made, is_cancelled, without_cancelled, applied, cancelled, copied_threads, recovered, stop_of, opening_replica}
+use Rattle.ro_replica.specs.Replica.{Replica, unstopped, changed_at, thread_after, creator_of, with_made, is_cancelled, without_cancelled, is_page, applied, cancelled, copied_threads, recovered, stop_of, opening_replica}
 use Rattle.ro_replica.specs.Runs.{is_due, struck_by, RanTo, strike_in, struck, run_of, with_stop, standing_in}
 use Rattle.ro_plain.specs.Machine.{layout_of}
 use Rattle.ro_plain.proofs.Calls.{some-injective}
@@ -25,6 +26,7 @@ use Rattle.ro_core.specs.Core.{Job, Core, opening_core}
 use Rattle.ro_core.specs.Event.{Event, with_copy, with_recovered}
 use Rattle.ro_core.specs.Legal.{arrived, arrival, core_after_put, core_after_event, event_in, freed_event, after, IsAllowed, Legal, replay}
 use Rattle.ro_core.specs.Sound.{IsFault, HasFaults, HaveFaults}
+use Rattle.ro_core.specs.Grouped.{BacksNone, FaultsWait}
 use Rattle.ro_core.proofs.Journals.{legal-keeps}
 use Rattle.ro_core.proofs.Lists.{ChangedFrom, unchanged, changed_here, get-changed, get-set-cases, MappedFrom, get-map, get-append-cases}
 use Rattle.ro_core.proofs.Sound.{Instructs, instructs, instructed, RunParts, run-parts}
@@ -120,14 +122,50 @@ kept-fault old new (Some (PageFault place)) h page e = by (new place) refl e
         let same : place ≡ page = (let g : Some (PageFault place) ≡ Some (PageFault page) = f in cc) in
         (subst (λ (n : ℕ). n < 2 ^ 20) same (h place refl).0, subst (λ (n : ℕ). new n ≡ false) same k)
 
+-- an effect leaves each stop where it stands, but for its own thread's, which may go
+stops-wait : (effect : Effect) (replica : Replica) → HasFaults replica → (place : ℕ) (x : Thread) → slice_get (threads_after effect replica.threads) place ≡ Some x → IsFault replica.backed x.stop
+stops-wait effect replica h =
+    fault-made replica.backed effect.made (changed_at (thread_after effect) replica.threads effect.thread)
+    (fault-changed replica.backed (thread_after effect) (λ x k. fault-cond replica.backed effect.releases x.stop k) replica.threads effect.thread h)
+
 fault-applied : (effect : Effect) (replica : Replica) → HasFaults replica → HasFaults (cancelled (applied effect replica))
 unfolding applied cancelled
 fault-applied effect replica h place thread e = by (get-map (without_cancelled (backed_after effect replica.backed)) (threads_after effect replica.threads) place thread e)
   where
     by : MappedFrom (without_cancelled (backed_after effect replica.backed)) (threads_after effect replica.threads) place thread → IsFault (backed_after effect replica.backed) thread.stop
     by m = subst (λ (x : Thread). IsFault (backed_after effect replica.backed) x.stop) m.gives
-        (kept-fault replica.backed (backed_after effect replica.backed) m.from.stop
-        (fault-made replica.backed effect.made (changed_at (thread_after effect) replica.threads effect.thread) (fault-changed replica.backed (thread_after effect) (λ x k. fault-cond replica.backed effect.releases x.stop k) replica.threads effect.thread h) place m.from m.there))
+        (kept-fault replica.backed (backed_after effect replica.backed) m.from.stop (stops-wait effect replica h place m.from m.there))
+
+-- a stop that is for no backed page stays
+uncancelled : (backed : Backed) (o : Option Stop) → IsFault backed o → cond (is_cancelled backed o) None o ≡ o
+uncancelled backed None h = refl
+uncancelled backed (Some (Calls call)) h = refl
+uncancelled backed (Some (Trap code)) h = refl
+uncancelled backed (Some Watchdog) h = refl
+uncancelled backed (Some (PageFault page)) h = ap (λ (b : Bool). cond b None (Some (PageFault page))) (h page refl).1
+
+all-uncancelled : (backed : Backed) (threads : List Thread) → ((place : ℕ) (x : Thread) → slice_get threads place ≡ Some x → IsFault backed x.stop) → (thread : ℕ)
+    → option_and_then (λ (t : Thread). t.stop) (slice_get (map (without_cancelled backed) threads) thread) ≡ option_and_then (λ (t : Thread). t.stop) (slice_get threads thread)
+all-uncancelled backed [] h thread = refl
+all-uncancelled backed (t ∷ threads) h zero = uncancelled backed t.stop (h 0 t refl)
+all-uncancelled backed (t ∷ threads) h (suc thread) = all-uncancelled backed threads (λ place x e. h (suc place) x e) thread
+
+none-backed : (effect : Effect) → BacksNone effect → (backed : Backed) (page : ℕ) → backed_after effect backed page ≡ backed page
+none-backed effect none backed page =
+    ap (λ (o : Option ℕ). backed page || is_page o page || covers_page (record { place = effect.place; count = length effect.bytes }) page) none.page
+    ∙ ap (λ (bytes : List ℕ). backed page || false || covers_page (record { place = effect.place; count = length bytes }) page) none.bytes
+    ∙ or_false (backed page)
+  where
+    or_false : (b : Bool) → (b || false || false) ≡ b
+    or_false true = refl
+    or_false false = refl
+
+-- where no page is backed more, no page fault is settled
+pub none-settled : (effect : Effect) (replica : Replica) → BacksNone effect → HasFaults replica → (thread : ℕ) → stop_of (cancelled (applied effect replica)) thread ≡ stop_of (applied effect replica) thread
+unfolding applied cancelled
+none-settled effect replica none h =
+    all-uncancelled (backed_after effect replica.backed) (threads_after effect replica.threads)
+    (λ place x e page f. let waits = stops-wait effect replica h place x e page f in (waits.0, none-backed effect none replica.backed page ∙ waits.1))
 
 fault-copied : (backed : Backed) (winners losers : List Thread) → ((place : ℕ) (x : Thread) → slice_get winners place ≡ Some x → IsFault backed x.stop) → (place : ℕ) (x : Thread) → slice_get (copied_threads winners losers) place ≡ Some x → IsFault backed x.stop
 fault-copied backed [] losers all place x e = absurd (let f : None ≡ Some x = e in cc)
@@ -141,10 +179,7 @@ fault-recovered winner loser h = fault-copied winner.backed winner.threads loser
 
 -- ---- entries
 
-abbrev EachFaults : List Replica → Type 0
-EachFaults replicas = (number : ℕ) (replica : Replica) → slice_get replicas number ≡ Some replica → HasFaults replica
-
-each-copied : (won : ℕ) (winner : Replica) (lost : List ℕ) (replicas : List Replica) → slice_get replicas won ≡ Some winner → EachFaults replicas → EachFaults (with_recovered won lost replicas)
+pub each-copied : (won : ℕ) (winner : Replica) (lost : List ℕ) (replicas : List Replica) → slice_get replicas won ≡ Some winner → FaultsWait replicas → FaultsWait (with_recovered won lost replicas)
 each-copied won winner [] replicas there h = h
 each-copied won winner (lost ∷ losers) replicas there h =
     let w = still-there won lost replicas winner there in
@@ -154,7 +189,7 @@ each-copied won winner (lost ∷ losers) replicas there h =
     by number r (not_lost d e) = h number r e
     by number r (is_copy w l same a b e) = subst HasFaults e (fault-recovered w l (h won w a))
 
-fault-event : (core : Core) (thread count : ℕ) (replicas : List Replica) (o : Option Event) → EachFaults replicas → HaveFaults core → HaveFaults (core_after_event core thread count replicas o)
+fault-event : (core : Core) (thread count : ℕ) (replicas : List Replica) (o : Option Event) → FaultsWait replicas → HaveFaults core → HaveFaults (core_after_event core thread count replicas o)
 fault-event core thread count replicas None each h = h
 fault-event core thread count replicas (Some event) each h = λ number r e. by r number (get-map (λ x. cancelled (applied event.effect x)) replicas number r e)
   where

@@ -21,6 +21,7 @@ use Rattle.ro_core.specs.Grouped.{AreMade}
 use Rattle.ro_core.specs.Seated.{Stands}
 use Rattle.ro_core.specs.Happening.{event_by}
 use Rattle.ro_core.specs.Runs.{IsAmid, MakesRoom, CanOccur}
+use Rattle.ro_core.proofs.FaultStops.{fault-stops}
 use Rattle.ro_core.proofs.Held.{Goes, goes}
 use Rattle.ro_core.proofs.Happens.{Happens, call-happens}
 use Rattle.ro_core.proofs.Ordered.{FreeParts, free-parts, freed-is, freed-steps, ordered}
@@ -136,6 +137,7 @@ module _ (f : Fields) (h : Holds f) (thread : ℕ) (may : may_free f.job (state_
       stands = stands;
       spared = spared;
       made = λ number replica g. free-made-all number replica g ∙ sym threads_are;
+      wait = fault-stops f.job f.journal h.legal;
       threads_are = threads_are;
       counted = let k : 1 ≡ event_steps e.did = ap event_steps (sym free-did ∙ ap (λ (x : Event). x.did) is) in omega arith;
       writes = tt;

@@ -22,11 +22,12 @@ use Rattle.ro_core.specs.Core.{Job, Core, opening_core}
 use Rattle.ro_core.specs.Event.{with_copy, with_recovered, all_applied}
 use Rattle.ro_core.specs.Legal.{arrival, arrived, core_after_put, after, MayPut}
 use Rattle.ro_core.specs.Fields.{AreHome}
-use Rattle.ro_core.specs.Grouped.{AreGrouped, AreMade, seat_stopped, Returns, CopiesRow, Copies, Releases, SettlesSeat, Settles}
+use Rattle.ro_core.specs.Grouped.{AreGrouped, AreMade, BacksNone, FaultsWait, seat_stopped, Returns, CopiesRow, Copies, Releases, SettlesSeat, Settles}
 use Rattle.ro_core.specs.Opening.{NoneStands}
 use Rattle.ro_core.proofs.Lists.{MappedFrom, get-map, length-mapped, get-set-same}
 use Rattle.ro_core.proofs.Copies.{length-copy, still-there, recovered-threads, AfterCopy, not_lost, is_copy, after-copy}
 use Rattle.ro_core.proofs.Ordered.{length-opening, get-opening}
+use Rattle.ro_core.proofs.FaultStops.{none-settled}
 use Rattle.ro_core.proofs.Grants.{LentGo, LentThread, lent-thread, lent-meets, changed-other}
 
 -- the stop of a thread in a list
@@ -268,6 +269,19 @@ regrouped job effect before seats replicas threads old mid new many same r s h m
             ap is_some (ap (stop_of (applied effect m.from)) own ∙ applied-own effect m.from)
             ∙ held effect.releases (stop_of m.from effect.thread) (ap (λ (n : ℕ). is_some (stop_of m.from n)) (sym own) ∙ f)
         not-made (inr other) f = ap is_some (applied-other effect m.from thread other) ∙ f
+
+-- the same of an effect that backs no page: its thread is released, and no page fault is settled
+pub regrouped-quiet : (effect : Effect) (before : List Replica) (old new : Groups) → BacksNone effect → Releases effect old new → AreGrouped before old → FaultsWait before → AreGrouped (all_applied effect before) new
+regrouped-quiet effect before old new none r h wait = record {
+  count = r.count ∙ h.count ∙ sym (length-mapped (λ (x : Replica). cancelled (applied effect x)) before);
+  each = λ number thread x e. by number thread x (get-map (λ (x : Replica). cancelled (applied effect x)) before number x e);
+}
+  where
+    by : (number thread : ℕ) (x : Replica) → MappedFrom (λ (x : Replica). cancelled (applied effect x)) before number x → stands new number thread ≡ is_some (stop_of x thread)
+    by number thread x m =
+        released-each effect before old new h r number thread m.from m.there
+        ∙ ap is_some (sym (none-settled effect m.from none (wait number m.from m.there) thread))
+        ∙ ap (λ (y : Replica). is_some (stop_of y thread)) m.gives
 
 -- ---- loops
 

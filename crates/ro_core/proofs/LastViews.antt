@@ -16,10 +16,9 @@ use Rattle.ro_core.specs.Sound.{IsOver}
 use Rattle.ro_core.proofs.Journals.{outcome_of-append}
 use Rattle.ro_core.proofs.Held.{with-ended}
 use Rattle.ro_core.proofs.Nexts.{end_next, end_is}
-use Rattle.ro_core.proofs.Ordered.{going-parts}
+use Rattle.ro_core.proofs.Ordered.{going-parts, ordered}
 use Rattle.ro_core.proofs.Outcomes.{ended_is_outcome}
 use Rattle.ro_core.specs.Driven.{IsDriven, ShowsLast, KeepsLast}
-use Rattle.ro_core.proofs.Lasts.{due_over}
 
 -- a core that goes on has a journal without an end
 pub going_open : (core : CoreOf) → IsDriven core → is_going (state core) ≡ true → outcome_of core.journal ≡ None
@@ -86,8 +85,8 @@ over_not_split : (how : How) → IsOver how → IsSplit (End how) → ⊥
 over_not_split how h (inl e) = let same : how ≡ Differ = (let f : End how ≡ End Differ = e in cc) in elim (subst IsOver same h) [ ]
 over_not_split how h (inr e) = let same : how ≡ NoMajority = (let f : End how ≡ End NoMajority = e in cc) in elim (subst IsOver same h) [ ]
 
-end_not_split : (core : CoreOf) (how : How) → next_action core.job (state core) ≡ DoEnd how → IsSplit (End how) → ⊥
-end_not_split core how next = by core.failed refl
+end_not_split : (core : CoreOf) (how : How) → IsDriven core → next_action core.job (state core) ≡ DoEnd how → IsSplit (End how) → ⊥
+end_not_split core how driven next = by core.failed refl
   where
     same : (other : How) → unwrap_or (state core).due Deadlock ≡ other → how ≡ other
     same other e = sym (end_is core.job (state core) how next) ∙ e
@@ -102,11 +101,11 @@ end_not_split core how next = by core.failed refl
 
     from_journal : (o : Option How) → (replay core.job core.journal).due ≡ o → unwrap_or (state core).due Deadlock ≡ unwrap_or o Deadlock → IsSplit (End how) → ⊥
     from_journal None e f split = not_stuck (subst (λ (h : How). IsSplit (End h)) (same Deadlock f) split)
-    from_journal (Some other) e f split = over_not_split other (due_over core.job core.journal other e) (subst (λ (h : How). IsSplit (End h)) (same other f) split)
+    from_journal (Some other) e f split = over_not_split other ((ordered core.job core.journal driven.legal).due_over other e) (subst (λ (h : How). IsSplit (End h)) (same other f) split)
 
     by : (o : Option ℕ) → core.failed ≡ o → IsSplit (End how) → ⊥
     by (Some n) e split = not_sink n (subst (λ (h : How). IsSplit (End h)) (same (Sink n) (ap (λ (o : Option ℕ). unwrap_or (replay_with core.job core.journal o).due Deadlock) e)) split)
     by None e split = from_journal (replay core.job core.journal).due refl (ap (λ (o : Option ℕ). unwrap_or (replay_with core.job core.journal o).due Deadlock) e) split
 
-pub end_last : (old new : CoreOf) (how : How) → outcome_of old.journal ≡ None → next_action old.job (state old) ≡ DoEnd how → Appends old new (End how) → KeepsLast new.job new.journal new.views
-end_last old new how none next a split = absurd (end_not_split old how next (is_split how (outcome_of new.journal) (ends_so old new how none a) split))
+pub end_last : (old new : CoreOf) (how : How) → IsDriven old → outcome_of old.journal ≡ None → next_action old.job (state old) ≡ DoEnd how → Appends old new (End how) → KeepsLast new.job new.journal new.views
+end_last old new how driven none next a split = absurd (end_not_split old how driven next (is_split how (outcome_of new.journal) (ends_so old new how none a) split))

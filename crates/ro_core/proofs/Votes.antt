@@ -46,7 +46,7 @@ use Rattle.ro_core.proofs.Held.{Goes, goes, same-counts}
 use Rattle.ro_core.proofs.Happens.{Happens, event-happens}
 use Rattle.ro_core.proofs.Served.{Tidy, tidy_done, serve-tidy}
 use Rattle.ro_core.proofs.Ordered.{VoteParts, vote-parts, copied-sound, ordered}
-use Rattle.ro_core.proofs.FaultStops.{fault-stops}
+use Rattle.ro_core.proofs.FaultStops.{each-copied, fault-stops}
 use Rattle.ro_core.proofs.Sitting.{home-count, home-get}
 use Rattle.ro_core.proofs.Winners.{WonIn, won-in, won-view, Showing, showing, showing-event, showing-since, showing-short, views-count}
 use Rattle.ro_core.proofs.Tests.{all-home, seated-home}
@@ -282,6 +282,7 @@ module _ (f : Fields) (thread won : ℕ) (lost : Lost) (v : IsHeld f thread won 
       stands = stands;
       spared = spared;
       made = λ number replica g. hold-made-healed number replica g ∙ sym threads_are;
+      wait = each-copied won shows.replica (numbers lost) (core_in f).replicas shows.there (fault-stops f.job f.journal h.legal);
       threads_are = threads_are;
       counted = steps ∙ ap (λ (d : Did). view.since + event_steps d) (sym did_is ∙ ap (λ (x : Event). x.did) is);
       writes = writer-there e.writes;

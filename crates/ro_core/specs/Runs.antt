@@ -17,7 +17,7 @@ use Rattle.ro_core.specs.Happening.{event_by}
 use Rattle.ro_core.specs.Legal.{IsAllowed, after}
 use Rattle.ro_core.specs.Seen.{CoreOf, sent_of}
 use Rattle.ro_core.specs.Fields.{failed_of, spare_of, Fields, core_in, state_in, AreSpared, Holds}
-use Rattle.ro_core.specs.Grouped.{AreMade}
+use Rattle.ro_core.specs.Grouped.{AreMade, FaultsWait}
 use Rattle.ro_core.specs.Seated.{Stands}
 
 abbrev pub fields_of : Run → Fields
@@ -147,6 +147,7 @@ pub record CanOccur (r : Run) (o : Occurrence) : Type 0 where
   pub stands : Stands before.job r.seats replicas
   pub spared : AreSpared r.seats.homes.items
   pub made : AreMade o.threads replicas
+  pub wait : FaultsWait replicas
   pub threads_are : o.threads ≡ length before.kernel.kernel.lives
   pub counted : o.steps ≡ count + event_steps o.event.did
   pub writes : IfSome o.writer (λ number. number < length r.views.items)

@@ -1,5 +1,5 @@
 //! Which threads stand still, kept beside the replicas.
-ghost use Rattle.std.specs.Prelude.{ℕ, ◌≡◌, ◌≢◌, ◌≤◌, ◌<◌, List, Some, true, is_some, length};
+ghost use Rattle.std.specs.Prelude.{ℕ, ◌≡◌, ◌≢◌, ◌≤◌, ◌<◌, ◌↔◌, List, Some, true, false, is_some, length};
 ghost use Rattle.ro_journal.specs.Losers.{numbers};
 ghost use Rattle.ro_vote.specs.Numbers.{is_among};
 ghost use Rattle.ro_replica.specs.Replica.{Replica as ReplicaSeen, stop_of};
@@ -7,7 +7,7 @@ ghost use Rattle.ro_replica.specs.Seen.{replica_of};
 ghost use Rattle.ro_core.specs.Core.{Job};
 ghost use Rattle.ro_core.specs.Event.{all_applied};
 ghost use Rattle.ro_core.specs.Fields.{AreHome};
-ghost use Rattle.ro_core.specs.Grouped.{AreGrouped, AreMade, Returns, Copies, CopiesRow, CopiesStop, Releases, Settles, SettlesSeat, SettlesStop};
+ghost use Rattle.ro_core.specs.Grouped.{AreGrouped, AreMade, BacksNone, FaultsWait, Returns, Copies, CopiesRow, CopiesStop, Releases, Settles, SettlesSeat, SettlesStop};
 
 use crate::seats::is_stopped;
 use ro_event::Effect;
@@ -70,7 +70,7 @@ fn copy_stop(groups: &mut Groups, from: u32, to: u32, thread: u32)
 }
 
 /// What an effect that was applied in every replica did to the threads that stood still: its own may be released, and
-/// page faults may be settled.
+/// page faults are settled where it backed pages.
 pub(crate) fn regroup(
     seats: &[Option<ReplicaBox>],
     groups: &mut Groups,
@@ -82,10 +82,19 @@ pub(crate) fn regroup(
     requires groups { length groups.old ≡ replicas }
     requires thread { effect.now.thread < 16 }
     requires threads { threads ≤ 16 }
-    ensures { (job : Job) (before : List ReplicaSeen) → AreGrouped before groups.old → AreMade threads before → AreHome job seats.now (all_applied effect.now before) → AreGrouped (all_applied effect.now before) groups.new }
+    ensures { (job : Job) (before : List ReplicaSeen) → AreGrouped before groups.old → AreMade threads before → FaultsWait before → AreHome job seats.now (all_applied effect.now before) → AreGrouped (all_applied effect.now before) groups.new }
 {
     release(groups, effect);
-    settle(seats, groups, replicas, threads);
+    if backs_pages(effect) {
+        settle(seats, groups, replicas, threads);
+    }
+}
+
+// Whether an effect backs pages, if they aren't yet.
+fn backs_pages(effect: &Effect) -> bool
+    ensures { (result ≡ false) ↔ BacksNone effect.now }
+{
+    effect.page.is_some() || !effect.bytes.is_empty()
 }
 
 // An effect's thread, if it is released, stands still nowhere.

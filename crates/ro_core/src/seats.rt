@@ -9,7 +9,7 @@ ghost use Rattle.ro_journal.specs.Losers.{numbers};
 ghost use Rattle.ro_core.specs.Core.{Job};
 ghost use Rattle.ro_core.specs.Event.{all_applied, with_copy, with_recovered};
 ghost use Rattle.ro_core.specs.Fields.{IsSeat, AreHome, AreSpared, CanTake, KeepsSeat, AreAllTwins, AreLosers, seat_unstopped};
-ghost use Rattle.ro_core.specs.Grouped.{AreMade, Returns, seat_stopped};
+ghost use Rattle.ro_core.specs.Grouped.{AreMade, FaultsWait, Returns, seat_stopped};
 ghost use Rattle.ro_core.specs.Seated.{Stands};
 
 use crate::grouping::{copy_stops, note_return, regroup};
@@ -116,7 +116,7 @@ impl Seats {
         requires can { CanTake effect.now self.old.homes.items }
         requires thread { effect.now.thread < 16 }
         requires threads { threads ≤ 16 }
-        ensures stands { (job : Job) (replicas : List ReplicaSeen) → Stands job self.old replicas → AreMade threads replicas → Stands job self.new (all_applied effect.now replicas) }
+        ensures stands { (job : Job) (replicas : List ReplicaSeen) → Stands job self.old replicas → AreMade threads replicas → FaultsWait replicas → Stands job self.new (all_applied effect.now replicas) }
     {
         apply_to_all(self.homes.as_mut_slice(), effect);
         let replicas = self.homes.len() as u32;

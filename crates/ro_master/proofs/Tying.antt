@@ -168,7 +168,7 @@ tied_end start core new count count' number how t next allowed is a quiet less c
     tied_more start core new count count' number (End how) t a c tt less
     (end_driven core new how t.driven next a quiet allowed is)
     (end_goes core new how t.driven next a quiet allowed is)
-    (end_last core new how (end_open core t.driven how next) next a)
+    (end_last core new how t.driven (end_open core t.driven how next) next a)
 
 -- ---- a put
 

@@ -29,7 +29,7 @@ overflow_add-self-2 c = let sent = occurs-sent _ _ c.requires.can in let long = 
 pub returns-clause-holds : goal.returns-clause-holds
 returns-clause-holds c =
     let can = c.requires.can in
-    let stands = c.apply.ensures.stands can.before.job can.replicas can.stands can.made in
+    let stands = c.apply.ensures.stands can.before.job can.replicas can.stands can.made can.wait in
     occurs-holds _ _ can _ can.amid.job (c.push_reserved.ensures.items ∙ ap (λ js. js ++ c.args.occurrence.entry ∷ []) can.amid.journal) refl
     stands.home stands.grouped can.amid.leases refl refl refl can.amid.ended can.amid.views (ap (λ xs. c.args.self.now.sent + length xs) c.payload-written.ensures) (let room = can.amid.room in omega (arith, c.push_reserved.ensures.len, c.push_reserved.ensures.capacity))
 

@@ -45,6 +45,20 @@ lowest-found test n most less none passes =
     let far = stays-found test (suc n) (most - suc n) n here in
     ap (λ (j : ℕ). lowest_below j test) (let e : most ≡ suc n + (most - suc n) = omega arith in e) ∙ far
 
+lowest-never : (test : ℕ → Bool) (n : ℕ) → ((k : ℕ) → test k ≡ false) → lowest_below n test ≡ None
+lowest-never test zero never = refl
+lowest-never test (suc n) never =
+    ap (λ (o : Option ℕ). or_else o (cond (test n) (Some n) None)) (lowest-never test n never) ∙ ap (λ (b : Bool). cond b (Some n) None) (never n)
+
+-- a core that does not go on, or has lent something, frees nobody, and votes on nobody
+pub none-freed : (job : Job) (core : Core) (n : ℕ) → (is_going core && nothing_lent core) ≡ false → lowest_below n (may_free job core) ≡ None
+none-freed job core n busy =
+    lowest-never (may_free job core) n (λ k. ap (λ (b : Bool). b && option_map_or (λ call. not (blocks (setup_of job.program) core.kernel k call)) (core.blocked k) false) busy)
+
+pub none-voted : (core : Core) (n : ℕ) → (is_going core && nothing_lent core) ≡ false → lowest_below n (may_vote core) ≡ None
+none-voted core n busy =
+    lowest-never (may_vote core) n (λ k. ap (λ (b : Bool). b && lives_on core.kernel k && is_none (core.blocked k) && list_all (λ replica. is_some (stop_of replica k)) core.replicas) busy)
+
 -- a number that any passes
 pub any-lowest : (test : ℕ → Bool) (n : ℕ) → any_below n test ≡ is_some (lowest_below n test)
 any-lowest test zero = refl

@@ -1,5 +1,5 @@
 //! What the core does next.
-ghost use Rattle.std.specs.Prelude.{◌≡◌, ◌<◌, ◌&&◌, length};
+ghost use Rattle.std.specs.Prelude.{◌≡◌, ◌<◌, ◌&&◌, length, true};
 ghost use Rattle.ro_core.specs.Core.{is_going, nothing_lent, is_lendable, may_vote, may_free};
 ghost use Rattle.ro_core.specs.Action.{lowest_below, threads_made, lend_next, first_action, next_action as next};
 ghost use Rattle.ro_core.specs.Fields.{Holds};
@@ -53,8 +53,11 @@ impl Run {
         requires holds { Holds (fields_of self.now) }
         ensures { result ≡ lowest_below (threads_made (state_of self.now)) (may_free (job_of self.now) (state_of self.now)) }
     {
+        if !self.is_idle() {
+            return None;
+        }
         for thread in 0..self.kernel.made() {
-            if self.may_free(thread) {
+            if self.can_free(thread) {
                 return Some(thread);
             }
         }
@@ -65,8 +68,11 @@ impl Run {
         requires holds { Holds (fields_of self.now) }
         ensures { result ≡ lowest_below (threads_made (state_of self.now)) (may_vote (state_of self.now)) }
     {
+        if !self.is_idle() {
+            return None;
+        }
         for thread in 0..self.kernel.made() {
-            if self.may_vote(thread) {
+            if self.can_vote(thread) {
                 return Some(thread);
             }
         }
@@ -131,12 +137,18 @@ impl Run {
         requires holds { Holds (fields_of self.now) }
         ensures { result ≡ may_vote (state_of self.now) thread }
     {
-        if !self.is_idle() || !self.kernel.lives_on(thread) {
-            return false;
-        }
+        self.is_idle() && self.can_vote(thread)
+    }
+
+    // The same where the core goes on and nothing is lent.
+    fn can_vote(&self, thread: u32) -> bool
+        requires holds { Holds (fields_of self.now) }
+        requires idle { is_going (state_of self.now) && nothing_lent (state_of self.now) ≡ true }
+        ensures { result ≡ may_vote (state_of self.now) thread }
+    {
         match self.blocked_call(thread) {
             Some(_) => false,
-            None => self.seats.ready(thread),
+            None => self.kernel.lives_on(thread) && self.seats.ready(thread),
         }
     }
 
@@ -145,9 +157,15 @@ impl Run {
         requires holds { Holds (fields_of self.now) }
         ensures { result ≡ may_free (job_of self.now) (state_of self.now) thread }
     {
-        if !self.is_idle() {
-            return false;
-        }
+        self.is_idle() && self.can_free(thread)
+    }
+
+    // The same where the core goes on and nothing is lent.
+    fn can_free(&self, thread: u32) -> bool
+        requires holds { Holds (fields_of self.now) }
+        requires idle { is_going (state_of self.now) && nothing_lent (state_of self.now) ≡ true }
+        ensures { result ≡ may_free (job_of self.now) (state_of self.now) thread }
+    {
         match self.blocked_call(thread) {
             Some(call) => self.kernel.ready(thread, call),
             None => false,

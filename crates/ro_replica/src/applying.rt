@@ -2,7 +2,7 @@
 ghost use Rattle.std.specs.Prelude.{◌≡◌, ◌<◌, ◌≤◌, ◌+◌, ◌^◌, ◌||◌, ℕ, true, IfSome, Some, length, map, vec_len, vec_capacity};
 ghost use Rattle.ro_pages.specs.Bytes.{covers_page, stored};
 ghost use Rattle.ro_pages.specs.Held.{memory_of, has_page};
-ghost use Rattle.ro_replica.specs.Replica.{is_page, applied, cancelled, is_cancelled, thread_after, with_made, without_cancelled};
+ghost use Rattle.ro_replica.specs.Replica.{is_page, applied, cancelled, thread_after, with_made, without_cancelled};
 ghost use Rattle.ro_replica.specs.Seen.{replica_of, SameProgram, CanApply};
 
 use crate::backing::{back, back_stretch};
@@ -95,17 +95,9 @@ fn forget_faults(threads: &mut [Thread], pages: &Pages)
 fn forget_fault(thread: &mut Thread, pages: &Pages)
     ensures { thread.new ≡ without_cancelled (has_page pages.now.pages) thread.old }
 {
-    if is_settled(thread.stop, pages) {
-        thread.stop = None;
-    }
-}
-
-/// Whether a stop is a page fault on a page that is backed.
-fn is_settled(stop: Option<Stop>, pages: &Pages) -> bool
-    ensures { result ≡ is_cancelled (has_page pages.now.pages) stop }
-{
-    match stop {
-        Some(Stop::PageFault(page)) => pages.has_page(page),
-        _ => false,
+    if let Some(Stop::PageFault(page)) = thread.stop {
+        if pages.has_page(page) {
+            thread.stop = None;
+        }
     }
 }

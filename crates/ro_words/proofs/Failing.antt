@@ -1,12 +1,12 @@
 -- A walk that is to fail, whatever words follow.
-use Rattle.std.proofs.Common.{◌≡◌, ◌∙◌, ℕ, true, false, ◌==◌, List, [], ◌∷◌, Option, Some, None, sym, subst, codes}
+use Rattle.std.proofs.Common.{◌≡◌, ◌∙◌, ℕ, true, false, ◌==◌, List, [], ◌∷◌, Option, Some, None, sym, subst}
 use Rattle.std.specs.List.{list_all}
 use Rattle.clap.specs.Lexer.{name_and_value}
 use Rattle.clap.specs.Walk.{Held, Waiting, Text, idle}
 use Rattle.clap.specs.Faults.{settle_fault, turn_fault}
 use Rattle.clap.specs.declared.error.kind.ErrorKind.TheVariants as kind
 use Rattle.ro_words.specs.Uses.{is_word}
-use Rattle.ro_words.proofs.Names.{AreFrom, Grammar, IsValued, flagged, takes_one, unmet}
+use Rattle.ro_words.proofs.Names.{AreFrom, Grammar, IsFlag, IsValued, flagged, takes_one, unmet}
 use Rattle.ro_words.proofs.Once.{and_parts}
 use Rattle.ro_words.proofs.Rules.{leaf}
 use Rattle.ro_words.proofs.Steps.{at, place_turn, flag_fault, flag_value_fault, option_fault_at, stray_turn, tail_end, unknown_fault, valued_fault, waiting_fault}
@@ -23,16 +23,16 @@ module _ (g : Grammar) where
   taking_refused p waiting word name (Some value) h valued refuses e =
       not_empty _ _ refuses (sym (valued_fault g p waiting word name value h valued) ∙ e)
 
-  flagged_refused : (may : g.syntax.journal ≡ true) (p : ℕ) (waiting : Waiting) (word : Text) (value : Option Text) (h : Held)
-      → (settle_fault g.rules false h ≡ [] → ⊥) → option_fault_at g p waiting word (codes "journal") value h ≡ [] → ⊥
-  flagged_refused may p waiting word None h refuses e = not_empty _ _ refuses (sym (flag_fault g may p waiting word h) ∙ e)
-  flagged_refused may p waiting word (Some value) h refuses e = one_kind _ kind.TooManyValues (flag_value_fault g may p waiting word value h) e
+  flagged_refused : (p : ℕ) (waiting : Waiting) (word name : Text) (value : Option Text) (h : Held) → IsFlag g.syntax g.rules name
+      → (settle_fault g.rules false h ≡ [] → ⊥) → option_fault_at g p waiting word name value h ≡ [] → ⊥
+  flagged_refused p waiting word name None h flag refuses e = not_empty _ _ refuses (sym (flag_fault g p waiting word name h flag) ∙ e)
+  flagged_refused p waiting word name (Some value) h flag refuses e = one_kind _ kind.TooManyValues (flag_value_fault g p waiting word name value h flag) e
 
   pub option_refused : (p : ℕ) (waiting : Waiting) (word name : Text) (value : Option Text) (h : Held)
       → (settle_fault g.rules false h ≡ [] → ⊥) → option_fault_at g p waiting word name value h ≡ [] → ⊥
   option_refused p waiting word name value h refuses = elim (g.known name) [
     | takes_one valued ↦ taking_refused p waiting word name value h valued refuses
-    | flagged may is ↦ subst (λ (n : Text). option_fault_at g p waiting word n value h ≡ [] → ⊥) is (flagged_refused may p waiting word value h refuses)
+    | flagged flag ↦ flagged_refused p waiting word name value h flag refuses
     | unmet takes flag unknown ↦ one_kind _ kind.UnknownArgument (unknown_fault g p waiting word name value h unknown)
   ]
 

@@ -3,20 +3,15 @@ use Rattle.std.proofs.Common.{◌≡◌, ◌∙◌, Bool, true, false, not, ◌&
 use Rattle.std.specs.Prelude.{fold, if◌then◌else◌}
 use Rattle.std.specs.List.{list_all, list_any}
 use Rattle.std.proofs.lemmas.Bool.{cases_Bool}
-use Rattle.clap.specs.Walk.{Row, Rule, Text, arg_by_long, has_row, with_default}
+use Rattle.clap.specs.Walk.{Row, Rule, Text, has_row, with_default}
 use Rattle.clap.specs.Faults.{default_fault, defaults_fault}
 use Rattle.clap.specs.Takes.{is_given}
-use Rattle.clap.specs.Simple.{built}
-use Rattle.ro_words.specs.Commands.{bench_syntax, inject_syntax, plan_syntax, run_syntax}
-use Rattle.ro_words.specs.Grammar.{romain_app}
+use Rattle.clap.specs.Simple.{filled_from}
+use Rattle.ro_words.specs.Commands.{audit_syntax, bench_syntax, inject_syntax, plan_syntax, run_syntax}
+use Rattle.ro_words.specs.Grammar.{rules_of}
 use Rattle.ro_words.proofs.Once.{and_parts}
-use Rattle.ro_words.proofs.Rules.{bench_built, inject_built, journal_built, leaf, plan_built, run_built, run_values}
-use Rattle.ro_words.proofs.Names.{AreFrom, Grammar, IsValued, Known, by_key, flagged, is_valued, unmet, with_journal}
-
-pub subs_are : (built romain_app).subs ≡ leaf (codes "run") run_built ∷ leaf (codes "plain") plan_built ∷ leaf (codes "races") plan_built
-    ∷ leaf (codes "inject") inject_built ∷ leaf (codes "bench") bench_built ∷ []
-unfolding run_built run_values plan_built inject_built bench_built
-subs_are = refl
+use Rattle.ro_words.proofs.Rules.{audit_built, audit_values, bench_built, flag_built, inject_built, options_built, plan_built, run_built, run_values}
+use Rattle.ro_words.proofs.Names.{AreFrom, Grammar, IsValued, Known, by_key, is_flagged, is_valued, unmet, with_flag}
 
 -- ---- defaults, and what is required
 
@@ -34,8 +29,8 @@ default_passes xs a none = elim (cases_Bool (has_row a.id xs)) [ inl some ↦ rw
 default_keeps : (xs : List Row) (a : Rule) → is_none a.defaults ≡ true → with_default xs a ≡ xs
 default_keeps xs a none = elim (cases_Bool (has_row a.id xs)) [ inl some ↦ rw some refl | inr other ↦ rw (other, none_of a.defaults none) refl ]
 
-default_flag : (xs : List Row) → default_fault xs journal_built ≡ []
-default_flag xs = elim (cases_Bool (has_row (codes "journal") xs)) [ inl some ↦ rw some refl | inr none ↦ rw none refl ]
+default_flag : (name : Text) (xs : List Row) → default_fault xs (flag_built name) ≡ []
+default_flag name xs = elim (cases_Bool (has_row name xs)) [ inl some ↦ rw some refl | inr none ↦ rw none refl ]
 
 one_passes : (xs : List Row) (a : Rule) (rest : List Rule) → default_fault xs a ≡ [] → ((ys : List Row) → defaults_fault ys rest ≡ [])
     → defaults_fault xs (a ∷ rest) ≡ []
@@ -46,8 +41,8 @@ pub no_defaults : (xs : List Row) → defaults_fault xs [] ≡ []
 unfolding defaults_fault
 no_defaults xs = refl
 
-flag_passes : (xs : List Row) → defaults_fault xs (journal_built ∷ []) ≡ []
-flag_passes xs = one_passes xs journal_built [] (default_flag xs) no_defaults
+flag_passes : (name : Text) (xs : List Row) → defaults_fault xs (flag_built name ∷ []) ≡ []
+flag_passes name xs = one_passes xs (flag_built name) [] (default_flag name xs) no_defaults
 
 -- arguments without a default
 abbrev lack_defaults : List Rule → Bool
@@ -85,38 +80,38 @@ required_are xs (a ∷ rules) = elim (cases_Bool a.required) [
 
 -- ---- `run`
 
+pub run_are_built : filled_from 1 (rules_of run_syntax) ≡ run_built
+unfolding run_built run_values options_built
+run_are_built = refl
+
 pub run_valued : (name : Text) → Known run_syntax run_built name
-unfolding run_built run_values
+unfolding run_built run_values options_built
 run_valued name =
     let value : (key : Text) → IsValued run_syntax run_built key → key ≡ name → Known run_syntax run_built name = λ key facts e. is_valued run_syntax run_built key name facts e in
-    by_key (Known run_syntax run_built) (codes "input") name (value (codes "input") (record { required = false; takes = refl; flag = refl; journal = refl; alone = refl; cut = λ v. refl; by_long = refl; by_id = refl })) (λ a.
-    by_key (Known run_syntax run_built) (codes "faults") name (value (codes "faults") (record { required = false; takes = refl; flag = refl; journal = refl; alone = refl; cut = λ v. refl; by_long = refl; by_id = refl })) (λ b.
-    by_key (Known run_syntax run_built) (codes "replicas") name (value (codes "replicas") (record { required = false; takes = refl; flag = refl; journal = refl; alone = refl; cut = λ v. refl; by_long = refl; by_id = refl })) (λ d.
-    by_key (Known run_syntax run_built) (codes "drivers") name (value (codes "drivers") (record { required = false; takes = refl; flag = refl; journal = refl; alone = refl; cut = λ v. refl; by_long = refl; by_id = refl })) (λ e.
-    by_key (Known run_syntax run_built) (codes "watchdog") name (value (codes "watchdog") (record { required = false; takes = refl; flag = refl; journal = refl; alone = refl; cut = λ v. refl; by_long = refl; by_id = refl })) (λ f.
-    by_key (Known run_syntax run_built) (codes "quantum") name (value (codes "quantum") (record { required = false; takes = refl; flag = refl; journal = refl; alone = refl; cut = λ v. refl; by_long = refl; by_id = refl })) (λ g.
-    by_key (Known run_syntax run_built) (codes "limit") name (value (codes "limit") (record { required = false; takes = refl; flag = refl; journal = refl; alone = refl; cut = λ v. refl; by_long = refl; by_id = refl })) (λ h.
-    by_key (Known run_syntax run_built) (codes "journal") name (λ is. flagged refl is) (λ i.
+    by_key (Known run_syntax run_built) (codes "input") name (value (codes "input") (record { required = false; takes = refl; flag = refl; alone = refl; cut = λ v. refl; by_long = refl; by_id = refl })) (λ a.
+    by_key (Known run_syntax run_built) (codes "faults") name (value (codes "faults") (record { required = false; takes = refl; flag = refl; alone = refl; cut = λ v. refl; by_long = refl; by_id = refl })) (λ b.
+    by_key (Known run_syntax run_built) (codes "replicas") name (value (codes "replicas") (record { required = false; takes = refl; flag = refl; alone = refl; cut = λ v. refl; by_long = refl; by_id = refl })) (λ d.
+    by_key (Known run_syntax run_built) (codes "drivers") name (value (codes "drivers") (record { required = false; takes = refl; flag = refl; alone = refl; cut = λ v. refl; by_long = refl; by_id = refl })) (λ e.
+    by_key (Known run_syntax run_built) (codes "watchdog") name (value (codes "watchdog") (record { required = false; takes = refl; flag = refl; alone = refl; cut = λ v. refl; by_long = refl; by_id = refl })) (λ f.
+    by_key (Known run_syntax run_built) (codes "quantum") name (value (codes "quantum") (record { required = false; takes = refl; flag = refl; alone = refl; cut = λ v. refl; by_long = refl; by_id = refl })) (λ g.
+    by_key (Known run_syntax run_built) (codes "limit") name (value (codes "limit") (record { required = false; takes = refl; flag = refl; alone = refl; cut = λ v. refl; by_long = refl; by_id = refl })) (λ h.
+    by_key (Known run_syntax run_built) (codes "journal") name (is_flagged run_syntax run_built (codes "journal") name (record { named = refl; takes = refl; by_long = refl })) (λ i.
     unmet (rw (a, b, d, e, f, g, h) refl) i (rw (a, b, d, e, f, g, h, i) refl)))))))))
 
 pub run_from_places : AreFrom run_syntax run_built (codes "exe" ∷ []) 1
-unfolding run_built run_values
-run_from_places = (record { by_index = refl; by_id = refl; takes = refl; journal = refl; later = refl; next = refl }, refl)
-
-pub run_flag : arg_by_long run_built (codes "journal") ≡ Some journal_built
-unfolding run_built run_values
-run_flag = refl
+unfolding run_built run_values options_built
+run_from_places = (record { by_index = refl; by_id = refl; takes = refl; flag = refl; later = refl; next = refl }, refl)
 
 pub run_passes : (xs : List Row) → defaults_fault xs run_built ≡ []
-unfolding run_built run_values
-run_passes = values_pass run_values (journal_built ∷ []) refl flag_passes
+unfolding run_built run_values options_built
+run_passes = values_pass run_values (flag_built (codes "journal") ∷ []) refl (flag_passes (codes "journal"))
 
-pub run_ends : (xs : List Row) → fold with_default xs run_built ≡ with_journal true xs
-unfolding run_built run_values
-run_ends = values_keep run_values (journal_built ∷ []) refl
+pub run_ends : (xs : List Row) → fold with_default xs run_built ≡ with_flag (Some (codes "journal")) xs
+unfolding run_built run_values options_built
+run_ends = values_keep run_values (flag_built (codes "journal") ∷ []) refl
 
 pub run_check : (xs : List Row) → list_any (λ a. a.required && not (is_given a.id xs)) run_built ≡ not (list_all (λ n. is_given n xs) (codes "exe" ∷ []))
-unfolding run_built run_values
+unfolding run_built run_values options_built
 run_check xs = required_are xs run_built
 
 abbrev pub run_grammar : Grammar
@@ -124,29 +119,83 @@ run_grammar = record {
   name = codes "run";
   syntax = run_syntax;
   rules = run_built;
+  built = run_are_built;
   known = run_valued;
   from = run_from_places;
-  unvalued = refl;
-  flag = λ may. run_flag;
   passes = run_passes;
   ends = run_ends;
   check = run_check;
   apart = refl;
 }
 
+-- ---- `audit`
+
+pub audit_are_built : filled_from 1 (rules_of audit_syntax) ≡ audit_built
+unfolding audit_built audit_values options_built
+audit_are_built = refl
+
+pub audit_valued : (name : Text) → Known audit_syntax audit_built name
+unfolding audit_built audit_values options_built
+audit_valued name =
+    let value : (key : Text) → IsValued audit_syntax audit_built key → key ≡ name → Known audit_syntax audit_built name = λ key facts e. is_valued audit_syntax audit_built key name facts e in
+    by_key (Known audit_syntax audit_built) (codes "journal") name (value (codes "journal") (record { required = true; takes = refl; flag = refl; alone = refl; cut = λ v. refl; by_long = refl; by_id = refl })) (λ j.
+    by_key (Known audit_syntax audit_built) (codes "input") name (value (codes "input") (record { required = false; takes = refl; flag = refl; alone = refl; cut = λ v. refl; by_long = refl; by_id = refl })) (λ a.
+    by_key (Known audit_syntax audit_built) (codes "faults") name (value (codes "faults") (record { required = false; takes = refl; flag = refl; alone = refl; cut = λ v. refl; by_long = refl; by_id = refl })) (λ b.
+    by_key (Known audit_syntax audit_built) (codes "replicas") name (value (codes "replicas") (record { required = false; takes = refl; flag = refl; alone = refl; cut = λ v. refl; by_long = refl; by_id = refl })) (λ d.
+    by_key (Known audit_syntax audit_built) (codes "drivers") name (value (codes "drivers") (record { required = false; takes = refl; flag = refl; alone = refl; cut = λ v. refl; by_long = refl; by_id = refl })) (λ e.
+    by_key (Known audit_syntax audit_built) (codes "watchdog") name (value (codes "watchdog") (record { required = false; takes = refl; flag = refl; alone = refl; cut = λ v. refl; by_long = refl; by_id = refl })) (λ f.
+    by_key (Known audit_syntax audit_built) (codes "quantum") name (value (codes "quantum") (record { required = false; takes = refl; flag = refl; alone = refl; cut = λ v. refl; by_long = refl; by_id = refl })) (λ g.
+    by_key (Known audit_syntax audit_built) (codes "limit") name (value (codes "limit") (record { required = false; takes = refl; flag = refl; alone = refl; cut = λ v. refl; by_long = refl; by_id = refl })) (λ h.
+    by_key (Known audit_syntax audit_built) (codes "json") name (is_flagged audit_syntax audit_built (codes "json") name (record { named = refl; takes = refl; by_long = refl })) (λ i.
+    unmet (rw (j, a, b, d, e, f, g, h) refl) i (rw (j, a, b, d, e, f, g, h, i) refl))))))))))
+
+pub audit_from_places : AreFrom audit_syntax audit_built (codes "exe" ∷ []) 1
+unfolding audit_built audit_values options_built
+audit_from_places = (record { by_index = refl; by_id = refl; takes = refl; flag = refl; later = refl; next = refl }, refl)
+
+pub audit_passes : (xs : List Row) → defaults_fault xs audit_built ≡ []
+unfolding audit_built audit_values options_built
+audit_passes = values_pass audit_values (flag_built (codes "json") ∷ []) refl (flag_passes (codes "json"))
+
+pub audit_ends : (xs : List Row) → fold with_default xs audit_built ≡ with_flag (Some (codes "json")) xs
+unfolding audit_built audit_values options_built
+audit_ends = values_keep audit_values (flag_built (codes "json") ∷ []) refl
+
+pub audit_check : (xs : List Row) → list_any (λ a. a.required && not (is_given a.id xs)) audit_built ≡ not (list_all (λ n. is_given n xs) (codes "exe" ∷ codes "journal" ∷ []))
+unfolding audit_built audit_values options_built
+audit_check xs = required_are xs audit_built
+
+abbrev pub audit_grammar : Grammar
+audit_grammar = record {
+  name = codes "audit";
+  syntax = audit_syntax;
+  rules = audit_built;
+  built = audit_are_built;
+  known = audit_valued;
+  from = audit_from_places;
+  passes = audit_passes;
+  ends = audit_ends;
+  check = audit_check;
+  apart = refl;
+}
+
 -- ---- `plain` and `races`
+
+pub plan_are_built : filled_from 1 (rules_of plan_syntax) ≡ plan_built
+unfolding plan_built
+plan_are_built = refl
 
 pub plan_valued : (name : Text) → Known plan_syntax plan_built name
 unfolding plan_built
 plan_valued name =
     let value : (key : Text) → IsValued plan_syntax plan_built key → key ≡ name → Known plan_syntax plan_built name = λ key facts e. is_valued plan_syntax plan_built key name facts e in
-    by_key (Known plan_syntax plan_built) (codes "plan") name (value (codes "plan") (record { required = true; takes = refl; flag = refl; journal = refl; alone = refl; cut = λ v. refl; by_long = refl; by_id = refl })) (λ a.
-    by_key (Known plan_syntax plan_built) (codes "input") name (value (codes "input") (record { required = false; takes = refl; flag = refl; journal = refl; alone = refl; cut = λ v. refl; by_long = refl; by_id = refl })) (λ b.
+    by_key (Known plan_syntax plan_built) (codes "plan") name (value (codes "plan") (record { required = true; takes = refl; flag = refl; alone = refl; cut = λ v. refl; by_long = refl; by_id = refl })) (λ a.
+    by_key (Known plan_syntax plan_built) (codes "input") name (value (codes "input") (record { required = false; takes = refl; flag = refl; alone = refl; cut = λ v. refl; by_long = refl; by_id = refl })) (λ b.
     unmet (rw (a, b) refl) refl (rw (a, b) refl)))
 
 pub plan_from_places : AreFrom plan_syntax plan_built (codes "exe" ∷ []) 1
 unfolding plan_built
-plan_from_places = (record { by_index = refl; by_id = refl; takes = refl; journal = refl; later = refl; next = refl }, refl)
+plan_from_places = (record { by_index = refl; by_id = refl; takes = refl; flag = refl; later = refl; next = refl }, refl)
 
 pub plan_passes : (xs : List Row) → defaults_fault xs plan_built ≡ []
 unfolding plan_built
@@ -160,19 +209,15 @@ pub plan_check : (xs : List Row) → list_any (λ a. a.required && not (is_given
 unfolding plan_built
 plan_check xs = required_are xs plan_built
 
-pub none_flagged : (rules : List Rule) → false ≡ true → arg_by_long rules (codes "journal") ≡ Some journal_built
-none_flagged rules may = cc
-
 -- a command that takes an executable and a plan
 abbrev pub plan_grammar : Text → Grammar
 plan_grammar name = record {
   name = name;
   syntax = plan_syntax;
   rules = plan_built;
+  built = plan_are_built;
   known = plan_valued;
   from = plan_from_places;
-  unvalued = refl;
-  flag = none_flagged plan_built;
   passes = plan_passes;
   ends = plan_ends;
   check = plan_check;
@@ -181,16 +226,20 @@ plan_grammar name = record {
 
 -- ---- `inject`
 
+pub inject_are_built : filled_from 1 (rules_of inject_syntax) ≡ inject_built
+unfolding inject_built
+inject_are_built = refl
+
 pub inject_valued : (name : Text) → Known inject_syntax inject_built name
 unfolding inject_built
 inject_valued name =
     let value : (key : Text) → IsValued inject_syntax inject_built key → key ≡ name → Known inject_syntax inject_built name = λ key facts e. is_valued inject_syntax inject_built key name facts e in
-    by_key (Known inject_syntax inject_built) (codes "replica") name (value (codes "replica") (record { required = false; takes = refl; flag = refl; journal = refl; alone = refl; cut = λ v. refl; by_long = refl; by_id = refl })) (λ a.
+    by_key (Known inject_syntax inject_built) (codes "replica") name (value (codes "replica") (record { required = false; takes = refl; flag = refl; alone = refl; cut = λ v. refl; by_long = refl; by_id = refl })) (λ a.
     unmet (rw (a) refl) refl (rw (a) refl))
 
 pub inject_from_places : AreFrom inject_syntax inject_built (codes "seed" ∷ codes "count" ∷ codes "exe" ∷ []) 1
 unfolding inject_built
-inject_from_places = (record { by_index = refl; by_id = refl; takes = refl; journal = refl; later = refl; next = refl }, (record { by_index = refl; by_id = refl; takes = refl; journal = refl; later = refl; next = refl }, (record { by_index = refl; by_id = refl; takes = refl; journal = refl; later = refl; next = refl }, refl)))
+inject_from_places = (record { by_index = refl; by_id = refl; takes = refl; flag = refl; later = refl; next = refl }, (record { by_index = refl; by_id = refl; takes = refl; flag = refl; later = refl; next = refl }, (record { by_index = refl; by_id = refl; takes = refl; flag = refl; later = refl; next = refl }, refl)))
 
 pub inject_passes : (xs : List Row) → defaults_fault xs inject_built ≡ []
 unfolding inject_built
@@ -209,10 +258,9 @@ inject_grammar = record {
   name = codes "inject";
   syntax = inject_syntax;
   rules = inject_built;
+  built = inject_are_built;
   known = inject_valued;
   from = inject_from_places;
-  unvalued = refl;
-  flag = none_flagged inject_built;
   passes = inject_passes;
   ends = inject_ends;
   check = inject_check;
@@ -221,6 +269,10 @@ inject_grammar = record {
 
 -- ---- `bench`
 
+pub bench_are_built : filled_from 1 (rules_of bench_syntax) ≡ bench_built
+unfolding bench_built
+bench_are_built = refl
+
 pub bench_valued : (name : Text) → Known bench_syntax bench_built name
 unfolding bench_built
 bench_valued name =
@@ -228,7 +280,7 @@ bench_valued name =
 
 pub bench_from_places : AreFrom bench_syntax bench_built (codes "seed" ∷ codes "size" ∷ []) 1
 unfolding bench_built
-bench_from_places = (record { by_index = refl; by_id = refl; takes = refl; journal = refl; later = refl; next = refl }, (record { by_index = refl; by_id = refl; takes = refl; journal = refl; later = refl; next = refl }, refl))
+bench_from_places = (record { by_index = refl; by_id = refl; takes = refl; flag = refl; later = refl; next = refl }, (record { by_index = refl; by_id = refl; takes = refl; flag = refl; later = refl; next = refl }, refl))
 
 pub bench_passes : (xs : List Row) → defaults_fault xs bench_built ≡ []
 unfolding bench_built
@@ -247,10 +299,9 @@ bench_grammar = record {
   name = codes "bench";
   syntax = bench_syntax;
   rules = bench_built;
+  built = bench_are_built;
   known = bench_valued;
   from = bench_from_places;
-  unvalued = refl;
-  flag = none_flagged bench_built;
   passes = bench_passes;
   ends = bench_ends;
   check = bench_check;

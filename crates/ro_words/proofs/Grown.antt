@@ -7,7 +7,7 @@ use Rattle.clap.specs.declared.builder.arg.Arg.{Arg}
 use Rattle.clap.specs.declared.builder.command.Command.{Command}
 use Rattle.clap.specs.declared.builder.command.Command.TheOpen.{Command-F}
 use Rattle.clap.specs.declared.builder.command.Command.TheViews.{out-Command}
-use Rattle.ro_words.specs.Grammar.{Reads, romain_top}
+use Rattle.ro_words.specs.Grammar.{Reads, line_top}
 
 pub adds_arg : (old new : Command) (a : Arg) (app : App) (r : Rule) → AddsArg old a new → Reads app old → rule_of a ≡ r
     → a.global ≡ false → Reads (with_rule app r) new
@@ -19,15 +19,15 @@ pub adds_subcommand : (old new sub : Command) (app inner : App) → AddsSubcomma
 adds_subcommand old new sub app inner added was is =
     (added.shape is.1 ∙ ap₂ with_subcommand was.0 (ap (λ (a : App). a.top) is.0), added.globals ∙ ap₂ (λ x y. x || y) was.1 is.1)
 
--- the settings of the whole command line
-pub is_top : (a b d e : Command) (app : App) → Reads app a → out-Command b ≡ record (out-Command a) { disable_help_flag = true }
+-- the settings of a command line
+pub is_line : (a b d e : Command) (app : App) → Reads app a → out-Command b ≡ record (out-Command a) { disable_help_flag = true }
     → out-Command d ≡ record (out-Command b) { disable_help_subcommand = true }
-    → out-Command e ≡ record (out-Command d) { subcommand_required = true } → Reads (on_top romain_top app) e
-is_top a b d e app reads flag subcommand required =
+    → out-Command e ≡ record (out-Command d) { subcommand_required = true } → Reads (on_top line_top app) e
+is_line a b d e app reads flag subcommand required =
     let all : out-Command e ≡ record (out-Command a) {
       disable_help_flag = true;
       disable_help_subcommand = true;
       subcommand_required = true;
     } = required ∙ ap (λ (f : Command-F Command). record f { subcommand_required = true }) (subcommand
     ∙ ap (λ (f : Command-F Command). record f { disable_help_subcommand = true }) flag) in
-    (ap app_of_fields all ∙ ap (on_top romain_top) reads.0, ap (λ (f : Command-F Command). f.has_globals) all ∙ reads.1)
+    (ap app_of_fields all ∙ ap (on_top line_top) reads.0, ap (λ (f : Command-F Command). f.has_globals) all ∙ reads.1)

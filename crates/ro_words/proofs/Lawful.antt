@@ -1,7 +1,8 @@
 -- Laws of the command that words spell.
-use Rattle.std.proofs.Common.{◌≡◌, ◌∙◌, ℕ, Bool, true, false, not, ◌&&◌, ◌||◌, ◌⊎◌, List, [], ◌∷◌, ◌++◌, Option, Some, None, refl, ap, ap₂, sym, subst, arith, codes, inl, inr}
-use Rattle.std.specs.Prelude.{◌==◌, find, option_and_then, option_map, if◌then◌else◌, IfSome}
-use Rattle.std.specs.List.{list_all}
+use Rattle.std.proofs.Common.{◌≡◌, ◌∙◌, ℕ, Bool, true, false, not, ◌&&◌, ◌||◌, List, [], ◌∷◌, ◌++◌, Option, Some, None, refl, ap, ap₂, sym, subst, arith, codes, inl, inr}
+use Rattle.std.specs.Prelude.{◌==◌, find, map, option_and_then, option_map, if◌then◌else◌, IfSome}
+use Rattle.std.specs.List.{AllByRecursion, list_all}
+use Rattle.std.specs.Option.{option_map_or}
 use Rattle.std.specs.Str.{bytes_eq}
 use Rattle.std.proofs.lemmas.Bool.{cases_Bool, or_cases, eqb-true}
 use Rattle.std.proofs.lemmas.List.{append_assoc}
@@ -12,19 +13,29 @@ use Rattle.clap.specs.declared.builder.value_parser.ValueParser.TheVariants as v
 use Rattle.clap.proofs.ValueTestLemmas.{accepts-Accepts}
 use Rattle.ro_settings.specs.declared.Settings.{Settings}
 use Rattle.ro_settings.specs.Ranges.{InRange, IsFrom, IsReplicas}
-use Rattle.ro_words.specs.Commands.{Asked, AskedPlan, are_replicas, replicas_only, Fits, Spelling, asked_of, bench_from, bench_given, bench_spelling, bench_syntax, command_of, given_number, inject_from, inject_given, inject_spelling, inject_syntax, maybe_number, number_in, number_or, plain_given, plain_spelling, plan_given, plan_syntax, races_given, races_spelling, run_from, run_given, run_spelling, run_syntax, settings_from, settings_of, spelling_of, to_plain, to_races, to_run, usual_run}
-use Rattle.ro_words.specs.Uses.{Syntax, Text, Use, is_argument, is_once, is_used, is_whole, option_uses, required_of, takes_value, text_of, uses_from, with_use}
+use Rattle.ro_words.specs.Commands.{Asked, AskedAudit, AskedPlan, AskedRun, AuditFits, Fits, Spelling, are_replicas, asked_among, asked_in_words, asked_of, asked_run, audit_from, audit_given, audit_of, audit_spellings, bench_from, bench_given, command_of, given_number, inject_from, inject_given, maybe_number, number_in, number_or, plain_given, plan_given, races_given, replicas_only, run_from, run_given, settings_from, settings_of, spelling_of, spellings, to_plain, to_races, to_run, usual_audit, usual_run}
+use Rattle.ro_words.specs.Uses.{Syntax, Text, Use, has_flag, is_argument, is_once, is_used, is_whole, option_uses, required_of, takes_value, text_of, uses_from, with_use}
 use Rattle.ro_words.proofs.Names.{Grammar, IsValued, by_key, flagged, takes_one, unmet}
-use Rattle.ro_words.proofs.Grammars.{bench_grammar, inject_grammar, plan_grammar, run_grammar}
 use Rattle.ro_words.proofs.Once.{differ_twice, or_true, same_twice, twice, used-append}
-
-pub some_same : {X : Type 0} (x y : X) → ◌≡◌ {A = Option X} (Some x) (Some y) → x ≡ y
-some_same x y e = cc
+use Rattle.ro_words.proofs.Spelled.{Spoken, found_has, some_same, spelling_in, spelling_is, spoken_of}
 
 pub usual : (program exe : Text) → is_argument exe ≡ true → command_of (program ∷ codes "run" ∷ exe ∷ []) ≡ Some (to_run (usual_run exe))
 usual program exe plain = rw plain refl
 
-pub ruleset usual_law = (usual)
+pub usual_audited : (program exe journal : Text) → is_argument exe ≡ true → is_argument journal ≡ true
+    → audit_of (program ∷ codes "audit" ∷ exe ∷ codes "--journal" ∷ journal ∷ []) ≡ Some (usual_audit exe journal)
+usual_audited program exe journal plain fits = rw (plain, fits) refl
+
+pub ruleset usual_law = (usual, usual_audited)
+
+-- no command of `romain` has the name of an audit
+pub apart_from_audit : (words : List Text) (asked : AskedAudit) → audit_of words ≡ Some asked → command_of words ≡ None
+apart_from_audit [] asked is = refl
+apart_from_audit (program ∷ []) asked is = refl
+apart_from_audit (program ∷ command ∷ words) asked is =
+    by_key (λ name. audit_of (program ∷ name ∷ words) ≡ Some asked → command_of (program ∷ name ∷ words) ≡ None) (codes "audit") command
+    (λ same. subst (λ (name : Text). audit_of (program ∷ name ∷ words) ≡ Some asked → command_of (program ∷ name ∷ words) ≡ None) same (λ e. refl))
+    (λ other e. let bad : None ≡ Some asked = rw other at e in cc) is
 
 -- ---- ranges
 
@@ -97,24 +108,41 @@ settings_fit given s is =
       limit = from_number 1000000000 1 1000000000000 s.limit (given (codes "limit")) (omega arith, omega arith) parts.4;
     }
 
-run_from_fits : (exe : Option Text) (settings : Option Settings) (given : Text → Option Text) (journal : Bool) (asked : Asked)
-    → ((s : Settings) → settings ≡ Some s → InRange s) → run_from exe settings given journal ≡ Some asked → Fits asked
+run_from_fits : (exe : Option Text) (settings : Option Settings) (given : Text → Option Text) (journal : Bool) (asked : AskedRun)
+    → ((s : Settings) → settings ≡ Some s → InRange s) → run_from exe settings given journal ≡ Some asked → InRange asked.settings
 run_from_fits None settings given journal asked ranged is = cc
 run_from_fits (Some exe) None given journal asked ranged is = cc
-run_from_fits (Some exe) (Some settings) given journal asked ranged is = subst Fits (some_same _ asked is) (ranged settings refl)
+run_from_fits (Some exe) (Some settings) given journal asked ranged is =
+    subst (λ (run : AskedRun). InRange run.settings) (some_same _ asked is) (ranged settings refl)
+
+asked_fits : (given : Text → Option Text) (journal : Bool) (asked : AskedRun) → asked_run given journal ≡ Some asked → InRange asked.settings
+asked_fits given journal asked is = run_from_fits (given (codes "exe")) (settings_of given) given journal asked (λ s e. settings_fit given s e) is
 
 run_fits : (given : Text → Option Text) (journal : Bool) (asked : Asked) → run_given given journal ≡ Some asked → Fits asked
-run_fits given journal asked is = run_from_fits (given (codes "exe")) (settings_of given) given journal asked (λ s e. settings_fit given s e) is
+run_fits given journal asked is = by (asked_run given journal) refl is
+  where
+    by : (o : Option AskedRun) → asked_run given journal ≡ o → option_map (λ run. to_run run) o ≡ Some asked → Fits asked
+    by None e f = cc
+    by (Some run) e f = subst Fits (some_same (to_run run) asked f) (asked_fits given journal run e)
+
+audit_from_fits : (run : Option AskedRun) (journal : Option Text) (json : Bool) (asked : AskedAudit)
+    → ((r : AskedRun) → run ≡ Some r → InRange r.settings) → audit_from run journal json ≡ Some asked → AuditFits asked
+audit_from_fits None journal json asked ranged is = cc
+audit_from_fits (Some run) None json asked ranged is = cc
+audit_from_fits (Some run) (Some journal) json asked ranged is = subst AuditFits (some_same _ asked is) (ranged run refl)
+
+audit_fits : (given : Text → Option Text) (json : Bool) (asked : AskedAudit) → audit_given given json ≡ Some asked → AuditFits asked
+audit_fits given json asked is = audit_from_fits (asked_run given false) (given (codes "journal")) json asked (λ run e. asked_fits given false run e) is
 
 plan_fits : (asks : AskedPlan → Asked) → ((plan : AskedPlan) → Fits (asks plan)) → (o : Option AskedPlan) (asked : Asked) → option_map asks o ≡ Some asked → Fits asked
 plan_fits asks fits None asked is = cc
 plan_fits asks fits (Some plan) asked is = subst Fits (some_same (asks plan) asked is) (fits plan)
 
-plain_fits : (given : Text → Option Text) (journal : Bool) (asked : Asked) → plain_given given journal ≡ Some asked → Fits asked
-plain_fits given journal asked is = plan_fits (λ plan. to_plain plan) (λ plan. tt) (plan_given given) asked is
+plain_fits : (given : Text → Option Text) (flag : Bool) (asked : Asked) → plain_given given flag ≡ Some asked → Fits asked
+plain_fits given flag asked is = plan_fits (λ plan. to_plain plan) (λ plan. tt) (plan_given given) asked is
 
-races_fits : (given : Text → Option Text) (journal : Bool) (asked : Asked) → races_given given journal ≡ Some asked → Fits asked
-races_fits given journal asked is = plan_fits (λ plan. to_races plan) (λ plan. tt) (plan_given given) asked is
+races_fits : (given : Text → Option Text) (flag : Bool) (asked : Asked) → races_given given flag ≡ Some asked → Fits asked
+races_fits given flag asked is = plan_fits (λ plan. to_races plan) (λ plan. tt) (plan_given given) asked is
 
 given_from : (least most n : ℕ) (given : Option Text) → given_number least most given ≡ Some n → IsFrom least most n
 given_from least most n None is = cc
@@ -136,41 +164,46 @@ maybe_from (Some text) o is = by (number_in 0 4 text) refl is
     by None e f = cc
     by (Some n) e f = subst (λ (x : Option ℕ). IfSome x (IsFrom 0 4)) (some_same (Some n) o f) (in_from 0 4 n text e)
 
-inject_fits : (given : Text → Option Text) (journal : Bool) (asked : Asked) → inject_given given journal ≡ Some asked → Fits asked
-inject_fits given journal asked is = inject_from_fits _ _ (given (codes "exe")) _ asked (λ n e. given_from 1 256 n (given (codes "count")) e) (maybe_from (given (codes "replica"))) is
+inject_fits : (given : Text → Option Text) (flag : Bool) (asked : Asked) → inject_given given flag ≡ Some asked → Fits asked
+inject_fits given flag asked is = inject_from_fits _ _ (given (codes "exe")) _ asked (λ n e. given_from 1 256 n (given (codes "count")) e) (maybe_from (given (codes "replica"))) is
 
 bench_from_fits : (seed size : Option ℕ) (asked : Asked) → ((n : ℕ) → size ≡ Some n → IsFrom 1 2000 n) → bench_from seed size ≡ Some asked → Fits asked
 bench_from_fits None size asked few is = cc
 bench_from_fits (Some seed) None asked few is = cc
 bench_from_fits (Some seed) (Some size) asked few is = subst Fits (some_same _ asked is) (few size refl)
 
-bench_fits : (given : Text → Option Text) (journal : Bool) (asked : Asked) → bench_given given journal ≡ Some asked → Fits asked
-bench_fits given journal asked is = bench_from_fits _ _ asked (λ n e. given_from 1 2000 n (given (codes "size")) e) is
+bench_fits : (given : Text → Option Text) (flag : Bool) (asked : Asked) → bench_given given flag ≡ Some asked → Fits asked
+bench_fits given flag asked is = bench_from_fits _ _ asked (λ n e. given_from 1 2000 n (given (codes "size")) e) is
 
-module _ (s : Spelling) (fits : (given : Text → Option Text) (journal : Bool) (asked : Asked) → s.given given journal ≡ Some asked → Fits asked) where
-  uses_fit : (uses : List Use) (asked : Asked) → asked_of s uses ≡ Some asked → Fits asked
-  uses_fit uses asked is = elim (cases_Bool (is_whole s.syntax uses)) [
-    | inl whole ↦ let given : s.given (text_of uses) (is_used (codes "journal") uses) ≡ Some asked = rw whole at is in fits (text_of uses) _ asked given
+module _ {A : Type 0} (Ranged : A → Type 0) where
+  -- whatever texts are given, what is asked for is in range
+  abbrev pub GivesRanged : Spelling A → Type 0
+  GivesRanged s = (given : Text → Option Text) (flag : Bool) (asked : A) → s.given given flag ≡ Some asked → Ranged asked
+
+  uses_fit : (s : Spelling A) (uses : List Use) (asked : A) → GivesRanged s → asked_of s uses ≡ Some asked → Ranged asked
+  uses_fit s uses asked fits is = elim (cases_Bool (is_whole s.syntax uses)) [
+    | inl whole ↦ let given : s.given (text_of uses) (has_flag s.syntax uses) ≡ Some asked = rw whole at is in fits (text_of uses) _ asked given
     | inr part ↦ let bad : None ≡ Some asked = rw part at is in cc
   ]
 
-  read_fits : (read : Option (List Use)) (asked : Asked) → option_and_then (asked_of s) read ≡ Some asked → Fits asked
-  read_fits None asked is = cc
-  read_fits (Some uses) asked is = uses_fit uses asked is
+  read_fits : (s : Spelling A) (read : Option (List Use)) (asked : A) → GivesRanged s → option_and_then (asked_of s) read ≡ Some asked → Ranged asked
+  read_fits s None asked fits is = cc
+  read_fits s (Some uses) asked fits is = uses_fit s uses asked fits is
 
-abbrev FitsBehind : Text → List Text → Asked → Text → Type 0
-FitsBehind program words asked command = command_of (program ∷ command ∷ words) ≡ Some asked → Fits asked
+  pub words_fit : (ss : List (Spelling A)) (words : List Text) (asked : A) → AllByRecursion GivesRanged ss → asked_among ss words ≡ Some asked → Ranged asked
+  words_fit ss [] asked fits is = cc
+  words_fit ss (program ∷ []) asked fits is = cc
+  words_fit ss (program ∷ command ∷ words) asked fits is = by (spelling_of ss command) refl is
+    where
+      by : (o : Option (Spelling A)) → spelling_of ss command ≡ o → option_and_then (asked_in_words words) o ≡ Some asked → Ranged asked
+      by None e f = cc
+      by (Some s) e f = read_fits s (uses_from s.syntax words s.syntax.places None) asked (found_has GivesRanged _ ss s fits e) f
 
-pub words_fit : (words : List Text) (asked : Asked) → command_of words ≡ Some asked → Fits asked
-words_fit [] asked is = cc
-words_fit (program ∷ []) asked is = cc
-words_fit (program ∷ command ∷ words) asked is =
-    by_key (FitsBehind program words asked) (codes "run") command (λ same. subst (FitsBehind program words asked) same (read_fits run_spelling run_fits (uses_from run_syntax words run_syntax.places None) asked)) (λ a.
-    by_key (FitsBehind program words asked) (codes "plain") command (λ same. subst (FitsBehind program words asked) same (read_fits plain_spelling plain_fits (uses_from plan_syntax words plan_syntax.places None) asked)) (λ b.
-    by_key (FitsBehind program words asked) (codes "races") command (λ same. subst (FitsBehind program words asked) same (read_fits races_spelling races_fits (uses_from plan_syntax words plan_syntax.places None) asked)) (λ r.
-    by_key (FitsBehind program words asked) (codes "inject") command (λ same. subst (FitsBehind program words asked) same (read_fits inject_spelling inject_fits (uses_from inject_syntax words inject_syntax.places None) asked)) (λ c.
-    by_key (FitsBehind program words asked) (codes "bench") command (λ same. subst (FitsBehind program words asked) same (read_fits bench_spelling bench_fits (uses_from bench_syntax words bench_syntax.places None) asked)) (λ d.
-    λ e. let bad : None ≡ Some asked = rw (a, b, r, c, d) at e in cc))))) is
+pub command_fits : (words : List Text) (asked : Asked) → command_of words ≡ Some asked → Fits asked
+command_fits words asked = words_fit Fits spellings words asked (run_fits, (plain_fits, (races_fits, (inject_fits, (bench_fits, tt)))))
+
+pub audit_in_range : (words : List Text) (asked : AskedAudit) → audit_of words ≡ Some asked → AuditFits asked
+audit_in_range words asked = words_fit AuditFits audit_spellings words asked (audit_fits, tt)
 
 -- ---- order
 
@@ -217,14 +250,19 @@ find_swap name (w ∷ before) u v behind differ = elim (cases_Bool (bytes_eq w.0
   | inr none ↦ rw none (find_swap name before u v behind differ)
 ]
 
-asked_swap : (s : Spelling) (before : List Use) (u v : Use) (behind : List Use) → bytes_eq u.0 v.0 ≡ false
-    → s.given (text_of (before ++ u ∷ v ∷ behind)) (is_used (codes "journal") (before ++ u ∷ v ∷ behind))
-    ≡ s.given (text_of (before ++ v ∷ u ∷ behind)) (is_used (codes "journal") (before ++ v ∷ u ∷ behind))
+flag_swap : (flag : Option Text) (before : List Use) (u v : Use) (behind : List Use)
+    → option_map_or (λ name. is_used name (before ++ u ∷ v ∷ behind)) flag false ≡ option_map_or (λ name. is_used name (before ++ v ∷ u ∷ behind)) flag false
+flag_swap None before u v behind = refl
+flag_swap (Some name) before u v behind = used_swap name before u v behind
+
+asked_swap : {A : Type 0} (s : Spelling A) (before : List Use) (u v : Use) (behind : List Use) → bytes_eq u.0 v.0 ≡ false
+    → s.given (text_of (before ++ u ∷ v ∷ behind)) (has_flag s.syntax (before ++ u ∷ v ∷ behind))
+    ≡ s.given (text_of (before ++ v ∷ u ∷ behind)) (has_flag s.syntax (before ++ v ∷ u ∷ behind))
 asked_swap s before u v behind differ =
     let texts : (name : Text) → text_of (before ++ u ∷ v ∷ behind) name ≡ text_of (before ++ v ∷ u ∷ behind) name =
     λ name. ap (option_map (λ (w : Use). w.1)) (find_swap name before u v behind differ) in
     let given : text_of (before ++ u ∷ v ∷ behind) ≡ text_of (before ++ v ∷ u ∷ behind) = λ i name. texts name i in
-    ap₂ s.given given (used_swap (codes "journal") before u v behind)
+    ap₂ s.given given (flag_swap s.syntax.flag before u v behind)
 
 all_swap : (names : List Text) (before : List Use) (u v : Use) (behind : List Use)
     → list_all (λ n. is_used n (before ++ u ∷ v ∷ behind)) names ≡ list_all (λ n. is_used n (before ++ v ∷ u ∷ behind)) names
@@ -237,14 +275,20 @@ not_once before u v behind same =
     let used : is_used v.0 (before ++ u ∷ []) ≡ true = used-append v.0 before (u ∷ []) ∙ rw same (or_true (is_used v.0 before)) in
     ap is_once (sym (append_assoc before (u ∷ []) (v ∷ behind))) ∙ twice (before ++ u ∷ []) behind v used
 
-pub swapped : (s : Spelling) (before : List Use) (u v : Use) (behind : List Use) → asked_of s (before ++ u ∷ v ∷ behind) ≡ asked_of s (before ++ v ∷ u ∷ behind)
-swapped s before u v behind = elim (cases_Bool (bytes_eq u.0 v.0)) [
+pub swapped : {A : Type 0} (s : Spelling A) (before : List Use) (u v : Use) (behind : List Use) → asked_of s (before ++ u ∷ v ∷ behind) ≡ asked_of s (before ++ v ∷ u ∷ behind)
+swapped {A} s before u v behind = elim (cases_Bool (bytes_eq u.0 v.0)) [
   | inl same ↦ rw (not_once before u v behind same, not_once before v u behind (same_twice u.0 v.0 same)) refl
-  | inr differ ↦ ap₂ (λ (b : Bool) (o : Option Asked). if b then o else None)
+  | inr differ ↦ ap₂ (λ (b : Bool) (o : Option A). if b then o else None)
       (ap₂ (λ (a b : Bool). a && b) (once_swap before u v behind differ) (all_swap (required_of s.syntax) before u v behind)) (asked_swap s before u v behind differ)
 ]
 
-pub ruleset order_law = (swapped)
+pub command_swapped : (s : Spelling Asked) (before : List Use) (u v : Use) (behind : List Use) → asked_of s (before ++ u ∷ v ∷ behind) ≡ asked_of s (before ++ v ∷ u ∷ behind)
+command_swapped s before u v behind = swapped s before u v behind
+
+pub audit_swapped : (s : Spelling AskedAudit) (before : List Use) (u v : Use) (behind : List Use) → asked_of s (before ++ u ∷ v ∷ behind) ≡ asked_of s (before ++ v ∷ u ∷ behind)
+audit_swapped s before u v behind = swapped s before u v behind
+
+pub ruleset order_law = (command_swapped, audit_swapped)
 
 -- ---- spelling
 
@@ -272,7 +316,7 @@ module _ (g : Grammar) (name value : Text) (words left : List Text) where
       → uses_from g.syntax ((45 ∷ 45 ∷ (name ++ 61 ∷ value)) ∷ words) left None ≡ uses_from g.syntax ((45 ∷ 45 ∷ name) ∷ value ∷ words) left None
   alike_in takes fits = elim (g.known name) [
     | takes_one valued ↦ agree valued fits
-    | flagged may is ↦ let bad : false ≡ true = sym g.unvalued ∙ subst (λ (n : Text). takes_value g.syntax n ≡ true) (sym is) takes in cc
+    | flagged flag ↦ let bad : false ≡ true = sym flag.takes ∙ takes in cc
     | unmet none flag unknown ↦ let bad : false ≡ true = sym none ∙ takes in cc
   ]
 
@@ -280,19 +324,10 @@ abbrev AlikeIn : Text → Text → List Text → List Text → Syntax → Type 0
 AlikeIn name value words left s = takes_value s name ≡ true → is_argument value ≡ true
     → uses_from s ((45 ∷ 45 ∷ (name ++ 61 ∷ value)) ∷ words) left None ≡ uses_from s ((45 ∷ 45 ∷ name) ∷ value ∷ words) left None
 
-abbrev AlikeAt : Text → Text → List Text → List Text → Spelling → Text → Type 0
-AlikeAt name value words left s command = spelling_of command ≡ Some s → AlikeIn name value words left s.syntax
-
-pub spelled_alike : (command : Text) (s : Spelling) (name value : Text) (words left : List Text) → spelling_of command ≡ Some s → AlikeIn name value words left s.syntax
-spelled_alike command s name value words left is =
-    by_key (AlikeAt name value words left s) (codes "run") command (λ same. subst (AlikeAt name value words left s) same (λ e.
-    subst (λ (x : Spelling). AlikeIn name value words left x.syntax) (some_same run_spelling s e) (alike_in run_grammar name value words left))) (λ a.
-    by_key (AlikeAt name value words left s) (codes "plain") command (λ same. subst (AlikeAt name value words left s) same (λ e.
-    subst (λ (x : Spelling). AlikeIn name value words left x.syntax) (some_same plain_spelling s e) (alike_in (plan_grammar (codes "plain")) name value words left))) (λ b.
-    by_key (AlikeAt name value words left s) (codes "races") command (λ same. subst (AlikeAt name value words left s) same (λ e.
-    subst (λ (x : Spelling). AlikeIn name value words left x.syntax) (some_same races_spelling s e) (alike_in (plan_grammar (codes "races")) name value words left))) (λ r.
-    by_key (AlikeAt name value words left s) (codes "inject") command (λ same. subst (AlikeAt name value words left s) same (λ e.
-    subst (λ (x : Spelling). AlikeIn name value words left x.syntax) (some_same inject_spelling s e) (alike_in inject_grammar name value words left))) (λ c.
-    by_key (AlikeAt name value words left s) (codes "bench") command (λ same. subst (AlikeAt name value words left s) same (λ e.
-    subst (λ (x : Spelling). AlikeIn name value words left x.syntax) (some_same bench_spelling s e) (alike_in bench_grammar name value words left))) (λ d.
-    λ e. let bad : None ≡ Some s = rw (a, b, r, c, d) at e in cc))))) is
+pub spelled_alike : {A : Type 0} (cs : List (Spoken A)) (command : Text) (s : Spelling A) (name value : Text) (words left : List Text)
+    → spelling_of (map spelling_in cs) command ≡ Some s → AlikeIn name value words left s.syntax
+spelled_alike {A} cs command s name value words left is = by (spoken_of cs command) (sym (spelling_is cs command) ∙ is)
+  where
+    by : (o : Option (Spoken A)) → option_map spelling_in o ≡ Some s → AlikeIn name value words left s.syntax
+    by None e = cc
+    by (Some c) e = subst (λ (x : Spelling A). AlikeIn name value words left x.syntax) (some_same (spelling_in c) s e) (alike_in c.grammar name value words left)

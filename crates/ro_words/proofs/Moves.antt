@@ -3,15 +3,17 @@ use Rattle.std.proofs.Common.{◌≡◌, ◌∙◌, ℕ, ◌+◌, true, false, �
 use Rattle.std.specs.Option.{option_map_or}
 use Rattle.std.proofs.lemmas.Bool.{cases_Bool, or_parts}
 use Rattle.std.specs.List.{list_any}
+use Rattle.std.specs.Str.{bytes_eq}
+use Rattle.std.proofs.lemmas.Slice.Eq.{bytes_eq-Decides}
 use Rattle.clap.specs.Lexer.{name_and_value}
 use Rattle.clap.specs.Walk.{Held, arg_by_long, Text, Walk, idle, pushed, reacted, settled, walked}
 use Rattle.clap.specs.Faults.{turn_fault}
 use Rattle.clap.specs.Kinds.{Kinds, or_else}
 use Rattle.clap.specs.declared.error.kind.ErrorKind.TheVariants as kind
 use Rattle.ro_words.specs.Uses.{Use, is_argument, is_flag, is_used, is_word, option_uses, takes_value, uses_from, with_use}
-use Rattle.ro_words.proofs.Names.{Grammar, IsValued, flagged, takes_one, unmet}
+use Rattle.ro_words.proofs.Names.{Grammar, IsFlag, IsValued, flagged, takes_one, unmet}
 use Rattle.ro_words.proofs.Rows.{first_flag, first_use, second_flag, second_use}
-use Rattle.ro_words.proofs.Rules.{journal_built, leaf, option_built}
+use Rattle.ro_words.proofs.Rules.{flag_built, leaf, option_built}
 use Rattle.ro_words.proofs.Steps.{at, end_rows, place_turn, place_walked, flag_fault, flag_value_fault, flag_walked, option_fault_at, option_walked, option_walked_at, stray_turn, tail_fault, tail_more, unknown_fault, valued_fault, valued_walked, waiting_fault, waiting_walked}
 use Rattle.ro_words.proofs.Forms.{argument, form, optional}
 use Rattle.ro_words.proofs.Standing.{Answers, ForIdle, ForWaiting, Stands, answers_as, answers_more, answers_twice, before_place, before_flag, before_valued, has_rows, one_kind, rows_more, some_kinds}
@@ -104,35 +106,35 @@ module _ (g : Grammar) where
       option_on us left p word name None h words _ (uses_from g.syntax words left (Some name)) (waiting_fault g p idle word name h valued ∙ stands.fault)
       (waiting_walked g p word name h valued) (rw valued.takes refl) (after us left p _ name stands.before stands.is refl valued)
 
-  flag_option : (may : g.syntax.journal ≡ true) (us : List Use) (left : List Text) (p : ℕ) (word : Text) (h : Held) (words : List Text) → Stands g us left p h → ForIdle g words
-      → AnswersOption us left p word (codes "journal") None h words
-  flag_option may us left p word h words stands after = elim (cases_Bool (is_used (codes "journal") us)) [
+  flag_met : (name : Text) → IsFlag g.syntax g.rules name → is_flag g.syntax name ≡ true
+  flag_met name flag = ap (λ (o : Option Text). option_map_or (λ f. bytes_eq f name) o false) flag.named ∙ (bytes_eq-Decides name name).1 refl
+
+  flag_option : (us : List Use) (left : List Text) (p : ℕ) (word name : Text) (h : Held) (words : List Text) → IsFlag g.syntax g.rules name → Stands g us left p h → ForIdle g words
+      → AnswersOption us left p word name None h words
+  flag_option us left p word name h words flag stands after = elim (cases_Bool (is_used name us)) [
     | inl used ↦
-        let again = second_flag (settled g.rules h).rows (has_rows (codes "journal") us _ true stands.is used) in
-        answers_as g us _ _ _ _ _ (with_use (codes "journal", codes "true") (uses_from g.syntax words left None)) refl refl (rw (g.unvalued, may) refl)
-        (answers_twice g us (codes "journal", codes "true") _ _ (uses_from g.syntax words left None) used (some_kinds _ _ _ refl
-        (one_kind _ kind.ArgumentConflict (flag_fault g may p idle word h ∙ rw (stands.fault, again) refl))))
+        let again = second_flag name (settled g.rules h).rows (has_rows name us _ true stands.is used) in
+        answers_as g us _ _ _ _ _ (with_use (name, codes "true") (uses_from g.syntax words left None)) refl refl (rw (flag.takes, flag_met name flag) refl)
+        (answers_twice g us (name, codes "true") _ _ (uses_from g.syntax words left None) used (some_kinds _ _ _ refl
+        (one_kind _ kind.ArgumentConflict (flag_fault g p idle word name h flag ∙ rw (stands.fault, again) refl))))
     | inr unused ↦
-        let first = first_flag (settled g.rules h).rows (has_rows (codes "journal") us _ false stands.is unused) in
-        let next : Stands g (us ++ (codes "journal", codes "true") ∷ []) left p (reacted g.rules journal_built [] h) = record {
-          before = before_flag g us left p stands.before unused;
+        let first = first_flag name (settled g.rules h).rows (has_rows name us _ false stands.is unused) in
+        let next : Stands g (us ++ (name, codes "true") ∷ []) left p (reacted g.rules (flag_built name) [] h) = record {
+          before = before_flag g us left p name stands.before unused flag;
           fault = refl;
-          is = first.1 ∙ rows_more us (codes "journal", codes "true") _ stands.is;
+          is = first.1 ∙ rows_more us (name, codes "true") _ stands.is;
         } in
-        option_on us left p word (codes "journal") None h words _ (with_use (codes "journal", codes "true") (uses_from g.syntax words left None))
-        (flag_fault g may p idle word h ∙ rw (stands.fault, first.0) refl) (flag_walked g may p word h) (rw (g.unvalued, may) refl)
-        (answers_more g us (codes "journal", codes "true") _ _ (uses_from g.syntax words left None) (after _ _ _ _ next))
+        option_on us left p word name None h words _ (with_use (name, codes "true") (uses_from g.syntax words left None))
+        (flag_fault g p idle word name h flag ∙ rw (stands.fault, first.0) refl) (flag_walked g p word name h flag) (rw (flag.takes, flag_met name flag) refl)
+        (answers_more g us (name, codes "true") _ _ (uses_from g.syntax words left None) (after _ _ _ _ next))
   ]
 
-  flag_value : (may : g.syntax.journal ≡ true) (us : List Use) (left : List Text) (p : ℕ) (word value : Text) (h : Held) (words : List Text) → AnswersOption us left p word (codes "journal") (Some value) h words
-  flag_value may us left p word value h words =
-      answers_as g us _ _ _ _ _ None refl refl (rw g.unvalued refl)
-      (some_kinds _ _ _ refl (one_kind _ kind.TooManyValues (flag_value_fault g may p idle word value h)))
-
-  flagged_option : (may : g.syntax.journal ≡ true) (us : List Use) (left : List Text) (p : ℕ) (word : Text) (value : Option Text) (h : Held) (words : List Text) → Stands g us left p h → ForIdle g words
-      → AnswersOption us left p word (codes "journal") value h words
-  flagged_option may us left p word None h words stands after = flag_option may us left p word h words stands after
-  flagged_option may us left p word (Some value) h words stands after = flag_value may us left p word value h words
+  flagged_option : (us : List Use) (left : List Text) (p : ℕ) (word name : Text) (value : Option Text) (h : Held) (words : List Text) → IsFlag g.syntax g.rules name → Stands g us left p h
+      → ForIdle g words → AnswersOption us left p word name value h words
+  flagged_option us left p word name None h words flag stands after = flag_option us left p word name h words flag stands after
+  flagged_option us left p word name (Some value) h words flag stands after =
+      answers_as g us _ _ _ _ _ None refl refl (rw flag.takes refl)
+      (some_kinds _ _ _ refl (one_kind _ kind.TooManyValues (flag_value_fault g p idle word name value h flag)))
 
   taking_option : (us : List Use) (left : List Text) (p : ℕ) (word name : Text) (value : Option Text) (h : Held) (words : List Text) → IsValued g.syntax g.rules name
       → option_map_or is_argument value true ≡ true → Stands g us left p h → ForIdle g words → ForWaiting g words → AnswersOption us left p word name value h words
@@ -143,7 +145,7 @@ module _ (g : Grammar) where
       → option_map_or is_argument value true ≡ true → Stands g us left p h → ForIdle g words → ForWaiting g words → AnswersOption us left p word name value h words
   option_word us left p word name value h words fits stands after waits = elim (g.known name) [
     | takes_one valued ↦ taking_option us left p word name value h words valued fits stands after waits
-    | flagged may is ↦ subst (λ (n : Text). AnswersOption us left p word n value h words) is (flagged_option may us left p word value h words stands after)
+    | flagged flag ↦ flagged_option us left p word name value h words flag stands after
     | unmet takes flag unknown ↦ unmet_option us left p word name value h words takes flag unknown
   ]
 

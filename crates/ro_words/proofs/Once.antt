@@ -1,15 +1,20 @@
 -- Lists of uses in which no name stands twice.
-use Rattle.std.proofs.Common.{◌≡◌, ◌∙◌, Bool, true, false, not, ◌&&◌, ◌||◌, List, [], ◌∷◌, ◌++◌, refl, sym, inl, inr, codes}
+use Rattle.std.proofs.Common.{◌≡◌, ◌∙◌, Bool, true, false, not, ◌&&◌, ◌||◌, List, [], ◌∷◌, ◌++◌, Option, refl, sym, inl, inr, codes}
 use Rattle.std.specs.Str.{bytes_eq}
 use Rattle.std.specs.List.{list_all}
+use Rattle.std.specs.Option.{option_map_or}
 use Rattle.std.proofs.lemmas.Bool.{cases_Bool, or_parts}
 use Rattle.std.proofs.lemmas.List.Folds.{list_all-append, list_any-append}
 use Rattle.std.proofs.lemmas.Slice.Eq.{bytes_eq-Decides}
 use Rattle.ro_words.specs.Uses.{Text, Use, is_once, is_used}
 
--- a flag's text is `true`
-abbrev pub flag_text : Use → Bool
-flag_text u = not (bytes_eq u.0 (codes "journal")) || bytes_eq u.1 (codes "true")
+-- the name is the flag's
+abbrev pub is_of : Option Text → Text → Bool
+is_of flag name = option_map_or (λ f. bytes_eq f name) flag false
+
+-- the flag's text is `true`
+abbrev pub flag_text : Option Text → Use → Bool
+flag_text flag u = not (is_of flag u.0) || bytes_eq u.1 (codes "true")
 
 pub or_true : (b : Bool) → (b || true) ≡ true
 or_true true = refl
@@ -19,7 +24,7 @@ pub and_false : (b : Bool) → (b && false) ≡ false
 and_false true = refl
 and_false false = refl
 
-or_false : (b : Bool) → (b || false) ≡ b
+pub or_false : (b : Bool) → (b || false) ≡ b
 or_false true = refl
 or_false false = refl
 
@@ -65,8 +70,9 @@ once_more (w ∷ ws) u once unused =
     used-append w.0 ws (u ∷ []) ∙ rw (not_true (is_used w.0 ws) parts.0, differ_twice w.0 u.0 others.0) refl in
     rw (here, once_more ws u parts.1 others.1) refl
 
-pub flags_more : (us : List Use) (u : Use) → list_all flag_text us ≡ true → flag_text u ≡ true → list_all flag_text (us ++ u ∷ []) ≡ true
-flags_more us u all here = list_all-append flag_text us (u ∷ []) ∙ rw (all, here) refl
+pub flags_more : (flag : Option Text) (us : List Use) (u : Use) → list_all (flag_text flag) us ≡ true → flag_text flag u ≡ true
+    → list_all (flag_text flag) (us ++ u ∷ []) ≡ true
+flags_more flag us u all here = list_all-append (flag_text flag) us (u ∷ []) ∙ rw (all, here) refl
 
 pub used_more : (name : Text) (us : List Use) (u : Use) → bytes_eq u.0 name ≡ false → is_used name (us ++ u ∷ []) ≡ is_used name us
 used_more name us u other = used-append name us (u ∷ []) ∙ rw other (or_false (is_used name us))

@@ -13,7 +13,8 @@ use Rattle.ro_settings.specs.Ranges.{InRange, IsFrom}
 use Rattle.ro_words.specs.Commands.{replicas_only, number_or, settings_of, unranged}
 use Rattle.ro_settings.proofs.Counts.{few-replicas}
 use Rattle.ro_words.specs.Uses.{Text}
-use Rattle.ro_words.proofs.Lawful.{from_number, only_some, only_fits, made_of, settings_fit, some_same}
+use Rattle.ro_words.proofs.Lawful.{from_number, only_some, only_fits, made_of, settings_fit}
+use Rattle.ro_words.proofs.Spelled.{some_same}
 
 -- a number that is read in a range is read in a wider one
 wider : (usual least most wide n : ℕ) (given : Option Text) → most ≤ wide → number_or usual least most given ≡ Some n → number_or usual 0 wide given ≡ Some n

@@ -1,8 +1,8 @@
 -- Words that have not the look of a command's words spell none.
-use Rattle.std.proofs.Common.{◌≡◌, ◌∙◌, ◌⊎◌, Bool, true, false, ◌&&◌, ◌==◌, List, [], ◌∷◌, Option, Some, None, refl, ap, sym, subst, codes, drop, inl, inr}
-use Rattle.std.specs.Prelude.{option_and_then, Result, Ok, Err, IfErr, IsErrAnd}
+use Rattle.std.proofs.Common.{◌≡◌, ◌∙◌, ◌⊎◌, Bool, true, false, ◌&&◌, ◌==◌, List, [], ◌∷◌, Option, Some, None, refl, ap, sym, subst, drop, inl, inr}
+use Rattle.std.specs.Prelude.{map, option_and_then, Result, Ok, Err, IfErr, IsErrAnd}
 use Rattle.std.specs.Option.{option_map_or}
-use Rattle.std.specs.List.{list_all}
+use Rattle.std.specs.List.{AllByRecursion, list_all}
 use Rattle.std.specs.Str.{bytes_eq}
 use Rattle.std.proofs.lemmas.Bool.{cases_Bool}
 use Rattle.std.proofs.lemmas.Slice.Eq.{bytes_eq-Decides}
@@ -10,11 +10,12 @@ use Rattle.clap.specs.Lexer.{long_of}
 use Rattle.clap.specs.Values.{kind_of}
 use Rattle.clap.specs.Kinds.{HasKind, IsAmong, Kinds}
 use Rattle.clap.specs.declared.error.Error.{Error}
-use Rattle.ro_words.specs.Commands.{Spelling, asked_in_words, asked_of, command_of, refusal_of, spelling_of}
+use Rattle.ro_words.specs.Commands.{Spelling, asked_among, asked_in_words, asked_of, refusal_of, spelling_of}
 use Rattle.ro_words.specs.Uses.{Syntax, Text, Use, is_argument, is_flag, is_word, option_uses, place_uses, takes_value, uses_from, word_uses}
 use Rattle.ro_words.specs.declared.commands.WordsError.{WordsError}
 use Rattle.ro_words.specs.declared.commands.WordsError.TheVariants.{NoMemory}
 use Rattle.ro_words.proofs.Once.{and_false}
+use Rattle.ro_words.proofs.Spelled.{Spoken, spelling_in}
 
 abbrev After : Type 0
 After = Option Text → Option (List Use)
@@ -96,38 +97,43 @@ bad_words s (word ∷ words) left waiting bad = elim (cases_Bool (is_word word))
   | inr ill ↦ bad_word s word left waiting (λ places next. uses_from s words places next) ill
 ]
 
--- words of which one is bad ask for nothing
-bad_asked : (words : List Text) → list_all is_word words ≡ false → (found : Option Spelling) → option_and_then (λ s. asked_in_words s words) found ≡ None
-bad_asked words bad None = refl
-bad_asked words bad (Some s) = ap (option_and_then (asked_of s)) (bad_words s.syntax words s.syntax.places None bad)
+-- each command has a name that may stand in a command
+abbrev pub AreNamed : {A : Type 0} → List (Spoken A) → Type 0
+AreNamed cs = AllByRecursion (λ c. is_word c.grammar.name ≡ true) cs
 
--- nor does a bad name of a command
-bad_command : (command : Text) → is_word command ≡ false → spelling_of command ≡ None
-bad_command command bad =
-    let other : (key : Text) → is_word key ≡ true → bytes_eq key command ≡ false = λ key good. elim (cases_Bool (bytes_eq key command)) [
-      | inl same ↦ let ill : true ≡ false = sym good ∙ subst (λ (c : Text). is_word c ≡ false) (sym ((bytes_eq-Decides key command).0 same)) bad in cc
-      | inr differ ↦ differ
-    ] in
-    rw (other (codes "run") refl, other (codes "plain") refl, other (codes "races") refl, other (codes "inject") refl, other (codes "bench") refl) refl
+module _ {A : Type 0} where
+  -- words of which one is bad ask for nothing
+  bad_asked : (words : List Text) → list_all is_word words ≡ false → (found : Option (Spelling A)) → option_and_then (asked_in_words words) found ≡ None
+  bad_asked words bad None = refl
+  bad_asked words bad (Some s) = ap (option_and_then (asked_of s)) (bad_words s.syntax words s.syntax.places None bad)
 
-pub refused : (words : List Text) → list_all is_word (drop 1 words) ≡ false → command_of words ≡ None
-refused [] bad = refl
-refused (program ∷ []) bad = refl
-refused (program ∷ command ∷ words) bad = elim (cases_Bool (list_all is_word words)) [
-  | inl good ↦
-      let ill : is_word command ≡ false = elim (cases_Bool (is_word command)) [
-        | inl fine ↦ let wrong : true ≡ false = rw (fine, good) at bad in cc
-        | inr ill ↦ ill
-      ] in
-      ap (option_and_then (λ (s : Spelling). asked_in_words s words)) (bad_command command ill)
-  | inr ill ↦ bad_asked words ill (spelling_of command)
-]
+  -- nor does a bad name of a command
+  bad_command : (cs : List (Spoken A)) (command : Text) → AreNamed cs → is_word command ≡ false → spelling_of (map spelling_in cs) command ≡ None
+  bad_command [] command named bad = refl
+  bad_command (c ∷ cs) command named bad = elim (cases_Bool (bytes_eq c.grammar.name command)) [
+    | inl same ↦
+        let ill : true ≡ false = sym named.0 ∙ subst (λ (n : Text). is_word n ≡ false) (sym ((bytes_eq-Decides c.grammar.name command).0 same)) bad in cc
+    | inr other ↦ rw other (bad_command cs command named.1 bad)
+  ]
+
+  pub refused : (cs : List (Spoken A)) (words : List Text) → AreNamed cs → list_all is_word (drop 1 words) ≡ false → asked_among (map spelling_in cs) words ≡ None
+  refused cs [] named bad = refl
+  refused cs (program ∷ []) named bad = refl
+  refused cs (program ∷ command ∷ words) named bad = elim (cases_Bool (list_all is_word words)) [
+    | inl good ↦
+        let ill : is_word command ≡ false = elim (cases_Bool (is_word command)) [
+          | inl fine ↦ let wrong : true ≡ false = rw (fine, good) at bad in cc
+          | inr ill ↦ ill
+        ] in
+        ap (option_and_then (asked_in_words words)) (bad_command cs command named ill)
+    | inr ill ↦ bad_asked words ill (spelling_of (map spelling_in cs) command)
+  ]
 
 -- ---- what a parse that failed says
 
-pub by_kind : (kinds : Kinds) (e : Error) (w : WordsError) → HasKind kinds e → w ≡ refusal_of (kind_of e) → (w ≡ NoMemory) ⊎ (kinds ≡ [] → ⊥)
-by_kind kinds e w (inl memory) is = inl (is ∙ ap refusal_of memory)
-by_kind kinds e w (inr among) is = inr (λ empty. subst (λ (ks : Kinds). IsAmong (kind_of e) ks) empty among)
+pub by_kind : (are : Bool) (kinds : Kinds) (e : Error) (w : WordsError) → HasKind kinds e → w ≡ refusal_of (kind_of e) → (w ≡ NoMemory) ⊎ (are ≡ true → kinds ≡ [] → ⊥)
+by_kind are kinds e w (inl memory) is = inl (is ∙ ap refusal_of memory)
+by_kind are kinds e w (inr among) is = inr (λ good empty. subst (λ (ks : Kinds). IsAmong (kind_of e) ks) empty among)
 
 -- what `?` makes of an error
 pub failed : {T E : Type 0} (r : Result T E) {P Q : E → Type 0} → ((e : E) → P e → Q e) → IsErrAnd r P → IfErr r Q

@@ -10,7 +10,7 @@ use Rattle.clap.specs.declared.parser.matches.ValueSource.TheVariants.{CommandLi
 use Rattle.clap.specs.declared.builder.value_parser.Reading.TheVariants as reading
 use Rattle.clap.specs.declared.error.kind.ErrorKind.TheVariants as kind
 use Rattle.ro_words.specs.Uses.{Use, is_used}
-use Rattle.ro_words.proofs.Rules.{journal_built, value_rule}
+use Rattle.ro_words.proofs.Rules.{flag_built, value_rule}
 
 abbrev pub row : Use → Row
 row u = record {
@@ -66,12 +66,10 @@ pub no_value : (name : Text) (long : Option Text) (index : Option ℕ) (required
     → use_fault false (value_rule name long index required) [] xs ≡ kind.InvalidValue ∷ []
 no_value name long index required xs = refl
 
-pub first_flag : (xs : List Row) → has_row (codes "journal") xs ≡ false
-    → (use_fault false journal_built [] xs ≡ []) × (used journal_built [] xs ≡ xs ++ row (codes "journal", codes "true") ∷ [])
-first_flag xs none =
-    let name = codes "journal" in
-    (rw none refl, rw (without_none name xs none) (with_first name (codes "true" ∷ []) CommandLine xs none))
+pub first_flag : (name : Text) (xs : List Row) → has_row name xs ≡ false
+    → (use_fault false (flag_built name) [] xs ≡ []) × (used (flag_built name) [] xs ≡ xs ++ row (name, codes "true") ∷ [])
+first_flag name xs none = (rw none refl, rw (without_none name xs none) (with_first name (codes "true" ∷ []) CommandLine xs none))
 
-pub second_flag : (xs : List Row) → has_row (codes "journal") xs ≡ true
-    → use_fault false journal_built [] xs ≡ kind.ArgumentConflict ∷ []
-second_flag xs some = rw some refl
+pub second_flag : (name : Text) (xs : List Row) → has_row name xs ≡ true
+    → use_fault false (flag_built name) [] xs ≡ kind.ArgumentConflict ∷ []
+second_flag name xs some = rw some refl

@@ -1,11 +1,9 @@
 -- The arguments of a command as `clap` builds them.
-use Rattle.std.proofs.Common.{◌≡◌, ℕ, Bool, true, false, List, [], ◌∷◌, ◌++◌, Option, Some, None, refl, codes}
+use Rattle.std.proofs.Common.{ℕ, Bool, true, false, List, [], ◌∷◌, ◌++◌, Option, Some, None, codes}
 use Rattle.clap.specs.Walk.{Rule, Text}
-use Rattle.clap.specs.Simple.{Shape, is_simple, new_rule, new_shape}
-use Rattle.clap.specs.Faults.{is_simple_and_free}
+use Rattle.clap.specs.Simple.{Shape, new_rule, new_shape}
 use Rattle.clap.specs.declared.builder.action.ArgAction.TheVariants.{Set, SetTrue}
 use Rattle.clap.specs.declared.builder.value_parser.ValueParser.TheVariants as vp
-use Rattle.ro_words.specs.Grammar.{romain_app}
 
 -- an argument with one value of any text
 abbrev pub value_rule : Text → Option Text → Option ℕ → Bool → Rule
@@ -26,9 +24,10 @@ place_built name index = value_rule name None (Some index) true
 abbrev pub option_built : Text → (required : Bool) → Rule
 option_built name required = value_rule name (Some name) None required
 
-abbrev pub journal_built : Rule
-journal_built = record (new_rule (codes "journal")) {
-  long = Some (codes "journal");
+-- a flag
+abbrev pub flag_built : Text → Rule
+flag_built name = record (new_rule name) {
+  long = Some name;
   action = Some SetTrue;
   range = Some (record { start_inclusive = 0; end_inclusive = 0 });
   defaults = codes "false" ∷ [];
@@ -36,13 +35,23 @@ journal_built = record (new_rule (codes "journal")) {
   parser = Some vp.Bool;
 }
 
-unfoldable pub run_values : List Rule
-run_values = place_built (codes "exe") 1 ∷ option_built (codes "input") false ∷ option_built (codes "faults") false
+-- the options of a run that have a value
+unfoldable pub options_built : List Rule
+options_built = option_built (codes "input") false ∷ option_built (codes "faults") false
     ∷ option_built (codes "replicas") false ∷ option_built (codes "drivers") false ∷ option_built (codes "watchdog") false
     ∷ option_built (codes "quantum") false ∷ option_built (codes "limit") false ∷ []
 
+unfoldable pub run_values : List Rule
+run_values = place_built (codes "exe") 1 ∷ options_built
+
 unfoldable pub run_built : List Rule
-run_built = run_values ++ journal_built ∷ []
+run_built = run_values ++ flag_built (codes "journal") ∷ []
+
+unfoldable pub audit_values : List Rule
+audit_values = place_built (codes "exe") 1 ∷ option_built (codes "journal") true ∷ options_built
+
+unfoldable pub audit_built : List Rule
+audit_built = audit_values ++ flag_built (codes "json") ∷ []
 
 unfoldable pub plan_built : List Rule
 plan_built = place_built (codes "exe") 1 ∷ option_built (codes "plan") true ∷ option_built (codes "input") false ∷ []
@@ -61,9 +70,3 @@ leaf name rules = record (new_shape name) {
   disable_help_subcommand = true;
   is_built = true;
 }
-
-pub is_plain : is_simple romain_app ≡ true
-is_plain = refl
-
-pub is_plain_and_free : is_simple_and_free romain_app ≡ true
-is_plain_and_free = refl

@@ -1,5 +1,5 @@
 -- Where the walk of `clap` stands between two words, and what is said of the rest of it.
-use Rattle.std.proofs.Common.{◌≡◌, ◌∙◌, ◌⊎◌, ℕ, ◌+◌, Bool, true, false, List, [], ◌∷◌, ◌++◌, Option, Some, None, refl, ap, sym, subst, codes, inr}
+use Rattle.std.proofs.Common.{◌≡◌, ◌∙◌, ◌⊎◌, ℕ, ◌+◌, Bool, true, false, not, List, [], ◌∷◌, ◌++◌, Option, Some, None, refl, ap, sym, subst, codes, inr}
 use Rattle.std.specs.Str.{bytes_eq}
 use Rattle.std.proofs.lemmas.Bool.{or_parts}
 use Rattle.std.specs.List.{list_all, list_any}
@@ -8,9 +8,9 @@ use Rattle.clap.specs.Walk.{Held, Row, has_row, Text, idle, option, settled}
 use Rattle.clap.specs.Faults.{settle_fault}
 use Rattle.clap.specs.Kinds.{Kinds, or_else}
 use Rattle.clap.specs.declared.error.kind.ErrorKind.{ErrorKind}
-use Rattle.ro_words.specs.Uses.{Use, is_once, is_used, is_whole, uses_from, with_use}
-use Rattle.ro_words.proofs.Names.{AreFrom, Grammar, IsValued, journal_apart, valued_apart}
-use Rattle.ro_words.proofs.Once.{differ_twice, flag_text, flags_more, once_more, twice, used_more}
+use Rattle.ro_words.specs.Uses.{Use, is_flag, is_once, is_used, is_whole, uses_from, with_use}
+use Rattle.ro_words.proofs.Names.{AreFrom, Grammar, IsFlag, IsValued, flag_apart, valued_apart}
+use Rattle.ro_words.proofs.Once.{flag_text, flags_more, once_more, or_true, twice, used_more}
 use Rattle.ro_words.proofs.Ends.{final_rows}
 use Rattle.ro_words.proofs.Rows.{row, rows, used-row}
 use Rattle.ro_words.proofs.Steps.{at, end_rows, tail_fault}
@@ -43,7 +43,7 @@ module _ (g : Grammar) where
   -- the walk fails by `kinds`, or ends in these rows, and so do all the uses
   abbrev pub AnswersAll : List Use → Kinds → List Row → Type 0
   AnswersAll all kinds ends =
-      ((kinds ≡ []) × (is_whole g.syntax all ≡ true) × (list_all flag_text all ≡ true) × (ends ≡ final_rows g all))
+      ((kinds ≡ []) × (is_whole g.syntax all ≡ true) × (list_all (flag_text g.syntax.flag) all ≡ true) × (ends ≡ final_rows g all))
       ⊎ ((kinds ≡ [] → ⊥) × (is_whole g.syntax all ≡ false))
 
   -- the same, of the uses so far and those that are read from the words that follow
@@ -70,7 +70,7 @@ module _ (g : Grammar) where
   -- these places are left
   pub record Before (us : List Use) (left : List Text) (p : ℕ) : Type 0 where
     pub once : is_once us ≡ true
-    pub flags : list_all flag_text us ≡ true
+    pub flags : list_all (flag_text g.syntax.flag) us ≡ true
     pub unused : list_any (λ place. is_used place us) left ≡ false
     pub from : AreFrom g.syntax g.rules left p
 
@@ -107,7 +107,7 @@ module _ (g : Grammar) where
       let here = or_parts (is_used name us) (list_any (λ n. is_used n us) left) before.unused in
       record {
         once = once_more us _ before.once here.0;
-        flags = flags_more us (name, text) before.flags (rw (differ_twice (codes "journal") name before.from.0.journal) refl);
+        flags = flags_more g.syntax.flag us (name, text) before.flags (rw before.from.0.flag refl);
         unused = unused_more us (name, text) left here.1 before.from.0.later;
         from = before.from.1;
       }
@@ -116,16 +116,16 @@ module _ (g : Grammar) where
       → Before (us ++ (name, text) ∷ []) left p
   before_valued us left p name text before unused valued = record {
     once = once_more us _ before.once unused;
-    flags = flags_more us (name, text) before.flags (rw valued.journal refl);
+    flags = flags_more g.syntax.flag us (name, text) before.flags (rw valued.flag refl);
     unused = unused_more us (name, text) left before.unused (valued_apart g.syntax g.rules left p name before.from valued.takes);
     from = before.from;
   }
 
-  pub before_flag : (us : List Use) (left : List Text) (p : ℕ) → Before us left p → is_used (codes "journal") us ≡ false
-      → Before (us ++ (codes "journal", codes "true") ∷ []) left p
-  before_flag us left p before unused = record {
+  pub before_flag : (us : List Use) (left : List Text) (p : ℕ) (name : Text) → Before us left p → is_used name us ≡ false → IsFlag g.syntax g.rules name
+      → Before (us ++ (name, codes "true") ∷ []) left p
+  before_flag us left p name before unused flag = record {
     once = once_more us _ before.once unused;
-    flags = flags_more us (codes "journal", codes "true") before.flags refl;
-    unused = unused_more us (codes "journal", codes "true") left before.unused (journal_apart g.syntax g.rules left p before.from);
+    flags = flags_more g.syntax.flag us (name, codes "true") before.flags (or_true (not (is_flag g.syntax name)));
+    unused = unused_more us (name, codes "true") left before.unused (flag_apart g.syntax g.rules left p name before.from flag.named);
     from = before.from;
   }

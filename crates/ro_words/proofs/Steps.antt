@@ -1,5 +1,5 @@
 -- One word of the walk that `clap` makes over the words behind a command's name.
-use Rattle.std.proofs.Common.{◌≡◌, ℕ, ◌+◌, true, false, ◌==◌, List, [], ◌∷◌, Option, Some, None, refl, codes, inl, inr}
+use Rattle.std.proofs.Common.{◌≡◌, ℕ, ◌+◌, false, ◌==◌, List, [], ◌∷◌, Option, Some, None, refl, inl, inr}
 use Rattle.std.specs.Prelude.{fold}
 use Rattle.std.proofs.lemmas.Bool.{cases_Bool}
 use Rattle.std.proofs.lemmas.Slice.Eq.{bytes_eq-Decides}
@@ -8,8 +8,8 @@ use Rattle.clap.specs.Walk.{Held, Row, Text, Waiting, Walk, after_step, arg_by_i
 use Rattle.clap.specs.Faults.{check_fault, defaults_fault, level_fault, long_fault, settle_fault, step_fault, turn_fault, use_fault, walk_fault}
 use Rattle.clap.specs.Kinds.{Kinds, or_else}
 use Rattle.clap.specs.declared.error.kind.ErrorKind.TheVariants as kind
-use Rattle.ro_words.proofs.Names.{Grammar, IsPlace, IsValued}
-use Rattle.ro_words.proofs.Rules.{journal_built, leaf, option_built, place_built}
+use Rattle.ro_words.proofs.Names.{Grammar, IsFlag, IsPlace, IsValued}
+use Rattle.ro_words.proofs.Rules.{flag_built, leaf, option_built, place_built}
 
 abbrev pub at : Waiting → ℕ → Held → Walk
 at waiting position h = record { held = h; waiting = waiting; position = position; is_trailing = false; stopped = None }
@@ -140,15 +140,15 @@ module _ (g : Grammar) where
   waiting_walked p word name h valued = rw valued.by_long refl
 
   -- the flag
-  pub flag_fault : (may : g.syntax.journal ≡ true) (p : ℕ) (waiting : Waiting) (word : Text) (h : Held)
-      → option_fault_at p waiting word (codes "journal") None h
-      ≡ or_else (settle_fault g.rules false h) (use_fault false journal_built [] (settled g.rules h).rows)
-  flag_fault may p waiting word h = rw (g.flag may) (or_else-nil _)
+  pub flag_fault : (p : ℕ) (waiting : Waiting) (word name : Text) (h : Held) → IsFlag g.syntax g.rules name
+      → option_fault_at p waiting word name None h
+      ≡ or_else (settle_fault g.rules false h) (use_fault false (flag_built name) [] (settled g.rules h).rows)
+  flag_fault p waiting word name h flag = rw flag.by_long (or_else-nil _)
 
-  pub flag_walked : (may : g.syntax.journal ≡ true) (p : ℕ) (word : Text) (h : Held)
-      → option_walked_at p idle word (codes "journal") None h ≡ at idle p (reacted g.rules journal_built [] h)
-  flag_walked may p word h = rw (g.flag may) refl
+  pub flag_walked : (p : ℕ) (word name : Text) (h : Held) → IsFlag g.syntax g.rules name
+      → option_walked_at p idle word name None h ≡ at idle p (reacted g.rules (flag_built name) [] h)
+  flag_walked p word name h flag = rw flag.by_long refl
 
-  pub flag_value_fault : (may : g.syntax.journal ≡ true) (p : ℕ) (waiting : Waiting) (word value : Text) (h : Held)
-      → option_fault_at p waiting word (codes "journal") (Some value) h ≡ kind.TooManyValues ∷ []
-  flag_value_fault may p waiting word value h = rw (g.flag may) refl
+  pub flag_value_fault : (p : ℕ) (waiting : Waiting) (word name value : Text) (h : Held) → IsFlag g.syntax g.rules name
+      → option_fault_at p waiting word name (Some value) h ≡ kind.TooManyValues ∷ []
+  flag_value_fault p waiting word name value h flag = rw flag.by_long refl

@@ -1,6 +1,6 @@
 -- The command that words spell: its name, then its arguments in their order, with its options anywhere among them, each at most
 -- once.
-use Rattle.std.specs.Prelude.{ℕ, ◌-◌, ◌^◌, Bool, true, false, List, [], ◌∷◌, Option, Some, None, codes}
+use Rattle.std.specs.Prelude.{ℕ, ◌-◌, ◌^◌, Bool, false, List, [], ◌∷◌, Option, Some, None, codes}
 use Rattle.std.specs.Prelude.{◌==◌, ◌||◌, if◌then◌else◌, option_and_then, option_map, find, IfSome}
 use denote.Bor.{Bor}
 use Rattle.std.specs.Str.{bytes_eq}
@@ -8,7 +8,8 @@ use Rattle.std.specs.Str.Parse.{digits_value, without_leading_plus}
 use Rattle.clap.specs.ValueTests.{is_unsigned_in}
 use Rattle.ro_settings.specs.declared.Settings.{Settings}
 use Rattle.ro_settings.specs.Ranges.{InRange, IsFrom, default_settings}
-use Rattle.ro_words.specs.Uses.{Text, Use, Syntax, is_used, is_whole, text_of, uses_from}
+use Rattle.ro_words.specs.Uses.{Text, Use, Syntax, has_flag, is_whole, text_of, uses_from}
+use Rattle.ro_words.specs.declared.commands.AuditCommand.{AuditCommand}
 use Rattle.ro_words.specs.declared.commands.Command.{Command}
 use Rattle.ro_words.specs.declared.commands.Command.TheVariants.{Run, Plain, Races, Inject, Bench}
 use Rattle.ro_words.specs.declared.commands.BenchCommand.{BenchCommand}
@@ -105,6 +106,12 @@ pub record AskedBench : Type 0 where
   pub seed : ℕ
   pub size : ℕ
 
+-- the audit of a journal, of the run that it is said to be of
+pub record AskedAudit : Type 0 where
+  pub run : AskedRun
+  pub journal : Text
+  pub json : Bool
+
 -- what is asked for
 pub data Asked : Type 0 where
   to_run : AskedRun → Asked
@@ -123,20 +130,34 @@ usual_run executable = record {
   journal = false;
 }
 
--- ---- what each asks for, from the texts that are given under the names, and whether `--journal` is
+-- the audit of a journal of that run
+abbrev pub usual_audit : (executable journal : Text) → AskedAudit
+usual_audit executable journal = record { run = usual_run executable; journal = journal; json = false }
 
-abbrev pub run_from : Option Text → Option Settings → (Text → Option Text) → Bool → Option Asked
-run_from (Some executable) (Some settings) given journal = Some (to_run (record {
+-- ---- what each asks for, from the texts that are given under the names, and whether its flag is
+
+abbrev pub run_from : Option Text → Option Settings → (Text → Option Text) → Bool → Option AskedRun
+run_from (Some executable) (Some settings) given journal = Some (record {
   executable = executable;
   input = given (codes "input");
   faults = given (codes "faults");
   settings = settings;
   journal = journal;
-}))
+})
 run_from _ _ given journal = None
 
+abbrev pub asked_run : (Text → Option Text) → (journal : Bool) → Option AskedRun
+asked_run given journal = run_from (given (codes "exe")) (settings_of given) given journal
+
 abbrev pub run_given : (Text → Option Text) → Bool → Option Asked
-run_given given journal = run_from (given (codes "exe")) (settings_of given) given journal
+run_given given journal = option_map (λ run. to_run run) (asked_run given journal)
+
+abbrev pub audit_from : Option AskedRun → Option Text → (json : Bool) → Option AskedAudit
+audit_from (Some run) (Some journal) json = Some (record { run = run; journal = journal; json = json })
+audit_from _ _ json = None
+
+abbrev pub audit_given : (Text → Option Text) → Bool → Option AskedAudit
+audit_given given json = audit_from (asked_run given false) (given (codes "journal")) json
 
 abbrev pub plan_from : Option Text → Option Text → Option Text → Option AskedPlan
 plan_from (Some executable) (Some plan) input = Some (record { executable = executable; plan = plan; input = input })
@@ -146,10 +167,10 @@ abbrev pub plan_given : (Text → Option Text) → Option AskedPlan
 plan_given given = plan_from (given (codes "exe")) (given (codes "plan")) (given (codes "input"))
 
 abbrev pub plain_given : (Text → Option Text) → Bool → Option Asked
-plain_given given journal = option_map (λ plan. to_plain plan) (plan_given given)
+plain_given given flag = option_map (λ plan. to_plain plan) (plan_given given)
 
 abbrev pub races_given : (Text → Option Text) → Bool → Option Asked
-races_given given journal = option_map (λ plan. to_races plan) (plan_given given)
+races_given given flag = option_map (λ plan. to_races plan) (plan_given given)
 
 abbrev pub inject_from : Option ℕ → Option ℕ → Option Text → Option (Option ℕ) → Option Asked
 inject_from (Some seed) (Some count) (Some executable) (Some replica) =
@@ -157,7 +178,7 @@ inject_from (Some seed) (Some count) (Some executable) (Some replica) =
 inject_from _ _ _ _ = None
 
 abbrev pub inject_given : (Text → Option Text) → Bool → Option Asked
-inject_given given journal = inject_from (given_number 0 (2 ^ 64 - 1) (given (codes "seed"))) (given_number 1 256 (given (codes "count")))
+inject_given given flag = inject_from (given_number 0 (2 ^ 64 - 1) (given (codes "seed"))) (given_number 1 256 (given (codes "count")))
     (given (codes "exe")) (maybe_number 0 4 (given (codes "replica")))
 
 abbrev pub bench_from : Option ℕ → Option ℕ → Option Asked
@@ -165,74 +186,96 @@ bench_from (Some seed) (Some size) = Some (to_bench (record { seed = seed; size 
 bench_from _ _ = None
 
 abbrev pub bench_given : (Text → Option Text) → Bool → Option Asked
-bench_given given journal = bench_from (given_number 0 (2 ^ 64 - 1) (given (codes "seed"))) (given_number 1 2000 (given (codes "size")))
+bench_given given flag = bench_from (given_number 0 (2 ^ 64 - 1) (given (codes "seed"))) (given_number 1 2000 (given (codes "size")))
 
 -- ---- how each is spelled
 
 -- a command's name, what may stand behind it, and what it asks for
-pub record Spelling : Type 0 where
+pub record Spelling (A : Type 0) : Type 0 where
   pub name : Text
   pub syntax : Syntax
-  pub given : (Text → Option Text) → Bool → Option Asked
+  pub given : (Text → Option Text) → Bool → Option A
+
+-- the options of a run that have a value
+abbrev pub run_options : List Text
+run_options = codes "input" ∷ codes "faults" ∷ codes "replicas" ∷ codes "drivers" ∷ codes "watchdog" ∷ codes "quantum"
+    ∷ codes "limit" ∷ []
 
 abbrev pub run_syntax : Syntax
-run_syntax = record {
+run_syntax = record { places = codes "exe" ∷ []; needed = []; valued = run_options; flag = Some (codes "journal") }
+
+-- an executable and a journal that is said to be of its run
+abbrev pub audit_syntax : Syntax
+audit_syntax = record {
   places = codes "exe" ∷ [];
-  needed = [];
-  valued = codes "input" ∷ codes "faults" ∷ codes "replicas" ∷ codes "drivers" ∷ codes "watchdog" ∷ codes "quantum"
-      ∷ codes "limit" ∷ [];
-  journal = true;
+  needed = codes "journal" ∷ [];
+  valued = run_options;
+  flag = Some (codes "json");
 }
 
 -- an executable and a journal whose plan it is to follow
 abbrev pub plan_syntax : Syntax
-plan_syntax = record { places = codes "exe" ∷ []; needed = codes "plan" ∷ []; valued = codes "input" ∷ []; journal = false }
+plan_syntax = record { places = codes "exe" ∷ []; needed = codes "plan" ∷ []; valued = codes "input" ∷ []; flag = None }
 
 abbrev pub inject_syntax : Syntax
 inject_syntax = record {
   places = codes "seed" ∷ codes "count" ∷ codes "exe" ∷ [];
   needed = [];
   valued = codes "replica" ∷ [];
-  journal = false;
+  flag = None;
 }
 
 abbrev pub bench_syntax : Syntax
-bench_syntax = record { places = codes "seed" ∷ codes "size" ∷ []; needed = []; valued = []; journal = false }
+bench_syntax = record { places = codes "seed" ∷ codes "size" ∷ []; needed = []; valued = []; flag = None }
 
-abbrev pub run_spelling : Spelling
+abbrev pub run_spelling : Spelling Asked
 run_spelling = record { name = codes "run"; syntax = run_syntax; given = run_given }
 
-abbrev pub plain_spelling : Spelling
+abbrev pub plain_spelling : Spelling Asked
 plain_spelling = record { name = codes "plain"; syntax = plan_syntax; given = plain_given }
 
-abbrev pub races_spelling : Spelling
+abbrev pub races_spelling : Spelling Asked
 races_spelling = record { name = codes "races"; syntax = plan_syntax; given = races_given }
 
-abbrev pub inject_spelling : Spelling
+abbrev pub inject_spelling : Spelling Asked
 inject_spelling = record { name = codes "inject"; syntax = inject_syntax; given = inject_given }
 
-abbrev pub bench_spelling : Spelling
+abbrev pub bench_spelling : Spelling Asked
 bench_spelling = record { name = codes "bench"; syntax = bench_syntax; given = bench_given }
 
-abbrev pub spellings : List Spelling
+abbrev pub spellings : List (Spelling Asked)
 spellings = run_spelling ∷ plain_spelling ∷ races_spelling ∷ inject_spelling ∷ bench_spelling ∷ []
 
+abbrev pub audit_spelling : Spelling AskedAudit
+audit_spelling = record { name = codes "audit"; syntax = audit_syntax; given = audit_given }
+
+abbrev pub audit_spellings : List (Spelling AskedAudit)
+audit_spellings = audit_spelling ∷ []
+
 -- what the uses ask for, where they are whole
-abbrev pub asked_of : Spelling → List Use → Option Asked
-asked_of s uses = if is_whole s.syntax uses then s.given (text_of uses) (is_used (codes "journal") uses) else None
+abbrev pub asked_of : {A : Type 0} → Spelling A → List Use → Option A
+asked_of s uses = if is_whole s.syntax uses then s.given (text_of uses) (has_flag s.syntax uses) else None
 
 -- what the words behind the command's name ask for
-abbrev pub asked_in_words : Spelling → List Text → Option Asked
-asked_in_words s words = option_and_then (asked_of s) (uses_from s.syntax words s.syntax.places None)
+abbrev pub asked_in_words : {A : Type 0} → List Text → Spelling A → Option A
+asked_in_words words s = option_and_then (asked_of s) (uses_from s.syntax words s.syntax.places None)
 
--- the command of this name
-abbrev pub spelling_of : Text → Option Spelling
-spelling_of command = find (λ s. bytes_eq s.name command) spellings
+-- the one of this name
+abbrev pub spelling_of : {A : Type 0} → List (Spelling A) → Text → Option (Spelling A)
+spelling_of all command = find (λ s. bytes_eq s.name command) all
 
--- the command that the words spell, of which the first is the program's name
+-- what the words ask for where these are the commands; the first word is the program's name
+abbrev pub asked_among : {A : Type 0} → List (Spelling A) → List Text → Option A
+asked_among all (program ∷ command ∷ words) = option_and_then (asked_in_words words) (spelling_of all command)
+asked_among all words = None
+
+-- the command that the words spell
 abbrev pub command_of : List Text → Option Asked
-command_of (program ∷ command ∷ words) = option_and_then (λ s. asked_in_words s words) (spelling_of command)
-command_of words = None
+command_of = asked_among spellings
+
+-- the audit that the words spell
+abbrev pub audit_of : List Text → Option AskedAudit
+audit_of = asked_among audit_spellings
 
 -- ---- the commands of the code
 
@@ -247,6 +290,9 @@ run_by run = record {
   settings = run.settings;
   journal = run.journal;
 }
+
+abbrev pub audit_by : AuditCommand → AskedAudit
+audit_by audit = record { run = run_by audit.run; journal = audit.journal.now; json = audit.json }
 
 abbrev pub plan_by : PlanCommand → AskedPlan
 plan_by plan = record { executable = plan.executable.now; plan = plan.plan.now; input = text_in plan.input }
@@ -272,6 +318,9 @@ Fits (to_plain plain) = Unit {0}
 Fits (to_races races) = Unit {0}
 Fits (to_inject inject) = IsFrom 1 256 inject.count × IfSome inject.replica (IsFrom 0 4)
 Fits (to_bench bench) = IsFrom 1 2000 bench.size
+
+abbrev pub AuditFits : AskedAudit → Type 0
+AuditFits audit = InRange audit.run.settings
 
 -- what a parse that failed says of the words
 abbrev pub refusal_of : ErrorKind → WordsError

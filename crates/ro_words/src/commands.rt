@@ -1,15 +1,16 @@
 //! Commands, and the words that spell them.
-ghost use Rattle.clap.specs.Faults.{fault_of};
+ghost use Rattle.clap.specs.Faults.{fault_of, is_simple_and_free};
 ghost use Rattle.clap.specs.Matches.{first_value, found_of, one_text};
-ghost use Rattle.clap.specs.Simple.{subcommand_of, subcommand_rows_of};
+ghost use Rattle.clap.specs.Simple.{app_of, subcommand_of, subcommand_rows_of};
 ghost use Rattle.clap.specs.Values.{bool_text, kind_of};
 ghost use Rattle.clap.specs.Walk.{Row, first_of, one_of};
-ghost use Rattle.ro_words.specs.Commands.{Fits, asked_by, bench_given, command_of, inject_given, plain_given, plan_by, plan_given, races_given, refusal_of, run_given};
-ghost use Rattle.ro_words.specs.Grammar.{romain_app};
-ghost use Rattle.ro_words.specs.Uses.{texts_of};
-ghost use Rattle.std.specs.Prelude.{◌≡◌, ◌≢◌, ◌⊎◌, Bool, List, IfErr, IfOk, IfSome, None, Some, [], codes, false, option_map};
+ghost use Rattle.ro_settings.specs.Ranges.{InRange};
+ghost use Rattle.ro_words.specs.Commands.{AuditFits, Fits, asked_by, asked_run, audit_by, audit_given, audit_of, bench_given, command_of, inject_given, plain_given, plan_by, plan_given, races_given, refusal_of, run_by, run_given};
+ghost use Rattle.ro_words.specs.Uses.{is_word, texts_of};
+ghost use Rattle.std.specs.List.{list_all};
+ghost use Rattle.std.specs.Prelude.{◌≡◌, ◌≢◌, ◌⊎◌, Bool, List, IfErr, IfOk, IfSome, None, Some, [], codes, drop, false, option_map, true};
 
-use crate::grammar::grammar;
+use crate::grammar::{audit_line, grammar};
 use crate::settings::{maybe_within, number_in, number_within, settings_of};
 use crate::shapes::are_words;
 use clap::ArgMatches;
@@ -44,6 +45,17 @@ pub struct RunCommand<'a> {
     pub settings: Settings,
     /// Whether the journal is to be reported.
     pub journal: bool,
+}
+
+/// A journal that is to be audited.
+#[derive(Clone, Copy, PartialEq, Eq, Debug)]
+pub struct AuditCommand<'a> {
+    /// The run that it is said to be of.
+    pub run: RunCommand<'a>,
+    /// The name of the file with the journal.
+    pub journal: &'a str,
+    /// Whether JSON is asked for.
+    pub json: bool,
 }
 
 /// The plan of a journal that is to be followed on the unreplicated machine.
@@ -115,22 +127,38 @@ pub fn parse_words<'a>(alloc: Global, words: &'a [&'a str]) -> Result<Command<'a
     ensures refused { IfErr result (λ error. (error ≡ WordsError.NoMemory) ⊎ (command_of (texts_of words.entry.now) ≡ None)) }
     ensures in_range { IfOk result (λ command. Fits (asked_by command)) }
 {
-    if !are_words(words) {
-        return Err(WordsError::Bad);
-    }
-    let matches = matches_of(alloc, words)?;
+    let matches = matches_of(grammar(alloc)?, words)?;
     command_in(&matches).ok_or(WordsError::Bad)
 }
 
-// What `clap` finds in the words.
-fn matches_of<'a>(alloc: Global, words: &'a [&'a str]) -> Result<ArgMatches<'a>, WordsError>
-    ensures parsed { IfOk result (λ matches. fault_of romain_app (texts_of words.entry.now) ≡ []) }
-    ensures rows { IfOk result (λ matches.
-        subcommand_rows_of matches ≡ subcommand_of romain_app (texts_of words.entry.now)) }
-    ensures refused { IfErr result (λ error.
-        (error ≡ WordsError.NoMemory) ⊎ (fault_of romain_app (texts_of words.entry.now) ≢ [])) }
+/// The audit that the words spell, of which the first is the program's name.
+pub fn parse_audit<'a>(alloc: Global, words: &'a [&'a str]) -> Result<AuditCommand<'a>, WordsError>
+    ensures spelled { IfOk result (λ audit. audit_of (texts_of words.entry.now) ≡ Some (audit_by audit)) }
+    ensures refused { IfErr result (λ error. (error ≡ WordsError.NoMemory) ⊎ (audit_of (texts_of words.entry.now) ≡ None)) }
+    ensures in_range { IfOk result (λ audit. AuditFits (audit_by audit)) }
 {
-    Ok(grammar(alloc)?.try_get_matches_from(words)?)
+    let matches = matches_of(audit_line(alloc)?, words)?;
+    audit_in(&matches).ok_or(WordsError::Bad)
+}
+
+// What `clap` finds in the words, where each of them may stand in a command.
+fn matches_of<'a>(
+    grammar: clap::Command<'a>,
+    words: &'a [&'a str],
+) -> Result<ArgMatches<'a>, WordsError>
+    requires { is_simple_and_free (app_of grammar) ≡ true }
+    ensures words { IfOk result (λ matches. list_all is_word (drop 1 (texts_of words.entry.now)) ≡ true) }
+    ensures parsed { IfOk result (λ matches. fault_of (app_of grammar.entry) (texts_of words.entry.now) ≡ []) }
+    ensures rows { IfOk result (λ matches.
+        subcommand_rows_of matches ≡ subcommand_of (app_of grammar.entry) (texts_of words.entry.now)) }
+    ensures refused { IfErr result (λ error.
+        (error ≡ WordsError.NoMemory)
+        ⊎ ((list_all is_word (drop 1 (texts_of words.entry.now)) ≡ true) → (fault_of (app_of grammar.entry) (texts_of words.entry.now) ≢ []))) }
+{
+    if !are_words(words) {
+        return Err(WordsError::Bad);
+    }
+    Ok(grammar.try_get_matches_from(words)?)
 }
 
 // The command that the matches ask for.
@@ -167,13 +195,45 @@ fn run_command<'a>(matches: &ArgMatches<'a>) -> Option<Command<'a>>
         → option_map asked_by result ≡ run_given (first_value (found_of matches.now)) journal }
     ensures in_range { IfSome result (λ command. Fits (asked_by command)) }
 {
-    Some(Command::Run(RunCommand {
+    let journal = matches.get_flag("journal");
+    Some(Command::Run(run_in(matches, journal)?))
+}
+
+// The audit that the matches ask for.
+fn audit_in<'a>(matches: &ArgMatches<'a>) -> Option<AuditCommand<'a>>
+    ensures audit { (rows : List Row) (json : Bool) → subcommand_rows_of matches.now ≡ Some (codes "audit", rows)
+        → one_of (codes "json") rows ≡ Some (bool_text json)
+        → option_map audit_by result ≡ audit_given (λ name. first_of name rows) json }
+    ensures in_range { IfSome result (λ audit. AuditFits (audit_by audit)) }
+{
+    audit_command(matches.subcommand_matches("audit")?)
+}
+
+// The same, of the words behind the command's name.
+fn audit_command<'a>(matches: &ArgMatches<'a>) -> Option<AuditCommand<'a>>
+    ensures asked { (json : Bool) → one_text (found_of matches.now) (codes "json") ≡ Some (bool_text json)
+        → option_map audit_by result ≡ audit_given (first_value (found_of matches.now)) json }
+    ensures in_range { IfSome result (λ audit. AuditFits (audit_by audit)) }
+{
+    Some(AuditCommand {
+        run: run_in(matches, false)?,
+        journal: matches.get_str("journal")?,
+        json: matches.get_flag("json"),
+    })
+}
+
+// The run of an executable that the matches name, with or without its journal.
+fn run_in<'a>(matches: &ArgMatches<'a>, journal: bool) -> Option<RunCommand<'a>>
+    ensures asked { option_map run_by result ≡ asked_run (first_value (found_of matches.now)) journal }
+    ensures in_range { IfSome result (λ run. InRange run.settings) }
+{
+    Some(RunCommand {
         executable: matches.get_str("exe")?,
         input: matches.get_str("input"),
         faults: matches.get_str("faults"),
         settings: settings_of(matches)?,
-        journal: matches.get_flag("journal"),
-    }))
+        journal,
+    })
 }
 
 // The run of a plan that the matches ask for.

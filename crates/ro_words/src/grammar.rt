@@ -1,20 +1,18 @@
 //! What `clap` is asked to read.
-ghost use Rattle.ro_words.specs.Grammar.{Reads, app_of_shape, journal_rule, needed_rule, option_rule, place_rule, romain_app, shape_of};
-ghost use Rattle.ro_words.specs.Commands.{bench_syntax, inject_syntax, plan_syntax, run_syntax};
+ghost use Rattle.ro_words.specs.Grammar.{Reads, app_of_shape, audit_app, empty_line, flag_rule, needed_rule, option_rule, place_rule, romain_app, shape_of, with_run_options};
+ghost use Rattle.ro_words.specs.Commands.{audit_syntax, bench_syntax, inject_syntax, plan_syntax, run_syntax};
 ghost use Rattle.std.specs.Prelude.{◌≡◌, false, codes, IfOk};
+ghost use Rattle.clap.specs.Simple.{App};
 ghost use Rattle.clap.specs.Words.{rule_of};
 
 use clap::{Arg, ArgAction, Command};
 use std::alloc::{AllocError, Global};
 
-// The whole command line. No word asks for help: such a word is as bad as any other.
+// The whole command line of `romain`.
 pub(crate) fn grammar<'a>(alloc: Global) -> Result<Command<'a>, AllocError>
     ensures { IfOk result (Reads romain_app) }
 {
-    Command::new(alloc, "romain")
-        .disable_help_flag(true)
-        .disable_help_subcommand(true)
-        .subcommand_required(true)
+    line(alloc)
         .subcommand(run_grammar(alloc)?)?
         .subcommand(plan_grammar(alloc, "plain")?)?
         .subcommand(plan_grammar(alloc, "races")?)?
@@ -22,20 +20,53 @@ pub(crate) fn grammar<'a>(alloc: Global) -> Result<Command<'a>, AllocError>
         .subcommand(bench_grammar(alloc)?)
 }
 
+// That of an audit.
+pub(crate) fn audit_line<'a>(alloc: Global) -> Result<Command<'a>, AllocError>
+    ensures { IfOk result (Reads audit_app) }
+{
+    line(alloc).subcommand(audit_grammar(alloc)?)
+}
+
+// A command line before it has commands. No word asks for help: such a word is as bad as any other.
+fn line<'a>(alloc: Global) -> Command<'a>
+    ensures { Reads empty_line result }
+{
+    Command::new(alloc, "romain")
+        .disable_help_flag(true)
+        .disable_help_subcommand(true)
+        .subcommand_required(true)
+}
+
 // `run EXE` and its options.
 fn run_grammar<'a>(alloc: Global) -> Result<Command<'a>, AllocError>
     ensures { IfOk result (Reads (app_of_shape (shape_of (codes "run") run_syntax))) }
 {
-    Command::new(alloc, "run")
+    let run = Command::new(alloc, "run").arg(place(alloc, "exe"))?;
+    run_options(alloc, run)?.arg(flag(alloc, "journal"))
+}
+
+// `audit EXE --journal F` and its options.
+fn audit_grammar<'a>(alloc: Global) -> Result<Command<'a>, AllocError>
+    ensures { IfOk result (Reads (app_of_shape (shape_of (codes "audit") audit_syntax))) }
+{
+    let audit = Command::new(alloc, "audit")
         .arg(place(alloc, "exe"))?
+        .arg(needed(alloc, "journal"))?;
+    run_options(alloc, audit)?.arg(flag(alloc, "json"))
+}
+
+// The command with the options of a run that have a value.
+fn run_options<'a>(alloc: Global, command: Command<'a>) -> Result<Command<'a>, AllocError>
+    ensures { (app : App) → Reads app command.entry → IfOk result (Reads (with_run_options app)) }
+{
+    command
         .arg(option(alloc, "input"))?
         .arg(option(alloc, "faults"))?
         .arg(option(alloc, "replicas"))?
         .arg(option(alloc, "drivers"))?
         .arg(option(alloc, "watchdog"))?
         .arg(option(alloc, "quantum"))?
-        .arg(option(alloc, "limit"))?
-        .arg(journal(alloc))
+        .arg(option(alloc, "limit"))
 }
 
 // A command `NAME EXE --plan F`, and its option.
@@ -92,12 +123,10 @@ fn place<'a>(alloc: Global, name: &'a str) -> Arg<'a>
     Arg::new(alloc, name).required(true)
 }
 
-// The flag that asks for the journal.
-fn journal<'a>(alloc: Global) -> Arg<'a>
-    ensures rule { rule_of result ≡ journal_rule }
+// An option that takes no value.
+fn flag<'a>(alloc: Global, name: &'a str) -> Arg<'a>
+    ensures rule { rule_of result ≡ flag_rule name.entry.now }
     ensures local { result.global ≡ false }
 {
-    Arg::new(alloc, "journal")
-        .long("journal")
-        .action(ArgAction::SetTrue)
+    Arg::new(alloc, name).long(name).action(ArgAction::SetTrue)
 }

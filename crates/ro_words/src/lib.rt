@@ -10,9 +10,13 @@ mod settings;
 mod shapes;
 
 pub use commands::{
-    BenchCommand, Command, InjectCommand, PlanCommand, RunCommand, WordsError, parse_words,
+    AuditCommand, BenchCommand, Command, InjectCommand, PlanCommand, RunCommand, WordsError,
+    parse_audit, parse_words,
 };
-pub use laws::{numbers_lie_in_range, order_is_free, run_alone_is_usual, spellings_agree};
+pub use laws::{
+    audit_alone_is_usual, commands_are_apart, numbers_lie_in_range, order_is_free,
+    run_alone_is_usual, spellings_agree,
+};
 
 #[cfg(test)]
 mod tests;

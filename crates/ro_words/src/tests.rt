@@ -309,6 +309,8 @@ const NOT_COMMANDS: &[&[&str]] = &[
         "1234567890123456789012345678901234567890",
     ],
     &["romain", "run", "p0", "--plan", "j"],
+    &["romain", "run", "p0", "--json"],
+    &["romain", "audit", "p0", "--journal", "j"],
     &["romain", "plain", "p0"],
     &["romain", "plain", "--plan", "j"],
     &["romain", "plain", "p0", "--plan", "j", "--plan", "j"],
@@ -339,6 +341,158 @@ fn refuses(rt: HostRuntime) {
     for words in NOT_COMMANDS {
         assert_eq!(rt;
             parse_words(rt.alloc(), words),
+            Err(WordsError::Bad),
+            "of {words:?}"
+        );
+    }
+}
+
+// An audit that words spell.
+struct AuditRow {
+    words: &'static [&'static str],
+    audit: AuditCommand<'static>,
+}
+
+const USUAL_AUDIT: AuditCommand<'static> = AuditCommand {
+    run: USUAL,
+    journal: "j",
+    json: false,
+};
+
+const AUDITS: &[AuditRow] = &[
+    AuditRow {
+        words: &["romain", "audit", "p0", "--journal", "j"],
+        audit: USUAL_AUDIT,
+    },
+    AuditRow {
+        words: &["", "audit", "--journal=j", "p0"],
+        audit: USUAL_AUDIT,
+    },
+    AuditRow {
+        words: &["romain", "audit", "--journal", "run", "audit"],
+        audit: AuditCommand {
+            run: RunCommand {
+                executable: "audit",
+                ..USUAL
+            },
+            journal: "run",
+            json: false,
+        },
+    },
+    AuditRow {
+        words: &["romain", "audit", "--json", "p0", "--journal", "j"],
+        audit: AuditCommand {
+            json: true,
+            ..USUAL_AUDIT
+        },
+    },
+    AuditRow {
+        words: &["romain", "audit", "--journal=a=b", "p0", "--json"],
+        audit: AuditCommand {
+            journal: "a=b",
+            json: true,
+            ..USUAL_AUDIT
+        },
+    },
+    AuditRow {
+        words: &[
+            "romain",
+            "audit",
+            "--limit=500",
+            "--journal",
+            "j",
+            "--faults",
+            "g",
+            "p0",
+            "--watchdog=200",
+            "--input",
+            "f",
+            "--replicas",
+            "5",
+            "--json",
+            "--quantum=7",
+            "--drivers",
+            "1",
+        ],
+        audit: AuditCommand {
+            run: RunCommand {
+                input: Some("f"),
+                faults: Some("g"),
+                settings: Settings {
+                    replicas: 5,
+                    drivers: 1,
+                    watchdog: 200,
+                    quantum: 7,
+                    limit: 500,
+                },
+                ..USUAL
+            },
+            journal: "j",
+            json: true,
+        },
+    },
+];
+
+#[test]
+fn spells_audits(rt: HostRuntime) {
+    for row in AUDITS {
+        let words = row.words;
+        assert_eq!(rt;
+            parse_audit(rt.alloc(), words),
+            Ok(row.audit),
+            "of {words:?}"
+        );
+    }
+}
+
+const NOT_AUDITS: &[&[&str]] = &[
+    &[],
+    &["romain"],
+    &["romain", "audit"],
+    &["romain", "--help"],
+    &["romain", "help"],
+    &["romain", "run", "p0", "--journal"],
+    &["romain", "run", "p0", "--journal", "j"],
+    &["romain", "plain", "p0", "--plan", "j"],
+    &["romain", "p0", "audit", "--journal", "j"],
+    &["romain", "audit", "p0"],
+    &["romain", "audit", "p0", "--json"],
+    &["romain", "audit", "--journal", "j"],
+    &["romain", "audit", "p0", "--journal"],
+    &["romain", "audit", "p0", "--journal="],
+    &["romain", "audit", "p0", "--journal", ""],
+    &["romain", "audit", "p0", "--journal", "-j"],
+    &["romain", "audit", "p0", "--journal=-j"],
+    &["romain", "audit", "p0", "--journal", "--json"],
+    &["romain", "audit", "p0", "--journal", "--json", "j"],
+    &["romain", "audit", "p0", "--journal", "j", "--journal", "j"],
+    &["romain", "audit", "p0", "--journal", "j", "--journal=j"],
+    &[
+        "romain",
+        "audit",
+        "p0",
+        "--journal",
+        "j",
+        "--json",
+        "--json",
+    ],
+    &["romain", "audit", "p0", "--journal", "j", "--json=true"],
+    &["romain", "audit", "p0", "--journal", "j", "--json", "x"],
+    &["romain", "audit", "p0", "--journal", "j", "q0"],
+    &["romain", "audit", "p0", "--journal", "j", "--plan", "k"],
+    &["romain", "audit", "", "--journal", "j"],
+    &["romain", "audit", "p0", "--journal", "j", "--replicas", "4"],
+    &["romain", "audit", "p0", "--journal", "j", "--drivers=9"],
+    &["romain", "audit", "p0", "--journal", "j", "--watchdog=99"],
+    &["romain", "audit", "p0", "--journal", "j", "--quantum", "0"],
+    &["romain", "audit", "p0", "--journal", "j", "--limit", "many"],
+];
+
+#[test]
+fn refuses_audits(rt: HostRuntime) {
+    for words in NOT_AUDITS {
+        assert_eq!(rt;
+            parse_audit(rt.alloc(), words),
             Err(WordsError::Bad),
             "of {words:?}"
         );

@@ -1,11 +1,10 @@
 use Rattle.std.proofs.lemmas.Result.{IfOk-weaker}
-use Rattle.ro_words.proofs.Grown.{adds_subcommand, is_top}
+use Rattle.ro_words.proofs.Grown.{adds_subcommand}
 use Rattle.ro_words.proofs.grammar.grammar.Goals as goal
 
 pub returns : goal.returns
 returns c =
-    let top = is_top _ _ _ _ _ (c.new.ensures.app, c.new.ensures.local) c.disable_help_flag.ensures c.disable_help_subcommand.ensures c.subcommand_required.ensures in
-    let run = adds_subcommand _ _ _ _ _ c.in_ok-subcommand.ensures top c.in_ok-run_grammar.ensures in
+    let run = adds_subcommand _ _ _ _ _ c.in_ok-subcommand.ensures c.line.ensures c.in_ok-run_grammar.ensures in
     let plain = adds_subcommand _ _ _ _ _ c.in_ok-subcommand-2.ensures run c.in_ok-plan_grammar.ensures in
     let races = adds_subcommand _ _ _ _ _ c.in_ok-subcommand-3.ensures plain c.in_ok-plan_grammar-2.ensures in
     let inject = adds_subcommand _ _ _ _ _ c.in_ok-subcommand-4.ensures races c.in_ok-inject_grammar.ensures in

@@ -4,12 +4,6 @@ use Rattle.ro_words.proofs.grammar.run_grammar.Goals as goal
 
 pub returns : goal.returns
 returns c =
-    let none = adds_arg _ _ _ _ _ c.in_ok-arg.ensures (c.new.ensures.app, c.new.ensures.local) c.place.ensures.rule c.place.ensures.local in
-    let a = adds_arg _ _ _ _ _ c.in_ok-arg-2.ensures none c.option.ensures.rule c.option.ensures.local in
-    let b = adds_arg _ _ _ _ _ c.in_ok-arg-3.ensures a c.option-2.ensures.rule c.option-2.ensures.local in
-    let d = adds_arg _ _ _ _ _ c.in_ok-arg-4.ensures b c.option-3.ensures.rule c.option-3.ensures.local in
-    let e = adds_arg _ _ _ _ _ c.in_ok-arg-5.ensures d c.option-4.ensures.rule c.option-4.ensures.local in
-    let f = adds_arg _ _ _ _ _ c.in_ok-arg-6.ensures e c.option-5.ensures.rule c.option-5.ensures.local in
-    let g = adds_arg _ _ _ _ _ c.in_ok-arg-7.ensures f c.option-6.ensures.rule c.option-6.ensures.local in
-    let h = adds_arg _ _ _ _ _ c.in_ok-arg-8.ensures g c.option-7.ensures.rule c.option-7.ensures.local in
-    IfOk-weaker c.arg-9.result _ _ (λ command added. adds_arg _ command _ _ _ added h c.journal.ensures.rule c.journal.ensures.local) c.arg-9.ensures
+    let run = adds_arg _ _ _ _ _ c.in_ok-run.ensures (c.new.ensures.app, c.new.ensures.local) c.place.ensures.rule c.place.ensures.local in
+    let options = c.in_ok-run_options.ensures _ run in
+    IfOk-weaker c.arg-2.result _ _ (λ command added. adds_arg _ command _ _ _ added options c.flag.ensures.rule c.flag.ensures.local) c.arg-2.ensures

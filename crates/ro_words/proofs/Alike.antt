@@ -1,0 +1,91 @@
+-- The commands, by what is known of each.
+use Rattle.std.proofs.Common.{◌≡◌, ◌∙◌, Bool, false, true, List, [], ◌∷◌, Option, Some, None, refl, ap, ap₂, codes}
+use Rattle.std.specs.Prelude.{option_map}
+use Rattle.std.specs.List.{AllByRecursion, list_any}
+use Rattle.std.proofs.lemmas.Bool.{or_parts}
+use Rattle.clap.specs.Faults.{is_simple_and_free}
+use Rattle.ro_settings.specs.declared.Settings.{Settings}
+use Rattle.ro_words.specs.Commands.{Asked, AskedAudit, AskedRun, asked_run, audit_from, audit_given, bench_given, inject_given, plain_given, races_given, run_from, run_given, run_options, settings_of, to_run}
+use Rattle.ro_words.specs.Grammar.{audit_app, romain_app}
+use Rattle.ro_words.specs.Uses.{Syntax, Text, is_flag}
+use Rattle.ro_words.proofs.Grammars.{audit_grammar, bench_grammar, inject_grammar, plan_grammar, run_grammar}
+use Rattle.ro_words.proofs.Spelled.{Agree, Spoken}
+
+-- ---- what each asks for hangs on its own names
+
+-- texts that agree on these names
+abbrev AgreeOn : List Text → (f g : Text → Option Text) → Type 0
+AgreeOn names f g = AllByRecursion (λ name. f name ≡ g name) names
+
+agree_on : (s : Syntax) (f g : Text → Option Text) (names : List Text) → Agree s f g → list_any (is_flag s) names ≡ false → AgreeOn names f g
+agree_on s f g [] same apart = tt
+agree_on s f g (name ∷ names) same apart =
+    let parts = or_parts (is_flag s name) (list_any (is_flag s) names) apart in
+    (same name parts.0, agree_on s f g names same parts.1)
+
+abbrev run_names : List Text
+run_names = codes "exe" ∷ run_options
+
+named_alike : (exe : Option Text) (settings : Option Settings) (f g : Text → Option Text) (journal : Bool) → f (codes "input") ≡ g (codes "input")
+    → f (codes "faults") ≡ g (codes "faults") → run_from exe settings f journal ≡ run_from exe settings g journal
+named_alike (Some exe) (Some settings) f g journal a b = rw (a, b) refl
+named_alike (Some exe) None f g journal a b = refl
+named_alike None settings f g journal a b = refl
+
+asked_alike : (f g : Text → Option Text) (journal : Bool) → AgreeOn run_names f g → asked_run f journal ≡ asked_run g journal
+asked_alike f g journal (exe, (input, (faults, (replicas, (drivers, (watchdog, (quantum, (limit, end)))))))) =
+    let settings : settings_of f ≡ settings_of g = rw (replicas, drivers, watchdog, quantum, limit) refl in
+    ap (λ (o : Option Text). run_from o (settings_of f) f journal) exe
+    ∙ ap (λ (s : Option Settings). run_from (g (codes "exe")) s f journal) settings
+    ∙ named_alike (g (codes "exe")) (settings_of g) f g journal input faults
+
+pub run_alike : (f g : Text → Option Text) (journal : Bool) → Agree run_grammar.syntax f g → run_given f journal ≡ run_given g journal
+run_alike f g journal same = ap (option_map (λ (run : AskedRun). to_run run)) (asked_alike f g journal (agree_on run_grammar.syntax f g run_names same refl))
+
+pub audit_alike : (f g : Text → Option Text) (json : Bool) → Agree audit_grammar.syntax f g → audit_given f json ≡ audit_given g json
+audit_alike f g json same = ap₂ (λ (run : Option AskedRun) (journal : Option Text). audit_from run journal json) (asked_alike f g false (agree_on audit_grammar.syntax f g run_names same refl)) (same (codes "journal") refl)
+
+pub plain_alike : (f g : Text → Option Text) (flag : Bool) → Agree (plan_grammar (codes "plain")).syntax f g → plain_given f flag ≡ plain_given g flag
+plain_alike f g flag same = rw (same (codes "exe") refl, same (codes "plan") refl, same (codes "input") refl) refl
+
+pub races_alike : (f g : Text → Option Text) (flag : Bool) → Agree (plan_grammar (codes "races")).syntax f g → races_given f flag ≡ races_given g flag
+races_alike f g flag same = rw (same (codes "exe") refl, same (codes "plan") refl, same (codes "input") refl) refl
+
+pub inject_alike : (f g : Text → Option Text) (flag : Bool) → Agree inject_grammar.syntax f g → inject_given f flag ≡ inject_given g flag
+inject_alike f g flag same = rw (same (codes "seed") refl, same (codes "count") refl, same (codes "exe") refl, same (codes "replica") refl) refl
+
+pub bench_alike : (f g : Text → Option Text) (flag : Bool) → Agree bench_grammar.syntax f g → bench_given f flag ≡ bench_given g flag
+bench_alike f g flag same = rw (same (codes "seed") refl, same (codes "size") refl) refl
+
+-- ---- the commands of each program
+
+abbrev pub run_spoken : Spoken Asked
+run_spoken = record { grammar = run_grammar; given = run_given; alike = run_alike }
+
+abbrev pub plain_spoken : Spoken Asked
+plain_spoken = record { grammar = plan_grammar (codes "plain"); given = plain_given; alike = plain_alike }
+
+abbrev pub races_spoken : Spoken Asked
+races_spoken = record { grammar = plan_grammar (codes "races"); given = races_given; alike = races_alike }
+
+abbrev pub inject_spoken : Spoken Asked
+inject_spoken = record { grammar = inject_grammar; given = inject_given; alike = inject_alike }
+
+abbrev pub bench_spoken : Spoken Asked
+bench_spoken = record { grammar = bench_grammar; given = bench_given; alike = bench_alike }
+
+-- those of `romain`
+abbrev pub all_spoken : List (Spoken Asked)
+all_spoken = run_spoken ∷ plain_spoken ∷ races_spoken ∷ inject_spoken ∷ bench_spoken ∷ []
+
+-- that of an audit
+abbrev pub audit_spoken : List (Spoken AskedAudit)
+audit_spoken = record { grammar = audit_grammar; given = audit_given; alike = audit_alike } ∷ []
+
+-- ---- what `clap` is asked to read is plain
+
+pub romain_is_plain : is_simple_and_free romain_app ≡ true
+romain_is_plain = refl
+
+pub audit_is_plain : is_simple_and_free audit_app ≡ true
+audit_is_plain = refl

@@ -1,0 +1,10 @@
+use Rattle.std.proofs.lemmas.Result.{IfOk-weaker}
+use Rattle.ro_words.proofs.Grown.{adds_arg}
+use Rattle.ro_words.proofs.grammar.audit_grammar.Goals as goal
+
+pub returns : goal.returns
+returns c =
+    let place = adds_arg _ _ _ _ _ c.in_ok-arg.ensures (c.new.ensures.app, c.new.ensures.local) c.place.ensures.rule c.place.ensures.local in
+    let audit = adds_arg _ _ _ _ _ c.in_ok-audit.ensures place c.needed.ensures.rule c.needed.ensures.local in
+    let options = c.in_ok-run_options.ensures _ audit in
+    IfOk-weaker c.arg-3.result _ _ (λ command added. adds_arg _ command _ _ _ added options c.flag.ensures.rule c.flag.ensures.local) c.arg-3.ensures

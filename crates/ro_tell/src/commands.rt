@@ -1,22 +1,24 @@
 //! The command, from its words to its answer.
-ghost use Rattle.std.specs.Prelude.{◌≡◌, List, IfOk, None};
+ghost use Rattle.std.specs.Prelude.{◌≡◌, ◌≢◌, List, IfErr, IfOk, None, Some};
 ghost use Rattle.ro_journal.specs.declared.Entry.{Entry as EntrySeen};
 ghost use Rattle.ro_settings.specs.Ranges.{InRange};
 ghost use Rattle.ro_core.specs.Core.{Job as JobSeen};
-ghost use Rattle.ro_words.specs.Commands.{run_by};
+ghost use Rattle.ro_report.specs.declared.answers.Answer.TheVariants as a;
+ghost use Rattle.ro_words.specs.Commands.{AskedAudit, audit_of, run_by};
+ghost use Rattle.ro_words.specs.Uses.{texts_of};
+ghost use Rattle.ro_words.specs.declared.commands.WordsError.TheVariants as w;
 ghost use Rattle.ro_core.specs.Driven.{CanRun};
 ghost use Rattle.ro_audit.specs.Following.{IsTrail};
-ghost use Rattle.ro_top.specs.Files.{IsJobOf, job_of};
-ghost use Rattle.ro_tell.specs.Judging.{IsJournalOf, Judges};
+ghost use Rattle.ro_top.specs.Files.{job_of};
+ghost use Rattle.ro_tell.specs.Judging.{IsAuditOf, Judges};
 
 use crate::telling::tell;
 use crate::views::tell_views;
-use crate::words::split_words;
 use ro_audit::{AuditError, Audited, Trail, trace};
 use ro_io::Store;
 use ro_journal::Entry;
 use ro_top::{Answer, FileKind, Job, fetch, job_from, journal};
-use ro_words::{Command, RunCommand, WordsError, parse_words};
+use ro_words::{RunCommand, WordsError, parse_audit};
 use std::alloc::{AllocError, Global};
 
 /// What a journal was judged to be.
@@ -28,24 +30,24 @@ pub struct Judged {
     pub text: String,
 }
 
-/// Audits what the words ask for.
+/// Audits what the words ask for, of which the first is the program's name.
 ///
 /// # Errors
 /// The answer of a run whose words or files are bad.
-pub fn audit_words<S: Store>(
-    alloc: Global,
-    words: &[&str],
-    store: &mut S,
-) -> Result<Judged, Answer> {
-    let split = split_words(alloc, words).map_err(answer_of)?;
-    let command = parse_words(alloc, split.run.as_slice()).map_err(answer_of)?;
-    match command {
-        Command::Run(run) if !run.journal => audit_files(alloc, &run, split.journal, store),
-        _ => Err(Answer::BadWords),
+pub fn audit_words<S: Store>(alloc: Global, words: &[&str], store: &mut S) -> Result<Judged, Answer>
+    ensures judged { IfOk result (λ judged. (asked : AskedAudit) × (audit_of (texts_of words.now) ≡ Some asked) × IsAuditOf (S.told store.old) asked.run asked.journal judged.place) }
+    ensures words { IfErr result (λ answer. answer ≡ a.BadWords → audit_of (texts_of words.now) ≡ None) }
+{
+    match parse_audit(alloc, words) {
+        Ok(audit) => audit_files(alloc, &audit.run, audit.journal, store),
+        Err(error) => Err(answer_of(error)),
     }
 }
 
-fn answer_of(error: WordsError) -> Answer {
+// The answer to words that spell no audit, or for which there is no memory.
+fn answer_of(error: WordsError) -> Answer
+    ensures { result ≡ a.BadWords → error ≡ w.Bad }
+{
     match error {
         WordsError::Bad => Answer::BadWords,
         WordsError::NoMemory => Answer::NoMemory,
@@ -63,7 +65,8 @@ pub fn audit_files<S: Store>(
     store: &mut S,
 ) -> Result<Judged, Answer>
     requires { InRange run.now.settings }
-    ensures { IfOk result (λ judged. (job : JobSeen) × (entries : List EntrySeen) × IsJobOf (S.told store.old) (run_by run.now) job × IsJournalOf (S.told store.old) name.now entries × Judges job entries judged.place) }
+    ensures judged { IfOk result (λ judged. IsAuditOf (S.told store.old) (run_by run.now) name.now judged.place) }
+    ensures files { IfErr result (λ answer. answer ≢ a.BadWords) }
 {
     let job = job_from(alloc, run, store)?;
     let file = fetch(store, alloc, FileKind::Plan, name)?;

@@ -6,7 +6,5 @@ mod commands;
 mod standing;
 mod telling;
 mod views;
-mod words;
 
 pub use commands::{Judged, audit_files, audit_words};
-pub use words::{AuditWords, split_words};

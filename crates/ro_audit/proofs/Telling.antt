@@ -45,6 +45,7 @@ module _ (job : Job) (journal : List Entry) (taken : ℕ) (legal : Legal job jou
     steps = steps ∙ t.steps ∙ ap (λ (c : Core). c.steps) (sym (replay_more job journal (End (Sink taken))));
     output = output ∙ ap (λ (n : ℕ). take n (output_of job journal)) same ∙ ap (λ (c : Core). c.output) (sym (replay_more job journal (End (Sink taken))));
     views = not-split job (journal ++ End (Sink taken) ∷ []) audited.views.items (Sink taken) ends (λ (e : Sink taken ≡ Differ). cc) (λ (e : Sink taken ≡ NoMajority). cc);
+    no_views = λ _ _. views ∙ t.no_views (λ (e : outcome_of journal ≡ Some Differ). let f : None ≡ Some Differ = sym none-yet ∙ e in cc) (λ (e : outcome_of journal ≡ Some NoMajority). let f : None ≡ Some NoMajority = sym none-yet ∙ e in cc);
   }
     where
       same : length (output_of job journal) - ((replay job journal).wrote - taken) ≡ length (output_of job journal) - (replay job journal).wrote + taken

@@ -1,5 +1,6 @@
 -- What an audit tells of a journal.
-use Rattle.std.specs.Prelude.{◌≡◌, ℕ, List, ◌∷◌, ◌++◌, length}
+use Rattle.std.specs.Prelude.{◌≡◌, ◌≢◌, ℕ, List, [], ◌∷◌, ◌++◌, length, Some}
+use Rattle.ro_journal.specs.declared.How.TheVariants.{Differ, NoMajority}
 use Rattle.ro_journal.specs.declared.Entry.{Entry}
 use Rattle.ro_journal.specs.Plan.{outcome_of}
 use Rattle.ro_core.specs.Core.{Job}
@@ -26,8 +27,9 @@ pub record Tells (job : Job) (journal : List Entry) (audited : Audited) : Type 0
   pub steps : audited.steps ≡ (replay job journal).steps
   pub output : audited.output.items ≡ output_of job journal
   pub views : KeepsViews job journal audited.views.items
+  pub no_views : outcome_of journal ≢ Some Differ → outcome_of journal ≢ Some NoMajority → audited.views.items ≡ []
 
 -- why there is no audit; want of memory has no cause in the journal
 abbrev pub IsCause : Job → List Entry → AuditError → Type 0
-IsCause job journal (Illegal place) = FirstIllegal job journal place
+IsCause job journal (Illegal place why) = FirstIllegal job journal place
 IsCause job journal NoMemory = Unit {0}

@@ -4,9 +4,6 @@ use Rattle.ro_journal.specs.declared.How.{How}
 use Rattle.ro_journal.specs.declared.How.TheVariants.{Sink}
 use Rattle.ro_journal.specs.declared.Entry.{Entry}
 use Rattle.ro_journal.specs.declared.Entry.TheVariants.{End}
-use Rattle.ro_faults.specs.declared.Fault.{Fault}
-use Rattle.ro_image.specs.Image.{Image}
-use Rattle.ro_settings.specs.declared.Settings.{Settings}
 use Rattle.ro_settings.specs.Ranges.{InRange}
 use Rattle.ro_replica.specs.Seen.{replica_of}
 use Rattle.ro_lease.specs.Loans.{LentOf}
@@ -81,10 +78,6 @@ Walked job journal Whole core lent wrote = (core.job ≡ job) × (core.journal �
 Walked job journal (Cut taken) core lent wrote =
     (core.job ≡ job) × (core.journal ++ End (Sink taken) ∷ [] ≡ journal) × (is_going (core_at core) ≡ true) × (taken < wrote) × Follows core lent wrote
 Walked job journal (Stopped place) core lent wrote = FirstIllegal job journal place
-
--- the job of a run
-abbrev pub job_by : Image → (input : List ℕ) → List Fault → Settings → Job
-job_by image input faults settings = record { program = record { image = image; input = input }; faults = faults; settings = settings }
 
 -- the trail of a journal
 abbrev pub IsTrail : Job → List Entry → Trail → Type 0

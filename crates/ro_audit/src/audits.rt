@@ -6,9 +6,11 @@ ghost use Rattle.ro_journal.specs.declared.Entry.TheVariants.{End};
 ghost use Rattle.ro_settings.specs.Ranges.{InRange};
 ghost use Rattle.ro_replica.specs.Seen.{AreFaults};
 ghost use Rattle.ro_core.specs.Core.{Job, is_going};
+ghost use Rattle.ro_core.specs.Jobs.{job_of};
 ghost use Rattle.ro_audit.specs.Audits.{Tells, IsCause};
-ghost use Rattle.ro_audit.specs.Following.{Follows, IsTrail, core_at, job_by};
+ghost use Rattle.ro_audit.specs.Following.{Follows, IsTrail, core_at};
 
+use crate::copies::{Parts, shown};
 use crate::follower::{Follower, Walk, Why};
 use crate::kept::Kept;
 use ro_core::{Core, Finished};
@@ -35,8 +37,8 @@ pub struct Audited {
 /// Why there is no audit.
 #[derive(Clone, Copy, Debug, PartialEq, Eq)]
 pub enum AuditError {
-    /// The entry at this place, from 0, is the first that is not allowed.
-    Illegal { place: usize },
+    /// The entry at this place, from 0, is the first that is not allowed, and why it is not.
+    Illegal { place: usize, why: Why },
     NoMemory,
 }
 
@@ -72,7 +74,7 @@ pub fn audit(
 ) -> Result<Audited, AuditError>
     requires settings { InRange settings }
     requires faults { AreFaults faults.now }
-    ensures { MatchResult result (Tells (job_by image input.now faults.now settings) journal.now) (IsCause (job_by image input.now faults.now settings) journal.now) }
+    ensures { MatchResult result (Tells (job_of image input.now faults.now settings) journal.now) (IsCause (job_of image input.now faults.now settings) journal.now) }
 {
     let trail = trace(alloc, image, input, faults, settings, journal)?;
     trail.tell()
@@ -92,7 +94,7 @@ pub fn trace(
 ) -> Result<Trail, AllocError>
     requires settings { InRange settings }
     requires faults { AreFaults faults.now }
-    ensures { IfOk result (IsTrail (job_by image input.now faults.now settings) journal.now) }
+    ensures { IfOk result (IsTrail (job_of image input.now faults.now settings) journal.now) }
 {
     let mut follower = Follower::begin(alloc, image, input, faults, settings)?;
     match follower.walk(journal) {
@@ -113,12 +115,15 @@ impl Trail {
         &self.follower.core
     }
 
-    /// The place of the first entry that is not allowed, and why it is not.
-    pub fn refused(&self) -> Option<(usize, Why)> {
-        match self.walk {
-            Walk::Stopped(place) => Some((place, self.follower.why)),
-            _ => None,
-        }
+    /// A thread of a replica of that core, where the replica is at home and the thread stands still.
+    pub fn view(&self, replica: u32, thread: u32) -> Option<View> {
+        shown(&self.follower.core, replica, thread)
+    }
+
+    /// Of each copy that a vote made, in their order, in which parts the loser's view differed from the winner's. That they
+    /// are those of the votes is told without a clause.
+    pub fn copies(&self) -> &[Parts] {
+        self.follower.copies.as_slice()
     }
 
     /// What the journal comes to, or the first entry that is not allowed.
@@ -130,8 +135,9 @@ impl Trail {
             Walk::Whole => Ok(whole(follower)),
             Walk::Cut(taken) => Ok(cut(follower, taken)),
             Walk::Stopped(place) => {
+                let why = follower.why;
                 follower.discard();
-                Err(AuditError::Illegal { place })
+                Err(AuditError::Illegal { place, why })
             }
         }
     }
@@ -146,6 +152,7 @@ fn whole(follower: Follower) -> Audited
         lent: _,
         wrote: _,
         why: _,
+        copies: _,
     } = follower;
     let steps = core.steps();
     let Finished {

@@ -10,11 +10,12 @@ ghost use Rattle.ro_core.specs.Legal.{EndsVote, EndsFree};
 ghost use Rattle.ro_core.specs.Seen.{DecidesVote, DecidesFree};
 ghost use Rattle.ro_audit.specs.Following.{Follows, Followed, IsInPlace, NotInPlace, Same, AtEntry, Walked, core_at};
 
+use crate::copies::{Parts, parts_between};
 use crate::kept::Kept;
 use ro_core::{Action, Core, Finished, Refused};
 use ro_faults::Fault;
 use ro_image::Executable;
-use ro_journal::{Entry, How};
+use ro_journal::{Entry, How, Lost};
 use ro_lease::{Back, Lent};
 use ro_post::Work;
 use ro_replica::Ran;
@@ -30,6 +31,8 @@ pub(crate) struct Follower {
     pub wrote: u64,
     /// Why the last entry is not allowed.
     pub why: Why,
+    /// What differed in each copy that the votes made.
+    pub copies: Vec<Parts>,
 }
 
 /// Why an entry is not allowed.
@@ -98,6 +101,7 @@ impl Follower {
                 lent,
                 wrote: 0,
                 why: Why::NoEnd,
+                copies: Vec::new(alloc),
             }),
             Err(Refused { image: _, out: _ }) => Err(AllocError),
         }
@@ -133,6 +137,7 @@ impl Follower {
             lent: _,
             wrote: _,
             why: _,
+            copies: _,
         } = self;
         let Finished {
             how: _,
@@ -162,9 +167,14 @@ impl Follower {
                 count,
                 hit,
             } => Ok(self.put(driver, replica, thread, count, hit)),
-            Entry::Vote { thread, .. } => {
+            Entry::Vote {
+                thread,
+                won,
+                lost,
+                ..
+            } => {
                 if self.core.may_vote(thread) {
-                    self.vote(thread, entry)
+                    self.vote_noted(thread, won, lost, entry)
                 } else {
                     Ok(self.refuse(Why::NoVote))
                 }
@@ -245,6 +255,55 @@ impl Follower {
         self.wrote = self.core.bytes() - before;
         self.why = Why::Comes(came);
         Ok(is_same(&came, entry))
+    }
+
+    // The same of a vote whose entry names who won and who lost; what differs in the copies that it makes is noted.
+    fn vote_noted(
+        &mut self,
+        thread: u32,
+        won: u32,
+        lost: Lost,
+        entry: &Entry,
+    ) -> Result<bool, AllocError>
+        requires follows { Follows self.old.core self.old.lent.items self.old.wrote }
+        requires may { IsTrue (may_vote (core_at self.old.core) thread) }
+        requires decides { DecidesVote self.old.core.job (core_at self.old.core) thread entry.now }
+        ensures { IfOk result (λ yes. Followed self.old.core entry.now yes self.new.core self.new.lent.items self.new.wrote) }
+    {
+        let before = self.copies.len();
+        self.note_all(thread, won, lost)?;
+        let follows = self.vote(thread, entry)?;
+        if !follows {
+            self.copies.truncate(before);
+        }
+        Ok(follows)
+    }
+
+    // Notes what differs in the copies that a vote is about to make.
+    fn note_all(&mut self, thread: u32, won: u32, lost: Lost) -> Result<(), AllocError>
+        ensures core { self.new.core ≡ self.old.core }
+        ensures lent { self.new.lent ≡ self.old.lent }
+        ensures wrote { self.new.wrote ≡ self.old.wrote }
+    {
+        match lost {
+            Lost::Nobody => Ok(()),
+            Lost::One(number) => self.note(thread, won, number),
+            Lost::Two(lower, higher) => {
+                self.note(thread, won, lower)?;
+                self.note(thread, won, higher)
+            }
+        }
+    }
+
+    // The same of one of them.
+    fn note(&mut self, thread: u32, won: u32, replica: u32) -> Result<(), AllocError>
+        ensures core { self.new.core ≡ self.old.core }
+        ensures lent { self.new.lent ≡ self.old.lent }
+        ensures wrote { self.new.wrote ≡ self.old.wrote }
+    {
+        let parts = parts_between(&self.core, thread, won, replica);
+        self.copies.push(parts)?;
+        Ok(())
     }
 
     // Serves a call that may be served, and answers whether that comes to this entry, which would decide it.

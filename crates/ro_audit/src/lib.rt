@@ -2,10 +2,12 @@
 #![tactic(auto)]
 
 mod audits;
+mod copies;
 mod follower;
 mod kept;
 
 pub use audits::{AuditError, Audited, Trail, audit, trace};
+pub use copies::Parts;
 pub use follower::Why;
 pub use kept::Kept;
 

@@ -286,7 +286,7 @@ fn follow(
             assert_eq!(rt; audited.output.as_slice(), output.as_bytes(), "of {title}");
             assert_eq!(rt; audited.views.len(), views, "of {title}");
         }
-        Err(AuditError::Illegal { place }) => {
+        Err(AuditError::Illegal { place, .. }) => {
             let Want::Illegal(first) = want else {
                 panic!(rt; "{title} is illegal at {place}");
             };

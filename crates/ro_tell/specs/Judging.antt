@@ -1,24 +1,86 @@
 -- What a journal is judged to be.
-use Rattle.std.specs.Prelude.{◌≡◌, ℕ, List, Option, Some, None, Ok}
+use Rattle.std.specs.Prelude.{◌≡◌, ℕ, suc, List, [], ◌∷◌, ◌++◌, length, map, take, Option, Some, None, Ok, option_map, slice_get}
+use Rattle.ro_journal.specs.declared.How.{How}
+use Rattle.ro_journal.specs.declared.How.TheVariants as how
+use Rattle.ro_journal.specs.Losers.{numbers}
 use Rattle.ro_journal.specs.declared.Entry.{Entry}
+use Rattle.ro_journal.specs.declared.Entry.TheVariants.{Vote}
+use Rattle.ro_journal.specs.Plan.{outcome_of}
 use Rattle.ro_journal_text.specs.Reading.{file_journal}
 use Rattle.ro_report.specs.declared.answers.FileKind.TheVariants.{Plan}
 use Rattle.ro_io.specs.Outside.{Files}
 use Rattle.ro_core.specs.Core.{Job}
-use Rattle.ro_core.specs.Legal.{Legal}
+use Rattle.ro_core.specs.Legal.{Legal as IsLegal, replay}
 use Rattle.ro_audit.specs.Audits.{FirstIllegal}
 use Rattle.ro_top.specs.Files.{IsContent, IsJobOf}
 use Rattle.ro_words.specs.Commands.{AskedRun}
+use Rattle.ro_tell.specs.declared.findings.Ended.{Ended}
+use Rattle.ro_tell.specs.declared.findings.Ended.TheVariants.{Exit, Deadlock, Trap, Limit, Differ, NoMajority, Sink}
+use Rattle.ro_tell.specs.declared.findings.Verdict.{Verdict}
+use Rattle.ro_tell.specs.declared.findings.Verdict.TheVariants.{Legal, Illegal}
+use Rattle.ro_tell.specs.declared.findings.CopyMade.{CopyMade}
+use Rattle.ro_tell.specs.declared.findings.Findings.{Findings}
 
 -- the journal of the file of this name
 abbrev pub IsJournalOf : Option Files → (name : List ℕ) → List Entry → Type 0
 IsJournalOf files name entries = (text : List ℕ) × IsContent files Plan (Some name) text × (file_journal text ≡ Ok entries)
 
+-- the end that is told with more beside it
+abbrev pub how_of : Ended → How
+how_of (Exit status) = how.Exit status
+how_of (Deadlock threads) = how.Deadlock
+how_of (Trap cause at) = how.Trap cause
+how_of (Limit steps next threads) = how.Limit steps next
+how_of (Differ fields) = how.Differ
+how_of (NoMajority fields) = how.NoMajority
+how_of (Sink taken) = how.Sink taken
+
+-- where the first entry is that is not allowed
+abbrev pub place_of : Verdict → Option ℕ
+place_of (Legal steps end) = None
+place_of (Illegal place entry why) = Some place
+
+-- the journal is legal, with a plan of so many steps and this end, or the entry at the place is the first that is not allowed
+abbrev pub Judges : Job → List Entry → Verdict → Type 0
+Judges job entries (Legal steps end) = IsLegal job entries × (steps ≡ (replay job entries).steps) × (option_map how_of end ≡ outcome_of entries)
+Judges job entries (Illegal place entry why) = FirstIllegal job entries place × (slice_get entries place ≡ Some entry)
+
+-- a copy that a vote made: the place of its entry, the thread, and the replica that lost
+pub record Copied : Type 0 where
+  pub place : ℕ
+  pub thread : ℕ
+  pub replica : ℕ
+
+-- the same of a copy that is told
+abbrev pub copied_of : CopyMade → Copied
+copied_of copy = record { place = copy.place; thread = copy.thread; replica = copy.replica }
+
+-- the copies that an entry makes: one of each replica that loses a vote
+abbrev pub copies_at : (place : ℕ) → Entry → List Copied
+copies_at place (Vote thread count won lost did) = map (λ replica. record { place = place; thread = thread; replica = replica }) (numbers lost)
+copies_at place entry = []
+
+-- those of entries from this place on
+abbrev pub copies_from : (place : ℕ) → List Entry → List Copied
+copies_from place [] = []
+copies_from place (entry ∷ entries) = copies_at place entry ++ copies_from (suc place) entries
+
+-- the entries that are allowed
+abbrev pub allowed_in : Verdict → List Entry → List Entry
+allowed_in (Legal steps end) entries = entries
+allowed_in (Illegal place entry why) entries = take place entries
+
+-- what is found of a journal
+pub record Finds (job : Job) (entries : List Entry) (findings : Findings) : Type 0 where
+  pub count : findings.entries ≡ length entries
+  pub judged : Judges job entries findings.verdict
+  pub copies : map copied_of findings.copies.items ≡ copies_from 0 (allowed_in findings.verdict entries)
+
 -- the journal is legal, or the entry at the place is the first that is not allowed
-abbrev pub Judges : Job → List Entry → Option ℕ → Type 0
-Judges job entries None = Legal job entries
-Judges job entries (Some place) = FirstIllegal job entries place
+abbrev pub IsJudged : Job → List Entry → (place : Option ℕ) → Type 0
+IsJudged job entries None = IsLegal job entries
+IsJudged job entries (Some place) = FirstIllegal job entries place
 
 -- the journal of this name was judged, of the job that the files of the run make
 abbrev pub IsAuditOf : Option Files → AskedRun → (journal : List ℕ) → Option ℕ → Type 0
-IsAuditOf files run journal place = (job : Job) × (entries : List Entry) × IsJobOf files run job × IsJournalOf files journal entries × Judges job entries place
+IsAuditOf files run journal place = (job : Job) × (entries : List Entry) × IsJobOf files run job × IsJournalOf files journal entries × IsJudged job entries place

@@ -1,25 +1,38 @@
 //! The command, from its words to its answer.
-ghost use Rattle.std.specs.Prelude.{◌≡◌, ◌≢◌, List, IfErr, IfOk, None, Some};
+ghost use Rattle.std.specs.Prelude.{◌≡◌, ◌≢◌, ◌<◌, List, IfErr, IfOk, None, Option, Some, option_map, length};
 ghost use Rattle.ro_journal.specs.declared.Entry.{Entry as EntrySeen};
+ghost use Rattle.ro_journal.specs.declared.How.{How as HowSeen};
 ghost use Rattle.ro_settings.specs.Ranges.{InRange};
 ghost use Rattle.ro_core.specs.Core.{Job as JobSeen};
 ghost use Rattle.ro_report.specs.declared.answers.Answer.TheVariants as a;
 ghost use Rattle.ro_words.specs.Commands.{AskedAudit, audit_of, run_by};
 ghost use Rattle.ro_words.specs.Uses.{texts_of};
 ghost use Rattle.ro_words.specs.declared.commands.WordsError.TheVariants as w;
+ghost use Rattle.ro_core.specs.Jobs.{job_of};
 ghost use Rattle.ro_core.specs.Driven.{CanRun};
+ghost use Rattle.ro_audit.specs.Audits.{FirstIllegal, Tells};
 ghost use Rattle.ro_audit.specs.Following.{IsTrail};
-ghost use Rattle.ro_top.specs.Files.{job_of};
-ghost use Rattle.ro_tell.specs.Judging.{IsAuditOf, Judges};
+ghost use Rattle.ro_top.specs.Files.{IsJobOf};
+ghost use Rattle.ro_tell.specs.Judging.{Finds, IsAuditOf, IsJournalOf, IsJudged, how_of, place_of};
 
-use crate::telling::tell;
-use crate::views::tell_views;
-use ro_audit::{AuditError, Audited, Trail, trace};
+use crate::copies::copies_made;
+use crate::fields::fields;
+use crate::findings::{Ended, Field, Findings, Verdict};
+use crate::standing::Stood;
+use ro_audit::{AuditError, Audited, Parts, Trail, Why, trace};
+use ro_faults::Fault;
 use ro_io::Store;
-use ro_journal::Entry;
-use ro_top::{Answer, FileKind, Job, fetch, job_from, journal};
-use ro_words::{RunCommand, WordsError, parse_audit};
+use ro_journal::{Entry, How};
+use ro_top::{Answer, FetchedJob, FileKind, Job, fetch, fetch_job, journal};
+use ro_words::{AuditCommand, RunCommand, WordsError, parse_audit};
 use std::alloc::{AllocError, Global};
+
+/// In which form an audit is told.
+#[derive(Clone, Copy, Debug, PartialEq, Eq)]
+pub enum Form {
+    Sentences,
+    Json,
+}
 
 /// What a journal was judged to be.
 #[derive(Drop)]
@@ -39,8 +52,19 @@ pub fn audit_words<S: Store>(alloc: Global, words: &[&str], store: &mut S) -> Re
     ensures words { IfErr result (λ answer. answer ≡ a.BadWords → audit_of (texts_of words.now) ≡ None) }
 {
     match parse_audit(alloc, words) {
-        Ok(audit) => audit_files(alloc, &audit.run, audit.journal, store),
+        Ok(audit) => {
+            audit_files(alloc, &audit.run, audit.journal, form_of(&audit), store)
+        }
         Err(error) => Err(answer_of(error)),
+    }
+}
+
+// In which form the words ask for it.
+fn form_of(audit: &AuditCommand<'_>) -> Form {
+    if audit.json {
+        Form::Json
+    } else {
+        Form::Sentences
     }
 }
 
@@ -54,7 +78,7 @@ fn answer_of(error: WordsError) -> Answer
     }
 }
 
-/// Audits the journal of a file, which is said to be of a run.
+/// Audits the journal of a file, which is said to be of a run, and tells what is found in a form.
 ///
 /// # Errors
 /// The answer of a run whose files are bad.
@@ -62,25 +86,71 @@ pub fn audit_files<S: Store>(
     alloc: Global,
     run: &RunCommand<'_>,
     name: &str,
+    form: Form,
     store: &mut S,
 ) -> Result<Judged, Answer>
     requires { InRange run.now.settings }
     ensures judged { IfOk result (λ judged. IsAuditOf (S.told store.old) (run_by run.now) name.now judged.place) }
     ensures files { IfErr result (λ answer. answer ≢ a.BadWords) }
 {
-    let job = job_from(alloc, run, store)?;
-    let file = fetch(store, alloc, FileKind::Plan, name)?;
-    let entries = journal(alloc, file.as_slice())?;
-    match judge(alloc, job, entries.as_slice()) {
-        Ok(judged) => Ok(judged),
+    let findings = find(alloc, run, name, store)?;
+    let place = place_of(&findings.verdict);
+    match told(alloc, &findings, form) {
+        Ok(text) => Ok(Judged { place, text }),
         Err(_) => Err(Answer::NoMemory),
     }
 }
 
-// Follows the journal of a job, and tells what came of it.
-fn judge(alloc: Global, job: Job, entries: &[Entry]) -> Result<Judged, AllocError>
+// The place of the first entry that is not allowed.
+fn place_of(verdict: &Verdict) -> Option<usize>
+    ensures { result ≡ place_of verdict.now }
+{
+    match verdict {
+        Verdict::Legal { .. } => None,
+        Verdict::Illegal { place, .. } => Some(*place),
+    }
+}
+
+// What is told of findings.
+fn told(alloc: Global, findings: &Findings, form: Form) -> Result<String, AllocError> {
+    match form {
+        Form::Sentences => findings.sentences(alloc),
+        Form::Json => findings.json(alloc),
+    }
+}
+
+/// Finds what is to be told of the journal of a file, which is said to be of a run.
+///
+/// # Errors
+/// The answer of a run whose files are bad.
+pub fn find<S: Store>(
+    alloc: Global,
+    run: &RunCommand<'_>,
+    name: &str,
+    store: &mut S,
+) -> Result<Findings, Answer>
+    requires { InRange run.now.settings }
+    ensures found { IfOk result (λ findings. (job : JobSeen) × (entries : List EntrySeen) × IsJobOf (S.told store.old) (run_by run.now) job × IsJournalOf (S.told store.old) name.now entries × Finds job entries findings) }
+    ensures files { IfErr result (λ answer. answer ≢ a.BadWords) }
+{
+    let FetchedJob { job, executable } = fetch_job(alloc, run, store)?;
+    let file = fetch(store, alloc, FileKind::Plan, name)?;
+    let entries = journal(alloc, file.as_slice())?;
+    match judge(alloc, job, executable.as_slice(), entries.as_slice()) {
+        Ok(findings) => Ok(findings),
+        Err(_) => Err(Answer::NoMemory),
+    }
+}
+
+// Follows the journal of a job, and finds what came of it.
+fn judge(
+    alloc: Global,
+    job: Job,
+    executable: &[u8],
+    entries: &[Entry],
+) -> Result<Findings, AllocError>
     requires { CanRun (job_of job.image job.input.items job.faults.items job.settings) }
-    ensures { IfOk result (λ judged. Judges (job_of job.image job.input.items job.faults.items job.settings) entries.now judged.place) }
+    ensures { IfOk result (Finds (job_of job.image job.input.items job.faults.items job.settings) entries.now) }
 {
     let Job {
         image,
@@ -96,29 +166,129 @@ fn judge(alloc: Global, job: Job, entries: &[Entry]) -> Result<Judged, AllocErro
         settings,
         entries,
     )?;
-    let text = tell(alloc, &trail, entries);
-    place_in(trail, text)
+    let seen = Seen::of(alloc, &trail, entries, executable);
+    let case = Case {
+        executable,
+        entries,
+        faults: faults.as_slice(),
+    };
+    conclude(alloc, trail, seen, &case)
 }
 
-// What a trail comes to, with what was told of it.
-fn place_in(trail: Trail, text: Result<String, AllocError>) -> Result<Judged, AllocError>
-    ensures { (job : JobSeen) (entries : List EntrySeen) → IsTrail job entries trail → IfOk result (λ judged. Judges job entries judged.place) }
+// What a journal is of.
+#[derive(Clone, Copy)]
+struct Case<'a> {
+    executable: &'a [u8],
+    entries: &'a [Entry],
+    faults: &'a [Fault],
+}
+
+// What a trail shows before it is given up.
+#[derive(Drop)]
+struct Seen {
+    stood: Stood,
+    // What differed in each copy.
+    parts: Vec<Parts>,
+}
+
+impl Seen {
+    fn of(
+        alloc: Global,
+        trail: &Trail,
+        entries: &[Entry],
+        executable: &[u8],
+    ) -> Result<Seen, AllocError> {
+        Ok(Seen {
+            stood: Stood::behind(alloc, trail, entries, executable)?,
+            parts: Vec::from_slice(alloc, trail.copies())?,
+        })
+    }
+}
+
+// What a trail comes to, with what was seen of it.
+fn conclude(
+    alloc: Global,
+    trail: Trail,
+    seen: Result<Seen, AllocError>,
+    case: &Case<'_>,
+) -> Result<Findings, AllocError>
+    requires { (job : JobSeen) × IsTrail job case.now.entries.now trail }
+    ensures { (job : JobSeen) → IsTrail job case.now.entries.now trail → IfOk result (Finds job case.now.entries.now) }
 {
-    match trail.tell() {
-        Ok(audited) => legal(audited, text?),
-        Err(AuditError::Illegal { place }) => Ok(Judged {
-            place: Some(place),
-            text: text?,
-        }),
+    let audited = trail.tell();
+    let Seen { stood, parts } = seen?;
+    match audited {
+        Ok(audited) => legal(alloc, audited, stood, parts.as_slice(), case),
+        Err(AuditError::Illegal { place, why }) => {
+            illegal(alloc, place, why, parts.as_slice(), case)
+        }
         Err(AuditError::NoMemory) => Err(AllocError),
     }
 }
 
-// A legal journal, and where its last views differ.
-fn legal(audited: Audited, text: String) -> Result<Judged, AllocError>
-    ensures { IfOk result (λ judged. judged.place ≡ None) }
+// What is found of a legal journal.
+fn legal(
+    alloc: Global,
+    audited: Audited,
+    stood: Stood,
+    parts: &[Parts],
+    case: &Case<'_>,
+) -> Result<Findings, AllocError>
+    ensures { (job : JobSeen) → Tells job case.now.entries.now audited → IfOk result (Finds job case.now.entries.now) }
 {
-    let mut text = text;
-    tell_views(&mut text, audited.views.as_slice())?;
-    Ok(Judged { place: None, text })
+    let fields = fields(alloc, case.executable, audited.views.as_slice())?;
+    Ok(Findings {
+        entries: case.entries.len(),
+        verdict: Verdict::Legal {
+            steps: audited.steps,
+            end: ended(audited.how, fields, stood),
+        },
+        copies: copies_made(alloc, case.entries, case.faults, parts)?,
+    })
+}
+
+// What is found of one that is not, of which this entry is the first that is not allowed.
+fn illegal(
+    alloc: Global,
+    place: usize,
+    why: Why,
+    parts: &[Parts],
+    case: &Case<'_>,
+) -> Result<Findings, AllocError>
+    requires { place < length case.now.entries.now }
+    ensures { (job : JobSeen) → FirstIllegal job case.now.entries.now place → IfOk result (Finds job case.now.entries.now) }
+{
+    Ok(Findings {
+        entries: case.entries.len(),
+        verdict: Verdict::Illegal {
+            place,
+            entry: case.entries[place],
+            why,
+        },
+        copies: copies_made(alloc, &case.entries[..place], case.faults, parts)?,
+    })
+}
+
+// How a run ended, with what it is told by.
+fn ended(how: Option<How>, fields: Vec<Field>, stood: Stood) -> Option<Ended>
+    ensures { option_map how_of result ≡ how }
+{
+    let Stood {
+        waiting,
+        threads,
+        trapped,
+    } = stood;
+    Some(match how? {
+        How::Exit(status) => Ended::Exit(status),
+        How::Deadlock => Ended::Deadlock(waiting),
+        How::Trap(cause) => Ended::Trap { cause, at: trapped },
+        How::Limit { steps, next } => Ended::Limit {
+            steps,
+            next,
+            threads,
+        },
+        How::Differ => Ended::Differ(fields),
+        How::NoMajority => Ended::NoMajority(fields),
+        How::Sink(taken) => Ended::Sink(taken),
+    })
 }

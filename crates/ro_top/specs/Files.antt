@@ -1,7 +1,7 @@
 -- The files that a command names, and the job or the plan that it asks for.
 use Rattle.std.specs.Prelude.{◌≡◌, ℕ, ◌*◌, ◌≤◌, List, [], ◌∷◌, ◌++◌, length, Option, Some, None, Ok, IfSome}
 use Rattle.ro_io.specs.Outside.{Files}
-use Rattle.ro_image.specs.Image.{Image, segments_in}
+use Rattle.ro_image.specs.Image.{segments_in}
 use Rattle.ro_inject.specs.Draws.{faults_drawn}
 use Rattle.ro_make.specs.Bench.{bench_file}
 use Rattle.ro_settings.specs.Ranges.{default_settings}
@@ -10,8 +10,8 @@ use Rattle.ro_faults.specs.declared.Fault.{Fault}
 use Rattle.ro_faults.specs.Texts.{file_faults}
 use Rattle.ro_report.specs.declared.answers.FileKind.{FileKind}
 use Rattle.ro_report.specs.declared.answers.FileKind.TheVariants.{Exe, Input, Faults, Plan}
-use Rattle.ro_settings.specs.declared.Settings.{Settings}
 use Rattle.ro_core.specs.Core.{Job}
+use Rattle.ro_core.specs.Jobs.{job_of}
 use Rattle.ro_words.specs.Commands.{Asked, AskedBench, AskedInject, AskedPlan, AskedRun, to_bench, to_inject, to_plain, to_races, to_run}
 use Rattle.ro_journal.specs.declared.Entry.{Entry}
 use Rattle.ro_journal_text.specs.Reading.{file_journal}
@@ -73,9 +73,6 @@ IsFile files name content = IfSome files (λ all. all name ≡ Some content)
 abbrev pub IsContent : Option Files → FileKind → (name : Option (List ℕ)) → List ℕ → Type 0
 IsContent files kind None content = content ≡ []
 IsContent files kind (Some name) content = IsFile files name content × (length content ≤ most_of kind)
-
-abbrev pub job_of : Image → (input : List ℕ) → List Fault → Settings → Job
-job_of image input faults settings = record { program = record { image = image; input = input }; faults = faults; settings = settings }
 
 -- The job that a run asks for: its files may be read, its executable is accepted, and its faults are those of its list.
 pub record IsJobOf (files : Option Files) (asked : AskedRun) (job : Job) : Type 0 where

@@ -6,7 +6,8 @@ ghost use Rattle.ro_report.specs.declared.answers.Answer.TheVariants as a;
 ghost use Rattle.ro_words.specs.Commands.{bench_by, to_bench};
 ghost use Rattle.ro_top.specs.Causes.{IsRefusal, JobCause};
 ghost use Rattle.ro_io.specs.Outside.{Files};
-ghost use Rattle.ro_top.specs.Files.{bench_job as bench_job_of, job_of};
+ghost use Rattle.ro_core.specs.Jobs.{job_of};
+ghost use Rattle.ro_top.specs.Files.{bench_job as bench_job_of};
 ghost use Rattle.ro_top.specs.Top.{EndsBench, IsBench, OfItsBench};
 ghost use Rattle.ro_top.specs.Refusals.{RefusesExe};
 

@@ -15,7 +15,7 @@ mod running;
 mod top;
 mod writing;
 
-pub use asking::job_from;
+pub use asking::{FetchedJob, fetch_job};
 pub use done::{Done, Told, answered, without_words};
 pub use files::{fetch, journal};
 pub use ro_report::{Answer, FileKind, JournalCode};

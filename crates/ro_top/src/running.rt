@@ -2,7 +2,7 @@
 ghost use Rattle.std.specs.Prelude.{◌≡◌, ◌≢◌, []};
 ghost use Rattle.ro_journal.specs.Plan.{outcome_of};
 ghost use Rattle.ro_report.specs.declared.answers.Answer.TheVariants as a;
-ghost use Rattle.ro_top.specs.Files.{job_of};
+ghost use Rattle.ro_core.specs.Jobs.{job_of};
 ghost use Rattle.ro_core.specs.Driven.{CanRun};
 ghost use Rattle.ro_top.specs.Driven.{AreCounts};
 ghost use Rattle.ro_top.specs.Causes.{IsRefusal, IsOutcome};

@@ -8,7 +8,7 @@ use Rattle.ro_top.specs.Files.{IsContent}
 use Rattle.ro_top.specs.Refusals.{RefusesContent}
 use Rattle.ro_top.specs.Causes.{IsAccepted, HasInput}
 use Rattle.ro_top.proofs.Asked.{asks_to, both_asked, content_cause, faults_cause, exe_asks, list_asks, can_run}
-use Rattle.ro_top.proofs.asking.job_from.Goals as goal
+use Rattle.ro_top.proofs.asking.fetch_job.Goals as goal
 
 pub returns-in_err-file-clause-stops : goal.returns-in_err-file-clause-stops
 returns-in_err-file-clause-stops g c =

@@ -1,0 +1,72 @@
+//! What differs in a copy that a vote makes.
+ghost use Rattle.std.specs.Prelude.{◌≡◌, ◌≢◌, ◌↔◌, IsTrue};
+
+use crate::kept::Kept;
+use ro_core::Core;
+use ro_event::View;
+
+/// The parts in which two views differ; none by default.
+#[derive(Clone, Copy, Debug, Default, PartialEq, Eq)]
+pub struct Parts {
+    /// Bit n is set where register xn differs.
+    registers: u32,
+    /// Where the thread stands.
+    pub pc: bool,
+    /// How many instructions it has retired since the last vote.
+    pub since: bool,
+    /// What it stands at.
+    pub stop: bool,
+    /// What it writes.
+    pub payload: bool,
+}
+
+impl Parts {
+    /// The parts in which two views differ. Which registers are among them is told without a clause.
+    pub fn between(one: &View, other: &View) -> Parts
+        ensures pc { IsTrue result.pc ↔ (one.now.pc ≢ other.now.pc) }
+        ensures since { IsTrue result.since ↔ (one.now.since ≢ other.now.since) }
+        ensures stop { IsTrue result.stop ↔ (one.now.stop ≢ other.now.stop) }
+        ensures payload { IsTrue result.payload ↔ (one.now.payload ≢ other.now.payload) }
+    {
+        Parts {
+            registers: unequal(one.registers(), other.registers()),
+            pc: one.pc() != other.pc(),
+            since: one.since() != other.since(),
+            stop: one.stop() != other.stop(),
+            payload: one.payload() != other.payload(),
+        }
+    }
+
+    /// Whether register xN differs, N from 1 to 31.
+    pub fn has_register(self, number: u32) -> bool {
+        number < 32 && self.registers & (1 << number) != 0
+    }
+}
+
+// Of which registers x1 to x31 the values are not the same: bit n for xn.
+fn unequal(one: &[u32; 31], other: &[u32; 31]) -> u32 {
+    let mut registers = 0;
+    for number in 0..31u32 {
+        if one[number as usize] != other[number as usize] {
+            registers |= 2 << number;
+        }
+    }
+    registers
+}
+
+/// A thread of a replica that is at home, where it stands still.
+pub(crate) fn shown(core: &Core<Kept>, replica: u32, thread: u32) -> Option<View> {
+    let replica = core.replica(replica)?;
+    let stop = replica.stop(thread)?;
+    let mut view = View::new([0; 31], 0, 0, stop);
+    replica.view(thread, &mut view);
+    Some(view)
+}
+
+// What of a thread differs in two replicas.
+pub(crate) fn parts_between(core: &Core<Kept>, thread: u32, one: u32, other: u32) -> Parts {
+    match (shown(core, one, thread), shown(core, other, thread)) {
+        (Some(one), Some(other)) => Parts::between(&one, &other),
+        _ => Parts::default(),
+    }
+}

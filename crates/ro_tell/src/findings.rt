@@ -1,0 +1,195 @@
+//! What an audit finds, as data.
+use ro_audit::Why;
+use ro_event::Stop;
+use ro_faults::Fault;
+use ro_journal::Entry;
+use std::fmt;
+
+/// All that is told of a journal.
+#[derive(Drop)]
+pub struct Findings {
+    /// How many entries it has.
+    pub entries: usize,
+    pub verdict: Verdict,
+    /// The copies that its votes made; of an illegal one those before the first entry that is not allowed.
+    pub copies: Vec<CopyMade>,
+}
+
+/// Whether a journal is legal.
+#[derive(Drop)]
+pub enum Verdict {
+    /// The length of its plan, and how the run ended, if it did.
+    Legal {
+        steps: u64,
+        end: Option<Ended>,
+    },
+    /// The first entry that is not allowed, and why it is not.
+    Illegal {
+        place: usize,
+        entry: Entry,
+        why: Why,
+    },
+}
+
+/// How a run ended.
+#[derive(Drop)]
+pub enum Ended {
+    /// The program exited with this status.
+    Exit(u8),
+    /// No thread can go on: for what each waits.
+    Deadlock(Vec<Waiting>),
+    /// The program trapped by this cause, there.
+    Trap {
+        cause: u8,
+        at: Option<Trapped>,
+    },
+    /// The plan's steps, how many more would pass the limit, and where each thread stands.
+    Limit {
+        steps: u64,
+        next: u64,
+        threads: Vec<Standing>,
+    },
+    /// Two replicas differ in these parts of their views.
+    Differ(Vec<Field>),
+    /// No more than half of the replicas agree; in these parts of their views not all do.
+    NoMajority(Vec<Field>),
+    /// The output failed, and took so many bytes of the last write.
+    Sink(u32),
+}
+
+/// For what a thread waits.
+#[derive(Clone, Copy, Debug, PartialEq, Eq)]
+pub struct Waiting {
+    pub thread: u32,
+    pub state: State,
+}
+
+/// What holds a thread up where no thread can go on.
+#[derive(Clone, Copy, Debug, PartialEq, Eq)]
+pub enum State {
+    /// It has exited.
+    Exited,
+    /// It waits for the mutex at an address, and which thread holds that.
+    Locks { mutex: u32, owner: Option<u32> },
+    /// It waits until this thread has exited.
+    Joins(u32),
+    /// It is blocked on another call.
+    Blocked,
+    /// It is not blocked.
+    Unblocked,
+}
+
+/// A place in a program.
+#[derive(Debug, PartialEq, Eq, Drop)]
+pub struct Place {
+    pub pc: u32,
+    /// The function that holds it, if one is known.
+    pub function: Option<Function>,
+}
+
+/// A function, and how far behind its start an address is, in bytes.
+#[derive(Debug, PartialEq, Eq, Drop)]
+pub struct Function {
+    pub name: String,
+    pub offset: u32,
+}
+
+impl fmt::Display for Place {
+    fn fmt<W: fmt::Write>(&self, f: &mut fmt::Formatter<W>) -> fmt::Result {
+        let pc = self.pc;
+        write!(f, "{pc:08x}")?;
+        match &self.function {
+            Some(function) => write!(f, " ({function})"),
+            None => Ok(()),
+        }
+    }
+}
+
+impl fmt::Display for Function {
+    fn fmt<W: fmt::Write>(&self, f: &mut fmt::Formatter<W>) -> fmt::Result {
+        let name = self.name.as_str();
+        let offset = self.offset;
+        match offset {
+            0 => write!(f, "{name}"),
+            _ => write!(f, "{name}+{offset:x}"),
+        }
+    }
+}
+
+/// A thread, and where and at what it stands still, if it does and has not exited.
+#[derive(Drop)]
+pub struct Standing {
+    pub thread: u32,
+    pub at: Option<(Place, Stop)>,
+}
+
+/// A thread that trapped.
+#[derive(Drop)]
+pub struct Trapped {
+    pub thread: u32,
+    pub place: Place,
+    /// The registers x1 to x31.
+    pub registers: [u32; 31],
+    /// The instruction there, if its word can be read.
+    pub instruction: Option<Instruction>,
+}
+
+/// The instruction at a place.
+#[derive(Drop)]
+pub struct Instruction {
+    pub word: u32,
+    pub text: String,
+    /// The address that it loads from or stores to.
+    pub touched: Option<u32>,
+}
+
+/// A part of the views that is not the same in all replicas: what it is in each, in their order.
+#[derive(Drop)]
+pub enum Field {
+    Pc(Vec<Place>),
+    /// How many instructions the thread has retired since the last vote.
+    Since(Vec<u32>),
+    /// The register of this number.
+    Register(u32, Vec<u32>),
+    /// What the thread stands at.
+    Stop(Vec<Stop>),
+    /// What the thread writes: of how many bytes that is.
+    Payload(Vec<usize>),
+}
+
+/// A part of a view.
+#[derive(Clone, Copy, Debug, PartialEq, Eq)]
+pub enum Part {
+    /// The register of this number.
+    Register(u32),
+    Pc,
+    /// How many instructions the thread has retired since the last vote.
+    Since,
+    /// What it stands at.
+    Stop,
+    /// What it writes.
+    Payload,
+}
+
+/// A copy that a vote made: a replica that lost became as the winner.
+#[derive(Drop)]
+pub struct CopyMade {
+    /// The place of the vote's entry, from 0.
+    pub place: usize,
+    /// The thread that was voted on.
+    pub thread: u32,
+    /// The replica that lost.
+    pub replica: u32,
+    /// What of its view differed from the winner's.
+    pub parts: Vec<Part>,
+    /// The faults that had struck the replica since it was last made a copy, or since the begin.
+    pub undone: Vec<Strike>,
+}
+
+/// A fault that struck.
+#[derive(Clone, Copy, Debug, PartialEq, Eq)]
+pub struct Strike {
+    pub fault: Fault,
+    /// How many instructions of its thread before.
+    pub before: u64,
+}

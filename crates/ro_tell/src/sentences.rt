@@ -1,0 +1,331 @@
+//! What an audit finds, in sentences: the first line is `legal` or `illegal PLACE`.
+use crate::findings::{
+    CopyMade, Ended, Field, Findings, Instruction, Part, Standing, State, Strike, Trapped, Verdict,
+    Waiting,
+};
+use crate::lines::push_line;
+use ro_audit::Why;
+use ro_event::Stop;
+use ro_faults::fault_text;
+use ro_journal::Entry;
+use ro_journal_text::entry_text;
+use std::alloc::{AllocError, Global};
+
+impl Findings {
+    /// What is told of a journal, in sentences.
+    ///
+    /// # Errors
+    /// Where there is no memory.
+    pub fn sentences(&self, alloc: Global) -> Result<String, AllocError> {
+        let mut text = String::new(alloc);
+        match &self.verdict {
+            Verdict::Legal { steps, end } => {
+                let count = self.entries;
+                writeln!(text, "legal")?;
+                writeln!(
+                    text,
+                    "The journal has {count} entries, and its plan {steps} steps."
+                )?;
+                tell_end(&mut text, end)?;
+            }
+            Verdict::Illegal { place, entry, why } => tell_illegal(&mut text, *place, entry, *why)?,
+        }
+        for copy in &self.copies {
+            tell_copy(&mut text, copy)?;
+        }
+        Ok(text)
+    }
+}
+
+// How the run ended.
+fn tell_end(text: &mut String, end: &Option<Ended>) -> Result<(), AllocError> {
+    let Some(end) = end else {
+        return writeln!(text, "The run has not ended.");
+    };
+    match end {
+        Ended::Exit(status) => writeln!(text, "The program exited with status {status}."),
+        Ended::Deadlock(threads) => tell_deadlock(text, threads.as_slice()),
+        Ended::Trap { cause, at } => tell_trap(text, *cause, at),
+        Ended::Limit {
+            steps,
+            next,
+            threads,
+        } => tell_limit(text, *steps, *next, threads.as_slice()),
+        Ended::Differ(fields) => {
+            writeln!(text, "The two replicas differ.")?;
+            tell_fields(text, fields.as_slice())
+        }
+        Ended::NoMajority(fields) => {
+            writeln!(text, "No more than half of the replicas agree.")?;
+            tell_fields(text, fields.as_slice())
+        }
+        Ended::Sink(taken) => writeln!(
+            text,
+            "The output failed, and took {taken} bytes of the last write."
+        ),
+    }
+}
+
+// Why no thread can go on.
+fn tell_deadlock(text: &mut String, threads: &[Waiting]) -> Result<(), AllocError> {
+    writeln!(text, "No thread can go on.")?;
+    for waiting in threads {
+        tell_waiting(text, *waiting)?;
+    }
+    Ok(())
+}
+
+// For what a thread waits.
+fn tell_waiting(text: &mut String, waiting: Waiting) -> Result<(), AllocError> {
+    let Waiting { thread, state } = waiting;
+    match state {
+        State::Exited => writeln!(text, "Thread {thread} has exited."),
+        State::Unblocked => writeln!(text, "Thread {thread} is not blocked."),
+        State::Blocked => writeln!(text, "Thread {thread} is blocked."),
+        State::Locks {
+            mutex,
+            owner: Some(owner),
+        } => writeln!(
+            text,
+            "Thread {thread} waits for the mutex at {mutex:08x}, which thread {owner} holds."
+        ),
+        State::Locks { mutex, owner: None } => {
+            writeln!(text, "Thread {thread} waits for the mutex at {mutex:08x}.")
+        }
+        State::Joins(other) => {
+            writeln!(
+                text,
+                "Thread {thread} waits until thread {other} has exited."
+            )
+        }
+    }
+}
+
+// The limit, and where each thread stands.
+fn tell_limit(
+    text: &mut String,
+    steps: u64,
+    next: u64,
+    threads: &[Standing],
+) -> Result<(), AllocError> {
+    writeln!(
+        text,
+        "The plan has {steps} steps, and {next} more would pass the limit."
+    )?;
+    for standing in threads {
+        let thread = standing.thread;
+        match &standing.at {
+            Some((place, stop)) => {
+                let at = stop_name(stop);
+                writeln!(text, "Thread {thread} stands at pc {place}, at {at}.")?;
+            }
+            None => writeln!(text, "Thread {thread} does not stand still, or has exited.")?,
+        }
+    }
+    Ok(())
+}
+
+// Where the program trapped, and the registers there.
+fn tell_trap(text: &mut String, cause: u8, at: &Option<Trapped>) -> Result<(), AllocError> {
+    let name = trap_name(cause);
+    writeln!(text, "The program trapped by cause {cause}: {name}.")?;
+    let Some(trapped) = at else {
+        return Ok(());
+    };
+    let thread = trapped.thread;
+    let place = &trapped.place;
+    writeln!(
+        text,
+        "Thread {thread} stands at pc {place}, with these registers:"
+    )?;
+    tell_registers(text, &trapped.registers)?;
+    match &trapped.instruction {
+        Some(instruction) => tell_instruction(text, instruction),
+        None => Ok(()),
+    }
+}
+
+// Eight registers a line.
+fn tell_registers(text: &mut String, registers: &[u32; 31]) -> Result<(), AllocError> {
+    let mut number = 1u32;
+    for value in registers {
+        write!(text, "x{number} {value:08x}")?;
+        if number % 8 == 0 || number == 31 {
+            writeln!(text)?;
+        } else {
+            write!(text, " ")?;
+        }
+        number = number.wrapping_add(1);
+    }
+    Ok(())
+}
+
+// The instruction that trapped.
+fn tell_instruction(text: &mut String, instruction: &Instruction) -> Result<(), AllocError> {
+    let word = instruction.word;
+    let spelled = instruction.text.as_str();
+    writeln!(text, "The instruction there is {word:08x}, {spelled}.")?;
+    match instruction.touched {
+        Some(address) => writeln!(text, "It touches the address {address:08x}."),
+        None => Ok(()),
+    }
+}
+
+// What a thread stands at.
+fn stop_name(stop: &Stop) -> &'static str {
+    match stop {
+        Stop::Calls(_) => "a call",
+        Stop::Trap(_) => "a trap",
+        Stop::PageFault(_) => "a page fault",
+        Stop::Watchdog => "a turn of the watchdog",
+    }
+}
+
+fn trap_name(cause: u8) -> &'static str {
+    match cause {
+        1 => "the pc is no multiple of 4",
+        2 => "an instruction is fetched where nothing may be executed",
+        3 => "the word is no instruction",
+        4 => "a jump to no multiple of 4",
+        5 => "a load at an address that is no multiple of its size",
+        6 => "a load where it is not permitted",
+        7 => "a store at an address that is no multiple of its size",
+        8 => "a store where it is not permitted",
+        9 => "EBREAK",
+        _ => "no cause is known",
+    }
+}
+
+// Each part in which views differ, replica by replica.
+fn tell_fields(text: &mut String, fields: &[Field]) -> Result<(), AllocError> {
+    for field in fields {
+        tell_field(text, field)?;
+    }
+    Ok(())
+}
+
+fn tell_field(text: &mut String, field: &Field) -> Result<(), AllocError> {
+    match field {
+        Field::Pc(places) => {
+            write!(text, "pc:")?;
+            for place in places {
+                write!(text, " {place}")?;
+            }
+        }
+        Field::Since(counts) => {
+            write!(text, "instructions since the last vote:")?;
+            for count in counts {
+                write!(text, " {count}")?;
+            }
+        }
+        Field::Register(number, values) => {
+            write!(text, "x{number}:")?;
+            for value in values {
+                write!(text, " {value:08x}")?;
+            }
+        }
+        Field::Stop(stops) => {
+            write!(text, "at:")?;
+            for stop in stops {
+                let at = stop_name(stop);
+                write!(text, " {at};")?;
+            }
+        }
+        Field::Payload(counts) => {
+            write!(text, "what is written differs, of so many bytes:")?;
+            for count in counts {
+                write!(text, " {count}")?;
+            }
+        }
+    }
+    writeln!(text)
+}
+
+// The first entry that is not allowed, and why it is not.
+fn tell_illegal(
+    text: &mut String,
+    place: usize,
+    entry: &Entry,
+    why: Why,
+) -> Result<(), AllocError> {
+    writeln!(text, "illegal {place}")?;
+    write!(text, "The first entry that is not allowed is: ")?;
+    push_line(text, entry_text(entry))?;
+    writeln!(text)?;
+    match why {
+        Why::NotLendable => writeln!(
+            text,
+            "The driver holds a lease or is none, or the thread can't be lent in that replica."
+        ),
+        Why::NotOut => writeln!(text, "No such lease is out."),
+        Why::Ran { count, hit } => writeln!(
+            text,
+            "The run of the lease comes back after {count} instructions and {hit} faults."
+        ),
+        Why::NoVote => writeln!(text, "The thread can't be voted on."),
+        Why::NoFree => writeln!(text, "The thread has no call that can be served."),
+        Why::Comes(entry) => {
+            write!(text, "What is allowed in its place is: ")?;
+            push_line(text, entry_text(&entry))?;
+            writeln!(text)
+        }
+        Why::NoEnd => writeln!(text, "The run does not end so here."),
+        Why::Behind => writeln!(text, "The run has ended before."),
+    }
+}
+
+// A copy, and what it undid.
+fn tell_copy(text: &mut String, copy: &CopyMade) -> Result<(), AllocError> {
+    let place = copy.place;
+    let replica = copy.replica;
+    let thread = copy.thread;
+    write!(
+        text,
+        "At entry {place} replica {replica} was overwritten at a vote on thread {thread}: "
+    )?;
+    tell_parts(text, copy.parts.as_slice())?;
+    tell_undone(text, copy.undone.as_slice())
+}
+
+// What differed.
+fn tell_parts(text: &mut String, parts: &[Part]) -> Result<(), AllocError> {
+    let last = parts.len().saturating_sub(1);
+    for (number, part) in parts.iter().enumerate() {
+        let between = match number {
+            0 => "",
+            _ if number == last => " and ",
+            _ => ", ",
+        };
+        text.push_str(between)?;
+        tell_part(text, *part)?;
+    }
+    write!(text, " differed.")
+}
+
+fn tell_part(text: &mut String, part: Part) -> Result<(), AllocError> {
+    match part {
+        Part::Register(number) => write!(text, "x{number}"),
+        Part::Pc => write!(text, "the pc"),
+        Part::Since => write!(text, "the instructions since the last vote"),
+        Part::Stop => write!(text, "what it stands at"),
+        Part::Payload => write!(text, "what is written"),
+    }
+}
+
+// The strikes that a copy undid.
+fn tell_undone(text: &mut String, undone: &[Strike]) -> Result<(), AllocError> {
+    if undone.is_empty() {
+        return writeln!(text, " No fault of the list in that replica explains it.");
+    }
+    let mut before = " Undone: ";
+    for strike in undone {
+        text.push_str(before)?;
+        push_line(text, fault_text(&strike.fault))?;
+        match strike.before {
+            1 => write!(text, ", struck 1 instruction before")?,
+            count => write!(text, ", struck {count} instructions before")?,
+        }
+        before = "; ";
+    }
+    writeln!(text, ".")
+}

@@ -2,7 +2,7 @@
 after the definitions and for no speed, so that one shows an error of the other."""
 import dataclasses
 
-from auditing.jobs import Entry, Job
+from auditing.jobs import Entry, Fault, Job
 from auditing.kernel import Blocked, Call, Done, Effect, Ends, Kernel, Served, opening_kernel
 from auditing.replicas import Change, PageFault, Replica, Stands, Stop, Trap, View
 from journals import Free, Put, Take, Vote
@@ -40,6 +40,23 @@ class Won:
     event: Event
 
 
+@dataclasses.dataclass
+class Copy:
+    """A replica that lost a vote and became as the winner."""
+    place: int  # of the vote's entry
+    thread: int
+    replica: int
+    differed: list[str]  # the parts of its view that were not the winner's
+    undone: list[tuple[Fault, int]]  # what had struck it since its last copy, and how many instructions of its thread before
+
+
+def unlike(one: View, other: View) -> list[str]:
+    """The parts in which two views differ."""
+    registers = [f"x{number}" for number in range(1, 32) if one[0][number] != other[0][number]]
+    rest = zip(("pc", "since", "stop", "payload"), one[1:], other[1:])
+    return registers + [name for name, mine, theirs in rest if mine != theirs]
+
+
 def verdict(views: list[View]) -> tuple[int, tuple[int, ...]] | None:
     for number, view in enumerate(views):
         if 2 * views.count(view) > len(views):
@@ -59,6 +76,9 @@ class Core:
         self.wrote = 0  # how many bytes the last entry's event wrote
         self.due: str | None = None  # an end that must come next
         self.ended: str | None = None
+        self.views: list[View] = []  # of the end differ or no-majority, those that had no majority
+        self.entries = 0  # how many were done
+        self.copies: list[Copy] = []
 
     def do(self, entry: Entry):
         """What an entry does; Illegal where it isn't allowed."""
@@ -72,6 +92,7 @@ class Core:
             self.free(entry.thread)
         else:
             self.end(entry.how)
+        self.entries += 1
 
     # ---- What can be done
 
@@ -171,9 +192,18 @@ class Core:
         came = won.winner, won.losers, won.count, won.event.did
         needs(came == (entry.winner, entry.losers, entry.steps, entry.did), f"the vote comes to {came}")
         needs(self.steps + won.count + STEPS[entry.did] <= self.job.limit, "it passes the limit")
+        self.copies += [self.copy(entry.thread, won.winner, loser) for loser in won.losers]
         for loser in won.losers:
             self.replicas[loser].become(self.replicas[won.winner])
         self.occur(entry.thread, won.count, won.event)
+
+    def copy(self, thread: int, winner: int, loser: int) -> Copy:
+        """The copy that is about to be made."""
+        replica = self.replicas[loser]
+        undone = [(fault, replica.threads[fault.thread].done - fault.moment)
+                  for fault in self.job.faults if fault in replica.struck]
+        differed = unlike(self.replicas[winner].view(thread), replica.view(thread))
+        return Copy(self.entries, thread, loser, differed, undone)
 
     def free(self, thread: int):
         needs(self.may_free(thread), "the thread can't be freed")
@@ -189,6 +219,9 @@ class Core:
         needs(how == self.due or self.ends_alone(how)
               or any(self.may_vote(thread) and self.ends_vote(thread, how) for thread in threads)
               or any(self.may_free(thread) and self.is_passed(how, 1) for thread in threads), "the run doesn't end so")
+        if how in ("differ", "no-majority"):
+            split = next(thread for thread in threads if self.may_vote(thread) and self.won(thread) is None)
+            self.views = [replica.view(split) for replica in self.replicas]
         if how.startswith("sink "):
             self.output = self.output[:len(self.output) - self.wrote + int(how.split(" ")[1])]
         self.wrote, self.due, self.ended = 0, None, how

@@ -61,6 +61,7 @@ class Replica(Machine):
         super().__init__(job.file, job.functions, job.input, job.watchdog, job.limit)
         self.threads = [Thread(self.registers, self.pc)]
         self.waiting = [fault for fault in job.faults if fault.replica == number]
+        self.struck: list[Fault] = []  # since it was last made a copy
         self.storing = 0, b""
 
     # ---- What a thread does next
@@ -124,6 +125,7 @@ class Replica(Machine):
         self.waiting = [fault for fault in self.waiting if fault not in due]
         for fault in due:
             self.flip(thread, fault)
+        self.struck += due
         return len(due)
 
     def flip(self, thread: Thread, fault: Fault):
@@ -153,6 +155,7 @@ class Replica(Machine):
 
     def become(self, winner: "Replica"):
         """A copy of the winner, but for what this replica has retired itself and its own faults."""
+        self.struck = []
         self.pages = {page: bytearray(data) for page, data in winner.pages.items()}
         self.threads = [dataclasses.replace(theirs, registers=[*theirs.registers], done=own.done)
                         for theirs, own in zip(winner.threads, self.threads)]

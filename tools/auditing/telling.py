@@ -1,0 +1,106 @@
+"""What an audit tells of a journal: its JSON, and the sentences of its copies."""
+from auditing.cores import Copy, Core, Judged, unlike
+from auditing.drawing import line_of
+from auditing.jobs import Entry, Fault
+from auditing.kernel import Call
+from auditing.replicas import PageFault, Stop, Trap, Watchdog
+from journals import Vote
+
+LEFT_OUT = "function", "instruction", "why"  # what a file's symbols and words tell, and why an entry is not allowed
+
+WORDS = {  # of the parts of a view
+    "pc": "the pc", "since": "the instructions since the last vote", "stop": "what it stands at", "payload": "what is written"}
+
+
+def told(judged: Judged, entries: list[Entry]) -> dict:
+    """The JSON of a journal, but for what is left out."""
+    copies = [copy_told(copy) for copy in judged.core.copies]
+    if judged.place is not None:
+        line = line_of(entries[judged.place])
+        return {"entries": len(entries), "verdict": "illegal", "place": judged.place, "entry": line, "copies": copies}
+    end = end_told(judged.core, entries) if judged.core.ended else None
+    return {"entries": len(entries), "verdict": "legal", "steps": judged.core.steps, "end": end, "copies": copies}
+
+
+def without_left_out(value):
+    """The same of what came."""
+    if isinstance(value, dict):
+        return {name: without_left_out(member) for name, member in value.items() if name not in LEFT_OUT}
+    return [without_left_out(item) for item in value] if isinstance(value, list) else value
+
+
+def fault_line(fault: Fault) -> str:
+    where = "" if fault.kind == "pc" else f"{fault.number} "
+    return f"{fault.replica} {fault.thread} {fault.moment} {fault.kind} {where}{fault.bit}"
+
+
+def copy_told(copy: Copy) -> dict:
+    undone = [{"fault": fault_line(fault), "before": before} for fault, before in copy.undone]
+    return {"place": copy.place, "thread": copy.thread, "replica": copy.replica, "differed": copy.differed, "undone": undone}
+
+
+def copy_line(copy: Copy) -> str:
+    """The sentences of a copy."""
+    *most, last = [WORDS.get(part, part) for part in copy.differed]
+    parts = f"{', '.join(most)} and {last}" if most else last
+    strikes = [f"{fault_line(fault)}, struck {before} instruction{'' if before == 1 else 's'} before" for fault, before in copy.undone]
+    explained = f"Undone: {'; '.join(strikes)}." if strikes else "No fault of the list in that replica explains it."
+    made = f"At entry {copy.place} replica {copy.replica} was overwritten at a vote on thread {copy.thread}"
+    return f"{made}: {parts} differed. {explained}"
+
+
+# ---- Ends
+
+def end_told(core: Core, entries: list[Entry]) -> dict:
+    how, *numbers = core.ended.split(" ")
+    first, *rest = [int(number) for number in numbers] or [0]
+    more = {
+        "exit": lambda: {"status": first},
+        "deadlock": lambda: {"threads": [waiting_told(core, thread) for thread in range(len(core.kernel.lives))]},
+        "trap": lambda: {"cause": first, "at": trap_told(core, entries)},
+        "limit": lambda: {"steps": first, "next": rest[0],
+                          "threads": [standing_told(core, thread) for thread in range(len(core.kernel.lives))]},
+        "differ": lambda: {"fields": fields_told(core)},
+        "no-majority": lambda: {"fields": fields_told(core)},
+        "sink": lambda: {"taken": first},
+    }
+    return {"how": how, **more[how]()}
+
+
+def waiting_told(core: Core, thread: int) -> dict:
+    if not core.kernel.lives_on(thread):
+        return {"thread": thread, "state": "exited"}
+    call = core.blocked.get(thread)
+    if call is None:
+        return {"thread": thread, "state": "unblocked"}
+    if call.which == "pthread_join":
+        return {"thread": thread, "state": "joins", "other": call.a0}
+    return {"thread": thread, "state": "locks", "mutex": call.a0, "owner": core.kernel.owners[call.a0]}
+
+
+def trap_told(core: Core, entries: list[Entry]) -> dict:
+    thread = [entry.thread for entry in entries if isinstance(entry, Vote) and entry.did == "trapped"][-1]
+    trapped = core.replicas[0].threads[thread]
+    return {"thread": thread, "pc": trapped.pc, "registers": trapped.registers[1:]}
+
+
+def stop_word(stop: Stop) -> str:
+    return {Call: "call", Trap: "trap", PageFault: "page_fault", Watchdog: "watchdog"}[type(stop)]
+
+
+def standing_told(core: Core, thread: int) -> dict:
+    stands = core.replicas[0].threads[thread]
+    if stands.stop is None:
+        return {"thread": thread, "pc": None, "stop": None}
+    return {"thread": thread, "pc": stands.pc, "stop": stop_word(stands.stop)}
+
+
+def fields_told(core: Core) -> list[dict]:
+    """The parts in which the views that had no majority differ."""
+    views = core.views
+    parts = {part for view in views for part in unlike(views[0], view)}
+    values = {"pc": [{"pc": pc} for _, pc, *_ in views], "since": [view[2] for view in views],
+              **{f"x{number}": [view[0][number] for view in views] for number in range(1, 32)},
+              "stop": [stop_word(view[3]) for view in views], "payload": [len(view[4]) for view in views]}
+    order = ["pc", "since", *(f"x{number}" for number in range(1, 32)), "stop", "payload"]
+    return [{"part": part, "values": values[part]} for part in order if part in parts]

@@ -1,11 +1,12 @@
 -- The image of an executable file, or the code by which it is refused.
-use Rattle.std.specs.Prelude.{◌≡◌, ◌≤◌, ℕ, ◌+◌, ◌*◌, ◌/◌, true, false, max, List, [], ◌∷◌, Option, Some, None, Result, Ok, Err, fold, map, slice_range}
+use Rattle.std.specs.Prelude.{◌≡◌, ◌≤◌, ℕ, ◌+◌, ◌*◌, ◌/◌, true, false, max, List, [], ◌∷◌, Option, Some, None, Result, Ok, Err, fold, map, slice_range, is_none, if◌then◌else◌}
 use Rattle.ro_elf.specs.Header.{section_table_of}
 use Rattle.ro_elf.specs.Segments.{end_of, is_readable, is_writable, is_executable}
 use Rattle.ro_elf.specs.Elf.{Elf, elf_of, bad_headers}
 use Rattle.ro_elf.specs.declared.segments.Segment.{Segment}
 use Rattle.ro_event.specs.declared.table.CallTable.{CallTable}
 use Rattle.ro_region.specs.declared.Range.{Range}
+use Rattle.ro_sym.specs.Addresses.{Position, function_over}
 use Rattle.ro_sym.specs.Calls.{calls_of}
 use Rattle.ro_image.specs.Image.{Piece, Image, ranges_with}
 use Rattle.ro_image.specs.declared.errors.ImageError.{ImageError}
@@ -85,3 +86,7 @@ image_of bytes = image_from bytes (elf_of bytes) (table_of (calls_of bytes (sect
 abbrev pub Refuses : List ℕ → ImageError → Type 0
 Refuses bytes (Bad exe) = bad_code bytes ≡ Some exe.code
 Refuses bytes NoMemory = Unit {0}
+
+-- where an address lies in the functions of a file whose headers are accepted
+abbrev pub function_in : List ℕ → (address : ℕ) → Option Position
+function_in bytes address = if is_none (bad_headers bytes) then function_over bytes (section_table_of bytes) address else None

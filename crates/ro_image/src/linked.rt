@@ -174,3 +174,42 @@ fn of_llvm(rt: HostRuntime) {
     assert_eq!(rt; image.heap(), 0x1_3000);
     assert_eq!(rt; image.calls().addresses()[0], Some(0x1_1174));
 }
+
+// The function at an address of a file, by its name, and the place in it.
+fn check_function(rt: &impl Abort, file: &[u8], address: u32, want: Option<(&str, u32)>) {
+    let found = function_at(file, address).map(|within| (within.name, within.offset));
+    let want = want.map(|(name, offset)| (name.as_bytes(), offset));
+    assert_eq!(rt; found, want, "at {address:x}");
+}
+
+#[test]
+fn functions_of_gnu(rt: HostRuntime) {
+    for (address, want) in [
+        (0x1_00C7, None),
+        (0x1_00C8, Some(("work", 0))),
+        (0x1_00EF, Some(("work", 39))),
+        (0x1_00F0, Some(("_start", 0))),
+        (0x1_0147, Some(("_start", 87))),
+        (0x1_0148, Some(("pthread_create", 0))),
+        (0x1_014B, Some(("pthread_create", 3))),
+        (0x1_014C, None),
+        (0x1_114C, None),
+    ] {
+        check_function(&rt, &GNU, address, want);
+    }
+    check_function(&rt, &GNU[..51], 0x1_00C8, None);
+}
+
+#[test]
+fn functions_of_llvm(rt: HostRuntime) {
+    for (address, want) in [
+        (0x1_00D4, None),
+        (0x1_110B, Some(("work", 47))),
+        (0x1_110C, Some(("_start", 0))),
+        (0x1_1173, Some(("_start", 103))),
+        (0x1_1177, Some(("pthread_create", 3))),
+        (0x1_1178, None),
+    ] {
+        check_function(&rt, &LLVM, address, want);
+    }
+}

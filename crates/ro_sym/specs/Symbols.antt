@@ -1,6 +1,6 @@
 -- The function symbols of an ELF32 file and their names.
-use Rattle.std.specs.Prelude.{ℕ, ◌%◌, Bool, true, ◌&&◌, List, Option, Some, None, drop, find, nat_eq, nat_lt, ◌==◌, if◌then◌else◌}
-use Rattle.std.specs.List.{list_any, list_all, starts_with}
+use Rattle.std.specs.Prelude.{ℕ, ◌+◌, ◌%◌, Bool, true, ◌&&◌, List, Option, Some, None, drop, find, max, nat_eq, nat_le, nat_lt, ◌==◌, if◌then◌else◌}
+use Rattle.std.specs.List.{list_any, list_all, starts_with, before_first}
 use Rattle.ro_elf.specs.Numbers.{byte_in, half_in, word_in}
 use Rattle.ro_sym.specs.declared.symbols.Symbol.{Symbol}
 use Rattle.ro_sym.specs.declared.symbols.Place.{Place}
@@ -8,7 +8,7 @@ use Rattle.ro_sym.specs.declared.symbols.Place.TheVariants.{Nowhere, At, Several
 
 -- a symbol by its 16 bytes
 unfoldable pub symbol_in : List ℕ → Symbol
-symbol_in entry = record { name = word_in entry 0; value = word_in entry 4; info = byte_in entry 12; section = half_in entry 14 }
+symbol_in entry = record { name = word_in entry 0; value = word_in entry 4; size = word_in entry 8; info = byte_in entry 12; section = half_in entry 14 }
 
 -- of the type of functions, and defined in a section of the file
 abbrev pub is_function : Symbol → Bool
@@ -44,3 +44,15 @@ place_from strings name symbols (Some first) = if list_all (agrees strings name 
 
 abbrev pub place_of : (strings : List ℕ) → List Symbol → (name : List ℕ) → Place
 place_of strings symbols name = place_from strings name symbols (find (is_called strings name) symbols)
+
+-- the bytes from its value on hold the address, as many as its size says, or one where that is 0
+abbrev pub holds : (address : ℕ) → Symbol → Bool
+holds address symbol = nat_le symbol.value address && nat_lt address (symbol.value + max symbol.size 1)
+
+-- a function whose bytes hold the address
+abbrev pub is_around : (address : ℕ) → Symbol → Bool
+is_around address symbol = is_function symbol && holds address symbol
+
+-- the string from a place on, up to its first zero byte
+abbrev pub string_at : (strings : List ℕ) → (place : ℕ) → List ℕ
+string_at strings place = before_first (λ b. b == 0) (drop place strings)

@@ -1,11 +1,13 @@
-//! The functions of POSIX threads that an executable names: where its symbols put each of the nine, or why its symbols are
-//! refused. Nothing here takes memory.
+//! The functions that an executable names: where its symbols put each of the nine of POSIX threads, or why its symbols are
+//! refused; and which function an address lies in. Nothing here takes memory.
 #![tactic(auto)]
 
+mod addresses;
 mod sections;
 mod symbols;
 mod table;
 
+pub use addresses::{Within, function_at};
 pub use table::calls;
 
 #[cfg(test)]

@@ -1,7 +1,7 @@
 //! Function symbols and their names.
-ghost use Rattle.std.specs.Prelude.{◌≡◌, ℕ, ◌<◌, nat_lt, length, map, find, drop, nat_eq};
-ghost use Rattle.std.specs.List.{list_all, starts_with};
-ghost use Rattle.ro_sym.specs.Symbols.{symbol_in, is_function, is_ended, is_below, are_ended, is_called, agrees, place_of};
+ghost use Rattle.std.specs.Prelude.{◌≡◌, ◌==◌, ℕ, ◌<◌, ◌≤◌, IfSome, nat_lt, length, map, find, drop, position, nat_eq};
+ghost use Rattle.std.specs.List.{list_all, position_or_len, starts_with};
+ghost use Rattle.ro_sym.specs.Symbols.{symbol_in, is_function, is_ended, is_below, are_ended, is_called, agrees, place_of, holds, is_around, string_at};
 
 use crate::sections::SYMBOL_SIZE;
 use ro_elf::{half_at, word_at};
@@ -10,6 +10,8 @@ use ro_elf::{half_at, word_at};
 const ST_NAME: usize = 0;
 
 const ST_VALUE: usize = 4;
+
+const ST_SIZE: usize = 8;
 
 const ST_INFO: usize = 12;
 
@@ -21,12 +23,13 @@ const STT_FUNC: u8 = 2;
 /// The section of a symbol that is defined in no section.
 const SHN_UNDEF: u16 = 0;
 
-/// A symbol: the place of its name among the strings, its value, its type in the low four bits of `info`, and the number of
-/// the section that it is defined in, or 0.
+/// A symbol: the place of its name among the strings, its value, how many bytes it has from there on, its type in the low
+/// four bits of `info`, and the number of the section that it is defined in, or 0.
 #[derive(Clone, Copy, PartialEq, Eq, Debug)]
 pub(crate) struct Symbol {
     pub(crate) name: u32,
     pub(crate) value: u32,
+    pub(crate) size: u32,
     pub(crate) info: u8,
     pub(crate) section: u16,
 }
@@ -48,6 +51,7 @@ impl Symbol {
         Symbol {
             name: word_at(entry, ST_NAME),
             value: word_at(entry, ST_VALUE),
+            size: word_at(entry, ST_SIZE),
             info: entry[ST_INFO],
             section: half_at(entry, ST_SHNDX),
         }
@@ -81,6 +85,20 @@ impl Symbol {
         ensures { result ≡ agrees strings.now name.now value self.now }
     {
         !self.has_name(strings, name) || self.value == value
+    }
+
+    // Whether its bytes hold an address; where it has no size, its value is its one byte.
+    fn holds(&self, address: u32) -> bool
+        ensures { result ≡ holds address self.now }
+    {
+        self.value <= address && address - self.value < self.size.max(1)
+    }
+
+    // Whether it is a function whose bytes hold an address.
+    fn is_around(&self, address: u32) -> bool
+        ensures { result ≡ is_around address self.now }
+    {
+        self.is_defined_function() && self.holds(address)
     }
 }
 
@@ -157,4 +175,50 @@ pub(crate) fn find_place(symbols: &[[u8; SYMBOL_SIZE]], strings: &[u8], name: &[
     } else {
         Place::Several
     }
+}
+
+// The first function whose bytes hold an address.
+pub(crate) fn find_around(symbols: &[[u8; SYMBOL_SIZE]], address: u32) -> Option<Symbol>
+    ensures found { result ≡ find (is_around address) (map symbol_in symbols.now) }
+    ensures starts { IfSome result (λ symbol. symbol.value ≤ address) }
+{
+    symbols
+        .iter()
+        .map(|entry| Symbol::from_entry(entry))
+        .find(|symbol| symbol.is_around(address))
+}
+
+// The string from a place on, up to its first zero byte.
+pub(crate) fn string_from(strings: &[u8], place: u32) -> &[u8]
+    ensures { result.now ≡ string_at strings.now place }
+{
+    let rest = bytes_from(strings, place as usize);
+    &rest[..string_len(rest)]
+}
+
+// The bytes from a place on.
+fn bytes_from(bytes: &[u8], place: usize) -> &[u8]
+    ensures { result.now ≡ drop place bytes.now }
+{
+    if place < bytes.len() {
+        &bytes[place..]
+    } else {
+        &[]
+    }
+}
+
+// How many bytes stand before the first zero byte.
+#[tactic(auto, using(crate::proofs::Ends::first_place))]
+fn string_len(bytes: &[u8]) -> usize
+    ensures len { result ≡ position_or_len (λ b. b == 0) bytes.now }
+    ensures within { result ≤ length bytes.now }
+{
+    zero_place(bytes).unwrap_or(bytes.len())
+}
+
+// Where the first zero byte stands.
+fn zero_place(bytes: &[u8]) -> Option<usize>
+    ensures { result ≡ position (λ b. b == 0) bytes.now }
+{
+    bytes.iter().position(|byte| *byte == 0)
 }

@@ -106,3 +106,143 @@ fn cut_files(rt: HostRuntime) {
         assert_eq!(rt; code_of(&rt, &THREADS[..len]), code, "of {len} bytes");
     }
 }
+
+// Bytes of the file that are changed, an address, and the function that it lies in with the place in it.
+struct Row {
+    changes: &'static [(usize, u8)],
+    address: u32,
+    want: Option<(&'static str, u32)>,
+}
+
+const ROWS: &[Row] = &[
+    // five functions in a row, none with a size
+    Row {
+        changes: &[],
+        address: 0x1_00CB,
+        want: None,
+    },
+    Row {
+        changes: &[],
+        address: 0x1_00CC,
+        want: Some(("pthread_create", 0)),
+    },
+    Row {
+        changes: &[],
+        address: 0x1_00CD,
+        want: None,
+    },
+    Row {
+        changes: &[],
+        address: 0x1_00DC,
+        want: Some(("pthread_exit", 0)),
+    },
+    // the first has three bytes
+    Row {
+        changes: &[(264, 3)],
+        address: 0x1_00CE,
+        want: Some(("pthread_create", 2)),
+    },
+    Row {
+        changes: &[(264, 3)],
+        address: 0x1_00CF,
+        want: None,
+    },
+    // the first has the bytes of all, but for the last
+    Row {
+        changes: &[(264, 16)],
+        address: 0x1_00DB,
+        want: Some(("pthread_create", 15)),
+    },
+    Row {
+        changes: &[(264, 16)],
+        address: 0x1_00DC,
+        want: Some(("pthread_exit", 0)),
+    },
+    // the last has a byte, and 256
+    Row {
+        changes: &[(328, 1)],
+        address: 0x1_00DD,
+        want: None,
+    },
+    Row {
+        changes: &[(329, 1)],
+        address: 0x1_01DB,
+        want: Some(("pthread_exit", 255)),
+    },
+    Row {
+        changes: &[(329, 1)],
+        address: 0x1_01DC,
+        want: None,
+    },
+    // the first is no function, or of no section
+    Row {
+        changes: &[(268, 1)],
+        address: 0x1_00CC,
+        want: None,
+    },
+    Row {
+        changes: &[(270, 0)],
+        address: 0x1_00CC,
+        want: None,
+    },
+    // the first has eight bytes up to the end of the addresses and past it
+    Row {
+        changes: &[(260, 0xFC), (261, 0xFF), (262, 0xFF), (263, 0xFF), (264, 8)],
+        address: 0xFFFF_FFFF,
+        want: Some(("pthread_create", 3)),
+    },
+    Row {
+        changes: &[(260, 0xFC), (261, 0xFF), (262, 0xFF), (263, 0xFF), (264, 8)],
+        address: 0,
+        want: None,
+    },
+    // its name is another one, or ends with the strings, or stands behind them
+    Row {
+        changes: &[(256, 9)],
+        address: 0x1_00CC,
+        want: Some(("create", 0)),
+    },
+    Row {
+        changes: &[(520, 5)],
+        address: 0x1_00CC,
+        want: Some(("pthr", 0)),
+    },
+    Row {
+        changes: &[(257, 1)],
+        address: 0x1_00CC,
+        want: Some(("", 0)),
+    },
+    // no symbol table, and section headers of another size
+    Row {
+        changes: &[(464, 1)],
+        address: 0x1_00CC,
+        want: None,
+    },
+    Row {
+        changes: &[(46, 39)],
+        address: 0x1_00CC,
+        want: None,
+    },
+];
+
+#[test]
+fn functions_at_addresses(rt: HostRuntime) {
+    for row in ROWS {
+        let mut file = THREADS;
+        for (at, value) in row.changes {
+            assert!(rt; *at < file.len());
+            file[*at] = *value;
+        }
+        let Ok(elf) = read_elf(&file) else {
+            panic!(rt; "its headers are accepted");
+        };
+        let found = function_at(&file, elf.sections(), row.address);
+        let want = row.want.map(|(name, offset)| (name.as_bytes(), offset));
+        assert_eq!(rt;
+            found.map(|within| (within.name, within.offset)),
+            want,
+            "at {:x}",
+            row.address
+        );
+    }
+}

@@ -1,0 +1,20 @@
+//! The functions of an executable file by their addresses.
+ghost use Rattle.std.specs.Prelude.{◌≡◌};
+ghost use Rattle.std.specs.Option.{option_map};
+ghost use Rattle.ro_sym.specs.Addresses.{position_of};
+ghost use Rattle.ro_image.specs.Executable.{function_in};
+
+use ro_elf::read_elf;
+use ro_sym::Within;
+
+/// The function that holds an address of an executable's file: the first function symbol of its first symbol table whose
+/// bytes hold the address. A symbol without a size holds its value alone. None where there is no such function, and where the
+/// file's headers, its sections or its symbols aren't as they must be (ELF32).
+///
+/// Its name ends before its first zero byte, or with the strings.
+pub fn function_at(bytes: &[u8], address: u32) -> Option<Within<'_>>
+    ensures { option_map position_of result ≡ function_in bytes.now address }
+{
+    let elf = read_elf(bytes).ok()?;
+    ro_sym::function_at(bytes, elf.sections(), address)
+}

@@ -1,6 +1,6 @@
 //! A replica in a block of its own, so that it moves as one word.
 ghost use Rattle.std.specs.Prelude.{◌≡◌, ◌≤◌, IfOk, IsTrue, OnOk, Some, is_some};
-ghost use Rattle.ro_replica.specs.Replica.{applied, cancelled, stop_of};
+ghost use Rattle.ro_replica.specs.Replica.{applied, cancelled, stop_of, word_at};
 ghost use Rattle.ro_replica.specs.Seen.{replica_of, AreTwins, CanApply, CanCount, Keeps, Recovers, Runs, SameProgram};
 ghost use Rattle.ro_replica.specs.Views.{is_unstopped, view_of};
 
@@ -64,6 +64,14 @@ impl ReplicaBox {
         ensures { result ≡ stop_of (replica_of self.now) thread }
     {
         self.replica.stop(thread)
+    }
+
+    /// The word at an address in little-endian order, as a fetch of a program sees it, whoever may execute it. None where the
+    /// address is no multiple of 4, which no fetch gets past, and where its page isn't backed.
+    pub fn word(&self, address: u32) -> Option<u32>
+        ensures { result ≡ word_at (replica_of self.now) address }
+    {
+        self.replica.word(address)
     }
 
     /// Shows a thread that stands still.

@@ -1,12 +1,13 @@
 //! Replicas.
 ghost use Rattle.std.specs.Prelude.{◌≡◌, ◌≤◌, OnOk};
-ghost use Rattle.ro_replica.specs.Replica.{stop_of};
+ghost use Rattle.ro_replica.specs.Replica.{stop_of, word_at};
 ghost use Rattle.ro_replica.specs.Views.{is_unstopped};
 ghost use Rattle.ro_replica.specs.Seen.{replica_of, Keeps};
 
 use crate::waiting::Waiting;
 use ro_event::{CallTable, Stop};
-use ro_pages::Pages;
+use ro_limits::PAGE_SIZE;
+use ro_pages::{Memory, Pages};
 use ro_region::Regions;
 use ro_thread::Thread;
 use std::alloc::AllocError;
@@ -67,5 +68,16 @@ impl Replica {
         ensures { result ≡ stop_of (replica_of self.now) thread }
     {
         self.threads.get(thread as usize)?.stop
+    }
+
+    /// The word at an address in little-endian order, as a fetch of a program sees it, whoever may execute it. None where the
+    /// address is no multiple of 4, which no fetch gets past, and where its page isn't backed.
+    pub fn word(&self, address: u32) -> Option<u32>
+        ensures { result ≡ word_at (replica_of self.now) address }
+    {
+        if address % 4 != 0 || !self.pages.backed(address / PAGE_SIZE) {
+            return None;
+        }
+        Some(self.pages.load(address, 4))
     }
 }

@@ -340,3 +340,28 @@ fn sees_what_is_written(rt: HostRuntime) -> Result<(), Fail> {
     assert!(rt; !first.same(&another));
     Ok(())
 }
+
+// Words of the program, of the heap once its page is backed, and none where it isn't or at no multiple of 4.
+#[test]
+fn words_as_they_are_fetched(rt: HostRuntime) -> Result<(), Fail> {
+    let image = image(&rt, rt.alloc());
+    let mut replica = opened(rt.alloc(), &image, 0, &[])?;
+    assert_eq!(rt; replica.word(HEAP), None);
+    let bytes = Vec::from_slice(rt.alloc(), &[1, 2, 3, 4, 0xFF])?;
+    apply(&rt, &mut replica, &stores(HEAP, bytes))?;
+    let replica = ReplicaBox::new(rt.alloc(), replica)?;
+    for (address, want) in [
+        (0x1_0054, Some(0x0070_0513)),
+        (0x1_005C, Some(0x0000_0073)),
+        (0x1_0060, Some(0)),
+        (0x1_0056, None),
+        (HEAP, Some(0x0403_0201)),
+        (HEAP + 4, Some(0xFF)),
+        (HEAP + 1, None),
+        (0x1_2000, None),
+        (0xFFFF_FFFC, None),
+    ] {
+        assert_eq!(rt; replica.word(address), want, "at {address:x}");
+    }
+    Ok(())
+}

@@ -1,7 +1,8 @@
-//! Places of a program, with what its executable says of them.
+//! Places of a program, with what its executable and its memory say of them.
 use crate::findings::{Function, Instruction, Place};
+use ro_assembly::{address_touched, instruction_text};
 use ro_audit::Trail;
-use ro_event::View;
+use ro_event::{Stop, View};
 use std::alloc::{AllocError, Global};
 
 /// The place of a pc.
@@ -10,20 +11,60 @@ pub(crate) fn place_at(alloc: Global, executable: &[u8], pc: u32) -> Result<Plac
     Ok(Place { pc, function })
 }
 
-// The function of an executable that holds an address: none is looked for.
+// The function of an executable that holds an address, if it has a name.
 fn function_at(
-    _alloc: Global,
-    _executable: &[u8],
-    _address: u32,
+    alloc: Global,
+    executable: &[u8],
+    address: u32,
 ) -> Result<Option<Function>, AllocError> {
-    Ok(None)
+    match ro_image::function_at(executable, address) {
+        Some(within) if !within.name.is_empty() => Ok(Some(Function {
+            name: printable(alloc, within.name)?,
+            offset: within.offset,
+        })),
+        _ => Ok(None),
+    }
 }
 
-/// The instruction where a view stands: its word is not looked for.
+// A symbol's name as a text: a byte that is no printable ASCII is `?`.
+fn printable(alloc: Global, name: &[u8]) -> Result<String, AllocError> {
+    let mut text = String::new(alloc);
+    for byte in name {
+        let shown = match *byte {
+            33..=126 => char::from(*byte),
+            _ => '?',
+        };
+        text.push(shown)?;
+    }
+    Ok(text)
+}
+
+/// The instruction where a view stands, by its word in the memory of the first replica. None where that can't be read, and where
+/// the thread trapped before it was fetched.
 pub(crate) fn instruction_at(
-    _alloc: Global,
-    _trail: &Trail,
-    _view: &View,
+    alloc: Global,
+    trail: &Trail,
+    view: &View,
 ) -> Result<Option<Instruction>, AllocError> {
-    Ok(None)
+    if is_unfetched(view.stop()) {
+        return Ok(None);
+    }
+    match word_at(trail, view.pc()) {
+        Some(word) => Ok(Some(Instruction {
+            word,
+            text: instruction_text(alloc, word, view.pc())?,
+            touched: address_touched(word, view.registers()),
+        })),
+        None => Ok(None),
+    }
+}
+
+// Whether a trap is that of a pc at no multiple of 4, or of a fetch that is not permitted.
+fn is_unfetched(stop: &Stop) -> bool {
+    matches!(stop, Stop::Trap(1 | 2))
+}
+
+// A word of the first replica's memory.
+fn word_at(trail: &Trail, address: u32) -> Option<u32> {
+    trail.core().replica(0)?.word(address)
 }

@@ -430,6 +430,47 @@ fn copies(rt: HostRuntime) -> Result<(), Fail> {
     assert_found(&rt, alloc, SHORT, faults, ALIKE, sentences.as_slice(), json)
 }
 
+// A guest whose first instruction loads where nothing may be read, and its journal.
+const LOADS_NOTHING: &[u32] = &[0x0000_2503];
+
+const TRAPPED: &str = "romain 2
+take 0 0 0
+put 0 0 0 0 0
+take 0 1 0
+put 0 1 0 0 0
+take 0 2 0
+put 0 2 0 0 0
+vote 0 0 0 - trapped
+end trap 6
+";
+
+#[test]
+fn the_instruction_that_trapped(rt: HostRuntime) -> Result<(), Fail> {
+    let sentences = [
+        "legal",
+        "The journal has 8 entries, and its plan 1 steps.",
+        "The program trapped by cause 6: a load where it is not permitted.",
+        "Thread 0 stands at pc 00010054, with these registers:",
+        "x1 00000000 x2 7000fff0 x3 00000000 x4 00000000 x5 00000000 x6 00000000 x7 00000000 x8 00000000",
+        "x9 00000000 x10 00000000 x11 00000000 x12 00000000 x13 00000000 x14 00000000 x15 00000000 x16 00000000",
+        "x17 00000000 x18 00000000 x19 00000000 x20 00000000 x21 00000000 x22 00000000 x23 00000000 x24 00000000",
+        "x25 00000000 x26 00000000 x27 00000000 x28 00000000 x29 00000000 x30 00000000 x31 00000000",
+        "The instruction there is 00002503, lw a0, 0(zero).",
+        "It touches the address 00000000.",
+    ];
+    let json =
+        r#"{"copies":[],"end":{"at":{"function":null,"instruction":{"text":"lw a0, 0(zero)","touched":0,"word":9475},"pc":65620,"registers":[0,1879113712,0,0,0,0,0,0,0,0,0,0,0,0,0,0,0,0,0,0,0,0,0,0,0,0,0,0,0,0,0],"thread":0},"cause":6,"how":"trap"},"entries":8,"steps":1,"verdict":"legal"}"#;
+    assert_found(
+        &rt,
+        rt.alloc(),
+        LOADS_NOTHING,
+        "",
+        TRAPPED,
+        sentences.as_slice(),
+        json,
+    )
+}
+
 // What is told of the journal of a guest that runs as three replicas with one driver and these faults.
 fn assert_found(
     rt: &impl Abort,

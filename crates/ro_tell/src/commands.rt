@@ -52,9 +52,7 @@ pub fn audit_words<S: Store>(alloc: Global, words: &[&str], store: &mut S) -> Re
     ensures words { IfErr result (λ answer. answer ≡ a.BadWords → audit_of (texts_of words.now) ≡ None) }
 {
     match parse_audit(alloc, words) {
-        Ok(audit) => {
-            audit_files(alloc, &audit.run, audit.journal, form_of(&audit), store)
-        }
+        Ok(audit) => { audit_files(alloc, &audit.run, audit.journal, form_of(&audit), store) }
         Err(error) => Err(answer_of(error)),
     }
 }

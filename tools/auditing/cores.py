@@ -1,4 +1,4 @@
-"""The core of a run and its journal, after crates/ro_core/specs: which entries are allowed in a core, and what each does. Written
+"""The core of a run and its journal, after crates/ro_legal/specs: which entries are allowed in a core, and what each does. Written
 after the definitions and for no speed, so that one shows an error of the other."""
 import dataclasses
 

@@ -5,14 +5,14 @@ use Rattle.std.proofs.lemmas.Bool.{and_parts, cases_lt}
 use Rattle.ro_journal.specs.declared.How.{How}
 use Rattle.ro_journal.specs.declared.How.TheVariants.{Exit, Deadlock, Trap, Limit, Differ, NoMajority, Sink}
 use Rattle.ro_journal.specs.declared.Entry.TheVariants.{End}
-use Rattle.ro_core.specs.declared.actions.Action.TheVariants.{Vote as DoVote, Free as DoFree, End as DoEnd, Wait}
-use Rattle.ro_core.specs.Core.{Job, Core, is_going, nothing_lent, is_lendable, may_vote, may_free}
-use Rattle.ro_core.specs.Legal.{any_below, is_stuck, IsAllowed, MayEnd, due, alone, for_vote, for_free, EndsAlone}
-use Rattle.ro_core.specs.Action.{or_else, lowest_below, map_action, threads_made, lend_next, first_action, action_or, next_action}
-use Rattle.ro_core.specs.Sound.{IsOrdered, IsOver}
-use Rattle.ro_core.proofs.Nexts.{next_due, next_first}
+use Rattle.ro_legal.specs.declared.actions.Action.TheVariants.{Vote as DoVote, Free as DoFree, End as DoEnd, Wait}
+use Rattle.ro_legal.specs.Core.{Job, Core, is_going, nothing_lent, is_lendable, may_vote, may_free}
+use Rattle.ro_legal.specs.Legal.{any_below, is_stuck, IsAllowed, MayEnd, due, alone, for_vote, for_free, EndsAlone}
+use Rattle.ro_legal.specs.Action.{or_else, lowest_below, map_action, threads_made, lend_next, first_action, action_or, next_action}
+use Rattle.ro_legal.specs.Sound.{IsOrdered, IsOver}
+use Rattle.ro_legal.proofs.Nexts.{next_due, next_first}
 use Rattle.ro_core.proofs.Tests.{any-lowest, lend-test, lends-nothing}
-use Rattle.ro_core.proofs.Ordered.{going-parts, vote-parts, free-parts}
+use Rattle.ro_legal.proofs.Ordered.{going-parts, vote-parts, free-parts}
 use Rattle.ro_core.proofs.Votes.{lives-within}
 use Rattle.ro_audit.specs.Following.{NotInPlace}
 

@@ -9,15 +9,15 @@ use Rattle.ro_journal.specs.declared.Entry.{Entry}
 use Rattle.ro_journal.specs.declared.Entry.TheVariants.{Take, Put}
 use Rattle.ro_replica.specs.Seen.{replica_of}
 use Rattle.ro_lease.specs.Loans.{LentOf}
-use Rattle.ro_core.specs.declared.actions.Lease.{Lease}
-use Rattle.ro_core.specs.Core.{Job, Core, is_idle, is_out}
-use Rattle.ro_core.specs.Legal.{is_lease, after, IsAllowed, MayTake, MayPut}
+use Rattle.ro_legal.specs.declared.actions.Lease.{Lease}
+use Rattle.ro_legal.specs.Core.{Job, Core, is_idle, is_out}
+use Rattle.ro_legal.specs.Legal.{is_lease, after, IsAllowed, MayTake, MayPut}
 use Rattle.ro_core.specs.Seen.{IsOfJob}
-use Rattle.ro_core.specs.Sound.{IsOrdered}
-use Rattle.ro_core.specs.Driven.{HasLease, Names}
-use Rattle.ro_core.proofs.Leases.{Apart, OneEach, has_driver, lease-parts, out_number}
-use Rattle.ro_core.proofs.Lasting.{out_after, idle_after, idle_after_put}
-use Rattle.ro_core.proofs.Ordered.{going-parts}
+use Rattle.ro_legal.specs.Sound.{IsOrdered}
+use Rattle.ro_legal.specs.Laws.{HasLease, Names}
+use Rattle.ro_legal.proofs.Leases.{Apart, OneEach, has_driver, lease-parts, out_number}
+use Rattle.ro_legal.proofs.Lasting.{out_after, idle_after, idle_after_put}
+use Rattle.ro_legal.proofs.Ordered.{going-parts}
 use Rattle.ro_audit.specs.Following.{Slot}
 
 abbrev pub its_lease : (driver : ℕ) → LentOf → Lease

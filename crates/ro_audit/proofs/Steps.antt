@@ -21,15 +21,16 @@ use Rattle.ro_replica.specs.Replica.{Replica, changed_at}
 use Rattle.ro_replica.specs.Runs.{RanTo, run_of, with_stop}
 use Rattle.ro_replica.specs.Seen.{ReplicaOf, replica_of, Runs}
 use Rattle.ro_lease.specs.Loans.{LentOf, BackOf, Gives}
-use Rattle.ro_core.specs.declared.actions.Lease.{Lease}
-use Rattle.ro_core.specs.Core.{Job, Core, opening_core, is_idle, may_vote, may_free}
-use Rattle.ro_core.specs.Event.{Event, call_event, with_recovered}
-use Rattle.ro_core.specs.Legal.{lease_run, arrived, core_after_put, core_after_event, event_in, freed_event, after, IsAllowed, MayTake, MayPut, Legal, replay, replay_with, output_of}
-use Rattle.ro_core.specs.Seen.{CoreOf, state, sent, sent_of, Opens, Appends, Quiet, Sends, IsLent, MayReturn, ReturnIs, DecidesVote, DecidesFree, lease_of}
-use Rattle.ro_core.proofs.Homes.{replay_more, legal_more}
-use Rattle.ro_core.proofs.Leases.{event_leases, leases_apart, one_each}
-use Rattle.ro_core.proofs.Ordered.{end-alone, vote-parts, free-parts, freed-is, ordered}
-use Rattle.ro_core.proofs.Single.{one-decides, one-frees}
+use Rattle.ro_legal.specs.declared.actions.Lease.{Lease}
+use Rattle.ro_legal.specs.Core.{Job, Core, opening_core, is_idle, may_vote, may_free, lease_of}
+use Rattle.ro_legal.specs.Event.{Event, call_event, with_recovered}
+use Rattle.ro_legal.specs.Legal.{lease_run, arrived, core_after_put, core_after_event, event_in, freed_event, after, IsAllowed, MayTake, MayPut, Legal, replay, replay_with, output_of}
+use Rattle.ro_core.specs.Seen.{CoreOf, state, sent, sent_of, Opens, Appends, Quiet, Sends, IsLent, MayReturn, ReturnIs}
+use Rattle.ro_legal.specs.Decides.{DecidesVote, DecidesFree}
+use Rattle.ro_legal.proofs.Journals.{replay_more, legal_more}
+use Rattle.ro_legal.proofs.Leases.{event_leases, leases_apart, one_each}
+use Rattle.ro_legal.proofs.Ordered.{end-alone, vote-parts, free-parts, freed-is, ordered}
+use Rattle.ro_legal.proofs.Single.{one-decides, one-frees}
 use Rattle.ro_core.proofs.Lending.{put_became, out_found}
 use Rattle.ro_audit.specs.Following.{Lends, Slot, Follows, Followed, IsInPlace, NotInPlace, Same, core_at}
 use Rattle.ro_audit.specs.declared.follower.InPlace.{InPlace}

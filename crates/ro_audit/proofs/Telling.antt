@@ -7,14 +7,13 @@ use Rattle.ro_journal.specs.declared.How.TheVariants.{Sink, Differ, NoMajority}
 use Rattle.ro_journal.specs.declared.Entry.{Entry}
 use Rattle.ro_journal.specs.declared.Entry.TheVariants.{End}
 use Rattle.ro_journal.specs.Plan.{outcome_of}
-use Rattle.ro_core.specs.Core.{Job, Core, is_going}
-use Rattle.ro_core.specs.Legal.{after, alone, IsAllowed, Legal, replay, output_of}
+use Rattle.ro_legal.specs.Core.{Job, Core, is_going}
+use Rattle.ro_legal.specs.Legal.{after, alone, IsAllowed, Legal, replay, output_of}
 use Rattle.ro_core.specs.Seen.{CoreOf}
-use Rattle.ro_core.proofs.Homes.{replay_more, legal_more}
+use Rattle.ro_legal.proofs.Journals.{replay_more, legal_more, outcome_of-append}
 use Rattle.ro_core.proofs.Held.{not-split}
-use Rattle.ro_core.proofs.Journals.{outcome_of-append}
-use Rattle.ro_core.proofs.Ordered.{going-parts, ordered}
-use Rattle.ro_core.proofs.Outcomes.{over_from, ended_is_outcome}
+use Rattle.ro_legal.proofs.Ordered.{going-parts, ordered}
+use Rattle.ro_legal.proofs.Outcomes.{over_from, ended_is_outcome}
 use Rattle.ro_audit.specs.declared.audits.Audited.{Audited}
 use Rattle.ro_audit.specs.Audits.{FirstIllegal, Tells}
 use Rattle.ro_audit.specs.Following.{AtEntry, core_at}

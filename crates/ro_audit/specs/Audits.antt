@@ -3,8 +3,8 @@ use Rattle.std.specs.Prelude.{◌≡◌, ◌≢◌, ℕ, List, [], ◌∷◌, �
 use Rattle.ro_journal.specs.declared.How.TheVariants.{Differ, NoMajority}
 use Rattle.ro_journal.specs.declared.Entry.{Entry}
 use Rattle.ro_journal.specs.Plan.{outcome_of}
-use Rattle.ro_core.specs.Core.{Job}
-use Rattle.ro_core.specs.Legal.{IsAllowed, Legal, replay, output_of}
+use Rattle.ro_legal.specs.Core.{Job}
+use Rattle.ro_legal.specs.Legal.{IsAllowed, Legal, replay, output_of}
 use Rattle.ro_core.specs.Seen.{KeepsViews}
 use Rattle.ro_audit.specs.declared.audits.Audited.{Audited}
 use Rattle.ro_audit.specs.declared.audits.AuditError.{AuditError}

@@ -7,9 +7,9 @@ use Rattle.ro_journal.specs.declared.Entry.TheVariants.{End}
 use Rattle.ro_settings.specs.Ranges.{InRange}
 use Rattle.ro_replica.specs.Seen.{replica_of}
 use Rattle.ro_lease.specs.Loans.{LentOf}
-use Rattle.ro_core.specs.Core.{Job, Core, is_going, is_idle, may_vote, may_free}
-use Rattle.ro_core.specs.Legal.{IsAllowed, Legal, EndsVote, EndsFree, replay, output_of}
-use Rattle.ro_core.specs.Seen.{CoreOf, IsOfJob, Appends, lease_of}
+use Rattle.ro_legal.specs.Core.{Job, Core, is_going, is_idle, may_vote, may_free, lease_of}
+use Rattle.ro_legal.specs.Legal.{IsAllowed, Legal, EndsVote, EndsFree, replay, output_of}
+use Rattle.ro_core.specs.Seen.{CoreOf, IsOfJob, Appends}
 use Rattle.ro_audit.specs.declared.audits.Trail.{Trail}
 use Rattle.ro_audit.specs.declared.follower.InPlace.{InPlace}
 use Rattle.ro_audit.specs.declared.follower.InPlace.TheVariants.{OfVote, OfFree}

@@ -5,8 +5,8 @@ ghost use Rattle.ro_journal.specs.declared.How.TheVariants.{Sink as BySink};
 ghost use Rattle.ro_journal.specs.declared.Entry.TheVariants.{End};
 ghost use Rattle.ro_settings.specs.Ranges.{InRange};
 ghost use Rattle.ro_replica.specs.Seen.{AreFaults};
-ghost use Rattle.ro_core.specs.Core.{Job, is_going};
-ghost use Rattle.ro_core.specs.Jobs.{job_of};
+ghost use Rattle.ro_legal.specs.Core.{Job, is_going};
+ghost use Rattle.ro_legal.specs.Jobs.{job_of};
 ghost use Rattle.ro_audit.specs.Audits.{Tells, IsCause};
 ghost use Rattle.ro_audit.specs.Following.{Follows, IsTrail, core_at};
 

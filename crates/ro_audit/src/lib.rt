@@ -10,6 +10,3 @@ pub use audits::{AuditError, Audited, Trail, audit, trace};
 pub use copies::Parts;
 pub use follower::Why;
 pub use kept::Kept;
-
-#[cfg(test)]
-mod tests;

@@ -9,11 +9,11 @@ use Rattle.ro_journal.specs.declared.losers.Lost.{Lost}
 use Rattle.ro_kernel.specs.Kernel.{lives_on}
 use Rattle.ro_replica.specs.Replica.{Replica}
 use Rattle.ro_replica.specs.Views.{is_unstopped}
-use Rattle.ro_core.specs.Core.{Job, Core, is_home, is_lendable}
-use Rattle.ro_core.specs.Legal.{MayVote, EndsVote}
+use Rattle.ro_legal.specs.Core.{Job, Core, is_home, is_lendable}
+use Rattle.ro_legal.specs.Legal.{MayVote, EndsVote}
 use Rattle.ro_core.specs.Fields.{Fields, state_in, Holds}
 use Rattle.ro_core.proofs.Tests.{count-is}
-use Rattle.ro_core.proofs.Single.{no-end, one-end}
+use Rattle.ro_legal.proofs.Single.{no-end, one-end}
 
 and-last : (b : Bool) → (b && false) ≡ false
 and-last true = refl

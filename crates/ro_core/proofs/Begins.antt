@@ -12,14 +12,14 @@ use Rattle.ro_plain.specs.Machine.{setup_of}
 use Rattle.ro_replica.specs.Replica.{Replica, opening_replica}
 use Rattle.ro_replica.specs.Seen.{ReplicaOf, IsOpening}
 use Rattle.ro_settings.specs.Ranges.{InRange}
-use Rattle.ro_core.specs.Core.{Job, Core, opening_replicas, opening_core}
-use Rattle.ro_core.specs.Legal.{Legal, replay}
+use Rattle.ro_legal.specs.Core.{Job, Core, opening_replicas, opening_core}
+use Rattle.ro_legal.specs.Legal.{Legal, replay}
 use Rattle.ro_core.specs.Seen.{sent_of}
 use Rattle.ro_core.specs.Fields.{failed_of, Seated, AreSeated, one_end, Fields, blocked_at, Holds}
 use Rattle.ro_core.specs.Grouped.{AreGrouped}
 use Rattle.ro_core.specs.Opening.{IsFirst, AreFirst, NoneStands}
-use Rattle.ro_core.proofs.Lists.{get-within, get-append-cases}
-use Rattle.ro_core.proofs.Ordered.{length-opening, get-opening}
+use Rattle.ro_legal.proofs.Lists.{get-within, get-append-cases}
+use Rattle.ro_legal.proofs.Ordered.{length-opening, get-opening}
 use Rattle.ro_core.proofs.Grouped.{opening-grouped}
 use Rattle.ro_core.proofs.Held.{due-same, no-views}
 

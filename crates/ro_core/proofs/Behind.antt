@@ -12,16 +12,15 @@ use Rattle.ro_event.specs.declared.effects.Made.{Made}
 use Rattle.ro_event.specs.Effects.{Effect}
 use Rattle.ro_replica.specs.Replica.{Replica}
 use Rattle.ro_replica.specs.Seen.{ReplicaOf, replica_of, CanApply}
-use Rattle.ro_core.specs.Core.{Job, Core}
-use Rattle.ro_core.specs.Event.{Event, all_applied, core_after}
-use Rattle.ro_core.specs.Legal.{after, IsAllowed, replay}
-use Rattle.ro_core.specs.Sound.{IsOver}
+use Rattle.ro_legal.specs.Core.{Job, Core}
+use Rattle.ro_legal.specs.Event.{Event, all_applied, core_after}
+use Rattle.ro_legal.specs.Legal.{after, IsAllowed, replay}
+use Rattle.ro_legal.specs.Sound.{IsOver}
 use Rattle.ro_core.specs.Seen.{sent_of}
 use Rattle.ro_core.specs.Grouped.{AreGrouped}
 use Rattle.ro_core.specs.Fields.{failed_of, AreSeated, AreHome, AreSpared, CanTake, one_end, Fields, core_in, blocked_at, CountsBytes, Holds}
-use Rattle.ro_core.proofs.Happens.{Happens}
-use Rattle.ro_core.proofs.Journals.{outcome_of-append}
-use Rattle.ro_core.proofs.Homes.{replay_more}
+use Rattle.ro_legal.proofs.Happens.{Happens}
+use Rattle.ro_legal.proofs.Journals.{outcome_of-append, replay_more}
 use Rattle.ro_core.proofs.Tests.{seated-home}
 use Rattle.ro_core.proofs.Held.{Goes, no-views, no-outcome, holds-step}
 

@@ -6,8 +6,8 @@ use Rattle.ro_journal.specs.declared.How.TheVariants.{Sink}
 use Rattle.ro_journal.specs.Plan.{outcome_of}
 use Rattle.ro_core.specs.Fields.{Fields, Holds, failed_of, state_in, core_in}
 use Rattle.ro_core.proofs.Held.{failed-cases, with-leases}
-use Rattle.ro_core.proofs.Ordered.{going-parts, ordered}
-use Rattle.ro_core.proofs.Outcomes.{ended_is_outcome}
+use Rattle.ro_legal.proofs.Ordered.{going-parts, ordered}
+use Rattle.ro_legal.proofs.Outcomes.{ended_is_outcome}
 
 module _ (f : Fields) (h : Holds f) (some : IsSome (failed_of f.due)) where
   by-sink : (bytes : ℕ) × (f.due ≡ Some (Sink bytes))

@@ -5,12 +5,12 @@ use Rattle.ro_journal.specs.declared.How.TheVariants.{Sink}
 use Rattle.ro_journal.specs.declared.Entry.{Entry}
 use Rattle.ro_journal.specs.declared.Entry.TheVariants.{End}
 use Rattle.ro_core.specs.declared.runs.Run.{Run}
-use Rattle.ro_core.specs.Core.{Job, Core, is_going}
-use Rattle.ro_core.specs.Legal.{after, MayEnd, replay, output_of}
+use Rattle.ro_legal.specs.Core.{Job, Core, is_going}
+use Rattle.ro_legal.specs.Legal.{after, MayEnd, replay, output_of}
 use Rattle.ro_core.specs.Seen.{sent_of, Appends, Quiet, KeepsViews}
 use Rattle.ro_core.specs.Fields.{failed_of, one_end, Fields, core_in, state_in, Holds}
 use Rattle.ro_core.specs.Runs.{fields_of, job_of, sent_in, WithAnySink, LastWrote}
-use Rattle.ro_core.proofs.Homes.{replay_more}
+use Rattle.ro_legal.proofs.Journals.{replay_more}
 use Rattle.ro_core.proofs.Held.{Goes, goes}
 use Rattle.ro_core.proofs.Ends.{cut-none, ended-holds}
 

@@ -8,21 +8,22 @@ use Rattle.ro_journal.specs.declared.How.TheVariants.{Deadlock, Sink}
 use Rattle.ro_journal.specs.declared.Entry.{Entry}
 use Rattle.ro_journal.specs.declared.Entry.TheVariants.{Vote, Free, End}
 use Rattle.ro_journal.specs.Plan.{outcome_of}
-use Rattle.ro_core.specs.declared.actions.Action.TheVariants.{Vote as DoVote, Free as DoFree, End as DoEnd, Over}
-use Rattle.ro_core.specs.Core.{Job, Core, is_going}
-use Rattle.ro_core.specs.Event.{with_recovered}
-use Rattle.ro_core.specs.Legal.{IsAllowed, EndsVote, EndsFree, event_in, freed_event, after, replay, replay_with, output_of}
-use Rattle.ro_core.specs.Action.{next_action, IsNext}
-use Rattle.ro_core.specs.Seen.{CoreOf, state, sent, sent_of, Appends, Quiet, Sends, DecidesVote, DecidesFree}
+use Rattle.ro_legal.specs.declared.actions.Action.TheVariants.{Vote as DoVote, Free as DoFree, End as DoEnd, Over}
+use Rattle.ro_legal.specs.Core.{Job, Core, is_going}
+use Rattle.ro_legal.specs.Event.{with_recovered}
+use Rattle.ro_legal.specs.Legal.{IsAllowed, EndsVote, EndsFree, event_in, freed_event, after, replay, replay_with, output_of}
+use Rattle.ro_legal.specs.Action.{next_action, IsNext}
+use Rattle.ro_core.specs.Seen.{CoreOf, state, sent, sent_of, Appends, Quiet, Sends}
+use Rattle.ro_legal.specs.Decides.{DecidesVote, DecidesFree}
 use Rattle.ro_core.proofs.Held.{with-ended}
-use Rattle.ro_core.proofs.Leases.{event_leases}
-use Rattle.ro_core.proofs.Outcomes.{ended_is_outcome}
-use Rattle.ro_core.proofs.Nexts.{vote_next, free_next, end_is, over_is_next}
-use Rattle.ro_core.specs.Sound.{IsOver}
+use Rattle.ro_legal.proofs.Leases.{event_leases}
+use Rattle.ro_legal.proofs.Outcomes.{ended_is_outcome}
+use Rattle.ro_legal.proofs.Nexts.{vote_next, free_next, end_is, over_is_next}
+use Rattle.ro_legal.specs.Sound.{IsOver}
 use Rattle.ro_core.specs.Driven.{IsDriven, IsHome, HasFailed, Goes}
-use Rattle.ro_core.proofs.Lasts.{ended_cut}
-use Rattle.ro_core.proofs.Ordered.{ordered}
-use Rattle.ro_core.proofs.Journals.{outcome_of-append}
+use Rattle.ro_legal.proofs.Lasts.{ended_cut}
+use Rattle.ro_legal.proofs.Ordered.{ordered}
+use Rattle.ro_legal.proofs.Journals.{outcome_of-append}
 use Rattle.ro_core.proofs.LastViews.{going_open, end_open}
 use Rattle.ro_core.proofs.Turns.{going_calm, calm_state, driven_more, home_new, not_failed, goes_quiet, goes_sending}
 

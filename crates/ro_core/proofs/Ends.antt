@@ -8,18 +8,17 @@ use Rattle.ro_journal.specs.declared.Entry.TheVariants.{End}
 use Rattle.ro_event.specs.declared.calls.Call.{Call}
 use Rattle.ro_kernel.specs.State.{State}
 use Rattle.ro_replica.specs.Seen.{ReplicaOf}
-use Rattle.ro_core.specs.Core.{Job, Core}
-use Rattle.ro_core.specs.Legal.{after, MayEnd, alone, EndsAlone, replay_with, cut_output, output_of}
-use Rattle.ro_core.specs.declared.actions.Action.TheVariants.{End as DoEnd}
-use Rattle.ro_core.specs.Action.{next_action, IsNext}
+use Rattle.ro_legal.specs.Core.{Job, Core}
+use Rattle.ro_legal.specs.Legal.{after, MayEnd, alone, EndsAlone, replay_with, cut_output, output_of}
+use Rattle.ro_legal.specs.declared.actions.Action.TheVariants.{End as DoEnd}
+use Rattle.ro_legal.specs.Action.{next_action, IsNext}
 use Rattle.ro_core.specs.Seen.{KeepsViews, sent_of}
-use Rattle.ro_core.specs.Sound.{IsOver}
+use Rattle.ro_legal.specs.Sound.{IsOver}
 use Rattle.ro_core.specs.Fields.{failed_of, Seated, AreSeated, one_end, Fields, core_in, state_in, blocked_at, Holds}
-use Rattle.ro_core.proofs.Homes.{replay_more}
+use Rattle.ro_legal.proofs.Journals.{replay_more, outcome_of-append}
 use Rattle.ro_core.specs.Grouped.{AreGrouped}
-use Rattle.ro_core.proofs.Ordered.{ordered}
-use Rattle.ro_core.proofs.Nexts.{end_next, end_is}
-use Rattle.ro_core.proofs.Journals.{outcome_of-append}
+use Rattle.ro_legal.proofs.Ordered.{ordered}
+use Rattle.ro_legal.proofs.Nexts.{end_next, end_is}
 use Rattle.ro_core.proofs.Held.{failed-cases, with-ended, not-split, no-outcome, same-counts, holds-step}
 
 end-seated : (job : Job) (core : Core) (seats : List (Option ReplicaOf)) (how : How) → AreSeated job core seats → AreSeated job (after job core (End how)) seats

@@ -13,20 +13,20 @@ use Rattle.ro_plain.specs.Machine.{setup_of}
 use Rattle.ro_replica.specs.Replica.{Replica}
 use Rattle.ro_core.specs.declared.runs.Run.{Run}
 use Rattle.ro_core.specs.declared.events.Event.{Event as Happening}
-use Rattle.ro_core.specs.Core.{Job, Core, is_going, may_free}
-use Rattle.ro_core.specs.Event.{Event, call_event, event_of, core_after}
-use Rattle.ro_core.specs.Legal.{core_after_event, after, MayFree, MayEnd, for_free, EndsFree}
+use Rattle.ro_legal.specs.Core.{Job, Core, is_going, may_free}
+use Rattle.ro_legal.specs.Event.{Event, call_event, event_of, core_after}
+use Rattle.ro_legal.specs.Legal.{core_after_event, after, MayFree, MayEnd, for_free, EndsFree}
 use Rattle.ro_core.specs.Fields.{AreSpared, Fields, blocked_at, core_in, state_in, Holds}
 use Rattle.ro_core.specs.Grouped.{AreMade}
 use Rattle.ro_core.specs.Seated.{Stands}
 use Rattle.ro_core.specs.Happening.{event_by}
 use Rattle.ro_core.specs.Runs.{IsAmid, MakesRoom, CanOccur}
-use Rattle.ro_core.proofs.FaultStops.{fault-stops}
+use Rattle.ro_legal.proofs.FaultStops.{fault-stops}
 use Rattle.ro_core.proofs.Held.{Goes, goes}
-use Rattle.ro_core.proofs.Happens.{Happens, call-happens}
-use Rattle.ro_core.proofs.Ordered.{FreeParts, free-parts, freed-is, freed-steps, ordered}
+use Rattle.ro_legal.proofs.Happens.{Happens, call-happens}
+use Rattle.ro_legal.proofs.Ordered.{FreeParts, free-parts, freed-is, freed-steps, ordered}
 use Rattle.ro_core.proofs.Votes.{lives-within, no-page, same-state}
-use Rattle.ro_core.proofs.Served.{serve-tidy}
+use Rattle.ro_legal.proofs.Served.{serve-tidy}
 
 module _ (f : Fields) (h : Holds f) (thread : ℕ) (may : may_free f.job (state_in f) thread ≡ true) where
   state-parts : FreeParts f.job (state_in f) thread

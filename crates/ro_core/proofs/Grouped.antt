@@ -1,42 +1,34 @@
 -- Which threads stand still, as replicas run, are copied and are given effects.
-use Rattle.std.specs.Prelude.{◌≡◌, ◌≢◌, ◌⊎◌, ℕ, zero, suc, ◌+◌, ◌<◌, ◌≤◌, Bool, true, false, ◌&&◌, if◌then◌else◌, List, [], ◌∷◌, ◌++◌, length, map, Option, Some, None, is_some, slice_get}
+use Rattle.std.specs.Prelude.{◌≡◌, ◌≢◌, ◌⊎◌, ℕ, zero, suc, ◌+◌, ◌<◌, ◌≤◌, Bool, true, false, ◌&&◌, if◌then◌else◌, List, [], ◌∷◌, length, Option, Some, None, is_some, slice_get}
 use Rattle.std.specs.Option.{option_and_then}
 use Rattle.std.specs.List.{list_all}
 use Rattle.std.proofs.Common.{refl, sym, ap, ◌∙◌, subst, arith, inl, inr}
 use Rattle.std.proofs.lemmas.Bool.{cases_Bool, cases_eq, cases_lt}
 use Rattle.std.proofs.lemmas.List.{length-set}
-use Rattle.std.proofs.lemmas.Option.{slice_get_past, slice_get_within}
+use Rattle.std.proofs.lemmas.Option.{slice_get_within}
 use Rattle.ro_kernel.proofs.Kept.{slice_get-set_other}
-use Rattle.ro_event.specs.declared.effects.Made.{Made}
 use Rattle.ro_event.specs.declared.stops.Stop.{Stop}
 use Rattle.ro_event.specs.Effects.{Effect}
-use Rattle.ro_exec.specs.Next.{Backed}
 use Rattle.ro_group.specs.Groups.{Groups, stands_in, stands, is_ready, Changes}
 use Rattle.ro_plain.proofs.Calls.{some-injective}
 use Rattle.ro_journal.specs.declared.Entry.TheVariants.{Put}
 use Rattle.ro_thread.specs.declared.Thread.{Thread}
-use Rattle.ro_replica.specs.Replica.{Replica, changed_at, thread_after, with_made, applied, is_cancelled, without_cancelled, cancelled, copied_threads, recovered, stop_of, opening_replica}
+use Rattle.ro_replica.specs.Replica.{Replica, applied, cancelled, recovered, stop_of, opening_replica}
 use Rattle.ro_replica.specs.Runs.{with_stop}
 use Rattle.ro_replica.specs.Seen.{ReplicaOf, replica_of}
-use Rattle.ro_core.specs.Core.{Job, Core, opening_core}
-use Rattle.ro_core.specs.Event.{with_copy, with_recovered, all_applied}
-use Rattle.ro_core.specs.Legal.{arrival, arrived, core_after_put, after, MayPut}
+use Rattle.ro_legal.specs.Core.{Job, Core, opening_core}
+use Rattle.ro_legal.specs.Event.{with_copy, with_recovered, all_applied}
+use Rattle.ro_legal.specs.Legal.{arrival, arrived, core_after_put, after, MayPut}
 use Rattle.ro_core.specs.Fields.{AreHome}
-use Rattle.ro_core.specs.Grouped.{AreGrouped, AreMade, BacksNone, FaultsWait, seat_stopped, Returns, CopiesRow, Copies, Releases, SettlesSeat, Settles}
+use Rattle.ro_core.specs.Grouped.{AreGrouped, AreMade, seat_stopped, Returns, CopiesRow, Copies, Releases, SettlesSeat, Settles}
+use Rattle.ro_legal.specs.Sound.{BacksNone, FaultsWait}
 use Rattle.ro_core.specs.Opening.{NoneStands}
-use Rattle.ro_core.proofs.Lists.{MappedFrom, get-map, length-mapped, get-set-same}
-use Rattle.ro_core.proofs.Copies.{length-copy, still-there, recovered-threads, AfterCopy, not_lost, is_copy, after-copy}
-use Rattle.ro_core.proofs.Ordered.{length-opening, get-opening}
-use Rattle.ro_core.proofs.FaultStops.{none-settled}
-use Rattle.ro_core.proofs.Grants.{LentGo, LentThread, lent-thread, lent-meets, changed-other}
-
--- the stop of a thread in a list
-abbrev stop_in : List Thread → (thread : ℕ) → Option Stop
-stop_in threads thread = option_and_then (λ t. t.stop) (slice_get threads thread)
-
--- a thread that was not made does not stand still
-pub past-none : (replica : Replica) (thread : ℕ) → length replica.threads ≤ thread → is_some (stop_of replica thread) ≡ false
-past-none replica thread past = ap (λ (o : Option Thread). is_some (option_and_then (λ (t : Thread). t.stop) o)) (slice_get_past replica.threads thread past)
+use Rattle.ro_legal.proofs.Lists.{MappedFrom, get-map, length-mapped, get-set-same}
+use Rattle.ro_legal.proofs.Copies.{length-copy, still-there, recovered-threads, AfterCopy, not_lost, is_copy, after-copy}
+use Rattle.ro_legal.proofs.Ordered.{length-opening, get-opening}
+use Rattle.ro_legal.proofs.FaultStops.{none-settled}
+use Rattle.ro_legal.proofs.Stops.{past-none, copied-stop, applied-other, applied-own, settled-stop}
+use Rattle.ro_legal.proofs.Grants.{LentGo, LentThread, lent-thread, lent-meets, changed-other}
 
 -- ---- a thread that stands still in every replica
 
@@ -120,12 +112,6 @@ put-grouped job core driver replica thread count hit may go groups new value bec
 
 -- ---- a copy
 
-copied-stop : (winners losers : List Thread) (thread : ℕ) → length winners ≡ length losers → stop_in (copied_threads winners losers) thread ≡ stop_in winners thread
-copied-stop [] losers thread n = refl
-copied-stop (w ∷ winners) [] thread n = absurd (omega arith)
-copied-stop (w ∷ winners) (l ∷ losers) zero n = refl
-copied-stop (w ∷ winners) (l ∷ losers) (suc thread) n = copied-stop winners losers thread (omega arith)
-
 -- where one replica is a copy
 copy-grouped : (won lost threads : ℕ) (replicas : List Replica) (winner : Replica) (old new : Groups) → slice_get replicas won ≡ Some winner → AreMade threads replicas → AreGrouped replicas old → CopiesRow won lost threads old new → AreGrouped (with_copy won lost replicas) new
 unfolding recovered
@@ -169,39 +155,6 @@ copies-grouped won (lost ∷ losers) threads replicas winner old new there made 
 -- ---- an effect
 
 -- a thread that is made stands behind the others, and goes on
-made-stop : (made : Option Made) (threads : List Thread) (thread : ℕ) → stop_in (with_made made threads) thread ≡ stop_in threads thread
-made-stop None threads thread = refl
-made-stop (Some made) [] thread = refl
-made-stop (Some made) (t ∷ threads) thread = behind (t ∷ threads) thread _ refl
-  where
-    behind : (threads : List Thread) (thread : ℕ) (last : Thread) → last.stop ≡ None → stop_in (threads ++ last ∷ []) thread ≡ stop_in threads thread
-    behind [] zero last e = e
-    behind [] (suc thread) last e = refl
-    behind (x ∷ threads) zero last e = refl
-    behind (x ∷ threads) (suc thread) last e = behind threads thread last e
-
--- the thread of an effect
-own-stop : (effect : Effect) (threads : List Thread) (place : ℕ) → stop_in (changed_at (thread_after effect) threads place) place ≡ (if effect.releases then None else stop_in threads place)
-own-stop effect [] place = same effect.releases None refl
-  where
-    same : (b : Bool) (o : Option Stop) → o ≡ None → o ≡ (if b then None else o)
-    same true o e = e
-    same false o e = refl
-own-stop effect (t ∷ threads) zero = refl
-own-stop effect (t ∷ threads) (suc place) = own-stop effect threads place
-
-applied-stop : (effect : Effect) (replica : Replica) (thread : ℕ) → stop_of (applied effect replica) thread ≡ stop_in (changed_at (thread_after effect) replica.threads effect.thread) thread
-unfolding applied
-applied-stop effect replica thread = made-stop effect.made (changed_at (thread_after effect) replica.threads effect.thread) thread
-
--- another thread stands as it did
-applied-other : (effect : Effect) (replica : Replica) (thread : ℕ) → thread ≢ effect.thread → stop_of (applied effect replica) thread ≡ stop_of replica thread
-applied-other effect replica thread differs =
-    applied-stop effect replica thread ∙ ap (λ (o : Option Thread). option_and_then (λ (t : Thread). t.stop) o) (changed-other (thread_after effect) replica.threads effect.thread thread differs)
-
-pub applied-own : (effect : Effect) (replica : Replica) → stop_of (applied effect replica) effect.thread ≡ (if effect.releases then None else stop_of replica effect.thread)
-applied-own effect replica = applied-stop effect replica effect.thread ∙ own-stop effect replica.threads effect.thread
-
 -- the groups once an effect's thread is released
 released-each : (effect : Effect) (replicas : List Replica) (old new : Groups) → AreGrouped replicas old → Releases effect old new → (number thread : ℕ) (replica : Replica) → slice_get replicas number ≡ Some replica → stands new number thread ≡ is_some (stop_of (applied effect replica) thread)
 released-each effect replicas old new h r number thread replica e = by (cases_Bool effect.releases) (cases_eq thread effect.thread)
@@ -215,20 +168,6 @@ released-each effect replicas old new h r number thread replica e = by (cases_Bo
         ap (λ (g : Groups). stands g number thread) (r.same keeps) ∙ h.each number thread replica e
         ∙ ap is_some (ap (stop_of replica) own ∙ sym (ap (stop_of (applied effect replica)) own ∙ applied-own effect replica ∙ ap (λ (b : Bool). if b then None else stop_of replica effect.thread) keeps))
     by (inr keeps) (inr other) = ap (λ (g : Groups). stands g number thread) (r.same keeps) ∙ h.each number thread replica e ∙ ap is_some (sym (applied-other effect replica thread other))
-
--- a page fault that is settled was a stop
-cancelled-stop : (backed : Backed) (threads : List Thread) (thread : ℕ) → (is_some (stop_in threads thread) && is_some (stop_in (map (without_cancelled backed) threads) thread)) ≡ is_some (stop_in (map (without_cancelled backed) threads) thread)
-cancelled-stop backed [] thread = refl
-cancelled-stop backed (t ∷ threads) zero = by t.stop
-  where
-    by : (o : Option Stop) → (is_some o && is_some (if is_cancelled backed o then None else o)) ≡ is_some (if is_cancelled backed o then None else o)
-    by None = refl
-    by (Some stop) = refl
-cancelled-stop backed (t ∷ threads) (suc thread) = cancelled-stop backed threads thread
-
-settled-stop : (replica : Replica) (thread : ℕ) → (is_some (stop_of replica thread) && is_some (stop_of (cancelled replica) thread)) ≡ is_some (stop_of (cancelled replica) thread)
-unfolding cancelled
-settled-stop replica thread = cancelled-stop replica.backed replica.threads thread
 
 -- the seat of a replica that is home
 pub home-seat : (job : Job) (seats : List (Option ReplicaOf)) (replicas : List Replica) (number : ℕ) (replica : Replica) → AreHome job seats replicas → slice_get replicas number ≡ Some replica → (value : ReplicaOf) × (slice_get seats number ≡ Some (Some value)) × (replica_of value ≡ replica)

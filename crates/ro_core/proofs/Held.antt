@@ -8,15 +8,14 @@ use Rattle.ro_journal.specs.Plan.{outcome_of}
 use Rattle.ro_event.specs.Views.{View}
 use Rattle.ro_settings.specs.Ranges.{InRange}
 use Rattle.ro_plain.specs.Machine.{setup_of}
-use Rattle.ro_core.specs.Core.{Job, Core, is_going}
-use Rattle.ro_core.specs.Legal.{after, IsAllowed, Legal, replay, replay_with}
+use Rattle.ro_legal.specs.Core.{Job, Core, is_going}
+use Rattle.ro_legal.specs.Legal.{after, IsAllowed, Legal, replay, replay_with}
 use Rattle.ro_core.specs.Seen.{CoreOf, KeepsViews, sent_of}
 use Rattle.ro_core.specs.Fields.{failed_of, AreSeated, one_end, Fields, core_in, state_in, blocked_at, CountsBytes, Holds}
 use Rattle.ro_core.specs.Grouped.{AreGrouped}
-use Rattle.ro_core.proofs.Journals.{outcome_of-append}
-use Rattle.ro_core.proofs.Homes.{replay_more, legal_more}
-use Rattle.ro_core.proofs.Ordered.{going-parts}
-use Rattle.ro_core.proofs.Outcomes.{ended_is_outcome}
+use Rattle.ro_legal.proofs.Journals.{outcome_of-append, replay_more, legal_more}
+use Rattle.ro_legal.proofs.Ordered.{going-parts}
+use Rattle.ro_legal.proofs.Outcomes.{ended_is_outcome}
 
 -- ---- a failing sink makes an end due and changes nothing else
 

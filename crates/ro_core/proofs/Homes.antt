@@ -1,51 +1,23 @@
 -- The seats of the replicas, and what an entry more does to them.
-use Rattle.std.proofs.Common.{◌≡◌, ℕ, ◌+◌, ◌<◌, ◌≤◌, Bool, true, false, true≢false, not, cond, ◌&&◌, ◌||◌, List, [], ◌∷◌, ◌++◌, length, Option, Some, None, refl, sym, ap, ◌∙◌, subst, arith, eqb-true, eq-eqb}
+use Rattle.std.proofs.Common.{◌≡◌, ℕ, ◌<◌, Bool, true, false, true≢false, not, ◌||◌, List, length, Option, Some, None, refl, sym, ap, ◌∙◌, subst, arith, eqb-true, eq-eqb}
 use Rattle.std.specs.Prelude.{◌==◌, slice_get, slice_set}
-use Rattle.std.specs.List.{filter, list_any}
-use Rattle.std.specs.Option.{option_map_or, option_and_then}
-use Rattle.std.proofs.lemmas.Bool.{and_parts}
+use Rattle.std.specs.List.{filter}
+use Rattle.std.specs.Option.{option_and_then}
 use Rattle.std.proofs.lemmas.List.{length-set}
-use Rattle.std.proofs.lemmas.List.Filters.{length-filter_both}
 use Rattle.std.proofs.lemmas.Option.{slice_get_within, slice_get-get_or}
-use Rattle.ro_journal.specs.declared.Entry.{Entry}
 use Rattle.ro_journal.specs.declared.Entry.TheVariants.{Take, Put}
-use Rattle.ro_kernel.specs.Kernel.{lives_on}
 use Rattle.ro_kernel.proofs.Kept.{slice_get-set_other}
 use Rattle.ro_plain.specs.Machine.{layout_of}
 use Rattle.ro_replica.specs.Replica.{Replica}
 use Rattle.ro_replica.specs.Runs.{RanTo, run_of}
 use Rattle.ro_replica.specs.Seen.{ReplicaOf, replica_of}
-use Rattle.ro_replica.specs.Views.{is_unstopped}
-use Rattle.ro_core.specs.declared.actions.Lease.{Lease}
-use Rattle.ro_core.specs.Core.{Job, Core, opening_core, is_home, is_lendable}
-use Rattle.ro_core.specs.Legal.{is_lease, lease_run, arrived, core_after_put, after, IsAllowed, MayPut, Legal, replay}
+use Rattle.ro_legal.specs.declared.actions.Lease.{Lease}
+use Rattle.ro_legal.specs.Core.{Job, Core, is_home}
+use Rattle.ro_legal.specs.Legal.{is_lease, lease_run, arrived, core_after_put, after, MayPut}
 use Rattle.ro_core.specs.Seen.{IsOfJob}
 use Rattle.ro_core.specs.Fields.{Seated, AreSeated}
-use Rattle.ro_core.proofs.Journals.{replay_from-append, LegalFrom-append}
-use Rattle.ro_core.proofs.Leases.{Apart, has_replica, gone, others_stay}
-use Rattle.ro_core.proofs.Lists.{get-set-same}
-
-pub replay_more : (job : Job) (journal : List Entry) (entry : Entry) → replay job (journal ++ entry ∷ []) ≡ after job (replay job journal) entry
-replay_more job journal entry = replay_from-append job (opening_core job) journal (entry ∷ [])
-
-pub legal_more : (job : Job) (journal : List Entry) (entry : Entry) → Legal job journal → IsAllowed job (replay job journal) entry → Legal job (journal ++ entry ∷ [])
-legal_more job journal entry legal allowed = LegalFrom-append job (opening_core job) journal (entry ∷ []) legal (allowed, tt)
-
--- what may be lent is at home
-pub record AtHome (core : Core) (replica : ℕ) : Type 0 where
-  pub home : is_home core replica ≡ true
-  pub value : Replica
-  pub there : slice_get core.replicas replica ≡ Some value
-
-pub lendable_there : (core : Core) (replica thread : ℕ) → is_lendable core replica thread ≡ true → AtHome core replica
-lendable_there core replica thread e =
-    let p = and_parts (is_home core replica && lives_on core.kernel thread) (option_map_or (is_unstopped thread) (slice_get core.replicas replica) false) e in
-    let q = and_parts (is_home core replica) (lives_on core.kernel thread) p.0 in
-    some q.0 (slice_get core.replicas replica) refl p.1
-  where
-    some : is_home core replica ≡ true → (o : Option Replica) → slice_get core.replicas replica ≡ o → option_map_or (is_unstopped thread) o false ≡ true → AtHome core replica
-    some home None f g = absurd (true≢false (sym g))
-    some home (Some r) f g = record { home = home; value = r; there = f }
+use Rattle.ro_legal.proofs.Leases.{Apart, has_replica, gone, others_stay}
+use Rattle.ro_legal.proofs.Lists.{get-set-same}
 
 pub seat_there : (job : Job) (core : Core) (seats : List (Option ReplicaOf)) (replica : ℕ) (r : Replica) → AreSeated job core seats → is_home core replica ≡ true → slice_get core.replicas replica ≡ Some r
     → (value : ReplicaOf) × (slice_get seats replica ≡ Some (Some value))
@@ -141,11 +113,3 @@ put_seated job core seats driver replica thread count hit value apart seated m p
         (ap not (others_stay driver replica thread number core.leases (λ f. ne (sym f))))
         (slice_get-set_other core.replicas replica number _ ne)
         (seated.each number))
-
-pub fewer : {X : Type 0} (p : X → Bool) (xs : List X) → list_any p xs ≡ true → length (filter (λ x. not (p x)) xs) + 1 ≤ length xs
-fewer p [] e = absurd (true≢false (sym e))
-fewer p (x ∷ xs) e = by (p x) refl (λ later. fewer p xs later)
-  where
-    by : (b : Bool) → p x ≡ b → (list_any p xs ≡ true → length (filter (λ x. not (p x)) xs) + 1 ≤ length xs) → length (cond (not b) (x ∷ filter (λ x. not (p x)) xs) (filter (λ x. not (p x)) xs)) + 1 ≤ length (x ∷ xs)
-    by true is rest = omega (arith, length-filter_both p (λ x. not (p x)) (λ x. refl) xs)
-    by false is rest = let h : length (filter (λ x. not (p x)) xs) + 1 ≤ length xs = rest (sym (ap (λ (b : Bool). b || list_any p xs) is) ∙ e) in omega arith

@@ -7,17 +7,18 @@ use Rattle.ro_journal.specs.declared.How.TheVariants.{Deadlock, Differ, NoMajori
 use Rattle.ro_journal.specs.declared.Entry.{Entry}
 use Rattle.ro_journal.specs.declared.Entry.TheVariants.{Vote, Free, End}
 use Rattle.ro_journal.specs.Plan.{outcome_of}
-use Rattle.ro_core.specs.declared.actions.Action.TheVariants.{Vote as DoVote, End as DoEnd}
-use Rattle.ro_core.specs.Core.{Job, Core, is_going, views_of}
-use Rattle.ro_core.specs.Legal.{EndsVote, EndsFree, replay, replay_with}
-use Rattle.ro_core.specs.Action.{next_action}
-use Rattle.ro_core.specs.Seen.{CoreOf, state, Appends, Stays, DecidesVote, DecidesFree, IsSplit}
-use Rattle.ro_core.specs.Sound.{IsOver}
-use Rattle.ro_core.proofs.Journals.{outcome_of-append}
+use Rattle.ro_legal.specs.declared.actions.Action.TheVariants.{Vote as DoVote, End as DoEnd}
+use Rattle.ro_legal.specs.Core.{Job, Core, is_going, views_of}
+use Rattle.ro_legal.specs.Legal.{EndsVote, EndsFree, replay, replay_with}
+use Rattle.ro_legal.specs.Action.{next_action}
+use Rattle.ro_core.specs.Seen.{CoreOf, state, Appends, Stays}
+use Rattle.ro_legal.specs.Decides.{DecidesVote, DecidesFree, IsSplit}
+use Rattle.ro_legal.specs.Sound.{IsOver}
+use Rattle.ro_legal.proofs.Journals.{outcome_of-append}
 use Rattle.ro_core.proofs.Held.{with-ended}
-use Rattle.ro_core.proofs.Nexts.{end_next, end_is}
-use Rattle.ro_core.proofs.Ordered.{going-parts, ordered}
-use Rattle.ro_core.proofs.Outcomes.{ended_is_outcome}
+use Rattle.ro_legal.proofs.Nexts.{end_next, end_is}
+use Rattle.ro_legal.proofs.Ordered.{going-parts, ordered}
+use Rattle.ro_legal.proofs.Outcomes.{ended_is_outcome}
 use Rattle.ro_core.specs.Driven.{IsDriven, ShowsLast, KeepsLast}
 
 -- a core that goes on has a journal without an end

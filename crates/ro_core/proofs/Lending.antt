@@ -12,13 +12,13 @@ use Rattle.ro_thread.specs.declared.Thread.{Thread}
 use Rattle.ro_replica.specs.Replica.{Replica, changed_at}
 use Rattle.ro_replica.specs.Runs.{RanTo, run_of, with_stop}
 use Rattle.ro_replica.specs.Seen.{ReplicaOf, replica_of, SameProgram, Runs}
-use Rattle.ro_core.specs.declared.actions.Lease.{Lease}
-use Rattle.ro_core.specs.Core.{Job, Core}
-use Rattle.ro_core.specs.Legal.{MayPut, arrived, arrival, is_lease, lease_run, core_after_put, after}
-use Rattle.ro_core.specs.Driven.{HasLease}
-use Rattle.ro_core.specs.Seen.{CoreOf, state, IsOfJob, MayReturn, lease_of}
-use Rattle.ro_core.proofs.Leases.{or_true}
-use Rattle.ro_core.proofs.Lists.{get-set-same}
+use Rattle.ro_legal.specs.declared.actions.Lease.{Lease}
+use Rattle.ro_legal.specs.Core.{Job, Core, lease_of}
+use Rattle.ro_legal.specs.Legal.{MayPut, arrived, arrival, is_lease, lease_run, core_after_put, after}
+use Rattle.ro_legal.specs.Laws.{HasLease}
+use Rattle.ro_core.specs.Seen.{CoreOf, state, IsOfJob, MayReturn}
+use Rattle.ro_legal.proofs.Leases.{or_true}
+use Rattle.ro_legal.proofs.Lists.{get-set-same}
 
 -- ---- a put, by what stands in the core
 

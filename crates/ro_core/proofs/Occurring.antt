@@ -8,19 +8,19 @@ use Rattle.ro_kernel.specs.State.{State}
 use Rattle.ro_settings.proofs.Counts.{few-replicas}
 use Rattle.ro_core.specs.declared.runs.Run.{Run}
 use Rattle.ro_core.specs.declared.voting.Occurrence.{Occurrence}
-use Rattle.ro_core.specs.Core.{Job, Core, is_going}
-use Rattle.ro_core.specs.Event.{Event, event_of, all_applied, core_after}
-use Rattle.ro_core.specs.Legal.{replay, output_of}
+use Rattle.ro_legal.specs.Core.{Job, Core, is_going}
+use Rattle.ro_legal.specs.Event.{Event, event_of, all_applied, core_after}
+use Rattle.ro_legal.specs.Legal.{replay, output_of}
 use Rattle.ro_core.specs.Seen.{sent_of}
-use Rattle.ro_core.specs.Sound.{IsOrdered}
+use Rattle.ro_legal.specs.Sound.{IsOrdered}
 use Rattle.ro_core.specs.Fields.{Fields, core_in, AreHome, CanTake, Holds}
 use Rattle.ro_core.specs.Grouped.{AreGrouped}
 use Rattle.ro_core.specs.Happening.{event_by}
 use Rattle.ro_core.specs.Runs.{job_of, sent_in, payload_by, LastWrote, CanOccur}
-use Rattle.ro_core.proofs.Homes.{replay_more, legal_more}
+use Rattle.ro_legal.proofs.Journals.{replay_more, legal_more}
 use Rattle.ro_core.proofs.Held.{Goes, goes}
-use Rattle.ro_core.proofs.Happens.{Happens, event-happens}
-use Rattle.ro_core.proofs.Ordered.{ordered}
+use Rattle.ro_legal.proofs.Happens.{Happens, event-happens}
+use Rattle.ro_legal.proofs.Ordered.{ordered}
 use Rattle.ro_core.proofs.Sitting.{home-count}
 use Rattle.ro_core.proofs.Behind.{happened-unfailed, happened-sent, happened-holds, all-can-take}
 use Rattle.ro_core.proofs.Votes.{lives-within, live-few, payload-due, payload-few, writes-step, length-applied}

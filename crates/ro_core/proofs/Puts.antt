@@ -13,20 +13,20 @@ use Rattle.ro_kernel.specs.State.{State}
 use Rattle.ro_replica.specs.Replica.{stop_of}
 use Rattle.ro_replica.specs.Runs.{RanTo}
 use Rattle.ro_replica.specs.Seen.{ReplicaOf, replica_of}
-use Rattle.ro_core.specs.declared.actions.Lease.{Lease}
-use Rattle.ro_core.specs.Core.{Job, Core, is_out}
-use Rattle.ro_core.specs.Legal.{is_lease, lease_run, core_after_put, after, MayPut, replay, replay_with, output_of}
-use Rattle.ro_core.specs.Seen.{sent_of, IsOfJob, lease_of}
-use Rattle.ro_core.specs.Sound.{IsOrdered}
+use Rattle.ro_legal.specs.declared.actions.Lease.{Lease}
+use Rattle.ro_legal.specs.Core.{Job, Core, is_out, lease_of}
+use Rattle.ro_legal.specs.Legal.{is_lease, lease_run, core_after_put, after, MayPut, replay, replay_with, output_of}
+use Rattle.ro_core.specs.Seen.{sent_of, IsOfJob}
+use Rattle.ro_legal.specs.Sound.{IsOrdered}
 use Rattle.ro_core.specs.Fields.{failed_of, AreSeated, one_end, Fields, core_in, state_in, blocked_at, Holds}
-use Rattle.ro_core.proofs.Homes.{replay_more, put_seated, seat_within, fewer}
+use Rattle.ro_legal.proofs.Journals.{replay_more, outcome_of-append}
+use Rattle.ro_core.proofs.Homes.{put_seated, seat_within}
+use Rattle.ro_legal.proofs.Leases.{fewer, leases_apart}
 use Rattle.ro_core.specs.Grouped.{Returns}
 use Rattle.std.proofs.lemmas.Option.{slice_get_within}
-use Rattle.ro_core.proofs.Grants.{lent-go, lent-thread}
+use Rattle.ro_legal.proofs.Grants.{lent-go, lent-thread}
 use Rattle.ro_core.proofs.Grouped.{put-grouped}
-use Rattle.ro_core.proofs.Leases.{leases_apart}
-use Rattle.ro_core.proofs.Ordered.{ordered}
-use Rattle.ro_core.proofs.Journals.{outcome_of-append}
+use Rattle.ro_legal.proofs.Ordered.{ordered}
 use Rattle.ro_core.proofs.Held.{failed-cases, with-leases, with-ended, no-views, no-outcome, same-counts, holds-step}
 use Rattle.ro_core.proofs.Takes.{Rest}
 

@@ -9,12 +9,12 @@ use Rattle.ro_kernel.proofs.Kept.{slice_get-set_other}
 use Rattle.ro_plain.proofs.Calls.{some-injective}
 use Rattle.ro_replica.specs.Replica.{Replica, recovered}
 use Rattle.ro_replica.specs.Seen.{ReplicaOf, replica_of, Recovers, AreTwins}
-use Rattle.ro_core.specs.Core.{Job}
+use Rattle.ro_legal.specs.Core.{Job}
 use Rattle.ro_event.specs.Effects.{Effect}
-use Rattle.ro_core.specs.Event.{all_applied, with_copy}
+use Rattle.ro_legal.specs.Event.{all_applied, with_copy}
 use Rattle.ro_core.specs.Seen.{IsOfJob}
-use Rattle.ro_core.proofs.Lists.{get-set-same, get-set-cases}
-use Rattle.ro_core.proofs.Copies.{length-copied}
+use Rattle.ro_legal.proofs.Lists.{get-set-same, get-set-cases}
+use Rattle.ro_legal.proofs.Copies.{length-copied}
 use Rattle.ro_core.specs.Fields.{IsSeat, AreHome, AreSpared, AreAllTwins}
 
 pub home-count : (job : Job) (seats : List (Option ReplicaOf)) (replicas : List Replica) → AreHome job seats replicas → length seats ≡ length replicas

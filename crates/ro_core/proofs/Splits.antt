@@ -5,13 +5,13 @@ use Rattle.std.proofs.lemmas.Bool.{eq-eqb}
 use Rattle.ro_journal.specs.declared.How.TheVariants.{Differ, NoMajority, Sink}
 use Rattle.ro_journal.specs.declared.Entry.TheVariants.{End}
 use Rattle.ro_vote.specs.Verdict.{verdict_of, Split}
-use Rattle.ro_core.specs.Core.{Core, is_going, may_vote, views_of}
-use Rattle.ro_core.specs.Legal.{MayEnd, for_vote, EndsVote}
+use Rattle.ro_legal.specs.Core.{Core, is_going, may_vote, views_of}
+use Rattle.ro_legal.specs.Legal.{MayEnd, for_vote, EndsVote}
 use Rattle.ro_core.specs.Seen.{KeepsViews}
 use Rattle.ro_core.specs.Fields.{Fields, state_in, split_end, Holds}
 use Rattle.ro_settings.proofs.Counts.{few-replicas}
 use Rattle.ro_core.proofs.Held.{goes}
-use Rattle.ro_core.proofs.Ordered.{vote-parts}
+use Rattle.ro_legal.proofs.Ordered.{vote-parts}
 use Rattle.ro_core.proofs.Tests.{count-is, replicas-are}
 
 pub not-sink : (n bytes : ℕ) → split_end n ≢ Sink bytes

@@ -14,17 +14,18 @@ use Rattle.ro_thread.specs.declared.Thread.{Thread}
 use Rattle.ro_replica.specs.Replica.{Replica}
 use Rattle.ro_replica.specs.Views.{is_unstopped}
 use Rattle.ro_replica.specs.Seen.{ReplicaOf, replica_of, CanCount}
-use Rattle.ro_core.specs.declared.actions.Lease.{Lease}
-use Rattle.ro_core.specs.Core.{Job, Core}
-use Rattle.ro_core.specs.Legal.{after, IsAllowed, MayTake, output_of}
+use Rattle.ro_legal.specs.declared.actions.Lease.{Lease}
+use Rattle.ro_legal.specs.Core.{Job, Core}
+use Rattle.ro_legal.specs.Legal.{after, IsAllowed, MayTake, output_of}
 use Rattle.ro_core.specs.Seen.{sent_of, IsOfJob}
-use Rattle.ro_core.specs.Sound.{Counts}
+use Rattle.ro_legal.specs.Sound.{Counts}
 use Rattle.ro_core.specs.Fields.{failed_of, spare_of, Seated, AreSeated, IsSeat, one_end, Fields, core_in, state_in, blocked_at, Holds}
-use Rattle.ro_core.proofs.Homes.{replay_more, AtHome, lendable_there, seat_there, take_seated}
+use Rattle.ro_legal.proofs.Journals.{replay_more, outcome_of-append}
+use Rattle.ro_legal.proofs.Leases.{AtHome, lendable_there}
+use Rattle.ro_core.proofs.Homes.{seat_there, take_seated}
 use Rattle.ro_core.specs.Grouped.{AreGrouped}
-use Rattle.ro_core.proofs.Ordered.{going-parts}
-use Rattle.ro_core.proofs.Counted.{counted}
-use Rattle.ro_core.proofs.Journals.{outcome_of-append}
+use Rattle.ro_legal.proofs.Ordered.{going-parts}
+use Rattle.ro_legal.proofs.Counted.{counted}
 use Rattle.ro_core.proofs.Held.{Goes, goes, no-views, no-outcome, same-counts, holds-step}
 
 one-end-le : (o : Option How) → one_end o ≤ 1

@@ -12,17 +12,17 @@ use Rattle.ro_plain.specs.Machine.{setup_of}
 use Rattle.ro_replica.specs.Replica.{Replica, stop_of}
 use Rattle.ro_replica.specs.Views.{is_unstopped}
 use Rattle.ro_replica.specs.Seen.{ReplicaOf, replica_of}
-use Rattle.ro_core.specs.declared.actions.Action.TheVariants.{Lend}
-use Rattle.ro_core.specs.declared.actions.Lease.{Lease}
-use Rattle.ro_core.specs.Core.{Job, Core, is_going, nothing_lent, is_home, is_lendable, may_vote, may_free}
-use Rattle.ro_core.specs.Legal.{any_below, replay, replay_with}
-use Rattle.ro_core.specs.Action.{or_else, lowest_below, map_action, threads_made, lend_in, lend_next}
+use Rattle.ro_legal.specs.declared.actions.Action.TheVariants.{Lend}
+use Rattle.ro_legal.specs.declared.actions.Lease.{Lease}
+use Rattle.ro_legal.specs.Core.{Job, Core, is_going, nothing_lent, is_home, is_lendable, may_vote, may_free}
+use Rattle.ro_legal.specs.Legal.{any_below, replay, replay_with}
+use Rattle.ro_legal.specs.Action.{or_else, lowest_below, map_action, threads_made, lend_in, lend_next}
 use Rattle.ro_core.specs.Seen.{IsOfJob}
 use Rattle.ro_core.specs.Fields.{failed_of, Seated, AreSeated, AreHome, seat_unstopped, Fields, core_in, state_in, blocked_at, Holds}
 use Rattle.ro_core.specs.Grouped.{seat_stopped}
 use Rattle.ro_group.specs.Groups.{is_ready}
 use Rattle.ro_core.proofs.Grouped.{ready-all}
-use Rattle.ro_core.proofs.Ordered.{ordered}
+use Rattle.ro_legal.proofs.Ordered.{ordered}
 use Rattle.ro_core.proofs.Sitting.{home-count}
 use Rattle.ro_core.proofs.Held.{with-leases, with-kernel, with-replicas, with-ended}
 

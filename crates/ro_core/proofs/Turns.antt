@@ -8,15 +8,14 @@ use Rattle.ro_journal.specs.declared.How.TheVariants.{Sink}
 use Rattle.ro_journal.specs.declared.Entry.{Entry}
 use Rattle.ro_journal.specs.declared.Entry.TheVariants.{End}
 use Rattle.ro_journal.specs.Plan.{outcome_of}
-use Rattle.ro_core.specs.declared.actions.Action.TheVariants.{Lend}
-use Rattle.ro_core.specs.Core.{Job, Core, opening_core, is_going}
-use Rattle.ro_core.specs.Legal.{IsAllowed, after, replay, replay_with}
-use Rattle.ro_core.specs.Action.{next_action, IsNext}
+use Rattle.ro_legal.specs.declared.actions.Action.TheVariants.{Lend}
+use Rattle.ro_legal.specs.Core.{Job, Core, opening_core, is_going}
+use Rattle.ro_legal.specs.Legal.{IsAllowed, after, replay, replay_with}
+use Rattle.ro_legal.specs.Action.{next_action, IsNext}
 use Rattle.ro_core.specs.Seen.{CoreOf, state, sent, Appends, Quiet, Sends, Stays}
-use Rattle.ro_core.proofs.Journals.{LegalFrom-append, EachIsNext-append}
+use Rattle.ro_legal.proofs.Journals.{LegalFrom-append, EachIsNext-append, replay_more}
 use Rattle.ro_core.proofs.Held.{with-leases}
-use Rattle.ro_core.proofs.Homes.{replay_more}
-use Rattle.ro_core.proofs.Nexts.{lend_is_next}
+use Rattle.ro_legal.proofs.Nexts.{lend_is_next}
 use Rattle.ro_core.specs.Driven.{HasRun, IsDriven, IsHome, HasFailed, Goes}
 use Rattle.ro_core.proofs.Outside.{rose_later, rose_before, more_more, more_none}
 

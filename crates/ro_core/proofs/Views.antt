@@ -6,11 +6,11 @@ use Rattle.std.proofs.lemmas.Bool.{and_parts}
 use Rattle.ro_event.specs.Views.{View}
 use Rattle.ro_replica.specs.Views.{view_of}
 use Rattle.ro_settings.proofs.Counts.{few-replicas}
-use Rattle.ro_core.specs.Core.{Core, may_vote, views_of}
+use Rattle.ro_legal.specs.Core.{Core, may_vote, views_of}
 use Rattle.ro_core.specs.Fields.{AreHome, Fields, core_in, state_in, Holds}
 use Rattle.ro_core.specs.Grouped.{seat_stopped}
 use Rattle.ro_core.proofs.Held.{goes, no-outcome, no-views}
-use Rattle.ro_core.proofs.Ordered.{vote-parts, ordered}
+use Rattle.ro_legal.proofs.Ordered.{vote-parts, ordered}
 use Rattle.ro_core.proofs.Tests.{all-home, stopped-home}
 
 pub viewed-holds : (f : Fields) (views : List View) → Holds f → f.ended ≡ None → length views ≡ length f.views → Holds (record f { views = views })

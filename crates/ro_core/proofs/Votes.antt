@@ -32,26 +32,26 @@ use Rattle.ro_replica.specs.Replica.{Replica, applied, cancelled, stop_of}
 use Rattle.ro_replica.specs.Seen.{ReplicaOf, replica_of}
 use Rattle.ro_core.specs.declared.runs.Run.{Run}
 use Rattle.ro_core.specs.declared.events.Event.{Event as Happening}
-use Rattle.ro_core.specs.Core.{Job, Core, is_going, may_vote, views_of}
-use Rattle.ro_core.specs.Event.{Event, call_event, event_of, with_recovered, all_applied, core_after}
-use Rattle.ro_core.specs.Legal.{event_in, core_after_event, after, MayVote, PassesLimit, MayEnd, for_vote, Legal, replay, replay_with}
+use Rattle.ro_legal.specs.Core.{Job, Core, is_going, may_vote, views_of}
+use Rattle.ro_legal.specs.Event.{Event, call_event, event_of, with_recovered, all_applied, core_after}
+use Rattle.ro_legal.specs.Legal.{event_in, core_after_event, after, MayVote, PassesLimit, MayEnd, for_vote, Legal, replay, replay_with}
 use Rattle.ro_core.specs.Seen.{sent_of, IsOfMajority, KeepsViews}
-use Rattle.ro_core.specs.Sound.{IsFault}
+use Rattle.ro_legal.specs.Sound.{IsFault}
 use Rattle.ro_core.specs.Fields.{failed_of, one_end, blocked_at, AreSeated, AreHome, AreSpared, IsSeat, AreAllTwins, AreLosers, Fields, core_in, state_in, CountsBytes, Holds}
 use Rattle.ro_core.specs.Happening.{event_by}
 use Rattle.ro_core.specs.Runs.{fields_of, job_of, IsHeld, IsAmid, MakesRoom, CanOccur, payload_by}
 use Rattle.ro_core.specs.Grouped.{AreGrouped, AreMade}
 use Rattle.ro_core.specs.Seated.{Stands}
 use Rattle.ro_core.proofs.Held.{Goes, goes, same-counts}
-use Rattle.ro_core.proofs.Happens.{Happens, event-happens}
-use Rattle.ro_core.proofs.Served.{Tidy, tidy_done, serve-tidy}
-use Rattle.ro_core.proofs.Ordered.{VoteParts, vote-parts, copied-sound, ordered}
-use Rattle.ro_core.proofs.FaultStops.{each-copied, fault-stops}
+use Rattle.ro_legal.proofs.Happens.{Happens, event-happens}
+use Rattle.ro_legal.proofs.Served.{Tidy, tidy_done, serve-tidy}
+use Rattle.ro_legal.proofs.Ordered.{VoteParts, vote-parts, copied-sound, ordered}
+use Rattle.ro_legal.proofs.FaultStops.{each-copied, fault-stops}
 use Rattle.ro_core.proofs.Sitting.{home-count, home-get}
-use Rattle.ro_core.proofs.Winners.{WonIn, won-in, won-view, Showing, showing, showing-event, showing-since, showing-short, views-count}
+use Rattle.ro_legal.proofs.Winners.{WonIn, won-in, won-view, Showing, showing, showing-event, showing-since, showing-short, views-count}
 use Rattle.ro_core.proofs.Tests.{all-home, seated-home}
 use Rattle.ro_core.proofs.Grouped.{home-seat}
-use Rattle.ro_core.proofs.Lists.{get-within, length-mapped}
+use Rattle.ro_legal.proofs.Lists.{get-within, length-mapped}
 
 -- the writer, where one is
 pub then-some : (b : Bool) (n : ℕ) → then_some b n ≡ (if b then Some n else None)

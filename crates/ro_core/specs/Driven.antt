@@ -1,26 +1,18 @@
 -- The core of a run that drivers drive.
-use Rattle.std.specs.Prelude.{◌≡◌, ◌⊎◌, ℕ, ◌≤◌, List, [], ◌∷◌, ◌++◌, Some, None, IsSome, slice_get}
+use Rattle.std.specs.Prelude.{◌≡◌, ◌⊎◌, ℕ, ◌≤◌, List, [], ◌∷◌, ◌++◌, Some, IsSome}
 use Rattle.ro_io.specs.Outside.{Rose, more}
 use Rattle.ro_event.specs.Views.{View}
 use Rattle.ro_journal.specs.declared.How.{How}
 use Rattle.ro_journal.specs.declared.How.TheVariants.{Sink, Differ, NoMajority}
 use Rattle.ro_journal.specs.declared.Entry.{Entry}
-use Rattle.ro_journal.specs.declared.Entry.TheVariants.{Take, Put, Vote, Free, End}
+use Rattle.ro_journal.specs.declared.Entry.TheVariants.{End}
 use Rattle.ro_journal.specs.Plan.{outcome_of}
-use Rattle.ro_settings.specs.Ranges.{InRange}
-use Rattle.ro_replica.specs.Replica.{Replica}
-use Rattle.ro_replica.specs.Seen.{AreFaults}
-use Rattle.ro_core.specs.declared.actions.Action.TheVariants.{Vote as DoVote}
-use Rattle.ro_core.specs.declared.actions.Lease.{Lease}
-use Rattle.ro_core.specs.Core.{Job, Core, opening_core, views_of}
-use Rattle.ro_core.specs.Legal.{Legal, EndsVote, replay}
-use Rattle.ro_core.specs.Action.{next_action, EachIsNext}
-use Rattle.ro_core.specs.Seen.{CoreOf, state, sent, lease_of}
-
--- what a core can be opened with
-pub record CanRun (job : Job) : Type 0 where
-  pub settings : InRange job.settings
-  pub faults : AreFaults job.faults
+use Rattle.ro_legal.specs.declared.actions.Action.TheVariants.{Vote as DoVote}
+use Rattle.ro_legal.specs.Jobs.{CanRun}
+use Rattle.ro_legal.specs.Core.{Job, opening_core, views_of}
+use Rattle.ro_legal.specs.Legal.{Legal, EndsVote, replay}
+use Rattle.ro_legal.specs.Action.{next_action, EachIsNext}
+use Rattle.ro_core.specs.Seen.{CoreOf, state, sent}
 
 -- the journal is legal, and each entry of it came next
 pub record HasRun (job : Job) (journal : List Entry) : Type 0 where
@@ -67,17 +59,3 @@ pub record ShowsLast (job : Job) (journal : List Entry) (views : List View) : Ty
 -- the views of a vote that came to nothing are kept
 abbrev pub KeepsLast : Job → List Entry → List View → Type 0
 KeepsLast job journal views = (outcome_of journal ≡ Some Differ) ⊎ (outcome_of journal ≡ Some NoMajority) → ShowsLast job journal views
-
--- an entry of a take or a put names the driver that appended it
-abbrev pub Names : ℕ → Entry → Type 0
-Names by (Take driver replica thread) = driver ≡ by
-Names by (Put driver replica thread count hit) = driver ≡ by
-Names by (Vote thread count won lost did) = Unit {0}
-Names by (Free thread) = Unit {0}
-Names by (End how) = Unit {0}
-
--- the lease of the driver, which is out, its replica, and that no end has come
-pub record HasLease (core : Core) (driver : ℕ) (lease : Lease) (value : Replica) : Type 0 where
-  pub held : lease_of core driver ≡ Some lease
-  pub there : slice_get core.replicas lease.replica ≡ Some value
-  pub not_ended : core.ended ≡ None

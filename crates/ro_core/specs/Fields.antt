@@ -18,9 +18,9 @@ use Rattle.ro_replica.specs.Replica.{Replica}
 use Rattle.ro_replica.specs.Views.{is_unstopped}
 use Rattle.ro_replica.specs.Seen.{ReplicaOf, replica_of, CanApply, AreTwins, Keeps}
 use Rattle.ro_plain.specs.Machine.{setup_of}
-use Rattle.ro_core.specs.declared.actions.Lease.{Lease}
-use Rattle.ro_core.specs.Core.{Job, Core, is_going, is_home}
-use Rattle.ro_core.specs.Legal.{Legal, replay, replay_with}
+use Rattle.ro_legal.specs.declared.actions.Lease.{Lease}
+use Rattle.ro_legal.specs.Core.{Job, Core, is_going, is_home}
+use Rattle.ro_legal.specs.Legal.{Legal, replay, replay_with}
 use Rattle.ro_core.specs.Seen.{IsOfJob, KeepsViews, sent_of}
 use Rattle.ro_core.specs.Grouped.{AreGrouped}
 

@@ -4,7 +4,6 @@ use Rattle.ro_event.specs.Effects.{Effect}
 use Rattle.ro_group.specs.Groups.{Groups, stands, Changes, Releases as ReleasesIn}
 use Rattle.ro_replica.specs.Replica.{Replica, stop_of}
 use Rattle.ro_replica.specs.Seen.{ReplicaOf, replica_of}
-use Rattle.ro_core.specs.Sound.{HasFaults}
 
 -- the groups say of each replica's threads whether they stand still
 pub record AreGrouped (replicas : List Replica) (groups : Groups) : Type 0 where
@@ -14,15 +13,6 @@ pub record AreGrouped (replicas : List Replica) (groups : Groups) : Type 0 where
 -- so many threads were made in each replica
 abbrev pub AreMade : (threads : ℕ) → List Replica → Type 0
 AreMade threads replicas = (number : ℕ) (replica : Replica) → slice_get replicas number ≡ Some replica → length replica.threads ≡ threads
-
--- no thread stands at the fault of a page that is backed
-abbrev pub FaultsWait : List Replica → Type 0
-FaultsWait replicas = (number : ℕ) (replica : Replica) → slice_get replicas number ≡ Some replica → HasFaults replica
-
--- the effect backs no page
-pub record BacksNone (effect : Effect) : Type 0 where
-  pub page : effect.page ≡ None
-  pub bytes : effect.bytes ≡ []
 
 -- of a seat: whether its replica is there and the thread stands still
 abbrev pub seat_stopped : (thread : ℕ) → Option ReplicaOf → Bool

@@ -9,7 +9,7 @@ use Rattle.ro_kernel.specs.Serve.{serve}
 use Rattle.ro_core.specs.declared.events.Cause.{Cause}
 use Rattle.ro_core.specs.declared.events.Cause.TheVariants.{Call, Quiet}
 use Rattle.ro_core.specs.declared.events.Event.{Event as Happening}
-use Rattle.ro_core.specs.Event.{Event, quiet_effect, call_event, event_of}
+use Rattle.ro_legal.specs.Event.{Event, quiet_effect, call_event, event_of}
 
 -- the event of the code, with the kernel that it left, and what it writes
 abbrev pub event_by : Happening → Kernel → (payload : List ℕ) → Event

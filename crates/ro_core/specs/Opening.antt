@@ -7,7 +7,7 @@ use Rattle.ro_kernel.specs.Kernel.{opening_kernel}
 use Rattle.ro_plain.specs.Machine.{setup_of}
 use Rattle.ro_replica.specs.Seen.{ReplicaOf, IsOpening}
 use Rattle.ro_core.specs.declared.opening.Opening.{Opening}
-use Rattle.ro_core.specs.Core.{Job}
+use Rattle.ro_legal.specs.Core.{Job}
 
 -- in the seat stands the replica of this number at its opening
 abbrev pub IsFirst : Image → List Fault → (watchdog number : ℕ) → Option ReplicaOf → Type 0

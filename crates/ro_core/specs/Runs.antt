@@ -11,13 +11,14 @@ use Rattle.ro_replica.specs.Replica.{Replica}
 use Rattle.ro_vote.specs.Verdict.{Won, verdict_of}
 use Rattle.ro_core.specs.declared.runs.Run.{Run}
 use Rattle.ro_core.specs.declared.voting.Occurrence.{Occurrence}
-use Rattle.ro_core.specs.Core.{Job, Core, is_going, may_vote, views_of}
-use Rattle.ro_core.specs.Event.{event_of, core_after}
+use Rattle.ro_legal.specs.Core.{Job, Core, is_going, may_vote, views_of}
+use Rattle.ro_legal.specs.Event.{event_of, core_after}
 use Rattle.ro_core.specs.Happening.{event_by}
-use Rattle.ro_core.specs.Legal.{IsAllowed, after}
+use Rattle.ro_legal.specs.Legal.{IsAllowed, after}
 use Rattle.ro_core.specs.Seen.{CoreOf, sent_of}
 use Rattle.ro_core.specs.Fields.{failed_of, spare_of, Fields, core_in, state_in, AreSpared, Holds}
-use Rattle.ro_core.specs.Grouped.{AreMade, FaultsWait}
+use Rattle.ro_core.specs.Grouped.{AreMade}
+use Rattle.ro_legal.specs.Sound.{FaultsWait}
 use Rattle.ro_core.specs.Seated.{Stands}
 
 abbrev pub fields_of : Run → Fields

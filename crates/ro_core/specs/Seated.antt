@@ -2,7 +2,7 @@
 use Rattle.std.specs.Prelude.{List}
 use Rattle.ro_replica.specs.Replica.{Replica}
 use Rattle.ro_core.specs.declared.seats.Seats.{Seats}
-use Rattle.ro_core.specs.Core.{Job}
+use Rattle.ro_legal.specs.Core.{Job}
 use Rattle.ro_core.specs.Fields.{AreHome}
 use Rattle.ro_core.specs.Grouped.{AreGrouped}
 

@@ -1,19 +1,18 @@
 -- A core as contracts see it.
-use Rattle.std.specs.Prelude.{◌≡◌, ◌⊎◌, ◌≤◌, ◌<◌, ◌*◌, ◌+◌, ℕ, IsTrue, IfSome, List, [], ◌∷◌, ◌++◌, length, count_by, Option, Some, None, ◌==◌, slice_get}
-use Rattle.std.specs.List.{find}
+use Rattle.std.specs.Prelude.{◌≡◌, ◌⊎◌, ◌≤◌, ◌<◌, ◌*◌, ◌+◌, ℕ, IsTrue, IfSome, List, [], ◌∷◌, ◌++◌, length, count_by, Option, Some, None, slice_get}
 use Rattle.ro_io.specs.Outside.{Rose, more}
 use Rattle.ro_journal.specs.declared.How.{How}
 use Rattle.ro_journal.specs.declared.How.TheVariants.{Differ, NoMajority, Sink}
 use Rattle.ro_journal.specs.declared.Entry.{Entry}
-use Rattle.ro_journal.specs.declared.Entry.TheVariants.{Put, Vote, Free, End}
+use Rattle.ro_journal.specs.declared.Entry.TheVariants.{Put, End}
 use Rattle.ro_journal.specs.Plan.{outcome_of}
 use Rattle.ro_event.specs.Views.{View, same_view}
 use Rattle.ro_replica.specs.Views.{is_unstopped}
 use Rattle.ro_replica.specs.Seen.{ReplicaOf, replica_of, CanCount}
 use Rattle.ro_plain.specs.Machine.{layout_of}
-use Rattle.ro_core.specs.declared.actions.Lease.{Lease}
-use Rattle.ro_core.specs.Core.{Job, Core, may_vote, views_of}
-use Rattle.ro_core.specs.Legal.{IsAllowed, EndsVote, EndsFree, after, replay, replay_with, cut_output, output_of}
+use Rattle.ro_legal.specs.declared.actions.Lease.{Lease}
+use Rattle.ro_legal.specs.Core.{Job, Core, may_vote, views_of, lease_of}
+use Rattle.ro_legal.specs.Legal.{IsAllowed, EndsVote, after, replay, replay_with, cut_output, output_of}
 
 -- what a core was opened with; its journal; of a failing sink how many bytes of the last write it took; for how many
 -- entries there is room; the views of the last vote; and what its sink holds and counts
@@ -85,10 +84,6 @@ pub record Stays (old new : CoreOf) : Type 0 where
 abbrev pub HasRoom : CoreOf → Type 0
 HasRoom core = length (state core).leases + 3 ≤ core.room
 
--- the lease that a driver holds
-abbrev pub lease_of : Core → (driver : ℕ) → Option Lease
-lease_of core driver = find (λ lease. lease.driver == driver) core.leases
-
 -- the value is of the program that the core runs
 pub record IsOfJob (job : Job) (value : ReplicaOf) : Type 0 where
   pub layout : value.layout ≡ layout_of job.program
@@ -113,22 +108,6 @@ pub record MayReturn (core : CoreOf) (driver : ℕ) (value : ReplicaOf) (count h
 -- the put of the lease that a driver holds
 abbrev pub ReturnIs : CoreOf → CoreOf → (driver count hit : ℕ) → Type 0
 ReturnIs old new driver count hit = (lease : Lease) → lease_of (state old) driver ≡ Some lease → Appends old new (Put driver lease.replica lease.thread count hit)
-
--- the entry decides the vote on a thread: the vote itself, or an end in its place
-abbrev pub DecidesVote : Job → Core → (thread : ℕ) → Entry → Type 0
-DecidesVote job core thread (Vote voted count won lost did) = voted ≡ thread
-DecidesVote job core thread (End how) = EndsVote job core thread how
-DecidesVote job core thread _ = ⊥
-
--- the run ended by views that had no majority
-abbrev pub IsSplit : Entry → Type 0
-IsSplit entry = (entry ≡ End Differ) ⊎ (entry ≡ End NoMajority)
-
--- the entry frees a thread, or is an end in its place
-abbrev pub DecidesFree : Job → Core → (thread : ℕ) → Entry → Type 0
-DecidesFree job core thread (Free freed) = freed ≡ thread
-DecidesFree job core thread (End how) = EndsFree job core how
-DecidesFree job core thread _ = ⊥
 
 -- the journal ended where these views had no majority
 pub record ShowsViews (job : Job) (journal : List Entry) (views : List View) : Type 0 where

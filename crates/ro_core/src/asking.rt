@@ -3,13 +3,12 @@ ghost use Rattle.std.specs.Prelude.{◌≡◌, ◌<◌, ◌↔◌, ◌==◌, IfS
 ghost use Rattle.std.specs.List.{list_any};
 ghost use Rattle.ro_journal.specs.declared.How.{How as HowSeen};
 ghost use Rattle.ro_replica.specs.Seen.{replica_of};
-ghost use Rattle.ro_core.specs.Core.{is_going, is_home, is_lendable, may_vote, may_free};
-ghost use Rattle.ro_core.specs.Legal.{MayTake, EndsVote, EndsFree};
+ghost use Rattle.ro_legal.specs.Core.{is_going, is_home, is_lendable, may_vote, may_free};
+ghost use Rattle.ro_legal.specs.Legal.{MayTake, EndsVote, EndsFree};
 ghost use Rattle.ro_core.specs.Seen.{state, sent, Stays};
 ghost use Rattle.ro_core.specs.Fields.{failed_of, Holds};
 ghost use Rattle.ro_core.specs.Runs.{fields_of, job_of, state_of, sent_in, IsHeld, WithAnySink};
 
-use crate::actions::Lease;
 use crate::cores::Core;
 use crate::events::Coming;
 use crate::runs::Run;
@@ -18,6 +17,7 @@ use ro_event::Call;
 use ro_io::Sink;
 use ro_journal::How;
 use ro_kernel::Kernel;
+use ro_legal::Lease;
 use ro_replica::ReplicaBox;
 use ro_vote::{Won, verdict};
 

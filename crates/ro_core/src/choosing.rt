@@ -1,14 +1,14 @@
 //! What the core does next.
 ghost use Rattle.std.specs.Prelude.{◌≡◌, ◌<◌, ◌&&◌, length, true};
-ghost use Rattle.ro_core.specs.Core.{is_going, nothing_lent, is_lendable, may_vote, may_free};
-ghost use Rattle.ro_core.specs.Action.{lowest_below, threads_made, lend_next, first_action, next_action as next};
+ghost use Rattle.ro_legal.specs.Core.{is_going, nothing_lent, is_lendable, may_vote, may_free};
+ghost use Rattle.ro_legal.specs.Action.{lowest_below, threads_made, lend_next, first_action, next_action as next};
 ghost use Rattle.ro_core.specs.Fields.{Holds};
 ghost use Rattle.ro_core.specs.Runs.{fields_of, job_of, state_of};
 
-use crate::actions::Action;
 use crate::runs::Run;
 use ro_event::Call;
 use ro_journal::How;
+use ro_legal::Action;
 
 impl Run {
     /// What comes next: an end that is due; else, where nothing is lent, the lowest thread is freed or voted on; else the

@@ -3,7 +3,7 @@ ghost use Rattle.std.specs.Prelude.{ℕ, ◌≡◌, List, IfOk, OnErr, [], None,
 ghost use Rattle.ro_kernel.specs.Kernel.{lives_on, Kernel as KernelSeen};
 ghost use Rattle.ro_event.specs.declared.stops.Stop.{Stop as At};
 ghost use Rattle.ro_event.specs.declared.stops.Stop.TheVariants.{Calls};
-ghost use Rattle.ro_core.specs.Event.{event_of, quiet_effect, call_event};
+ghost use Rattle.ro_legal.specs.Event.{event_of, quiet_effect, call_event};
 ghost use Rattle.ro_core.specs.Fields.{outcome_with};
 ghost use Rattle.ro_core.specs.Happening.{event_by, IsCause, IsEvent, IsCallEvent};
 
@@ -47,7 +47,7 @@ pub(crate) enum Cause {
 
 impl Coming {
     /// What comes of a thread that stands at this stop.
-    #[tactic(auto, unfolding(crate::specs::Event::event_of))]
+    #[tactic(auto, unfolding(ro_legal::specs::Event::event_of))]
     pub(crate) fn of(kernel: &Kernel, thread: u32, stop: &Stop) -> Coming
         ensures did { (payload : List ℕ) → (event_of kernel.now.setup kernel.now.kernel thread stop.now payload).did ≡ result.did }
         ensures cause { IsCause kernel.now.setup kernel.now.kernel thread stop.now result.did result.cause }
@@ -90,7 +90,7 @@ impl Coming {
 }
 
 // Whether a call is served or blocks.
-#[tactic(auto, unfolding(crate::specs::Event::event_of))]
+#[tactic(auto, unfolding(ro_legal::specs::Event::event_of))]
 fn did_of(kernel: &Kernel, thread: u32, call: Call) -> Did
     ensures { (payload : List ℕ) → (event_of kernel.now.setup kernel.now.kernel thread (Calls call) payload).did ≡ result }
 {

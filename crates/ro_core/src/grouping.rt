@@ -4,10 +4,11 @@ ghost use Rattle.ro_journal.specs.Losers.{numbers};
 ghost use Rattle.ro_vote.specs.Numbers.{is_among};
 ghost use Rattle.ro_replica.specs.Replica.{Replica as ReplicaSeen, stop_of};
 ghost use Rattle.ro_replica.specs.Seen.{replica_of};
-ghost use Rattle.ro_core.specs.Core.{Job};
-ghost use Rattle.ro_core.specs.Event.{all_applied};
+ghost use Rattle.ro_legal.specs.Core.{Job};
+ghost use Rattle.ro_legal.specs.Event.{all_applied};
 ghost use Rattle.ro_core.specs.Fields.{AreHome};
-ghost use Rattle.ro_core.specs.Grouped.{AreGrouped, AreMade, BacksNone, FaultsWait, Returns, Copies, CopiesRow, CopiesStop, Releases, Settles, SettlesSeat, SettlesStop};
+ghost use Rattle.ro_core.specs.Grouped.{AreGrouped, AreMade, Returns, Copies, CopiesRow, CopiesStop, Releases, Settles, SettlesSeat, SettlesStop};
+ghost use Rattle.ro_legal.specs.Sound.{BacksNone, FaultsWait};
 
 use crate::seats::is_stopped;
 use ro_event::Effect;

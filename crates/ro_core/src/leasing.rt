@@ -2,14 +2,14 @@
 ghost use Rattle.std.specs.Prelude.{◌≡◌, ◌<◌, ◌==◌, ◌∷◌, OnOk, vec_len, vec_capacity, not};
 ghost use Rattle.std.specs.List.{filter, find};
 ghost use Rattle.ro_journal.specs.declared.Entry.TheVariants.{Take};
-ghost use Rattle.ro_core.specs.Legal.{IsAllowed, is_lease};
+ghost use Rattle.ro_legal.specs.Legal.{IsAllowed, is_lease};
 ghost use Rattle.ro_core.specs.Seen.{Appends, Quiet, Stays, HasRoom, IsLent, MayReturn, ReturnIs};
 ghost use Rattle.ro_core.specs.Fields.{Holds};
 ghost use Rattle.ro_core.specs.Runs.{fields_of, job_of, state_of, silent, WithAnySink};
 
-use crate::actions::Lease;
 use crate::runs::Run;
 use ro_journal::Entry;
+use ro_legal::Lease;
 use ro_replica::{Ran, ReplicaBox};
 use std::alloc::AllocError;
 

@@ -2,21 +2,21 @@
 ghost use Rattle.std.specs.Prelude.{◌≡◌, ◌≢◌, ◌++◌, ◌∷◌, [], ℕ, true};
 ghost use Rattle.ro_journal.specs.declared.How.TheVariants.{Sink as BySink};
 ghost use Rattle.ro_journal.specs.declared.Entry.TheVariants.{End};
-ghost use Rattle.ro_core.specs.declared.actions.Action.TheVariants as act;
-ghost use Rattle.ro_core.specs.Core.{is_going};
-ghost use Rattle.ro_core.specs.Legal.{IsAllowed, MayEnd, replay};
-ghost use Rattle.ro_core.specs.Action.{next_action as next, IsNext};
+ghost use Rattle.ro_legal.specs.declared.actions.Action.TheVariants as act;
+ghost use Rattle.ro_legal.specs.Core.{is_going};
+ghost use Rattle.ro_legal.specs.Legal.{IsAllowed, MayEnd, replay};
+ghost use Rattle.ro_legal.specs.Action.{next_action as next, IsNext};
 ghost use Rattle.ro_core.specs.Seen.{Appends, Quiet, KeepsViews};
 ghost use Rattle.ro_core.specs.Fields.{Holds};
 ghost use Rattle.ro_core.specs.Runs.{fields_of, job_of, state_of, WithAnySink};
 
-use crate::actions::Lease;
 use crate::seats::Seats;
 use ro_event::{Call, View};
 use ro_faults::Fault;
 use ro_image::Executable;
 use ro_journal::{Entry, How};
 use ro_kernel::Kernel;
+use ro_legal::Lease;
 use ro_settings::Settings;
 use std::alloc::Global;
 

@@ -6,10 +6,11 @@ ghost use Rattle.ro_replica.specs.Replica.{Replica as ReplicaSeen, stop_of};
 ghost use Rattle.ro_replica.specs.Views.{view_of};
 ghost use Rattle.ro_replica.specs.Seen.{ReplicaOf, replica_of, CanApply, AreTwins, Recovers};
 ghost use Rattle.ro_journal.specs.Losers.{numbers};
-ghost use Rattle.ro_core.specs.Core.{Job};
-ghost use Rattle.ro_core.specs.Event.{all_applied, with_copy, with_recovered};
+ghost use Rattle.ro_legal.specs.Core.{Job};
+ghost use Rattle.ro_legal.specs.Event.{all_applied, with_copy, with_recovered};
 ghost use Rattle.ro_core.specs.Fields.{IsSeat, AreHome, AreSpared, CanTake, KeepsSeat, AreAllTwins, AreLosers, seat_unstopped};
-ghost use Rattle.ro_core.specs.Grouped.{AreMade, FaultsWait, Returns, seat_stopped};
+ghost use Rattle.ro_core.specs.Grouped.{AreMade, Returns, seat_stopped};
+ghost use Rattle.ro_legal.specs.Sound.{FaultsWait};
 ghost use Rattle.ro_core.specs.Seated.{Stands};
 
 use crate::grouping::{copy_stops, note_return, regroup};

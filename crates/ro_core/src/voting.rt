@@ -1,10 +1,11 @@
 //! Votes, and the calls that are served after one.
 ghost use Rattle.std.specs.Prelude.{◌≡◌, ◌⊎◌, ◌<◌, ◌≤◌, ◌∷◌, ◌++◌, ℕ, List, [], Some, true, IfOk, IfSome, OnErr, OnOk, length};
 ghost use Rattle.ro_vote.specs.Verdict.{verdict_of, Split};
-ghost use Rattle.ro_core.specs.Core.{may_vote, may_free, views_of};
-ghost use Rattle.ro_core.specs.Legal.{IsAllowed, output_of};
+ghost use Rattle.ro_legal.specs.Core.{may_vote, may_free, views_of};
+ghost use Rattle.ro_legal.specs.Legal.{IsAllowed, output_of};
 ghost use Rattle.ro_core.specs.Fields.{Holds, AreSpared, split_end};
-ghost use Rattle.ro_core.specs.Seen.{Appends, Quiet, IsOfMajority, Stays, DecidesVote, DecidesFree, IsSplit};
+ghost use Rattle.ro_core.specs.Seen.{Appends, Quiet, IsOfMajority, Stays};
+ghost use Rattle.ro_legal.specs.Decides.{DecidesVote, DecidesFree, IsSplit};
 ghost use Rattle.ro_core.specs.Runs.{fields_of, job_of, state_of, sent_in, payload_by, bytes_by, WithAnySink, MakesRoom, IsHeld, CanOccur, LastWrote, Notes};
 
 use crate::events::{Coming, Event, serve};

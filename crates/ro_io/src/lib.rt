@@ -21,6 +21,3 @@ pub use out_sink::OutSink;
 pub use sending::send;
 pub use sinks::{Failed, Sink};
 pub use stores::{FetchError, Store};
-
-#[cfg(test)]
-mod tests;

@@ -20,6 +20,3 @@ pub use files::{journal_text, read_journal};
 pub use laws::{texts_read_back, texts_spelled_once};
 pub use lines::{entry_text, header};
 pub use versions::Version;
-
-#[cfg(test)]
-mod tests;

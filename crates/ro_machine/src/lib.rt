@@ -18,6 +18,3 @@ pub use length::{MOST_STEPS, plan_steps};
 pub use plain::Plain;
 pub use running::run_plan;
 pub use watching::{Relation, Stretch, Watched};
-
-#[cfg(test)]
-mod tests;

@@ -9,30 +9,32 @@ use Rattle.ro_journal.specs.declared.Entry.{Entry}
 use Rattle.ro_journal.specs.declared.Entry.TheVariants.{Take, Put, Vote, Free, End}
 use Rattle.ro_journal.specs.Plan.{outcome_of}
 use Rattle.ro_replica.specs.Seen.{replica_of, Runs}
-use Rattle.ro_core.specs.declared.actions.Action.TheVariants as act
-use Rattle.ro_core.specs.declared.actions.Lease.{Lease}
-use Rattle.ro_core.specs.Core.{Job, Core, is_going, is_idle, is_lendable}
-use Rattle.ro_core.specs.Legal.{IsAllowed, MayTake, after, Legal, replay, replay_with}
-use Rattle.ro_core.specs.Action.{next_action, IsNext}
-use Rattle.ro_core.specs.Seen.{CoreOf, state, Appends, Quiet, Sends, Stays, MayReturn, DecidesVote, DecidesFree, IsSplit, lease_of, ReturnIs}
-use Rattle.ro_core.proofs.Homes.{replay_more}
-use Rattle.ro_core.proofs.Outcomes.{ended_is_outcome}
-use Rattle.ro_core.proofs.Nexts.{lend_is_next, vote_next, free_next, over_is_next, next_over}
-use Rattle.ro_core.proofs.Ordered.{going-parts, vote-parts, free-parts}
-use Rattle.ro_core.specs.Core.{views_of}
+use Rattle.ro_legal.specs.declared.actions.Action.TheVariants as act
+use Rattle.ro_legal.specs.declared.actions.Lease.{Lease}
+use Rattle.ro_legal.specs.Core.{Job, Core, is_going, is_idle, is_lendable, lease_of, views_of}
+use Rattle.ro_legal.specs.Legal.{IsAllowed, MayTake, after, Legal, replay, replay_with}
+use Rattle.ro_legal.specs.Action.{next_action, IsNext}
+use Rattle.ro_core.specs.Seen.{CoreOf, state, Appends, Quiet, Sends, Stays, MayReturn, ReturnIs}
+use Rattle.ro_legal.specs.Decides.{DecidesVote, DecidesFree, IsSplit}
+use Rattle.ro_legal.proofs.Journals.{replay_more}
+use Rattle.ro_legal.proofs.Outcomes.{ended_is_outcome}
+use Rattle.ro_legal.proofs.Nexts.{lend_is_next, vote_next, free_next, over_is_next, next_over}
+use Rattle.ro_legal.proofs.Ordered.{going-parts, vote-parts, free-parts}
 use Rattle.ro_post.specs.declared.posts.Turn.{Turn}
 use Rattle.ro_post.specs.declared.posts.Turn.TheVariants as a
 use Rattle.ro_post.specs.Turns.{IfOver}
 use Rattle.ro_master.specs.History.{Turned, turned, journal_of}
 use Rattle.ro_master.specs.Passes.{CountOf, PassOf, Knew, counted, added, shown, empty_count}
-use Rattle.ro_core.specs.Driven.{CanRun, HasRun, IsDriven, Goes, KeepsLast, Names}
+use Rattle.ro_legal.specs.Jobs.{CanRun}
+use Rattle.ro_core.specs.Driven.{HasRun, IsDriven, Goes, KeepsLast}
+use Rattle.ro_legal.specs.Laws.{Names}
 use Rattle.ro_lease.specs.Loans.{LentOf, BackOf, Gives}
 use Rattle.ro_master.specs.Desks.{DeskOf, Tied, seen_core, seen_state, AtRest, MayGiveBack, Rests, IsOver, Moved, Looked, IsLoan, Decides, votes, frees, ends, TurnIs, PutIs, AnswersOver, TakesMemory}
 use Rattle.ro_core.proofs.Turns.{calm_state, lend_calm, driven_more, leases_with, not_failed, goes_quiet, goes_none, goes_on, stays_state, stays_goes, stays_driven, stays_next}
 use Rattle.ro_core.proofs.Deciding.{vote_going, vote_calm, free_going, free_calm, voted_driven, voted_goes, freed_driven, freed_goes, end_driven, end_goes}
 use Rattle.ro_core.proofs.LastViews.{going_open, none_last, more_open, stays_open, voted_last, freed_last, end_open, end_last}
-use Rattle.ro_core.proofs.Leases.{one_each}
-use Rattle.ro_core.proofs.Lasting.{idle_after_put, idle_after}
+use Rattle.ro_legal.proofs.Leases.{one_each}
+use Rattle.ro_legal.proofs.Lasting.{idle_after_put, idle_after}
 use Rattle.ro_core.proofs.Lending.{lending, lent_returns}
 use Rattle.ro_master.proofs.Leases.{still_idle, still_returns, owned_snoc, within_snoc, journal_snoc}
 

@@ -4,13 +4,15 @@ use Rattle.std.specs.declared.alloc.AllocError.{AllocError}
 use Rattle.ro_journal.specs.declared.Entry.{Entry}
 use Rattle.ro_journal.specs.declared.Entry.TheVariants.{Take, Put, End}
 use Rattle.ro_journal.specs.declared.How.{How}
-use Rattle.ro_core.specs.declared.actions.Action.{Action}
-use Rattle.ro_core.specs.declared.actions.Action.TheVariants as act
-use Rattle.ro_core.specs.Core.{Job, Core, is_idle}
-use Rattle.ro_core.specs.Legal.{replay}
-use Rattle.ro_core.specs.Action.{next_action}
-use Rattle.ro_core.specs.Driven.{IsDriven, Goes, KeepsLast, Names}
-use Rattle.ro_core.specs.Seen.{CoreOf, state, Appends, Stays, IsLent, MayReturn, DecidesVote, DecidesFree}
+use Rattle.ro_legal.specs.declared.actions.Action.{Action}
+use Rattle.ro_legal.specs.declared.actions.Action.TheVariants as act
+use Rattle.ro_legal.specs.Core.{Job, Core, is_idle}
+use Rattle.ro_legal.specs.Legal.{replay}
+use Rattle.ro_legal.specs.Action.{next_action}
+use Rattle.ro_core.specs.Driven.{IsDriven, Goes, KeepsLast}
+use Rattle.ro_legal.specs.Laws.{Names}
+use Rattle.ro_core.specs.Seen.{CoreOf, state, Appends, Stays, IsLent, MayReturn}
+use Rattle.ro_legal.specs.Decides.{DecidesVote, DecidesFree}
 use Rattle.ro_post.specs.declared.posts.Turn.{Turn}
 use Rattle.ro_post.specs.Turns.{MatchLeased}
 use Rattle.ro_post.specs.declared.posts.Turn.TheVariants as a

@@ -1,8 +1,8 @@
 -- What a master says once its lock is let go.
 use Rattle.std.specs.Prelude.{◌≡◌, ◌+◌, ℕ, zero, suc, List, [], ◌∷◌, ◌++◌, None, Result, MatchResult}
 use Rattle.std.specs.declared.alloc.AllocError.{AllocError}
-use Rattle.ro_core.specs.Core.{Job}
-use Rattle.ro_core.specs.Action.{next_action}
+use Rattle.ro_legal.specs.Core.{Job}
+use Rattle.ro_legal.specs.Action.{next_action}
 use Rattle.ro_core.specs.Seen.{CoreOf, state}
 use Rattle.ro_post.specs.declared.posts.Turn.{Turn}
 use Rattle.ro_post.specs.declared.posts.Driver.{Driver}

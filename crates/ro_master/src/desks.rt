@@ -4,14 +4,16 @@ ghost use Rattle.ro_post.specs.Turns.{IfOver};
 ghost use Rattle.ro_journal.specs.declared.How.{How as HowOf};
 ghost use Rattle.ro_journal.specs.declared.Entry.{Entry as EntryOf};
 ghost use Rattle.ro_journal.specs.declared.Entry.TheVariants.{Take, End};
-ghost use Rattle.ro_core.specs.declared.actions.Action.TheVariants as act;
-ghost use Rattle.ro_core.specs.Action.{next_action as next};
-ghost use Rattle.ro_core.specs.Seen.{state, DecidesVote, DecidesFree};
+ghost use Rattle.ro_legal.specs.declared.actions.Action.TheVariants as act;
+ghost use Rattle.ro_legal.specs.Action.{next_action as next};
+ghost use Rattle.ro_core.specs.Seen.{state};
+ghost use Rattle.ro_legal.specs.Decides.{DecidesVote, DecidesFree};
 
 use crate::passes::{Counter, Pass};
 use crate::seats::Naming;
 use crate::waking::{Wakes, Waking};
-use ro_core::{Action, Core};
+use ro_core::Core;
+use ro_legal::Action;
 use ro_io::Sink;
 use ro_journal::{Entry, How};
 use ro_lease::{Back, Lent};
@@ -38,7 +40,7 @@ impl<K: Sink, N: Naming> Model for Desk<K, N> {
 
 impl<K: Sink, N: Naming> Desk<K, N> {
     ghost use Rattle.ro_master.specs.Passes.{empty_count, shown, Knew};
-    ghost use Rattle.ro_core.specs.Driven.{CanRun};
+    ghost use Rattle.ro_legal.specs.Jobs.{CanRun};
     ghost use Rattle.ro_master.specs.Desks.{AtRest, MayGiveBack, Moved, Looked, IsLoan, Decides, TurnIs, PutIs, TakesMemory, Rests, IsOver, AnswersOver, Tied};
 
     /// A desk for a core that was just opened, whose passes have their numbers.

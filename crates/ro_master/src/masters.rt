@@ -3,7 +3,8 @@ ghost use Rattle.std.specs.Prelude.{◌≡◌, [], IfErr, IfOk, MatchResult, len
 ghost use Rattle.std.specs.List.{All};
 ghost use Rattle.ro_post.specs.Turns.{IfOver};
 ghost use Rattle.ro_core.specs.Seen.{state};
-ghost use Rattle.ro_core.specs.Driven.{CanRun, IsDriven, IsHome, Goes, KeepsLast};
+ghost use Rattle.ro_legal.specs.Jobs.{CanRun};
+ghost use Rattle.ro_core.specs.Driven.{IsDriven, IsHome, Goes, KeepsLast};
 ghost use Rattle.ro_master.specs.Desks.{AtRest, MayGiveBack, Rests, IsOver, AreWithin};
 ghost use Rattle.ro_master.specs.Masters.{TurnDid, PutDid, fresh_drivers, AreAll, AllKnew};
 ghost use Rattle.ro_master.specs.History.{journal_of};

@@ -14,6 +14,3 @@ mod sources;
 pub use found::{Found, RacesErr};
 pub use laws::{known_is_before, one_race_is_first, races_of_executions};
 pub use running::check;
-
-#[cfg(test)]
-mod tests;

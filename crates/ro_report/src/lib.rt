@@ -11,6 +11,3 @@ pub use laws::shown_line_by_line;
 pub use ro_journal_text::{JournalCode, entry_text, header};
 pub use ro_text::Line;
 pub use summaries::{bench_line, plain_line, summary};
-
-#[cfg(test)]
-mod tests;

@@ -16,13 +16,13 @@ use Rattle.ro_vote.specs.Verdict.{verdict_of}
 use Rattle.ro_replica.specs.Replica.{opening_replica, applied, cancelled, recovered}
 use Rattle.ro_replica.specs.Runs.{struck, execute}
 use Rattle.ro_plain.specs.Machine.{Machine, opening, steppable, step}
-use Rattle.ro_core.specs.Core.{opening_core}
-use Rattle.ro_core.specs.Event.{event_of}
-use Rattle.ro_core.specs.Legal.{Legal, IsAllowed, after, replay, alone}
-use Rattle.ro_core.specs.Action.{next_action}
-use Rattle.ro_core.specs.Ideal.{ideal}
+use Rattle.ro_legal.specs.Core.{opening_core}
+use Rattle.ro_legal.specs.Event.{event_of}
+use Rattle.ro_legal.specs.Legal.{Legal, IsAllowed, after, replay, alone}
+use Rattle.ro_legal.specs.Action.{next_action}
+use Rattle.ro_legal.specs.Ideal.{ideal}
 use Rattle.ro_plain.proofs.Calls.{some-injective}
-use Rattle.ro_core.proofs.Journals.{LegalFrom-append}
+use Rattle.ro_legal.proofs.Journals.{LegalFrom-append}
 use Rattle.ro_simulation.specs.Drives.{driven}
 use Rattle.ro_simulation.proofs.Checks.{test_legal, legal-by-test}
 use Rattle.ro_rows.specs.Guests.{deadlock_guest}

@@ -6,11 +6,11 @@ use Rattle.ro_journal.specs.declared.How.TheVariants.{Differ}
 use Rattle.ro_journal.specs.declared.Entry.TheVariants.{End}
 use Rattle.ro_journal.specs.Plan.{outcome_of}
 use Rattle.ro_vote.specs.Verdict.{Verdict, Won, Split, verdict_of}
-use Rattle.ro_core.specs.declared.actions.Action.{Action}
-use Rattle.ro_core.specs.declared.actions.Action.TheVariants.{Vote as DoVote, Free as DoFree, Lend, End as DoEnd, Wait, Over}
-use Rattle.ro_core.specs.Core.{Job, Core, opening_core, views_of}
-use Rattle.ro_core.specs.Legal.{after}
-use Rattle.ro_core.specs.Action.{next_action, EachIsNext}
+use Rattle.ro_legal.specs.declared.actions.Action.{Action}
+use Rattle.ro_legal.specs.declared.actions.Action.TheVariants.{Vote as DoVote, Free as DoFree, Lend, End as DoEnd, Wait, Over}
+use Rattle.ro_legal.specs.Core.{Job, Core, opening_core, views_of}
+use Rattle.ro_legal.specs.Legal.{after}
+use Rattle.ro_legal.specs.Action.{next_action, EachIsNext}
 use Rattle.ro_simulation.specs.Drives.{vote_entry, entries_for, with_entries, driven_from, driven}
 
 -- after an end nothing comes

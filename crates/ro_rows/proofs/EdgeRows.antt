@@ -24,11 +24,11 @@ use Rattle.ro_replica.specs.Replica.{opening_replica, applied, cancelled, recove
 use Rattle.ro_replica.specs.Runs.{RanTo, struck, execute}
 use Rattle.ro_plain.specs.Machine.{Machine, opening, steppable, step, AllEnd}
 use Rattle.ro_plain.proofs.Calls.{some-injective}
-use Rattle.ro_core.specs.declared.actions.Action.TheVariants as act
-use Rattle.ro_core.specs.Core.{Job, Core, opening_core, may_free}
-use Rattle.ro_core.specs.Event.{event_of}
-use Rattle.ro_core.specs.Legal.{Legal, IsAllowed, HasArrived, arrival, EndsAlone, EndsVote, EndsFree, MayEnd, after, replay, output_of, due, alone, for_vote, for_free}
-use Rattle.ro_core.specs.Action.{next_action, IsNext}
+use Rattle.ro_legal.specs.declared.actions.Action.TheVariants as act
+use Rattle.ro_legal.specs.Core.{Job, Core, opening_core, may_free}
+use Rattle.ro_legal.specs.Event.{event_of}
+use Rattle.ro_legal.specs.Legal.{Legal, IsAllowed, HasArrived, arrival, EndsAlone, EndsVote, EndsFree, MayEnd, after, replay, output_of, due, alone, for_vote, for_free}
+use Rattle.ro_legal.specs.Action.{next_action, IsNext}
 use Rattle.ro_simulation.specs.Theorem.{CannotDiffer}
 use Rattle.ro_simulation.specs.Guests.{exit_guest}
 use Rattle.ro_simulation.specs.Rows.{flip_a0}

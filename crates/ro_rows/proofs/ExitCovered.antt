@@ -14,7 +14,7 @@ use Rattle.ro_journal.specs.Plan.{outcome_of}
 use Rattle.ro_plain.specs.Machine.{opening, steppable, step}
 use Rattle.ro_plain.specs.Order.{RaceFree}
 use Rattle.ro_plain.proofs.Calls.{some-injective}
-use Rattle.ro_core.specs.Ideal.{StaysApart}
+use Rattle.ro_legal.specs.Ideal.{StaysApart}
 use Rattle.ro_simulation.specs.Theorem.{StaysAlone, AllOfOne, Simulates}
 use Rattle.ro_simulation.specs.Rows.{IsCovered}
 use Rattle.ro_simulation.proofs.RowsStruck.{one-life, no-run}

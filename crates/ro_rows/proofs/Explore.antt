@@ -11,8 +11,8 @@ use Rattle.ro_plain.specs.Accesses.{Accesses, no_access, accesses, touches, conf
 use Rattle.ro_plain.specs.Order.{Sync, Unlocks, Locks, Makes, Joins, Exits, Nothing, sync_of, machine_at, sync_at, accesses_at, HappensBefore, in_thread, by_mutex, by_creation, by_join, chain, RaceFree}
 use Rattle.ro_plain.proofs.Calls.{some-injective, steppable-parts, step-opens}
 use Rattle.ro_plain.proofs.Swap.{at-both}
-use Rattle.ro_core.specs.Legal.{any_below}
-use Rattle.ro_core.proofs.Lists.{get-within}
+use Rattle.ro_legal.specs.Legal.{any_below}
+use Rattle.ro_legal.proofs.Lists.{get-within}
 use Rattle.ro_simulation.proofs.Entries.{or-cases, or-left, or-right}
 
 -- ---- an execution with what its steps mean and access

@@ -17,10 +17,10 @@ use Rattle.ro_replica.specs.Runs.{struck, execute}
 use Rattle.ro_plain.specs.Machine.{Program, opening, steppable, step}
 use Rattle.ro_plain.specs.Accesses.{accesses}
 use Rattle.ro_plain.specs.Order.{Unlocks, Locks, Makes, Joins, Exits, Nothing, sync_of, accesses_at, HappensBefore, in_thread, by_mutex, by_creation, by_join, chain}
-use Rattle.ro_core.specs.Core.{opening_core}
-use Rattle.ro_core.specs.Event.{event_of}
-use Rattle.ro_core.specs.Legal.{after}
-use Rattle.ro_core.specs.Action.{next_action}
+use Rattle.ro_legal.specs.Core.{opening_core}
+use Rattle.ro_legal.specs.Event.{event_of}
+use Rattle.ro_legal.specs.Legal.{after}
+use Rattle.ro_legal.specs.Action.{next_action}
 use Rattle.ro_simulation.specs.Drives.{driven}
 use Rattle.ro_simulation.specs.Guests.{locking_guest, usual_job}
 use Rattle.ro_rows.specs.Order.{locking_plan, syncs_from, bytes, none}

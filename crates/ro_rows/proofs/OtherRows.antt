@@ -17,10 +17,10 @@ use Rattle.ro_vote.specs.Verdict.{Won, verdict_of}
 use Rattle.ro_replica.specs.Replica.{opening_replica, applied, cancelled, recovered}
 use Rattle.ro_replica.specs.Runs.{struck, execute}
 use Rattle.ro_plain.specs.Machine.{Machine, opening, steppable, step, run}
-use Rattle.ro_core.specs.Core.{opening_core}
-use Rattle.ro_core.specs.Event.{event_of}
-use Rattle.ro_core.specs.Legal.{IsAllowed, after, replay}
-use Rattle.ro_core.specs.Action.{next_action}
+use Rattle.ro_legal.specs.Core.{opening_core}
+use Rattle.ro_legal.specs.Event.{event_of}
+use Rattle.ro_legal.specs.Legal.{IsAllowed, after, replay}
+use Rattle.ro_legal.specs.Action.{next_action}
 use Rattle.ro_simulation.specs.Guests.{exit_guest, usual_job}
 use Rattle.ro_simulation.specs.Rows.{flip_a0}
 use Rattle.ro_rows.specs.Guests.{loop_guest}

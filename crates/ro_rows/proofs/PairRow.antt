@@ -15,10 +15,10 @@ use Rattle.ro_vote.specs.Verdict.{verdict_of}
 use Rattle.ro_replica.specs.Replica.{opening_replica, applied, cancelled, recovered}
 use Rattle.ro_replica.specs.Runs.{struck, execute}
 use Rattle.ro_plain.specs.Machine.{opening, steppable, step}
-use Rattle.ro_core.specs.Core.{opening_core}
-use Rattle.ro_core.specs.Event.{event_of}
-use Rattle.ro_core.specs.Legal.{Legal, after, for_vote}
-use Rattle.ro_core.specs.Action.{next_action}
+use Rattle.ro_legal.specs.Core.{opening_core}
+use Rattle.ro_legal.specs.Event.{event_of}
+use Rattle.ro_legal.specs.Legal.{Legal, after, for_vote}
+use Rattle.ro_legal.specs.Action.{next_action}
 use Rattle.ro_simulation.specs.Drives.{driven}
 use Rattle.ro_rows.specs.Rows.{IdealEnds, pair_job, pair_journal}
 

@@ -16,10 +16,10 @@ use Rattle.ro_journal.specs.declared.Entry.TheVariants.{Vote, End}
 use Rattle.ro_vote.specs.Verdict.{verdict_of}
 use Rattle.ro_replica.specs.Replica.{opening_replica, applied, cancelled, recovered}
 use Rattle.ro_replica.specs.Runs.{struck, execute}
-use Rattle.ro_core.specs.Core.{opening_core}
-use Rattle.ro_core.specs.Event.{event_of}
-use Rattle.ro_core.specs.Legal.{Legal, after}
-use Rattle.ro_core.specs.Action.{next_action}
+use Rattle.ro_legal.specs.Core.{opening_core}
+use Rattle.ro_legal.specs.Event.{event_of}
+use Rattle.ro_legal.specs.Legal.{Legal, after}
+use Rattle.ro_legal.specs.Action.{next_action}
 use Rattle.ro_simulation.specs.Drives.{driven}
 use Rattle.ro_simulation.proofs.Checks.{test_legal, legal-by-test}
 use Rattle.ro_rows.specs.Rows.{decisions, watched_job}

@@ -8,8 +8,8 @@ use Rattle.ro_journal.specs.declared.Entry.TheVariants.{Take, Put, Vote}
 use Rattle.ro_faults.specs.declared.Target.TheVariants.{Register}
 use Rattle.ro_faults.specs.declared.Fault.{Fault}
 use Rattle.ro_plain.specs.Machine.{Program}
-use Rattle.ro_core.specs.Core.{Job}
-use Rattle.ro_core.specs.Laws.{hits}
+use Rattle.ro_legal.specs.Core.{Job}
+use Rattle.ro_legal.specs.Laws.{hits}
 use Rattle.ro_simulation.specs.Guests.{guest, locking_guest}
 use Rattle.ro_simulation.specs.Drives.{driven}
 use Rattle.ro_rows.specs.Guests.{page_guest}

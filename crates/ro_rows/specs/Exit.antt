@@ -7,8 +7,8 @@ use Rattle.ro_journal.specs.declared.Did.TheVariants.{Served}
 use Rattle.ro_journal.specs.declared.How.TheVariants.{Exit}
 use Rattle.ro_journal.specs.declared.Entry.{Entry}
 use Rattle.ro_journal.specs.declared.Entry.TheVariants.{Take, Put, Vote, End}
-use Rattle.ro_core.specs.Core.{Job}
-use Rattle.ro_core.specs.Jobs.{default_job}
+use Rattle.ro_legal.specs.Core.{Job}
+use Rattle.ro_legal.specs.Jobs.{default_job}
 
 -- the header of an executable that begins at 10054, without sections; the header of its only segment, the whole file from
 -- 10000 on, to be read and executed; ADDI a0, zero, 7; ADDI a7, zero, 93; ECALL

@@ -9,8 +9,8 @@ use Rattle.ro_journal.specs.declared.Entry.{Entry}
 use Rattle.ro_journal.specs.declared.Entry.TheVariants.{Take, Put, Vote, End}
 use Rattle.ro_faults.specs.declared.Target.TheVariants.{Register, Byte}
 use Rattle.ro_plain.specs.Machine.{Machine}
-use Rattle.ro_core.specs.Core.{Job}
-use Rattle.ro_core.specs.Ideal.{ideal}
+use Rattle.ro_legal.specs.Core.{Job}
+use Rattle.ro_legal.specs.Ideal.{ideal}
 use Rattle.ro_simulation.specs.Theorem.{EndsAs}
 use Rattle.ro_simulation.specs.Guests.{exit_guest, usual_job}
 use Rattle.ro_simulation.specs.Rows.{flip_a0}

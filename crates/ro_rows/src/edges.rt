@@ -7,10 +7,10 @@ ghost use Rattle.ro_journal.specs.declared.Entry.TheVariants.{Take, Put, Vote, F
 ghost use Rattle.ro_journal.specs.declared.losers.Lost.TheVariants.{Nobody, One};
 ghost use Rattle.ro_journal.specs.Plan.{plan_of};
 ghost use Rattle.ro_plain.specs.Machine.{AllEnd};
-ghost use Rattle.ro_core.specs.declared.actions.Action.TheVariants as act;
-ghost use Rattle.ro_core.specs.Core.{opening_core, may_free};
-ghost use Rattle.ro_core.specs.Legal.{Legal, IsAllowed, replay, output_of};
-ghost use Rattle.ro_core.specs.Action.{next_action, IsNext};
+ghost use Rattle.ro_legal.specs.declared.actions.Action.TheVariants as act;
+ghost use Rattle.ro_legal.specs.Core.{opening_core, may_free};
+ghost use Rattle.ro_legal.specs.Legal.{Legal, IsAllowed, replay, output_of};
+ghost use Rattle.ro_legal.specs.Action.{next_action, IsNext};
 ghost use Rattle.ro_simulation.specs.Theorem.{CannotDiffer};
 ghost use Rattle.ro_simulation.specs.Guests.{exit_guest};
 ghost use Rattle.ro_simulation.specs.Rows.{flip_a0};

@@ -16,9 +16,9 @@ ghost use Rattle.ro_journal.specs.declared.losers.Lost.TheVariants.{Nobody, One,
 ghost use Rattle.ro_journal.specs.Plan.{plan_of, outcome_of};
 ghost use Rattle.ro_plain.specs.Machine.{Machine, opening, run};
 ghost use Rattle.ro_plain.specs.Order.{RaceFree};
-ghost use Rattle.ro_core.specs.Core.{Job, opening_core};
-ghost use Rattle.ro_core.specs.Legal.{Legal, IsAllowed, replay, output_of};
-ghost use Rattle.ro_core.specs.Action.{EachIsNext};
+ghost use Rattle.ro_legal.specs.Core.{Job, opening_core};
+ghost use Rattle.ro_legal.specs.Legal.{Legal, IsAllowed, replay, output_of};
+ghost use Rattle.ro_legal.specs.Action.{EachIsNext};
 ghost use Rattle.ro_simulation.specs.Guests.{exit_guest, usual_job};
 ghost use Rattle.ro_simulation.specs.Rows.{flip_a0, IsCovered};
 ghost use Rattle.ro_simulation.specs.Drives.{driven};

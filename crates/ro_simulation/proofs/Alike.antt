@@ -5,8 +5,8 @@ use Rattle.ro_journal.specs.declared.Entry.{Entry}
 use Rattle.ro_replica.specs.Replica.{Replica}
 use Rattle.ro_plain.specs.Machine.{Machine}
 use Rattle.ro_plain.proofs.Calls.{some-injective}
-use Rattle.ro_core.specs.Core.{Job}
-use Rattle.ro_core.specs.Ideal.{ideal, IsAlike}
+use Rattle.ro_legal.specs.Core.{Job}
+use Rattle.ro_legal.specs.Ideal.{ideal, IsAlike}
 use Rattle.ro_simulation.specs.Invariant.{Agrees}
 
 -- a replica that agrees is alike while the program goes on

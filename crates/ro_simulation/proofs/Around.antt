@@ -3,7 +3,7 @@ use Rattle.std.specs.Prelude.{◌≡◌, ◌≢◌, ℕ, zero, suc, ◌+◌, ◌
 use Rattle.std.proofs.Common.{refl, sym, ap, ◌∙◌, arith, append_assoc}
 use Rattle.ro_thread.specs.declared.Thread.{Thread}
 use Rattle.ro_plain.proofs.Ahead.{Without}
-use Rattle.ro_core.specs.Ideal.{ahead_from}
+use Rattle.ro_legal.specs.Ideal.{ahead_from}
 
 -- neither of two lists has the thread
 pub Without-append : (t : ℕ) (xs ys : List ℕ) → Without t xs → Without t ys → Without t (xs ++ ys)

@@ -6,8 +6,8 @@ use Rattle.ro_journal.specs.declared.Entry.{Entry}
 use Rattle.ro_journal.specs.declared.losers.Lost.TheVariants.{One}
 use Rattle.ro_plain.specs.Machine.{Machine}
 use Rattle.ro_plain.proofs.Calls.{some-injective}
-use Rattle.ro_core.specs.Core.{Job}
-use Rattle.ro_core.specs.Ideal.{IsAlike, AllAlikeBut, StrikesApart, StaysApart}
+use Rattle.ro_legal.specs.Core.{Job}
+use Rattle.ro_legal.specs.Ideal.{IsAlike, AllAlikeBut, StrikesApart, StaysApart}
 use Rattle.ro_vote.specs.Numbers.{is_among, AtMostHalf}
 use Rattle.ro_vote.proofs.Places.{only, not-only, is-only}
 use Rattle.ro_simulation.specs.Theorem.{FewDiffer, Simulates, AllOfOne, NamesFew}

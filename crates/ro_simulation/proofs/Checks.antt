@@ -15,9 +15,9 @@ use Rattle.ro_vote.specs.Verdict.{Verdict, Won, Split, verdict_of}
 use Rattle.ro_replica.specs.Runs.{RanTo}
 use Rattle.ro_plain.proofs.Ahead.{is-none-from}
 use Rattle.ro_simulation.proofs.Entries.{or-cases}
-use Rattle.ro_core.specs.Core.{Job, Core, is_going, is_idle, is_out, is_lendable, may_vote, may_free, views_of}
-use Rattle.ro_core.specs.Event.{Event}
-use Rattle.ro_core.specs.Legal.{arrival, lease_run, since_in, event_in, HasArrived, MayPut, MayVote, MayEnd, due, IsAllowed, after, LegalFrom}
+use Rattle.ro_legal.specs.Core.{Job, Core, is_going, is_idle, is_out, is_lendable, may_vote, may_free, views_of}
+use Rattle.ro_legal.specs.Event.{Event}
+use Rattle.ro_legal.specs.Legal.{arrival, lease_run, since_in, event_in, HasArrived, MayPut, MayVote, MayEnd, due, IsAllowed, after, LegalFrom}
 
 -- whether a take is allowed
 abbrev pub test_take : Job → Core → (driver replica thread : ℕ) → Bool

@@ -5,10 +5,10 @@ use Rattle.ro_thread.specs.declared.Thread.{Thread}
 use Rattle.ro_replica.specs.Replica.{Replica, copied_threads, recovered}
 use Rattle.ro_replica.specs.Runs.{standing_in}
 use Rattle.ro_plain.specs.Machine.{layout_of, Machine, BackedRun}
-use Rattle.ro_core.specs.Core.{Job}
+use Rattle.ro_legal.specs.Core.{Job}
 use Rattle.ro_simulation.specs.Invariant.{Agrees}
 use Rattle.ro_simulation.proofs.Counts.{counts, same-counts-ahead}
-use Rattle.ro_core.proofs.Copies.{copied-from}
+use Rattle.ro_legal.proofs.Copies.{copied-from}
 
 -- a copy has the winner's counts
 counts-copied : (winners losers : List Thread) → length winners ≡ length losers → counts (copied_threads winners losers) ≡ counts winners

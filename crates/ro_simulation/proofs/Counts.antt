@@ -3,7 +3,7 @@ use Rattle.std.specs.Prelude.{◌≡◌, ℕ, zero, suc, List, [], ◌∷◌, �
 use Rattle.std.proofs.Common.{refl, sym, ap, ap₂, ◌∙◌}
 use Rattle.ro_thread.specs.declared.Thread.{Thread}
 use Rattle.ro_replica.specs.Replica.{changed_at}
-use Rattle.ro_core.specs.Ideal.{ahead_from}
+use Rattle.ro_legal.specs.Ideal.{ahead_from}
 
 -- how far each thread has run ahead
 abbrev pub counts : List Thread → List ℕ

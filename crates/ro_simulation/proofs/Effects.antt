@@ -18,17 +18,17 @@ use Rattle.ro_replica.specs.Replica.{Replica, unstopped, changed_at, thread_afte
 use Rattle.ro_plain.specs.Machine.{layout_of, Machine, BackedRun}
 use Rattle.ro_plain.specs.Order.{RaceFree}
 use Rattle.ro_plain.proofs.Calls.{some-injective}
-use Rattle.ro_core.specs.Core.{Job}
-use Rattle.ro_core.specs.Ideal.{ahead_from}
+use Rattle.ro_legal.specs.Core.{Job}
+use Rattle.ro_legal.specs.Ideal.{ahead_from}
 use Rattle.ro_simulation.specs.Invariant.{Agrees}
 use Rattle.ro_simulation.proofs.Pages.{IsMore, stands-more}
 use Rattle.ro_simulation.proofs.Stays.{stays}
 use Rattle.ro_simulation.proofs.Ahead.{BackedRun-more}
-use Rattle.ro_core.proofs.Lists.{get-set-same, ChangedFrom, unchanged, changed_here, get-changed, changed-is-set, length-changed, get-map, get-append-cases}
+use Rattle.ro_legal.proofs.Lists.{get-set-same, ChangedFrom, unchanged, changed_here, get-changed, changed-is-set, length-changed, get-map, get-append-cases}
 use Rattle.ro_simulation.proofs.Around.{Around}
 use Rattle.ro_simulation.proofs.Counts.{same-counts-ahead, counts-mapped, ahead-new}
 use Rattle.ro_simulation.proofs.Views.{Comes}
-use Rattle.ro_core.proofs.Effects.{backed_after, threads_after}
+use Rattle.ro_legal.proofs.Effects.{backed_after, threads_after}
 
 -- ---- the parts of a replica after an effect
 

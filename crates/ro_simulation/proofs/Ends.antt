@@ -18,15 +18,15 @@ use Rattle.ro_replica.specs.Replica.{Replica, stop_of}
 use Rattle.ro_plain.specs.Machine.{Program, setup_of, Machine, called, step_by, next_of, steppable, step}
 use Rattle.ro_plain.specs.Order.{RaceFree}
 use Rattle.ro_plain.proofs.Calls.{steppable-parts, step-at}
-use Rattle.ro_core.specs.declared.actions.Lease.{Lease}
-use Rattle.ro_core.specs.Core.{Job, Core, is_going, nothing_lent, is_home, is_lendable, may_vote, may_free, views_of}
+use Rattle.ro_legal.specs.declared.actions.Lease.{Lease}
+use Rattle.ro_legal.specs.Core.{Job, Core, is_going, nothing_lent, is_home, is_lendable, may_vote, may_free, views_of}
 use Rattle.ro_replica.specs.Views.{is_unstopped}
-use Rattle.ro_core.specs.Legal.{any_below, is_stuck, MayEnd, due, alone, for_vote, for_free}
-use Rattle.ro_core.specs.Sound.{IsOver, exits, traps}
+use Rattle.ro_legal.specs.Legal.{any_below, is_stuck, MayEnd, due, alone, for_vote, for_free}
+use Rattle.ro_legal.specs.Sound.{IsOver, exits, traps}
 use Rattle.ro_simulation.specs.Invariant.{TracksIdeal}
 use Rattle.ro_simulation.specs.Theorem.{EndsAs, TwoThreeOrFive}
 use Rattle.ro_simulation.proofs.Stays.{live-within}
-use Rattle.ro_core.proofs.Lists.{get-within, all-from}
+use Rattle.ro_legal.proofs.Lists.{get-within, all-from}
 use Rattle.ro_vote.proofs.Verdicts.{never-splits}
 use Rattle.ro_simulation.proofs.Kept.{going-from, none-lent}
 use Rattle.ro_simulation.proofs.Frees.{not-true-from, free-parts}

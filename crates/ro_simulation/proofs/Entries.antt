@@ -14,15 +14,14 @@ use Rattle.ro_replica.specs.Replica.{Replica}
 use Rattle.ro_replica.specs.Runs.{RanTo, run_of, with_stop}
 use Rattle.ro_plain.specs.Machine.{layout_of}
 use Rattle.ro_plain.specs.Order.{RaceFree}
-use Rattle.ro_core.specs.declared.actions.Lease.{Lease}
-use Rattle.ro_core.specs.Core.{Job, Core, is_out}
-use Rattle.ro_core.specs.Legal.{arrived, arrival, is_lease, core_after_put, after, lease_run, MayTake, MayPut}
-use Rattle.ro_core.specs.Sound.{IsSound}
+use Rattle.ro_legal.specs.declared.actions.Lease.{Lease}
+use Rattle.ro_legal.specs.Core.{Job, Core, is_out}
+use Rattle.ro_legal.specs.Legal.{arrived, arrival, is_lease, core_after_put, after, lease_run, MayTake, MayPut}
+use Rattle.ro_legal.specs.Sound.{IsSound}
 use Rattle.ro_vote.specs.Numbers.{is_among, AtMostHalf}
 use Rattle.ro_simulation.specs.Invariant.{Agrees, TracksIdeal}
-use Rattle.ro_core.proofs.Lists.{get-set-cases}
-use Rattle.ro_core.proofs.Sound.{HasFault}
-use Rattle.ro_core.proofs.Sound.{StruckWell, run-well, sound-changed}
+use Rattle.ro_legal.proofs.Lists.{get-set-cases}
+use Rattle.ro_legal.proofs.Sound.{HasFault, StruckWell, run-well, sound-changed}
 use Rattle.ro_simulation.proofs.Put.{agrees-after-lease}
 use Rattle.ro_simulation.proofs.Kept.{going-from, ideal-same, plan-same}
 

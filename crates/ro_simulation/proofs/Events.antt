@@ -24,15 +24,15 @@ use Rattle.ro_plain.specs.Order.{RaceFree}
 use Rattle.ro_plain.proofs.Backed.{backed-is-plain}
 use Rattle.ro_plain.proofs.Calls.{some-injective, slice_get-append, steppable-from, step-at}
 use Rattle.ro_plain.proofs.Stays.{steppable-along}
-use Rattle.ro_core.specs.Core.{Job}
-use Rattle.ro_core.specs.Event.{quiet_effect}
+use Rattle.ro_legal.specs.Core.{Job}
+use Rattle.ro_legal.specs.Event.{quiet_effect}
 use Rattle.ro_simulation.specs.Invariant.{StopStands, Agrees}
 use Rattle.ro_simulation.proofs.Stays.{Stays, stays}
 use Rattle.ro_simulation.proofs.Ahead.{KeepsRest, BackedRun-keeps, reach-run, TakenAfter, take-after, stays-along}
-use Rattle.ro_core.proofs.Lists.{get-set-same, get-append-last}
-use Rattle.ro_core.proofs.Served.{IsTidy}
+use Rattle.ro_legal.proofs.Lists.{get-set-same, get-append-last}
+use Rattle.ro_legal.proofs.Served.{IsTidy}
 use Rattle.ro_simulation.proofs.Views.{Comes}
-use Rattle.ro_core.proofs.Effects.{backed_after}
+use Rattle.ro_legal.proofs.Effects.{backed_after}
 use Rattle.ro_simulation.proofs.Effects.{more-after, KeptStop, IsOf, ThreadAfter, as_before, its_own, newly_made, agrees-applied, stands-later}
 
 -- a stop that is left was not released

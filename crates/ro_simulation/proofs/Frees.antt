@@ -17,14 +17,14 @@ use Rattle.ro_replica.specs.Replica.{Replica}
 use Rattle.ro_plain.specs.Machine.{layout_of, setup_of, Machine, next_of, IsExecution, BackedRun, nothing_left}
 use Rattle.ro_plain.specs.Order.{RaceFree}
 use Rattle.ro_plain.proofs.Calls.{some-injective, steppable-parts}
-use Rattle.ro_core.specs.Core.{Job, Core, may_free}
-use Rattle.ro_core.specs.Event.{Event, call_event, core_after}
-use Rattle.ro_core.specs.Legal.{freed_event, core_after_event, after, MayFree}
+use Rattle.ro_legal.specs.Core.{Job, Core, may_free}
+use Rattle.ro_legal.specs.Event.{Event, call_event, core_after}
+use Rattle.ro_legal.specs.Legal.{freed_event, core_after_event, after, MayFree}
 use Rattle.ro_vote.specs.Numbers.{is_among}
 use Rattle.ro_simulation.specs.Invariant.{Agrees, StandsAtCall, TracksIdeal}
 use Rattle.ro_simulation.proofs.Stays.{live-within}
 use Rattle.ro_simulation.proofs.Ahead.{BackedRun-head, plain-executes}
-use Rattle.ro_core.proofs.Lists.{get-within}
+use Rattle.ro_legal.proofs.Lists.{get-within}
 use Rattle.ro_simulation.proofs.Views.{Comes, comes-by, none-left}
 use Rattle.ro_simulation.proofs.Steps.{HasEvent, step-of-call}
 use Rattle.ro_simulation.proofs.Votes.{run-more}

@@ -16,9 +16,9 @@ use Rattle.ro_replica.specs.Replica.{Replica}
 use Rattle.ro_replica.specs.Runs.{RanTo}
 use Rattle.ro_plain.specs.Machine.{Machine, setup_of}
 use Rattle.ro_plain.specs.Order.{RaceFree}
-use Rattle.ro_core.specs.Core.{Job, Core, opening_core}
-use Rattle.ro_core.specs.Event.{Event, call_event, with_recovered}
-use Rattle.ro_core.specs.Legal.{lease_run, core_after_put, event_in, freed_event, core_after_event, after, MayPut, MayEnd, IsAllowed, LegalFrom, Legal, replay_from, replay}
+use Rattle.ro_legal.specs.Core.{Job, Core, opening_core}
+use Rattle.ro_legal.specs.Event.{Event, call_event, with_recovered}
+use Rattle.ro_legal.specs.Legal.{lease_run, core_after_put, event_in, freed_event, core_after_event, after, MayPut, MayEnd, IsAllowed, LegalFrom, Legal, replay_from, replay}
 use Rattle.ro_vote.specs.Numbers.{is_among, AtMostHalf}
 use Rattle.ro_simulation.specs.Invariant.{Agrees, TracksIdeal}
 use Rattle.ro_simulation.specs.Theorem.{event_payload, payload_by, payloads_from, payloads_of}

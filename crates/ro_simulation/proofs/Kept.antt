@@ -18,18 +18,18 @@ use Rattle.ro_replica.specs.Replica.{Replica, applied, cancelled}
 use Rattle.ro_plain.specs.Machine.{layout_of, Machine, opening, run, BackedRun}
 use Rattle.ro_plain.proofs.Ahead.{is-none-from}
 use Rattle.ro_plain.proofs.Swap.{run-append}
-use Rattle.ro_core.specs.declared.actions.Lease.{Lease}
-use Rattle.ro_core.specs.Core.{Job, Core, is_going, nothing_lent, is_out}
-use Rattle.ro_core.specs.Event.{Event, core_after}
-use Rattle.ro_core.specs.Ideal.{ideal}
-use Rattle.ro_core.specs.Sound.{IsSound}
+use Rattle.ro_legal.specs.declared.actions.Lease.{Lease}
+use Rattle.ro_legal.specs.Core.{Job, Core, is_going, nothing_lent, is_out}
+use Rattle.ro_legal.specs.Event.{Event, core_after}
+use Rattle.ro_legal.specs.Ideal.{ideal}
+use Rattle.ro_legal.specs.Sound.{IsSound}
 use Rattle.ro_vote.specs.Numbers.{is_among, AtMostHalf}
 use Rattle.ro_simulation.specs.Invariant.{Agrees, StandsAtCall, TracksIdeal}
 use Rattle.ro_simulation.proofs.Stays.{live-within}
 use Rattle.ro_simulation.proofs.Ahead.{KeepsRest, BackedRun-keeps, BackedRun-run}
-use Rattle.ro_core.proofs.Lists.{MappedFrom, get-map, length-mapped}
-use Rattle.ro_core.proofs.Effects.{backed_after, sound-applied}
-use Rattle.ro_core.proofs.Served.{made_count}
+use Rattle.ro_legal.proofs.Lists.{MappedFrom, get-map, length-mapped}
+use Rattle.ro_legal.proofs.Effects.{backed_after, sound-applied}
+use Rattle.ro_legal.proofs.Served.{made_count}
 use Rattle.ro_simulation.proofs.Steps.{EventStep}
 use Rattle.ro_simulation.proofs.Views.{Comes}
 

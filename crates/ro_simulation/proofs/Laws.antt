@@ -18,18 +18,18 @@ use Rattle.ro_plain.specs.Machine.{Program, Machine, opening, step_by, next_of, 
 use Rattle.ro_plain.specs.Order.{RaceFree}
 use Rattle.ro_plain.proofs.Calls.{some-injective, steppable-parts, step-opens}
 use Rattle.ro_plain.proofs.Swap.{run-append}
-use Rattle.ro_core.specs.Core.{Job, Core, opening_core}
-use Rattle.ro_core.specs.Legal.{MayEnd, due, alone, for_vote, for_free, after, Legal, MayPut, replay}
-use Rattle.ro_core.specs.Ideal.{IsAlike, AllAlikeBut, StaysApart}
-use Rattle.ro_core.specs.Sound.{Listed, IsOver}
+use Rattle.ro_legal.specs.Core.{Job, Core, opening_core}
+use Rattle.ro_legal.specs.Legal.{MayEnd, due, alone, for_vote, for_free, after, Legal, MayPut, replay}
+use Rattle.ro_legal.specs.Ideal.{IsAlike, AllAlikeBut, StaysApart}
+use Rattle.ro_legal.specs.Sound.{Listed, IsOver}
 use Rattle.ro_vote.specs.Numbers.{is_among, without}
 use Rattle.ro_vote.proofs.Places.{without-shorter, without-other, only, not-only, is-only}
 use Rattle.ro_vote.proofs.Copies.{neither}
 use Rattle.ro_simulation.specs.AtMostOne.{StrikesAlone}
 use Rattle.ro_simulation.specs.Theorem.{Simulates, IsComplete, by_exit, by_trap, by_deadlock, WritesAsIdeal, AllOfOne, NamesFew, StaysAlone, NeverDiffers}
 use Rattle.ro_simulation.proofs.Alike.{agrees-is-alike}
-use Rattle.ro_core.proofs.Ordered.{put-parts, ordered}
-use Rattle.ro_core.proofs.Sound.{HasFault}
+use Rattle.ro_legal.proofs.Ordered.{put-parts, ordered}
+use Rattle.ro_legal.proofs.Sound.{HasFault}
 use Rattle.ro_simulation.proofs.Stays.{live-within}
 use Rattle.ro_simulation.proofs.Entries.{put-fault, put-going}
 use Rattle.ro_simulation.proofs.Ends.{never-differ}

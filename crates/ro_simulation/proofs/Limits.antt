@@ -10,10 +10,10 @@ use Rattle.ro_journal.specs.Plan.{event_steps, plan_of, outcome_of}
 use Rattle.ro_plain.specs.Machine.{IsExecution, AllEnd}
 use Rattle.ro_plain.specs.Order.{RaceFree}
 use Rattle.ro_plain.proofs.Calls.{some-injective}
-use Rattle.ro_core.specs.Core.{Job, Core, opening_core}
-use Rattle.ro_core.specs.Legal.{MayEnd, due, alone, for_vote, for_free, Legal, replay}
-use Rattle.ro_core.specs.Ideal.{StaysApart}
-use Rattle.ro_core.specs.Sound.{IsOver}
+use Rattle.ro_legal.specs.Core.{Job, Core, opening_core}
+use Rattle.ro_legal.specs.Legal.{MayEnd, due, alone, for_vote, for_free, Legal, replay}
+use Rattle.ro_legal.specs.Ideal.{StaysApart}
+use Rattle.ro_legal.specs.Sound.{IsOver}
 use Rattle.ro_simulation.specs.Invariant.{TracksIdeal}
 use Rattle.ro_simulation.specs.Theorem.{TwoThreeOrFive, IsComplete, by_exit, by_trap, by_deadlock, PassedLimit, CannotDiffer, EndsComplete}
 use Rattle.ro_simulation.proofs.Kept.{plan-same}

@@ -35,7 +35,7 @@ use Rattle.ro_plain.specs.Order.{machine_at, accesses_at, RaceFree}
 use Rattle.ro_plain.proofs.Calls.{some-injective, steppable-parts, step-opens}
 use Rattle.ro_plain.proofs.Swap.{at-both}
 use Rattle.ro_simulation.specs.Guests.{locking_guest}
-use Rattle.ro_core.proofs.Lists.{get-within, get-set-same, get-set-cases, get-append-cases}
+use Rattle.ro_legal.proofs.Lists.{get-within, get-set-same, get-set-cases, get-append-cases}
 use Rattle.ro_simulation.proofs.Entries.{or-cases, or-left, or-right}
 
 -- the registers of the guest's threads

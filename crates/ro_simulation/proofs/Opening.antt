@@ -8,11 +8,11 @@ use Rattle.ro_thread.specs.declared.Thread.{Thread}
 use Rattle.ro_replica.specs.Replica.{Replica, unstopped, opening_replica}
 use Rattle.ro_plain.specs.Machine.{opening, nothing_left}
 use Rattle.ro_plain.proofs.Calls.{some-injective}
-use Rattle.ro_core.specs.Core.{Job, Core, opening_replicas, opening_core}
-use Rattle.ro_core.specs.Sound.{IsSound}
+use Rattle.ro_legal.specs.Core.{Job, Core, opening_replicas, opening_core}
+use Rattle.ro_legal.specs.Sound.{IsSound}
 use Rattle.ro_vote.specs.Numbers.{AtMostHalf}
 use Rattle.ro_simulation.specs.Invariant.{Agrees, TracksIdeal}
-use Rattle.ro_core.proofs.Lists.{get-append-cases, listed-filter}
+use Rattle.ro_legal.proofs.Lists.{get-append-cases, listed-filter}
 
 -- so many replicas are made
 length-opening : (job : Job) (n : ℕ) → length (opening_replicas job n) ≡ n

@@ -13,18 +13,17 @@ use Rattle.ro_replica.specs.Runs.{RanTo, struck, executed, run_of, with_stop, st
 use Rattle.ro_plain.specs.Machine.{layout_of, Machine, opening, executed as machine_executed, steppable, step, run, BackedRun}
 use Rattle.ro_plain.specs.Order.{RaceFree}
 use Rattle.ro_plain.proofs.Calls.{some-injective}
-use Rattle.ro_core.specs.Core.{Job}
-use Rattle.ro_core.specs.Legal.{arrival, arrived}
-use Rattle.ro_core.specs.Ideal.{ahead}
+use Rattle.ro_legal.specs.Core.{Job}
+use Rattle.ro_legal.specs.Legal.{arrival, arrived}
+use Rattle.ro_legal.specs.Ideal.{ahead}
 use Rattle.ro_simulation.specs.Invariant.{RunsAhead, StopStands, Agrees}
 use Rattle.ro_simulation.proofs.Stays.{Stays, stays}
 use Rattle.ro_simulation.proofs.Ahead.{StepsBacked, backed-step, BackedRun-keeps, reach-run, push}
 use Rattle.ro_simulation.proofs.Views.{ahead-is, live-at-end}
-use Rattle.ro_core.proofs.Lists.{get-set-same, get-set-cases, ChangedFrom, unchanged, changed_here, get-changed}
+use Rattle.ro_legal.proofs.Lists.{get-set-same, get-set-cases, ChangedFrom, unchanged, changed_here, get-changed}
 use Rattle.ro_simulation.proofs.Around.{Around, around, replicate-last}
 use Rattle.ro_simulation.proofs.Counts.{same-counts-ahead, counts-changed}
-use Rattle.ro_core.proofs.Sound.{Instructs, instructed, run-parts, SameButWaiting, none-struck}
-use Rattle.ro_core.proofs.Sound.{instructs}
+use Rattle.ro_legal.proofs.Sound.{Instructs, instructed, run-parts, SameButWaiting, none-struck, instructs}
 use Rattle.ro_kernel.proofs.Kept.{slice_get-set_other}
 
 -- the replica agrees with the machine, but for this thread's stop

@@ -11,8 +11,8 @@ use Rattle.ro_journal.specs.Plan.{plan_of, outcome_of}
 use Rattle.ro_plain.specs.Machine.{Program, Machine, opening, step, run}
 use Rattle.ro_plain.proofs.Calls.{some-injective}
 use Rattle.ro_plain.proofs.Swap.{run-append}
-use Rattle.ro_core.specs.Core.{Job}
-use Rattle.ro_core.specs.Legal.{output_of}
+use Rattle.ro_legal.specs.Core.{Job}
+use Rattle.ro_legal.specs.Legal.{output_of}
 use Rattle.ro_machine.specs.Plans.{RunsPlan, LacksStep, EndsAs, IsLeft}
 use Rattle.ro_simulation.specs.Theorem.{IsComplete, WritesAsIdeal, EndsAs as StandsAs}
 use Rattle.ro_simulation.specs.Repeated.{IsRepeated}

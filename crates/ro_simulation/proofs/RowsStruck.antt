@@ -25,12 +25,12 @@ use Rattle.ro_faults.specs.declared.Fault.{Fault}
 use Rattle.ro_replica.specs.Replica.{Replica, opening_replica, applied, cancelled, recovered}
 use Rattle.ro_replica.specs.Runs.{struck, execute}
 use Rattle.ro_plain.specs.Machine.{Machine, opening, steppable, step, run}
-use Rattle.ro_core.specs.Core.{Job, opening_core}
-use Rattle.ro_core.specs.Event.{event_of}
-use Rattle.ro_core.specs.Legal.{Legal, after, output_of, due}
-use Rattle.ro_core.specs.Ideal.{ahead, IsAlike, StaysApart}
+use Rattle.ro_legal.specs.Core.{Job, opening_core}
+use Rattle.ro_legal.specs.Event.{event_of}
+use Rattle.ro_legal.specs.Legal.{Legal, after, output_of, due}
+use Rattle.ro_legal.specs.Ideal.{ahead, IsAlike, StaysApart}
 use Rattle.ro_simulation.specs.Theorem.{StaysAlone, AllOfOne, Simulates}
-use Rattle.ro_core.specs.Sound.{Listed}
+use Rattle.ro_legal.specs.Sound.{Listed}
 use Rattle.ro_simulation.specs.Guests.{exit_guest, usual_job}
 use Rattle.ro_simulation.specs.Rows.{flip_a0, one_struck, two_struck, IsCovered}
 use Rattle.ro_simulation.proofs.Ahead.{BackedRun-run}

@@ -17,11 +17,11 @@ use Rattle.ro_replica.specs.Replica.{opening_replica, applied, cancelled, recove
 use Rattle.ro_replica.specs.Runs.{struck, execute}
 use Rattle.ro_plain.specs.Order.{RaceFree}
 use Rattle.ro_plain.proofs.Calls.{some-injective}
-use Rattle.ro_core.specs.Core.{Job, opening_core}
-use Rattle.ro_core.specs.Event.{event_of}
-use Rattle.ro_core.specs.Legal.{Legal, after, output_of}
-use Rattle.ro_core.specs.Ideal.{StaysApart}
-use Rattle.ro_core.specs.Action.{next_action}
+use Rattle.ro_legal.specs.Core.{Job, opening_core}
+use Rattle.ro_legal.specs.Event.{event_of}
+use Rattle.ro_legal.specs.Legal.{Legal, after, output_of}
+use Rattle.ro_legal.specs.Ideal.{StaysApart}
+use Rattle.ro_legal.specs.Action.{next_action}
 use Rattle.ro_simulation.specs.Theorem.{Simulates, AllOfOne}
 use Rattle.ro_simulation.specs.Guests.{locking_guest, usual_job}
 use Rattle.ro_simulation.specs.Drives.{driven}

@@ -19,11 +19,11 @@ use Rattle.ro_replica.specs.Replica.{Replica, opening_replica, applied, cancelle
 use Rattle.ro_replica.specs.Runs.{struck, execute, standing_in}
 use Rattle.ro_plain.specs.Machine.{layout_of, Machine, opening, steppable, step, PlainRun, done, then_plain}
 use Rattle.ro_plain.proofs.Calls.{some-injective}
-use Rattle.ro_core.specs.Core.{Job, opening_core}
-use Rattle.ro_core.specs.Event.{event_of}
-use Rattle.ro_core.specs.Legal.{Legal, after, replay, for_vote}
+use Rattle.ro_legal.specs.Core.{Job, opening_core}
+use Rattle.ro_legal.specs.Event.{event_of}
+use Rattle.ro_legal.specs.Legal.{Legal, after, replay, for_vote}
 use Rattle.ro_plain.specs.Order.{RaceFree}
-use Rattle.ro_core.specs.Ideal.{ideal, ahead, StaysApart}
+use Rattle.ro_legal.specs.Ideal.{ideal, ahead, StaysApart}
 use Rattle.ro_simulation.specs.Theorem.{StaysAlone}
 use Rattle.ro_simulation.specs.Guests.{usual_job}
 use Rattle.ro_simulation.specs.Weaker.{IsNearlyAlike, StaysNearlyApart, loading_guest, slipping, until_first, until_second, slipped}

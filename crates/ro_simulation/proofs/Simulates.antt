@@ -12,9 +12,9 @@ use Rattle.ro_replica.specs.Replica.{Replica}
 use Rattle.ro_plain.specs.Machine.{Machine}
 use Rattle.ro_plain.specs.Order.{RaceFree}
 use Rattle.ro_plain.proofs.Calls.{some-injective}
-use Rattle.ro_core.specs.Core.{Job, Core, opening_core}
-use Rattle.ro_core.specs.Legal.{cut_output, after, MayVote, MayEnd, Legal, replay, output_of}
-use Rattle.ro_core.specs.Ideal.{ideal, IsAlike, StaysApart}
+use Rattle.ro_legal.specs.Core.{Job, Core, opening_core}
+use Rattle.ro_legal.specs.Legal.{cut_output, after, MayVote, MayEnd, Legal, replay, output_of}
+use Rattle.ro_legal.specs.Ideal.{ideal, IsAlike, StaysApart}
 use Rattle.ro_vote.specs.Numbers.{is_among, without, AtMostHalf}
 use Rattle.ro_journal.specs.Losers.{numbers}
 use Rattle.ro_vote.proofs.Places.{without-itself}

@@ -28,16 +28,15 @@ use Rattle.ro_plain.specs.Machine.{layout_of, setup_of, Machine, opening, with_m
 use Rattle.ro_plain.specs.Order.{RaceFree}
 use Rattle.ro_plain.proofs.Stays.{no-payload}
 use Rattle.ro_plain.proofs.Calls.{some-injective, step-at}
-use Rattle.ro_core.specs.Core.{Job}
+use Rattle.ro_legal.specs.Core.{Job}
 use Rattle.ro_replica.specs.Views.{payload_at}
-use Rattle.ro_core.specs.Event.{Event, quiet_effect, call_event, event_of}
-use Rattle.ro_core.specs.Sound.{IsOver, traps}
+use Rattle.ro_legal.specs.Event.{Event, quiet_effect, call_event, event_of}
+use Rattle.ro_legal.specs.Sound.{IsOver, traps}
 use Rattle.ro_simulation.specs.Invariant.{StopStands, Agrees, StandsAtCall}
 use Rattle.ro_simulation.proofs.Stays.{Stays, stays}
 use Rattle.ro_simulation.proofs.Ahead.{KeepsRest, BackedRun-keeps, reach-run, stays-along}
 use Rattle.ro_simulation.proofs.Around.{Without-replicate}
-use Rattle.ro_core.proofs.Served.{made_count, Tidy, tidy_done, tidy_blocked, tidy_end}
-use Rattle.ro_core.proofs.Served.{serve-tidy}
+use Rattle.ro_legal.proofs.Served.{made_count, Tidy, tidy_done, tidy_blocked, tidy_end, serve-tidy}
 use Rattle.ro_simulation.proofs.Views.{Comes}
 use Rattle.ro_simulation.proofs.Events.{agrees-quiet, agrees-served}
 

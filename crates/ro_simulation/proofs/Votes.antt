@@ -23,13 +23,13 @@ use Rattle.ro_vote.specs.Verdict.{Won, verdict_of}
 use Rattle.ro_plain.specs.Order.{RaceFree}
 use Rattle.ro_plain.proofs.Swap.{run-append}
 use Rattle.ro_plain.proofs.Calls.{some-injective}
-use Rattle.ro_core.specs.Core.{Job, Core, may_vote, views_of}
+use Rattle.ro_legal.specs.Core.{Job, Core, may_vote, views_of}
 use Rattle.ro_replica.specs.Views.{payload_at, view_with, view_of}
-use Rattle.ro_core.specs.Event.{Event, event_of, with_recovered, core_after}
-use Rattle.ro_core.specs.Legal.{event_with, event_in, core_after_event, after, since_in, MayVote}
-use Rattle.ro_core.specs.Sound.{IsSound}
+use Rattle.ro_legal.specs.Event.{Event, event_of, with_recovered, core_after}
+use Rattle.ro_legal.specs.Legal.{event_with, event_in, core_after_event, after, since_in, MayVote}
+use Rattle.ro_legal.specs.Sound.{IsSound}
 use Rattle.ro_simulation.specs.Invariant.{Agrees, TracksIdeal}
-use Rattle.ro_core.proofs.Lists.{get-within, get-filter-map, length-filter-map, get-all, all-from}
+use Rattle.ro_legal.proofs.Lists.{get-within, get-filter-map, length-filter-map, get-all, all-from}
 use Rattle.ro_simulation.proofs.Views.{Comes, Arrives, arrives, SameArrival, same-arrival, machine_view, next-at-middle, view-is, standing_by, stands-next, not-equal}
 use Rattle.ro_simulation.proofs.Ahead.{KeepsRest, BackedRun-keeps, BackedRun-run}
 use Rattle.ro_journal.specs.declared.losers.Lost.{Lost}
@@ -38,7 +38,7 @@ use Rattle.ro_vote.specs.Numbers.{is_among, without, AtMostHalf}
 use Rattle.ro_vote.proofs.Places.{some-outside, without-longer, without-other}
 use Rattle.ro_vote.proofs.Verdicts.{won-by, AllBut, WonWell, won-well, all-odd-lost}
 use Rattle.ro_vote.proofs.Copies.{Distinct, losers-distinct, AfterCopies, not_lost, is_copy, after-copies}
-use Rattle.ro_core.proofs.Copies.{copied-there, sound-recovered, length-with-copy}
+use Rattle.ro_legal.proofs.Copies.{copied-there, sound-recovered, length-with-copy}
 use Rattle.ro_simulation.proofs.Copies.{agrees-recovered}
 use Rattle.ro_simulation.proofs.Steps.{HasEvent, step-of-stop}
 use Rattle.ro_simulation.proofs.Kept.{Going, going-from, none-lent, Meets, event-holds}

@@ -6,9 +6,9 @@ use Rattle.ro_journal.specs.declared.Entry.TheVariants.{Put, Vote}
 use Rattle.ro_journal.specs.declared.losers.Lost.TheVariants.{One}
 use Rattle.ro_replica.specs.Replica.{Replica}
 use Rattle.ro_plain.specs.Machine.{Machine}
-use Rattle.ro_core.specs.Core.{Job}
-use Rattle.ro_core.specs.Legal.{replay}
-use Rattle.ro_core.specs.Ideal.{ideal, IsAlike}
+use Rattle.ro_legal.specs.Core.{Job}
+use Rattle.ro_legal.specs.Legal.{replay}
+use Rattle.ro_legal.specs.Ideal.{ideal, IsAlike}
 
 -- Two or three replicas run.
 abbrev pub TwoOrThree : Job → Type 0

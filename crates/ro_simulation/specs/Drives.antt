@@ -12,11 +12,11 @@ use Rattle.ro_vote.specs.Verdict.{Verdict, Won, Split, verdict_of}
 use Rattle.ro_replica.specs.Replica.{Replica}
 use Rattle.ro_replica.specs.Runs.{struck, execute}
 use Rattle.ro_plain.specs.Machine.{layout_of}
-use Rattle.ro_core.specs.declared.actions.Action.{Action}
-use Rattle.ro_core.specs.declared.actions.Action.TheVariants.{Vote as DoVote, Free as DoFree, Lend, End as DoEnd, Wait, Over}
-use Rattle.ro_core.specs.Core.{Job, Core, opening_core, views_of}
-use Rattle.ro_core.specs.Legal.{after, lease_run, since_in, event_in}
-use Rattle.ro_core.specs.Action.{next_action}
+use Rattle.ro_legal.specs.declared.actions.Action.{Action}
+use Rattle.ro_legal.specs.declared.actions.Action.TheVariants.{Vote as DoVote, Free as DoFree, Lend, End as DoEnd, Wait, Over}
+use Rattle.ro_legal.specs.Core.{Job, Core, opening_core, views_of}
+use Rattle.ro_legal.specs.Legal.{after, lease_run, since_in, event_in}
+use Rattle.ro_legal.specs.Action.{next_action}
 
 -- how many instructions a lease runs, of so many at most
 abbrev pub count_run : ℕ → Layout → ℕ → Replica → ℕ → ℕ

@@ -6,7 +6,7 @@ use Rattle.ro_pages.specs.Bytes.{bytes_of}
 use Rattle.ro_image.specs.Image.{ranges_with}
 use Rattle.ro_faults.specs.declared.Fault.{Fault}
 use Rattle.ro_plain.specs.Machine.{Program}
-use Rattle.ro_core.specs.Core.{Job}
+use Rattle.ro_legal.specs.Core.{Job}
 
 -- no function of POSIX threads is called
 abbrev pub no_calls : CallTable

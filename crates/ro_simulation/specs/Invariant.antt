@@ -16,9 +16,9 @@ use Rattle.ro_replica.specs.Replica.{Replica}
 use Rattle.ro_replica.specs.Runs.{standing_in}
 use Rattle.ro_plain.specs.Machine.{Program, layout_of, Machine, BackedRun, next_of, steppable}
 use Rattle.ro_vote.specs.Numbers.{is_among, AtMostHalf}
-use Rattle.ro_core.specs.Core.{Job, Core, is_out}
-use Rattle.ro_core.specs.Ideal.{ideal, ahead}
-use Rattle.ro_core.specs.Sound.{IsSound, IsOver}
+use Rattle.ro_legal.specs.Core.{Job, Core, is_out}
+use Rattle.ro_legal.specs.Ideal.{ideal, ahead}
+use Rattle.ro_legal.specs.Sound.{IsSound, IsOver}
 
 -- The replica is the machine, run ahead by plain instructions that touch only backed pages.
 pub record RunsAhead (job : Job) (machine : Machine) (replica : Replica) : Type 0 where

@@ -4,8 +4,8 @@ use Rattle.ro_io.specs.Outside.{more}
 use Rattle.ro_journal.specs.declared.How.{How}
 use Rattle.ro_journal.specs.declared.Entry.{Entry}
 use Rattle.ro_journal.specs.Plan.{plan_of}
-use Rattle.ro_core.specs.Core.{Job}
-use Rattle.ro_core.specs.Legal.{output_of}
+use Rattle.ro_legal.specs.Core.{Job}
+use Rattle.ro_legal.specs.Legal.{output_of}
 use Rattle.ro_machine.specs.Plans.{RunsPlan, LacksStep}
 
 -- Each step of the plan exists; where all are run, the program ends as the journal does, and writes what the journal's

@@ -8,9 +8,9 @@ use Rattle.ro_journal.specs.declared.Entry.{Entry}
 use Rattle.ro_journal.specs.declared.Entry.TheVariants.{Take, Put, Vote, End}
 use Rattle.ro_faults.specs.declared.Fault.{Fault}
 use Rattle.ro_faults.specs.declared.Target.TheVariants.{Register}
-use Rattle.ro_core.specs.Core.{Job}
-use Rattle.ro_core.specs.Legal.{Legal}
-use Rattle.ro_core.specs.Ideal.{StaysApart}
+use Rattle.ro_legal.specs.Core.{Job}
+use Rattle.ro_legal.specs.Legal.{Legal}
+use Rattle.ro_legal.specs.Ideal.{StaysApart}
 use Rattle.ro_simulation.specs.Theorem.{Simulates}
 
 -- the lowest bit of a0 flips in a replica after its first instruction

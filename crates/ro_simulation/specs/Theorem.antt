@@ -13,12 +13,12 @@ use Rattle.ro_faults.specs.declared.Fault.{Fault}
 use Rattle.ro_kernel.specs.Kernel.{lives_on}
 use Rattle.ro_replica.specs.Replica.{Replica, stop_of}
 use Rattle.ro_plain.specs.Machine.{Program, Machine, opening, step, run, IsExecution}
-use Rattle.ro_core.specs.Core.{Job, Core, opening_core}
+use Rattle.ro_legal.specs.Core.{Job, Core, opening_core}
 use Rattle.ro_replica.specs.Views.{view_of}
-use Rattle.ro_core.specs.Event.{Event}
-use Rattle.ro_core.specs.Legal.{event_in, after, replay, output_of}
-use Rattle.ro_core.specs.Ideal.{ideal, IsAlike, AllAlikeBut}
-use Rattle.ro_core.specs.Sound.{Listed}
+use Rattle.ro_legal.specs.Event.{Event}
+use Rattle.ro_legal.specs.Legal.{event_in, after, replay, output_of}
+use Rattle.ro_legal.specs.Ideal.{ideal, IsAlike, AllAlikeBut}
+use Rattle.ro_legal.specs.Sound.{Listed}
 use Rattle.ro_vote.specs.Numbers.{is_among, AtMostHalf}
 use Rattle.ro_settings.specs.Ranges.{IsReplicas}
 

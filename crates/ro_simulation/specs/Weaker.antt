@@ -13,9 +13,9 @@ use Rattle.ro_thread.specs.declared.Thread.{Thread}
 use Rattle.ro_replica.specs.Replica.{Replica}
 use Rattle.ro_replica.specs.Runs.{standing_in}
 use Rattle.ro_plain.specs.Machine.{Program, layout_of, Machine, PlainRun}
-use Rattle.ro_core.specs.Core.{Job}
-use Rattle.ro_core.specs.Legal.{replay}
-use Rattle.ro_core.specs.Ideal.{ideal, ahead}
+use Rattle.ro_legal.specs.Core.{Job}
+use Rattle.ro_legal.specs.Legal.{replay}
+use Rattle.ro_legal.specs.Ideal.{ideal, ahead}
 use Rattle.ro_simulation.specs.Guests.{no_calls, guest}
 
 -- Alike, but for the demand that the replica ran ahead on backed pages only.

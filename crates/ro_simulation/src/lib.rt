@@ -7,9 +7,9 @@ ghost use Rattle.ro_journal.specs.declared.How.TheVariants.{Exit, Limit, NoMajor
 ghost use Rattle.ro_journal.specs.declared.Entry.{Entry};
 ghost use Rattle.ro_plain.specs.Machine.{Program, AllEnd};
 ghost use Rattle.ro_plain.specs.Order.{RaceFree};
-ghost use Rattle.ro_core.specs.Core.{Job};
-ghost use Rattle.ro_core.specs.Legal.{Legal};
-ghost use Rattle.ro_core.specs.Ideal.{StaysApart};
+ghost use Rattle.ro_legal.specs.Core.{Job};
+ghost use Rattle.ro_legal.specs.Legal.{Legal};
+ghost use Rattle.ro_legal.specs.Ideal.{StaysApart};
 ghost use Rattle.ro_simulation.specs.Theorem.{Simulates, TwoThreeOrFive, WritesAsIdeal, AllOfOne, NamesFew, StaysAlone, NeverDiffers, PassedLimit, CannotDiffer, EndsComplete, IsComplete};
 ghost use Rattle.ro_simulation.specs.AtMostOne.{TwoOrThree, StrikesAlone, OneDiffers};
 ghost use Rattle.ro_simulation.specs.Repeated.{IsRepeated};

@@ -9,6 +9,3 @@ mod table;
 
 pub use addresses::{Within, function_at};
 pub use table::calls;
-
-#[cfg(test)]
-mod tests;

@@ -9,17 +9,17 @@ use Rattle.ro_journal.specs.Plan.{outcome_of}
 use Rattle.ro_journal_text.specs.Reading.{file_journal}
 use Rattle.ro_report.specs.declared.answers.FileKind.TheVariants.{Plan}
 use Rattle.ro_io.specs.Outside.{Files}
-use Rattle.ro_core.specs.Core.{Job}
-use Rattle.ro_core.specs.Legal.{Legal as IsLegal, replay}
+use Rattle.ro_legal.specs.Core.{Job}
+use Rattle.ro_legal.specs.Legal.{Legal as IsLegal, replay}
 use Rattle.ro_audit.specs.Audits.{FirstIllegal}
-use Rattle.ro_top.specs.Files.{IsContent, IsJobOf}
+use Rattle.ro_files.specs.Files.{IsContent, IsJobOf}
 use Rattle.ro_words.specs.Commands.{AskedRun}
-use Rattle.ro_tell.specs.declared.findings.Ended.{Ended}
-use Rattle.ro_tell.specs.declared.findings.Ended.TheVariants.{Exit, Deadlock, Trap, Limit, Differ, NoMajority, Sink}
-use Rattle.ro_tell.specs.declared.findings.Verdict.{Verdict}
-use Rattle.ro_tell.specs.declared.findings.Verdict.TheVariants.{Legal, Illegal}
-use Rattle.ro_tell.specs.declared.findings.CopyMade.{CopyMade}
-use Rattle.ro_tell.specs.declared.findings.Findings.{Findings}
+use Rattle.ro_findings.specs.declared.findings.Ended.{Ended}
+use Rattle.ro_findings.specs.declared.findings.Ended.TheVariants.{Exit, Deadlock, Trap, Limit, Differ, NoMajority, Sink}
+use Rattle.ro_findings.specs.declared.findings.Verdict.{Verdict}
+use Rattle.ro_findings.specs.declared.findings.Verdict.TheVariants.{Legal, Illegal}
+use Rattle.ro_findings.specs.declared.findings.CopyMade.{CopyMade}
+use Rattle.ro_findings.specs.declared.findings.Findings.{Findings}
 
 -- the journal of the file of this name
 abbrev pub IsJournalOf : Option Files → (name : List ℕ) → List Entry → Type 0

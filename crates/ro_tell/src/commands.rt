@@ -3,27 +3,27 @@ ghost use Rattle.std.specs.Prelude.{◌≡◌, ◌≢◌, ◌<◌, List, IfErr, 
 ghost use Rattle.ro_journal.specs.declared.Entry.{Entry as EntrySeen};
 ghost use Rattle.ro_journal.specs.declared.How.{How as HowSeen};
 ghost use Rattle.ro_settings.specs.Ranges.{InRange};
-ghost use Rattle.ro_core.specs.Core.{Job as JobSeen};
+ghost use Rattle.ro_legal.specs.Core.{Job as JobSeen};
 ghost use Rattle.ro_report.specs.declared.answers.Answer.TheVariants as a;
 ghost use Rattle.ro_words.specs.Commands.{AskedAudit, audit_of, run_by};
 ghost use Rattle.ro_words.specs.Uses.{texts_of};
 ghost use Rattle.ro_words.specs.declared.commands.WordsError.TheVariants as w;
-ghost use Rattle.ro_core.specs.Jobs.{job_of};
-ghost use Rattle.ro_core.specs.Driven.{CanRun};
+ghost use Rattle.ro_legal.specs.Jobs.{job_of, CanRun};
 ghost use Rattle.ro_audit.specs.Audits.{FirstIllegal, Tells};
 ghost use Rattle.ro_audit.specs.Following.{IsTrail};
-ghost use Rattle.ro_top.specs.Files.{IsJobOf};
+ghost use Rattle.ro_files.specs.Files.{IsJobOf};
 ghost use Rattle.ro_tell.specs.Judging.{Finds, IsAuditOf, IsJournalOf, IsJudged, how_of, place_of};
 
 use crate::copies::copies_made;
 use crate::fields::fields;
-use crate::findings::{Ended, Field, Findings, Verdict};
 use crate::standing::Stood;
 use ro_audit::{AuditError, Audited, Parts, Trail, Why, trace};
 use ro_faults::Fault;
+use ro_files::{FetchedJob, Job, fetch, fetch_job, journal};
+use ro_findings::{Ended, Field, Findings, Verdict};
 use ro_io::Store;
 use ro_journal::{Entry, How};
-use ro_top::{Answer, FetchedJob, FileKind, Job, fetch, fetch_job, journal};
+use ro_report::{Answer, FileKind};
 use ro_words::{AuditCommand, RunCommand, WordsError, parse_audit};
 use std::alloc::{AllocError, Global};
 

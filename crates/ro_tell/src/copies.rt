@@ -3,9 +3,9 @@ ghost use Rattle.std.specs.Prelude.{◌≡◌, ◌++◌, ◌∷◌, [], IfOk, On
 ghost use Rattle.ro_journal.specs.Losers.{numbers};
 ghost use Rattle.ro_tell.specs.Judging.{copied_of, copies_at, copies_from};
 
-use crate::findings::{CopyMade, Part, Strike};
 use ro_audit::Parts;
 use ro_faults::Fault;
+use ro_findings::{CopyMade, Part, Strike};
 use ro_journal::{Entry, Lost};
 use std::alloc::{AllocError, Global};
 use std::collections::BTreeMap;

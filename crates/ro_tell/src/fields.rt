@@ -1,9 +1,9 @@
 //! The parts in which views that have no majority differ.
 ghost use Rattle.std.specs.Prelude.{◌<◌};
 
-use crate::findings::Field;
 use crate::places::place_at;
 use ro_event::View;
+use ro_findings::Field;
 use std::alloc::{AllocError, Global};
 
 /// Each part that is not the same in all views; none where there are no views.

@@ -1,8 +1,8 @@
 //! Places of a program, with what its executable and its memory say of them.
-use crate::findings::{Function, Instruction, Place};
 use ro_assembly::{address_touched, instruction_text};
 use ro_audit::Trail;
 use ro_event::{Stop, View};
+use ro_findings::{Function, Instruction, Place};
 use std::alloc::{AllocError, Global};
 
 /// The place of a pc.

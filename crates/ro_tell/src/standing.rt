@@ -1,9 +1,9 @@
 //! Where threads stand behind a journal, and for what they wait.
-use crate::findings::{Standing, State, Trapped, Waiting};
 use crate::places::{instruction_at, place_at};
 use ro_audit::{Kept, Trail};
 use ro_core::Core;
 use ro_event::{Call, Which};
+use ro_findings::{Standing, State, Trapped, Waiting};
 use ro_journal::{Did, Entry};
 use ro_kernel::Kernel;
 use std::alloc::{AllocError, Global};

@@ -6,14 +6,14 @@ use Rattle.ro_image.specs.Executable.{bad_code, image_of}
 use Rattle.ro_faults.specs.Texts.{faults_text}
 use Rattle.ro_inject.specs.Draws.{faults_drawn}
 use Rattle.ro_journal.specs.Plan.{outcome_of}
-use Rattle.ro_core.specs.Core.{Job}
-use Rattle.ro_core.specs.Legal.{output_of}
+use Rattle.ro_legal.specs.Core.{Job}
+use Rattle.ro_legal.specs.Legal.{output_of}
 use Rattle.ro_report.specs.declared.answers.FileKind.TheVariants.{Exe}
 use Rattle.ro_report.specs.declared.answers.Answer.{Answer}
 use Rattle.ro_report.specs.declared.answers.Answer.TheVariants.{NoMemory}
 use Rattle.ro_words.specs.Commands.{AskedBench, AskedInject}
-use Rattle.ro_top.specs.Files.{IsContent, bench_job}
-use Rattle.ro_top.specs.Causes.{IsOutcome, WritesText}
+use Rattle.ro_files.specs.Files.{IsContent, bench_job}
+use Rattle.ro_top.specs.Ends.{IsOutcome, WritesText}
 use Rattle.ro_top.specs.Top.{Came, EndsBench, IsBench, IsRunOf, OfItsDraw}
 
 -- the faults of an image

@@ -11,13 +11,13 @@ use Rattle.ro_journal.specs.Plan.{plan_of}
 use Rattle.ro_kernel.specs.Serve.{Served, Done, Blocked, Ends, serve, payload_of}
 use Rattle.ro_kernel.specs.Kernel.{Kernel}
 use Rattle.ro_plain.specs.Machine.{Program, Machine, affected, executed, opening, called, setup_of, step_by, next_of, steppable, step, run}
-use Rattle.ro_core.specs.Sound.{IsOver, traps}
-use Rattle.ro_core.proofs.Served.{Tidy, tidy_end, serve-tidy}
+use Rattle.ro_legal.specs.Sound.{IsOver, traps}
+use Rattle.ro_legal.proofs.Served.{Tidy, tidy_end, serve-tidy}
 use Rattle.ro_simulation.specs.Theorem.{IsComplete, by_exit, by_trap, by_deadlock}
 use Rattle.ro_machine.specs.Plans.{RunsPlan, EndsAs}
 use Rattle.ro_report.specs.declared.answers.Answer.{Answer}
 use Rattle.ro_report.specs.declared.answers.Answer.TheVariants.{Exit, Deadlock, Trap, Unended, Differ, NoMajority, Limit, SinkFailed, StoreFailed, BadExe, BadFaults, BadPlan, NoStep, NoRace, Race, BadWords, TooLong, NoMemory}
-use Rattle.ro_top.specs.Causes.{CamePlain, RanWhole, PlanCause, IsOutcome, AnswersEnd}
+use Rattle.ro_top.specs.Ends.{CamePlain, RanWhole, PlanCause, IsOutcome, AnswersEnd}
 
 -- ---- a machine that was run ends by an exit or a trap, if it ends
 

@@ -1,5 +1,3 @@
-pub mod Files
-pub mod Refusals
 pub mod Driven
-pub mod Causes
+pub mod Ends
 pub mod Top

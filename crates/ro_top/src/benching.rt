@@ -1,20 +1,19 @@
 //! The run of a made executable.
 ghost use Rattle.std.specs.Prelude.{◌≡◌, ◌≢◌, ℕ, [], Option, IfOk, IfErr, Some};
 ghost use Rattle.ro_make.specs.Bench.{bench_file};
-ghost use Rattle.ro_core.specs.Driven.{CanRun};
+ghost use Rattle.ro_legal.specs.Jobs.{CanRun, job_of};
 ghost use Rattle.ro_report.specs.declared.answers.Answer.TheVariants as a;
 ghost use Rattle.ro_words.specs.Commands.{bench_by, to_bench};
-ghost use Rattle.ro_top.specs.Causes.{IsRefusal, JobCause};
+ghost use Rattle.ro_files.specs.Causes.{IsRefusal, JobCause};
 ghost use Rattle.ro_io.specs.Outside.{Files};
-ghost use Rattle.ro_core.specs.Jobs.{job_of};
-ghost use Rattle.ro_top.specs.Files.{bench_job as bench_job_of};
+ghost use Rattle.ro_files.specs.Files.{bench_job as bench_job_of};
 ghost use Rattle.ro_top.specs.Top.{EndsBench, IsBench, OfItsBench};
-ghost use Rattle.ro_top.specs.Refusals.{RefusesExe};
+ghost use Rattle.ro_files.specs.Refusals.{RefusesExe};
 
-use crate::files::image;
-use crate::running::{Job, JobRun, run_job};
+use crate::running::{JobRun, run_job};
 use crate::writing::write;
 use ro_event::View;
+use ro_files::{Job, image};
 use ro_io::{Gate, MemSink, Sink};
 use ro_journal::Entry;
 use ro_make::bench_image;

@@ -1,16 +1,18 @@
 //! The run by as many drivers as are asked for.
 ghost use Rattle.std.specs.Prelude.{◌≡◌, [], None, IsSome};
 ghost use Rattle.ro_journal.specs.Plan.{outcome_of};
-ghost use Rattle.ro_core.specs.declared.actions.Action.TheVariants as act;
-ghost use Rattle.ro_core.specs.Legal.{output_of};
-ghost use Rattle.ro_core.specs.Action.{next_action};
+ghost use Rattle.ro_legal.specs.declared.actions.Action.TheVariants as act;
+ghost use Rattle.ro_legal.specs.Legal.{output_of};
+ghost use Rattle.ro_legal.specs.Action.{next_action};
 ghost use Rattle.ro_core.specs.Seen.{state, sent};
-ghost use Rattle.ro_core.specs.Driven.{CanRun, IsDriven, IsHome, KeepsLast, Goes};
+ghost use Rattle.ro_legal.specs.Jobs.{CanRun};
+ghost use Rattle.ro_core.specs.Driven.{IsDriven, IsHome, KeepsLast, Goes};
 
-use ro_core::{Action, Core};
+use ro_core::Core;
 use ro_drive::drive_all;
 use ro_io::{Gate, Sink};
 use ro_journal::How;
+use ro_legal::Action;
 use ro_master::{Master, Naming, Opened};
 use std::alloc::Global;
 use std::marker::Brand;

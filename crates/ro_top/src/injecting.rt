@@ -4,7 +4,7 @@ ghost use Rattle.ro_faults.specs.Texts.{faults_text};
 ghost use Rattle.ro_image.specs.Image.{segments_in};
 ghost use Rattle.ro_inject.specs.Draws.{faults_drawn};
 ghost use Rattle.ro_report.specs.declared.answers.Answer.TheVariants as a;
-ghost use Rattle.ro_top.specs.Causes.{WritesText};
+ghost use Rattle.ro_top.specs.Ends.{WritesText};
 
 use crate::writing::write;
 use ro_faults::write_faults;

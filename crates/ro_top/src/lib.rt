@@ -2,11 +2,9 @@
 //! came of it is reported.
 #![tactic(auto)]
 
-mod asking;
 mod benching;
 mod done;
 mod driving;
-mod files;
 mod injecting;
 mod playing;
 mod racing;
@@ -15,12 +13,7 @@ mod running;
 mod top;
 mod writing;
 
-pub use asking::{FetchedJob, fetch_job};
 pub use done::{Done, Told, answered, without_words};
-pub use files::{fetch, journal};
 pub use ro_report::{Answer, FileKind, JournalCode};
-pub use running::{Job, JobRun, run_job};
+pub use running::{JobRun, run_job};
 pub use top::romain;
-
-#[cfg(test)]
-mod tests;

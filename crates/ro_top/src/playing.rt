@@ -1,9 +1,9 @@
 //! The run of a plan on the unreplicated machine.
 ghost use Rattle.std.specs.Prelude.{◌≡◌};
-ghost use Rattle.ro_top.specs.Causes.{AnswersEnd, PlanCause};
+ghost use Rattle.ro_top.specs.Ends.{AnswersEnd, PlanCause};
 
-use crate::asking::Replay;
 use crate::running::answer_of;
+use ro_files::Replay;
 use ro_io::Sink;
 use ro_journal::How;
 use ro_machine::{PlainEnd, PlanErr, TooLong, plan_steps, run_plan};

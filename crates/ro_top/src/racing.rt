@@ -1,9 +1,9 @@
 //! The first race of a plan.
 ghost use Rattle.std.specs.Prelude.{◌≤◌, length};
 ghost use Rattle.ro_journal.specs.Plan.{plan_of};
-ghost use Rattle.ro_top.specs.Causes.{RacesCause};
+ghost use Rattle.ro_top.specs.Ends.{RacesCause};
 
-use crate::asking::Replay;
+use ro_files::Replay;
 use ro_image::Executable;
 use ro_journal::Entry;
 use ro_machine::{TooLong, plan_steps};

@@ -2,34 +2,22 @@
 ghost use Rattle.std.specs.Prelude.{◌≡◌, ◌≢◌, []};
 ghost use Rattle.ro_journal.specs.Plan.{outcome_of};
 ghost use Rattle.ro_report.specs.declared.answers.Answer.TheVariants as a;
-ghost use Rattle.ro_core.specs.Jobs.{job_of};
-ghost use Rattle.ro_core.specs.Driven.{CanRun};
+ghost use Rattle.ro_legal.specs.Jobs.{job_of, CanRun};
 ghost use Rattle.ro_top.specs.Driven.{AreCounts};
-ghost use Rattle.ro_top.specs.Causes.{IsRefusal, IsOutcome};
+ghost use Rattle.ro_files.specs.Causes.{IsRefusal};
+ghost use Rattle.ro_top.specs.Ends.{IsOutcome};
 ghost use Rattle.ro_top.specs.Top.{IsRunOf};
 
 use crate::driving::drive;
 use ro_core::{Core, Finished, Refused};
 use ro_event::View;
-use ro_faults::Fault;
-use ro_image::Executable;
+use ro_files::Job;
 use ro_io::{Gate, Sink};
 use ro_journal::{Entry, How};
 use ro_report::Answer;
-use ro_settings::Settings;
 use std::alloc::Global;
 use std::sync::Wait;
 use std::thread::Threads;
-
-/// What is to be run: a program and its input, the faults that are to be struck, and how many replicas and drivers there are, in
-/// which bounds.
-#[derive(Drop)]
-pub struct Job {
-    pub image: Executable,
-    pub input: Vec<u8>,
-    pub faults: Vec<Fault>,
-    pub settings: Settings,
-}
 
 /// What a job's run came to.
 #[derive(Drop)]

@@ -9,11 +9,11 @@ ghost use Rattle.ro_words.specs.Commands.{Asked, AskedBench, AskedInject, AskedP
 ghost use Rattle.ro_words.specs.Uses.{texts_of};
 ghost use Rattle.ro_words.specs.declared.commands.WordsError.TheVariants as w;
 ghost use Rattle.ro_top.specs.Driven.{AreCounts};
-ghost use Rattle.ro_top.specs.Causes.{AsksFor, IsRefusal, RefusalCause, JobCause, IsOutcome};
+ghost use Rattle.ro_files.specs.Causes.{AsksFor, IsRefusal, RefusalCause, JobCause};
+ghost use Rattle.ro_top.specs.Ends.{IsOutcome};
 ghost use Rattle.ro_top.specs.Top.{OfItsBench, OfItsDraw, OfItsJob, OfItsPlan, OfItsRaces, IsRunOf, IsTold, plain_report};
 ghost use Rattle.ro_top.specs.declared.done.Told.TheVariants as t;
 
-use crate::asking::{image_from, job_from, replay_from};
 use crate::benching::{Benched, bench};
 use crate::done::Done;
 use crate::injecting::inject;
@@ -21,6 +21,7 @@ use crate::playing::{Played, play, unplayed};
 use crate::racing::race;
 use crate::reports::{tell, tell_answer, tell_plan};
 use crate::running::{JobRun, nothing, run_job};
+use ro_files::{image_from, job_from, replay_from};
 use ro_io::{Gate, Sink, Store};
 use ro_report::Answer;
 use ro_words::{

@@ -1,6 +1,6 @@
 //! Texts that are the output of a command.
 ghost use Rattle.std.specs.Prelude.{◌^◌, ◌<◌, length};
-ghost use Rattle.ro_top.specs.Causes.{WritesText};
+ghost use Rattle.ro_top.specs.Ends.{WritesText};
 
 use ro_io::{Sink, send};
 use ro_report::Answer;

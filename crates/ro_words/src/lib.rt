@@ -17,6 +17,3 @@ pub use laws::{
     audit_alone_is_usual, commands_are_apart, numbers_lie_in_range, order_is_free,
     run_alone_is_usual, spellings_agree,
 };
-
-#[cfg(test)]
-mod tests;

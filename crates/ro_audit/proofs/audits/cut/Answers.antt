@@ -1,5 +1,5 @@
 use Rattle.std.proofs.Common.{◌≡◌, ◌-◌, ◌<◌, ◌≤◌, ℕ, List, length, take, refl, ap, ◌∙◌, subst, arith}
-use Rattle.ro_core.specs.Legal.{output_of}
+use Rattle.ro_legal.specs.Legal.{output_of}
 use Rattle.ro_audit.specs.Following.{core_at}
 use Rattle.ro_audit.proofs.Telling.{cut-tells}
 use Rattle.ro_audit.proofs.audits.cut.Goals as goal

@@ -1,6 +1,6 @@
 use Rattle.std.proofs.Common.{◌∙◌, ap}
 use Rattle.ro_kernel.specs.Serve.{Served as Outcome, serve}
-use Rattle.ro_core.specs.Event.{call_event}
+use Rattle.ro_legal.specs.Event.{call_event}
 use Rattle.ro_core.proofs.Occurs.{brings-outcome, brings-blocked}
 use Rattle.ro_core.proofs.events.serve.Goals as goal
 

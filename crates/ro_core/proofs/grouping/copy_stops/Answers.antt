@@ -1,5 +1,5 @@
 use Rattle.std.proofs.Common.{arith}
-use Rattle.ro_core.proofs.Lists.{only-among, first-among, second-among}
+use Rattle.ro_legal.proofs.Lists.{only-among, first-among, second-among}
 use Rattle.ro_core.proofs.grouping.copy_stops.Goals as goal
 
 pub copy_row-requires-clause-to : goal.copy_row-requires-clause-to

@@ -4,7 +4,7 @@ use Rattle.std.proofs.lemmas.List.{length-set}
 use Rattle.std.proofs.lemmas.Option.{slice_get_within}
 use Rattle.ro_plain.proofs.Calls.{some-injective}
 use Rattle.ro_replica.specs.Seen.{ReplicaOf, AreTwins}
-use Rattle.ro_core.specs.Event.{with_copy}
+use Rattle.ro_legal.specs.Event.{with_copy}
 use Rattle.ro_core.specs.Fields.{AreHome, AreSpared, AreAllTwins, IsSeat}
 use Rattle.ro_core.proofs.Sitting.{loser-there, recovery-home, recovery-spared, recovery-seats, recovery-twins}
 use Rattle.ro_core.proofs.seats.overwrite.Goals as goal

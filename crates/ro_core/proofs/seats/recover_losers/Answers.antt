@@ -1,4 +1,4 @@
-use Rattle.ro_core.proofs.Lists.{only-among, first-among, second-among}
+use Rattle.ro_legal.proofs.Lists.{only-among, first-among, second-among}
 use Rattle.ro_core.proofs.seats.recover_losers.Goals as goal
 
 pub overwrite-requires-clause-loser : goal.overwrite-requires-clause-loser

@@ -1,9 +1,9 @@
 use Rattle.std.proofs.Common.{length, sym, ap, ◌∙◌, subst}
-use Rattle.ro_core.specs.Core.{Job}
+use Rattle.ro_legal.specs.Core.{Job}
 use Rattle.ro_journal.specs.Plan.{outcome_of}
-use Rattle.ro_core.specs.Driven.{CanRun, HasRun, ShowsLast}
-use Rattle.ro_core.specs.Jobs.{job_of}
-use Rattle.ro_top.specs.Causes.{IsOutcome, EndCause}
+use Rattle.ro_legal.specs.Jobs.{CanRun, job_of}
+use Rattle.ro_core.specs.Driven.{HasRun, ShowsLast}
+use Rattle.ro_top.specs.Ends.{IsOutcome, EndCause}
 use Rattle.ro_top.proofs.Claims.{is_run, not_differ, not_majority}
 use Rattle.ro_top.proofs.Finishing.{none_bytes, none_given, opens_same, none_home, ran_home, ran, ran_counts, ran_sent, ran_held, nothing_ran, ran_calm, ran_cause}
 use Rattle.ro_top.proofs.running.run_job.Goals as goal

@@ -1,7 +1,7 @@
 use Rattle.std.proofs.Common.{rules}
 use Rattle.ro_words.specs.Commands.{plan_by, to_plain}
-use Rattle.ro_top.specs.Causes.{AsksFor}
-use Rattle.ro_top.proofs.Asked.{races_asks, races_cause}
+use Rattle.ro_files.specs.Causes.{AsksFor}
+use Rattle.ro_files.proofs.Asked.{races_asks, races_cause}
 use Rattle.ro_top.proofs.top.raced.Goals as goal
 
 pub returns-in-Ok-clause-asks : goal.returns-in-Ok-clause-asks

@@ -1,5 +1,5 @@
 use Rattle.ro_words.specs.Commands.{run_by, to_run}
-use Rattle.ro_top.proofs.Asked.{done_asks}
+use Rattle.ro_files.proofs.Asked.{done_asks}
 use Rattle.ro_top.proofs.top.ran.Goals as goal
 
 pub returns-in-Ok-clause-asks : goal.returns-in-Ok-clause-asks

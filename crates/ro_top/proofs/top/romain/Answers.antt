@@ -4,8 +4,8 @@ use Rattle.ro_words.specs.Commands.{Asked, AskedRun, asked_by, bench_by, run_by,
 use Rattle.ro_words.specs.declared.commands.Command.{Command}
 use Rattle.ro_words.specs.Uses.{texts_of}
 use Rattle.ro_top.specs.Top.{IsTold}
-use Rattle.ro_top.specs.Causes.{AsksFor}
-use Rattle.ro_top.proofs.Asked.{bench_asks, one_command, one_run, spelled_cause, unread_asks}
+use Rattle.ro_files.specs.Causes.{AsksFor}
+use Rattle.ro_files.proofs.Asked.{bench_asks, one_command, one_run, spelled_cause, unread_asks}
 use Rattle.ro_top.proofs.Claims.{same_job}
 use Rattle.ro_top.proofs.top.romain.Goals as goal
 

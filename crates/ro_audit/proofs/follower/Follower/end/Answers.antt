@@ -1,7 +1,7 @@
 use Rattle.std.proofs.Common.{sym, ap, ◌∙◌, true≢false}
 use Rattle.ro_journal.specs.declared.Entry.TheVariants.{End}
-use Rattle.ro_core.specs.Action.{next_action}
-use Rattle.ro_core.proofs.Ordered.{ordered}
+use Rattle.ro_legal.specs.Action.{next_action}
+use Rattle.ro_legal.proofs.Ordered.{ordered}
 use Rattle.ro_audit.specs.Following.{core_at}
 use Rattle.ro_audit.proofs.Ends.{no-such-end}
 use Rattle.ro_audit.proofs.Steps.{state-is, end-follows, refused}

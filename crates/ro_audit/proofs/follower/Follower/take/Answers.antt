@@ -3,8 +3,8 @@ use Rattle.std.proofs.lemmas.List.{with_items_is, length-set}
 use Rattle.ro_journal.specs.declared.Entry.TheVariants.{Take}
 use Rattle.ro_settings.specs.declared.Settings.{Settings}
 use Rattle.ro_lease.specs.Loans.{LentOf}
-use Rattle.ro_core.specs.Core.{Core}
-use Rattle.ro_core.specs.Legal.{MayTake}
+use Rattle.ro_legal.specs.Core.{Core}
+use Rattle.ro_legal.specs.Legal.{MayTake}
 use Rattle.ro_audit.specs.Following.{core_at}
 use Rattle.ro_audit.proofs.Steps.{state-is, to-new, same-followed, same-follows, take-follows}
 use Rattle.ro_audit.proofs.follower.Follower.take.Goals as goal

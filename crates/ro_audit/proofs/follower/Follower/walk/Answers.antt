@@ -1,7 +1,7 @@
 use Rattle.std.proofs.Common.{◌≡◌, Bool, get_or, subst, ap, ◌∙◌, refl}
 use Rattle.ro_journal.specs.declared.How.TheVariants.{Sink}
 use Rattle.ro_journal.specs.declared.Entry.TheVariants.{Take, End}
-use Rattle.ro_core.specs.Core.{Job}
+use Rattle.ro_legal.specs.Core.{Job}
 use Rattle.ro_audit.specs.Audits.{FirstIllegal}
 use Rattle.ro_audit.specs.Following.{Followed}
 use Rattle.ro_audit.proofs.Telling.{at-place, stopped}

@@ -1,7 +1,7 @@
 use Rattle.std.proofs.Common.{ap, ◌∙◌, subst}
 use Rattle.ro_journal.specs.declared.Entry.TheVariants.{End}
-use Rattle.ro_core.specs.Legal.{IsAllowed, replay}
-use Rattle.ro_core.specs.Action.{next_action, IsNext}
+use Rattle.ro_legal.specs.Legal.{IsAllowed, replay}
+use Rattle.ro_legal.specs.Action.{next_action, IsNext}
 use Rattle.ro_core.specs.Seen.{CoreOf, state, Appends, Quiet}
 use Rattle.ro_core.proofs.Held.{with-old}
 use Rattle.ro_core.proofs.cores.Core.end.Goals as goal

@@ -1,7 +1,8 @@
 use Rattle.std.proofs.Common.{subst}
 use Rattle.std.proofs.lemmas.Result.{IfOk-weaker, on_ok_weaker, on_err_weaker}
-use Rattle.ro_core.specs.Legal.{IsAllowed}
-use Rattle.ro_core.specs.Seen.{CoreOf, state, Appends, Quiet, Stays, DecidesFree}
+use Rattle.ro_legal.specs.Legal.{IsAllowed}
+use Rattle.ro_core.specs.Seen.{CoreOf, state, Appends, Quiet, Stays}
+use Rattle.ro_legal.specs.Decides.{DecidesFree}
 use Rattle.ro_core.proofs.Held.{with-old}
 use Rattle.ro_core.proofs.cores.Core.free.Goals as goal
 

@@ -1,6 +1,6 @@
 use Rattle.std.proofs.Common.{◌≡◌, Some, subst}
 use Rattle.std.specs.Prelude.{◌↔◌}
-use Rattle.ro_core.specs.Legal.{EndsFree}
+use Rattle.ro_legal.specs.Legal.{EndsFree}
 use Rattle.ro_core.specs.Seen.{CoreOf, state}
 use Rattle.ro_core.proofs.cores.Core.free_end.Goals as goal
 

@@ -1,7 +1,8 @@
 use Rattle.std.proofs.Common.{◌≡◌, ◌⊎◌, [], ℕ, List, ap, ◌∙◌, subst}
-use Rattle.ro_core.specs.Core.{views_of}
-use Rattle.ro_core.specs.Legal.{IsAllowed}
-use Rattle.ro_core.specs.Seen.{CoreOf, state, Appends, Sends, Stays, IsOfMajority, DecidesVote}
+use Rattle.ro_legal.specs.Core.{views_of}
+use Rattle.ro_legal.specs.Legal.{IsAllowed}
+use Rattle.ro_core.specs.Seen.{CoreOf, state, Appends, Sends, Stays, IsOfMajority}
+use Rattle.ro_legal.specs.Decides.{DecidesVote}
 use Rattle.ro_core.specs.Runs.{fields_of, sent_in, payload_by, bytes_by}
 use Rattle.ro_core.proofs.Held.{with-old}
 use Rattle.ro_core.proofs.Views.{always-on-err}

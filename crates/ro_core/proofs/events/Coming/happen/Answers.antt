@@ -3,7 +3,7 @@ use Rattle.std.specs.Prelude.{if◌then◌else◌}
 use Rattle.std.proofs.lemmas.Result.{IfOk-weaker}
 use Rattle.ro_event.specs.declared.stops.Stop.{Stop}
 use Rattle.ro_core.specs.declared.events.Event.{Event as Happening}
-use Rattle.ro_core.specs.Event.{event_of}
+use Rattle.ro_legal.specs.Event.{event_of}
 use Rattle.ro_core.specs.Happening.{event_by, IsCause}
 use Rattle.ro_core.proofs.events.Coming.happen.Goals as goal
 

@@ -4,9 +4,10 @@ use Rattle.ro_journal.specs.declared.Entry.{Entry}
 use Rattle.ro_journal.specs.declared.Entry.TheVariants.{Free}
 use Rattle.ro_kernel.specs.Kernel.{Setup}
 use Rattle.ro_core.specs.declared.runs.Run.{Run}
-use Rattle.ro_core.specs.Core.{Job, Core}
-use Rattle.ro_core.specs.Legal.{IsAllowed, MayFree, output_of}
-use Rattle.ro_core.specs.Seen.{sent_of, Appends, DecidesFree}
+use Rattle.ro_legal.specs.Core.{Job, Core}
+use Rattle.ro_legal.specs.Legal.{IsAllowed, MayFree, output_of}
+use Rattle.ro_core.specs.Seen.{sent_of, Appends}
+use Rattle.ro_legal.specs.Decides.{DecidesFree}
 use Rattle.ro_core.specs.Fields.{Fields, blocked_at}
 use Rattle.ro_core.specs.Runs.{fields_of, state_of, WithAnySink}
 use Rattle.ro_core.proofs.Held.{limit-keeps}

@@ -8,10 +8,11 @@ use Rattle.ro_event.specs.Views.{View}
 use Rattle.ro_kernel.specs.Kernel.{Setup}
 use Rattle.ro_kernel.specs.State.{State}
 use Rattle.ro_core.specs.declared.runs.Run.{Run}
-use Rattle.ro_core.specs.Core.{Job}
-use Rattle.ro_core.specs.Event.{event_of}
-use Rattle.ro_core.specs.Legal.{IsAllowed, output_of}
-use Rattle.ro_core.specs.Seen.{sent_of, Appends, DecidesVote, IsOfMajority}
+use Rattle.ro_legal.specs.Core.{Job}
+use Rattle.ro_legal.specs.Event.{event_of}
+use Rattle.ro_legal.specs.Legal.{IsAllowed, output_of}
+use Rattle.ro_core.specs.Seen.{sent_of, Appends, IsOfMajority}
+use Rattle.ro_legal.specs.Decides.{DecidesVote}
 use Rattle.ro_core.specs.Fields.{Fields, core_in}
 use Rattle.ro_core.specs.Grouped.{AreMade}
 use Rattle.ro_core.specs.Happening.{IsCause}

@@ -1,5 +1,5 @@
 use Rattle.std.proofs.Common.{◌≡◌, sym, ap, ◌∙◌, arith}
-use Rattle.ro_core.specs.Action.{lowest_below}
+use Rattle.ro_legal.specs.Action.{lowest_below}
 use Rattle.ro_core.specs.Runs.{fields_of, state_of}
 use Rattle.ro_core.proofs.Tests.{lowest-more, lend-test, lends-none, lends-found, lends-nothing, count-is}
 use Rattle.ro_core.proofs.runs.Run.lowest_to_lend.Goals as goal

@@ -1,5 +1,5 @@
 use Rattle.std.proofs.Common.{◌≡◌, None}
-use Rattle.ro_core.specs.Action.{lowest_below}
+use Rattle.ro_legal.specs.Action.{lowest_below}
 use Rattle.ro_core.specs.Runs.{state_of}
 use Rattle.ro_core.proofs.Tests.{lend-test}
 use Rattle.ro_core.proofs.runs.Run.lowest_to_lend.Given as goal

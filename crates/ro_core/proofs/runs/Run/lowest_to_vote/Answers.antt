@@ -1,6 +1,6 @@
 use Rattle.std.proofs.Common.{◌<◌, sym, arith}
-use Rattle.ro_core.specs.Core.{may_vote}
-use Rattle.ro_core.specs.Action.{threads_made}
+use Rattle.ro_legal.specs.Core.{may_vote}
+use Rattle.ro_legal.specs.Action.{threads_made}
 use Rattle.ro_core.specs.Runs.{fields_of, state_of}
 use Rattle.ro_core.proofs.Tests.{lowest-found, made-is, none-voted}
 use Rattle.ro_core.proofs.runs.Run.lowest_to_vote.Goals as goal

@@ -1,6 +1,6 @@
 use Rattle.std.proofs.Common.{◌≡◌, None}
-use Rattle.ro_core.specs.Core.{may_vote}
-use Rattle.ro_core.specs.Action.{lowest_below}
+use Rattle.ro_legal.specs.Core.{may_vote}
+use Rattle.ro_legal.specs.Action.{lowest_below}
 use Rattle.ro_core.specs.Runs.{state_of}
 use Rattle.ro_core.proofs.runs.Run.lowest_to_vote.Given as goal
 

@@ -1,11 +1,11 @@
 use Rattle.std.proofs.Common.{sym, ap, ◌∙◌}
 use Rattle.std.specs.Prelude.{◌==◌, if◌then◌else◌, length}
 use Rattle.ro_journal.specs.declared.How.TheVariants.{Deadlock}
-use Rattle.ro_core.specs.declared.actions.Action.TheVariants.{End as DoEnd, Wait}
-use Rattle.ro_core.specs.Core.{nothing_lent}
-use Rattle.ro_core.specs.Action.{action_or}
+use Rattle.ro_legal.specs.declared.actions.Action.TheVariants.{End as DoEnd, Wait}
+use Rattle.ro_legal.specs.Core.{nothing_lent}
+use Rattle.ro_legal.specs.Action.{action_or}
 use Rattle.ro_core.specs.Runs.{fields_of, job_of, state_of}
-use Rattle.ro_core.proofs.Nexts.{next_over, next_due, next_first}
+use Rattle.ro_legal.proofs.Nexts.{next_over, next_due, next_first}
 use Rattle.ro_core.proofs.Tests.{leases-are, over-is}
 use Rattle.ro_core.proofs.runs.Run.next_action.Goals as goal
 

@@ -4,9 +4,9 @@ use Rattle.std.specs.List.{filter, find}
 use Rattle.ro_journal.specs.declared.Entry.TheVariants.{Put}
 use Rattle.ro_replica.specs.Replica.{stop_of}
 use Rattle.ro_replica.specs.Seen.{replica_of}
-use Rattle.ro_core.specs.declared.actions.Lease.{Lease}
-use Rattle.ro_core.specs.Core.{Core}
-use Rattle.ro_core.specs.Legal.{is_lease, after}
+use Rattle.ro_legal.specs.declared.actions.Lease.{Lease}
+use Rattle.ro_legal.specs.Core.{Core}
+use Rattle.ro_legal.specs.Legal.{is_lease, after}
 use Rattle.ro_core.specs.Seen.{sent_of}
 use Rattle.ro_core.specs.Fields.{Fields, failed_of}
 use Rattle.ro_core.specs.Grouped.{Returns}

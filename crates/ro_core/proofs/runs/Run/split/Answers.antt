@@ -3,8 +3,9 @@ use Rattle.ro_journal.specs.declared.How.{How}
 use Rattle.ro_journal.specs.declared.How.TheVariants.{Sink}
 use Rattle.ro_journal.specs.declared.Entry.{Entry}
 use Rattle.ro_journal.specs.declared.Entry.TheVariants.{End}
-use Rattle.ro_core.specs.Legal.{IsAllowed, MayEnd}
-use Rattle.ro_core.specs.Seen.{KeepsViews, Appends, DecidesVote}
+use Rattle.ro_legal.specs.Legal.{IsAllowed, MayEnd}
+use Rattle.ro_core.specs.Seen.{KeepsViews, Appends}
+use Rattle.ro_legal.specs.Decides.{DecidesVote}
 use Rattle.ro_core.specs.Fields.{split_end}
 use Rattle.ro_core.specs.Runs.{fields_of, job_of, state_of, WithAnySink}
 use Rattle.ro_core.proofs.Splits.{split-ends, split-may, split-keeps, split-going, split-not-over, not-sink}

@@ -1,6 +1,6 @@
 use Rattle.std.proofs.Common.{None, length, refl, sym, ap, ◌∙◌, arith}
 use Rattle.std.specs.Prelude.{slice_get}
-use Rattle.ro_core.specs.Core.{Core}
+use Rattle.ro_legal.specs.Core.{Core}
 use Rattle.ro_core.specs.Seen.{sent_of}
 use Rattle.ro_core.specs.Fields.{Fields, failed_of}
 use Rattle.ro_core.specs.Runs.{fields_of}

@@ -7,7 +7,7 @@ use Rattle.ro_journal.specs.declared.How.{How}
 use Rattle.ro_vote.specs.Verdict.{Split, verdict_of}
 use Rattle.ro_vote.specs.Votes.{verdict_by}
 use Rattle.ro_core.specs.Fields.{Fields, core_in, split_end}
-use Rattle.ro_core.specs.Legal.{EndsVote}
+use Rattle.ro_legal.specs.Legal.{EndsVote}
 use Rattle.ro_core.specs.Runs.{fields_of, state_of}
 use Rattle.ro_core.proofs.Asked.{some-end}
 use Rattle.ro_core.proofs.Splits.{split-ends}

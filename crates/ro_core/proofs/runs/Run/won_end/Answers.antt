@@ -1,7 +1,7 @@
 use Rattle.std.proofs.Common.{◌+◌, sym, ap, ◌∙◌, arith}
 use Rattle.ro_event.specs.declared.stops.Stop.{Stop}
 use Rattle.ro_journal.specs.declared.How.TheVariants.{Limit}
-use Rattle.ro_core.specs.Event.{event_of}
+use Rattle.ro_legal.specs.Event.{event_of}
 use Rattle.ro_core.specs.Fields.{Fields}
 use Rattle.ro_core.specs.Runs.{fields_of, state_of}
 use Rattle.ro_core.proofs.Asked.{some-end, none-ends}

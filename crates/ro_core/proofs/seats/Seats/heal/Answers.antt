@@ -1,9 +1,9 @@
 use Rattle.std.proofs.Common.{◌≡◌, length, sym, ◌∙◌, subst, arith}
 use Rattle.std.proofs.lemmas.List.{with_items_is}
 use Rattle.ro_journal.specs.Losers.{numbers}
-use Rattle.ro_core.specs.Event.{with_recovered}
+use Rattle.ro_legal.specs.Event.{with_recovered}
 use Rattle.ro_core.specs.Fields.{AreHome, IsSeat, AreAllTwins, AreLosers}
-use Rattle.ro_core.proofs.Copies.{length-with-copy}
+use Rattle.ro_legal.proofs.Copies.{length-with-copy}
 use Rattle.ro_core.proofs.Grouped.{copies-grouped}
 use Rattle.ro_core.proofs.Sitting.{home-count, home-get, seat-within}
 use Rattle.ro_core.proofs.seats.Seats.heal.Goals as goal

@@ -1,5 +1,0 @@
-use Rattle.ro_core.proofs.Released.{goes-on-everywhere}
-use Rattle.ro_core.proofs.laws.granted_everywhere.Goals as goal
-
-pub returns : goal.returns
-returns c = goes-on-everywhere

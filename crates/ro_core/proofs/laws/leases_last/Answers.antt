@@ -1,5 +1,0 @@
-use Rattle.ro_core.proofs.Lasting.{lease_lasts}
-use Rattle.ro_core.proofs.laws.leases_last.Goals as goal
-
-pub returns : goal.returns
-returns c = lease_lasts

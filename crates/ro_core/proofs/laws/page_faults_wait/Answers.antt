@@ -1,5 +1,0 @@
-use Rattle.ro_core.proofs.FaultStops.{fault-at}
-use Rattle.ro_core.proofs.laws.page_faults_wait.Goals as goal
-
-pub returns : goal.returns
-returns c job journal legal number thread page replica there stands = (fault-at job journal legal number thread page replica there stands).1

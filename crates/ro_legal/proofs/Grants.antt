@@ -1,0 +1,379 @@
+-- A thread that stands at a call stands there until it is answered, or its replica becomes a copy.
+use Rattle.std.specs.Prelude.{◌≡◌, ◌≢◌, ℕ, zero, suc, ◌⊎◌, Bool, true, false, not, cond, ◌&&◌, ◌||◌, List, [], ◌∷◌, ◌++◌, Option, Some, None, is_none, slice_get}
+use Rattle.std.specs.List.{filter, list_any}
+use Rattle.std.specs.Option.{option_map_or, option_and_then}
+use Rattle.std.proofs.Common.{refl, sym, ap, ◌∙◌, subst, inl, inr}
+use Rattle.std.proofs.lemmas.Bool.{true≢false, and_parts, cases_Bool, cases_eq}
+use Rattle.std.proofs.lemmas.Option.{option_and_then_some}
+use Rattle.ro_event.specs.declared.calls.Call.{Call}
+use Rattle.ro_event.specs.declared.effects.Made.{Made}
+use Rattle.ro_event.specs.declared.stops.Stop.{Stop}
+use Rattle.ro_event.specs.declared.stops.Stop.TheVariants.{Calls, Trap, PageFault, Watchdog}
+use Rattle.ro_event.specs.Effects.{Effect}
+use Rattle.ro_exec.specs.Next.{Backed}
+use Rattle.ro_journal.specs.Losers.{numbers}
+use Rattle.ro_journal.specs.declared.losers.Lost.{Lost}
+use Rattle.ro_vote.specs.Numbers.{is_among}
+use Rattle.ro_journal.specs.declared.Did.{Did}
+use Rattle.ro_journal.specs.declared.Did.TheVariants.{Served, Blocked, PageBacked, Watch, Trapped}
+use Rattle.ro_journal.specs.declared.How.{How}
+use Rattle.ro_journal.specs.declared.Entry.{Entry}
+use Rattle.ro_journal.specs.declared.Entry.TheVariants.{Take, Put, Vote, Free, End}
+use Rattle.ro_kernel.proofs.Kept.{slice_get-set_other}
+use Rattle.ro_kernel.specs.Kernel.{Setup, Kernel, lives_on}
+use Rattle.ro_kernel.specs.Serve.{Served as Serving, Done, Blocked as Blocks, Ends, serve}
+use Rattle.ro_thread.specs.declared.Thread.{Thread}
+use Rattle.ro_replica.specs.Replica.{Replica, changed_at, thread_after, with_made, without_cancelled, is_cancelled, applied, cancelled}
+use Rattle.ro_replica.specs.Runs.{RanTo, run_of, with_stop}
+use Rattle.ro_replica.specs.Views.{is_unstopped}
+use Rattle.ro_plain.specs.Machine.{layout_of, setup_of}
+use Rattle.ro_plain.proofs.Calls.{some-injective, slice_get-append}
+use Rattle.ro_legal.specs.declared.actions.Lease.{Lease}
+use Rattle.ro_legal.specs.Core.{Job, Core, opening_core, is_home, is_out, is_lendable}
+use Rattle.ro_legal.specs.Event.{Event, quiet_effect, call_event, event_of, with_recovered}
+use Rattle.ro_legal.specs.Legal.{lease_run, is_lease, arrival, arrived, core_after_put, core_after_event, event_in, freed_event, after, IsAllowed, MayPut, MayVote, MayFree, LegalFrom, Legal, replay}
+use Rattle.ro_legal.specs.Laws.{thread_in, LeavesBlocked, LetsGoOn}
+use Rattle.ro_legal.proofs.Lists.{get-map-there, get-set-same, changed-is-set}
+use Rattle.ro_legal.proofs.Copies.{copied-other}
+use Rattle.ro_legal.proofs.Effects.{backed_after, threads_after}
+use Rattle.ro_legal.proofs.Happens.{Happens, event-happens, call-happens}
+use Rattle.ro_legal.proofs.Journals.{LegalFrom-parts, legal-keeps, replay_more}
+use Rattle.ro_legal.proofs.Leases.{Apart, has_replica, lease-parts, out_has, gone, event_leases, apart_after}
+use Rattle.ro_legal.proofs.Ordered.{going-parts, put-parts, vote-parts, free-parts, event-parts, freed-is}
+use Rattle.ro_legal.proofs.Retired.{RunMeets, meets}
+
+-- ---- what is lent can go on
+
+-- the thread is there in the replica, and does not stand still
+abbrev pub goes_in : Core → (replica thread : ℕ) → Bool
+goes_in core replica thread = option_map_or (is_unstopped thread) (slice_get core.replicas replica) false
+
+abbrev pub LentGo : Core → Type 0
+LentGo core = (driver replica thread : ℕ) → is_out core driver replica thread ≡ true → goes_in core replica thread ≡ true
+
+-- what is in a filtered list is in the list
+any-filter : {X : Type 0} (p q : X → Bool) (xs : List X) → list_any p (filter q xs) ≡ true → list_any p xs ≡ true
+any-filter p q [] e = e
+any-filter p q (x ∷ xs) e = by (any-filter p q xs) (q x) e
+  where
+    later : (b : Bool) → list_any p xs ≡ true → (b || list_any p xs) ≡ true
+    later true f = refl
+    later false f = f
+
+    first : (list_any p (filter q xs) ≡ true → list_any p xs ≡ true) → (b : Bool) → (b || list_any p (filter q xs)) ≡ true → (b || list_any p xs) ≡ true
+    first rest true f = refl
+    first rest false f = rest f
+
+    by : (list_any p (filter q xs) ≡ true → list_any p xs ≡ true) → (b : Bool) → list_any p (cond b (x ∷ filter q xs) (filter q xs)) ≡ true → (p x || list_any p xs) ≡ true
+    by rest true f = first rest (p x) f
+    by rest false f = later (p x) (rest f)
+
+go-take : (job : Job) (core : Core) (driver replica thread : ℕ) → is_lendable core replica thread ≡ true → LentGo core → LentGo (after job core (Take driver replica thread))
+unfolding after
+go-take job core driver replica thread lendable h d r t e = by (is_lease d r t (record { driver = driver; replica = replica; thread = thread })) refl e
+  where
+    lent : goes_in core replica thread ≡ true
+    lent = (and_parts (is_home core replica && lives_on core.kernel thread) _ lendable).1
+
+    by : (b : Bool) → is_lease d r t (record { driver = driver; replica = replica; thread = thread }) ≡ b → (b || is_out core d r t) ≡ true → goes_in core r t ≡ true
+    by true is f =
+        let p = lease-parts d r t (record { driver = driver; replica = replica; thread = thread }) is in
+        subst (λ (n : ℕ). goes_in core n t ≡ true) p.1 (subst (λ (n : ℕ). goes_in core replica n ≡ true) p.2 lent)
+    by false is f = h d r t f
+
+go-put : (job : Job) (core : Core) (driver replica thread count hit : ℕ) → MayPut job core driver replica thread count hit → Apart core.leases → LentGo core → LentGo (after job core (Put driver replica thread count hit))
+unfolding after
+go-put job core driver replica thread count hit may apart h =
+    subst (λ (o : Option RanTo). LentGo (core_after_put job core driver replica thread count o)) (sym may.runs) there
+  where
+    left : List Lease
+    left = filter (λ l. not (is_lease driver replica thread l)) core.leases
+
+    there : LentGo (core_after_put job core driver replica thread count (Some may.ran))
+    there d r t e =
+        let other : r ≢ replica = λ same. true≢false (sym (out_has d r t left e) ∙ ap (λ (n : ℕ). has_replica n left) same ∙ gone driver replica thread core.leases apart may.out) in
+        ap (λ (o : Option Replica). option_map_or (is_unstopped t) o false) (slice_get-set_other core.replicas replica r (arrived job thread count may.ran.replica) (λ k. other (sym k)))
+        ∙ h d r t (any-filter (is_lease d r t) (λ l. not (is_lease driver replica thread l)) core.leases e)
+
+-- where nothing is lent
+pub go-none : (core : Core) → core.leases ≡ [] → LentGo core
+go-none core none d r t e = absurd (true≢false (sym e ∙ ap (list_any (is_lease d r t)) none))
+
+pub go-after : (job : Job) (core : Core) (entry : Entry) → IsAllowed job core entry → Apart core.leases → LentGo core → LentGo (after job core entry)
+unfolding after
+go-after job core (Take driver replica thread) may apart h = go-take job core driver replica thread may.lendable h
+go-after job core (Put driver replica thread count hit) may apart h = go-put job core driver replica thread count hit may apart h
+go-after job core (Vote thread count won lost did) may apart h =
+    go-none (core_after_event core thread count (with_recovered won (numbers lost) core.replicas) (event_in job core thread won)) (event_leases core thread count (with_recovered won (numbers lost) core.replicas) (event_in job core thread won) ∙ (vote-parts core thread may.may).alone)
+go-after job core (Free thread) may apart h =
+    go-none (core_after_event core thread 0 core.replicas (freed_event job core thread)) (event_leases core thread 0 core.replicas (freed_event job core thread) ∙ (free-parts job core thread may.may).alone)
+go-after job core (End how) may apart h = h
+
+-- in a legal journal each thread that is lent can go on
+pub lent-go : (job : Job) (journal : List Entry) → Legal job journal → LentGo (replay job journal)
+unfolding opening_core
+lent-go job journal legal =
+    (legal-keeps job (λ core. Apart core.leases × LentGo core) (λ core entry may h. (apart_after job core entry may h.0, go-after job core entry may h.0 h.1)) (opening_core job) journal legal (tt, go-none (opening_core job) refl)).1
+
+-- the thread that a put gives back was there, and did not stand still
+pub record LentThread (core : Core) (replica thread : ℕ) : Type 0 where
+  pub lent : Replica
+  pub in_core : slice_get core.replicas replica ≡ Some lent
+  pub went : Thread
+  pub in_lent : slice_get lent.threads thread ≡ Some went
+  pub goes : went.stop ≡ None
+
+pub lent-thread : (core : Core) (replica thread : ℕ) → goes_in core replica thread ≡ true → LentThread core replica thread
+lent-thread core replica thread e = by (slice_get core.replicas replica) refl e
+  where
+    none : (o : Option Stop) → is_none o ≡ true → o ≡ None
+    none None f = refl
+    none (Some stop) f = absurd (true≢false (sym f))
+
+    at : (r : Replica) → slice_get core.replicas replica ≡ Some r → (o : Option Thread) → slice_get r.threads thread ≡ o → option_map_or (λ (t : Thread). is_none t.stop) o false ≡ true → LentThread core replica thread
+    at r there None f g = absurd (true≢false (sym g))
+    at r there (Some t) f g = record { lent = r; in_core = there; went = t; in_lent = f; goes = none t.stop g }
+
+    by : (o : Option Replica) → slice_get core.replicas replica ≡ o → option_map_or (is_unstopped thread) o false ≡ true → LentThread core replica thread
+    by None f g = absurd (true≢false (sym g))
+    by (Some r) f g = at r f (slice_get r.threads thread) refl g
+
+-- what its run did to the replica
+pub lent-meets : (job : Job) (core : Core) (replica thread count : ℕ) (ran : RanTo) (lent : LentThread core replica thread) → lease_run job core replica thread count ≡ Some ran → RunMeets thread count lent.went lent.lent ran
+lent-meets job core replica thread count ran lent runs =
+    let parts = put-parts job core replica thread count ran runs in
+    meets (layout_of job.program) job.settings.watchdog count thread lent.went lent.lent ran lent.in_lent
+    (ap (λ (r : Replica). run_of (layout_of job.program) job.settings.watchdog count r thread) (some-injective (sym lent.in_core ∙ parts.there)) ∙ parts.runs)
+
+-- ---- what stands at a call
+
+-- where a thread is found
+record Found (core : Core) (replica thread : ℕ) (stands : Thread) : Type 0 where
+  value : Replica
+  in_core : slice_get core.replicas replica ≡ Some value
+  there : slice_get value.threads thread ≡ Some stands
+
+found : (core : Core) (replica thread : ℕ) (stands : Thread) → thread_in core replica thread ≡ Some stands → Found core replica thread stands
+found core replica thread stands e = option_and_then_some (λ r. slice_get r.threads thread) (slice_get core.replicas replica) stands e (λ r f g. record { value = r; in_core = f; there = g })
+
+found-is : (core : Core) (replica thread : ℕ) (stands : Thread) → Found core replica thread stands → thread_in core replica thread ≡ Some stands
+found-is core replica thread stands f = ap (option_and_then (λ r. slice_get r.threads thread)) f.in_core ∙ f.there
+
+-- a call is not cancelled
+not-cancelled : (backed : Backed) (stands : Thread) (call : Call) → stands.stop ≡ Some (Calls call) → without_cancelled backed stands ≡ stands
+not-cancelled backed stands call e = ap (λ (o : Option Stop). record stands { stop = o }) (by stands.stop e)
+  where
+    by : (o : Option Stop) → o ≡ Some (Calls call) → cond (is_cancelled backed o) None o ≡ o
+    by None f = refl
+    by (Some stop) f = ap (λ (s : Stop). cond (is_cancelled backed (Some s)) None (Some s)) (some-injective f) ∙ sym f
+
+-- a thread that is made stands behind the others
+made-keeps : (made : Option Made) (threads : List Thread) (i : ℕ) (x : Thread) → slice_get threads i ≡ Some x → slice_get (with_made made threads) i ≡ Some x
+made-keeps None threads i x e = e
+made-keeps (Some made) [] i x e = e
+made-keeps (Some made) (y ∷ threads) i x e = slice_get-append (y ∷ threads) _ i x e
+
+pub changed-other : (f : Thread → Thread) (xs : List Thread) (t i : ℕ) → i ≢ t → slice_get (changed_at f xs t) i ≡ slice_get xs i
+changed-other f [] t i d = refl
+changed-other f (x ∷ xs) zero zero d = absurd (d refl)
+changed-other f (x ∷ xs) zero (suc i) d = refl
+changed-other f (x ∷ xs) (suc t) zero d = refl
+changed-other f (x ∷ xs) (suc t) (suc i) d = changed-other f xs t i (λ e. d (ap suc e))
+
+-- an effect of another thread leaves it
+effect-keeps : (effect : Effect) (replica : Replica) (thread : ℕ) (stands : Thread) (call : Call) → thread ≢ effect.thread → slice_get replica.threads thread ≡ Some stands → stands.stop ≡ Some (Calls call)
+    → slice_get (cancelled (applied effect replica)).threads thread ≡ Some stands
+unfolding applied cancelled
+effect-keeps effect replica thread stands call other there at =
+    get-map-there (without_cancelled (backed_after effect replica.backed)) (threads_after effect replica.threads) thread stands
+    (made-keeps effect.made (changed_at (thread_after effect) replica.threads effect.thread) thread stands (changed-other (thread_after effect) replica.threads effect.thread thread other ∙ there))
+    ∙ ap Some (not-cancelled (backed_after effect replica.backed) stands call at)
+
+-- and so does an event of another thread
+event-keeps : (core : Core) (voted count : ℕ) (replicas : List Replica) (event : Event) (replica thread : ℕ) (value : Replica) (stands : Thread) (call : Call)
+    → event.effect.thread ≡ voted → thread ≢ voted → slice_get replicas replica ≡ Some value → slice_get value.threads thread ≡ Some stands → stands.stop ≡ Some (Calls call)
+    → thread_in (core_after_event core voted count replicas (Some event)) replica thread ≡ Some stands
+event-keeps core voted count replicas event replica thread value stands call own other in_core there at =
+    found-is (core_after_event core voted count replicas (Some event)) replica thread stands (record {
+      value = cancelled (applied event.effect value);
+      in_core = get-map-there (λ r. cancelled (applied event.effect r)) replicas replica value in_core;
+      there = effect-keeps event.effect value thread stands call (λ e. other (e ∙ own)) there at;
+    })
+
+-- what an event that blocks does to its thread: its count since the last vote begins anew
+blocked-stands : (core : Core) (voted count : ℕ) (replicas : List Replica) (event : Event) (replica : ℕ) (value : Replica) (stands : Thread) (call : Call)
+    → event.effect ≡ quiet_effect voted None false → slice_get replicas replica ≡ Some value → slice_get value.threads voted ≡ Some stands → stands.stop ≡ Some (Calls call)
+    → thread_in (core_after_event core voted count replicas (Some event)) replica voted ≡ Some (record stands { since = 0 })
+unfolding applied cancelled
+blocked-stands core voted count replicas event replica value stands call quiet in_core there at =
+    found-is (core_after_event core voted count replicas (Some event)) replica voted (record stands { since = 0 }) (record {
+      value = cancelled (applied event.effect value);
+      in_core = get-map-there (λ r. cancelled (applied event.effect r)) replicas replica value in_core;
+      there = subst (λ (e : Effect). slice_get (cancelled (applied e value)).threads voted ≡ Some (record stands { since = 0 })) (sym quiet) new;
+    })
+  where
+    effect : Effect
+    effect = quiet_effect voted None false
+
+    changed : slice_get (changed_at (thread_after effect) value.threads voted) voted ≡ Some (record stands { since = 0 })
+    changed =
+        ap (λ (xs : List Thread). slice_get xs voted) (changed-is-set (thread_after effect) value.threads voted stands there)
+        ∙ get-set-same value.threads voted stands (thread_after effect stands) there
+
+    new : slice_get (cancelled (applied effect value)).threads voted ≡ Some (record stands { since = 0 })
+    new =
+        get-map-there (without_cancelled (backed_after effect value.backed)) (threads_after effect value.threads) voted (record stands { since = 0 }) changed
+        ∙ ap Some (not-cancelled (backed_after effect value.backed) (record stands { since = 0 }) call at)
+
+-- an event that blocks changes nothing else
+blocked-quiet : (setup : Setup) (kernel : Kernel) (thread : ℕ) (stop : Stop) (payload : List ℕ) → (event_of setup kernel thread stop payload).did ≡ Blocked → (event_of setup kernel thread stop payload).effect ≡ quiet_effect thread None false
+unfolding event_of
+blocked-quiet setup kernel thread (PageFault page) payload e = absurd (let f : PageBacked ≡ Blocked = e in cc)
+blocked-quiet setup kernel thread Watchdog payload e = absurd (let f : Watch ≡ Blocked = e in cc)
+blocked-quiet setup kernel thread (Trap code) payload e = absurd (let f : Trapped ≡ Blocked = e in cc)
+blocked-quiet setup kernel thread (Calls call) payload e = by (serve setup kernel thread call) e
+  where
+    by : (s : Serving) → (call_event kernel thread call payload s).did ≡ Blocked → (call_event kernel thread call payload s).effect ≡ quiet_effect thread None false
+    by (Done after effect) f = absurd (let g : Served ≡ Blocked = f in cc)
+    by Blocks f = refl
+    by (Ends after how) f = absurd (let g : Served ≡ Blocked = f in cc)
+
+-- whether a vote blocked
+blocked-cases : (did : Did) → (did ≡ Blocked) ⊎ (did ≢ Blocked)
+blocked-cases Served = inr (λ e. cc)
+blocked-cases Blocked = inl refl
+blocked-cases PageBacked = inr (λ e. cc)
+blocked-cases Watch = inr (λ e. cc)
+blocked-cases Trapped = inr (λ e. cc)
+
+-- what becomes of a thread that stands at a call
+abbrev Goes : Core → Entry → (replica thread : ℕ) → Thread → Type 0
+Goes new entry replica thread stands =
+    (thread_in new replica thread ≡ Some stands) ⊎ (LeavesBlocked entry thread × (thread_in new replica thread ≡ Some (record stands { since = 0 }))) ⊎ LetsGoOn entry replica thread
+
+put-keeps : (job : Job) (core : Core) (driver ran_in ran count hit : ℕ) → MayPut job core driver ran_in ran count hit → LentGo core → (replica thread : ℕ) (stands : Thread) (call : Call)
+    → Found core replica thread stands → stands.stop ≡ Some (Calls call) → thread_in (after job core (Put driver ran_in ran count hit)) replica thread ≡ Some stands
+unfolding after
+put-keeps job core driver ran_in ran count hit may go replica thread stands call f at =
+    subst (λ (o : Option RanTo). thread_in (core_after_put job core driver ran_in ran count o) replica thread ≡ Some stands) (sym may.runs) (by (cases_eq replica ran_in))
+  where
+    new : Core
+    new = core_after_put job core driver ran_in ran count (Some may.ran)
+
+    lent : LentThread core ran_in ran
+    lent = lent-thread core ran_in ran (go driver ran_in ran may.out)
+
+    here : replica ≡ ran_in → thread_in new replica thread ≡ Some stands
+    here same =
+        let is : lent.lent ≡ f.value = some-injective (sym lent.in_core ∙ ap (slice_get core.replicas) (sym same) ∙ f.in_core) in
+        let there : slice_get lent.lent.threads thread ≡ Some stands = ap (λ (r : Replica). slice_get r.threads thread) is ∙ f.there in
+        let other : thread ≢ ran = λ e. let both : lent.went ≡ stands = some-injective (sym lent.in_lent ∙ ap (slice_get lent.lent.threads) (sym e) ∙ there) in
+        (let g : None ≡ Some (Calls call) = sym lent.goes ∙ ap (λ (x : Thread). x.stop) both ∙ at in cc)
+        in
+        found-is new replica thread stands (record {
+          value = arrived job ran count may.ran.replica;
+          in_core = ap (slice_get new.replicas) same ∙ get-set-same core.replicas ran_in lent.lent (arrived job ran count may.ran.replica) lent.in_core;
+          there = changed-other (with_stop (arrival job ran count may.ran.replica)) may.ran.replica.threads ran thread other ∙ (lent-meets job core ran_in ran count may.ran lent may.runs).only.others thread other ∙ there;
+        })
+
+    away : replica ≢ ran_in → thread_in new replica thread ≡ Some stands
+    away differs = found-is new replica thread stands (record {
+      value = f.value;
+      in_core = slice_get-set_other core.replicas ran_in replica (arrived job ran count may.ran.replica) (λ k. differs (sym k)) ∙ f.in_core;
+      there = f.there;
+    })
+
+    by : (replica ≡ ran_in) ⊎ (replica ≢ ran_in) → thread_in new replica thread ≡ Some stands
+    by (inl same) = here same
+    by (inr differs) = away differs
+
+vote-keeps : (job : Job) (core : Core) (voted count won : ℕ) (lost : Lost) (did : Did) → MayVote job core voted count won lost did → (replica thread : ℕ) (stands : Thread) (call : Call)
+    → Found core replica thread stands → stands.stop ≡ Some (Calls call) → Goes (after job core (Vote voted count won lost did)) (Vote voted count won lost did) replica thread stands
+unfolding after
+vote-keeps job core voted count won lost did may replica thread stands call f at = by (cases_eq voted thread) (blocked-cases did) (cases_Bool (is_among (numbers lost) replica))
+  where
+    new : Core
+    new = core_after_event core voted count (with_recovered won (numbers lost) core.replicas) (event_in job core voted won)
+
+    here : is_among (numbers lost) replica ≡ false → slice_get (with_recovered won (numbers lost) core.replicas) replica ≡ Some f.value
+    here not_lost = copied-other won (numbers lost) core.replicas replica not_lost ∙ f.in_core
+
+    kept : voted ≢ thread → is_among (numbers lost) replica ≡ false → thread_in new replica thread ≡ Some stands
+    kept other not_lost =
+        let e = event-parts job core voted won may.event may.comes in
+        let own : may.event.effect.thread ≡ voted = (subst (Happens core.kernel voted) e.is (event-happens (setup_of job.program) core.kernel voted e.stop _)).thread_is in
+        subst (λ (o : Option Event). thread_in (core_after_event core voted count (with_recovered won (numbers lost) core.replicas) o) replica thread ≡ Some stands) (sym may.comes)
+        (event-keeps core voted count (with_recovered won (numbers lost) core.replicas) may.event replica thread f.value stands call own (λ k. other (sym k)) (here not_lost) f.there at)
+
+    stays : voted ≡ thread → did ≡ Blocked → is_among (numbers lost) replica ≡ false → thread_in new replica thread ≡ Some (record stands { since = 0 })
+    stays same blocks not_lost =
+        let e = event-parts job core voted won may.event may.comes in
+        let quiet : may.event.effect ≡ quiet_effect voted None false =
+        subst (λ (v : Event). v.did ≡ Blocked → v.effect ≡ quiet_effect voted None false) e.is (blocked-quiet (setup_of job.program) core.kernel voted e.stop _) (may.did_is ∙ blocks)
+        in
+        subst (λ (o : Option Event). thread_in (core_after_event core voted count (with_recovered won (numbers lost) core.replicas) o) replica thread ≡ Some (record stands { since = 0 })) (sym may.comes)
+        (subst (λ (n : ℕ). thread_in (core_after_event core voted count (with_recovered won (numbers lost) core.replicas) (Some may.event)) replica n ≡ Some (record stands { since = 0 })) same
+        (blocked-stands core voted count (with_recovered won (numbers lost) core.replicas) may.event replica f.value stands call quiet (here not_lost) (ap (slice_get f.value.threads) same ∙ f.there) at))
+
+    by : (voted ≡ thread) ⊎ (voted ≢ thread) → (did ≡ Blocked) ⊎ (did ≢ Blocked) → (is_among (numbers lost) replica ≡ true) ⊎ (is_among (numbers lost) replica ≡ false) → Goes new (Vote voted count won lost did) replica thread stands
+    by v d (inl e) = inr (inr (inr e))
+    by (inr d) b (inr g) = inl (kept d g)
+    by (inl e) (inl b) (inr g) = inr (inl ((e, b), stays e b g))
+    by (inl e) (inr n) (inr g) = inr (inr (inl (e, n)))
+
+free-keeps : (job : Job) (core : Core) (freed : ℕ) → MayFree job core freed → (replica thread : ℕ) (stands : Thread) (call : Call)
+    → Found core replica thread stands → stands.stop ≡ Some (Calls call) → Goes (after job core (Free freed)) (Free freed) replica thread stands
+unfolding after
+free-keeps job core freed may replica thread stands call f at = by (cases_eq freed thread)
+  where
+    kept : freed ≢ thread → thread_in (core_after_event core freed 0 core.replicas (freed_event job core freed)) replica thread ≡ Some stands
+    kept other =
+        let p = free-parts job core freed may.may in
+        let event : Event = call_event core.kernel freed p.call [] (serve (setup_of job.program) core.kernel freed p.call) in
+        subst (λ (o : Option Event). thread_in (core_after_event core freed 0 core.replicas o) replica thread ≡ Some stands) (sym (freed-is job core freed p.call p.blocked_on))
+        (event-keeps core freed 0 core.replicas event replica thread f.value stands call (call-happens (setup_of job.program) core.kernel freed p.call []).thread_is (λ k. other (sym k)) f.in_core f.there at)
+
+    by : (freed ≡ thread) ⊎ (freed ≢ thread) → Goes (core_after_event core freed 0 core.replicas (freed_event job core freed)) (Free freed) replica thread stands
+    by (inl e) = inr (inr e)
+    by (inr d) = inl (kept d)
+
+entry-keeps : (job : Job) (core : Core) (entry : Entry) → IsAllowed job core entry → LentGo core → (replica thread : ℕ) (stands : Thread) (call : Call)
+    → Found core replica thread stands → stands.stop ≡ Some (Calls call) → Goes (after job core entry) entry replica thread stands
+unfolding after
+entry-keeps job core (Take driver taken lent) may go replica thread stands call f at = inl (found-is core replica thread stands f)
+entry-keeps job core (Put driver ran_in ran count hit) may go replica thread stands call f at = inl (put-keeps job core driver ran_in ran count hit may go replica thread stands call f at)
+entry-keeps job core (Vote voted count won lost did) may go replica thread stands call f at = vote-keeps job core voted count won lost did may replica thread stands call f at
+entry-keeps job core (Free freed) may go replica thread stands call f at = free-keeps job core freed may replica thread stands call f at
+entry-keeps job core (End how) may go replica thread stands call f at = inl (found-is core replica thread stands f)
+
+-- a legal journal with one entry more
+pub record OneEntryMore (job : Job) (journal : List Entry) (entry : Entry) : Type 0 where
+  pub legal : Legal job journal
+  pub allowed : IsAllowed job (replay job journal) entry
+
+pub last-entry : (job : Job) (journal : List Entry) (entry : Entry) → Legal job (journal ++ entry ∷ []) → OneEntryMore job journal entry
+last-entry job journal entry legal = let p = LegalFrom-parts job (opening_core job) journal (entry ∷ []) legal in record { legal = p.0; allowed = p.1.0 }
+
+pub one-grant : (job : Job) (journal : List Entry) (entry : Entry) → Legal job (journal ++ entry ∷ []) → (replica thread : ℕ) (stands : Thread) (call : Call)
+    → thread_in (replay job journal) replica thread ≡ Some stands → stands.stop ≡ Some (Calls call)
+    → Goes (replay job (journal ++ entry ∷ [])) entry replica thread stands
+one-grant job journal entry legal replica thread stands call e at =
+    let p = last-entry job journal entry legal in
+    subst (λ (c : Core). Goes c entry replica thread stands) (sym (replay_more job journal entry))
+    (entry-keeps job (replay job journal) entry p.allowed (lent-go job journal p.legal) replica thread stands call (found (replay job journal) replica thread stands e) at)
+
+-- nothing is allowed behind an end
+pub ended-none : (job : Job) (core : Core) (entry : Entry) → IsAllowed job core entry → core.ended ≡ None
+ended-none job core (Take driver replica thread) may = (going-parts core may.going).1
+ended-none job core (Put driver replica thread count hit) may = may.not_ended
+ended-none job core (Vote thread count won lost did) may = (vote-parts core thread may.may).not_ended
+ended-none job core (Free thread) may = (free-parts job core thread may.may).not_ended
+ended-none job core (End how) may = may.0
+
+end-last : (job : Job) (core : Core) (how : How) (behind : List Entry) → LegalFrom job (after job core (End how)) behind → behind ≡ []
+unfolding after
+end-last job core how [] legal = refl
+end-last job core how (entry ∷ behind) legal = absurd (let e : Some how ≡ None = ended-none job (after job core (End how)) entry legal.0 in cc)
+
+pub is-last : (job : Job) (before behind : List Entry) (how : How) → Legal job (before ++ End how ∷ behind) → behind ≡ []
+is-last job before behind how legal = end-last job (replay job before) how behind (LegalFrom-parts job (opening_core job) before (End how ∷ behind) legal).1.1

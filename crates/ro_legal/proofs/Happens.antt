@@ -1,0 +1,115 @@
+-- What an event keeps of the kernel.
+use Rattle.std.specs.Prelude.{◌≡◌, ◌≢◌, ℕ, ◌+◌, ◌≤◌, ◌^◌, ◌<◌, true, List, [], length, Option, Some, None, IfSome, nat_le}
+use Rattle.std.proofs.Common.{refl, sym, ap, ◌∙◌, subst, arith}
+use Rattle.std.proofs.lemmas.Bool.{and_parts, leb-true}
+use Rattle.ro_event.specs.declared.calls.Call.{Call}
+use Rattle.ro_event.specs.declared.effects.Made.{Made}
+use Rattle.ro_event.specs.declared.stops.Stop.{Stop}
+use Rattle.ro_event.specs.declared.stops.Stop.TheVariants.{Calls, Trap, PageFault, Watchdog}
+use Rattle.ro_event.specs.Effects.{Effect}
+use Rattle.ro_region.specs.declared.Kind.TheVariants.{Write}
+use Rattle.ro_region.specs.Permission.{permits_each, permits_of}
+use Rattle.ro_journal.specs.declared.How.{How}
+use Rattle.ro_journal.specs.declared.How.TheVariants.{Trap as TrapHow}
+use Rattle.ro_kernel.specs.Kernel.{Setup, Kernel, lives_on}
+use Rattle.ro_kernel.specs.Serve.{Served, Done, Blocked, Ends, serve}
+use Rattle.ro_kernel.proofs.Kept.{IsOwn, Own, done, serve-own}
+use Rattle.ro_kernel.proofs.Stores.{stores-permitted}
+use Rattle.ro_legal.specs.Event.{Event, call_event, event_of}
+use Rattle.ro_legal.specs.Sound.{IsOver, traps}
+use Rattle.ro_legal.proofs.Served.{made_count, IsTidy, Tidy, tidy_done, tidy_end, serve-tidy}
+use Rattle.ro_legal.proofs.Sizes.{served-small}
+
+-- an event of a live thread
+pub record Happens (kernel : Kernel) (thread : ℕ) (event : Event) : Type 0 where
+  pub lives_are : length event.kernel.lives ≡ length kernel.lives + made_count event.effect.made
+  pub others_live : event.due ≡ None → (other : ℕ) → other ≢ thread → lives_on kernel other ≡ true → lives_on event.kernel other ≡ true
+  pub blocks_live : (call : Call) → event.blocked ≡ Some call → event.kernel ≡ kernel
+  pub thread_is : event.effect.thread ≡ thread
+  pub creator_is : (made : Made) → event.effect.made ≡ Some made → made.creator ≡ thread
+  pub few : length event.effect.bytes ≤ 4096
+  pub within : event.effect.place + length event.effect.bytes ≤ 2 ^ 32
+  pub place_left : IfSome event.effect.made (λ made. length kernel.lives < 16)
+  pub ends_well : (how : How) → event.due ≡ Some how → IsOver how
+
+add-none : (n : ℕ) → n ≡ n + 0
+add-none n = omega arith
+
+-- an event that changes nothing in the kernel
+quiet : (kernel : Kernel) (thread : ℕ) (event : Event) → event.kernel ≡ kernel → event.effect.made ≡ None → event.effect.thread ≡ thread → event.effect.bytes ≡ [] → event.effect.place ≡ 0
+    → ((how : How) → event.due ≡ Some how → IsOver how) → Happens kernel thread event
+quiet kernel thread event same none own nothing at well = record {
+  lives_are = ap (λ (k : Kernel). length k.lives) same ∙ add-none (length kernel.lives) ∙ ap (λ (m : Option Made). length kernel.lives + made_count m) (sym none);
+  others_live = λ e other differs h. ap (λ (k : Kernel). lives_on k other) same ∙ h;
+  blocks_live = λ call e. same;
+  thread_is = own;
+  creator_is = λ made e. absurd (let f : None ≡ Some made = sym none ∙ e in cc);
+  few = let e : length event.effect.bytes ≡ 0 = ap length nothing in omega arith;
+  within = let e : length event.effect.bytes ≡ 0 = ap length nothing in omega arith;
+  place_left = subst (λ (m : Option Made). IfSome m (λ made. length kernel.lives < 16)) (sym none) tt;
+  ends_well = well;
+}
+
+no-end : (how : How) → None ≡ Some how → IsOver how
+no-end how e = absurd cc
+
+-- bytes that may be written lie below the end of the addresses
+within-permits : (setup : Setup) (place count : ℕ) → permits_of setup.ranges Write place count ≡ true → place + count ≤ 2 ^ 32
+unfolding permits_of
+within-permits setup place count e =
+    let parts = and_parts (nat_le (place + count) (2 ^ 32)) (permits_each setup.ranges Write place count) e in leb-true _ _ parts.0
+
+module _ (setup : Setup) (kernel : Kernel) (thread : ℕ) (call : Call) (payload : List ℕ) where
+  tidy-of : (after : Kernel) (effect : Effect) → Tidy kernel thread (Done after effect) → IsTidy kernel thread after effect
+  tidy-of after effect (tidy_done h) = h
+
+  own-of : (after : Kernel) (effect : Effect) → Own kernel thread (Done after effect) → IsOwn kernel thread after effect
+  own-of after effect (done h) = h
+
+  end-lives : (after : Kernel) (how : How) → Tidy kernel thread (Ends after how) → length after.lives ≡ length kernel.lives
+  end-lives after how (tidy_end same over) = same
+
+  end-over : (after : Kernel) (how : How) → Tidy kernel thread (Ends after how) → IsOver how
+  end-over after how (tidy_end same over) = over
+
+  -- a call, by what comes of it
+  by-served : (served : Served) → serve setup kernel thread call ≡ served → Happens kernel thread (call_event kernel thread call payload served)
+  by-served (Done after effect) e =
+      let tidy = tidy-of after effect (subst (Tidy kernel thread) e (serve-tidy setup kernel thread call)) in
+      let own = own-of after effect (subst (Own kernel thread) e (serve-own setup kernel thread call)) in
+      let small = served-small setup kernel thread call after effect e in
+      record {
+        lives_are = tidy.one_life_each;
+        others_live = λ d other differs h. own.keeps_live other differs h;
+        blocks_live = λ c f. absurd (let g : None ≡ Some c = f in cc);
+        thread_is = own.thread_is;
+        creator_is = own.creator_is;
+        few = small.few;
+        within = within-permits setup effect.place (length effect.bytes) (stores-permitted setup kernel thread call after effect e);
+        place_left = small.place_left;
+        ends_well = no-end;
+      }
+  by-served Blocked e = quiet kernel thread _ refl refl refl refl refl no-end
+  by-served (Ends after how) e =
+      let tidy = subst (Tidy kernel thread) e (serve-tidy setup kernel thread call) in
+      record {
+        lives_are = end-lives after how tidy ∙ add-none (length kernel.lives);
+        others_live = λ f other differs h. absurd (let g : None ≡ Some how = sym f in cc);
+        blocks_live = λ c f. absurd (let g : None ≡ Some c = f in cc);
+        thread_is = refl;
+        creator_is = λ made f. absurd (let g : None ≡ Some made = f in cc);
+        few = omega arith;
+        within = omega arith;
+        place_left = tt;
+        ends_well = λ other f. subst IsOver (let g : Some how ≡ Some other = f in cc) (end-over after how tidy);
+      }
+
+  pub call-happens : Happens kernel thread (call_event kernel thread call payload (serve setup kernel thread call))
+  call-happens = by-served (serve setup kernel thread call) refl
+
+pub event-happens : (setup : Setup) (kernel : Kernel) (thread : ℕ) (stop : Stop) (payload : List ℕ) → Happens kernel thread (event_of setup kernel thread stop payload)
+unfolding event_of
+event-happens setup kernel thread (Calls call) payload = call-happens setup kernel thread call payload
+event-happens setup kernel thread (PageFault page) payload = quiet kernel thread _ refl refl refl refl refl no-end
+event-happens setup kernel thread Watchdog payload = quiet kernel thread _ refl refl refl refl refl no-end
+event-happens setup kernel thread (Trap code) payload = quiet kernel thread _ refl refl refl refl refl (λ how e. subst IsOver (let g : Some (TrapHow code) ≡ Some how = e in cc) (traps {code = code}))

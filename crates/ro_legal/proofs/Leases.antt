@@ -1,0 +1,207 @@
+-- The leases that are out: no two of them are of one replica, nor of one driver.
+use Rattle.std.proofs.Common.{◌≡◌, ℕ, ◌+◌, ◌≤◌, Bool, true, false, true≢false, not, cond, ◌&&◌, ◌||◌, List, [], ◌∷◌, length, Option, Some, None, refl, sym, ap, ◌∙◌, subst, arith, eqb-true, eq-eqb}
+use Rattle.std.specs.Prelude.{◌==◌, slice_get}
+use Rattle.std.specs.List.{filter, list_any}
+use Rattle.std.specs.Option.{option_map_or}
+use Rattle.std.proofs.lemmas.Bool.{and_parts}
+use Rattle.std.proofs.lemmas.List.Filters.{length-filter_both}
+use Rattle.ro_journal.specs.Losers.{numbers}
+use Rattle.ro_journal.specs.declared.Entry.{Entry}
+use Rattle.ro_journal.specs.declared.Entry.TheVariants.{Take, Put, Vote, Free, End}
+use Rattle.ro_replica.specs.Replica.{Replica}
+use Rattle.ro_replica.specs.Runs.{RanTo}
+use Rattle.ro_replica.specs.Views.{is_unstopped}
+use Rattle.ro_legal.specs.declared.actions.Lease.{Lease}
+use Rattle.ro_legal.specs.Core.{Job, Core, opening_core, is_home, is_lendable}
+use Rattle.ro_kernel.specs.Kernel.{lives_on}
+use Rattle.ro_legal.specs.Event.{Event, with_recovered}
+use Rattle.ro_legal.specs.Legal.{is_lease, core_after_put, core_after_event, lease_run, event_in, freed_event, after, MayTake, IsAllowed, Legal, replay}
+use Rattle.ro_legal.proofs.Journals.{legal-keeps}
+
+-- whether a lease with this number is in the list, by what its number is
+abbrev pub has_number : (key : Lease → ℕ) → ℕ → List Lease → Bool
+has_number key n leases = list_any (λ lease. key lease == n) leases
+
+abbrev pub has_replica : ℕ → List Lease → Bool
+has_replica replica leases = has_number (λ lease. lease.replica) replica leases
+
+abbrev pub has_driver : ℕ → List Lease → Bool
+has_driver driver leases = has_number (λ lease. lease.driver) driver leases
+
+-- no two leases have one number
+abbrev pub Differ : (key : Lease → ℕ) → List Lease → Type 0
+Differ key [] = Unit {0}
+Differ key (lease ∷ leases) = (has_number key (key lease) leases ≡ false) × Differ key leases
+
+-- each replica is lent once at the most
+abbrev pub Apart : List Lease → Type 0
+Apart leases = Differ (λ lease. lease.replica) leases
+
+-- each driver holds one lease at the most
+abbrev pub OneEach : List Lease → Type 0
+OneEach leases = Differ (λ lease. lease.driver) leases
+
+or_false_parts : (a b : Bool) → (a || b) ≡ false → (a ≡ false) × (b ≡ false)
+or_false_parts true b e = absurd (true≢false e)
+or_false_parts false b e = (refl, e)
+
+pub or_true : (a b : Bool) → b ≡ true → (a || b) ≡ true
+or_true true b f = refl
+or_true false b f = f
+
+pub not_false : (b : Bool) → not b ≡ true → b ≡ false
+not_false true e = absurd (true≢false (sym e))
+not_false false e = refl
+
+pub lease-parts : (driver replica thread : ℕ) (lease : Lease) → is_lease driver replica thread lease ≡ true → (lease.driver ≡ driver) × (lease.replica ≡ replica) × (lease.thread ≡ thread)
+lease-parts driver replica thread lease e =
+    let p = and_parts (lease.driver == driver && (lease.replica == replica)) (lease.thread == thread) e in
+    let q = and_parts (lease.driver == driver) (lease.replica == replica) p.0 in
+    (eqb-true lease.driver driver q.0, eqb-true lease.replica replica q.1, eqb-true lease.thread thread p.1)
+
+-- ---- leases by a number of theirs
+
+module _ (key : Lease → ℕ) where
+  -- fewer leases have fewer numbers
+  pub has-filter : (p : Lease → Bool) (n : ℕ) (leases : List Lease) → has_number key n leases ≡ false → has_number key n (filter p leases) ≡ false
+  has-filter p n [] e = refl
+  has-filter p n (lease ∷ leases) e =
+      let parts = or_false_parts (key lease == n) (has_number key n leases) e in
+      by (p lease) parts.0 (has-filter p n leases parts.1)
+    where
+      by : (b : Bool) → (key lease == n) ≡ false → has_number key n (filter p leases) ≡ false → has_number key n (cond b (lease ∷ filter p leases) (filter p leases)) ≡ false
+      by true one rest = ap (λ (b : Bool). b || has_number key n (filter p leases)) one ∙ rest
+      by false one rest = rest
+
+  pub differ-filter : (p : Lease → Bool) (leases : List Lease) → Differ key leases → Differ key (filter p leases)
+  differ-filter p [] h = tt
+  differ-filter p (lease ∷ leases) h = by (p lease) (has-filter p (key lease) leases h.0) (differ-filter p leases h.1)
+    where
+      by : (b : Bool) → has_number key (key lease) (filter p leases) ≡ false → Differ key (filter p leases) → Differ key (cond b (lease ∷ filter p leases) (filter p leases))
+      by true one rest = (one, rest)
+      by false one rest = rest
+
+  -- of one lease, which has this number
+  module _ (driver replica thread n : ℕ) (its : (lease : Lease) → is_lease driver replica thread lease ≡ true → key lease ≡ n) where
+    -- where it is out its number is there
+    pub out_number : (leases : List Lease) → list_any (is_lease driver replica thread) leases ≡ true → has_number key n leases ≡ true
+    out_number [] e = absurd (true≢false (sym e))
+    out_number (lease ∷ leases) e = by (is_lease driver replica thread lease) refl (λ later. out_number leases later)
+      where
+        by : (b : Bool) → is_lease driver replica thread lease ≡ b → (list_any (is_lease driver replica thread) leases ≡ true → has_number key n leases ≡ true) → ((key lease == n) || has_number key n leases) ≡ true
+        by true is rest = ap (λ (b : Bool). b || has_number key n leases) (eq-eqb (key lease) n (its lease is))
+        by false is rest = or_true (key lease == n) (has_number key n leases) (rest (sym (ap (λ (b : Bool). b || list_any (is_lease driver replica thread) leases) is) ∙ e))
+
+    gone_by : (lease : Lease) (leases : List Lease) → Differ key (lease ∷ leases) → list_any (is_lease driver replica thread) (lease ∷ leases) ≡ true
+        → (list_any (is_lease driver replica thread) leases ≡ true → has_number key n (filter (λ l. not (is_lease driver replica thread l)) leases) ≡ false)
+        → (b : Bool) → is_lease driver replica thread lease ≡ b → has_number key n (cond (not b) (lease ∷ filter (λ l. not (is_lease driver replica thread l)) leases) (filter (λ l. not (is_lease driver replica thread l)) leases)) ≡ false
+    gone_by lease leases h e rest true is = has-filter (λ l. not (is_lease driver replica thread l)) n leases (ap (λ (m : ℕ). has_number key m leases) (sym (its lease is)) ∙ h.0)
+    gone_by lease leases h e rest false is =
+        let later : list_any (is_lease driver replica thread) leases ≡ true = sym (ap (λ (b : Bool). b || list_any (is_lease driver replica thread) leases) is) ∙ e in
+        ap (λ (b : Bool). b || has_number key n (filter (λ l. not (is_lease driver replica thread l)) leases)) (differs (key lease == n) refl (out_number leases later)) ∙ rest later
+      where
+        differs : (b : Bool) → (key lease == n) ≡ b → has_number key n leases ≡ true → b ≡ false
+        differs false f there = refl
+        differs true f there = absurd (true≢false (sym there ∙ ap (λ (m : ℕ). has_number key m leases) (sym (eqb-true (key lease) n f)) ∙ h.0))
+
+    -- and once it came back its number is gone
+    pub gone_number : (leases : List Lease) → Differ key leases → list_any (is_lease driver replica thread) leases ≡ true → has_number key n (filter (λ l. not (is_lease driver replica thread l)) leases) ≡ false
+    gone_number [] h e = refl
+    gone_number (lease ∷ leases) h e = gone_by lease leases h e (λ later. gone_number leases h.1 later) (is_lease driver replica thread lease) refl
+
+-- ---- along a journal
+
+-- the leases after an event are those before it
+pub event_leases : (core : Core) (thread count : ℕ) (replicas : List Replica) (event : Option Event) → (core_after_event core thread count replicas event).leases ≡ core.leases
+event_leases core thread count replicas None = refl
+event_leases core thread count replicas (Some event) = refl
+
+-- what fewer leases keep, and a take keeps, each entry keeps
+pub leases_keep : (job : Job) (Q : List Lease → Type 0) → ((p : Lease → Bool) (leases : List Lease) → Q leases → Q (filter p leases))
+    → ((core : Core) (driver replica thread : ℕ) → MayTake job core driver replica thread → Q core.leases → Q (record { driver = driver; replica = replica; thread = thread } ∷ core.leases))
+    → (core : Core) (entry : Entry) → IsAllowed job core entry → Q core.leases → Q (after job core entry).leases
+unfolding after
+leases_keep job Q fewer takes core (Take driver replica thread) m h = takes core driver replica thread m h
+leases_keep job Q fewer takes core (Put driver replica thread count hit) m h = by (lease_run job core replica thread count)
+  where
+    by : (ran : Option RanTo) → Q (core_after_put job core driver replica thread count ran).leases
+    by None = h
+    by (Some ran) = fewer (λ lease. not (is_lease driver replica thread lease)) core.leases h
+leases_keep job Q fewer takes core (Vote thread count won lost did) m h = subst Q (sym (event_leases core thread count (with_recovered won (numbers lost) core.replicas) (event_in job core thread won))) h
+leases_keep job Q fewer takes core (Free thread) m h = subst Q (sym (event_leases core thread 0 core.replicas (freed_event job core thread))) h
+leases_keep job Q fewer takes core (End how) m h = h
+
+-- each entry keeps them apart
+pub apart_after : (job : Job) (core : Core) (entry : Entry) → IsAllowed job core entry → Apart core.leases → Apart (after job core entry).leases
+apart_after job core entry m h = leases_keep job (λ leases. Apart leases) (differ-filter (λ lease. lease.replica)) takes core entry m h
+  where
+    takes : (core : Core) (driver replica thread : ℕ) → MayTake job core driver replica thread → Apart core.leases → Apart (record { driver = driver; replica = replica; thread = thread } ∷ core.leases)
+    takes core driver replica thread m h =
+        let p = and_parts (is_home core replica && lives_on core.kernel thread) _ m.lendable in
+        let q = and_parts (is_home core replica) (lives_on core.kernel thread) p.0 in
+        (not_false (has_replica replica core.leases) q.0, h)
+
+-- in a legal journal no two leases are of one replica
+pub leases_apart : (job : Job) (journal : List Entry) → Legal job journal → Apart (replay job journal).leases
+unfolding opening_core
+leases_apart job journal legal = legal-keeps job (λ core. Apart core.leases) (apart_after job) (opening_core job) journal legal tt
+
+-- nor of one driver
+pub one_each : (job : Job) (journal : List Entry) → Legal job journal → OneEach (replay job journal).leases
+unfolding opening_core
+one_each job journal legal = legal-keeps job (λ core. OneEach core.leases) (leases_keep job (λ leases. OneEach leases) (differ-filter (λ lease. lease.driver)) takes) (opening_core job) journal legal tt
+  where
+    takes : (core : Core) (driver replica thread : ℕ) → MayTake job core driver replica thread → OneEach core.leases → OneEach (record { driver = driver; replica = replica; thread = thread } ∷ core.leases)
+    takes core driver replica thread m h = (not_false (has_driver driver core.leases) m.driver_is_idle, h)
+
+-- a lease that is out is of its replica
+pub out_has : (driver replica thread : ℕ) (leases : List Lease) → list_any (is_lease driver replica thread) leases ≡ true → has_replica replica leases ≡ true
+out_has driver replica thread = out_number (λ lease. lease.replica) driver replica thread replica (λ lease is. (lease-parts driver replica thread lease is).1)
+
+-- a lease that came back leaves its replica at home
+pub gone : (driver replica thread : ℕ) (leases : List Lease) → Apart leases → list_any (is_lease driver replica thread) leases ≡ true
+    → has_replica replica (filter (λ l. not (is_lease driver replica thread l)) leases) ≡ false
+gone driver replica thread = gone_number (λ lease. lease.replica) driver replica thread replica (λ lease is. (lease-parts driver replica thread lease is).1)
+
+-- and every other replica as it was
+pub others_stay : (driver replica thread other : ℕ) (leases : List Lease) → (other ≡ replica → ⊥)
+    → has_replica other (filter (λ l. not (is_lease driver replica thread l)) leases) ≡ has_replica other leases
+others_stay driver replica thread other [] ne = refl
+others_stay driver replica thread other (lease ∷ leases) ne = by (is_lease driver replica thread lease) refl (others_stay driver replica thread other leases ne)
+  where
+    kept : List Lease
+    kept = filter (λ l. not (is_lease driver replica thread l)) leases
+
+    not_other : (b : Bool) → (lease.replica == other) ≡ b → lease.replica ≡ replica → b ≡ false
+    not_other false f same = refl
+    not_other true f same = absurd (ne (sym (eqb-true lease.replica other f) ∙ same))
+
+    by : (b : Bool) → is_lease driver replica thread lease ≡ b → has_replica other kept ≡ has_replica other leases → has_replica other (cond (not b) (lease ∷ kept) kept) ≡ ((lease.replica == other) || has_replica other leases)
+    by true is rest =
+        let other_is : (lease.replica == other) ≡ false = not_other (lease.replica == other) refl (lease-parts driver replica thread lease is).1 in
+        rest ∙ sym (ap (λ (b : Bool). b || has_replica other leases) other_is)
+    by false is rest = ap (λ (b : Bool). (lease.replica == other) || b) rest
+
+-- what may be lent is at home
+pub record AtHome (core : Core) (replica : ℕ) : Type 0 where
+  pub home : is_home core replica ≡ true
+  pub value : Replica
+  pub there : slice_get core.replicas replica ≡ Some value
+
+pub lendable_there : (core : Core) (replica thread : ℕ) → is_lendable core replica thread ≡ true → AtHome core replica
+lendable_there core replica thread e =
+    let p = and_parts (is_home core replica && lives_on core.kernel thread) (option_map_or (is_unstopped thread) (slice_get core.replicas replica) false) e in
+    let q = and_parts (is_home core replica) (lives_on core.kernel thread) p.0 in
+    some q.0 (slice_get core.replicas replica) refl p.1
+  where
+    some : is_home core replica ≡ true → (o : Option Replica) → slice_get core.replicas replica ≡ o → option_map_or (is_unstopped thread) o false ≡ true → AtHome core replica
+    some home None f g = absurd (true≢false (sym g))
+    some home (Some r) f g = record { home = home; value = r; there = f }
+
+pub fewer : {X : Type 0} (p : X → Bool) (xs : List X) → list_any p xs ≡ true → length (filter (λ x. not (p x)) xs) + 1 ≤ length xs
+fewer p [] e = absurd (true≢false (sym e))
+fewer p (x ∷ xs) e = by (p x) refl (λ later. fewer p xs later)
+  where
+    by : (b : Bool) → p x ≡ b → (list_any p xs ≡ true → length (filter (λ x. not (p x)) xs) + 1 ≤ length xs) → length (cond (not b) (x ∷ filter (λ x. not (p x)) xs) (filter (λ x. not (p x)) xs)) + 1 ≤ length (x ∷ xs)
+    by true is rest = omega (arith, length-filter_both p (λ x. not (p x)) (λ x. refl) xs)
+    by false is rest = let h : length (filter (λ x. not (p x)) xs) + 1 ≤ length xs = rest (sym (ap (λ (b : Bool). b || list_any p xs) is) ∙ e) in omega arith

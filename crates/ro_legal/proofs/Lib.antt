@@ -1,0 +1,54 @@
+-- ---- lists and journals
+-- lists of which one element changes
+pub mod Lists
+-- journals that grow at their end
+pub mod Journals
+-- ---- one entry: events, copies, runs
+-- what a served call keeps of the kernel
+pub mod Served
+-- how much a served call stores
+pub mod Sizes
+-- an event of a live thread
+pub mod Happens
+-- what an effect does to a replica
+pub mod Effects
+-- where a thread stands, behind a copy or an effect
+pub mod Stops
+-- the loser as a copy of the winner
+pub mod Copies
+-- the winner and its view
+pub mod Winners
+-- a run of one thread keeps what holds of every replica
+pub mod Sound
+-- ---- what every legal journal keeps, and what comes next
+-- what each entry keeps of the core
+pub mod Ordered
+-- no two leases that are out are of one replica, nor of one driver
+pub mod Leases
+-- no thread has retired more than a quantum for each entry
+pub mod Counted
+-- how a legal journal ends
+pub mod Outcomes
+-- how a legal journal ends
+pub mod Lasts
+-- what the next action says of the core
+pub mod Nexts
+-- a vote comes to one entry, or to one end in its place
+pub mod Single
+-- ---- the laws
+-- one order of grants: a thread stands at its call until it is answered
+pub mod Grants
+-- a thread whose call is answered goes on in every replica
+pub mod Released
+-- which faults wait: those whose moments have not come
+pub mod Moments
+-- what a run strikes and retires
+pub mod Retired
+-- the page of a page fault is not backed
+pub mod FaultPages
+-- and so of every stop in a legal journal's replicas
+pub mod FaultStops
+-- a lease lasts until its own driver puts it back
+pub mod Lasting
+-- with one driver each lease comes back in the next entry
+pub mod OneDriver

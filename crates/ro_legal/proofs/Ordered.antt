@@ -1,0 +1,352 @@
+-- What each entry of a legal journal keeps of the core.
+use Rattle.std.specs.Prelude.{◌≡◌, ◌≢◌, ℕ, zero, suc, ◌+◌, ◌≤◌, ◌<◌, ◌⊎◌, Bool, true, false, cond, not, ◌&&◌, ◌==◌, IfSome, List, [], ◌∷◌, length, Option, Some, None, slice_get}
+use Rattle.std.specs.List.{filter}
+use Rattle.std.specs.Option.{option_map, option_map_or}
+use Rattle.std.proofs.Common.{refl, sym, ap, ◌∙◌, subst, arith, inl, inr, length-append}
+use Rattle.std.proofs.lemmas.Bool.{true≢false, false≢true, eqb-true, eq-eqb, and_parts}
+use Rattle.std.proofs.lemmas.List.{length-set, nil_from_length}
+use Rattle.std.proofs.lemmas.Option.{option_and_then_some}
+use Rattle.ro_event.specs.declared.calls.Call.{Call}
+use Rattle.ro_event.specs.declared.effects.Made.{Made}
+use Rattle.ro_event.specs.declared.stops.Stop.{Stop}
+use Rattle.ro_image.specs.Image.{holds_file_byte}
+use Rattle.ro_journal.specs.Losers.{numbers}
+use Rattle.ro_journal.specs.declared.losers.Lost.{Lost}
+use Rattle.ro_journal.specs.declared.Did.{Did}
+use Rattle.ro_journal.specs.declared.Did.TheVariants.{Served as WasServed}
+use Rattle.ro_journal.specs.declared.How.{How}
+use Rattle.ro_journal.specs.declared.How.TheVariants.{Deadlock, Sink}
+use Rattle.ro_journal.specs.declared.Entry.{Entry}
+use Rattle.ro_journal.specs.declared.Entry.TheVariants.{Take, Put, Vote, Free, End}
+use Rattle.ro_journal.specs.Plan.{event_steps}
+use Rattle.ro_kernel.specs.Kernel.{Kernel, lives_on}
+use Rattle.ro_kernel.specs.Serve.{Served, Done, Blocked, Ends, is_blocked, blocks, serve}
+use Rattle.ro_exec.specs.Next.{Backed}
+use Rattle.ro_thread.specs.declared.Thread.{Thread}
+use Rattle.ro_replica.specs.Replica.{Replica, opening_replica, applied, cancelled, stop_of}
+use Rattle.ro_replica.specs.Runs.{RanTo, run_of, with_stop}
+use Rattle.ro_plain.specs.Machine.{layout_of, setup_of}
+use Rattle.ro_plain.proofs.Ahead.{is-none-from}
+use Rattle.ro_plain.proofs.Calls.{some-injective}
+use Rattle.ro_legal.specs.declared.actions.Lease.{Lease}
+use Rattle.ro_legal.specs.Core.{Job, Core, opening_replicas, opening_core, is_going, nothing_lent, may_vote, may_free}
+use Rattle.ro_legal.specs.Event.{Event, call_event, with_copy, with_recovered, core_after}
+use Rattle.ro_legal.specs.Legal.{lease_run, arrived, arrival, core_after_put, event_with, event_in, freed_event, core_after_event, after, IsAllowed, MayTake, MayPut, MayVote, MayFree, MayEnd, due, alone, for_vote, for_free, Legal, replay}
+use Rattle.ro_legal.specs.Sound.{IsSound, IsOrdered}
+use Rattle.ro_legal.proofs.Lists.{get-set-cases, listed-filter, MappedFrom, get-map, length-mapped, get-append-cases}
+use Rattle.ro_legal.proofs.Sound.{sound-changed, run-well}
+use Rattle.ro_legal.proofs.Copies.{AfterCopy, not_lost, is_copy, after-copy, length-with-copy, still-there, sound-recovered}
+use Rattle.ro_legal.proofs.Effects.{backed_after, sound-applied}
+use Rattle.ro_legal.proofs.Journals.{legal-keeps}
+use Rattle.ro_legal.proofs.Served.{made_count}
+use Rattle.ro_legal.proofs.Happens.{Happens, event-happens, call-happens}
+
+-- what holds of a replica depends on the kernel's lives alone
+pub sound-with : (job : Job) (core other : Core) (backed : Backed) (number : ℕ) (r : Replica) → core.kernel ≡ other.kernel → IsSound job core backed number r → IsSound job other backed number r
+sound-with job core other backed number r e h = record {
+  same_backed = h.same_backed;
+  all_made = h.all_made ∙ ap (λ (k : Kernel). length k.lives) e;
+  within_watch = h.within_watch;
+  own_faults = h.own_faults;
+}
+
+-- ---- a take
+
+ordered-take : (job : Job) (core : Core) (driver replica thread : ℕ) → MayTake job core driver replica thread → IsOrdered job core → IsOrdered job (after job core (Take driver replica thread))
+unfolding after
+ordered-take job core driver replica thread may h = record {
+  replica_count = h.replica_count;
+  backed = h.backed;
+  sound = λ number r e. sound-with job core (after job core (Take driver replica thread)) h.backed number r refl (h.sound number r e);
+  some_life = h.some_life;
+  few_lives = h.few_lives;
+  within_limit = h.within_limit;
+  blocked_live = h.blocked_live;
+  due_alone = λ how e. absurd (let none : core.due ≡ None = is-none-from core.due (and_parts _ _ may.going).0 in let f : None ≡ Some how = sym none ∙ e in cc);
+  due_over = h.due_over;
+  wrote_alone = λ (some : 0 < 0). absurd (omega arith);
+}
+
+-- ---- a put
+
+-- the lent replica of a run
+pub record PutParts (job : Job) (core : Core) (replica thread count : ℕ) (ran : RanTo) : Type 0 where
+  pub lent : Replica
+  pub there : slice_get core.replicas replica ≡ Some lent
+  pub runs : run_of (layout_of job.program) job.settings.watchdog count lent thread ≡ Some ran
+
+pub put-parts : (job : Job) (core : Core) (replica thread count : ℕ) (ran : RanTo) → lease_run job core replica thread count ≡ Some ran → PutParts job core replica thread count ran
+put-parts job core replica thread count ran e =
+    option_and_then_some (λ r. run_of (layout_of job.program) job.settings.watchdog count r thread) (slice_get core.replicas replica) ran e (λ lent there runs. record { lent = lent; there = there; runs = runs })
+
+-- no lease is left where none was
+none-left : (p : Lease → Bool) (leases : List Lease) → leases ≡ [] → filter p leases ≡ []
+none-left p leases e = ap (filter p) e
+
+ordered-ran : (job : Job) (core : Core) (driver replica thread count hit : ℕ) (may : MayPut job core driver replica thread count hit) → IsOrdered job core → IsOrdered job (core_after_put job core driver replica thread count (Some may.ran))
+ordered-ran job core driver replica thread count hit may h = record {
+  replica_count = length-set core.replicas replica _ ∙ h.replica_count;
+  backed = h.backed;
+  sound = λ number r e. by number r (get-set-cases core.replicas replica number (arrived job thread count may.ran.replica) r e);
+  some_life = h.some_life;
+  few_lives = h.few_lives;
+  within_limit = h.within_limit;
+  blocked_live = h.blocked_live;
+  due_alone = λ how e. none-left _ core.leases (h.due_alone how e);
+  due_over = h.due_over;
+  wrote_alone = λ (some : 0 < 0). absurd (omega arith);
+}
+  where
+    parts : PutParts job core replica thread count may.ran
+    parts = put-parts job core replica thread count may.ran may.runs
+
+    new : Core
+    new = core_after_put job core driver replica thread count (Some may.ran)
+
+    came : IsSound job core h.backed replica (arrived job thread count may.ran.replica)
+    came = sound-changed job core h.backed replica may.ran.replica (with_stop (arrival job thread count may.ran.replica)) thread (λ x k. k)
+        (run-well job core h.backed replica (layout_of job.program) count thread parts.lent may.ran parts.runs (h.sound replica parts.lent parts.there)).sound
+
+    by : (number : ℕ) (r : Replica) → ((number ≢ replica) × (slice_get core.replicas number ≡ Some r)) ⊎ ((number ≡ replica) × (arrived job thread count may.ran.replica ≡ r)) → IsSound job new h.backed number r
+    by number r (inl e) = sound-with job core new h.backed number r refl (h.sound number r e.1)
+    by number r (inr e) = subst (λ (n : ℕ). IsSound job new h.backed n r) (sym e.0) (subst (IsSound job new h.backed replica) e.1 (sound-with job core new h.backed replica (arrived job thread count may.ran.replica) refl came))
+
+ordered-put : (job : Job) (core : Core) (driver replica thread count hit : ℕ) → MayPut job core driver replica thread count hit → IsOrdered job core → IsOrdered job (after job core (Put driver replica thread count hit))
+unfolding after
+ordered-put job core driver replica thread count hit may h =
+    subst (λ (o : Option RanTo). IsOrdered job (core_after_put job core driver replica thread count o)) (sym may.runs) (ordered-ran job core driver replica thread count hit may h)
+
+-- ---- an event
+
+-- the replicas of the event, each with what holds of all
+abbrev pub AreSound : Job → Core → Backed → List Replica → Type 0
+AreSound job core backed replicas = (number : ℕ) (replica : Replica) → slice_get replicas number ≡ Some replica → IsSound job core backed number replica
+
+module _ (job : Job) (core : Core) (h : IsOrdered job core) (thread count : ℕ) (live : lives_on core.kernel thread ≡ true) (alone : core.leases ≡ []) (going : core.due ≡ None) (still : core.ended ≡ None) (event : Event) (happens : Happens core.kernel thread event)
+    (replicas : List Replica) (as_many : length replicas ≡ length core.replicas) (sound : AreSound job core h.backed replicas) (fits : core.steps + count + event_steps event.did ≤ job.settings.limit) where
+  new : Core
+  new = core_after core thread count replicas event
+
+  sound-after : (number : ℕ) (r : Replica) → MappedFrom (λ x. cancelled (applied event.effect x)) replicas number r → IsSound job new (backed_after event.effect h.backed) number r
+  unfolding new
+  sound-after number r m = subst (IsSound job new (backed_after event.effect h.backed) number) m.gives
+      (sound-applied job core new h.backed number m.from event.effect happens.lives_are h.some_life (sound number m.from m.there))
+
+  blocked-after : (u : ℕ) (call : Call) → event.due ≡ None → (b : Bool) → (u == thread) ≡ b → cond b event.blocked (core.blocked u) ≡ Some call → lives_on event.kernel u ≡ true
+  blocked-after u call on true e f =
+      ap (λ (n : ℕ). lives_on event.kernel n) (eqb-true u thread e) ∙ ap (λ (k : Kernel). lives_on k thread) (happens.blocks_live call f) ∙ live
+  blocked-after u call on false e f = happens.others_live on u (λ (same : u ≡ thread). true≢false (sym (eq-eqb u thread same) ∙ e)) (h.blocked_live going still u call f)
+
+  few-after : (made : Option Made) → length event.kernel.lives ≡ length core.kernel.lives + made_count made → IfSome made (λ m. length core.kernel.lives < 16) → length event.kernel.lives ≤ 16
+  few-after None e left = let few = h.few_lives in omega arith
+  few-after (Some made) e left = omega arith
+
+  pub ordered-event : IsOrdered job (core_after core thread count replicas event)
+  unfolding new
+  ordered-event = record {
+    replica_count = length-mapped _ replicas ∙ (as_many ∙ h.replica_count);
+    backed = backed_after event.effect h.backed;
+    sound = λ number r e. sound-after number r (get-map _ replicas number r e);
+    some_life = let more : length event.kernel.lives ≡ length core.kernel.lives + made_count event.effect.made = happens.lives_are in let some = h.some_life in omega arith;
+    few_lives = few-after event.effect.made happens.lives_are happens.place_left;
+    within_limit = fits;
+    blocked_live = λ on ended u call e. blocked-after u call on (u == thread) refl e;
+    due_alone = λ how e. alone;
+    due_over = happens.ends_well;
+    wrote_alone = λ some. alone;
+  }
+
+-- ---- a vote and a free
+
+-- nothing is due, and nothing lent, where a vote may be held
+pub record VoteParts (core : Core) (thread : ℕ) : Type 0 where
+  pub going : is_going core ≡ true
+  pub alone : core.leases ≡ []
+  pub live : lives_on core.kernel thread ≡ true
+  pub unblocked : core.blocked thread ≡ None
+  pub not_due : core.due ≡ None
+  pub not_ended : core.ended ≡ None
+
+pub going-parts : (core : Core) → is_going core ≡ true → (core.due ≡ None) × (core.ended ≡ None)
+going-parts core h = let p = and_parts _ _ h in (is-none-from core.due p.0, is-none-from core.ended p.1)
+
+pub none-lent-is : (core : Core) → nothing_lent core ≡ true → core.leases ≡ []
+none-lent-is core h = nil_from_length core.leases (eqb-true (length core.leases) 0 h)
+
+pub vote-parts : (core : Core) (thread : ℕ) → may_vote core thread ≡ true → VoteParts core thread
+vote-parts core thread may =
+    let p = and_parts _ _ may in
+    let q = and_parts _ _ p.0 in
+    let r = and_parts _ _ q.0 in
+    let s = and_parts _ _ r.0 in
+    let g = going-parts core s.0 in
+    record { going = s.0; alone = none-lent-is core s.1; live = r.1; unblocked = is-none-from (core.blocked thread) q.1; not_due = g.0; not_ended = g.1 }
+
+-- the same where a blocked thread may be freed
+pub record FreeParts (job : Job) (core : Core) (thread : ℕ) : Type 0 where
+  pub going : is_going core ≡ true
+  pub alone : core.leases ≡ []
+  pub not_due : core.due ≡ None
+  pub not_ended : core.ended ≡ None
+  pub call : Call
+  pub blocked_on : core.blocked thread ≡ Some call
+  pub goes_on : blocks (setup_of job.program) core.kernel thread call ≡ false
+
+pub free-parts : (job : Job) (core : Core) (thread : ℕ) → may_free job core thread ≡ true → FreeParts job core thread
+free-parts job core thread may = by (core.blocked thread) refl p.1
+  where
+    p : ((is_going core && nothing_lent core) ≡ true) × (option_map_or (λ call. not (blocks (setup_of job.program) core.kernel thread call)) (core.blocked thread) false ≡ true)
+    p = and_parts _ _ may
+
+    not-true : (b : Bool) → not b ≡ true → b ≡ false
+    not-true true e = absurd (false≢true e)
+    not-true false e = refl
+
+    by : (o : Option Call) → core.blocked thread ≡ o → option_map_or (λ call. not (blocks (setup_of job.program) core.kernel thread call)) o false ≡ true → FreeParts job core thread
+    by None e f = absurd (false≢true f)
+    by (Some call) e f = let q = and_parts _ _ p.0 in let g = going-parts core q.0 in
+        record { going = q.0; alone = none-lent-is core q.1; not_due = g.0; not_ended = g.1; call = call; blocked_on = e; goes_on = not-true _ f }
+
+-- the event of a vote, and what it was
+pub record EventParts (job : Job) (core : Core) (thread won : ℕ) (event : Event) : Type 0 where
+  pub winner : Replica
+  pub there : slice_get core.replicas won ≡ Some winner
+  pub stop : Stop
+  pub stands : stop_of winner thread ≡ Some stop
+  pub is : event_with job core thread winner stop ≡ event
+
+pub event-parts : (job : Job) (core : Core) (thread won : ℕ) (event : Event) → event_in job core thread won ≡ Some event → EventParts job core thread won event
+event-parts job core thread won event e =
+    option_and_then_some (λ winner. option_map (event_with job core thread winner) (stop_of winner thread)) (slice_get core.replicas won) event e (λ winner there f. by winner there (stop_of winner thread) refl f)
+  where
+    by : (winner : Replica) → slice_get core.replicas won ≡ Some winner → (o : Option Stop) → stop_of winner thread ≡ o → option_map (event_with job core thread winner) o ≡ Some event → EventParts job core thread won event
+    by winner there None f g = absurd (let k : None ≡ Some event = g in cc)
+    by winner there (Some stop) f g = record { winner = winner; there = there; stop = stop; stands = f; is = some-injective g }
+
+-- after a copy the same holds of each replica
+pub copied-sound : (job : Job) (core : Core) (backed : Backed) (replicas : List Replica) (won : ℕ) (winner : Replica) (lost : List ℕ) → slice_get replicas won ≡ Some winner → AreSound job core backed replicas → AreSound job core backed (with_recovered won lost replicas)
+copied-sound job core backed replicas won winner [] there sound = sound
+copied-sound job core backed replicas won winner (lost ∷ losers) there sound =
+    let w = still-there won lost replicas winner there in
+    copied-sound job core backed (with_copy won lost replicas) won w.0 losers w.1 (λ number r e. by number r (after-copy won lost replicas winner number r there e))
+  where
+    by : (number : ℕ) (r : Replica) → AfterCopy won lost replicas number r → IsSound job core backed number r
+    by number r (not_lost d e) = sound number r e
+    by number r (is_copy w l same a b e) =
+        subst (λ (n : ℕ). IsSound job core backed n r) (sym same) (subst (IsSound job core backed lost) e (sound-recovered job core backed won lost w l (sound won w a) (sound lost l b)))
+
+ordered-vote : (job : Job) (core : Core) (thread count won : ℕ) (lost : Lost) (did : Did) → MayVote job core thread count won lost did → IsOrdered job core → IsOrdered job (after job core (Vote thread count won lost did))
+unfolding after
+ordered-vote job core thread count won lost did may h =
+    let p = vote-parts core thread may.may in
+    let e = event-parts job core thread won may.event may.comes in
+    subst (λ (o : Option Event). IsOrdered job (core_after_event core thread count (with_recovered won (numbers lost) core.replicas) o)) (sym may.comes)
+    (ordered-event job core h thread count p.live p.alone p.not_due p.not_ended may.event (subst (Happens core.kernel thread) e.is (event-happens (setup_of job.program) core.kernel thread e.stop _))
+    (with_recovered won (numbers lost) core.replicas) (length-with-copy won (numbers lost) core.replicas) (copied-sound job core h.backed core.replicas won e.winner (numbers lost) e.there h.sound)
+    (let f : core.steps + count + event_steps did ≤ job.settings.limit = may.fits in subst (λ (d : Did). core.steps + count + event_steps d ≤ job.settings.limit) (sym may.did_is) f))
+
+-- what a freed thread's event does in the plan
+pub freed-is : (job : Job) (core : Core) (thread : ℕ) (call : Call) → core.blocked thread ≡ Some call → freed_event job core thread ≡ Some (call_event core.kernel thread call [] (serve (setup_of job.program) core.kernel thread call))
+freed-is job core thread call e = ap (option_map (λ c. call_event core.kernel thread c [] (serve (setup_of job.program) core.kernel thread c))) e
+
+-- a call that does not block is served
+pub freed-steps : (job : Job) (kernel : Kernel) (thread : ℕ) (call : Call) → blocks (setup_of job.program) kernel thread call ≡ false → (call_event kernel thread call [] (serve (setup_of job.program) kernel thread call)).did ≡ WasServed
+freed-steps job kernel thread call e = by (serve (setup_of job.program) kernel thread call) e
+  where
+    by : (served : Served) → is_blocked served ≡ false → (call_event kernel thread call [] served).did ≡ WasServed
+    by (Done after effect) f = refl
+    by Blocked f = absurd (true≢false f)
+    by (Ends after how) f = refl
+
+ordered-free : (job : Job) (core : Core) (thread : ℕ) → MayFree job core thread → IsOrdered job core → IsOrdered job (after job core (Free thread))
+unfolding after
+ordered-free job core thread may h =
+    let p = free-parts job core thread may.may in
+    let event : Event = call_event core.kernel thread p.call [] (serve (setup_of job.program) core.kernel thread p.call) in
+    let fits : core.steps + 0 + event_steps event.did ≤ job.settings.limit =
+    (let one : event_steps event.did ≡ 1 = ap event_steps (freed-steps job core.kernel thread p.call p.goes_on) in let f : core.steps + 1 ≤ job.settings.limit = may.fits in omega arith)
+    in
+    subst (λ (o : Option Event). IsOrdered job (core_after_event core thread 0 core.replicas o)) (sym (freed-is job core thread p.call p.blocked_on))
+    (ordered-event job core h thread 0 (h.blocked_live p.not_due p.not_ended thread p.call p.blocked_on) p.alone p.not_due p.not_ended event (call-happens (setup_of job.program) core.kernel thread p.call []) core.replicas refl h.sound fits)
+
+-- ---- an end, and the opening
+
+-- nothing is lent where an end comes
+pub end-alone : (job : Job) (core : Core) (how : How) → MayEnd job core how → IsOrdered job core → core.leases ≡ []
+end-alone job core how (due e) h = h.due_alone how e
+end-alone job core Deadlock (alone e) h = none-lent-is core (and_parts _ _ (and_parts _ _ e).0).1
+end-alone job core (Sink bytes) (alone e) h = h.wrote_alone (let less : bytes < core.wrote = e.1 in omega arith)
+end-alone job core how (alone e) h = absurd e
+end-alone job core how (for_vote thread may e) h = (vote-parts core thread may).alone
+end-alone job core how (for_free thread may e) h = (free-parts job core thread may).alone
+
+ordered-end : (job : Job) (core : Core) (how : How) → MayEnd job core how → IsOrdered job core → IsOrdered job (after job core (End how))
+unfolding after
+ordered-end job core how may h = record {
+  replica_count = h.replica_count;
+  backed = h.backed;
+  sound = λ number r e. sound-with job core (after job core (End how)) h.backed number r refl (h.sound number r e);
+  some_life = h.some_life;
+  few_lives = h.few_lives;
+  within_limit = h.within_limit;
+  blocked_live = λ e (f : Some how ≡ None) thread call g. absurd cc;
+  due_alone = λ other e. absurd (let f : None ≡ Some other = e in cc);
+  due_over = λ other e. absurd (let f : None ≡ Some other = e in cc);
+  wrote_alone = λ (some : 0 < 0). absurd (omega arith);
+}
+
+pub length-opening : (job : Job) (n : ℕ) → length (opening_replicas job n) ≡ n
+length-opening job zero = refl
+length-opening job (suc n) =
+    length-append (opening_replicas job n) _ ∙ (let e = length-opening job n in omega arith)
+
+-- each replica of the opening is its own
+pub get-opening : (job : Job) (n number : ℕ) (r : Replica) → slice_get (opening_replicas job n) number ≡ Some r → opening_replica job.program.image job.faults number ≡ r
+get-opening job zero number r e = absurd (let f : None ≡ Some r = e in cc)
+get-opening job (suc n) number r e = opened-cases job n number r (get-opening job n number r) (get-append-cases (opening_replicas job n) (opening_replica job.program.image job.faults n) number r e)
+  where
+    opened-cases : (job : Job) (n number : ℕ) (r : Replica) → (slice_get (opening_replicas job n) number ≡ Some r → opening_replica job.program.image job.faults number ≡ r) → (slice_get (opening_replicas job n) number ≡ Some r) ⊎ ((number ≡ length (opening_replicas job n)) × (opening_replica job.program.image job.faults n ≡ r)) → opening_replica job.program.image job.faults number ≡ r
+    opened-cases job n number r rec (inl f) = rec f
+    opened-cases job n number r rec (inr f) = ap (opening_replica job.program.image job.faults) (f.0 ∙ length-opening job n) ∙ f.1
+
+-- the only thread of the opening
+pub one-thread : (x : Thread) (place : ℕ) (thread : Thread) → slice_get (x ∷ []) place ≡ Some thread → (place ≡ 0) × (x ≡ thread)
+one-thread x zero thread e = (refl, some-injective e)
+one-thread x (suc place) thread e = absurd (let f : None ≡ Some thread = e in cc)
+
+opening-sound : (job : Job) (core : Core) (number : ℕ) → length core.kernel.lives ≡ 1 → IsSound job core (holds_file_byte job.program.image.pieces) number (opening_replica job.program.image job.faults number)
+unfolding opening_replica
+opening-sound job core number one = record {
+  same_backed = refl;
+  all_made = sym one;
+  within_watch = λ place thread e. subst (λ (x : Thread). x.since ≤ job.settings.watchdog) (one-thread _ place thread e).1 (omega arith);
+  own_faults = λ fault e. let l = listed-filter (λ f. f.replica == number) job.faults fault e in (eqb-true fault.replica number l.1, l.0);
+}
+
+pub ordered-opening : (job : Job) → IsOrdered job (opening_core job)
+unfolding opening_core
+ordered-opening job = record {
+  replica_count = length-opening job job.settings.replicas;
+  backed = holds_file_byte job.program.image.pieces;
+  sound = λ number r e. subst (IsSound job (opening_core job) (holds_file_byte job.program.image.pieces) number) (get-opening job job.settings.replicas number r e) (opening-sound job (opening_core job) number refl);
+  some_life = omega arith;
+  few_lives = omega arith;
+  within_limit = omega arith;
+  blocked_live = λ on still thread call e. absurd (let f : None ≡ Some call = e in cc);
+  due_alone = λ how e. absurd (let f : None ≡ Some how = e in cc);
+  due_over = λ how e. absurd (let f : None ≡ Some how = e in cc);
+  wrote_alone = λ (some : 0 < 0). absurd (omega arith);
+}
+
+-- ---- all entries
+
+pub ordered-after : (job : Job) (core : Core) (entry : Entry) → IsAllowed job core entry → IsOrdered job core → IsOrdered job (after job core entry)
+ordered-after job core (Take driver replica thread) may h = ordered-take job core driver replica thread may h
+ordered-after job core (Put driver replica thread count hit) may h = ordered-put job core driver replica thread count hit may h
+ordered-after job core (Vote thread count won lost did) may h = ordered-vote job core thread count won lost did may h
+ordered-after job core (Free thread) may h = ordered-free job core thread may h
+ordered-after job core (End how) may h = ordered-end job core how may.1 h
+
+-- what every legal journal keeps
+pub ordered : (job : Job) (journal : List Entry) → Legal job journal → IsOrdered job (replay job journal)
+ordered job journal legal = legal-keeps job (IsOrdered job) (ordered-after job) (opening_core job) journal legal (ordered-opening job)

@@ -1,0 +1,10 @@
+pub mod Core
+pub mod Event
+pub mod Legal
+pub mod Ideal
+pub mod Action
+pub mod Jobs
+pub mod Decides
+pub mod Turns
+pub mod Sound
+pub mod Laws

@@ -1,0 +1,90 @@
+//! What holds of every legal journal.
+ghost use Rattle.std.specs.Prelude.{false, true, is_some, ◌≡◌, ◌≢◌, ◌<◌, ◌⊎◌, ◌&&◌, ◌==◌, ◌∷◌, ◌++◌, ℕ, List, [], Some, None, not, length, slice_get};
+ghost use Rattle.std.specs.List.{filter};
+ghost use Rattle.ro_event.specs.declared.calls.Call.{Call};
+ghost use Rattle.ro_event.specs.declared.stops.Stop.TheVariants.{Calls, PageFault};
+ghost use Rattle.ro_exec.specs.Next.{Layout};
+ghost use Rattle.ro_thread.specs.declared.Thread.{Thread};
+ghost use Rattle.ro_replica.specs.Replica.{Replica, stop_of};
+ghost use Rattle.ro_replica.specs.Runs.{RanTo, run_of};
+ghost use Rattle.ro_journal.specs.declared.Entry.{Entry};
+ghost use Rattle.ro_journal.specs.declared.Entry.TheVariants.{Put, End};
+ghost use Rattle.ro_journal.specs.declared.How.{How};
+ghost use Rattle.ro_legal.specs.declared.actions.Action.TheVariants as act;
+ghost use Rattle.ro_legal.specs.declared.actions.Lease.{Lease};
+ghost use Rattle.ro_legal.specs.Core.{Job, Core, is_going, is_idle, is_lendable, may_vote, may_free, nothing_lent};
+ghost use Rattle.ro_legal.specs.Legal.{Legal, MayEnd, replay};
+ghost use Rattle.ro_legal.specs.Action.{next_action};
+ghost use Rattle.ro_legal.specs.Laws.{Names, HasLease, thread_in, Answers, LeavesBlocked, LetsGoOn, hits, has_come};
+ghost use Rattle.ro_legal.specs.Turns.{TakesTurns};
+
+/// Nothing follows an end.
+pub fn end_is_last()
+    ensures { (job : Job) (before behind : List Entry) (how : How) → Legal job (before ++ End how ∷ behind) → behind ≡ [] }
+{}
+
+/// One order of grants: a replica's thread that stands at a call, of a mutex or any other, goes on at nothing but the
+/// vote or the free that answers it, or where its replica becomes a copy of another. A vote on a call that blocks leaves it
+/// where it stands, but for its count since the last vote.
+pub fn one_grant_order()
+    ensures { (job : Job) (journal : List Entry) (entry : Entry) → Legal job (journal ++ entry ∷ []) → (replica thread : ℕ) (stands : Thread) (call : Call) → thread_in (replay job journal) replica thread ≡ Some stands → stands.stop ≡ Some (Calls call) → (thread_in (replay job (journal ++ entry ∷ [])) replica thread ≡ Some stands) ⊎ (LeavesBlocked entry thread × (thread_in (replay job (journal ++ entry ∷ [])) replica thread ≡ Some (record stands { since = 0 }))) ⊎ LetsGoOn entry replica thread }
+{}
+
+/// A grant is one for all replicas: behind the vote or the free that answers a thread's call, of a mutex or any other, the
+/// thread goes on in every replica, unless the program ended. With `one_grant_order`, the order in which a replica's threads
+/// get a mutex is the order of these entries, which is the kernel's, unless the replica becomes a copy between.
+pub fn granted_everywhere()
+    ensures { (job : Job) (journal : List Entry) (entry : Entry) → Legal job (journal ++ entry ∷ []) → (thread : ℕ) → Answers entry thread → (replay job (journal ++ entry ∷ [])).due ≡ None → (number : ℕ) (replica : Replica) → slice_get (replay job (journal ++ entry ∷ [])).replicas number ≡ Some replica → stop_of replica thread ≡ None }
+{}
+
+/// Each fault whose moment has come was struck once, and the others of its replica wait.
+pub fn struck_once()
+    ensures waiting { (job : Job) (journal : List Entry) → Legal job journal → (number : ℕ) (replica : Replica) → slice_get (replay job journal).replicas number ≡ Some replica → replica.waiting ≡ filter (λ fault. (fault.replica == number) && not (has_come journal fault)) job.faults }
+    ensures struck { (job : Job) (journal : List Entry) → Legal job journal → (number : ℕ) (replica : Replica) → slice_get (replay job journal).replicas number ≡ Some replica → hits journal number ≡ length (filter (λ fault. (fault.replica == number) && has_come journal fault) job.faults) }
+{}
+
+/// No other bit flips: a run in which no fault was struck is the run of a replica that has none.
+pub fn no_other_flip()
+    ensures { (layout : Layout) (watchdog count thread : ℕ) (replica : Replica) (ran : RanTo) → run_of layout watchdog count replica thread ≡ Some ran → ran.hit ≡ 0 → run_of layout watchdog count (record replica { waiting = [] }) thread ≡ Some (record { replica = record ran.replica { waiting = [] }; hit = 0 }) }
+{}
+
+/// The same pages are backed in every replica.
+pub fn same_pages()
+    ensures { (job : Job) (journal : List Entry) → Legal job journal → (number other : ℕ) (one two : Replica) → slice_get (replay job journal).replicas number ≡ Some one → slice_get (replay job journal).replicas other ≡ Some two → one.backed ≡ two.backed }
+{}
+
+/// A thread stands at a page fault only while its page is not backed.
+pub fn page_faults_wait()
+    ensures { (job : Job) (journal : List Entry) → Legal job journal → (number thread page : ℕ) (replica : Replica) → slice_get (replay job journal).replicas number ≡ Some replica → stop_of replica thread ≡ Some (PageFault page) → replica.backed page ≡ false }
+{}
+
+/// What comes next may be done: the thread may be voted on, freed or lent, the end may come, or a lease is out that has to
+/// come back first.
+pub fn next_may_be_done()
+    ensures vote { (job : Job) (core : Core) (thread : ℕ) → next_action job core ≡ act.Vote thread → may_vote core thread ≡ true }
+    ensures free { (job : Job) (core : Core) (thread : ℕ) → next_action job core ≡ act.Free thread → may_free job core thread ≡ true }
+    ensures lend { (job : Job) (core : Core) (replica thread : ℕ) → next_action job core ≡ act.Lend replica thread → (is_going core ≡ true) × (is_lendable core replica thread ≡ true) }
+    ensures end { (job : Job) (core : Core) (how : How) → next_action job core ≡ act.End how → (core.ended ≡ None) × MayEnd job core how }
+    ensures wait { (job : Job) (core : Core) → next_action job core ≡ act.Wait → nothing_lent core ≡ false }
+    ensures over { (job : Job) (core : Core) → next_action job core ≡ act.Over → is_some core.ended ≡ true }
+{}
+
+/// A lease lasts: an entry that doesn't name its driver leaves it out, and its replica as it was.
+pub fn leases_last()
+    ensures { (job : Job) (journal : List Entry) (entry : Entry) → Legal job (journal ++ entry ∷ []) → (driver by : ℕ) → Names by entry → by ≢ driver → (lease : Lease) (replica : Replica) → HasLease (replay job journal) driver lease replica → HasLease (replay job (journal ++ entry ∷ [])) driver lease replica }
+{}
+
+/// A driver holds one lease at the most: behind its put it holds none.
+pub fn leases_come_back()
+    ensures { (job : Job) (journal : List Entry) (driver replica thread count hit : ℕ) → Legal job (journal ++ Put driver replica thread count hit ∷ []) → is_idle (replay job (journal ++ Put driver replica thread count hit ∷ [])) driver ≡ true }
+{}
+
+/// Where no driver holds a lease, nothing is lent.
+pub fn idle_drivers_hold_nothing()
+    ensures { (job : Job) (journal : List Entry) → Legal job journal → ((driver : ℕ) → driver < job.settings.drivers → is_idle (replay job journal) driver ≡ true) → (replay job journal).leases ≡ [] }
+{}
+
+/// With one driver, what it takes comes back in the next entry.
+pub fn one_driver_takes_turns()
+    ensures { (job : Job) → job.settings.drivers ≡ 1 → (journal : List Entry) → Legal job journal → (replay job journal).leases ≡ [] → TakesTurns journal }
+{}

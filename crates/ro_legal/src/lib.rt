@@ -1,0 +1,13 @@
+//! The rules of a run: the states of its core, which entries a journal may have, what each of them does, which one comes
+//! next, and what holds of every legal journal. The core itself, which keeps them, stands above.
+#![tactic(auto)]
+
+mod actions;
+mod laws;
+
+pub use actions::{Action, Lease};
+pub use laws::{
+    end_is_last, granted_everywhere, idle_drivers_hold_nothing, leases_come_back, leases_last,
+    next_may_be_done, no_other_flip, one_driver_takes_turns, one_grant_order, page_faults_wait,
+    same_pages, struck_once,
+};

@@ -1,0 +1,747 @@
+//! Rows: a command over a store and sinks in memory, and what it comes to.
+use ro_event::{Call, Stop, Which};
+use ro_files::Job;
+use ro_image::read_executable;
+use ro_io::{Act, Gate, MemSink, MemStore, OpenGate};
+use ro_journal::{Entry, How};
+use ro_make::image_bytes;
+use ro_report::{Answer, FileKind, JournalCode};
+use ro_settings::Settings;
+use ro_top::{romain, run_job, without_words};
+use std::alloc::Global;
+use std::process::Abort;
+use std::sync::Wait;
+use std::sync::atomic::{AtomicU64, Ordering};
+use std::test::Fail;
+use std::thread;
+
+// The views that are kept, by what each has in a0 at its exit.
+#[test]
+fn kept_views(rt: HostRuntime) -> Result<(), Fail> {
+    let cases: [(&[&str], &[u32]); 3] = [
+        (&["run", "seven"], &[]),
+        (
+            &["run", "seven", "--faults", "one", "--replicas", "2"],
+            &[7, 6],
+        ),
+        (&["run", "seven", "--faults", "unlike"], &[6, 5, 7]),
+    ];
+    for (command, statuses) in cases {
+        let words = words_of(rt.alloc(), command)?;
+        let mut store = store(&rt, rt.alloc())?;
+        let mut report = sink(rt.alloc(), &[])?;
+        let out = sink(rt.alloc(), &[])?;
+        let done = romain(
+            &rt,
+            rt.alloc(),
+            words.as_slice(),
+            &mut store,
+            out,
+            &mut report,
+            &OpenGate,
+        );
+        assert_eq!(rt; done.views.len(), statuses.len(), "of {command:?}");
+        for (view, status) in done.views.iter().zip(statuses) {
+            assert_eq!(rt; view.registers()[9], *status, "of {command:?}");
+            assert_eq!(rt; *view.stop(), exit_call(*status), "of {command:?}");
+        }
+    }
+    Ok(())
+}
+
+// A program that is at hand, and no store.
+#[test]
+fn job_at_hand(rt: HostRuntime) -> Result<(), Fail> {
+    let file = image_bytes(rt.alloc(), &HELLO, 5, &[])?;
+    let image = read_executable(rt.alloc(), file.as_slice())?;
+    let job = Job {
+        image,
+        input: Vec::new(rt.alloc()),
+        faults: Vec::new(rt.alloc()),
+        settings: Settings::DEFAULT,
+    };
+    let out = sink(rt.alloc(), &[Act::Take(2)])?;
+    let ran = run_job(&rt, rt.alloc(), job, out, &OpenGate);
+    assert_eq!(rt; ran.answer, Answer::Exit(0));
+    assert_eq!(rt; ran.bytes, 5);
+    assert_eq!(rt; ran.out.bytes(), b"hello".as_slice());
+    let end = Entry::End { how: How::Exit(0) };
+    assert_eq!(rt; ran.journal.last(), Some(&end));
+    assert!(rt; ran.views.is_empty());
+    Ok(())
+}
+
+// There is no memory for the words of a command.
+#[test]
+fn no_words(rt: HostRuntime) -> Result<(), Fail> {
+    let mut report = sink(rt.alloc(), &[Act::Take(3)])?;
+    assert_eq!(rt; without_words(&mut report), 250);
+    assert_eq!(rt; report.bytes(), b"answer no-memory\n".as_slice());
+    let mut report = sink(rt.alloc(), &[Act::Take(3), Act::Fail])?;
+    assert_eq!(rt; without_words(&mut report), 251);
+    assert_eq!(rt; report.bytes(), b"ans".as_slice());
+    Ok(())
+}
+
+// The stop of a thread that is to exit with this status.
+fn exit_call(status: u32) -> Stop {
+    Stop::Calls(Call {
+        which: Which::System(93),
+        a0: status,
+        a1: 0,
+        a2: 0,
+        a3: 0,
+    })
+}
+
+/// The journal of a run of `seven`, as it is reported.
+const SEVEN: &str = "romain 2
+take 0 0 0
+put 0 0 0 2 0
+take 0 1 0
+put 0 1 0 2 0
+take 0 2 0
+put 0 2 0 2 0
+vote 0 2 0 - served
+end exit 7
+votes 1 copies 0 struck 0 steps 3 bytes 0
+answer exit 7
+";
+
+/// A command that follows a plan, and what it comes to.
+struct Plan {
+    words: &'static [&'static str],
+    acts: &'static [Act],
+    answer: Answer,
+    status: u8,
+    held: &'static str,
+    reported: &'static str,
+}
+
+const PLANS: &[Plan] = &[
+    Plan {
+        words: &["plain", "seven", "--plan", "journal"],
+        acts: &[],
+        answer: Answer::Exit(7),
+        status: 7,
+        held: "",
+        reported: "steps 3 bytes 0\nanswer exit 7\n",
+    },
+    // The exit was not served.
+    Plan {
+        words: &["plain", "seven", "--plan", "watched"],
+        acts: &[],
+        answer: Answer::Unended,
+        status: 239,
+        held: "",
+        reported: "steps 2 bytes 0\nanswer unended\n",
+    },
+    // The third step ended the program.
+    Plan {
+        words: &["plain", "--plan=four", "seven"],
+        acts: &[],
+        answer: Answer::NoStep { place: 3 },
+        status: 254,
+        held: "",
+        reported: "answer no-step 3\n",
+    },
+    Plan {
+        words: &["plain", "seven", "--plan", "header"],
+        acts: &[],
+        answer: Answer::BadPlan {
+            line: 1,
+            code: JournalCode::Form,
+        },
+        status: 253,
+        held: "",
+        reported: "answer plan 1 1\n",
+    },
+    Plan {
+        words: &["plain", "seven", "--plan", "range"],
+        acts: &[],
+        answer: Answer::BadPlan {
+            line: 2,
+            code: JournalCode::Range,
+        },
+        status: 253,
+        held: "",
+        reported: "answer plan 2 2\n",
+    },
+    Plan {
+        words: &["plain", "seven", "--plan", "empty"],
+        acts: &[],
+        answer: Answer::Unended,
+        status: 239,
+        held: "",
+        reported: "steps 0 bytes 0\nanswer unended\n",
+    },
+    Plan {
+        words: &["plain", "seven", "--plan", "nothere"],
+        acts: &[],
+        answer: Answer::StoreFailed,
+        status: 246,
+        held: "",
+        reported: "answer store\n",
+    },
+    Plan {
+        words: &["plain", "seven"],
+        acts: &[],
+        answer: Answer::BadWords,
+        status: 249,
+        held: "",
+        reported: "answer words\n",
+    },
+    Plan {
+        words: &["plain", "journal", "--plan", "header"],
+        acts: &[],
+        answer: Answer::BadExe(2),
+        status: 247,
+        held: "",
+        reported: "answer exe 2\n",
+    },
+    Plan {
+        words: &["plain", "hello", "--plan", "hello-plan"],
+        acts: &[],
+        answer: Answer::Exit(0),
+        status: 0,
+        held: "hello",
+        reported: "steps 9 bytes 5\nanswer exit 0\n",
+    },
+    // What was written before the plan's end stays.
+    Plan {
+        words: &["plain", "hello", "--plan", "hello-late"],
+        acts: &[Act::Take(1)],
+        answer: Answer::NoStep { place: 9 },
+        status: 254,
+        held: "hello",
+        reported: "answer no-step 9\n",
+    },
+    // The input is read.
+    Plan {
+        words: &["plain", "read", "--plan", "read-plan", "--input", "header"],
+        acts: &[],
+        answer: Answer::Exit(4),
+        status: 4,
+        held: "",
+        reported: "steps 7 bytes 0\nanswer exit 4\n",
+    },
+    // Two threads store to one page, each a byte of its own.
+    Plan {
+        words: &["races", "page", "--plan", "page-plan"],
+        acts: &[],
+        answer: Answer::NoRace,
+        status: 0,
+        held: "",
+        reported: "answer no-race\n",
+    },
+    // Both store the same byte.
+    Plan {
+        words: &["races", "--plan=page-plan", "byte"],
+        acts: &[],
+        answer: Answer::Race {
+            i: 8,
+            j: 13,
+            byte: 69632,
+        },
+        status: 237,
+        held: "",
+        reported: "answer race 8 13 69632\n",
+    },
+    // The step behind the exit does not exist, and is told before the race.
+    Plan {
+        words: &["races", "byte", "--plan", "page-late"],
+        acts: &[],
+        answer: Answer::NoStep { place: 21 },
+        status: 254,
+        held: "",
+        reported: "answer no-step 21\n",
+    },
+    // The program has not ended.
+    Plan {
+        words: &["races", "seven", "--plan", "watched"],
+        acts: &[],
+        answer: Answer::NoRace,
+        status: 0,
+        held: "",
+        reported: "answer no-race\n",
+    },
+    // What the program writes goes nowhere, and its input is read.
+    Plan {
+        words: &["races", "hello", "--plan", "hello-plan"],
+        acts: &[],
+        answer: Answer::NoRace,
+        status: 0,
+        held: "",
+        reported: "answer no-race\n",
+    },
+    Plan {
+        words: &["races", "read", "--plan", "read-plan", "--input", "header"],
+        acts: &[],
+        answer: Answer::NoRace,
+        status: 0,
+        held: "",
+        reported: "answer no-race\n",
+    },
+    Plan {
+        words: &["races", "seven", "--plan", "range"],
+        acts: &[],
+        answer: Answer::BadPlan {
+            line: 2,
+            code: JournalCode::Range,
+        },
+        status: 253,
+        held: "",
+        reported: "answer plan 2 2\n",
+    },
+    Plan {
+        words: &["races", "seven", "--plan", "nothere"],
+        acts: &[],
+        answer: Answer::StoreFailed,
+        status: 246,
+        held: "",
+        reported: "answer store\n",
+    },
+    Plan {
+        words: &["races", "seven"],
+        acts: &[],
+        answer: Answer::BadWords,
+        status: 249,
+        held: "",
+        reported: "answer words\n",
+    },
+];
+
+#[test]
+fn plans(rt: HostRuntime) -> Result<(), Fail> {
+    for row in PLANS {
+        let words = words_of(rt.alloc(), row.words)?;
+        let mut store = store(&rt, rt.alloc())?;
+        let mut report = sink(rt.alloc(), &[])?;
+        let out = sink(rt.alloc(), row.acts)?;
+        let done = romain(
+            &rt,
+            rt.alloc(),
+            words.as_slice(),
+            &mut store,
+            out,
+            &mut report,
+            &OpenGate,
+        );
+        assert_eq!(rt; done.answer, row.answer, "of {:?}", row.words);
+        assert_eq!(rt; done.status(), row.status, "of {:?}", row.words);
+        assert_eq!(rt; done.out.bytes(), row.held.as_bytes(), "of {:?}", row.words);
+        assert_eq!(rt;
+            report.bytes(),
+            row.reported.as_bytes(),
+            "of {:?}",
+            row.words
+        );
+        assert!(rt; done.journal.is_empty() && done.views.is_empty());
+    }
+    Ok(())
+}
+
+/// Commands that write a text of their own.
+const TOLD: &[Plan] = &[
+    Plan {
+        words: &["inject", "42", "1", "seven"],
+        acts: &[],
+        answer: Answer::Exit(0),
+        status: 0,
+        held: "0 1 5824 pc 11\n",
+        reported: "answer exit 0\n",
+    },
+    Plan {
+        words: &["inject", "42", "1", "seven", "--replica", "2"],
+        acts: &[Act::Take(1), Act::Take(6)],
+        answer: Answer::Exit(0),
+        status: 0,
+        held: "2 1 5824 pc 11\n",
+        reported: "answer exit 0\n",
+    },
+    Plan {
+        words: &["inject", "42", "0", "seven"],
+        acts: &[],
+        answer: Answer::BadWords,
+        status: 249,
+        held: "",
+        reported: "answer words\n",
+    },
+    Plan {
+        words: &["inject", "42", "1", "one"],
+        acts: &[],
+        answer: Answer::BadExe(1),
+        status: 247,
+        held: "",
+        reported: "answer exe 1\n",
+    },
+    Plan {
+        words: &["inject", "42", "1", "nothere"],
+        acts: &[],
+        answer: Answer::StoreFailed,
+        status: 246,
+        held: "",
+        reported: "answer store\n",
+    },
+    Plan {
+        words: &["bench", "1", "0"],
+        acts: &[],
+        answer: Answer::BadWords,
+        status: 249,
+        held: "",
+        reported: "answer words\n",
+    },
+];
+
+#[test]
+fn drawn_texts(rt: HostRuntime) -> Result<(), Fail> {
+    for row in TOLD {
+        let words = words_of(rt.alloc(), row.words)?;
+        let mut store = store(&rt, rt.alloc())?;
+        let mut report = sink(rt.alloc(), &[])?;
+        let out = sink(rt.alloc(), row.acts)?;
+        let done = romain(
+            &rt,
+            rt.alloc(),
+            words.as_slice(),
+            &mut store,
+            out,
+            &mut report,
+            &OpenGate,
+        );
+        assert_eq!(rt; done.answer, row.answer, "of {:?}", row.words);
+        assert_eq!(rt; done.status(), row.status, "of {:?}", row.words);
+        assert_eq!(rt; done.out.bytes(), row.held.as_bytes(), "of {:?}", row.words);
+        assert_eq!(rt;
+            report.bytes(),
+            row.reported.as_bytes(),
+            "of {:?}",
+            row.words
+        );
+        assert!(rt; done.journal.is_empty() && done.views.is_empty());
+    }
+    Ok(())
+}
+
+// A made executable.
+#[test]
+fn made(rt: HostRuntime) -> Result<(), Fail> {
+    let words = words_of(rt.alloc(), &["bench", "1", "1"])?;
+    let mut store = store(&rt, rt.alloc())?;
+    let mut report = sink(rt.alloc(), &[])?;
+    let out = sink(rt.alloc(), &[])?;
+    let done = romain(
+        &rt,
+        rt.alloc(),
+        words.as_slice(),
+        &mut store,
+        out,
+        &mut report,
+        &OpenGate,
+    );
+    assert_eq!(rt; done.answer, Answer::Exit(0));
+    assert_eq!(rt;
+        done.out.bytes(),
+        b"bench 1 1 status 0 bytes 9 sum 1890\n".as_slice()
+    );
+    let end = Entry::End { how: How::Exit(0) };
+    assert_eq!(rt; done.journal.last(), Some(&end));
+    Ok(())
+}
+
+// A plan of more than 10^9 steps is neither run nor checked.
+#[test]
+fn longest_plan(rt: HostRuntime) -> Result<(), Fail> {
+    let mut plan = Vec::from_slice(rt.alloc(), b"romain 1\n")?;
+    for _ in 0..1_001 {
+        plan.extend_from_slice(b"vote 0 1000000 0 - watch\n")?;
+    }
+    for command in ["plain", "races"] {
+        let words = words_of(rt.alloc(), &[command, "seven", "--plan", "long"])?;
+        let mut store = store(&rt, rt.alloc())?;
+        store.put("long", plan.as_slice())?;
+        let mut report = sink(rt.alloc(), &[])?;
+        let out = sink(rt.alloc(), &[])?;
+        let done = romain(
+            &rt,
+            rt.alloc(),
+            words.as_slice(),
+            &mut store,
+            out,
+            &mut report,
+            &OpenGate,
+        );
+        let limit = Answer::Limit {
+            steps: 1_000_000_000,
+            next: 1_000_000,
+        };
+        assert_eq!(rt; done.answer, limit);
+        assert_eq!(rt; done.status(), 244);
+        assert_eq!(rt;
+            report.bytes(),
+            b"answer limit 1000000000 1000000\n".as_slice()
+        );
+    }
+    Ok(())
+}
+
+// Files of as many bytes as they may have, and of one more.
+#[test]
+fn long_files(rt: HostRuntime) -> Result<(), Fail> {
+    let cases: [(&[&str], usize, Answer); 6] = [
+        (
+            &["run", "read", "--input", "long"],
+            1024 * 1024,
+            Answer::Exit(4),
+        ),
+        (
+            &["run", "read", "--input", "long"],
+            1024 * 1024 + 1,
+            Answer::TooLong(FileKind::Input),
+        ),
+        (
+            &["run", "seven", "--faults", "long"],
+            64 * 1024 + 1,
+            Answer::TooLong(FileKind::Faults),
+        ),
+        (
+            &["run", "long"],
+            8 * 1024 * 1024 + 1,
+            Answer::TooLong(FileKind::Exe),
+        ),
+        (
+            &["plain", "seven", "--plan", "long"],
+            16 * 1024 * 1024,
+            Answer::BadPlan {
+                line: 1,
+                code: JournalCode::Form,
+            },
+        ),
+        (
+            &["plain", "seven", "--plan", "long"],
+            16 * 1024 * 1024 + 1,
+            Answer::TooLong(FileKind::Plan),
+        ),
+    ];
+    for (command, size, answer) in cases {
+        let words = words_of(rt.alloc(), command)?;
+        let mut store = store(&rt, rt.alloc())?;
+        let long = vec![in rt.alloc(); 0_u8; size]?;
+        store.put("long", long.as_slice())?;
+        let mut report = sink(rt.alloc(), &[])?;
+        let out = sink(rt.alloc(), &[])?;
+        let done = romain(
+            &rt,
+            rt.alloc(),
+            words.as_slice(),
+            &mut store,
+            out,
+            &mut report,
+            &OpenGate,
+        );
+        assert_eq!(rt; done.answer, answer, "of {command:?}");
+    }
+    Ok(())
+}
+
+// The words behind the program's name.
+fn words_of<'a>(alloc: Global, command: &[&'a str]) -> Result<Vec<&'a str>, Fail> {
+    let mut words = Vec::new(alloc);
+    words.push("romain")?;
+    for word in command {
+        words.push(*word)?;
+    }
+    Ok(words)
+}
+
+fn sink(alloc: Global, acts: &[Act]) -> Result<MemSink, Fail> {
+    Ok(MemSink::new(alloc, 1_000, Vec::from_slice(alloc, acts)?)?)
+}
+
+/// It writes `hello` and exits with 0.
+const HELLO: [u32; 11] = [
+    0x0010_0513,
+    0x0001_05B7,
+    0x0785_8593,
+    0x0050_0613,
+    0x0400_0893,
+    0x0000_0073,
+    0x0000_0513,
+    0x05D0_0893,
+    0x0000_0073,
+    0x6C6C_6568,
+    0x0000_006F,
+];
+
+/// Executables, by their words.
+const GUESTS: &[(&str, &[u32])] = &[
+    // ADDI a0, zero, 7, and an exit
+    ("seven", &[0x0070_0513, 0x05D0_0893, 0x0000_0073]),
+    ("hello", &HELLO),
+    // it reads four bytes into the heap and exits with how many came
+    (
+        "read",
+        &[
+            0x0000_0513,
+            0x0001_15B7,
+            0x0040_0613,
+            0x03F0_0893,
+            0x0000_0073,
+            0x05D0_0893,
+            0x0000_0073,
+        ],
+    ),
+];
+
+/// Two threads that store to one page, side by side; thread 0 joins the other at the end.
+const PAGE: [u32; 22] = [
+    0x0001_0437,
+    0x0A84_0513,
+    0x0000_0593,
+    0x08C4_0613,
+    0x0000_0693,
+    0x0340_00EF,
+    0x0001_12B7,
+    0x0002_8023,
+    0x0010_0513,
+    0x0000_0593,
+    0x0240_00EF,
+    0x0000_0513,
+    0x05D0_0893,
+    0x0000_0073,
+    0x0001_12B7,
+    0x0002_80A3,
+    0x0000_0513,
+    0x00C0_00EF,
+    0x0000_8067,
+    0x0000_8067,
+    0x0000_8067,
+    0x0000_0000,
+];
+
+/// Thread 1 stores to thread 0's byte: SB x0, 0(x5) in the place of SB x0, 1(x5).
+const SAME_BYTE: u32 = 0x0002_8023;
+
+const PAGE_NAMES: [(&str, u32); 3] = [
+    ("pthread_create", 0x1_009C),
+    ("pthread_join", 0x1_00A0),
+    ("pthread_exit", 0x1_00A4),
+];
+
+/// Lists of faults, and journals.
+const TEXTS: &[(&str, &str)] = &[
+    ("journal", SEVEN),
+    ("watched", "romain 2\nvote 0 2 0 - watch\n"),
+    ("four", "romain 1\nvote 0 4 0 - served\n"),
+    ("header", "romain 9\nvote 0 2 0 - served\n"),
+    ("range", "romain 1\nvote 16 2 0 - served\n"),
+    ("empty", "romain 1\n"),
+    (
+        "hello-plan",
+        "romain 1\nvote 0 5 0 - served\nvote 0 2 0 - served\nend exit 0\n",
+    ),
+    (
+        "hello-late",
+        "romain 1\nvote 0 5 0 - served\nvote 0 2 0 - served\nfree 0\n",
+    ),
+    (
+        "read-plan",
+        "romain 1\nvote 0 4 0 - served\nvote 0 1 0 - served\n",
+    ),
+    (
+        "page-plan",
+        "romain 1\nvote 0 6 0 - served\nvote 0 1 0 - mapped\nvote 0 4 0 - blocked\nvote 1 4 0 - served\nfree 0\nvote 0 2 0 - served\n",
+    ),
+    (
+        "page-late",
+        "romain 1\nvote 0 6 0 - served\nvote 0 1 0 - mapped\nvote 0 4 0 - blocked\nvote 1 4 0 - served\nfree 0\nvote 0 2 0 - served\nfree 0\n",
+    ),
+    ("one", "1 0 1 reg 10 0\n"),
+    ("unlike", "0 0 1 reg 10 0\n1 0 1 reg 10 1\n"),
+];
+
+// The store of the rows.
+fn store(rt: &impl Abort, alloc: Global) -> Result<MemStore, Fail> {
+    let mut store = MemStore::new(alloc);
+    for (name, words) in GUESTS {
+        assert!(rt; words.len() <= 65_536, "of {name}");
+        let file = image_bytes(alloc, words, 5, &[])?;
+        store.put(name, file.as_slice())?;
+    }
+    let mut same = PAGE;
+    same[15] = SAME_BYTE;
+    store.put(
+        "page",
+        image_bytes(alloc, &PAGE, 7, &PAGE_NAMES)?.as_slice(),
+    )?;
+    store.put(
+        "byte",
+        image_bytes(alloc, &same, 7, &PAGE_NAMES)?.as_slice(),
+    )?;
+    for (name, text) in TEXTS {
+        store.put(name, text.as_bytes())?;
+    }
+    Ok(store)
+}
+
+/// A gate whose first caller waits, for a while, until another driver has come to it twice.
+#[derive(Drop)]
+struct Meeting {
+    /// The number of the driver that came first, and one more; 0 before.
+    first: AtomicU64,
+    /// How often another driver came.
+    others: AtomicU64,
+    /// Whether the first saw it in time.
+    met: AtomicU64,
+}
+
+impl Gate for Meeting {
+    fn pass<R: Wait>(&self, _rt: &R, driver: u32, _replica: u32, _thread: u32) {
+        let name = u64::from(driver) + 1;
+        match self
+            .first
+            .compare_exchange(0, name, Ordering::SeqCst, Ordering::SeqCst)
+        {
+            Ok(_) => {
+                for _ in 0..10_000_000u32 {
+                    if self.others.load(Ordering::SeqCst) >= 2 {
+                        self.met.store(1, Ordering::SeqCst);
+                        return;
+                    }
+                    thread::yield_now();
+                }
+            }
+            Err(first) => {
+                if first != name {
+                    self.others.fetch_add(1, Ordering::SeqCst);
+                }
+            }
+        }
+    }
+}
+
+// Two drivers are inside their runs at once: while one stands at the gate with its lease, the other takes two.
+#[test]
+fn two_drivers_at_once(rt: HostRuntime) -> Result<(), Fail> {
+    let words = words_of(rt.alloc(), &["run", "seven", "--drivers", "2"])?;
+    let mut store = store(&rt, rt.alloc())?;
+    let mut report = sink(rt.alloc(), &[])?;
+    let out = sink(rt.alloc(), &[])?;
+    let gate = Meeting {
+        first: AtomicU64::new(0),
+        others: AtomicU64::new(0),
+        met: AtomicU64::new(0),
+    };
+    let done = romain(
+        &rt,
+        rt.alloc(),
+        words.as_slice(),
+        &mut store,
+        out,
+        &mut report,
+        &gate,
+    );
+    assert_eq!(rt; done.answer, Answer::Exit(7));
+    assert_eq!(rt; gate.met.load(Ordering::SeqCst), 1);
+    Ok(())
+}

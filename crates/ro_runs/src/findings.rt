@@ -1,0 +1,509 @@
+//! What is told of findings, in sentences and as JSON; and what is found of two journals.
+use ro_audit::Why;
+use ro_event::{Call, Stop, Which};
+use ro_findings::{
+    Ended, Field, Findings, Function, Instruction, Place, Standing, State, Trapped, Verdict,
+    Waiting,
+};
+use ro_io::MemStore;
+use ro_journal::{Did, Entry, Lost};
+use ro_make::image_bytes;
+use ro_settings::Settings;
+use ro_tell::find;
+use ro_words::RunCommand;
+use std::alloc::{AllocError, Global};
+use std::process::Abort;
+use std::test::Fail;
+
+// What is told in both forms.
+fn assert_told(
+    rt: &impl Abort,
+    alloc: Global,
+    findings: &Findings,
+    sentences: &[&str],
+    json: &str,
+) -> Result<(), Fail> {
+    let told = findings.sentences(alloc)?;
+    for (line, want) in told.lines().zip(sentences) {
+        assert_eq!(rt; line, *want);
+    }
+    assert_eq!(rt; told.lines().count(), sentences.len(), "{told}");
+    let told = findings.json(alloc)?;
+    assert_eq!(rt; told.strip_suffix("\n"), Some(json));
+    Ok(())
+}
+
+// Of a legal journal without copies.
+fn legal(alloc: Global, end: Option<Ended>) -> Findings {
+    Findings {
+        entries: 8,
+        verdict: Verdict::Legal { steps: 3, end },
+        copies: Vec::new(alloc),
+    }
+}
+
+fn place(alloc: Global, pc: u32, function: &str, offset: u32) -> Result<Place, AllocError> {
+    Ok(Place {
+        pc,
+        function: Some(Function {
+            name: String::from_str(alloc, function)?,
+            offset,
+        }),
+    })
+}
+
+#[test]
+fn plain_ends(rt: HostRuntime) -> Result<(), Fail> {
+    let alloc = rt.alloc();
+    let rows = [
+        (
+            None,
+            "The run has not ended.",
+            r#"{"copies":[],"end":null,"entries":8,"steps":3,"verdict":"legal"}"#,
+        ),
+        (
+            Some(Ended::Exit(7)),
+            "The program exited with status 7.",
+            r#"{"copies":[],"end":{"how":"exit","status":7},"entries":8,"steps":3,"verdict":"legal"}"#,
+        ),
+        (
+            Some(Ended::Sink(4)),
+            "The output failed, and took 4 bytes of the last write.",
+            r#"{"copies":[],"end":{"how":"sink","taken":4},"entries":8,"steps":3,"verdict":"legal"}"#,
+        ),
+        (
+            Some(Ended::Trap { cause: 2, at: None }),
+            "The program trapped by cause 2: an instruction is fetched where nothing may be executed.",
+            r#"{"copies":[],"end":{"at":null,"cause":2,"how":"trap"},"entries":8,"steps":3,"verdict":"legal"}"#,
+        ),
+    ];
+    for (end, sentence, json) in rows {
+        let sentences = [
+            "legal",
+            "The journal has 8 entries, and its plan 3 steps.",
+            sentence,
+        ];
+        assert_told(&rt, alloc, &legal(alloc, end), sentences.as_slice(), json)?;
+    }
+    Ok(())
+}
+
+// Registers that hold their own numbers.
+const REGISTERS: [u32; 31] = [
+    1, 2, 3, 4, 5, 6, 7, 8, 9, 10, 11, 12, 13, 14, 15, 16, 17, 18, 19, 20, 21, 22, 23, 24, 25, 26,
+    27, 28, 29, 30, 31,
+];
+
+#[test]
+fn a_trap(rt: HostRuntime) -> Result<(), Fail> {
+    let alloc = rt.alloc();
+    let at = Some(Trapped {
+        thread: 1,
+        place: place(alloc, 0x10074, "main", 0x20)?,
+        registers: REGISTERS,
+        instruction: Some(Instruction {
+            word: 0x0C04_2C23,
+            text: String::from_str(alloc, "sw zero, 216(s0)")?,
+            touched: Some(0x100D8),
+        }),
+    });
+    let sentences = [
+        "legal",
+        "The journal has 8 entries, and its plan 3 steps.",
+        "The program trapped by cause 8: a store where it is not permitted.",
+        "Thread 1 stands at pc 00010074 (main+20), with these registers:",
+        "x1 00000001 x2 00000002 x3 00000003 x4 00000004 x5 00000005 x6 00000006 x7 00000007 x8 00000008",
+        "x9 00000009 x10 0000000a x11 0000000b x12 0000000c x13 0000000d x14 0000000e x15 0000000f x16 00000010",
+        "x17 00000011 x18 00000012 x19 00000013 x20 00000014 x21 00000015 x22 00000016 x23 00000017 x24 00000018",
+        "x25 00000019 x26 0000001a x27 0000001b x28 0000001c x29 0000001d x30 0000001e x31 0000001f",
+        "The instruction there is 0c042c23, sw zero, 216(s0).",
+        "It touches the address 000100d8.",
+    ];
+    let json =
+        r#"{"copies":[],"end":{"at":{"function":{"name":"main","offset":32},"instruction":{"text":"sw zero, 216(s0)","touched":65752,"word":201600035},"pc":65652,"registers":[1,2,3,4,5,6,7,8,9,10,11,12,13,14,15,16,17,18,19,20,21,22,23,24,25,26,27,28,29,30,31],"thread":1},"cause":8,"how":"trap"},"entries":8,"steps":3,"verdict":"legal"}"#;
+    let end = Ended::Trap { cause: 8, at };
+    assert_told(
+        &rt,
+        alloc,
+        &legal(alloc, Some(end)),
+        sentences.as_slice(),
+        json,
+    )
+}
+
+#[test]
+fn waiting_threads(rt: HostRuntime) -> Result<(), Fail> {
+    let alloc = rt.alloc();
+    let states = [
+        State::Exited,
+        State::Locks {
+            mutex: 0x10100,
+            owner: Some(4),
+        },
+        State::Locks {
+            mutex: 0x10100,
+            owner: None,
+        },
+        State::Joins(1),
+        State::Blocked,
+        State::Unblocked,
+    ];
+    let mut threads = Vec::new(alloc);
+    for (thread, state) in (0..6).zip(states) {
+        threads.push(Waiting { thread, state })?;
+    }
+    let sentences = [
+        "legal",
+        "The journal has 8 entries, and its plan 3 steps.",
+        "No thread can go on.",
+        "Thread 0 has exited.",
+        "Thread 1 waits for the mutex at 00010100, which thread 4 holds.",
+        "Thread 2 waits for the mutex at 00010100.",
+        "Thread 3 waits until thread 1 has exited.",
+        "Thread 4 is blocked.",
+        "Thread 5 is not blocked.",
+    ];
+    let json =
+        r#"{"copies":[],"end":{"how":"deadlock","threads":[{"state":"exited","thread":0},{"mutex":65792,"owner":4,"state":"locks","thread":1},{"mutex":65792,"owner":null,"state":"locks","thread":2},{"other":1,"state":"joins","thread":3},{"state":"blocked","thread":4},{"state":"unblocked","thread":5}]},"entries":8,"steps":3,"verdict":"legal"}"#;
+    let end = Ended::Deadlock(threads);
+    assert_told(
+        &rt,
+        alloc,
+        &legal(alloc, Some(end)),
+        sentences.as_slice(),
+        json,
+    )
+}
+
+// The call of a lock.
+const LOCK: Call = Call {
+    which: Which::Lock,
+    a0: 0x10100,
+    a1: 0,
+    a2: 0,
+    a3: 0,
+};
+
+#[test]
+fn standing_threads(rt: HostRuntime) -> Result<(), Fail> {
+    let alloc = rt.alloc();
+    let mut threads = Vec::new(alloc);
+    let stops = [
+        Stop::Calls(LOCK),
+        Stop::Trap(3),
+        Stop::PageFault(16),
+        Stop::Watchdog,
+    ];
+    for (thread, stop) in (0..4).zip(stops) {
+        let at = Some((place(alloc, 0x10054, "main", 0)?, stop));
+        threads.push(Standing { thread, at })?;
+    }
+    threads.push(Standing {
+        thread: 4,
+        at: None,
+    })?;
+    let sentences = [
+        "legal",
+        "The journal has 8 entries, and its plan 3 steps.",
+        "The plan has 3 steps, and 6 more would pass the limit.",
+        "Thread 0 stands at pc 00010054 (main), at a call.",
+        "Thread 1 stands at pc 00010054 (main), at a trap.",
+        "Thread 2 stands at pc 00010054 (main), at a page fault.",
+        "Thread 3 stands at pc 00010054 (main), at a turn of the watchdog.",
+        "Thread 4 does not stand still, or has exited.",
+    ];
+    let json =
+        r#"{"copies":[],"end":{"how":"limit","next":6,"steps":3,"threads":[{"function":{"name":"main","offset":0},"pc":65620,"stop":"call","thread":0},{"function":{"name":"main","offset":0},"pc":65620,"stop":"trap","thread":1},{"function":{"name":"main","offset":0},"pc":65620,"stop":"page_fault","thread":2},{"function":{"name":"main","offset":0},"pc":65620,"stop":"watchdog","thread":3},{"function":null,"pc":null,"stop":null,"thread":4}]},"entries":8,"steps":3,"verdict":"legal"}"#;
+    let end = Ended::Limit {
+        steps: 3,
+        next: 6,
+        threads,
+    };
+    assert_told(
+        &rt,
+        alloc,
+        &legal(alloc, Some(end)),
+        sentences.as_slice(),
+        json,
+    )
+}
+
+#[test]
+fn differing_views(rt: HostRuntime) -> Result<(), Fail> {
+    let alloc = rt.alloc();
+    let places = vec![in alloc;
+        place(alloc, 0x10054, "main", 0)?,
+        Place {
+            pc: 0x10058,
+            function: None
+        },
+    ]?;
+    let fields = vec![in alloc;
+        Field::Pc(places),
+        Field::Since(vec![in alloc; 2, 3]?),
+        Field::Register(10, vec![in alloc; 7, 255]?),
+        Field::Stop(vec![in alloc; Stop::Calls(LOCK), Stop::Watchdog]?),
+        Field::Payload(vec![in alloc; 5, 0]?),
+    ]?;
+    let sentences = [
+        "legal",
+        "The journal has 8 entries, and its plan 3 steps.",
+        "The two replicas differ.",
+        "pc: 00010054 (main) 00010058",
+        "instructions since the last vote: 2 3",
+        "x10: 00000007 000000ff",
+        "at: a call; a turn of the watchdog;",
+        "what is written differs, of so many bytes: 5 0",
+    ];
+    let json =
+        r#"{"copies":[],"end":{"fields":[{"part":"pc","values":[{"function":{"name":"main","offset":0},"pc":65620},{"function":null,"pc":65624}]},{"part":"since","values":[2,3]},{"part":"x10","values":[7,255]},{"part":"stop","values":["call","watchdog"]},{"part":"payload","values":[5,0]}],"how":"differ"},"entries":8,"steps":3,"verdict":"legal"}"#;
+    let end = Ended::Differ(fields);
+    assert_told(
+        &rt,
+        alloc,
+        &legal(alloc, Some(end)),
+        sentences.as_slice(),
+        json,
+    )
+}
+
+// Of an illegal journal without copies.
+fn illegal(alloc: Global, why: Why) -> Findings {
+    Findings {
+        entries: 8,
+        verdict: Verdict::Illegal {
+            place: 2,
+            entry: Entry::Free { thread: 1 },
+            why,
+        },
+        copies: Vec::new(alloc),
+    }
+}
+
+#[test]
+fn illegal_entries(rt: HostRuntime) -> Result<(), Fail> {
+    let alloc = rt.alloc();
+    let vote = Entry::Vote {
+        thread: 0,
+        count: 2,
+        won: 0,
+        lost: Lost::Two(1, 2),
+        did: Did::Served,
+    };
+    let rows = [
+        (
+            Why::NotLendable,
+            "The driver holds a lease or is none, or the thread can't be lent in that replica.",
+            r#"{"reason":"not_lendable"}"#,
+        ),
+        (
+            Why::NotOut,
+            "No such lease is out.",
+            r#"{"reason":"not_out"}"#,
+        ),
+        (
+            Why::Ran { count: 5, hit: 1 },
+            "The run of the lease comes back after 5 instructions and 1 faults.",
+            r#"{"count":5,"hit":1,"reason":"ran"}"#,
+        ),
+        (
+            Why::NoVote,
+            "The thread can't be voted on.",
+            r#"{"reason":"no_vote"}"#,
+        ),
+        (
+            Why::NoFree,
+            "The thread has no call that can be served.",
+            r#"{"reason":"no_free"}"#,
+        ),
+        (
+            Why::Comes(vote),
+            "What is allowed in its place is: vote 0 2 0 1,2 served",
+            r#"{"entry":"vote 0 2 0 1,2 served","reason":"comes"}"#,
+        ),
+        (
+            Why::NoEnd,
+            "The run does not end so here.",
+            r#"{"reason":"no_end"}"#,
+        ),
+        (
+            Why::Behind,
+            "The run has ended before.",
+            r#"{"reason":"behind"}"#,
+        ),
+    ];
+    for (why, sentence, reason) in rows {
+        let sentences = [
+            "illegal 2",
+            "The first entry that is not allowed is: free 1",
+            sentence,
+        ];
+        let json = format!(in alloc;
+            r#"{{"copies":[],"entries":8,"entry":"free 1","place":2,"verdict":"illegal","why":{reason}}}"#
+        )?;
+        assert_told(
+            &rt,
+            alloc,
+            &illegal(alloc, why),
+            sentences.as_slice(),
+            json.as_str(),
+        )?;
+    }
+    Ok(())
+}
+
+// A guest that writes `hello` and ends with the status 0.
+const HELLO: &[u32] = &[
+    0x0010_0513,
+    0x0001_05B7,
+    0x0785_8593,
+    0x0050_0613,
+    0x0400_0893,
+    0x0000_0073,
+    0x0000_0513,
+    0x05D0_0893,
+    0x0000_0073,
+    0x6C6C_6568,
+    0x0000_006F,
+];
+
+// Its journal where a vote makes a copy in replica 1, and the next in replica 2.
+const TWO_COPIES: &str = "romain 2
+take 0 0 0
+put 0 0 0 5 0
+take 0 1 0
+put 0 1 0 5 2
+take 0 2 0
+put 0 2 0 5 0
+vote 0 5 0 1 served
+take 0 0 0
+put 0 0 0 2 0
+take 0 1 0
+put 0 1 0 2 0
+take 0 2 0
+put 0 2 0 2 1
+vote 0 2 0 2 served
+end exit 0
+";
+
+// A guest that ends with the status 7, and its journal where the replicas 0 and 1 are struck alike.
+const SHORT: &[u32] = &[0x0070_0513, 0x05D0_0893, 0x0000_0073];
+
+const ALIKE: &str = "romain 2
+take 0 0 0
+put 0 0 0 2 1
+take 0 1 0
+put 0 1 0 2 1
+take 0 2 0
+put 0 2 0 2 0
+vote 0 2 0 2 served
+end exit 6
+";
+
+#[test]
+fn copies(rt: HostRuntime) -> Result<(), Fail> {
+    let alloc = rt.alloc();
+    let faults = "1 0 5 reg 10 1\n2 0 6 reg 10 0\n1 0 1 reg 5 0\n1 0 8 reg 6 0\n";
+    let sentences = [
+        "legal",
+        "The journal has 15 entries, and its plan 9 steps.",
+        "The program exited with status 0.",
+        "At entry 6 replica 1 was overwritten at a vote on thread 0: x5, x10, what it stands at and what is written differed. Undone: 1 0 5 reg 10 1, struck 0 instructions before; 1 0 1 reg 5 0, struck 4 instructions before.",
+        "At entry 13 replica 2 was overwritten at a vote on thread 0: x10 and what it stands at differed. Undone: 2 0 6 reg 10 0, struck 1 instruction before.",
+    ];
+    let json =
+        r#"{"copies":[{"differed":["x5","x10","stop","payload"],"place":6,"replica":1,"thread":0,"undone":[{"before":0,"fault":"1 0 5 reg 10 1"},{"before":4,"fault":"1 0 1 reg 5 0"}]},{"differed":["x10","stop"],"place":13,"replica":2,"thread":0,"undone":[{"before":1,"fault":"2 0 6 reg 10 0"}]}],"end":{"how":"exit","status":0},"entries":15,"steps":9,"verdict":"legal"}"#;
+    assert_found(
+        &rt,
+        alloc,
+        HELLO,
+        faults,
+        TWO_COPIES,
+        sentences.as_slice(),
+        json,
+    )?;
+    let faults = "0 0 1 reg 10 0\n1 0 1 reg 10 0\n";
+    let sentences = [
+        "legal",
+        "The journal has 8 entries, and its plan 3 steps.",
+        "The program exited with status 6.",
+        "At entry 6 replica 2 was overwritten at a vote on thread 0: x10 and what it stands at differed. No fault of the list in that replica explains it.",
+    ];
+    let json =
+        r#"{"copies":[{"differed":["x10","stop"],"place":6,"replica":2,"thread":0,"undone":[]}],"end":{"how":"exit","status":6},"entries":8,"steps":3,"verdict":"legal"}"#;
+    assert_found(&rt, alloc, SHORT, faults, ALIKE, sentences.as_slice(), json)
+}
+
+// A guest whose first instruction loads where nothing may be read, and its journal.
+const LOADS_NOTHING: &[u32] = &[0x0000_2503];
+
+const TRAPPED: &str = "romain 2
+take 0 0 0
+put 0 0 0 0 0
+take 0 1 0
+put 0 1 0 0 0
+take 0 2 0
+put 0 2 0 0 0
+vote 0 0 0 - trapped
+end trap 6
+";
+
+#[test]
+fn the_instruction_that_trapped(rt: HostRuntime) -> Result<(), Fail> {
+    let sentences = [
+        "legal",
+        "The journal has 8 entries, and its plan 1 steps.",
+        "The program trapped by cause 6: a load where it is not permitted.",
+        "Thread 0 stands at pc 00010054, with these registers:",
+        "x1 00000000 x2 7000fff0 x3 00000000 x4 00000000 x5 00000000 x6 00000000 x7 00000000 x8 00000000",
+        "x9 00000000 x10 00000000 x11 00000000 x12 00000000 x13 00000000 x14 00000000 x15 00000000 x16 00000000",
+        "x17 00000000 x18 00000000 x19 00000000 x20 00000000 x21 00000000 x22 00000000 x23 00000000 x24 00000000",
+        "x25 00000000 x26 00000000 x27 00000000 x28 00000000 x29 00000000 x30 00000000 x31 00000000",
+        "The instruction there is 00002503, lw a0, 0(zero).",
+        "It touches the address 00000000.",
+    ];
+    let json =
+        r#"{"copies":[],"end":{"at":{"function":null,"instruction":{"text":"lw a0, 0(zero)","touched":0,"word":9475},"pc":65620,"registers":[0,1879113712,0,0,0,0,0,0,0,0,0,0,0,0,0,0,0,0,0,0,0,0,0,0,0,0,0,0,0,0,0],"thread":0},"cause":6,"how":"trap"},"entries":8,"steps":1,"verdict":"legal"}"#;
+    assert_found(
+        &rt,
+        rt.alloc(),
+        LOADS_NOTHING,
+        "",
+        TRAPPED,
+        sentences.as_slice(),
+        json,
+    )
+}
+
+// What is told of the journal of a guest that runs as three replicas with one driver and these faults.
+fn assert_found(
+    rt: &impl Abort,
+    alloc: Global,
+    guest: &[u32],
+    faults: &str,
+    journal: &str,
+    sentences: &[&str],
+    json: &str,
+) -> Result<(), Fail> {
+    assert!(rt; guest.len() <= 65_536);
+    let mut store = MemStore::new(alloc);
+    store.put("guest", image_bytes(alloc, guest, 5, &[])?.as_slice())?;
+    store.put("faults", faults.as_bytes())?;
+    store.put("journal", journal.as_bytes())?;
+    let settings = Settings {
+        drivers: 1,
+        ..Settings::DEFAULT
+    };
+    assert!(rt; settings.is_in_range());
+    let run = RunCommand {
+        executable: "guest",
+        input: None,
+        faults: Some("faults"),
+        settings,
+        journal: false,
+    };
+    match find(alloc, &run, "journal", &mut store) {
+        Ok(findings) => assert_told(rt, alloc, &findings, sentences, json),
+        Err(answer) => panic!(rt; "{answer:?}"),
+    }
+}

@@ -1,6 +1,6 @@
 -- Why a command is refused, and which files its store was asked for.
-use Rattle.std.specs.Prelude.{◌≡◌, ◌⊎◌, ⊤, ℕ, ◌+◌, ◌<◌, ◌≤◌, true, List, [], ◌∷◌, ◌++◌, length, Option, Some, None, Err}
-use Rattle.ro_io.specs.Outside.{Asks, Call, Calls, Files, Rose, more, unfailed}
+use Rattle.std.specs.Prelude.{◌≡◌, ◌⊎◌, ⊤, ℕ, ◌<◌, ◌≤◌, true, List, [], ◌∷◌, ◌++◌, length, Option, Some, None, Err}
+use Rattle.ro_io.specs.Outside.{Asks, Call, Calls, Files, Rose, unfailed}
 use Rattle.ro_make.specs.Bench.{bench_file}
 use Rattle.ro_image.specs.Executable.{bad_code}
 use Rattle.ro_faults.specs.declared.errors.FaultsCode.{FaultsCode}

@@ -1,5 +1,5 @@
 -- Where a thread stands, as its replica is copied and is given effects.
-use Rattle.std.specs.Prelude.{◌≡◌, ◌≢◌, ℕ, zero, suc, ◌+◌, ◌≤◌, Bool, true, false, ◌&&◌, if◌then◌else◌, List, [], ◌∷◌, ◌++◌, length, map, Option, Some, None, is_some, slice_get}
+use Rattle.std.specs.Prelude.{◌≡◌, ◌≢◌, ℕ, zero, suc, ◌≤◌, Bool, true, false, ◌&&◌, if◌then◌else◌, List, [], ◌∷◌, ◌++◌, length, map, Option, Some, None, is_some, slice_get}
 use Rattle.std.specs.Option.{option_and_then}
 use Rattle.std.proofs.Common.{refl, ap, ◌∙◌, arith}
 use Rattle.std.proofs.lemmas.Option.{slice_get_past}
@@ -7,7 +7,6 @@ use Rattle.ro_event.specs.declared.effects.Made.{Made}
 use Rattle.ro_event.specs.declared.stops.Stop.{Stop}
 use Rattle.ro_event.specs.Effects.{Effect}
 use Rattle.ro_exec.specs.Next.{Backed}
-use Rattle.ro_group.specs.Groups.{stands}
 use Rattle.ro_thread.specs.declared.Thread.{Thread}
 use Rattle.ro_replica.specs.Replica.{Replica, changed_at, thread_after, with_made, applied, is_cancelled, without_cancelled, cancelled, copied_threads, stop_of}
 use Rattle.ro_legal.proofs.Grants.{changed-other}

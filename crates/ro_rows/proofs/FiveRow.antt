@@ -1,5 +1,5 @@
 -- A row of five replicas: 0 and 3 are struck, both lose the vote, and the program exits with 7.
-use Rattle.std.specs.Prelude.{◌≡◌, true, [], ◌∷◌, Some}
+use Rattle.std.specs.Prelude.{◌≡◌, true, [], ◌∷◌}
 use Rattle.std.proofs.Common.{refl}
 use Rattle.ro_journal.specs.declared.losers.Lost.TheVariants.{Two}
 use Rattle.ro_decode.specs.Table.{instruction_of}

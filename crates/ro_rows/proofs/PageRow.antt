@@ -1,5 +1,5 @@
 -- Two threads that store to one page.
-use Rattle.std.specs.Prelude.{◌≡◌, true, [], ◌∷◌, None}
+use Rattle.std.specs.Prelude.{◌≡◌, true, [], ◌∷◌}
 use Rattle.std.proofs.Common.{refl}
 use Rattle.ro_journal.specs.declared.losers.Lost.TheVariants.{Nobody}
 use Rattle.ro_decode.specs.Table.{instruction_of}

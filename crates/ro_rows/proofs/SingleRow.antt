@@ -1,5 +1,5 @@
 -- Quanta of one instruction.
-use Rattle.std.specs.Prelude.{◌≡◌, true, [], ◌∷◌, length, None}
+use Rattle.std.specs.Prelude.{◌≡◌, true, [], ◌∷◌, length}
 use Rattle.std.proofs.Common.{refl}
 use Rattle.ro_journal.specs.declared.losers.Lost.TheVariants.{Nobody}
 use Rattle.ro_decode.specs.Table.{instruction_of}

@@ -1,5 +1,5 @@
 -- A replica that runs on until its watchdog stops it.
-use Rattle.std.specs.Prelude.{◌≡◌, true, [], ◌∷◌, Some}
+use Rattle.std.specs.Prelude.{◌≡◌, true, [], ◌∷◌}
 use Rattle.std.proofs.Common.{refl}
 use Rattle.ro_journal.specs.declared.losers.Lost.TheVariants.{One}
 use Rattle.ro_decode.specs.Table.{instruction_of}

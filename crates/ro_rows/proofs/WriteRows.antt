@@ -1,5 +1,5 @@
 -- Output: a sink that fails, and a struck byte.
-use Rattle.std.specs.Prelude.{◌≡◌, true, [], ◌∷◌, Some, None}
+use Rattle.std.specs.Prelude.{◌≡◌, true, [], ◌∷◌}
 use Rattle.std.proofs.Common.{refl, inr}
 use Rattle.std.proofs.Math.Dec.{lit<, lit≤}
 use Rattle.ro_journal.specs.declared.losers.Lost.TheVariants.{Nobody, One}

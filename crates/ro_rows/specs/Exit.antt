@@ -1,5 +1,5 @@
 -- The first path: a file of 96 bytes whose program exits with 7, and the journal of its default job.
-use Rattle.std.specs.Prelude.{ℕ, true, false, List, [], ◌∷◌, ◌++◌, None}
+use Rattle.std.specs.Prelude.{ℕ, true, false, List, [], ◌∷◌, ◌++◌}
 use Rattle.ro_journal.specs.declared.losers.Lost.TheVariants.{Nobody}
 use Rattle.ro_image.specs.Image.{Image, ranges_with}
 use Rattle.ro_image.specs.Executable.{no_calls}

@@ -50,10 +50,6 @@ mod tests {
 
     const CREATE: u32 = 0x1_0800;
 
-    fn trap(number: u8) -> Step {
-        Step::Stopped(Stop::Trap(number))
-    }
-
     fn range(start: u32, write: bool, execute: bool) -> Range {
         Range {
             start,
@@ -102,6 +98,149 @@ mod tests {
     }
 
     // a word, x5 and x6; the outcome, then x7 and pc; at x5 0x11000 stand the bytes 01 7F FF 80
+    type Row = (u32, u32, u32, Step, u32, u32);
+
+    const EXECUTED: &[Row] = &[
+        // lb, lbu, lh, lhu, lh, lw
+        (0x0032_8383, DATA, 0, Step::Did, 0xFFFF_FF80, CODE + 4),
+        (0x0032_C383, DATA, 0, Step::Did, 0x80, CODE + 4),
+        (0x0022_9383, DATA, 0, Step::Did, 0xFFFF_80FF, CODE + 4),
+        (0x0022_D383, DATA, 0, Step::Did, 0x80FF, CODE + 4),
+        (0x0002_9383, DATA, 0, Step::Did, 0x7F01, CODE + 4),
+        (0x0002_A383, DATA, 0, Step::Did, 0x80FF_7F01, CODE + 4),
+        // lh from an odd address, lw from a forbidden and from an unbacked page
+        (
+            0x0012_9383,
+            DATA,
+            0,
+            Step::Stopped(Stop::Trap(traps::MISALIGNED_LOAD)),
+            7,
+            CODE,
+        ),
+        (
+            0x0002_A383,
+            FORBIDDEN,
+            0,
+            Step::Stopped(Stop::Trap(traps::LOAD_FORBIDDEN)),
+            7,
+            CODE,
+        ),
+        (
+            0x0002_A383,
+            UNBACKED,
+            0,
+            Step::Stopped(Stop::PageFault(0x13)),
+            7,
+            CODE,
+        ),
+        // sw to an address that is no multiple of 4, to the code, and to an unbacked page
+        (
+            0x0062_A123,
+            DATA,
+            9,
+            Step::Stopped(Stop::Trap(traps::MISALIGNED_STORE)),
+            7,
+            CODE,
+        ),
+        (
+            0x0062_A023,
+            CODE,
+            9,
+            Step::Stopped(Stop::Trap(traps::STORE_FORBIDDEN)),
+            7,
+            CODE,
+        ),
+        (
+            0x0062_A023,
+            UNBACKED,
+            9,
+            Step::Stopped(Stop::PageFault(0x13)),
+            7,
+            CODE,
+        ),
+        // jalr to 1(x5), to 2(x5), and with rd = rs1; jal back by 4
+        (0x0012_83E7, DATA, 0, Step::Did, CODE + 4, DATA),
+        (
+            0x0022_83E7,
+            DATA,
+            0,
+            Step::Stopped(Stop::Trap(traps::MISALIGNED_TARGET)),
+            7,
+            CODE,
+        ),
+        (0x0002_82E7, DATA, 0, Step::Did, 7, DATA),
+        (0xFFDF_F3EF, 0, 0, Step::Did, CODE + 4, CODE - 4),
+        // beq, blt and bltu by 8, and beq by 6
+        (0x0062_8463, 3, 3, Step::Did, 7, CODE + 8),
+        (0x0062_8463, 3, 4, Step::Did, 7, CODE + 4),
+        (0x0062_C463, 0xFFFF_FFFF, 1, Step::Did, 7, CODE + 8),
+        (0x0062_E463, 0xFFFF_FFFF, 1, Step::Did, 7, CODE + 4),
+        (
+            0x0062_8363,
+            3,
+            3,
+            Step::Stopped(Stop::Trap(traps::MISALIGNED_TARGET)),
+            7,
+            CODE,
+        ),
+        (0x0062_8363, 3, 4, Step::Did, 7, CODE + 4),
+        // addi to x0, addi -1, sra, auipc, lui, mulhsu, div, fence
+        (0x0012_8013, 5, 0, Step::Did, 7, CODE + 4),
+        (0xFFF2_8393, 0, 0, Step::Did, 0xFFFF_FFFF, CODE + 4),
+        (
+            0x4062_D3B3,
+            0x8000_0000,
+            31,
+            Step::Did,
+            0xFFFF_FFFF,
+            CODE + 4,
+        ),
+        (0xFFFF_F397, 0, 0, Step::Did, CODE - 0x1000, CODE + 4),
+        (0x8000_03B7, 0, 0, Step::Did, 0x8000_0000, CODE + 4),
+        (
+            0x0262_A3B3,
+            0xFFFF_FFFF,
+            0xFFFF_FFFF,
+            Step::Did,
+            0xFFFF_FFFF,
+            CODE + 4,
+        ),
+        (
+            0x0262_C3B3,
+            0x8000_0000,
+            0xFFFF_FFFF,
+            Step::Did,
+            0x8000_0000,
+            CODE + 4,
+        ),
+        (0x0FF0_000F, 0, 0, Step::Did, 7, CODE + 4),
+        // ebreak, fence.i and a word of zeros
+        (
+            0x0010_0073,
+            0,
+            0,
+            Step::Stopped(Stop::Trap(traps::BREAKPOINT)),
+            7,
+            CODE,
+        ),
+        (
+            0x0000_100F,
+            0,
+            0,
+            Step::Stopped(Stop::Trap(traps::ILLEGAL_INSTRUCTION)),
+            7,
+            CODE,
+        ),
+        (
+            0x0000_0000,
+            0,
+            0,
+            Step::Stopped(Stop::Trap(traps::ILLEGAL_INSTRUCTION)),
+            7,
+            CODE,
+        ),
+    ];
+
     #[test]
     fn executes(rt: HostRuntime) -> Result<(), Fail> {
         let regions = regions(rt.alloc())?;
@@ -109,120 +248,45 @@ mod tests {
         let mut pages = Pages::new(rt.alloc())?;
         back(&rt, &mut pages, CODE / 4096)?;
         back(&rt, &mut pages, DATA / 4096)?;
-        for (word, x5, x6, want, x7, pc) in [
-            // lb, lbu, lh, lhu, lh, lw
-            (0x0032_8383, DATA, 0, Step::Did, 0xFFFF_FF80, CODE + 4),
-            (0x0032_C383, DATA, 0, Step::Did, 0x80, CODE + 4),
-            (0x0022_9383, DATA, 0, Step::Did, 0xFFFF_80FF, CODE + 4),
-            (0x0022_D383, DATA, 0, Step::Did, 0x80FF, CODE + 4),
-            (0x0002_9383, DATA, 0, Step::Did, 0x7F01, CODE + 4),
-            (0x0002_A383, DATA, 0, Step::Did, 0x80FF_7F01, CODE + 4),
-            // lh from an odd address, lw from a forbidden and from an unbacked page
-            (0x0012_9383, DATA, 0, trap(traps::MISALIGNED_LOAD), 7, CODE),
-            (
-                0x0002_A383,
-                FORBIDDEN,
-                0,
-                trap(traps::LOAD_FORBIDDEN),
-                7,
-                CODE,
-            ),
-            (
-                0x0002_A383,
-                UNBACKED,
-                0,
-                Step::Stopped(Stop::PageFault(0x13)),
-                7,
-                CODE,
-            ),
-            // sw to an address that is no multiple of 4, to the code, and to an unbacked page
-            (0x0062_A123, DATA, 9, trap(traps::MISALIGNED_STORE), 7, CODE),
-            (0x0062_A023, CODE, 9, trap(traps::STORE_FORBIDDEN), 7, CODE),
-            (
-                0x0062_A023,
-                UNBACKED,
-                9,
-                Step::Stopped(Stop::PageFault(0x13)),
-                7,
-                CODE,
-            ),
-            // jalr to 1(x5), to 2(x5), and with rd = rs1; jal back by 4
-            (0x0012_83E7, DATA, 0, Step::Did, CODE + 4, DATA),
-            (
-                0x0022_83E7,
-                DATA,
-                0,
-                trap(traps::MISALIGNED_TARGET),
-                7,
-                CODE,
-            ),
-            (0x0002_82E7, DATA, 0, Step::Did, 7, DATA),
-            (0xFFDF_F3EF, 0, 0, Step::Did, CODE + 4, CODE - 4),
-            // beq, blt and bltu by 8, and beq by 6
-            (0x0062_8463, 3, 3, Step::Did, 7, CODE + 8),
-            (0x0062_8463, 3, 4, Step::Did, 7, CODE + 4),
-            (0x0062_C463, 0xFFFF_FFFF, 1, Step::Did, 7, CODE + 8),
-            (0x0062_E463, 0xFFFF_FFFF, 1, Step::Did, 7, CODE + 4),
-            (0x0062_8363, 3, 3, trap(traps::MISALIGNED_TARGET), 7, CODE),
-            (0x0062_8363, 3, 4, Step::Did, 7, CODE + 4),
-            // addi to x0, addi -1, sra, auipc, lui, mulhsu, div, fence
-            (0x0012_8013, 5, 0, Step::Did, 7, CODE + 4),
-            (0xFFF2_8393, 0, 0, Step::Did, 0xFFFF_FFFF, CODE + 4),
-            (
-                0x4062_D3B3,
-                0x8000_0000,
-                31,
-                Step::Did,
-                0xFFFF_FFFF,
-                CODE + 4,
-            ),
-            (0xFFFF_F397, 0, 0, Step::Did, CODE - 0x1000, CODE + 4),
-            (0x8000_03B7, 0, 0, Step::Did, 0x8000_0000, CODE + 4),
-            (
-                0x0262_A3B3,
-                0xFFFF_FFFF,
-                0xFFFF_FFFF,
-                Step::Did,
-                0xFFFF_FFFF,
-                CODE + 4,
-            ),
-            (
-                0x0262_C3B3,
-                0x8000_0000,
-                0xFFFF_FFFF,
-                Step::Did,
-                0x8000_0000,
-                CODE + 4,
-            ),
-            (0x0FF0_000F, 0, 0, Step::Did, 7, CODE + 4),
-            // ebreak, fence.i and a word of zeros
-            (0x0010_0073, 0, 0, trap(traps::BREAKPOINT), 7, CODE),
-            (0x0000_100F, 0, 0, trap(traps::ILLEGAL_INSTRUCTION), 7, CODE),
-            (0x0000_0000, 0, 0, trap(traps::ILLEGAL_INSTRUCTION), 7, CODE),
-        ] {
-            put(&rt, &mut pages, CODE, word);
-            put(&rt, &mut pages, DATA, 0x80FF_7F01);
-            let mut cpu = Cpu {
-                registers: [0; 31],
-                pc: CODE,
-            };
-            cpu.set(5, x5);
-            cpu.set(6, x6);
-            cpu.set(7, 7);
-            assert_eq!(rt;
-                step(&mut cpu, &mut pages, &regions, &calls),
-                want,
-                "{word:x}"
-            );
-            assert_eq!(rt; cpu.get(7), x7, "{word:x}");
-            assert_eq!(rt; cpu.pc, pc, "{word:x}");
-            assert_eq!(rt; cpu.get(0), 0);
-            assert_eq!(rt; get(&rt, &pages, DATA), 0x80FF_7F01);
+        for row in EXECUTED {
+            assert_executes(&rt, &mut pages, &regions, &calls, row);
         }
         Ok(())
     }
 
+    fn assert_executes(
+        rt: &impl Abort,
+        pages: &mut Pages,
+        regions: &Regions,
+        calls: &CallTable,
+        row: &Row,
+    ) {
+        let (word, x5, x6, want, x7, pc) = *row;
+        put(rt, pages, CODE, word);
+        put(rt, pages, DATA, 0x80FF_7F01);
+        let mut cpu = Cpu {
+            registers: [0; 31],
+            pc: CODE,
+        };
+        cpu.set(5, x5);
+        cpu.set(6, x6);
+        cpu.set(7, 7);
+        assert_eq!(rt; step(&mut cpu, pages, regions, calls), want, "{word:x}");
+        assert_eq!(rt; cpu.get(7), x7, "{word:x}");
+        assert_eq!(rt; cpu.pc, pc, "{word:x}");
+        assert_eq!(rt; cpu.get(0), 0);
+        assert_eq!(rt; get(rt, pages, DATA), 0x80FF_7F01);
+    }
+
     // sb, sh and sw of 0x44332211 at x5, over the same bytes
+    const STORED: &[(u32, u32, u32)] = &[
+        (0x0062_8023, DATA, 0x80FF_7F11),
+        (0x0062_8023, DATA + 3, 0x11FF_7F01),
+        (0x0062_9023, DATA, 0x80FF_2211),
+        (0x0062_9023, DATA + 2, 0x2211_7F01),
+        (0x0062_A023, DATA, 0x4433_2211),
+    ];
+
     #[test]
     fn stores(rt: HostRuntime) -> Result<(), Fail> {
         let regions = regions(rt.alloc())?;
@@ -230,30 +294,72 @@ mod tests {
         let mut pages = Pages::new(rt.alloc())?;
         back(&rt, &mut pages, CODE / 4096)?;
         back(&rt, &mut pages, DATA / 4096)?;
-        for (word, x5, want) in [
-            (0x0062_8023, DATA, 0x80FF_7F11),
-            (0x0062_8023, DATA + 3, 0x11FF_7F01),
-            (0x0062_9023, DATA, 0x80FF_2211),
-            (0x0062_9023, DATA + 2, 0x2211_7F01),
-            (0x0062_A023, DATA, 0x4433_2211),
-        ] {
-            put(&rt, &mut pages, CODE, word);
-            put(&rt, &mut pages, DATA, 0x80FF_7F01);
-            let mut cpu = Cpu {
-                registers: [0; 31],
-                pc: CODE,
-            };
-            cpu.set(5, x5);
-            cpu.set(6, 0x4433_2211);
-            assert_eq!(rt;
-                step(&mut cpu, &mut pages, &regions, &calls),
-                Step::Did,
-                "{word:x}"
-            );
-            assert_eq!(rt; get(&rt, &pages, DATA), want, "{word:x}");
+        for row in STORED {
+            assert_stores(&rt, &mut pages, &regions, &calls, *row);
         }
         Ok(())
     }
+
+    fn assert_stores(
+        rt: &impl Abort,
+        pages: &mut Pages,
+        regions: &Regions,
+        calls: &CallTable,
+        row: (u32, u32, u32),
+    ) {
+        let (word, x5, want) = row;
+        put(rt, pages, CODE, word);
+        put(rt, pages, DATA, 0x80FF_7F01);
+        let mut cpu = Cpu {
+            registers: [0; 31],
+            pc: CODE,
+        };
+        cpu.set(5, x5);
+        cpu.set(6, 0x4433_2211);
+        assert_eq!(rt;
+            step(&mut cpu, pages, regions, calls),
+            Step::Did,
+            "{word:x}"
+        );
+        assert_eq!(rt; get(rt, pages, DATA), want, "{word:x}");
+    }
+
+    const STANDING: &[(u32, Stop)] = &[
+        (
+            CODE,
+            Stop::Calls(Call {
+                which: Which::System(17),
+                a0: 10,
+                a1: 11,
+                a2: 12,
+                a3: 13,
+            }),
+        ),
+        (CODE + 2, Stop::Trap(traps::MISALIGNED_PC)),
+        (
+            0x7FFF_FFF0,
+            Stop::Calls(Call {
+                which: Which::Exit,
+                a0: 10,
+                a1: 11,
+                a2: 12,
+                a3: 13,
+            }),
+        ),
+        (
+            CREATE,
+            Stop::Calls(Call {
+                which: Which::Create,
+                a0: 10,
+                a1: 11,
+                a2: 12,
+                a3: 13,
+            }),
+        ),
+        (DATA, Stop::Trap(traps::FETCH_FORBIDDEN)),
+        (CODE + 0x1000 - 4, Stop::Trap(traps::ILLEGAL_INSTRUCTION)),
+        (UNBACKED, Stop::PageFault(0x13)),
+    ];
 
     #[test]
     fn stands(rt: HostRuntime) -> Result<(), Fail> {
@@ -262,37 +368,33 @@ mod tests {
         let mut pages = Pages::new(rt.alloc())?;
         back(&rt, &mut pages, CODE / 4096)?;
         put(&rt, &mut pages, CODE, 0x0000_0073);
-        let call = |which| Stop::Calls(Call {
-            which,
-            a0: 10,
-            a1: 11,
-            a2: 12,
-            a3: 13,
-        });
-        for (pc, want) in [
-            (CODE, call(Which::System(17))),
-            (CODE + 2, Stop::Trap(traps::MISALIGNED_PC)),
-            (0x7FFF_FFF0, call(Which::Exit)),
-            (CREATE, call(Which::Create)),
-            (DATA, Stop::Trap(traps::FETCH_FORBIDDEN)),
-            (CODE + 0x1000 - 4, Stop::Trap(traps::ILLEGAL_INSTRUCTION)),
-            (UNBACKED, Stop::PageFault(0x13)),
-        ] {
-            let mut cpu = Cpu {
-                registers: [0; 31],
-                pc,
-            };
-            for number in 10..18u8 {
-                cpu.set(number, u32::from(number));
-            }
-            let before = cpu;
-            assert_eq!(rt;
-                step(&mut cpu, &mut pages, &regions, &calls),
-                Step::Stopped(want),
-                "{pc:x}"
-            );
-            assert_eq!(rt; cpu, before);
+        for (pc, want) in STANDING {
+            assert_stands(&rt, &mut pages, &regions, &calls, *pc, *want);
         }
         Ok(())
+    }
+
+    fn assert_stands(
+        rt: &impl Abort,
+        pages: &mut Pages,
+        regions: &Regions,
+        calls: &CallTable,
+        pc: u32,
+        want: Stop,
+    ) {
+        let mut cpu = Cpu {
+            registers: [0; 31],
+            pc,
+        };
+        for number in 10..18u8 {
+            cpu.set(number, u32::from(number));
+        }
+        let before = cpu;
+        assert_eq!(rt;
+            step(&mut cpu, pages, regions, calls),
+            Step::Stopped(want),
+            "{pc:x}"
+        );
+        assert_eq!(rt; cpu, before);
     }
 }

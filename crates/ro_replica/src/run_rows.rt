@@ -153,104 +153,198 @@ fn byte(address: u32, bit: u8) -> Target {
     Target::Byte { address, bit }
 }
 
-// a quantum, a moment, a target, and how often it is struck there; the instructions, the hits and the stop, then x10, x31 and pc
+// Where a run stops.
+#[derive(Clone, Copy)]
+enum End {
+    // The exit, with what is in x10.
+    Exit,
+    Trap(u8),
+}
+
+fn stop_of(end: End, x10: u32) -> Stop {
+    match end {
+        End::Exit => exit(x10),
+        End::Trap(cause) => Stop::Trap(cause),
+    }
+}
+
+// A fault that is struck in a run by quanta: how often, and what comes of it.
+struct Strike {
+    quantum: u32,
+    at: u64,
+    target: Target,
+    times: usize,
+    count: u32,
+    hit: u32,
+    end: End,
+    x10: u32,
+    x31: u32,
+    pc: u32,
+}
+
+// The usual: struck once before the run has ended.
+const STRIKE: Strike = Strike {
+    quantum: 1,
+    at: 0,
+    target: Target::Register { number: 10, bit: 0 },
+    times: 1,
+    count: 4,
+    hit: 1,
+    end: End::Exit,
+    x10: 8,
+    x31: 2,
+    pc: 0x1_0064,
+};
+
+const STRIKES: &[Strike] = &[
+    // too late for the run
+    Strike {
+        at: 5,
+        hit: 0,
+        ..STRIKE
+    },
+    // before the first instruction, which writes x10; before the second, which adds 1; and behind both
+    Strike {
+        quantum: 2,
+        ..STRIKE
+    },
+    Strike {
+        quantum: 4096,
+        at: 1,
+        x10: 7,
+        ..STRIKE
+    },
+    Strike {
+        at: 2,
+        x10: 9,
+        ..STRIKE
+    },
+    // where the thread stands
+    Strike {
+        quantum: 2,
+        at: 4,
+        target: Target::Register { number: 10, bit: 1 },
+        x10: 10,
+        ..STRIKE
+    },
+    // twice on one bit
+    Strike {
+        quantum: 4096,
+        at: 2,
+        times: 2,
+        hit: 2,
+        ..STRIKE
+    },
+    // x31
+    Strike {
+        at: 3,
+        target: Target::Register {
+            number: 31,
+            bit: 31,
+        },
+        x31: 0x8000_0002,
+        ..STRIKE
+    },
+    // pc, past an instruction and to an odd address
+    Strike {
+        quantum: 2,
+        at: 1,
+        target: Target::Pc { bit: 2 },
+        count: 3,
+        x10: 7,
+        ..STRIKE
+    },
+    Strike {
+        quantum: 4096,
+        at: 1,
+        target: Target::Pc { bit: 0 },
+        count: 1,
+        end: End::Trap(1),
+        x10: 7,
+        x31: 0,
+        pc: 0x1_0059,
+        ..STRIKE
+    },
+    // bytes of the second instruction, before it and behind it, and of the last one, which becomes EBREAK
+    Strike {
+        at: 1,
+        target: Target::Byte {
+            address: 0x1_005B,
+            bit: 0,
+        },
+        x10: 24,
+        ..STRIKE
+    },
+    Strike {
+        quantum: 2,
+        at: 2,
+        target: Target::Byte {
+            address: 0x1_005B,
+            bit: 0,
+        },
+        ..STRIKE
+    },
+    Strike {
+        quantum: 4096,
+        at: 4,
+        target: Target::Byte {
+            address: 0x1_0066,
+            bit: 4,
+        },
+        end: End::Trap(9),
+        ..STRIKE
+    },
+    // of no permitted range, and of an unbacked page
+    Strike {
+        at: 1,
+        target: Target::Byte {
+            address: PAST,
+            bit: 3,
+        },
+        ..STRIKE
+    },
+    Strike {
+        quantum: 2,
+        at: 1,
+        target: Target::Byte {
+            address: HEAP,
+            bit: 3,
+        },
+        ..STRIKE
+    },
+];
+
 #[test]
 fn strikes(rt: HostRuntime) -> Result<(), Fail> {
     let image = image(&rt, rt.alloc());
     let regions = Arc::new(rt.alloc(), Regions::new(rt.alloc(), image.ranges())?)?;
-    for (quantum, at, target, times, count, hit, stop, x10, x31, pc) in [
-        // too late for the run
-        (1, 5, register(10, 0), 1, 4, 0, exit(8), 8, 2, ENTRY + 16),
-        // before the first instruction, which writes x10; before the second, which adds 1; and behind both
-        (2, 0, register(10, 0), 1, 4, 1, exit(8), 8, 2, ENTRY + 16),
-        (4096, 1, register(10, 0), 1, 4, 1, exit(7), 7, 2, ENTRY + 16),
-        (1, 2, register(10, 0), 1, 4, 1, exit(9), 9, 2, ENTRY + 16),
-        // where the thread stands
-        (2, 4, register(10, 1), 1, 4, 1, exit(10), 10, 2, ENTRY + 16),
-        // twice on one bit
-        (4096, 2, register(10, 0), 2, 4, 2, exit(8), 8, 2, ENTRY + 16),
-        // x31
-        (
-            1,
-            3,
-            register(31, 31),
-            1,
-            4,
-            1,
-            exit(8),
-            8,
-            0x8000_0002,
-            ENTRY + 16,
-        ),
-        // pc, past an instruction and to an odd address
-        (
-            2,
-            1,
-            Target::Pc { bit: 2 },
-            1,
-            3,
-            1,
-            exit(7),
-            7,
-            2,
-            ENTRY + 16,
-        ),
-        (
-            4096,
-            1,
-            Target::Pc { bit: 0 },
-            1,
-            1,
-            1,
-            Stop::Trap(1),
-            7,
-            0,
-            ENTRY + 5,
-        ),
-        // bytes of the second instruction, before it and behind it, and of the last one, which becomes EBREAK
-        (
-            1,
-            1,
-            byte(ENTRY + 7, 0),
-            1,
-            4,
-            1,
-            exit(24),
-            24,
-            2,
-            ENTRY + 16,
-        ),
-        (2, 2, byte(ENTRY + 7, 0), 1, 4, 1, exit(8), 8, 2, ENTRY + 16),
-        (
-            4096,
-            4,
-            byte(ENTRY + 18, 4),
-            1,
-            4,
-            1,
-            Stop::Trap(9),
-            8,
-            2,
-            ENTRY + 16,
-        ),
-        // of no permitted range, and of an unbacked page
-        (1, 1, byte(PAST, 3), 1, 4, 1, exit(8), 8, 2, ENTRY + 16),
-        (2, 1, byte(HEAP, 3), 1, 4, 1, exit(8), 8, 2, ENTRY + 16),
-    ] {
-        let faults = [fault(at, target); 2];
-        assert!(rt; times <= 2);
-        let mut replica = opened(&rt, rt.alloc(), &image, &regions, &faults[..times], 1_000)?;
-        let ran = run_all(&rt, &mut replica, quantum);
-        let want = Ran {
-            count,
-            hit,
-            stop: Some(stop),
-        };
-        assert_eq!(rt; ran, want, "by {quantum}, at {at} {target:?}");
-        assert_thread(&rt, &replica, Some(stop), x10, x31, pc);
-        assert_eq!(rt; byte_at(&replica, PAST), 0);
-        assert_eq!(rt; byte_at(&replica, HEAP), 0);
+    for row in STRIKES {
+        assert_strike(&rt, rt.alloc(), &image, &regions, row)?;
     }
+    Ok(())
+}
+
+fn assert_strike(
+    rt: &impl Abort,
+    alloc: Global,
+    image: &Executable,
+    regions: &Arc<Regions>,
+    row: &Strike,
+) -> Result<(), AllocError>
+    requires { arc_value regions.now ≡ image.now.ranges }
+{
+    let faults = [fault(row.at, row.target); 2];
+    assert!(rt; row.times <= 2);
+    let mut replica = opened(rt, alloc, image, regions, &faults[..row.times], 1_000)?;
+    let ran = run_all(rt, &mut replica, row.quantum);
+    let stop = stop_of(row.end, row.x10);
+    let Strike { quantum, at, .. } = row;
+    assert_eq!(rt; ran.count, row.count, "by {quantum}, at {at}");
+    assert_eq!(rt; ran.hit, row.hit);
+    assert_eq!(rt; ran.stop, Some(stop));
+    assert_thread(rt, &replica, Some(stop), row.x10, row.x31, row.pc);
+    assert_eq!(rt; byte_at(&replica, PAST), 0);
+    assert_eq!(rt; byte_at(&replica, HEAP), 0);
     Ok(())
 }
 
@@ -281,28 +375,121 @@ fn quanta(rt: HostRuntime) -> Result<(), Fail> {
     Ok(())
 }
 
-// a quantum, the watchdog and the moment of a fault of x10; the instructions, hits and stop of the first run, and x10
+// The first run of a quantum, with a fault of x10 at a moment, and what comes of it.
+struct FirstRun {
+    quantum: u32,
+    watchdog: u32,
+    at: u64,
+    count: u32,
+    hit: u32,
+    // Whether the watchdog stops it.
+    stops: bool,
+    x10: u32,
+}
+
+const FIRST_RUNS: &[FirstRun] = &[
+    FirstRun {
+        quantum: 0,
+        watchdog: 1_000,
+        at: 0,
+        count: 0,
+        hit: 1,
+        stops: false,
+        x10: 2,
+    },
+    FirstRun {
+        quantum: 0,
+        watchdog: 1_000,
+        at: 1,
+        count: 0,
+        hit: 0,
+        stops: false,
+        x10: 0,
+    },
+    FirstRun {
+        quantum: 2,
+        watchdog: 1_000,
+        at: 2,
+        count: 2,
+        hit: 1,
+        stops: false,
+        x10: 10,
+    },
+    FirstRun {
+        quantum: 2,
+        watchdog: 1_000,
+        at: 3,
+        count: 2,
+        hit: 0,
+        stops: false,
+        x10: 8,
+    },
+    FirstRun {
+        quantum: 4,
+        watchdog: 1_000,
+        at: 4,
+        count: 4,
+        hit: 1,
+        stops: false,
+        x10: 10,
+    },
+    FirstRun {
+        quantum: 4096,
+        watchdog: 2,
+        at: 2,
+        count: 2,
+        hit: 1,
+        stops: true,
+        x10: 10,
+    },
+    FirstRun {
+        quantum: 4096,
+        watchdog: 2,
+        at: 3,
+        count: 2,
+        hit: 0,
+        stops: true,
+        x10: 8,
+    },
+    FirstRun {
+        quantum: 2,
+        watchdog: 2,
+        at: 2,
+        count: 2,
+        hit: 1,
+        stops: false,
+        x10: 10,
+    },
+];
+
 #[test]
 fn strikes_at_the_end(rt: HostRuntime) -> Result<(), Fail> {
     let image = image(&rt, rt.alloc());
     let regions = Arc::new(rt.alloc(), Regions::new(rt.alloc(), image.ranges())?)?;
-    for (quantum, watchdog, at, count, hit, stop, x10) in [
-        (0, 1_000, 0, 0, 1, None, 2),
-        (0, 1_000, 1, 0, 0, None, 0),
-        (2, 1_000, 2, 2, 1, None, 10),
-        (2, 1_000, 3, 2, 0, None, 8),
-        (4, 1_000, 4, 4, 1, None, 10),
-        (4096, 2, 2, 2, 1, Some(Stop::Watchdog), 10),
-        (4096, 2, 3, 2, 0, Some(Stop::Watchdog), 8),
-        (2, 2, 2, 2, 1, None, 10),
-    ] {
-        let faults = [fault(at, register(10, 1))];
-        let mut replica = opened(&rt, rt.alloc(), &image, &regions, &faults, watchdog)?;
-        let ran = run(&rt, &mut replica, quantum);
-        assert_eq!(rt; ran, Ran { count, hit, stop }, "by {quantum}, at {at}");
-        let x31 = if count < 3 { 0 } else { 2 };
-        let pc = ENTRY.wrapping_add(count.wrapping_mul(4));
-        assert_thread(&rt, &replica, stop, x10, x31, pc);
+    for row in FIRST_RUNS {
+        assert_first_run(&rt, rt.alloc(), &image, &regions, row)?;
     }
+    Ok(())
+}
+
+fn assert_first_run(
+    rt: &impl Abort,
+    alloc: Global,
+    image: &Executable,
+    regions: &Arc<Regions>,
+    row: &FirstRun,
+) -> Result<(), AllocError>
+    requires { arc_value regions.now ≡ image.now.ranges }
+{
+    let faults = [fault(row.at, register(10, 1))];
+    let mut replica = opened(rt, alloc, image, regions, &faults, row.watchdog)?;
+    let ran = run(rt, &mut replica, row.quantum);
+    let stop = row.stops.then_some(Stop::Watchdog);
+    assert_eq!(rt; ran.count, row.count);
+    assert_eq!(rt; ran.hit, row.hit);
+    assert_eq!(rt; ran.stop, stop);
+    let x31 = if row.count < 3 { 0 } else { 2 };
+    let pc = ENTRY.wrapping_add(row.count.wrapping_mul(4));
+    assert_thread(rt, &replica, stop, row.x10, x31, pc);
     Ok(())
 }

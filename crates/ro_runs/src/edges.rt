@@ -7,13 +7,13 @@ use ro_journal::{Entry, How};
 use ro_make::image_bytes;
 use ro_report::{Answer, FileKind, JournalCode};
 use ro_settings::Settings;
-use ro_top::{romain, run_job, without_words};
+use ro_top::{Done, romain, run_job, without_words};
 use std::alloc::Global;
 use std::process::Abort;
 use std::sync::Wait;
 use std::sync::atomic::{AtomicU64, Ordering};
 use std::test::Fail;
-use std::thread;
+use std::thread::{self, Threads};
 
 // The views that are kept, by what each has in a0 at its exit.
 #[test]
@@ -27,19 +27,15 @@ fn kept_views(rt: HostRuntime) -> Result<(), Fail> {
         (&["run", "seven", "--faults", "unlike"], &[6, 5, 7]),
     ];
     for (command, statuses) in cases {
-        let words = words_of(rt.alloc(), command)?;
         let mut store = store(&rt, rt.alloc())?;
-        let mut report = sink(rt.alloc(), &[])?;
-        let out = sink(rt.alloc(), &[])?;
-        let done = romain(
+        let Came { done, report: _ } = do_command(
             &rt,
             rt.alloc(),
-            words.as_slice(),
+            command,
             &mut store,
-            out,
-            &mut report,
+            &[],
             &OpenGate,
-        );
+        )?;
         assert_eq!(rt; done.views.len(), statuses.len(), "of {command:?}");
         for (view, status) in done.views.iter().zip(statuses) {
             assert_eq!(rt; view.registers()[9], *status, "of {command:?}");
@@ -314,30 +310,28 @@ const PLANS: &[Plan] = &[
 #[test]
 fn plans(rt: HostRuntime) -> Result<(), Fail> {
     for row in PLANS {
-        let words = words_of(rt.alloc(), row.words)?;
-        let mut store = store(&rt, rt.alloc())?;
-        let mut report = sink(rt.alloc(), &[])?;
-        let out = sink(rt.alloc(), row.acts)?;
-        let done = romain(
-            &rt,
-            rt.alloc(),
-            words.as_slice(),
-            &mut store,
-            out,
-            &mut report,
-            &OpenGate,
-        );
-        assert_eq!(rt; done.answer, row.answer, "of {:?}", row.words);
-        assert_eq!(rt; done.status(), row.status, "of {:?}", row.words);
-        assert_eq!(rt; done.out.bytes(), row.held.as_bytes(), "of {:?}", row.words);
-        assert_eq!(rt;
-            report.bytes(),
-            row.reported.as_bytes(),
-            "of {:?}",
-            row.words
-        );
-        assert!(rt; done.journal.is_empty() && done.views.is_empty());
+        assert_plan(&rt, rt.alloc(), row)?;
     }
+    Ok(())
+}
+
+fn assert_plan<R: Threads + Wait + Abort + Sync>(
+    rt: &R,
+    alloc: Global,
+    row: &Plan,
+) -> Result<(), Fail> {
+    let mut store = store(rt, alloc)?;
+    let Came { done, report } = do_command(rt, alloc, row.words, &mut store, row.acts, &OpenGate)?;
+    assert_eq!(rt; done.answer, row.answer, "of {:?}", row.words);
+    assert_eq!(rt; done.status(), row.status, "of {:?}", row.words);
+    assert_eq!(rt; done.out.bytes(), row.held.as_bytes(), "of {:?}", row.words);
+    assert_eq!(rt;
+        report.bytes(),
+        row.reported.as_bytes(),
+        "of {:?}",
+        row.words
+    );
+    assert!(rt; done.journal.is_empty() && done.views.is_empty());
     Ok(())
 }
 
@@ -396,29 +390,7 @@ const TOLD: &[Plan] = &[
 #[test]
 fn drawn_texts(rt: HostRuntime) -> Result<(), Fail> {
     for row in TOLD {
-        let words = words_of(rt.alloc(), row.words)?;
-        let mut store = store(&rt, rt.alloc())?;
-        let mut report = sink(rt.alloc(), &[])?;
-        let out = sink(rt.alloc(), row.acts)?;
-        let done = romain(
-            &rt,
-            rt.alloc(),
-            words.as_slice(),
-            &mut store,
-            out,
-            &mut report,
-            &OpenGate,
-        );
-        assert_eq!(rt; done.answer, row.answer, "of {:?}", row.words);
-        assert_eq!(rt; done.status(), row.status, "of {:?}", row.words);
-        assert_eq!(rt; done.out.bytes(), row.held.as_bytes(), "of {:?}", row.words);
-        assert_eq!(rt;
-            report.bytes(),
-            row.reported.as_bytes(),
-            "of {:?}",
-            row.words
-        );
-        assert!(rt; done.journal.is_empty() && done.views.is_empty());
+        assert_plan(&rt, rt.alloc(), row)?;
     }
     Ok(())
 }
@@ -426,19 +398,16 @@ fn drawn_texts(rt: HostRuntime) -> Result<(), Fail> {
 // A made executable.
 #[test]
 fn made(rt: HostRuntime) -> Result<(), Fail> {
-    let words = words_of(rt.alloc(), &["bench", "1", "1"])?;
     let mut store = store(&rt, rt.alloc())?;
-    let mut report = sink(rt.alloc(), &[])?;
-    let out = sink(rt.alloc(), &[])?;
-    let done = romain(
+    let done = do_command(
         &rt,
         rt.alloc(),
-        words.as_slice(),
+        &["bench", "1", "1"],
         &mut store,
-        out,
-        &mut report,
+        &[],
         &OpenGate,
-    );
+    )?
+    .done;
     assert_eq!(rt; done.answer, Answer::Exit(0));
     assert_eq!(rt;
         done.out.bytes(),
@@ -457,91 +426,101 @@ fn longest_plan(rt: HostRuntime) -> Result<(), Fail> {
         plan.extend_from_slice(b"vote 0 1000000 0 - watch\n")?;
     }
     for command in ["plain", "races"] {
-        let words = words_of(rt.alloc(), &[command, "seven", "--plan", "long"])?;
-        let mut store = store(&rt, rt.alloc())?;
-        store.put("long", plan.as_slice())?;
-        let mut report = sink(rt.alloc(), &[])?;
-        let out = sink(rt.alloc(), &[])?;
-        let done = romain(
-            &rt,
-            rt.alloc(),
-            words.as_slice(),
-            &mut store,
-            out,
-            &mut report,
-            &OpenGate,
-        );
-        let limit = Answer::Limit {
-            steps: 1_000_000_000,
-            next: 1_000_000,
-        };
-        assert_eq!(rt; done.answer, limit);
-        assert_eq!(rt; done.status(), 244);
-        assert_eq!(rt;
-            report.bytes(),
-            b"answer limit 1000000000 1000000\n".as_slice()
-        );
+        assert_too_long(&rt, rt.alloc(), command, plan.as_slice())?;
     }
+    Ok(())
+}
+
+fn assert_too_long<R: Threads + Wait + Abort + Sync>(
+    rt: &R,
+    alloc: Global,
+    command: &str,
+    plan: &[u8],
+) -> Result<(), Fail> {
+    let mut store = store(rt, alloc)?;
+    store.put("long", plan)?;
+    let words = [command, "seven", "--plan", "long"];
+    let Came { done, report } = do_command(rt, alloc, &words, &mut store, &[], &OpenGate)?;
+    let limit = Answer::Limit {
+        steps: 1_000_000_000,
+        next: 1_000_000,
+    };
+    assert_eq!(rt; done.answer, limit);
+    assert_eq!(rt; done.status(), 244);
+    assert_eq!(rt;
+        report.bytes(),
+        b"answer limit 1000000000 1000000\n".as_slice()
+    );
     Ok(())
 }
 
 // Files of as many bytes as they may have, and of one more.
 #[test]
 fn long_files(rt: HostRuntime) -> Result<(), Fail> {
-    let cases: [(&[&str], usize, Answer); 6] = [
-        (
-            &["run", "read", "--input", "long"],
-            1024 * 1024,
-            Answer::Exit(4),
-        ),
-        (
-            &["run", "read", "--input", "long"],
-            1024 * 1024 + 1,
-            Answer::TooLong(FileKind::Input),
-        ),
-        (
-            &["run", "seven", "--faults", "long"],
-            64 * 1024 + 1,
-            Answer::TooLong(FileKind::Faults),
-        ),
-        (
-            &["run", "long"],
-            8 * 1024 * 1024 + 1,
-            Answer::TooLong(FileKind::Exe),
-        ),
-        (
-            &["plain", "seven", "--plan", "long"],
-            16 * 1024 * 1024,
-            Answer::BadPlan {
-                line: 1,
-                code: JournalCode::Form,
-            },
-        ),
-        (
-            &["plain", "seven", "--plan", "long"],
-            16 * 1024 * 1024 + 1,
-            Answer::TooLong(FileKind::Plan),
-        ),
-    ];
-    for (command, size, answer) in cases {
-        let words = words_of(rt.alloc(), command)?;
+    for (command, size, answer) in LONG {
         let mut store = store(&rt, rt.alloc())?;
-        let long = vec![in rt.alloc(); 0_u8; size]?;
+        let long = vec![in rt.alloc(); 0_u8; *size]?;
         store.put("long", long.as_slice())?;
-        let mut report = sink(rt.alloc(), &[])?;
-        let out = sink(rt.alloc(), &[])?;
-        let done = romain(
-            &rt,
-            rt.alloc(),
-            words.as_slice(),
-            &mut store,
-            out,
-            &mut report,
-            &OpenGate,
-        );
-        assert_eq!(rt; done.answer, answer, "of {command:?}");
+        let done = do_command(&rt, rt.alloc(), command, &mut store, &[], &OpenGate)?.done;
+        assert_eq!(rt; done.answer, *answer, "of {command:?}");
     }
     Ok(())
+}
+
+// A command, how many bytes its file `long` has, and the answer.
+const LONG: &[(&[&str], usize, Answer)] = &[
+    (
+        &["run", "read", "--input", "long"],
+        0x10_0000,
+        Answer::Exit(4),
+    ),
+    (
+        &["run", "read", "--input", "long"],
+        0x10_0001,
+        Answer::TooLong(FileKind::Input),
+    ),
+    (
+        &["run", "seven", "--faults", "long"],
+        0x1_0001,
+        Answer::TooLong(FileKind::Faults),
+    ),
+    (&["run", "long"], 0x80_0001, Answer::TooLong(FileKind::Exe)),
+    (
+        &["plain", "seven", "--plan", "long"],
+        0x100_0000,
+        Answer::BadPlan {
+            line: 1,
+            code: JournalCode::Form,
+        },
+    ),
+    (
+        &["plain", "seven", "--plan", "long"],
+        0x100_0001,
+        Answer::TooLong(FileKind::Plan),
+    ),
+];
+
+// What a command came to, and what was reported.
+#[derive(Drop)]
+struct Came {
+    done: Done<MemSink>,
+    report: MemSink,
+}
+
+// Runs a command over a store, with an output that takes what the acts say.
+fn do_command<R: Threads + Wait + Sync, G: Gate + Sync>(
+    rt: &R,
+    alloc: Global,
+    command: &[&str],
+    store: &mut MemStore,
+    acts: &[Act],
+    gate: &G,
+) -> Result<Came, Fail> {
+    let words = words_of(alloc, command)?;
+    let mut report = sink(alloc, &[])?;
+    let out = sink(alloc, acts)?;
+    let done = romain(rt, alloc, words.as_slice(), store, out, &mut report, gate);
+    Ok(Came { done, report })
 }
 
 // The words behind the program's name.
@@ -723,24 +702,14 @@ impl Gate for Meeting {
 // Two drivers are inside their runs at once: while one stands at the gate with its lease, the other takes two.
 #[test]
 fn two_drivers_at_once(rt: HostRuntime) -> Result<(), Fail> {
-    let words = words_of(rt.alloc(), &["run", "seven", "--drivers", "2"])?;
     let mut store = store(&rt, rt.alloc())?;
-    let mut report = sink(rt.alloc(), &[])?;
-    let out = sink(rt.alloc(), &[])?;
     let gate = Meeting {
         first: AtomicU64::new(0),
         others: AtomicU64::new(0),
         met: AtomicU64::new(0),
     };
-    let done = romain(
-        &rt,
-        rt.alloc(),
-        words.as_slice(),
-        &mut store,
-        out,
-        &mut report,
-        &gate,
-    );
+    let words = ["run", "seven", "--drivers", "2"];
+    let done = do_command(&rt, rt.alloc(), &words, &mut store, &[], &gate)?.done;
     assert_eq!(rt; done.answer, Answer::Exit(7));
     assert_eq!(rt; gate.met.load(Ordering::SeqCst), 1);
     Ok(())

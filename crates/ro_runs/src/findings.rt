@@ -94,10 +94,9 @@ const REGISTERS: [u32; 31] = [
     27, 28, 29, 30, 31,
 ];
 
-#[test]
-fn a_trap(rt: HostRuntime) -> Result<(), Fail> {
-    let alloc = rt.alloc();
-    let at = Some(Trapped {
+// A thread that trapped.
+fn trapped(alloc: Global) -> Result<Trapped, AllocError> {
+    Ok(Trapped {
         thread: 1,
         place: place(alloc, 0x10074, "main", 0x20)?,
         registers: REGISTERS,
@@ -106,7 +105,12 @@ fn a_trap(rt: HostRuntime) -> Result<(), Fail> {
             text: String::from_str(alloc, "sw zero, 216(s0)")?,
             touched: Some(0x100D8),
         }),
-    });
+    })
+}
+
+#[test]
+fn a_trap(rt: HostRuntime) -> Result<(), Fail> {
+    let alloc = rt.alloc();
     let sentences = [
         "legal",
         "The journal has 8 entries, and its plan 3 steps.",
@@ -121,6 +125,7 @@ fn a_trap(rt: HostRuntime) -> Result<(), Fail> {
     ];
     let json =
         r#"{"copies":[],"end":{"at":{"function":{"name":"main","offset":32},"instruction":{"text":"sw zero, 216(s0)","touched":65752,"word":201600035},"pc":65652,"registers":[1,2,3,4,5,6,7,8,9,10,11,12,13,14,15,16,17,18,19,20,21,22,23,24,25,26,27,28,29,30,31],"thread":1},"cause":8,"how":"trap"},"entries":8,"steps":3,"verdict":"legal"}"#;
+    let at = Some(trapped(alloc)?);
     let end = Ended::Trap { cause: 8, at };
     assert_told(
         &rt,
@@ -131,9 +136,8 @@ fn a_trap(rt: HostRuntime) -> Result<(), Fail> {
     )
 }
 
-#[test]
-fn waiting_threads(rt: HostRuntime) -> Result<(), Fail> {
-    let alloc = rt.alloc();
+// A thread of each state.
+fn waiting(alloc: Global) -> Result<Vec<Waiting>, AllocError> {
     let states = [
         State::Exited,
         State::Locks {
@@ -152,6 +156,12 @@ fn waiting_threads(rt: HostRuntime) -> Result<(), Fail> {
     for (thread, state) in (0..6).zip(states) {
         threads.push(Waiting { thread, state })?;
     }
+    Ok(threads)
+}
+
+#[test]
+fn waiting_threads(rt: HostRuntime) -> Result<(), Fail> {
+    let alloc = rt.alloc();
     let sentences = [
         "legal",
         "The journal has 8 entries, and its plan 3 steps.",
@@ -165,7 +175,7 @@ fn waiting_threads(rt: HostRuntime) -> Result<(), Fail> {
     ];
     let json =
         r#"{"copies":[],"end":{"how":"deadlock","threads":[{"state":"exited","thread":0},{"mutex":65792,"owner":4,"state":"locks","thread":1},{"mutex":65792,"owner":null,"state":"locks","thread":2},{"other":1,"state":"joins","thread":3},{"state":"blocked","thread":4},{"state":"unblocked","thread":5}]},"entries":8,"steps":3,"verdict":"legal"}"#;
-    let end = Ended::Deadlock(threads);
+    let end = Ended::Deadlock(waiting(alloc)?);
     assert_told(
         &rt,
         alloc,
@@ -184,9 +194,8 @@ const LOCK: Call = Call {
     a3: 0,
 };
 
-#[test]
-fn standing_threads(rt: HostRuntime) -> Result<(), Fail> {
-    let alloc = rt.alloc();
+// A thread at each stop, and one that does not stand still.
+fn standing(alloc: Global) -> Result<Vec<Standing>, AllocError> {
     let mut threads = Vec::new(alloc);
     let stops = [
         Stop::Calls(LOCK),
@@ -202,6 +211,12 @@ fn standing_threads(rt: HostRuntime) -> Result<(), Fail> {
         thread: 4,
         at: None,
     })?;
+    Ok(threads)
+}
+
+#[test]
+fn standing_threads(rt: HostRuntime) -> Result<(), Fail> {
+    let alloc = rt.alloc();
     let sentences = [
         "legal",
         "The journal has 8 entries, and its plan 3 steps.",
@@ -217,7 +232,7 @@ fn standing_threads(rt: HostRuntime) -> Result<(), Fail> {
     let end = Ended::Limit {
         steps: 3,
         next: 6,
-        threads,
+        threads: standing(alloc)?,
     };
     assert_told(
         &rt,
@@ -228,23 +243,31 @@ fn standing_threads(rt: HostRuntime) -> Result<(), Fail> {
     )
 }
 
+// Parts of views that differ.
+fn fields(alloc: Global) -> Result<Vec<Field>, AllocError> {
+    let mut fields = Vec::new(alloc);
+    fields.push(pcs(alloc)?)?;
+    fields.push(Field::Since(Vec::from_slice(alloc, &[2, 3])?))?;
+    fields.push(Field::Register(10, Vec::from_slice(alloc, &[7, 255])?))?;
+    fields.push(Field::Stop(Vec::from_slice(alloc, &[Stop::Calls(LOCK), Stop::Watchdog])?))?;
+    fields.push(Field::Payload(Vec::from_slice(alloc, &[5, 0])?))?;
+    Ok(fields)
+}
+
+// Two places, of which one has no function.
+fn pcs(alloc: Global) -> Result<Field, AllocError> {
+    let mut places = Vec::new(alloc);
+    places.push(place(alloc, 0x10054, "main", 0)?)?;
+    places.push(Place {
+        pc: 0x10058,
+        function: None,
+    })?;
+    Ok(Field::Pc(places))
+}
+
 #[test]
 fn differing_views(rt: HostRuntime) -> Result<(), Fail> {
     let alloc = rt.alloc();
-    let places = vec![in alloc;
-        place(alloc, 0x10054, "main", 0)?,
-        Place {
-            pc: 0x10058,
-            function: None
-        },
-    ]?;
-    let fields = vec![in alloc;
-        Field::Pc(places),
-        Field::Since(vec![in alloc; 2, 3]?),
-        Field::Register(10, vec![in alloc; 7, 255]?),
-        Field::Stop(vec![in alloc; Stop::Calls(LOCK), Stop::Watchdog]?),
-        Field::Payload(vec![in alloc; 5, 0]?),
-    ]?;
     let sentences = [
         "legal",
         "The journal has 8 entries, and its plan 3 steps.",
@@ -257,7 +280,7 @@ fn differing_views(rt: HostRuntime) -> Result<(), Fail> {
     ];
     let json =
         r#"{"copies":[],"end":{"fields":[{"part":"pc","values":[{"function":{"name":"main","offset":0},"pc":65620},{"function":null,"pc":65624}]},{"part":"since","values":[2,3]},{"part":"x10","values":[7,255]},{"part":"stop","values":["call","watchdog"]},{"part":"payload","values":[5,0]}],"how":"differ"},"entries":8,"steps":3,"verdict":"legal"}"#;
-    let end = Ended::Differ(fields);
+    let end = Ended::Differ(fields(alloc)?);
     assert_told(
         &rt,
         alloc,

@@ -1,6 +1,6 @@
 //! Rows of what effects and recoveries leave, and of what votes see.
 ghost use Rattle.std.specs.Prelude.{◌≡◌, ◌<◌, ◌^◌, IsTrue, IfSome, IfOk, length};
-ghost use Rattle.ro_replica.specs.Seen.{AreFaults, IsOpening, SameProgram};
+ghost use Rattle.ro_replica.specs.Seen.{AreFaults, AreTwins, IsOpening, SameProgram};
 
 use super::*;
 use ro_event::{Call, Effect, Goes, Made, Stop, View, Which};
@@ -13,7 +13,6 @@ use ro_thread::Thread;
 use std::alloc::{AllocError, Global};
 use std::process::Abort;
 use std::sync::Arc;
-use std::test::Fail;
 
 // A program of three words that ends with the status 7.
 const SHORT: [u8; 96] = [
@@ -43,6 +42,18 @@ fn opened(
 {
     let regions = Arc::new(alloc, Regions::new(alloc, image.ranges())?)?;
     Replica::new(alloc, image, regions, number, faults, 1_000)
+}
+
+// One replica, with no look at its program.
+fn alone(
+    rt: &impl Abort,
+    alloc: Global,
+    number: u32,
+    faults: &[Fault],
+) -> Result<Replica, AllocError>
+    requires { AreFaults faults.now }
+{
+    opened(alloc, &image(rt, alloc), number, faults)
 }
 
 // A fault of each of two replicas.
@@ -119,6 +130,17 @@ fn apply(rt: &impl Abort, replica: &mut Replica, effect: &Effect) -> Result<(), 
     Ok(())
 }
 
+// Stores bytes by an effect of the first thread.
+fn put(
+    rt: &impl Abort,
+    alloc: Global,
+    replica: &mut Replica,
+    place: u32,
+    bytes: &[u8],
+) -> Result<(), AllocError> {
+    apply(rt, replica, &stores(place, Vec::from_slice(alloc, bytes)?))
+}
+
 // A thread comes to a stop.
 fn stand(rt: &impl Abort, replica: &mut Replica, thread: usize, since: u32, done: u128, stop: Stop)
     ensures program { SameProgram replica.new replica.old }
@@ -138,38 +160,59 @@ fn thread(rt: &impl Abort, replica: &Replica, number: usize) -> Thread {
     replica.threads[number]
 }
 
-#[test]
-fn opens(rt: HostRuntime) -> Result<(), Fail> {
-    let image = image(&rt, rt.alloc());
-    let replica = opened(rt.alloc(), &image, 1, &FAULTS)?;
-    assert_eq!(rt; replica.waiting.as_slice(), &FAULTS[1..2]);
-    assert_eq!(rt; replica.threads.len(), 1);
+// The first thread at the program's entry.
+fn first() -> Cpu {
     let mut registers = [0; 31];
     registers[1] = 0x7000_FFF0;
-    let cpu = Cpu {
+    Cpu {
         registers,
         pc: 0x1_0054,
-    };
-    assert_eq!(rt; thread(&rt, &replica, 0).cpu, cpu);
+    }
+}
+
+fn program_bytes(replica: &Replica) -> [u8; 96] {
     let mut bytes = [1; 96];
     replica.pages.read_bytes(0x1_0000, &mut bytes);
-    assert_eq!(rt; bytes, SHORT);
+    bytes
+}
+
+fn assert_program(rt: &impl Abort, replica: &Replica) {
+    assert_eq!(rt; replica.waiting.as_slice(), &FAULTS[1..2]);
+    assert_eq!(rt; program_bytes(replica), SHORT);
+}
+
+fn assert_first_thread(rt: &impl Abort, replica: &Replica) {
+    assert_eq!(rt; replica.threads.len(), 1);
+    assert_eq!(rt; thread(rt, replica, 0).cpu, first());
+}
+
+#[test]
+fn opens(rt: HostRuntime) -> Result<(), AllocError> {
+    let replica = alone(&rt, rt.alloc(), 1, &FAULTS)?;
+    assert_program(&rt, &replica);
+    assert_first_thread(&rt, &replica);
     Ok(())
 }
 
-// A second thread, with the registers that it begins with.
-#[test]
-fn makes_a_thread(rt: HostRuntime) -> Result<(), Fail> {
-    let image = image(&rt, rt.alloc());
-    let mut replica = opened(rt.alloc(), &image, 0, &[])?;
-    apply(&rt, &mut replica, &creates(rt.alloc()))?;
-    assert_eq!(rt; thread(&rt, &replica, 0).cpu.pc, 0x1_0058);
+fn make_thread(rt: &impl Abort, alloc: Global, replica: &mut Replica) -> Result<(), AllocError> {
+    apply(rt, replica, &creates(alloc))
+}
+
+// A replica whose first thread has made a second one.
+fn with_two_threads(rt: &impl Abort, alloc: Global) -> Result<Replica, AllocError> {
+    let mut replica = alone(rt, alloc, 0, &[])?;
+    make_thread(rt, alloc, &mut replica)?;
+    Ok(replica)
+}
+
+// The second thread as it begins.
+fn second() -> Thread {
     let mut registers = [0; 31];
     registers[0] = 0x7FFF_FFF0;
     registers[1] = 0x7002_FFF0;
     registers[3] = 1;
     registers[9] = 77;
-    let made = Thread {
+    Thread {
         cpu: Cpu {
             registers,
             pc: 0x1_0058,
@@ -177,8 +220,19 @@ fn makes_a_thread(rt: HostRuntime) -> Result<(), Fail> {
         since: 0,
         done: 0,
         stop: None,
-    };
-    assert_eq!(rt; thread(&rt, &replica, 1), made);
+    }
+}
+
+fn assert_made(rt: &impl Abort, replica: &Replica) {
+    assert_eq!(rt; thread(rt, replica, 0).cpu.pc, 0x1_0058);
+    assert_eq!(rt; thread(rt, replica, 1), second());
+}
+
+// A second thread, with the registers that it begins with.
+#[test]
+fn makes_a_thread(rt: HostRuntime) -> Result<(), AllocError> {
+    let replica = with_two_threads(&rt, rt.alloc())?;
+    assert_made(&rt, &replica);
     Ok(())
 }
 
@@ -250,6 +304,23 @@ const ROWS: &[Row] = &[
     },
 ];
 
+fn effect_of(alloc: Global, row: &Row) -> Result<Effect, AllocError> {
+    let bytes = Vec::from_slice(alloc, row.bytes)?;
+    Ok(Effect {
+        page: row.page,
+        ..stores(row.place, bytes)
+    })
+}
+
+fn apply_row(
+    rt: &impl Abort,
+    alloc: Global,
+    replica: &mut Replica,
+    row: &Row,
+) -> Result<(), AllocError> {
+    apply(rt, replica, &effect_of(alloc, row)?)
+}
+
 fn check_row(
     rt: &impl Abort,
     alloc: Global,
@@ -262,44 +333,72 @@ fn check_row(
         stop: row.after,
         ..thread(rt, replica, 1)
     };
-    let backs = Effect {
-        page: row.page,
-        ..stores(row.place, Vec::from_slice(alloc, row.bytes)?)
-    };
-    apply(rt, replica, &backs)?;
-    assert_eq!(rt; thread(rt, replica, 1), want);
+    apply_row(rt, alloc, replica, row)?;
+    assert_applied(rt, replica, &want);
+    Ok(())
+}
+
+fn assert_applied(rt: &impl Abort, replica: &Replica, want: &Thread) {
+    assert_eq!(rt; thread(rt, replica, 1), *want);
     assert_eq!(rt; thread(rt, replica, 0).since, 0);
+}
+
+fn check_rows(rt: &impl Abort, alloc: Global, replica: &mut Replica) -> Result<(), AllocError> {
+    for row in ROWS {
+        check_row(rt, alloc, replica, row)?;
+    }
     Ok(())
 }
 
 // A page fault goes where its page is backed, and the thread's count since its release stays.
 #[test]
-fn cancels_faults(rt: HostRuntime) -> Result<(), Fail> {
-    let image = image(&rt, rt.alloc());
-    let mut replica = opened(rt.alloc(), &image, 0, &[])?;
-    apply(&rt, &mut replica, &creates(rt.alloc()))?;
-    for row in ROWS {
-        check_row(&rt, rt.alloc(), &mut replica, row)?;
-    }
+fn cancels_faults(rt: HostRuntime) -> Result<(), AllocError> {
+    let mut replica = with_two_threads(&rt, rt.alloc())?;
+    check_rows(&rt, rt.alloc(), &mut replica)
+}
+
+fn recover_one(rt: &impl Abort, winner: &mut Replica, loser: &mut Replica)
+    requires { AreTwins winner.old loser.old }
+{
+    stand(rt, winner, 0, 6, 60, Stop::Watchdog);
+    stand(rt, loser, 0, 5, 90, Stop::PageFault(0x11));
+    recover(&*winner, loser);
+}
+
+fn assert_recovered(rt: &impl Abort, winner: &Replica, loser: &Replica) {
+    let want = Thread {
+        done: 90,
+        ..thread(rt, winner, 0)
+    };
+    assert_eq!(rt; thread(rt, loser, 0), want);
+    assert_eq!(rt; loser.waiting.as_slice(), &FAULTS[1..2]);
+}
+
+fn recover_second(
+    rt: &impl Abort,
+    alloc: Global,
+    image: &Executable,
+    faults: &[Fault],
+    winner: &mut Replica,
+) -> Result<(), AllocError>
+    requires faults { AreFaults faults.now }
+    requires winner { IsOpening image.now 0 faults.now 1000 winner.old }
+{
+    let mut loser = opened(alloc, image, 1, faults)?;
+    recover_one(rt, winner, &mut loser);
+    assert_recovered(rt, winner, &loser);
     Ok(())
+}
+
+fn recover_both(rt: &impl Abort, alloc: Global, image: &Executable) -> Result<(), AllocError> {
+    let mut winner = opened(alloc, image, 0, &FAULTS)?;
+    recover_second(rt, alloc, image, &FAULTS, &mut winner)
 }
 
 // The loser keeps what it has retired itself and its own faults.
 #[test]
-fn recovers(rt: HostRuntime) -> Result<(), Fail> {
-    let image = image(&rt, rt.alloc());
-    let mut winner = opened(rt.alloc(), &image, 0, &FAULTS)?;
-    let mut loser = opened(rt.alloc(), &image, 1, &FAULTS)?;
-    stand(&rt, &mut winner, 0, 6, 60, Stop::Watchdog);
-    stand(&rt, &mut loser, 0, 5, 90, Stop::PageFault(0x11));
-    recover(&winner, &mut loser);
-    let want = Thread {
-        done: 90,
-        ..thread(&rt, &winner, 0)
-    };
-    assert_eq!(rt; thread(&rt, &loser, 0), want);
-    assert_eq!(rt; loser.waiting.as_slice(), &FAULTS[1..2]);
-    Ok(())
+fn recovers(rt: HostRuntime) -> Result<(), AllocError> {
+    recover_both(&rt, rt.alloc(), &image(&rt, rt.alloc()))
 }
 
 // A write of five bytes of the heap.
@@ -311,6 +410,15 @@ const WRITE: Stop = Stop::Calls(Call {
     a3: 0,
 });
 
+// The view of a replica that writes the first five of these bytes.
+fn view_of(rt: &impl Abort, replica: &Replica, bytes: &[u8; 6]) -> View {
+    let mut view = View::new([0; 31], 0, 0, Stop::Watchdog);
+    assert!(rt; replica.stop(0).is_some());
+    replica.view(0, &mut view);
+    assert_eq!(rt; view.payload(), &bytes[..5]);
+    view
+}
+
 // The view of a replica that stores bytes and then writes the first five.
 fn writes(
     rt: &impl Abort,
@@ -318,50 +426,86 @@ fn writes(
     replica: &mut Replica,
     bytes: &[u8; 6],
 ) -> Result<View, AllocError> {
-    apply(rt, replica, &stores(HEAP, Vec::from_slice(alloc, bytes)?))?;
+    put(rt, alloc, replica, HEAP, bytes)?;
     stand(rt, replica, 0, 6, 60, WRITE);
-    let mut view = View::new([0; 31], 0, 0, Stop::Watchdog);
-    assert!(rt; replica.stop(0).is_some());
-    replica.view(0, &mut view);
-    assert_eq!(rt; view.payload(), &bytes[..5]);
-    Ok(view)
+    Ok(view_of(rt, replica, bytes))
+}
+
+fn first_view(rt: &impl Abort, alloc: Global) -> Result<View, AllocError> {
+    let mut replica = alone(rt, alloc, 0, &[])?;
+    writes(rt, alloc, &mut replica, b"hello ")
+}
+
+fn is_alike(
+    rt: &impl Abort,
+    alloc: Global,
+    first: &View,
+    replica: &mut Replica,
+    bytes: &[u8; 6],
+) -> Result<bool, AllocError> {
+    let view = writes(rt, alloc, replica, bytes)?;
+    Ok(first.same(&view))
+}
+
+fn assert_views(
+    rt: &impl Abort,
+    alloc: Global,
+    first: &View,
+    replica: &mut Replica,
+) -> Result<(), AllocError> {
+    assert!(rt; is_alike(rt, alloc, first, replica, b"hello!")?);
+    assert!(rt; !is_alike(rt, alloc, first, replica, b"hellp ")?);
+    Ok(())
+}
+
+fn compare(rt: &impl Abort, alloc: Global, first: &View) -> Result<(), AllocError> {
+    let mut other = alone(rt, alloc, 1, &[])?;
+    assert_views(rt, alloc, first, &mut other)
 }
 
 // One byte of what is written tells two views apart, and a byte that is not written doesn't.
 #[test]
-fn sees_what_is_written(rt: HostRuntime) -> Result<(), Fail> {
-    let image = image(&rt, rt.alloc());
-    let mut one = opened(rt.alloc(), &image, 0, &[])?;
-    let mut other = opened(rt.alloc(), &image, 1, &[])?;
-    let first = writes(&rt, rt.alloc(), &mut one, b"hello ")?;
-    let same = writes(&rt, rt.alloc(), &mut other, b"hello!")?;
-    assert!(rt; first.same(&same));
-    let another = writes(&rt, rt.alloc(), &mut other, b"hellp ")?;
-    assert!(rt; !first.same(&another));
-    Ok(())
+fn sees_what_is_written(rt: HostRuntime) -> Result<(), AllocError> {
+    let first = first_view(&rt, rt.alloc())?;
+    compare(&rt, rt.alloc(), &first)
+}
+
+// Addresses, and the words that are fetched there.
+const WORDS: &[(u32, Option<u32>)] = &[
+    (0x1_0054, Some(0x0070_0513)),
+    (0x1_005C, Some(0x0000_0073)),
+    (0x1_0060, Some(0)),
+    (0x1_0056, None),
+    (HEAP, Some(0x0403_0201)),
+    (HEAP + 4, Some(0xFF)),
+    (HEAP + 1, None),
+    (0x1_2000, None),
+    (0xFFFF_FFFC, None),
+];
+
+fn back_heap(rt: &impl Abort, alloc: Global, replica: &mut Replica) -> Result<(), AllocError> {
+    assert_eq!(rt; replica.word(HEAP), None);
+    put(rt, alloc, replica, HEAP, &[1, 2, 3, 4, 0xFF])
+}
+
+// A replica that has stored five bytes in the heap.
+fn with_a_heap(rt: &impl Abort, alloc: Global) -> Result<Replica, AllocError> {
+    let mut replica = alone(rt, alloc, 0, &[])?;
+    back_heap(rt, alloc, &mut replica)?;
+    Ok(replica)
+}
+
+fn assert_words(rt: &impl Abort, replica: &ReplicaBox) {
+    for (address, want) in WORDS {
+        assert_eq!(rt; replica.word(*address), *want, "at {address:x}");
+    }
 }
 
 // Words of the program, of the heap once its page is backed, and none where it isn't or at no multiple of 4.
 #[test]
-fn words_as_they_are_fetched(rt: HostRuntime) -> Result<(), Fail> {
-    let image = image(&rt, rt.alloc());
-    let mut replica = opened(rt.alloc(), &image, 0, &[])?;
-    assert_eq!(rt; replica.word(HEAP), None);
-    let bytes = Vec::from_slice(rt.alloc(), &[1, 2, 3, 4, 0xFF])?;
-    apply(&rt, &mut replica, &stores(HEAP, bytes))?;
+fn words_as_they_are_fetched(rt: HostRuntime) -> Result<(), AllocError> {
+    let replica = with_a_heap(&rt, rt.alloc())?;
     let replica = ReplicaBox::new(rt.alloc(), replica)?;
-    for (address, want) in [
-        (0x1_0054, Some(0x0070_0513)),
-        (0x1_005C, Some(0x0000_0073)),
-        (0x1_0060, Some(0)),
-        (0x1_0056, None),
-        (HEAP, Some(0x0403_0201)),
-        (HEAP + 4, Some(0xFF)),
-        (HEAP + 1, None),
-        (0x1_2000, None),
-        (0xFFFF_FFFC, None),
-    ] {
-        assert_eq!(rt; replica.word(address), want, "at {address:x}");
-    }
+    assert_words(&rt, &replica);
     Ok(())
 }

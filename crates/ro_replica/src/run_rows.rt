@@ -1,5 +1,5 @@
 //! Rows of runs: a small program, the faults that are struck in it, and what its thread is at the end.
-ghost use Rattle.std.specs.Prelude.{◌≡◌, IsTrue};
+ghost use Rattle.std.specs.Prelude.{◌≡◌, IfOk, IsTrue};
 ghost use Rattle.std.specs.Arc.{arc_value};
 ghost use Rattle.ro_faults.specs.Texts.{is_target};
 ghost use Rattle.ro_replica.specs.Seen.{AreFaults, CanCount};
@@ -9,10 +9,10 @@ use ro_event::{Call, Stop, Which};
 use ro_faults::{Fault, Target};
 use ro_image::{Executable, read_executable};
 use ro_region::Regions;
+use ro_thread::Thread;
 use std::alloc::{AllocError, Global};
 use std::process::Abort;
 use std::sync::Arc;
-use std::test::Fail;
 
 // addi x10, x0, 7; addi x10, x10, 1; addi x31, x31, 2; addi x17, x0, 93; ecall
 const FILE: [u8; 104] = [
@@ -37,18 +37,22 @@ fn image(rt: &impl Abort, alloc: Global) -> Executable {
     }
 }
 
+fn regions_of(alloc: Global, image: &Executable) -> Result<Arc<Regions>, AllocError>
+    ensures { IfOk result (λ regions. arc_value regions ≡ image.now.ranges) }
+{
+    Ok(Arc::new(alloc, Regions::new(alloc, image.ranges())?)?)
+}
+
 fn opened(
     rt: &impl Abort,
     alloc: Global,
-    image: &Executable,
-    regions: &Arc<Regions>,
     faults: &[Fault],
     watchdog: u32,
-) -> Result<Replica, AllocError>
-    requires { arc_value regions.now ≡ image.now.ranges }
-{
+) -> Result<Replica, AllocError> {
     assert!(rt; are_faults(faults));
-    Replica::new(alloc, image, Arc::clone(regions)?, 0, faults, watchdog)
+    let image = image(rt, alloc);
+    let regions = regions_of(alloc, &image)?;
+    Replica::new(alloc, &image, regions, 0, faults, watchdog)
 }
 
 fn fault(at: u64, target: Target) -> Fault {
@@ -111,6 +115,16 @@ fn run_all(rt: &impl Abort, replica: &mut Replica, quantum: u32) -> Ran {
     all
 }
 
+fn first_thread(rt: &impl Abort, replica: &Replica) -> Thread {
+    assert!(rt; replica.threads.len() > 0);
+    replica.threads[0]
+}
+
+// The registers of rows, and pc.
+fn words(thread: &Thread) -> [u32; 3] {
+    [thread.cpu.get(10), thread.cpu.get(31), thread.cpu.pc]
+}
+
 fn assert_thread(
     rt: &impl Abort,
     replica: &Replica,
@@ -119,14 +133,9 @@ fn assert_thread(
     x31: u32,
     pc: u32,
 ) {
-    let Some(thread) = replica.threads.get(0) else {
-        panic!(rt; "there is a thread");
-    };
-    assert_eq!(rt; thread.stop, stop);
-    assert_eq!(rt; replica.stop(0), stop);
-    assert_eq!(rt; thread.cpu.get(10), x10);
-    assert_eq!(rt; thread.cpu.get(31), x31);
-    assert_eq!(rt; thread.cpu.pc, pc);
+    let thread = first_thread(rt, replica);
+    assert_eq!(rt; [thread.stop, replica.stop(0)], [stop; 2]);
+    assert_eq!(rt; words(&thread), [x10, x31, pc]);
 }
 
 fn exit(a0: u32) -> Stop {
@@ -169,6 +178,7 @@ fn stop_of(end: End, x10: u32) -> Stop {
 }
 
 // A fault that is struck in a run by quanta: how often, and what comes of it.
+#[derive(Clone, Copy)]
 struct Strike {
     quantum: u32,
     at: u64,
@@ -315,62 +325,86 @@ const STRIKES: &[Strike] = &[
 ];
 
 #[test]
-fn strikes(rt: HostRuntime) -> Result<(), Fail> {
-    let image = image(&rt, rt.alloc());
-    let regions = Arc::new(rt.alloc(), Regions::new(rt.alloc(), image.ranges())?)?;
+fn strikes(rt: HostRuntime) -> Result<(), AllocError> {
     for row in STRIKES {
-        assert_strike(&rt, rt.alloc(), &image, &regions, row)?;
+        assert_strike(&rt, rt.alloc(), row)?;
     }
     Ok(())
 }
 
-fn assert_strike(
-    rt: &impl Abort,
-    alloc: Global,
-    image: &Executable,
-    regions: &Arc<Regions>,
-    row: &Strike,
-) -> Result<(), AllocError>
-    requires { arc_value regions.now ≡ image.now.ranges }
-{
+// A replica with the fault of a row, as often as it says.
+fn faulty(rt: &impl Abort, alloc: Global, row: &Strike) -> Result<Replica, AllocError> {
     let faults = [fault(row.at, row.target); 2];
     assert!(rt; row.times <= 2);
-    let mut replica = opened(rt, alloc, image, regions, &faults[..row.times], 1_000)?;
-    let ran = run_all(rt, &mut replica, row.quantum);
-    let stop = stop_of(row.end, row.x10);
-    let Strike { quantum, at, .. } = row;
-    assert_eq!(rt; ran.count, row.count, "by {quantum}, at {at}");
-    assert_eq!(rt; ran.hit, row.hit);
-    assert_eq!(rt; ran.stop, Some(stop));
-    assert_thread(rt, &replica, Some(stop), row.x10, row.x31, row.pc);
-    assert_eq!(rt; byte_at(&replica, PAST), 0);
-    assert_eq!(rt; byte_at(&replica, HEAP), 0);
+    opened(rt, alloc, &faults[..row.times], 1_000)
+}
+
+fn assert_strike(rt: &impl Abort, alloc: Global, row: &Strike) -> Result<(), AllocError> {
+    let mut replica = faulty(rt, alloc, row)?;
+    assert_run(rt, &mut replica, row);
+    assert_untouched(rt, &replica);
     Ok(())
 }
 
-// by quanta the same
-#[test]
-fn quanta(rt: HostRuntime) -> Result<(), Fail> {
-    let image = image(&rt, rt.alloc());
-    let regions = Arc::new(rt.alloc(), Regions::new(rt.alloc(), image.ranges())?)?;
-    let faults = [
+fn assert_run(rt: &impl Abort, replica: &mut Replica, row: &Strike) {
+    let ran = run_all(rt, replica, row.quantum);
+    let stop = Some(stop_of(row.end, row.x10));
+    let want = Ran {
+        count: row.count,
+        hit: row.hit,
+        stop,
+    };
+    let Strike { quantum, at, .. } = row;
+    assert_eq!(rt; ran, want, "by {quantum}, at {at}");
+    assert_thread(rt, replica, stop, row.x10, row.x31, row.pc);
+}
+
+fn assert_untouched(rt: &impl Abort, replica: &Replica) {
+    assert_eq!(rt; [byte_at(replica, PAST), byte_at(replica, HEAP)], [0, 0]);
+}
+
+// Faults of one run, of which the last comes too late.
+fn five_faults() -> [Fault; 5] {
+    [
         fault(4, register(10, 1)),
         fault(2, register(31, 3)),
         fault(1, register(10, 0)),
         fault(2, register(10, 2)),
         fault(9, register(10, 3)),
-    ];
+    ]
+}
+
+// What comes of them.
+const AFTER_FIVE: Strike = Strike {
+    hit: 4,
+    x10: 1,
+    x31: 10,
+    ..STRIKE
+};
+
+fn run_by(rt: &impl Abort, alloc: Global, quantum: u32) -> Result<(), AllocError> {
+    let mut replica = opened(rt, alloc, &five_faults(), 1_000)?;
+    assert_run(
+        rt,
+        &mut replica,
+        &Strike {
+            quantum,
+            ..AFTER_FIVE
+        },
+    );
+    assert_last_waits(rt, &replica);
+    Ok(())
+}
+
+fn assert_last_waits(rt: &impl Abort, replica: &Replica) {
+    assert_eq!(rt; replica.waiting.as_slice(), &five_faults()[4..]);
+}
+
+// by quanta the same
+#[test]
+fn quanta(rt: HostRuntime) -> Result<(), AllocError> {
     for quantum in [1, 2, 4096] {
-        let mut replica = opened(&rt, rt.alloc(), &image, &regions, &faults, 1_000)?;
-        let ran = run_all(&rt, &mut replica, quantum);
-        let want = Ran {
-            count: 4,
-            hit: 4,
-            stop: Some(exit(1)),
-        };
-        assert_eq!(rt; ran, want, "by {quantum}");
-        assert_thread(&rt, &replica, Some(exit(1)), 1, 10, ENTRY + 16);
-        assert_eq!(rt; replica.waiting.as_slice(), &faults[4..]);
+        run_by(&rt, rt.alloc(), quantum)?;
     }
     Ok(())
 }
@@ -463,33 +497,29 @@ const FIRST_RUNS: &[FirstRun] = &[
 ];
 
 #[test]
-fn strikes_at_the_end(rt: HostRuntime) -> Result<(), Fail> {
-    let image = image(&rt, rt.alloc());
-    let regions = Arc::new(rt.alloc(), Regions::new(rt.alloc(), image.ranges())?)?;
+fn strikes_at_the_end(rt: HostRuntime) -> Result<(), AllocError> {
     for row in FIRST_RUNS {
-        assert_first_run(&rt, rt.alloc(), &image, &regions, row)?;
+        assert_first_run(&rt, rt.alloc(), row)?;
     }
     Ok(())
 }
 
-fn assert_first_run(
-    rt: &impl Abort,
-    alloc: Global,
-    image: &Executable,
-    regions: &Arc<Regions>,
-    row: &FirstRun,
-) -> Result<(), AllocError>
-    requires { arc_value regions.now ≡ image.now.ranges }
-{
+fn assert_first_run(rt: &impl Abort, alloc: Global, row: &FirstRun) -> Result<(), AllocError> {
     let faults = [fault(row.at, register(10, 1))];
-    let mut replica = opened(rt, alloc, image, regions, &faults, row.watchdog)?;
-    let ran = run(rt, &mut replica, row.quantum);
+    let mut replica = opened(rt, alloc, &faults, row.watchdog)?;
+    assert_first(rt, &mut replica, row);
+    Ok(())
+}
+
+fn assert_first(rt: &impl Abort, replica: &mut Replica, row: &FirstRun) {
     let stop = row.stops.then_some(Stop::Watchdog);
-    assert_eq!(rt; ran.count, row.count);
-    assert_eq!(rt; ran.hit, row.hit);
-    assert_eq!(rt; ran.stop, stop);
+    let want = Ran {
+        count: row.count,
+        hit: row.hit,
+        stop,
+    };
+    assert_eq!(rt; run(rt, replica, row.quantum), want);
     let x31 = if row.count < 3 { 0 } else { 2 };
     let pc = ENTRY.wrapping_add(row.count.wrapping_mul(4));
-    assert_thread(rt, &replica, stop, row.x10, x31, pc);
-    Ok(())
+    assert_thread(rt, replica, stop, row.x10, x31, pc);
 }

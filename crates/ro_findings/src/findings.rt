@@ -3,20 +3,23 @@ use ro_audit::Why;
 use ro_event::Stop;
 use ro_faults::Fault;
 use ro_journal::Entry;
+use serde::Serialize;
 use std::fmt;
 
 /// All that is told of a journal.
-#[derive(Drop)]
+#[derive(Drop, Serialize)]
 pub struct Findings {
     /// How many entries it has.
     pub entries: usize,
+    #[serde(flatten)]
     pub verdict: Verdict,
     /// The copies that its votes made; of an illegal one those before the first entry that is not allowed.
     pub copies: Vec<CopyMade>,
 }
 
 /// Whether a journal is legal.
-#[derive(Drop)]
+#[derive(Drop, Serialize)]
+#[serde(tag = "verdict", rename_all = "lowercase")]
 pub enum Verdict {
     /// The length of its plan, and how the run ended, if it did.
     Legal {
@@ -26,7 +29,9 @@ pub enum Verdict {
     /// The first entry that is not allowed, and why it is not.
     Illegal {
         place: usize,
+        #[serde(serialize_with = "crate::json::write_entry")]
         entry: Entry,
+        #[serde(serialize_with = "crate::json::write_why")]
         why: Why,
     },
 }
@@ -58,9 +63,10 @@ pub enum Ended {
 }
 
 /// For what a thread waits.
-#[derive(Clone, Copy, Debug, PartialEq, Eq)]
+#[derive(Clone, Copy, Debug, PartialEq, Eq, Serialize)]
 pub struct Waiting {
     pub thread: u32,
+    #[serde(flatten)]
     pub state: State,
 }
 
@@ -80,7 +86,7 @@ pub enum State {
 }
 
 /// A place in a program.
-#[derive(Debug, PartialEq, Eq, Drop)]
+#[derive(Debug, PartialEq, Eq, Drop, Serialize)]
 pub struct Place {
     pub pc: u32,
     /// The function that holds it, if one is known.
@@ -88,7 +94,7 @@ pub struct Place {
 }
 
 /// A function, and how far behind its start an address is, in bytes.
-#[derive(Debug, PartialEq, Eq, Drop)]
+#[derive(Debug, PartialEq, Eq, Drop, Serialize)]
 pub struct Function {
     pub name: String,
     pub offset: u32,
@@ -124,9 +130,10 @@ pub struct Standing {
 }
 
 /// A thread that trapped.
-#[derive(Drop)]
+#[derive(Drop, Serialize)]
 pub struct Trapped {
     pub thread: u32,
+    #[serde(flatten)]
     pub place: Place,
     /// The registers x1 to x31.
     pub registers: [u32; 31],
@@ -135,7 +142,7 @@ pub struct Trapped {
 }
 
 /// The instruction at a place.
-#[derive(Drop)]
+#[derive(Drop, Serialize)]
 pub struct Instruction {
     pub word: u32,
     pub text: String,
@@ -172,7 +179,7 @@ pub enum Part {
 }
 
 /// A copy that a vote made: a replica that lost became as the winner.
-#[derive(Drop)]
+#[derive(Drop, Serialize)]
 pub struct CopyMade {
     /// The place of the vote's entry, from 0.
     pub place: usize,
@@ -181,14 +188,16 @@ pub struct CopyMade {
     /// The replica that lost.
     pub replica: u32,
     /// What of its view differed from the winner's.
+    #[serde(rename = "differed")]
     pub parts: Vec<Part>,
     /// The faults that had struck the replica since it was last made a copy, or since the begin.
     pub undone: Vec<Strike>,
 }
 
 /// A fault that struck.
-#[derive(Clone, Copy, Debug, PartialEq, Eq)]
+#[derive(Clone, Copy, Debug, PartialEq, Eq, Serialize)]
 pub struct Strike {
+    #[serde(serialize_with = "crate::json::write_fault")]
     pub fault: Fault,
     /// How many instructions of its thread before.
     pub before: u64,

@@ -1,295 +1,296 @@
 //! What an audit finds, as JSON.
-use crate::findings::{
-    CopyMade, Ended, Field, Findings, Function, Instruction, Part, Place, Standing, State, Strike,
-    Trapped, Verdict, Waiting,
-};
-use crate::lines::push_line;
+use crate::findings::{Ended, Field, Findings, Function, Part, Standing, State, Trapped};
+use crate::lines::WithoutEnd;
 use ro_audit::Why;
 use ro_event::Stop;
-use ro_faults::fault_text;
+use ro_faults::{Fault, fault_text};
+use ro_journal::Entry;
 use ro_journal_text::entry_text;
-use ro_text::Line;
-use serde_json::{Map, Value, json, put};
+use serde::{Described, Serialize, Serializer};
+use serde_json::to_value;
 use std::alloc::{AllocError, Global};
+use std::fmt;
 
 impl Findings {
-    /// What is told of a journal, as one object of JSON with a line end behind it.
+    /// What is told of a journal, as one object of JSON with a line end behind it. The keys of each object are in the order of
+    /// the alphabet.
     ///
     /// # Errors
     /// Where there is no memory.
     pub fn json(&self, alloc: Global) -> Result<String, AllocError> {
-        let mut text = self.to_json(alloc)?.to_string(alloc)?;
+        let Ok(value) = to_value(alloc, self) else {
+            return Err(AllocError);
+        };
+        let mut text = value.to_string(alloc)?;
         text.push('\n')?;
         Ok(text)
     }
 }
 
-// What has a value of JSON.
-trait ToJson {
-    fn to_json(&self, alloc: Global) -> Result<Value, AllocError>;
+/// Writes an entry as its line.
+pub(crate) fn write_entry<S: Serializer>(entry: &Entry, out: &mut S) -> Result<(), S::Error> {
+    WithoutEnd(entry_text(entry)).serialize(out)
 }
 
-// The values of a list.
-fn array<T: ToJson>(alloc: Global, items: &[T]) -> Result<Value, AllocError> {
-    let mut values = Vec::with_capacity(alloc, items.len())?;
-    for item in items {
-        values.push(item.to_json(alloc)?)?;
+/// Writes a fault as its line.
+pub(crate) fn write_fault<S: Serializer>(fault: &Fault, out: &mut S) -> Result<(), S::Error> {
+    WithoutEnd(fault_text(fault)).serialize(out)
+}
+
+impl Described for WithoutEnd {}
+
+impl Serialize for WithoutEnd {
+    fn serialize<S: Serializer>(&self, out: &mut S) -> Result<(), S::Error> {
+        out.collect_str(self)
     }
-    Ok(Value::Array(values))
 }
 
-// The text of a line without its end.
-fn line_value(alloc: Global, line: Line) -> Result<Value, AllocError> {
-    let mut text = String::new(alloc);
-    push_line(&mut text, line)?;
-    Ok(Value::String(text))
+// Writes an object whose first key has a name, and with it the keys of what more is told.
+fn write_named<T: Serialize, S: Serializer>(
+    key: &str,
+    name: &str,
+    more: &T,
+    out: &mut S,
+) -> Result<(), S::Error> {
+    out.begin_map(None)?;
+    out.key(key)?;
+    out.str(name)?;
+    out.flatten_next()?;
+    more.serialize(out)?;
+    out.end_map()
 }
 
-impl<T: ToJson> ToJson for Option<T> {
-    fn to_json(&self, alloc: Global) -> Result<Value, AllocError> {
+// A key and its value, as an object.
+#[derive(Clone, Copy)]
+struct Member<'a, T>(&'a str, &'a T);
+
+impl<T> Described for Member<'_, T> {}
+
+impl<T: Serialize> Serialize for Member<'_, T> {
+    fn serialize<S: Serializer>(&self, out: &mut S) -> Result<(), S::Error> {
+        out.begin_map(Some(1))?;
+        out.key(self.0)?;
+        self.1.serialize(out)?;
+        out.end_map()
+    }
+}
+
+/// Writes why an entry is not allowed.
+pub(crate) fn write_why<S: Serializer>(why: &Why, out: &mut S) -> Result<(), S::Error> {
+    match why {
+        Why::NotLendable => write_named("reason", "not_lendable", &(), out),
+        Why::NotOut => write_named("reason", "not_out", &(), out),
+        Why::Ran { count, hit } => {
+            let (count, hit) = (*count, *hit);
+            write_named("reason", "ran", &Ran { count, hit }, out)
+        }
+        Why::NoVote => write_named("reason", "no_vote", &(), out),
+        Why::NoFree => write_named("reason", "no_free", &(), out),
+        Why::Comes(entry) => {
+            let line = WithoutEnd(entry_text(entry));
+            write_named("reason", "comes", &Member("entry", &line), out)
+        }
+        Why::NoEnd => write_named("reason", "no_end", &(), out),
+        Why::Behind => write_named("reason", "behind", &(), out),
+    }
+}
+
+// What the run of a lease comes to.
+#[derive(Clone, Copy, Serialize)]
+struct Ran {
+    count: u32,
+    hit: u32,
+}
+
+impl Described for Ended {}
+
+impl Serialize for Ended {
+    fn serialize<S: Serializer>(&self, out: &mut S) -> Result<(), S::Error> {
         match self {
-            Some(item) => item.to_json(alloc),
-            None => Ok(Value::Null),
-        }
-    }
-}
-
-impl ToJson for u32 {
-    fn to_json(&self, _alloc: Global) -> Result<Value, AllocError> {
-        Ok(Value::from(*self))
-    }
-}
-
-impl ToJson for usize {
-    fn to_json(&self, _alloc: Global) -> Result<Value, AllocError> {
-        Ok(Value::from(*self))
-    }
-}
-
-impl ToJson for Findings {
-    fn to_json(&self, alloc: Global) -> Result<Value, AllocError> {
-        let mut members = Map::new(alloc);
-        put(&mut members, alloc, "entries", Value::from(self.entries))?;
-        put_verdict(alloc, &mut members, &self.verdict)?;
-        let copies = array(alloc, self.copies.as_slice())?;
-        put(&mut members, alloc, "copies", copies)?;
-        Ok(Value::Object(members))
-    }
-}
-
-// The members that tell a verdict.
-fn put_verdict(
-    alloc: Global,
-    members: &mut Map<String, Value>,
-    verdict: &Verdict,
-) -> Result<(), AllocError> {
-    match verdict {
-        Verdict::Legal { steps, end } => {
-            let end = end.to_json(alloc)?;
-            put(
-                members,
-                alloc,
-                "verdict",
-                Value::try_from_str(alloc, "legal")?,
-            )?;
-            put(members, alloc, "steps", Value::from(*steps))?;
-            put(members, alloc, "end", end)
-        }
-        Verdict::Illegal { place, entry, why } => {
-            let line = line_value(alloc, entry_text(entry))?;
-            let why = why.to_json(alloc)?;
-            put(
-                members,
-                alloc,
-                "verdict",
-                Value::try_from_str(alloc, "illegal")?,
-            )?;
-            put(members, alloc, "place", Value::from(*place))?;
-            put(members, alloc, "entry", line)?;
-            put(members, alloc, "why", why)
-        }
-    }
-}
-
-impl ToJson for Why {
-    fn to_json(&self, alloc: Global) -> Result<Value, AllocError> {
-        match self {
-            Why::NotLendable => json!(in alloc; {"reason": "not_lendable"}),
-            Why::NotOut => json!(in alloc; {"reason": "not_out"}),
-            Why::Ran { count, hit } => {
-                json!(in alloc; {"reason": "ran", "count": *count, "hit": *hit})
-            }
-            Why::NoVote => json!(in alloc; {"reason": "no_vote"}),
-            Why::NoFree => json!(in alloc; {"reason": "no_free"}),
-            Why::Comes(entry) => {
-                let line = line_value(alloc, entry_text(entry))?;
-                json!(in alloc; {"reason": "comes", "entry": line})
-            }
-            Why::NoEnd => json!(in alloc; {"reason": "no_end"}),
-            Why::Behind => json!(in alloc; {"reason": "behind"}),
-        }
-    }
-}
-
-impl ToJson for Ended {
-    fn to_json(&self, alloc: Global) -> Result<Value, AllocError> {
-        match self {
-            Ended::Exit(status) => json!(in alloc; {"how": "exit", "status": *status}),
+            Ended::Exit(status) => write_named("how", "exit", &Member("status", status), out),
             Ended::Deadlock(threads) => {
-                let threads = array(alloc, threads.as_slice())?;
-                json!(in alloc; {"how": "deadlock", "threads": threads})
+                write_named("how", "deadlock", &Member("threads", threads), out)
             }
             Ended::Trap { cause, at } => {
-                let at = at.to_json(alloc)?;
-                json!(in alloc; {"how": "trap", "cause": *cause, "at": at})
+                let cause = *cause;
+                write_named("how", "trap", &Trap { cause, at }, out)
             }
             Ended::Limit {
                 steps,
                 next,
                 threads,
             } => {
-                let threads = array(alloc, threads.as_slice())?;
-                json!(in alloc; {"how": "limit", "steps": *steps, "next": *next, "threads": threads})
+                let (steps, next) = (*steps, *next);
+                let limit = Limit {
+                    steps,
+                    next,
+                    threads,
+                };
+                write_named("how", "limit", &limit, out)
             }
-            Ended::Differ(fields) => {
-                let fields = array(alloc, fields.as_slice())?;
-                json!(in alloc; {"how": "differ", "fields": fields})
-            }
+            Ended::Differ(fields) => write_named("how", "differ", &Member("fields", fields), out),
             Ended::NoMajority(fields) => {
-                let fields = array(alloc, fields.as_slice())?;
-                json!(in alloc; {"how": "no-majority", "fields": fields})
+                write_named("how", "no-majority", &Member("fields", fields), out)
             }
-            Ended::Sink(taken) => json!(in alloc; {"how": "sink", "taken": *taken}),
+            Ended::Sink(taken) => write_named("how", "sink", &Member("taken", taken), out),
         }
     }
 }
 
-impl ToJson for Waiting {
-    fn to_json(&self, alloc: Global) -> Result<Value, AllocError> {
-        let thread = self.thread;
-        match self.state {
-            State::Exited => json!(in alloc; {"thread": thread, "state": "exited"}),
+// A trap, and where it was.
+#[derive(Clone, Copy, Serialize)]
+struct Trap<'a> {
+    cause: u8,
+    at: &'a Option<Trapped>,
+}
+
+// The limit, and where each thread stands.
+#[derive(Clone, Copy, Serialize)]
+struct Limit<'a> {
+    steps: u64,
+    next: u64,
+    threads: &'a Vec<Standing>,
+}
+
+impl Described for State {}
+
+impl Serialize for State {
+    fn serialize<S: Serializer>(&self, out: &mut S) -> Result<(), S::Error> {
+        match self {
+            State::Exited => write_named("state", "exited", &(), out),
             State::Locks { mutex, owner } => {
-                json!(in alloc; {"thread": thread, "state": "locks", "mutex": mutex, "owner": owner})
+                let (mutex, owner) = (*mutex, *owner);
+                write_named("state", "locks", &Locks { mutex, owner }, out)
             }
-            State::Joins(other) => {
-                json!(in alloc; {"thread": thread, "state": "joins", "other": other})
-            }
-            State::Blocked => json!(in alloc; {"thread": thread, "state": "blocked"}),
-            State::Unblocked => json!(in alloc; {"thread": thread, "state": "unblocked"}),
+            State::Joins(other) => write_named("state", "joins", &Member("other", other), out),
+            State::Blocked => write_named("state", "blocked", &(), out),
+            State::Unblocked => write_named("state", "unblocked", &(), out),
         }
     }
 }
 
-impl ToJson for Function {
-    fn to_json(&self, alloc: Global) -> Result<Value, AllocError> {
-        json!(in alloc; {"name": &self.name, "offset": self.offset})
-    }
+// A mutex, and who holds it.
+#[derive(Clone, Copy, Serialize)]
+struct Locks {
+    mutex: u32,
+    owner: Option<u32>,
 }
 
-impl ToJson for Place {
-    fn to_json(&self, alloc: Global) -> Result<Value, AllocError> {
-        let function = self.function.to_json(alloc)?;
-        json!(in alloc; {"pc": self.pc, "function": function})
-    }
+// Where a thread stands, as it is written.
+#[derive(Clone, Copy, Serialize)]
+struct Stands<'a> {
+    thread: u32,
+    pc: Option<u32>,
+    function: Option<&'a Function>,
+    stop: Option<StopName<'a>>,
 }
 
-impl ToJson for Standing {
-    fn to_json(&self, alloc: Global) -> Result<Value, AllocError> {
+impl Described for Standing {}
+
+impl Serialize for Standing {
+    fn serialize<S: Serializer>(&self, out: &mut S) -> Result<(), S::Error> {
         let thread = self.thread;
         match &self.at {
-            Some((place, stop)) => {
-                let function = place.function.to_json(alloc)?;
-                let stop = stop.to_json(alloc)?;
-                json!(in alloc; {"thread": thread, "pc": place.pc, "function": function, "stop": stop})
+            Some((place, stop)) => Stands {
+                thread,
+                pc: Some(place.pc),
+                function: place.function.as_ref(),
+                stop: Some(StopName(stop)),
             }
-            None => {
-                json!(in alloc; {"thread": thread, "pc": null, "function": null, "stop": null})
+            .serialize(out),
+            None => Stands {
+                thread,
+                pc: None,
+                function: None,
+                stop: None,
             }
+            .serialize(out),
         }
     }
 }
 
-impl ToJson for Stop {
-    fn to_json(&self, alloc: Global) -> Result<Value, AllocError> {
-        Value::try_from_str(
-            alloc,
-            match self {
-                Stop::Calls(_) => "call",
-                Stop::Trap(_) => "trap",
-                Stop::PageFault(_) => "page_fault",
-                Stop::Watchdog => "watchdog",
-            },
-        )
+// What a thread stands at, as it is written.
+#[derive(Clone, Copy)]
+struct StopName<'a>(&'a Stop);
+
+impl Described for StopName<'_> {}
+
+impl Serialize for StopName<'_> {
+    fn serialize<S: Serializer>(&self, out: &mut S) -> Result<(), S::Error> {
+        match self.0 {
+            Stop::Calls(_) => out.str("call"),
+            Stop::Trap(_) => out.str("trap"),
+            Stop::PageFault(_) => out.str("page_fault"),
+            Stop::Watchdog => out.str("watchdog"),
+        }
     }
 }
 
-impl ToJson for Trapped {
-    fn to_json(&self, alloc: Global) -> Result<Value, AllocError> {
-        let function = self.place.function.to_json(alloc)?;
-        let registers = array(alloc, self.registers.as_slice())?;
-        let instruction = self.instruction.to_json(alloc)?;
-        json!(in alloc; {
-            "thread": self.thread,
-            "pc": self.place.pc,
-            "function": function,
-            "registers": registers,
-            "instruction": instruction
-        })
+// What threads stand at, as it is written.
+#[derive(Clone, Copy)]
+struct StopNames<'a>(&'a [Stop]);
+
+impl Described for StopNames<'_> {}
+
+impl Serialize for StopNames<'_> {
+    fn serialize<S: Serializer>(&self, out: &mut S) -> Result<(), S::Error> {
+        out.begin_seq(Some(self.0.len()))?;
+        for stop in self.0 {
+            StopName(stop).serialize(out)?;
+        }
+        out.end_seq()
     }
 }
 
-impl ToJson for Instruction {
-    fn to_json(&self, alloc: Global) -> Result<Value, AllocError> {
-        json!(in alloc; {"word": self.word, "text": &self.text, "touched": self.touched})
-    }
-}
+impl Described for Field {}
 
-impl ToJson for Field {
-    fn to_json(&self, alloc: Global) -> Result<Value, AllocError> {
-        let (part, values) = match self {
-            Field::Pc(places) => (Part::Pc, array(alloc, places.as_slice())?),
-            Field::Since(counts) => (Part::Since, array(alloc, counts.as_slice())?),
-            Field::Register(number, values) => {
-                (Part::Register(*number), array(alloc, values.as_slice())?)
-            }
-            Field::Stop(stops) => (Part::Stop, array(alloc, stops.as_slice())?),
-            Field::Payload(counts) => (Part::Payload, array(alloc, counts.as_slice())?),
-        };
-        let part = part.to_json(alloc)?;
-        json!(in alloc; {"part": part, "values": values})
-    }
-}
-
-impl ToJson for Part {
-    fn to_json(&self, alloc: Global) -> Result<Value, AllocError> {
+impl Serialize for Field {
+    fn serialize<S: Serializer>(&self, out: &mut S) -> Result<(), S::Error> {
         match self {
-            Part::Register(number) => Ok(Value::String(format!(in alloc; "x{number}")?)),
-            Part::Pc => Value::try_from_str(alloc, "pc"),
-            Part::Since => Value::try_from_str(alloc, "since"),
-            Part::Stop => Value::try_from_str(alloc, "stop"),
-            Part::Payload => Value::try_from_str(alloc, "payload"),
+            Field::Pc(places) => write_values(Part::Pc, places, out),
+            Field::Since(counts) => write_values(Part::Since, counts, out),
+            Field::Register(number, values) => write_values(Part::Register(*number), values, out),
+            Field::Stop(stops) => write_values(Part::Stop, &StopNames(stops.as_slice()), out),
+            Field::Payload(counts) => write_values(Part::Payload, counts, out),
         }
     }
 }
 
-impl ToJson for CopyMade {
-    fn to_json(&self, alloc: Global) -> Result<Value, AllocError> {
-        let parts = array(alloc, self.parts.as_slice())?;
-        let undone = array(alloc, self.undone.as_slice())?;
-        json!(in alloc; {
-            "place": self.place,
-            "thread": self.thread,
-            "replica": self.replica,
-            "differed": parts,
-            "undone": undone
-        })
+// Writes a part of the views, and what it is in each replica.
+fn write_values<T: Serialize, S: Serializer>(
+    part: Part,
+    values: &T,
+    out: &mut S,
+) -> Result<(), S::Error> {
+    out.begin_map(Some(2))?;
+    out.key("part")?;
+    part.serialize(out)?;
+    out.key("values")?;
+    values.serialize(out)?;
+    out.end_map()
+}
+
+impl Described for Part {}
+
+impl Serialize for Part {
+    fn serialize<S: Serializer>(&self, out: &mut S) -> Result<(), S::Error> {
+        match self {
+            Part::Register(number) => out.collect_str(&RegisterName(*number)),
+            Part::Pc => out.str("pc"),
+            Part::Since => out.str("since"),
+            Part::Stop => out.str("stop"),
+            Part::Payload => out.str("payload"),
+        }
     }
 }
 
-impl ToJson for Strike {
-    fn to_json(&self, alloc: Global) -> Result<Value, AllocError> {
-        let line = line_value(alloc, fault_text(&self.fault))?;
-        json!(in alloc; {"fault": line, "before": self.before})
+// The name of a register.
+#[derive(Clone, Copy)]
+struct RegisterName(u32);
+
+impl fmt::Display for RegisterName {
+    fn fmt<W: fmt::Write>(&self, f: &mut fmt::Formatter<W>) -> fmt::Result {
+        let number = self.0;
+        write!(f, "x{number}")
     }
 }

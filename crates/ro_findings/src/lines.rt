@@ -1,13 +1,18 @@
 //! Lines in a text.
 use ro_text::Line;
-use std::alloc::AllocError;
+use std::fmt;
 
-/// Appends a line without its end.
-pub(crate) fn push_line(text: &mut String, line: Line) -> Result<(), AllocError> {
-    for byte in line.as_bytes() {
-        if *byte != b'\n' {
-            text.push(char::from(*byte))?;
+/// A line, which is shown without its end.
+#[derive(Drop)]
+pub(crate) struct WithoutEnd(pub(crate) Line);
+
+impl fmt::Display for WithoutEnd {
+    fn fmt<W: fmt::Write>(&self, f: &mut fmt::Formatter<W>) -> fmt::Result {
+        for byte in self.0.as_bytes() {
+            if *byte != b'\n' {
+                f.write_char(char::from(*byte))?;
+            }
         }
+        Ok(())
     }
-    Ok(())
 }

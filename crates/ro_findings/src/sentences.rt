@@ -3,13 +3,14 @@ use crate::findings::{
     CopyMade, Ended, Field, Findings, Instruction, Part, Standing, State, Strike, Trapped, Verdict,
     Waiting,
 };
-use crate::lines::push_line;
+use crate::lines::WithoutEnd;
 use ro_audit::Why;
 use ro_event::Stop;
 use ro_faults::fault_text;
 use ro_journal::Entry;
 use ro_journal_text::entry_text;
 use std::alloc::{AllocError, Global};
+use std::fmt;
 
 impl Findings {
     /// What is told of a journal, in sentences.
@@ -78,26 +79,22 @@ fn tell_deadlock(text: &mut String, threads: &[Waiting]) -> Result<(), AllocErro
 // For what a thread waits.
 fn tell_waiting(text: &mut String, waiting: Waiting) -> Result<(), AllocError> {
     let Waiting { thread, state } = waiting;
+    write!(text, "Thread {thread} ")?;
     match state {
-        State::Exited => writeln!(text, "Thread {thread} has exited."),
-        State::Unblocked => writeln!(text, "Thread {thread} is not blocked."),
-        State::Blocked => writeln!(text, "Thread {thread} is blocked."),
-        State::Locks {
-            mutex,
-            owner: Some(owner),
-        } => writeln!(
-            text,
-            "Thread {thread} waits for the mutex at {mutex:08x}, which thread {owner} holds."
-        ),
-        State::Locks { mutex, owner: None } => {
-            writeln!(text, "Thread {thread} waits for the mutex at {mutex:08x}.")
-        }
-        State::Joins(other) => {
-            writeln!(
-                text,
-                "Thread {thread} waits until thread {other} has exited."
-            )
-        }
+        State::Exited => text.push_str("has exited.\n"),
+        State::Locks { mutex, owner } => tell_lock(text, mutex, owner),
+        State::Joins(other) => writeln!(text, "waits until thread {other} has exited."),
+        State::Blocked => text.push_str("is blocked.\n"),
+        State::Unblocked => text.push_str("is not blocked.\n"),
+    }
+}
+
+// For which mutex it waits, and who holds that.
+fn tell_lock(text: &mut String, mutex: u32, owner: Option<u32>) -> Result<(), AllocError> {
+    write!(text, "waits for the mutex at {mutex:08x}")?;
+    match owner {
+        Some(owner) => writeln!(text, ", which thread {owner} holds."),
+        None => text.push_str(".\n"),
     }
 }
 
@@ -206,39 +203,51 @@ fn tell_fields(text: &mut String, fields: &[Field]) -> Result<(), AllocError> {
 
 fn tell_field(text: &mut String, field: &Field) -> Result<(), AllocError> {
     match field {
-        Field::Pc(places) => {
-            write!(text, "pc:")?;
-            for place in places {
-                write!(text, " {place}")?;
-            }
-        }
+        Field::Pc(places) => tell_values(text, "pc:", places.as_slice())?,
         Field::Since(counts) => {
-            write!(text, "instructions since the last vote:")?;
-            for count in counts {
-                write!(text, " {count}")?;
-            }
+            tell_values(text, "instructions since the last vote:", counts.as_slice())?
         }
-        Field::Register(number, values) => {
-            write!(text, "x{number}:")?;
-            for value in values {
-                write!(text, " {value:08x}")?;
-            }
-        }
-        Field::Stop(stops) => {
-            write!(text, "at:")?;
-            for stop in stops {
-                let at = stop_name(stop);
-                write!(text, " {at};")?;
-            }
-        }
-        Field::Payload(counts) => {
-            write!(text, "what is written differs, of so many bytes:")?;
-            for count in counts {
-                write!(text, " {count}")?;
-            }
-        }
+        Field::Register(number, values) => tell_register(text, *number, values.as_slice())?,
+        Field::Stop(stops) => tell_stops(text, stops.as_slice())?,
+        Field::Payload(counts) => tell_values(
+            text,
+            "what is written differs, of so many bytes:",
+            counts.as_slice(),
+        )?,
     }
-    writeln!(text)
+    text.push('\n')
+}
+
+// A part, and what it is in each replica.
+fn tell_values<T: fmt::Display>(
+    text: &mut String,
+    part: &str,
+    values: &[T],
+) -> Result<(), AllocError> {
+    text.push_str(part)?;
+    for value in values {
+        write!(text, " {value}")?;
+    }
+    Ok(())
+}
+
+// A register, and what it is in each replica.
+fn tell_register(text: &mut String, number: u32, values: &[u32]) -> Result<(), AllocError> {
+    write!(text, "x{number}:")?;
+    for value in values {
+        write!(text, " {value:08x}")?;
+    }
+    Ok(())
+}
+
+// What the thread stands at in each replica.
+fn tell_stops(text: &mut String, stops: &[Stop]) -> Result<(), AllocError> {
+    text.push_str("at:")?;
+    for stop in stops {
+        let at = stop_name(stop);
+        write!(text, " {at};")?;
+    }
+    Ok(())
 }
 
 // The first entry that is not allowed, and why it is not.
@@ -248,10 +257,9 @@ fn tell_illegal(
     entry: &Entry,
     why: Why,
 ) -> Result<(), AllocError> {
+    let line = WithoutEnd(entry_text(entry));
     writeln!(text, "illegal {place}")?;
-    write!(text, "The first entry that is not allowed is: ")?;
-    push_line(text, entry_text(entry))?;
-    writeln!(text)?;
+    writeln!(text, "The first entry that is not allowed is: {line}")?;
     match why {
         Why::NotLendable => writeln!(
             text,
@@ -265,9 +273,8 @@ fn tell_illegal(
         Why::NoVote => writeln!(text, "The thread can't be voted on."),
         Why::NoFree => writeln!(text, "The thread has no call that can be served."),
         Why::Comes(entry) => {
-            write!(text, "What is allowed in its place is: ")?;
-            push_line(text, entry_text(&entry))?;
-            writeln!(text)
+            let line = WithoutEnd(entry_text(&entry));
+            writeln!(text, "What is allowed in its place is: {line}")
         }
         Why::NoEnd => writeln!(text, "The run does not end so here."),
         Why::Behind => writeln!(text, "The run has ended before."),
@@ -305,10 +312,10 @@ fn tell_parts(text: &mut String, parts: &[Part]) -> Result<(), AllocError> {
 fn tell_part(text: &mut String, part: Part) -> Result<(), AllocError> {
     match part {
         Part::Register(number) => write!(text, "x{number}"),
-        Part::Pc => write!(text, "the pc"),
-        Part::Since => write!(text, "the instructions since the last vote"),
-        Part::Stop => write!(text, "what it stands at"),
-        Part::Payload => write!(text, "what is written"),
+        Part::Pc => text.push_str("the pc"),
+        Part::Since => text.push_str("the instructions since the last vote"),
+        Part::Stop => text.push_str("what it stands at"),
+        Part::Payload => text.push_str("what is written"),
     }
 }
 
@@ -319,8 +326,8 @@ fn tell_undone(text: &mut String, undone: &[Strike]) -> Result<(), AllocError> {
     }
     let mut before = " Undone: ";
     for strike in undone {
-        text.push_str(before)?;
-        push_line(text, fault_text(&strike.fault))?;
+        let line = WithoutEnd(fault_text(&strike.fault));
+        write!(text, "{before}{line}")?;
         match strike.before {
             1 => write!(text, ", struck 1 instruction before")?,
             count => write!(text, ", struck {count} instructions before")?,

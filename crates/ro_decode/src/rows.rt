@@ -14,6 +14,7 @@ use crate::{AluOp, BranchOp, Instr, LoadOp, MulDivOp, StoreOp};
 pub fn row(word: u32) -> u32
     ensures opcode { result < 256 → opcode_in word ≡ 4 * (result % 32) + 3 }
     ensures funct3 { result < 256 → funct3_in word ≡ result / 32 }
+    ensures found { word % 4 ≡ 3 → result < 256 }
 {
     let less = word.wrapping_sub(3);
     let turned = less / 4 + less % 4 * 0x4000_0000;
@@ -253,29 +254,5 @@ pub fn muldiv(word: u32, op: MulDivOp) -> Instr
         rd: rd(word),
         rs1: rs1(word),
         rs2: rs2(word),
-    }
-}
-
-#[cfg(test)]
-mod tests {
-    use super::*;
-
-    // the opcode's upper five bits and funct3, by the table of the standard
-    #[test]
-    fn finds_rows(rt: HostRuntime) {
-        for (word, want) in [
-            // lui x1, 0x12345; lw x8, 0(x7); bne x6, x0, -8; sh x6, 0(x5); and x5, x6, x7; jalr x0, 0(x1)
-            (0x1234_50B7u32, 5 * 32 + 0b01101),
-            (0x0003_A403, 2 * 32),
-            (0xFE03_1CE3, 32 + 0b11000),
-            (0x0062_9023, 32 + 0b01000),
-            (0x0073_72B3, 7 * 32 + 0b01100),
-            (0x0000_8067, 0b11001u32),
-        ] {
-            assert_eq!(rt; row(word), want, "at {word:x}");
-        }
-        for word in [0x0003_A400u32, 0x0003_A401, 0x0003_A402, 0, 0xFFFF_FFFE] {
-            assert!(rt; row(word) >= 256, "at {word:x}");
-        }
     }
 }

@@ -30,6 +30,7 @@ pub struct Job {
 }
 
 /// The journal whose plan is to be followed, and on what.
+#[derive(Drop)]
 pub struct Replay {
     pub image: Executable,
     pub input: Vec<u8>,

@@ -3,15 +3,15 @@
 drawn instructions.
 
     tools/fuzz.py
-    tools/fuzz.py --count 100000 --seed 7
+    tools/fuzz.py --count 100000 --seed 7 --first 400000
     tools/fuzz.py --kinds words --seed 7 --only 4711
 
 The first is the short form of the gate. No run may end by a signal, with a status outside the table of docs/USING.md or with
 another one than its report says, or take longer than --seconds. What is refused, and by which answer, is worked out after the
 pages (tools/fuzzing/readers.py) and compared, and so is what a program with one thread comes to (tools/fuzzing/machine.py). A
-case hangs on the seed, its kind and its number alone, so that --only runs it again. One that fails is kept in a folder of its
-own under --keep: its files, the command, and what is wrong. Status 1 where a case fails. ROMAIN may name another program than
-./romain.
+case hangs on the seed, its kind and its number alone, so that --only runs it again, and --first goes on where a run ended. One
+that fails is kept in a folder of its own under --keep: its files, the command, and what is wrong. Status 1 where a case fails.
+ROMAIN may name another program than ./romain.
 """
 import argparse
 import collections
@@ -39,6 +39,7 @@ def read_arguments():
     parser.add_argument("--kinds", default=",".join(kinds.KINDS), help="parted by commas (all)")
     parser.add_argument("--count", type=int, default=400, help="cases of each kind (400)")
     parser.add_argument("--seed", type=int, default=1, help="of the draws (1)")
+    parser.add_argument("--first", type=int, default=0, metavar="N", help="the number of the first case (0)")
     parser.add_argument("--only", type=int, metavar="N", help="case N alone, which is kept")
     parser.add_argument("--seconds", type=float, default=20, help="that one run may take (20)")
     parser.add_argument("--jobs", type=int, default=len(os.sched_getaffinity(0)), help="runs at once (one a processor)")
@@ -133,7 +134,8 @@ def fuzz(arguments, name, pool):
     if name == "journals" and not knows_plain(kinds.KINDS[name]()):
         print("fuzz: journals are left out, the program has no command plain")
         return 0, 0
-    numbers = range(arguments.count) if arguments.only is None else range(arguments.only, arguments.only + 1)
+    first, count = (arguments.first, arguments.count) if arguments.only is None else (arguments.only, 1)
+    numbers = range(first, first + count)
     parts = [numbers[place:place + PART] for place in range(0, len(numbers), PART)]
     answers, failed = collections.Counter(), 0
     for part in concurrent.futures.as_completed(

@@ -7,6 +7,3 @@ mod texts;
 
 pub use accesses::address_touched;
 pub use texts::instruction_text;
-
-#[cfg(test)]
-mod tests;

@@ -73,6 +73,3 @@ pub fn drive_all<R: Threads + Wait + Sync, P: Post<Pass: Send> + Sync, G: Gate +
         { drive_one(rt, post, driver, gate) },
     );
 }
-
-#[cfg(test)]
-mod tests;

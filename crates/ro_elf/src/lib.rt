@@ -11,6 +11,3 @@ pub use elf::{BadExe, Elf, MOST_SEGMENTS, read_elf};
 pub use header::SectionTable;
 pub use numbers::{half_at, word_at};
 pub use segments::Segment;
-
-#[cfg(test)]
-mod tests;

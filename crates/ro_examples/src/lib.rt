@@ -1,5 +1,5 @@
-//! Worked rows of what a run stands on, as tests: the commands that words spell, the texts of journals and reports, symbols,
-//! stores and sinks, and plans on the unreplicated machine with their races.
+//! Worked rows of what a command reads, writes and follows, as tests: the commands that words spell, the texts of journals and
+//! reports, stores and sinks, and plans on the unreplicated machine with their races.
 #![tactic(auto)]
 
 #[cfg(test)]
@@ -12,7 +12,5 @@ mod races;
 mod reports;
 #[cfg(test)]
 mod sinks;
-#[cfg(test)]
-mod symbols;
 #[cfg(test)]
 mod words;

@@ -60,27 +60,3 @@ impl Bank {
         Bank { values }
     }
 }
-
-#[cfg(test)]
-mod tests {
-    use super::*;
-
-    #[test]
-    fn keeps_registers(rt: HostRuntime) {
-        let mut registers = [0; 31];
-        registers[0] = 11;
-        registers[30] = 41;
-        let mut bank = Bank::new(&registers);
-        for (number, want) in [(0u8, 0u32), (1, 11), (2, 0), (31, 41)] {
-            assert_eq!(rt; bank.get(number), want, "x{number}");
-        }
-        bank.set(0, 5);
-        bank.set(2, 7);
-        bank.set(31, 8);
-        registers[1] = 7;
-        registers[30] = 8;
-        assert_eq!(rt; bank.get(0), 0);
-        assert_eq!(rt; bank.get(31), 8);
-        assert_eq!(rt; bank.registers(), registers);
-    }
-}

@@ -6,6 +6,3 @@ mod laws;
 
 pub use drawing::{Bounds, draw};
 pub use laws::{drawn_faults_are_read, drawn_row};
-
-#[cfg(test)]
-mod tests;

@@ -6,6 +6,3 @@ mod seats;
 mod steps;
 
 pub use pages::{Closed, LockPage, Pass};
-
-#[cfg(test)]
-mod tests;

@@ -8,6 +8,3 @@ mod names;
 
 pub use bench::bench_image;
 pub use make::image_bytes;
-
-#[cfg(test)]
-mod tests;

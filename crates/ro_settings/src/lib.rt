@@ -4,9 +4,6 @@
 ghost use Rattle.ro_settings.specs.Ranges.{InRange, default_settings};
 ghost use Rattle.std.specs.Prelude.{IsTrue, ◌≡◌, ◌↔◌};
 
-#[cfg(test)]
-mod tests;
-
 /// The settings of a run.
 #[derive(Clone, Copy, PartialEq, Eq, Debug)]
 pub struct Settings {

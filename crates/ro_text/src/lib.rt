@@ -10,6 +10,3 @@ pub use laws::{lines_read_back, numbers_read_back, numbers_spelled_once, words_r
 pub use lines::{Line, ROOM, Text};
 pub use numbers::{is_number, value_within};
 pub use parts::{MOST_WORDS, cut_at, first_line, split_words};
-
-#[cfg(test)]
-mod tests;

@@ -1,0 +1,52 @@
+//! The table of call addresses: the call that an address names, and the stretch round a place that names none.
+use ro_event::{CallTable, Which};
+
+#[test]
+fn finds_the_first(rt: HostRuntime) {
+    let table = CallTable::new([
+        Some(0x1_0000),
+        Some(0x1_0100),
+        None,
+        Some(0x1_0100),
+        Some(0x1_0204),
+        None,
+        Some(0x1_0208),
+        Some(0x1_020C),
+        Some(0x1_0001),
+    ]);
+    for (pc, want) in [
+        (0x1_0000, Some(Which::Create)),
+        (0x1_0100, Some(Which::Join)),
+        (0x1_0204, Some(Which::MutexInit)),
+        (0x1_0208, Some(Which::Lock)),
+        (0x1_020C, Some(Which::TryLock)),
+        (0x1_0001, Some(Which::Unlock)),
+        (0x1_0004, None),
+        (0x0, None),
+        (0xFFFF_FFFC, None),
+    ] {
+        assert_eq!(rt; table.find(pc), want, "at {pc:x}");
+    }
+}
+
+#[test]
+fn clears_round_a_place(rt: HostRuntime) {
+    let mut addresses = [None; 9];
+    addresses[1] = Some(0x1_0100);
+    addresses[4] = Some(0x1_0206);
+    addresses[8] = Some(0x2_0000);
+    let table = CallTable::new(addresses);
+    for (pc, want) in [
+        (0x1_0000, (0x1_0000, 0x1_0100)),
+        (0x1_0100, (0x1_0000, 0x1_0100)),
+        (0x1_0104, (0x1_0104, 0x1_0206)),
+        (0x1_0208, (0x1_0208, 0x1_1000)),
+        (0x1_0FFC, (0x1_0208, 0x1_1000)),
+    ] {
+        assert_eq!(rt;
+            table.clear_around(pc, 0x1_0000, 0x1_1000),
+            want,
+            "at {pc:x}"
+        );
+    }
+}

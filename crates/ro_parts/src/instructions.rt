@@ -1,0 +1,164 @@
+//! Instructions and the words that an assembler gives for them, and words that are none.
+use ro_decode::{AluOp, BranchOp, Instr, LoadOp, MulDivOp, StoreOp, decode, encode};
+
+// words that clang's assembler gives for the instructions beside them
+#[test]
+fn reads_and_writes_words(rt: HostRuntime) {
+    let rows = [
+        // lui x5, 0xfffff
+        (
+            0xFFFF_F2B7,
+            Instr::Lui {
+                rd: 5,
+                imm: 0xFFFF_F000,
+            },
+        ),
+        // auipc x1, 0x1
+        (0x0000_1097, Instr::Auipc { rd: 1, imm: 0x1000 }),
+        // jal x1, .+2048
+        (0x0010_00EF, Instr::Jal { rd: 1, imm: 0x800 }),
+        // jal x0, .-4
+        (
+            0xFFDF_F06F,
+            Instr::Jal {
+                rd: 0,
+                imm: 0xFFFF_FFFC,
+            },
+        ),
+        // jalr x0, -1(x1)
+        (
+            0xFFF0_8067,
+            Instr::Jalr {
+                rd: 0,
+                rs1: 1,
+                imm: 0xFFFF_FFFF,
+            },
+        ),
+        // bltu x10, x11, .-4096
+        (
+            0x80B5_6063,
+            Instr::Branch {
+                op: BranchOp::Bltu,
+                rs1: 10,
+                rs2: 11,
+                imm: 0xFFFF_F000,
+            },
+        ),
+        // beq x1, x2, .+2048
+        (
+            0x0020_80E3,
+            Instr::Branch {
+                op: BranchOp::Beq,
+                rs1: 1,
+                rs2: 2,
+                imm: 0x800,
+            },
+        ),
+        // lhu x7, 2047(x2)
+        (
+            0x7FF1_5383,
+            Instr::Load {
+                op: LoadOp::Lhu,
+                rd: 7,
+                rs1: 2,
+                imm: 0x7FF,
+            },
+        ),
+        // sh x7, -2048(x2)
+        (
+            0x8071_1023,
+            Instr::Store {
+                op: StoreOp::Sh,
+                rs1: 2,
+                rs2: 7,
+                imm: 0xFFFF_F800,
+            },
+        ),
+        // srai x5, x6, 31
+        (
+            0x41F3_5293,
+            Instr::AluImm {
+                op: AluOp::Sra,
+                rd: 5,
+                rs1: 6,
+                imm: 31,
+            },
+        ),
+        // sltiu x5, x6, -1
+        (
+            0xFFF3_3293,
+            Instr::AluImm {
+                op: AluOp::Sltu,
+                rd: 5,
+                rs1: 6,
+                imm: 0xFFFF_FFFF,
+            },
+        ),
+        // sub x10, x10, x11
+        (
+            0x40B5_0533,
+            Instr::Alu {
+                op: AluOp::Sub,
+                rd: 10,
+                rs1: 10,
+                rs2: 11,
+            },
+        ),
+        // divu x11, x11, x10
+        (
+            0x02A5_D5B3,
+            Instr::MulDiv {
+                op: MulDivOp::Divu,
+                rd: 11,
+                rs1: 11,
+                rs2: 10,
+            },
+        ),
+        // mulhsu x5, x6, x7
+        (
+            0x0273_22B3,
+            Instr::MulDiv {
+                op: MulDivOp::Mulhsu,
+                rd: 5,
+                rs1: 6,
+                rs2: 7,
+            },
+        ),
+        // fence
+        (
+            0x0FF0_000F,
+            Instr::Fence {
+                rd: 0,
+                rs1: 0,
+                bits: 0xFF,
+            },
+        ),
+        (0x0000_0073, Instr::Ecall),
+        (0x0010_0073, Instr::Ebreak),
+    ];
+    for (word, instr) in rows {
+        assert_eq!(rt; decode(word), Some(instr), "at {word:x}");
+        match decode(word) {
+            Some(read) => assert_eq!(rt; encode(read), word),
+            None => assert!(rt; false),
+        }
+    }
+}
+
+#[test]
+fn refuses_other_words(rt: HostRuntime) {
+    // fence.i, shifts and operations with another upper code, csrrw, lr.w, fadd.s, a compressed word
+    for word in [
+        0x0000_100Fu32,
+        0x40B5_1533,
+        0x4005_1513,
+        0x3052_9073,
+        0x1005_22AF,
+        0x0010_7053,
+        0x0000_0001,
+        0x0000_0000,
+        0xFFFF_FFFF,
+    ] {
+        assert_eq!(rt; decode(word), None, "at {word:x}");
+    }
+}

@@ -1,0 +1,20 @@
+//! Worked rows of the guest machine's parts, as tests: arithmetic and instructions, memory and its ranges, calls, mutexes,
+//! groups of threads, votes.
+#![tactic(auto)]
+
+#[cfg(test)]
+mod arithmetic;
+#[cfg(test)]
+mod calls;
+#[cfg(test)]
+mod groups;
+#[cfg(test)]
+mod instructions;
+#[cfg(test)]
+mod mutexes;
+#[cfg(test)]
+mod pages;
+#[cfg(test)]
+mod regions;
+#[cfg(test)]
+mod votes;

@@ -1,0 +1,332 @@
+//! What each call comes to, row by row.
+
+use ro_event::{Call, Effect, Goes, Made, Which};
+use ro_journal::How;
+use ro_kernel::{Kernel, Served, payload_len};
+use ro_region::{Range, Regions};
+use std::alloc::{AllocError, Global};
+use std::process::Abort;
+use std::sync::Arc;
+use std::test::Fail;
+
+/// May be read and executed, and not written.
+const CODE: u32 = 0x1_0000;
+
+/// May be read and written, one page.
+const DATA: u32 = 0x1_1000;
+
+const NOWHERE: u32 = 0x5000_0000;
+
+const HEAP: u32 = 0x2_0000;
+
+const READ: Which = Which::System(63);
+
+const WRITE: Which = Which::System(64);
+
+const EXIT: Which = Which::System(93);
+
+const EXIT_GROUP: Which = Which::System(94);
+
+const BRK: Which = Which::System(214);
+
+#[derive(Clone, Copy, Debug)]
+enum Want {
+    Answers(u32),
+    Fails(u32),
+    Stores(u32, &'static [u8]),
+    Exits,
+    Blocks,
+    Ends(u8),
+}
+
+/// A call of a thread with its arguments, and what is to come of it.
+type Row = (u32, Which, [u32; 4], Want);
+
+const SYSTEM_CALLS: &[Row] = &[
+    // read: the file, then the length, then the permission
+    (0, READ, [1, DATA, 4, 0], Want::Fails(9)),
+    (0, READ, [1, CODE, 0, 0], Want::Fails(9)),
+    (0, READ, [0, CODE, 0, 0], Want::Answers(0)),
+    (0, READ, [0, CODE, 4, 0], Want::Fails(14)),
+    (0, READ, [0, DATA + 0xFFE, 4, 0], Want::Fails(14)),
+    (0, READ, [0, 0xFFFF_FFFF, 2, 0], Want::Fails(14)),
+    (0, READ, [0, DATA, 3, 0], Want::Stores(3, b"abc")),
+    (0, READ, [0, DATA, 5000, 0], Want::Stores(5, b"defgh")),
+    (0, READ, [0, DATA, 4, 0], Want::Stores(0, b"")),
+    // write
+    (0, WRITE, [0, DATA, 4, 0], Want::Fails(9)),
+    (0, WRITE, [3, DATA, 0, 0], Want::Fails(9)),
+    (0, WRITE, [1, NOWHERE, 0, 0], Want::Answers(0)),
+    (0, WRITE, [1, NOWHERE, 1, 0], Want::Fails(14)),
+    (0, WRITE, [1, CODE, 4, 0], Want::Answers(4)),
+    (0, WRITE, [2, DATA, 5000, 0], Want::Answers(4096)),
+    // brk
+    (0, BRK, [0, 0, 0, 0], Want::Answers(HEAP)),
+    (0, BRK, [HEAP + 16, 0, 0, 0], Want::Answers(HEAP + 16)),
+    (0, BRK, [HEAP - 1, 0, 0, 0], Want::Answers(HEAP + 16)),
+    (
+        0,
+        BRK,
+        [HEAP + 0x10_0001, 0, 0, 0],
+        Want::Answers(HEAP + 16),
+    ),
+    (
+        0,
+        BRK,
+        [HEAP + 0x10_0000, 0, 0, 0],
+        Want::Answers(HEAP + 0x10_0000),
+    ),
+    (0, BRK, [HEAP, 0, 0, 0], Want::Answers(HEAP)),
+    // no such call, and the end
+    (0, Which::System(0), [0, 0, 0, 0], Want::Fails(38)),
+    (0, Which::System(215), [0, 0, 0, 0], Want::Fails(38)),
+    (0, EXIT, [0x1FE, 0, 0, 0], Want::Ends(254)),
+    (0, EXIT_GROUP, [3, 0, 0, 0], Want::Ends(3)),
+];
+
+const THREADS_AND_MUTEXES: &[Row] = &[
+    (0, Which::ThreadSelf, [9, 0, 0, 0], Want::Answers(0)),
+    // create: attr, then start, then p
+    (0, Which::Create, [DATA, 1, CODE, 7], Want::Answers(22)),
+    (0, Which::Create, [DATA, 0, CODE + 2, 7], Want::Answers(22)),
+    (0, Which::Create, [0, 0, CODE + 2, 7], Want::Answers(22)),
+    (0, Which::Create, [0, 0, CODE, 7], Want::Answers(14)),
+    (0, Which::Create, [DATA + 2, 0, CODE, 7], Want::Answers(14)),
+    (
+        0,
+        Which::Create,
+        [DATA, 0, CODE, 7],
+        Want::Stores(0, &[1, 0, 0, 0]),
+    ),
+    (1, Which::ThreadSelf, [0, 0, 0, 0], Want::Answers(1)),
+    // join: never made, then oneself, then joined, then p
+    (0, Which::Join, [2, 2, 0, 0], Want::Answers(3)),
+    (0, Which::Join, [0, 2, 0, 0], Want::Answers(35)),
+    (0, Which::Join, [1, 2, 0, 0], Want::Answers(14)),
+    (0, Which::Join, [1, CODE, 0, 0], Want::Answers(14)),
+    (0, Which::Join, [1, DATA, 0, 0], Want::Blocks),
+    (0, Which::Join, [1, 0, 0, 0], Want::Blocks),
+    // mutexes: the address, then the owner
+    (0, Which::MutexInit, [DATA + 2, 9, 0, 0], Want::Answers(14)),
+    (0, Which::MutexInit, [DATA, 9, 0, 0], Want::Answers(0)),
+    (0, Which::MutexDestroy, [CODE, 0, 0, 0], Want::Answers(14)),
+    (0, Which::MutexDestroy, [DATA, 0, 0, 0], Want::Answers(0)),
+    (0, Which::Unlock, [CODE, 0, 0, 0], Want::Answers(14)),
+    (0, Which::Unlock, [DATA, 0, 0, 0], Want::Answers(1)),
+    (0, Which::Lock, [CODE, 0, 0, 0], Want::Answers(14)),
+    (0, Which::Lock, [DATA, 0, 0, 0], Want::Answers(0)),
+    (0, Which::Lock, [DATA, 0, 0, 0], Want::Answers(35)),
+    (0, Which::TryLock, [DATA + 1, 0, 0, 0], Want::Answers(14)),
+    (0, Which::TryLock, [DATA, 0, 0, 0], Want::Answers(16)),
+    (1, Which::Lock, [DATA, 0, 0, 0], Want::Blocks),
+    (1, Which::TryLock, [DATA, 0, 0, 0], Want::Answers(16)),
+    (1, Which::Unlock, [DATA, 0, 0, 0], Want::Answers(1)),
+    (0, Which::Unlock, [DATA, 0, 0, 0], Want::Answers(0)),
+    (0, Which::Unlock, [DATA, 0, 0, 0], Want::Answers(1)),
+    (1, Which::TryLock, [DATA, 0, 0, 0], Want::Answers(0)),
+    // a thread that exits keeps its mutexes, and is joined once
+    (1, Which::Exit, [0x0403_0201, 0, 0, 0], Want::Exits),
+    (0, Which::Lock, [DATA, 0, 0, 0], Want::Blocks),
+    (0, Which::Join, [1, 2, 0, 0], Want::Answers(14)),
+    (
+        0,
+        Which::Join,
+        [1, DATA + 8, 0, 0],
+        Want::Stores(0, &[1, 2, 3, 4]),
+    ),
+    (0, Which::Join, [1, 2, 0, 0], Want::Answers(3)),
+    (
+        0,
+        Which::Create,
+        [DATA, 0, CODE, 7],
+        Want::Stores(0, &[2, 0, 0, 0]),
+    ),
+    (2, Which::Exit, [5, 0, 0, 0], Want::Exits),
+    (0, Which::Join, [2, 0, 0, 0], Want::Stores(0, b"")),
+    // the last thread
+    (0, Which::Exit, [5, 0, 0, 0], Want::Ends(0)),
+];
+
+fn regions(alloc: Global) -> Result<Regions, AllocError> {
+    let range = |start, write| Range {
+        start,
+        length: 0x1000,
+        read: true,
+        write,
+        execute: !write,
+    };
+    Regions::new(alloc, &[range(CODE, false), range(DATA, true)])
+}
+
+fn kernel(alloc: Global, input: &[u8]) -> Result<Kernel, AllocError> {
+    Ok(Kernel::new(alloc, HEAP, Arc::new(alloc, regions(alloc)?)?, input)?)
+}
+
+fn call(which: Which, arguments: [u32; 4]) -> Call {
+    let [a0, a1, a2, a3] = arguments;
+    Call {
+        which,
+        a0,
+        a1,
+        a2,
+        a3,
+    }
+}
+
+fn goes(which: Which) -> Goes {
+    match which {
+        Which::System(_) => Goes::Next,
+        _ => Goes::Returns,
+    }
+}
+
+fn is_answer(effect: &Effect, thread: u32, goes: Goes, value: u32, bytes: &[u8]) -> bool {
+    effect.thread == thread
+        && effect.answer == Some(value)
+        && effect.goes == goes
+        && effect.bytes.as_slice() == bytes
+        && effect.page.is_none()
+        && effect.releases
+}
+
+fn is_wanted(served: &Served, thread: u32, goes: Goes, want: Want) -> bool {
+    match (served, want) {
+        (Served::Done(effect), Want::Answers(value)) => {
+            is_answer(effect, thread, goes, value, &[]) && effect.made.is_none()
+        }
+        (Served::Done(effect), Want::Fails(error)) => {
+            is_answer(effect, thread, goes, error.wrapping_neg(), &[]) && effect.made.is_none()
+        }
+        (Served::Done(effect), Want::Stores(value, bytes)) => {
+            is_answer(effect, thread, goes, value, bytes)
+        }
+        (Served::Done(effect), Want::Exits) => {
+            effect.answer.is_none() && effect.goes == Goes::Stays
+        }
+        (Served::Blocked, Want::Blocks) => true,
+        (Served::Ends(How::Exit(status)), Want::Ends(wanted)) => *status == wanted,
+        _ => false,
+    }
+}
+
+fn serve(
+    rt: &impl Abort,
+    kernel: &mut Kernel,
+    thread: u32,
+    call: Call,
+) -> Result<Served, AllocError> {
+    assert!(rt; kernel.lives_on(thread));
+    kernel.serve(thread, call)
+}
+
+fn check(rt: &impl Abort, kernel: &mut Kernel, rows: &[Row]) -> Result<(), AllocError> {
+    for (thread, which, arguments, want) in rows {
+        let call = call(*which, *arguments);
+        let blocks = kernel.blocks(*thread, call);
+        assert_eq!(rt; blocks, matches!(want, Want::Blocks), "{thread} {call:?}");
+        assert_eq!(rt; kernel.ready(*thread, call), !blocks);
+        let served = serve(rt, kernel, *thread, call)?;
+        assert!(rt;
+            is_wanted(&served, *thread, goes(*which), *want),
+            "{thread} {call:?} {served:?}"
+        );
+    }
+    Ok(())
+}
+
+#[test]
+fn serves_system_calls(rt: HostRuntime) -> Result<(), Fail> {
+    let mut kernel = kernel(rt.alloc(), b"abcdefgh")?;
+    check(&rt, &mut kernel, SYSTEM_CALLS)?;
+    Ok(())
+}
+
+#[test]
+fn serves_threads_and_mutexes(rt: HostRuntime) -> Result<(), Fail> {
+    let mut kernel = kernel(rt.alloc(), b"")?;
+    check(&rt, &mut kernel, THREADS_AND_MUTEXES)?;
+    Ok(())
+}
+
+#[test]
+fn makes_16_threads(rt: HostRuntime) -> Result<(), Fail> {
+    let mut kernel = kernel(rt.alloc(), b"")?;
+    let create = call(Which::Create, [DATA, 0, CODE, 7]);
+    let wanted = Made {
+        start: CODE,
+        argument: 7,
+        creator: 0,
+    };
+    for number in 1..16u32 {
+        let Served::Done(effect) = serve(&rt, &mut kernel, 0, create)? else {
+            return Err("not served".into());
+        };
+        assert_eq!(rt; effect.made, Some(wanted), "{number}");
+        assert_eq!(rt; effect.place, DATA);
+        assert_eq!(rt; kernel.made(), number + 1);
+    }
+    check(
+        &rt,
+        &mut kernel,
+        &[
+            (0, Which::Create, [DATA, 0, CODE, 7], Want::Answers(11)),
+            (0, Which::Create, [0, 0, CODE, 7], Want::Answers(14)),
+            (0, Which::Create, [DATA, 1, CODE, 7], Want::Answers(22)),
+        ],
+    )?;
+    Ok(())
+}
+
+#[test]
+fn holds_256_mutexes(rt: HostRuntime) -> Result<(), Fail> {
+    let mut kernel = kernel(rt.alloc(), b"")?;
+    for place in 0..256u32 {
+        check(
+            &rt,
+            &mut kernel,
+            &[(
+                0,
+                Which::Lock,
+                [DATA + 4 * place, 0, 0, 0],
+                Want::Answers(0),
+            )],
+        )?;
+    }
+    check(
+        &rt,
+        &mut kernel,
+        &[
+            (0, Which::Lock, [DATA + 0x800, 0, 0, 0], Want::Answers(11)),
+            (
+                0,
+                Which::TryLock,
+                [DATA + 0x800, 0, 0, 0],
+                Want::Answers(11),
+            ),
+            (0, Which::Lock, [CODE, 0, 0, 0], Want::Answers(14)),
+            (0, Which::Lock, [DATA, 0, 0, 0], Want::Answers(35)),
+        ],
+    )?;
+    Ok(())
+}
+
+#[test]
+fn puts_out_what_may_be_read(rt: HostRuntime) -> Result<(), Fail> {
+    let regions = regions(rt.alloc())?;
+    for (which, arguments, want) in [
+        (WRITE, [1, CODE, 4, 0], 4),
+        (WRITE, [2, DATA, 5000, 0], 4096),
+        (WRITE, [0, DATA, 4, 0], 0),
+        (WRITE, [1, DATA, 0, 0], 0),
+        (WRITE, [1, NOWHERE, 1, 0], 0),
+        (READ, [1, DATA, 4, 0], 0),
+        (Which::Lock, [1, DATA, 4, 0], 0),
+    ] {
+        assert_eq!(rt;
+            payload_len(&regions, call(which, arguments)),
+            want,
+            "{which:?} {arguments:?}"
+        );
+    }
+    Ok(())
+}

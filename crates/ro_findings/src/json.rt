@@ -18,6 +18,7 @@ impl Findings {
     /// # Errors
     /// Where there is no memory.
     pub fn json(&self, alloc: Global) -> Result<String, AllocError> {
+        // What is written is texts, whole numbers and lists, all of which JSON has: only memory can be wanting.
         let Ok(value) = to_value(alloc, self) else {
             return Err(AllocError);
         };

@@ -1,4 +1,5 @@
 //! Instructions and the words that an assembler gives for them, and words that are none.
+use ro_decode::rows::row;
 use ro_decode::{AluOp, BranchOp, Instr, LoadOp, MulDivOp, StoreOp, decode, encode};
 
 // words that clang's assembler gives for the instructions beside them
@@ -160,5 +161,24 @@ fn refuses_other_words(rt: HostRuntime) {
         0xFFFF_FFFF,
     ] {
         assert_eq!(rt; decode(word), None, "at {word:x}");
+    }
+}
+
+// the opcode's upper five bits and funct3, by the table of the standard
+#[test]
+fn finds_rows(rt: HostRuntime) {
+    for (word, want) in [
+        // lui x1, 0x12345; lw x8, 0(x7); bne x6, x0, -8; sh x6, 0(x5); and x5, x6, x7; jalr x0, 0(x1)
+        (0x1234_50B7u32, 5 * 32 + 0b01101),
+        (0x0003_A403, 2 * 32),
+        (0xFE03_1CE3, 32 + 0b11000),
+        (0x0062_9023, 32 + 0b01000),
+        (0x0073_72B3, 7 * 32 + 0b01100),
+        (0x0000_8067, 0b11001u32),
+    ] {
+        assert_eq!(rt; row(word), want, "at {word:x}");
+    }
+    for word in [0x0003_A400u32, 0x0003_A401, 0x0003_A402, 0, 0xFFFF_FFFE] {
+        assert!(rt; row(word) >= 256, "at {word:x}");
     }
 }

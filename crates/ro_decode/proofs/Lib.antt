@@ -1,4 +1,3 @@
 pub mod InstructionsBack
 pub mod WordsBack
-pub mod Masks
 pub mod Signs

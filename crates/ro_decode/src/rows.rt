@@ -6,19 +6,12 @@ ghost use Rattle.ro_decode.specs.Table.{InRange, instruction_of, load_with, stor
 use crate::fields::{b_form, i_form, j_form, rd, rs1, rs2, s_form, u_form};
 use crate::{AluOp, BranchOp, Instr, LoadOp, MulDivOp, StoreOp};
 
-/// The row of a word, below 256: the opcode without its lowest two bits, which are 11, and funct3 above it. For a word
-/// whose lowest two bits are others it is 256 or more.
-///
-/// The two bits, less 3, are turned to the top, so that one mask keeps them and the opcode's other five.
+/// The row of a word, of ten bits: funct3, and above it the opcode. One product brings both to the top.
 #[inline(always)]
 pub fn row(word: u32) -> u32
-    ensures opcode { result < 256 → opcode_in word ≡ 4 * (result % 32) + 3 }
-    ensures funct3 { result < 256 → funct3_in word ≡ result / 32 }
-    ensures found { word % 4 ≡ 3 → result < 256 }
+    ensures { result ≡ 8 * opcode_in word + funct3_in word }
 {
-    let less = word.wrapping_sub(3);
-    let turned = less / 4 + less % 4 * 0x4000_0000;
-    (turned & 0xC000_001F) + word / 4096 % 8 * 32
+    (word % 128 + word / 4096 % 8 * 4096).wrapping_mul(0x0200_0400) / 0x0040_0000
 }
 
 /// LUI.

@@ -1,5 +1,5 @@
 -- Code in which no stop stands before an instruction is read, and data that may be accessed.
-use Rattle.std.specs.Prelude.{◌≡◌, ℕ, ◌+◌, ◌*◌, ◌%◌, ◌^◌, ◌<◌, ◌≤◌, true, List, Option, Some, None}
+use Rattle.std.specs.Prelude.{◌≡◌, ◌≢◌, ℕ, ◌+◌, ◌*◌, ◌%◌, ◌^◌, ◌<◌, ◌≤◌, true, List, Option, Some, None}
 use Rattle.std.specs.List.{slice_get}
 use Rattle.ro_region.specs.declared.Range.{Range}
 use Rattle.ro_region.specs.declared.Kind.{Kind}
@@ -16,6 +16,14 @@ IsIn stretch pc = (stretch.from ≤ pc) × (pc < stretch.from + 4 * stretch.word
 -- no thread that stands in it has a stop before its instruction is read, and the page is backed
 abbrev pub IsClear : Layout → Backed → Stretch → Type 0
 IsClear layout backed stretch = (cpu : Cpu) → IsIn stretch cpu.pc → (fetch_stop layout backed cpu ≡ None) × (backed (page_of cpu.pc) ≡ true)
+
+-- where the code after it begins, modulo 2 ^ 32
+abbrev pub end_of : Stretch → ℕ
+end_of stretch = (stretch.from + 4 * stretch.words) % 2 ^ 32
+
+-- a thread that isn't at the place where code is looked up anew stands in the stretch, which ends at that place
+abbrev pub IsAlong : Stretch → (turn pc : ℕ) → Type 0
+IsAlong stretch turn pc = pc ≢ turn → IsIn stretch pc × (turn ≡ end_of stretch)
 
 -- the page of each of its instructions is kept at its place
 abbrev pub IsKept : (ℕ → Option ℕ) → Stretch → Type 0

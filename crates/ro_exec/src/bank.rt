@@ -51,6 +51,13 @@ impl Bank {
         registers
     }
 
+    /// Writes the registers x1 to x31 to a place.
+    pub fn write_to(&self, registers: &mut [u32; 31])
+        ensures { registers.new ≡ self.now }
+    {
+        registers.copy_from_slice(&self.values[1..]);
+    }
+
     /// The registers with these as x1 to x31.
     pub fn new(registers: &[u32; 31]) -> Bank
         ensures { result ≡ registers.now }

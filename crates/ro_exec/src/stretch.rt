@@ -1,7 +1,7 @@
 //! Stretches of code that a run keeps.
 ghost use Rattle.std.specs.Prelude.{ℕ, ◌≡◌, ◌+◌, ◌*◌, ◌/◌, ◌%◌, ◌^◌, ◌<◌, ◌≤◌, true};
 ghost use Rattle.ro_pages.specs.Bytes.{IsSize};
-ghost use Rattle.ro_exec.specs.Stretches.{IsIn, IsClear, IsKept};
+ghost use Rattle.ro_exec.specs.Stretches.{IsIn, IsAlong, IsClear, IsKept, end_of};
 ghost use Rattle.ro_region.specs.Permission.{permits_byte, permits_of};
 ghost use Rattle.ro_region.specs.declared.Kind.TheVariants.{Execute};
 
@@ -77,6 +77,70 @@ impl Stretch {
         }
         self.renew(pc, memory, regions, calls);
         self.holds(pc)
+    }
+
+    /// Whether a thread stands in the stretch, which is looked at only where the thread is at the turn: the stretch's end, or
+    /// where a jump left it.
+    #[inline(always)]
+    pub fn goes_along<M: Memory>(
+        &mut self,
+        turn: &mut u32,
+        pc: u32,
+        memory: &M,
+        regions: &Regions,
+        calls: &CallTable,
+    ) -> bool
+        requires aligned { self.old.from % 4 ≡ 0 }
+        requires bounded { self.old.from + 4 * self.old.words ≤ 2 ^ 32 }
+        requires clear { IsClear (record { ranges = regions.now; calls = calls.now }) (M.backing memory.now) self.old }
+        requires kept { IsKept (M.kept memory.now) self.old }
+        requires along { IsAlong self.old turn.old pc }
+        ensures aligned { self.new.from % 4 ≡ 0 }
+        ensures bounded { self.new.from + 4 * self.new.words ≤ 2 ^ 32 }
+        ensures clear { IsClear (record { ranges = regions.now; calls = calls.now }) (M.backing memory.now) self.new }
+        ensures kept { IsKept (M.kept memory.now) self.new }
+        ensures along { IsAlong self.new turn.new pc }
+        ensures inside { result ≡ true → IsIn self.new pc }
+        ensures turn { result ≡ true → turn.new ≡ end_of self.new }
+    {
+        if pc != *turn {
+            return true;
+        }
+        let mut found = *self;
+        let is_found = found.follow(pc, memory, regions, calls);
+        *self = found;
+        if !is_found {
+            return false;
+        }
+        *turn = self.from.wrapping_add(self.words.wrapping_mul(4));
+        true
+    }
+
+    /// The place after an instruction of the stretch, at which a thread still goes along it.
+    #[inline(always)]
+    pub fn after(self, turn: u32, place: u32) -> u32
+        requires aligned { self.from % 4 ≡ 0 }
+        requires bounded { self.from + 4 * self.words ≤ 2 ^ 32 }
+        requires inside { IsIn self place }
+        requires turn { turn ≡ end_of self }
+        ensures { IsAlong self turn result }
+    {
+        place.wrapping_add(4)
+    }
+
+    /// Sees whether a thread left the stretch by a jump, where it isn't at the next instruction; then its code is looked up
+    /// next.
+    #[inline(always)]
+    pub fn turns(self, turn: &mut u32, next: u32, pc: u32)
+        requires aligned { self.from % 4 ≡ 0 }
+        requires bounded { self.from + 4 * self.words ≤ 2 ^ 32 }
+        requires next { IsAlong self turn.old next }
+        requires turn { turn.old ≡ end_of self }
+        ensures { IsAlong self turn.new pc }
+    {
+        if pc != next && !self.holds(pc) {
+            *turn = pc;
+        }
     }
 
     /// Becomes the code round a place. It is no part of the loop that runs code, as `stretch_at` would be.

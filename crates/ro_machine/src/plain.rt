@@ -202,6 +202,7 @@ impl Plain {
         ensures same { result ≡ None → SameMachine (closed self.new lane.new) (closed self.old lane.old) }
     {
         let look = look_quickly(lane, &self.pages)?;
+        let mut turn = lane.pc;
         let done = quick_step::<Pages, Lane>(
             &mut lane.registers,
             &mut lane.pc,
@@ -211,6 +212,7 @@ impl Plain {
             &self.regions,
             self.image.calls(),
             &mut lane.code,
+            &mut turn,
         );
         if !done {
             return None;

@@ -10,7 +10,7 @@ use Rattle.ro_exec.specs.Next.{Layout, Backed, Next, Stands, Executes, next}
 use Rattle.ro_exec.specs.Steps.{IsStep, IsQuick}
 use Rattle.ro_region.specs.declared.Range.{Range}
 use Rattle.ro_region.specs.declared.Kind.{Kind}
-use Rattle.ro_exec.specs.Stretches.{IsClear, IsKept, AreOpenTo}
+use Rattle.ro_exec.specs.Stretches.{IsAlong, IsClear, IsKept, AreOpenTo}
 use Rattle.ro_exec.specs.declared.stretch.Stretch.{Stretch}
 use Rattle.ro_thread.specs.declared.Thread.{Thread}
 use Rattle.ro_thread.specs.Runs.{Running, after_next, one_instruction, instructions}
@@ -87,3 +87,16 @@ kept_page now before stretch e h = subst (λ (k : ℕ → Option ℕ). IsKept k 
 pub kept_open : (ranges : List Range) (now before : Backed) (places at : ℕ → Option ℕ) (kind : Kind) (stretches : List Stretch) → now ≡ before → places ≡ at → AreOpenTo ranges before at kind stretches → AreOpenTo ranges now places kind stretches
 kept_open ranges now before places at kind stretches e f h =
     subst (λ (k : Backed). AreOpenTo ranges k places kind stretches) (sym e) (subst (λ (k : ℕ → Option ℕ). AreOpenTo ranges before k kind stretches) (sym f) h)
+
+-- a thread whose code is looked up anew
+pub along_anew : (stretch : Stretch) (turn pc at : ℕ) → turn ≡ at → pc ≡ at → IsAlong stretch turn pc
+along_anew stretch turn pc at t p = λ apart. absurd (apart (p ∙ sym t))
+
+-- a thread that goes along, by other names
+pub along_still : (stretch : Stretch) (turn pc t p : ℕ) → turn ≡ t → pc ≡ p → IsAlong stretch t p → IsAlong stretch turn pc
+along_still stretch turn pc t p e f h = subst (λ (k : ℕ). IsAlong stretch k pc) (sym e) (subst (λ (k : ℕ). IsAlong stretch t k) (sym f) h)
+
+-- so many instructions, counted otherwise
+pub recounted : (layout : Layout) (watchdog : ℕ) (backed : Backed) (running : Running) (thread : Thread) (n m : ℕ) (cpu : Cpu) (memory : Memory) → n ≡ m → instructions layout watchdog backed n running ≡ Some (ran_on thread n cpu memory) → instructions layout watchdog backed m running ≡ Some (ran_on thread m cpu memory)
+recounted layout watchdog backed running thread n m cpu memory e h =
+    subst (λ (k : ℕ). instructions layout watchdog backed k running ≡ Some (ran_on thread k cpu memory)) e h

@@ -1,5 +1,5 @@
 //! Running a thread.
-ghost use Rattle.std.specs.Prelude.{◌≡◌, ◌≤◌, ◌<◌, ◌+◌, ◌^◌};
+ghost use Rattle.std.specs.Prelude.{◌≡◌, ◌≤◌, ◌<◌, ◌+◌, ◌-◌, ◌^◌};
 ghost use Rattle.ro_exec.specs.Next.{next};
 ghost use Rattle.ro_exec.specs.Steps.{IsStep};
 ghost use Rattle.ro_thread.specs.Runs.{IsRun};
@@ -42,9 +42,11 @@ pub fn run<M: Memory>(
     let mut registers = Bank::new(&thread.cpu.registers);
     let mut pc = thread.cpu.pc;
     let mut stretch = NONE;
+    let mut turn = pc;
     let mut reads = Open::new();
     let mut writes = Open::new();
-    for count in 0..bound {
+    let mut left = bound;
+    while left > 0 {
         if !quick_step::<M, Thread>(
             &mut registers,
             &mut pc,
@@ -54,39 +56,47 @@ pub fn run<M: Memory>(
             regions,
             calls,
             &mut stretch,
+            &mut turn,
         ) {
-            if let Step::Stopped(stop) = slow_step(
-                &mut registers,
-                &mut pc,
-                memory,
-                regions,
-                calls,
-            ) {
-                return ended(thread, &registers, pc, count, Some(stop));
+            let mut place = pc;
+            let step = slow_step(&mut registers, &mut place, memory, regions, calls);
+            pc = place;
+            turn = place;
+            if let Step::Stopped(stop) = step {
+                return ended(thread, &registers, pc, bound, left, Some(stop));
             }
         }
+        left -= 1;
     }
     let stop = if bound < most {
         Some(Stop::Watchdog)
     } else {
         None
     };
-    ended(thread, &registers, pc, bound, stop)
+    ended(thread, &registers, pc, bound, 0, stop)
 }
 
-// Ends a run of so many instructions: gives the thread what its registers are then, and counts them.
+// Ends a run of as many instructions as it could have, less those that are left: gives the thread what its registers are then,
+// and counts them.
 #[cold]
 #[inline(never)]
-fn ended(thread: &mut Thread, registers: &Bank, pc: u32, count: u32, stop: Option<Stop>) -> RunEnd
-    requires since { thread.old.since + count < 2 ^ 32 }
-    requires done { thread.old.done + count < 2 ^ 128 }
-    ensures ran { result ≡ record { count = count; stop = stop } }
-    ensures thread { thread.new ≡ record thread.old { cpu = record { registers = registers.now; pc = pc }; since = thread.old.since + count; done = thread.old.done + count } }
+fn ended(
+    thread: &mut Thread,
+    registers: &Bank,
+    pc: u32,
+    bound: u32,
+    left: u32,
+    stop: Option<Stop>,
+) -> RunEnd
+    requires left { left ≤ bound }
+    requires since { thread.old.since + bound < 2 ^ 32 }
+    requires done { thread.old.done + bound < 2 ^ 128 }
+    ensures ran { result ≡ record { count = bound - left; stop = stop } }
+    ensures thread { thread.new ≡ record thread.old { cpu = record { registers = registers.now; pc = pc }; since = thread.old.since + (bound - left); done = thread.old.done + (bound - left) } }
 {
-    thread.cpu = Cpu {
-        registers: registers.registers(),
-        pc,
-    };
+    let count = bound - left;
+    registers.write_to(&mut thread.cpu.registers);
+    thread.cpu.pc = pc;
     thread.since += count;
     thread.done += u128::from(count);
     RunEnd { count, stop }
@@ -111,7 +121,9 @@ fn slow_step<M: Memory>(
         pc: *pc,
     };
     let step = step(&mut cpu, memory, regions, calls);
-    *registers = Bank::new(&cpu.registers);
-    *pc = cpu.pc;
+    if let Step::Did = step {
+        *registers = Bank::new(&cpu.registers);
+        *pc = cpu.pc;
+    }
     step
 }

@@ -18,6 +18,7 @@ use Rattle.ro_kernel.specs.Kernel.{Setup, Kernel, is_live, live_option, lives_on
 use Rattle.ro_kernel.specs.Serve.{Served, Done, Blocked, Ends, answers, stores_effect, serve_read, serve_write, serve_brk, serve_system, serve_create, joined, serve_join_at, serve_exit, gets, lock_at, trylock_at, unlock_at, on_mutex, serve_which, serve}
 use Rattle.ro_kernel.proofs.Kept.{slice_get-set_other}
 use Rattle.ro_legal.specs.Sound.{IsOver, exits}
+use Rattle.ro_kernel.proofs.Shapes.{Shape, says, reads, breaks, owns, makes, joins, leaves, waits, stops, stops_last, shape-of}
 
 -- how many threads an effect makes
 abbrev pub made_count : Option Made → ℕ
@@ -36,11 +37,6 @@ pub data Tidy (before : Kernel) (u : ℕ) : Served → Type 0 where
   tidy_done : {after : Kernel} {effect : Effect} → IsTidy before u after effect → Tidy before u (Done after effect)
   tidy_blocked : Tidy before u Blocked
   tidy_end : {after : Kernel} {how : How} → length after.lives ≡ length before.lives → IsOver how → Tidy before u (Ends after how)
-
--- a choice of two
-tidy-cond : (before : Kernel) (u : ℕ) (b : Bool) (x y : Served) → Tidy before u x → Tidy before u y → Tidy before u (cond b x y)
-tidy-cond before u true x y p q = p
-tidy-cond before u false x y p q = q
 
 -- none is added
 add-none : (n : ℕ) → n ≡ n + 0
@@ -68,64 +64,6 @@ get-set-at (y ∷ xs) zero x P n s = s
 get-set-at (y ∷ xs) (suc i) x P n s = get-set-at xs i x P n s
 
 module _ (setup : Setup) (kernel : Kernel) (u : ℕ) (call : Call) where
-  -- an answer and nothing else
-  tidy-refused : (value : ℕ) → Tidy kernel u (answers kernel u call value)
-  tidy-refused value = tidy-answers kernel kernel u call value refl
-
-  -- a mutex is got
-  tidy-gets : Tidy kernel u (gets kernel u call)
-  tidy-gets = tidy-answers kernel (record kernel { owners = with_owner kernel.owners call.a0 (Some u) }) u call 0 refl
-
-  -- input is read
-  tidy-taken : (taken value place : ℕ) (bytes : List ℕ) → Tidy kernel u (Done (record kernel { taken = taken }) (stores_effect u call value place bytes))
-  tidy-taken taken value place bytes = tidy_done (record { one_life_each = add-none (length kernel.lives); stays_dead = λ t d short h. h; goes_on = refl; backs_none = refl })
-
-  -- read
-  tidy-read : Tidy kernel u (serve_read setup kernel u call)
-  tidy-read = search (tidy-cond, tidy-refused, tidy-taken)
-
-  -- write
-  tidy-write : Tidy kernel u (serve_write setup kernel u call)
-  tidy-write = search (tidy-cond, tidy-refused)
-
-  -- the break is set
-  tidy-break : (end : ℕ) → Tidy kernel u (answers (record kernel { heap_end = end }) u call end)
-  tidy-break end = tidy-answers kernel (record kernel { heap_end = end }) u call end refl
-
-  -- brk
-  tidy-brk : Tidy kernel u (serve_brk setup kernel u call)
-  tidy-brk = search (tidy-cond, tidy-refused, tidy-break)
-
-  -- the program exits
-  tidy-leaves : (status : ℕ) → Tidy kernel u (Ends kernel (ExitHow status))
-  tidy-leaves status = tidy_end refl exits
-
-  -- the system calls
-  tidy-system : (number : ℕ) → Tidy kernel u (serve_system setup kernel u call number)
-  tidy-system number = search (tidy-cond, tidy-read, tidy-write, tidy-brk, tidy-refused, tidy-leaves)
-
-  -- a thread is made
-  tidy-made : (made : Made) (bytes : List ℕ) (answer : Option ℕ) → Tidy kernel u (Done (record kernel { lives = kernel.lives ++ Live ∷ [] }) (record {
-    thread = u;
-    answer = answer;
-    goes = Returns;
-    place = call.a0;
-    bytes = bytes;
-    page = None;
-    made = Some made;
-    releases = true;
-  }))
-  tidy-made made bytes answer = tidy_done (record {
-    one_life_each = length-append kernel.lives (Live ∷ []);
-    stays_dead = λ t d short h. ap live_option (sym (get-append-short kernel.lives (Live ∷ []) t short)) ∙ h;
-    goes_on = refl;
-    backs_none = refl;
-  })
-
-  -- pthread_create
-  tidy-create : Tidy kernel u (serve_create setup kernel u call)
-  tidy-create = search (tidy-cond, tidy-refused, tidy-made)
-
   -- a life that is set to another one than live
   set-dead : (place t : ℕ) (life : Life) → is_live life ≡ false → lives_on (record kernel { lives = slice_set kernel.lives place life }) t ≡ true → lives_on kernel t ≡ true
   set-dead place t life dead h =
@@ -134,88 +72,33 @@ module _ (setup : Setup) (kernel : Kernel) (u : ℕ) (call : Call) where
       (λ other. ap live_option (sym (slice_get-set_other kernel.lives place t life (λ f. other (sym f)))) ∙ h)
       (cases_eq t place)
 
-  -- a thread is joined
-  tidy-joined : (value : ℕ) → Tidy kernel u (joined setup kernel u call value)
-  tidy-joined value = tidy_done (record {
+  tidy-of : {served : Served} → Shape setup kernel u call served → Tidy kernel u served
+  tidy-of (says value) = tidy-answers kernel kernel u call value refl
+  tidy-of (reads xs h) = tidy_done (record { one_life_each = add-none (length kernel.lives); stays_dead = λ t d short h. h; goes_on = refl; backs_none = refl })
+  tidy-of (breaks end) = tidy-answers kernel (record kernel { heap_end = end }) u call end refl
+  tidy-of (owns owner) = tidy-answers kernel (record kernel { owners = with_owner kernel.owners call.a0 owner }) u call 0 refl
+  tidy-of (makes f n) = tidy_done (record {
+    one_life_each = length-append kernel.lives (Live ∷ []);
+    stays_dead = λ t d short h. ap live_option (sym (get-append-short kernel.lives (Live ∷ []) t short)) ∙ h;
+    goes_on = refl;
+    backs_none = refl;
+  })
+  tidy-of (joins value e h) = tidy_done (record {
     one_life_each = length-set kernel.lives call.a0 Joined ∙ add-none (length kernel.lives);
     stays_dead = λ t d short h. set-dead call.a0 t Joined refl h;
     goes_on = refl;
     backs_none = refl;
   })
-
-  -- pthread_join
-  tidy-join_at : (o : Option Life) → Tidy kernel u (serve_join_at setup kernel u call o)
-  tidy-join_at None = tidy-refused 3
-  tidy-join_at (Some Joined) = search (tidy-cond, tidy-refused)
-  tidy-join_at (Some Live) = search (tidy-cond, tidy-refused, tidy_blocked)
-  tidy-join_at (Some (Exited value)) = let h = tidy-joined value in search (tidy-cond, tidy-refused, h)
-
-  -- a thread exits
-  tidy-gone : Tidy kernel u (Done (record kernel { lives = slice_set kernel.lives u (Exited call.a0) }) (record {
-    thread = u;
-    answer = None;
-    goes = Stays;
-    place = 0;
-    bytes = [];
-    page = None;
-    made = None;
-    releases = true;
-  }))
-  tidy-gone = tidy_done (record {
+  tidy-of leaves = tidy_done (record {
     one_life_each = length-set kernel.lives u (Exited call.a0) ∙ add-none (length kernel.lives);
     stays_dead = λ t d short h. set-dead u t (Exited call.a0) refl h;
     goes_on = refl;
     backs_none = refl;
   })
-
-  -- the last thread exits
-  tidy-last : Tidy kernel u (Ends (record kernel { lives = slice_set kernel.lives u (Exited call.a0) }) (ExitHow 0))
-  tidy-last = tidy_end (length-set kernel.lives u (Exited call.a0)) exits
-
-  -- pthread_exit
-  tidy-exit : Tidy kernel u (serve_exit kernel u call)
-  tidy-exit = search (tidy-cond, tidy-gone, tidy-last)
-
-  -- pthread_mutex_lock
-  tidy-lock_at : (o : Option (Option ℕ)) → Tidy kernel u (lock_at kernel u call o)
-  tidy-lock_at None = search (tidy-cond, tidy-refused, tidy-gets)
-  tidy-lock_at (Some None) = tidy-gets
-  tidy-lock_at (Some (Some owner)) = search (tidy-cond, tidy-refused, tidy_blocked)
-
-  -- pthread_mutex_trylock
-  tidy-trylock_at : (o : Option (Option ℕ)) → Tidy kernel u (trylock_at kernel u call o)
-  tidy-trylock_at None = search (tidy-cond, tidy-refused, tidy-gets)
-  tidy-trylock_at (Some None) = tidy-gets
-  tidy-trylock_at (Some (Some owner)) = tidy-refused 16
-
-  -- a mutex is freed
-  tidy-frees : Tidy kernel u (answers (record kernel { owners = with_owner kernel.owners call.a0 None }) u call 0)
-  tidy-frees = tidy-answers kernel (record kernel { owners = with_owner kernel.owners call.a0 None }) u call 0 refl
-
-  -- pthread_mutex_unlock
-  tidy-unlock_at : (o : Option (Option ℕ)) → Tidy kernel u (unlock_at kernel u call o)
-  tidy-unlock_at None = tidy-refused 1
-  tidy-unlock_at (Some None) = tidy-refused 1
-  tidy-unlock_at (Some (Some owner)) = search (tidy-cond, tidy-refused, tidy-frees)
-
-  -- a call on a mutex
-  tidy-mutex : (served : Served) → Tidy kernel u served → Tidy kernel u (on_mutex setup kernel u call served)
-  tidy-mutex served h = search (tidy-cond, tidy-refused, h)
-
-  -- each call
-  tidy-which : (which : Which) → Tidy kernel u (serve_which setup kernel u call which)
-  tidy-which (System number) = tidy-system number
-  tidy-which Create = tidy-create
-  tidy-which Join = tidy-join_at (slice_get kernel.lives call.a0)
-  tidy-which Exit = tidy-exit
-  tidy-which ThreadSelf = tidy-refused u
-  tidy-which MutexInit = tidy-mutex _ (tidy-refused 0)
-  tidy-which MutexDestroy = tidy-mutex _ (tidy-refused 0)
-  tidy-which Lock = tidy-mutex _ (tidy-lock_at (owner_of kernel.owners call.a0))
-  tidy-which TryLock = tidy-mutex _ (tidy-trylock_at (owner_of kernel.owners call.a0))
-  tidy-which Unlock = tidy-mutex _ (tidy-unlock_at (owner_of kernel.owners call.a0))
+  tidy-of waits = tidy_blocked
+  tidy-of (stops status) = tidy_end refl exits
+  tidy-of stops_last = tidy_end (length-set kernel.lives u (Exited call.a0)) exits
 
   -- what comes of a call
   pub serve-tidy : Tidy kernel u (serve setup kernel u call)
-  unfolding serve
-  serve-tidy = tidy-which call.which
+  serve-tidy = tidy-of (shape-of setup kernel u call)

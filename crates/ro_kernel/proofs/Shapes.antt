@@ -1,0 +1,133 @@
+-- What a call comes to, whichever it is: one of a few shapes.
+use Rattle.std.specs.Prelude.{◌≡◌, ◌+◌, ◌==◌, ℕ, Bool, true, false, cond, not, ◌&&◌, List, [], ◌∷◌, ◌++◌, length, take, drop, Option, Some, None, slice_get, slice_set, nat_le}
+use Rattle.std.proofs.Common.{refl}
+use Rattle.std.proofs.lemmas.Bool.{true≢false}
+use Rattle.ro_event.specs.declared.calls.Which.{Which}
+use Rattle.ro_event.specs.declared.calls.Which.TheVariants.{System, Create, Join, Exit, ThreadSelf, MutexInit, MutexDestroy, Lock, TryLock, Unlock}
+use Rattle.ro_event.specs.declared.calls.Call.{Call}
+use Rattle.ro_event.specs.declared.effects.Goes.TheVariants.{Stays, Returns}
+use Rattle.ro_region.specs.declared.Kind.TheVariants.{Write}
+use Rattle.ro_region.specs.Permission.{permits_of}
+use Rattle.ro_pages.specs.Bytes.{bytes_of}
+use Rattle.ro_journal.specs.declared.How.TheVariants.{Exit as ExitHow}
+use Rattle.ro_mutex.specs.Owners.{owner_of, with_owner}
+use Rattle.ro_kernel.specs.declared.Life.{Life}
+use Rattle.ro_kernel.specs.declared.Life.TheVariants.{Live, Exited, Joined}
+use Rattle.ro_kernel.specs.Kernel.{Setup, Kernel}
+use Rattle.ro_kernel.specs.Serve.{Served, Done, Blocked, Ends, answers, stores_effect, minus, capped, fits, serve_read, serve_write, serve_brk, serve_system, serve_create, joined, serve_join_at, serve_exit, lock_at, trylock_at, unlock_at, on_mutex, serve_which, serve}
+
+pub data Shape (setup : Setup) (kernel : Kernel) (u : ℕ) (call : Call) : Served → Type 0 where
+  -- a value, and nothing else
+  says : (value : ℕ) → Shape setup kernel u call (answers kernel u call value)
+  -- the next bytes of the input, where they may be stored
+  reads : (xs : List ℕ) → permits_of setup.ranges Write call.a1 (capped call.a2) ≡ true → Shape setup kernel u call (Done (record kernel { taken = kernel.taken + length (take (capped call.a2) xs) }) (stores_effect u call (length (take (capped call.a2) xs)) call.a1 (take (capped call.a2) xs)))
+  -- the break
+  breaks : (end : ℕ) → Shape setup kernel u call (answers (record kernel { heap_end = end }) u call end)
+  -- a mutex has another owner, or none
+  owns : (owner : Option ℕ) → Shape setup kernel u call (answers (record kernel { owners = with_owner kernel.owners call.a0 owner }) u call 0)
+  -- a thread is made
+  makes : fits setup.ranges call.a0 ≡ true → nat_le 16 (length kernel.lives) ≡ false → Shape setup kernel u call (Done (record kernel { lives = kernel.lives ++ Live ∷ [] }) (record {
+    thread = u;
+    answer = Some 0;
+    goes = Returns;
+    place = call.a0;
+    bytes = bytes_of 4 (length kernel.lives);
+    page = None;
+    made = Some (record { start = call.a2; argument = call.a3; creator = u });
+    releases = true;
+  }))
+  -- a thread that has exited is joined
+  joins : (value : ℕ) → slice_get kernel.lives call.a0 ≡ Some (Exited value) → (not (call.a1 == 0) && not (fits setup.ranges call.a1)) ≡ false → Shape setup kernel u call (joined setup kernel u call value)
+  -- the thread exits, and others live on
+  leaves : Shape setup kernel u call (Done (record kernel { lives = slice_set kernel.lives u (Exited call.a0) }) (record {
+    thread = u;
+    answer = None;
+    goes = Stays;
+    place = 0;
+    bytes = [];
+    page = None;
+    made = None;
+    releases = true;
+  }))
+  -- it blocks
+  waits : Shape setup kernel u call Blocked
+  -- the program exits, by a call or with its last thread
+  stops : (status : ℕ) → Shape setup kernel u call (Ends kernel (ExitHow status))
+  stops_last : Shape setup kernel u call (Ends (record kernel { lives = slice_set kernel.lives u (Exited call.a0) }) (ExitHow 0))
+
+set-by : (b : Bool) → not b ≡ false → b ≡ true
+set-by true h = refl
+set-by false h = absurd (true≢false h)
+
+module _ (setup : Setup) (kernel : Kernel) (u : ℕ) (call : Call) where
+  either : (b : Bool) (x y : Served) → Shape setup kernel u call x → Shape setup kernel u call y → Shape setup kernel u call (cond b x y)
+  either true x y p q = p
+  either false x y p q = q
+
+  tested : (b : Bool) (x y : Served) → Shape setup kernel u call x → (b ≡ false → Shape setup kernel u call y) → Shape setup kernel u call (cond b x y)
+  tested true x y p q = p
+  tested false x y p q = q refl
+
+  of-read : Shape setup kernel u call (serve_read setup kernel u call)
+  of-read =
+      let l = tested (not (permits_of setup.ranges Write call.a1 (capped call.a2))) _ _ (says (minus 14)) (λ h. reads (drop kernel.taken setup.input) (set-by _ h)) in
+      search (l, either, says)
+
+  of-write : Shape setup kernel u call (serve_write setup kernel u call)
+  of-write = search (either, says)
+
+  of-brk : Shape setup kernel u call (serve_brk setup kernel u call)
+  of-brk = search (either, says, breaks)
+
+  of-system : (number : ℕ) → Shape setup kernel u call (serve_system setup kernel u call number)
+  of-system number = search (either, of-read, of-write, of-brk, says, stops)
+
+  of-create : Shape setup kernel u call (serve_create setup kernel u call)
+  of-create =
+      let l = tested (not (fits setup.ranges call.a0)) _ _ (says 14) (λ h. tested (nat_le 16 (length kernel.lives)) _ _ (says 11) (λ k. makes (set-by _ h) k)) in
+      search (l, either, says)
+
+  of-join_at : (o : Option Life) → slice_get kernel.lives call.a0 ≡ o → Shape setup kernel u call (serve_join_at setup kernel u call o)
+  of-join_at None e = says 3
+  of-join_at (Some Joined) e = search (either, says)
+  of-join_at (Some Live) e = search (either, says, waits)
+  of-join_at (Some (Exited value)) e =
+      let l = tested (not (call.a1 == 0) && not (fits setup.ranges call.a1)) _ _ (says 14) (λ h. joins value e h) in search (l, either, says)
+
+  of-exit : Shape setup kernel u call (serve_exit kernel u call)
+  of-exit = search (either, leaves, stops_last)
+
+  of-lock_at : (o : Option (Option ℕ)) → Shape setup kernel u call (lock_at kernel u call o)
+  of-lock_at None = search (either, says, owns)
+  of-lock_at (Some None) = owns (Some u)
+  of-lock_at (Some (Some owner)) = search (either, says, waits)
+
+  of-trylock_at : (o : Option (Option ℕ)) → Shape setup kernel u call (trylock_at kernel u call o)
+  of-trylock_at None = search (either, says, owns)
+  of-trylock_at (Some None) = owns (Some u)
+  of-trylock_at (Some (Some owner)) = says 16
+
+  of-unlock_at : (o : Option (Option ℕ)) → Shape setup kernel u call (unlock_at kernel u call o)
+  of-unlock_at None = says 1
+  of-unlock_at (Some None) = says 1
+  of-unlock_at (Some (Some owner)) = search (either, says, owns)
+
+  of-mutex : (served : Served) → Shape setup kernel u call served → Shape setup kernel u call (on_mutex setup kernel u call served)
+  of-mutex served h = search (either, says, h)
+
+  of-which : (which : Which) → Shape setup kernel u call (serve_which setup kernel u call which)
+  of-which (System number) = of-system number
+  of-which Create = of-create
+  of-which Join = of-join_at (slice_get kernel.lives call.a0) refl
+  of-which Exit = of-exit
+  of-which ThreadSelf = says u
+  of-which MutexInit = of-mutex _ (says 0)
+  of-which MutexDestroy = of-mutex _ (says 0)
+  of-which Lock = of-mutex _ (of-lock_at (owner_of kernel.owners call.a0))
+  of-which TryLock = of-mutex _ (of-trylock_at (owner_of kernel.owners call.a0))
+  of-which Unlock = of-mutex _ (of-unlock_at (owner_of kernel.owners call.a0))
+
+  -- what comes of a thread's call has one of the shapes
+  pub shape-of : Shape setup kernel u call (serve setup kernel u call)
+  unfolding serve
+  shape-of = of-which call.which

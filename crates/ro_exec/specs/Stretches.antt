@@ -17,13 +17,13 @@ IsIn stretch pc = (stretch.from ≤ pc) × (pc < stretch.from + 4 * stretch.word
 abbrev pub IsClear : Layout → Backed → Stretch → Type 0
 IsClear layout backed stretch = (cpu : Cpu) → IsIn stretch cpu.pc → (fetch_stop layout backed cpu ≡ None) × (backed (page_of cpu.pc) ≡ true)
 
--- where the code after it begins, modulo 2 ^ 32
+-- where the code behind it begins, modulo 2 ^ 32
 abbrev pub end_of : Stretch → ℕ
 end_of stretch = (stretch.from + 4 * stretch.words) % 2 ^ 32
 
--- a thread that isn't at the place where code is looked up anew stands in the stretch, which ends at that place
-abbrev pub IsAlong : Stretch → (turn pc : ℕ) → Type 0
-IsAlong stretch turn pc = pc ≢ turn → IsIn stretch pc × (turn ≡ end_of stretch)
+-- a thread stands in the stretch, which ends at the place where code is looked up again, or it is at that place
+abbrev pub IsAlong : Stretch → (until pc : ℕ) → Type 0
+IsAlong stretch until pc = pc ≢ until → IsIn stretch pc × (until ≡ end_of stretch)
 
 -- the page of each of its instructions is kept at its place
 abbrev pub IsKept : (ℕ → Option ℕ) → Stretch → Type 0

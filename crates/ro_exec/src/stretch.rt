@@ -1,5 +1,6 @@
 //! Stretches of code that a run keeps.
 ghost use Rattle.std.specs.Prelude.{ℕ, ◌≡◌, ◌+◌, ◌*◌, ◌/◌, ◌%◌, ◌^◌, ◌<◌, ◌≤◌, true};
+ghost use Rattle.ro_alu.specs.Results.{low_word};
 ghost use Rattle.ro_pages.specs.Bytes.{IsSize};
 ghost use Rattle.ro_exec.specs.Stretches.{IsIn, IsAlong, IsClear, IsKept, end_of};
 ghost use Rattle.ro_region.specs.Permission.{permits_byte, permits_of};
@@ -79,12 +80,12 @@ impl Stretch {
         self.holds(pc)
     }
 
-    /// Whether a thread stands in the stretch, which is looked at only where the thread is at the turn: the stretch's end, or
-    /// where a jump left it.
+    /// Whether a thread stands in the stretch, which becomes the code round it where it does not yet. Only at `until` is that
+    /// looked at, the stretch's end or the place to which a thread left it: at each other place it stands in the stretch.
     #[inline(always)]
     pub fn goes_along<M: Memory>(
         &mut self,
-        turn: &mut u32,
+        until: &mut u32,
         pc: u32,
         memory: &M,
         regions: &Regions,
@@ -94,52 +95,63 @@ impl Stretch {
         requires bounded { self.old.from + 4 * self.old.words ≤ 2 ^ 32 }
         requires clear { IsClear (record { ranges = regions.now; calls = calls.now }) (M.backing memory.now) self.old }
         requires kept { IsKept (M.kept memory.now) self.old }
-        requires along { IsAlong self.old turn.old pc }
+        requires along { IsAlong self.old until.old pc }
         ensures aligned { self.new.from % 4 ≡ 0 }
         ensures bounded { self.new.from + 4 * self.new.words ≤ 2 ^ 32 }
         ensures clear { IsClear (record { ranges = regions.now; calls = calls.now }) (M.backing memory.now) self.new }
         ensures kept { IsKept (M.kept memory.now) self.new }
-        ensures along { IsAlong self.new turn.new pc }
+        ensures along { IsAlong self.new until.new pc }
         ensures inside { result ≡ true → IsIn self.new pc }
-        ensures turn { result ≡ true → turn.new ≡ end_of self.new }
+        ensures until { result ≡ true → until.new ≡ end_of self.new }
     {
-        if pc != *turn {
+        if pc != *until {
             return true;
         }
+        // a copy, so that the stretch itself can stay in registers
         let mut found = *self;
         let is_found = found.follow(pc, memory, regions, calls);
         *self = found;
         if !is_found {
             return false;
         }
-        *turn = self.from.wrapping_add(self.words.wrapping_mul(4));
+        *until = self.end();
         true
     }
 
-    /// The place after an instruction of the stretch, at which a thread still goes along it.
+    /// Where the code behind it begins; 0 where it ends with the addresses.
     #[inline(always)]
-    pub fn after(self, turn: u32, place: u32) -> u32
+    fn end(self) -> u32
+        requires bounded { self.from + 4 * self.words ≤ 2 ^ 32 }
+        ensures { result ≡ end_of self }
+    {
+        self.from.wrapping_add(self.words.wrapping_mul(4))
+    }
+
+    /// The place after an instruction of the stretch: it lies in the stretch, or is its end.
+    #[inline(always)]
+    pub fn after(self, until: u32, place: u32) -> u32
         requires aligned { self.from % 4 ≡ 0 }
         requires bounded { self.from + 4 * self.words ≤ 2 ^ 32 }
         requires inside { IsIn self place }
-        requires turn { turn ≡ end_of self }
-        ensures { IsAlong self turn result }
+        requires until { until ≡ end_of self }
+        ensures place { result ≡ low_word (place + 4) }
+        ensures along { IsAlong self until result }
     {
         place.wrapping_add(4)
     }
 
-    /// Sees whether a thread left the stretch by a jump, where it isn't at the next instruction; then its code is looked up
-    /// next.
+    /// Has the code of a thread looked up next where it left the stretch by a jump: only one that isn't at the next
+    /// instruction can have.
     #[inline(always)]
-    pub fn turns(self, turn: &mut u32, next: u32, pc: u32)
+    pub fn note_jump(self, until: &mut u32, next: u32, pc: u32)
         requires aligned { self.from % 4 ≡ 0 }
         requires bounded { self.from + 4 * self.words ≤ 2 ^ 32 }
-        requires next { IsAlong self turn.old next }
-        requires turn { turn.old ≡ end_of self }
-        ensures { IsAlong self turn.new pc }
+        requires next { IsAlong self until.old next }
+        requires until { until.old ≡ end_of self }
+        ensures { IsAlong self until.new pc }
     {
         if pc != next && !self.holds(pc) {
-            *turn = pc;
+            *until = pc;
         }
     }
 

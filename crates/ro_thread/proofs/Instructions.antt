@@ -89,12 +89,12 @@ kept_open ranges now before places at kind stretches e f h =
     subst (λ (k : Backed). AreOpenTo ranges k places kind stretches) (sym e) (subst (λ (k : ℕ → Option ℕ). AreOpenTo ranges before k kind stretches) (sym f) h)
 
 -- a thread whose code is looked up anew
-pub along_anew : (stretch : Stretch) (turn pc at : ℕ) → turn ≡ at → pc ≡ at → IsAlong stretch turn pc
-along_anew stretch turn pc at t p = λ apart. absurd (apart (p ∙ sym t))
+pub along_anew : (stretch : Stretch) (until pc at : ℕ) → until ≡ at → pc ≡ at → IsAlong stretch until pc
+along_anew stretch until pc at t p = λ apart. absurd (apart (p ∙ sym t))
 
 -- a thread that goes along, by other names
-pub along_still : (stretch : Stretch) (turn pc t p : ℕ) → turn ≡ t → pc ≡ p → IsAlong stretch t p → IsAlong stretch turn pc
-along_still stretch turn pc t p e f h = subst (λ (k : ℕ). IsAlong stretch k pc) (sym e) (subst (λ (k : ℕ). IsAlong stretch t k) (sym f) h)
+pub along_still : (stretch : Stretch) (until pc t p : ℕ) → until ≡ t → pc ≡ p → IsAlong stretch t p → IsAlong stretch until pc
+along_still stretch until pc t p e f h = subst (λ (k : ℕ). IsAlong stretch k pc) (sym e) (subst (λ (k : ℕ). IsAlong stretch t k) (sym f) h)
 
 -- so many instructions, counted otherwise
 pub recounted : (layout : Layout) (watchdog : ℕ) (backed : Backed) (running : Running) (thread : Thread) (n m : ℕ) (cpu : Cpu) (memory : Memory) → n ≡ m → instructions layout watchdog backed n running ≡ Some (ran_on thread n cpu memory) → instructions layout watchdog backed m running ≡ Some (ran_on thread m cpu memory)

@@ -42,7 +42,7 @@ pub fn run<M: Memory>(
     let mut registers = Bank::new(&thread.cpu.registers);
     let mut pc = thread.cpu.pc;
     let mut stretch = NONE;
-    let mut turn = pc;
+    let mut until = pc;
     let mut reads = Open::new();
     let mut writes = Open::new();
     let mut left = bound;
@@ -56,12 +56,13 @@ pub fn run<M: Memory>(
             regions,
             calls,
             &mut stretch,
-            &mut turn,
+            &mut until,
         ) {
+            // a variable of its own, so that the pc can stay in a register
             let mut place = pc;
             let step = slow_step(&mut registers, &mut place, memory, regions, calls);
             pc = place;
-            turn = place;
+            until = place;
             if let Step::Stopped(stop) = step {
                 return ended(thread, &registers, pc, bound, left, Some(stop));
             }
@@ -76,8 +77,8 @@ pub fn run<M: Memory>(
     ended(thread, &registers, pc, bound, 0, stop)
 }
 
-// Ends a run of as many instructions as it could have, less those that are left: gives the thread what its registers are then,
-// and counts them.
+// Ends a run that has `left` of its `bound` instructions left: gives the thread what its registers are then, and counts those
+// that ran. They are counted here and not in the loop, which then has one number that goes down.
 #[cold]
 #[inline(never)]
 fn ended(

@@ -29,8 +29,8 @@ loop-left-preserved g c = record {
   clear = kept _ _ _ c.quick_step.new.stretch (let same : g.M.Memory.backing c.if-not-quick_step.memory ≡ g.M.Memory.backing c.loop-left.memory = search rules in same) c.quick_step.ensures.clear;
   page = kept_page _ _ c.quick_step.new.stretch (let same : g.M.Memory.kept c.if-not-quick_step.memory ≡ g.M.Memory.kept c.loop-left.memory = search rules in same) c.quick_step.ensures.page;
   along = elim c.if-not-quick_step.branch [
-    | then-not-quick_step+in_default w ↦ along_anew c.quick_step.new.stretch _ _ _ w.turn-is w.pc-is
-    | else-not-quick_step w ↦ along_still c.quick_step.new.stretch _ _ _ _ w.turn-is w.pc-is c.quick_step.ensures.along
+    | then-not-quick_step+in_default w ↦ along_anew c.quick_step.new.stretch _ _ _ w.until-is w.pc-is
+    | else-not-quick_step w ↦ along_still c.quick_step.new.stretch _ _ _ _ w.until-is w.pc-is c.quick_step.ensures.along
   ];
   reads = kept_open _ _ _ _ _ Read c.quick_step.new.reads.stretches (let same : g.M.Memory.backing c.if-not-quick_step.memory ≡ g.M.Memory.backing c.loop-left.memory = search rules in same) (let same : g.M.Memory.kept c.if-not-quick_step.memory ≡ g.M.Memory.kept c.loop-left.memory = search rules in same) c.quick_step.ensures.reads;
   writes = kept_open _ _ _ _ _ Write c.quick_step.new.writes.stretches (let same : g.M.Memory.backing c.if-not-quick_step.memory ≡ g.M.Memory.backing c.loop-left.memory = search rules in same) (let same : g.M.Memory.kept c.if-not-quick_step.memory ≡ g.M.Memory.kept c.loop-left.memory = search rules in same) c.quick_step.ensures.writes;

@@ -14,7 +14,7 @@ invariant-loop-left g l = record {
   bounded : l.stretch.from + 4 * l.stretch.words ≤ 2 ^ 32;
   clear : IsClear (record { ranges = l.regions; calls = l.calls }) (g.M.Memory.backing l.memory) l.stretch;
   page : IsKept (g.M.Memory.kept l.memory) l.stretch;
-  along : IsAlong l.stretch l.turn l.pc;
+  along : IsAlong l.stretch l.until l.pc;
   reads : AreOpenTo l.regions (g.M.Memory.backing l.memory) (g.M.Memory.kept l.memory) Read l.reads.stretches;
   writes : AreOpenTo l.regions (g.M.Memory.backing l.memory) (g.M.Memory.kept l.memory) Write l.writes.stretches;
   ran : instructions (record { ranges = l.regions; calls = l.calls }) l.watchdog (g.M.Memory.backing l.fn.memory) (l.bound - l.left) (record { thread = l.fn.thread; memory = g.M.Memory.memory l.fn.memory }) ≡ Some (ran_on l.fn.thread (l.bound - l.left) (record { registers = l.registers; pc = l.pc }) (g.M.Memory.memory l.memory));

@@ -98,6 +98,27 @@ fn keeps_code(rt: HostRuntime) -> Result<(), Fail> {
     Ok(())
 }
 
+// where code is looked up next: at the end of a stretch, or where a jump left it
+#[test]
+fn looks_where_code_was_left(rt: HostRuntime) -> Result<(), Fail> {
+    let regions = regions(rt.alloc())?;
+    let calls = calls();
+    let pages = memory(&rt, rt.alloc())?;
+    let mut code = NONE;
+    let mut until = CODE + 8;
+    assert!(rt; code.goes_along(&mut until, CODE + 8, &pages, &regions, &calls));
+    assert_eq!(rt; until, CALL);
+    let next = code.after(until, CODE + 8);
+    assert_eq!(rt; next, CODE + 12);
+    code.note_jump(&mut until, next, CODE);
+    assert_eq!(rt; until, CALL, "behind a jump inside the stretch");
+    code.note_jump(&mut until, next, CALL + 4);
+    assert_eq!(rt; until, CALL + 4, "behind a jump over the call");
+    assert!(rt; code.goes_along(&mut until, CALL + 4, &pages, &regions, &calls));
+    assert_eq!(rt; until, CODE + 0x820);
+    Ok(())
+}
+
 // an address and a size; whether a store there is shown
 #[test]
 fn shows_data(rt: HostRuntime) -> Result<(), Fail> {
@@ -148,6 +169,7 @@ fn does(
     bank.set(5, DATA);
     bank.set(6, 2);
     let mut pc = CODE;
+    let mut until = CODE;
     quick_step::<Pages, Cpu>(
         &mut bank,
         &mut pc,
@@ -157,6 +179,7 @@ fn does(
         regions,
         calls,
         &mut stretch,
+        &mut until,
     )
 }
 

@@ -202,7 +202,8 @@ impl Plain {
         ensures same { result ≡ None → SameMachine (closed self.new lane.new) (closed self.old lane.old) }
     {
         let look = look_quickly(lane, &self.pages)?;
-        let mut turn = lane.pc;
+        // so that code is looked up wherever the stretch doesn't hold the pc
+        let mut until = lane.pc;
         let done = quick_step::<Pages, Lane>(
             &mut lane.registers,
             &mut lane.pc,
@@ -212,7 +213,7 @@ impl Plain {
             &self.regions,
             self.image.calls(),
             &mut lane.code,
-            &mut turn,
+            &mut until,
         );
         if !done {
             return None;

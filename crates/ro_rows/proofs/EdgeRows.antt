@@ -16,7 +16,7 @@ use Rattle.ro_exec.specs.Threads.{first_cpu, made_cpu}
 use Rattle.ro_kernel.specs.Serve.{serve, payload_of}
 use Rattle.ro_journal.specs.declared.Did.TheVariants.{Served, Blocked}
 use Rattle.ro_journal.specs.declared.How.{How}
-use Rattle.ro_journal.specs.declared.How.TheVariants.{Exit, Deadlock, Limit}
+use Rattle.ro_journal.specs.declared.How.TheVariants.{Exit, Deadlock, Differ, NoMajority, Limit, Sink}
 use Rattle.ro_journal.specs.declared.Entry.TheVariants.{Take, Put, Vote, Free, End}
 use Rattle.ro_journal.specs.Plan.{plan_of}
 use Rattle.ro_vote.specs.Verdict.{verdict_of}
@@ -35,8 +35,8 @@ use Rattle.ro_simulation.specs.Rows.{flip_a0}
 use Rattle.ro_simulation.specs.Drives.{driven}
 use Rattle.ro_simulation.proofs.Checks.{test_legal, legal-by-test}
 use Rattle.ro_rows.specs.Exit.{exit_job}
-use Rattle.ro_rows.specs.Rows.{decisions, deadlock_job, deadlock_before}
-use Rattle.ro_rows.specs.Edges.{small_job, waiters_job, two_wait, unlocked, letter_job, all_hits, is_vote, page_limit_job, before_free, exit_runs}
+use Rattle.ro_rows.specs.Rows.{decisions, deadlock_job, deadlock_before, hello_job}
+use Rattle.ro_rows.specs.Edges.{small_job, waiters_job, two_wait, unlocked, letter_job, all_hits, is_vote, page_limit_job, before_free, exit_runs, until_free, one_lent, both_stand, last_lent, parted_job, parted_runs, parted_pair, hello_written, watch_job, watch_journal}
 
 -- a run that does not exist
 no-machine : {P : Type 0} (machine : Machine) (o : Option Machine) → o ≡ Some machine → o ≡ None → P
@@ -154,6 +154,14 @@ pub stuck-not-lent : IsAllowed exit_job (replay exit_job (Take 0 0 0 ∷ [])) (E
 unfolding opening_core opening_replica struck execute applied cancelled recovered verdict_of event_of after next_action first_cpu made_cpu next fetch_stop instruction_stop instruction_of call_at permits_of alu_of taken_by meaning serve payload_of
 stuck-not-lent h = no-end exit_job (replay exit_job (Take 0 0 0 ∷ [])) Deadlock refl (λ e. let f : false ≡ true = e in cc) (λ thread e. e) (λ e. e) h.1
 
+pub stuck-not-free : IsAllowed (page_limit_job 1000000000) (replay (page_limit_job 1000000000) before_free) (End Deadlock) → ⊥
+unfolding opening_core opening_replica struck execute applied cancelled recovered verdict_of event_of after next_action first_cpu made_cpu next fetch_stop instruction_stop instruction_of call_at permits_of alu_of taken_by meaning serve payload_of
+stuck-not-free h = no-end (page_limit_job 1000000000) (replay (page_limit_job 1000000000) before_free) Deadlock refl (λ e. let f : false ≡ true = e in cc) (λ thread e. e) (λ e. e) h.1
+
+pub stuck-not-last : IsAllowed exit_job (replay exit_job last_lent) (End Deadlock) → ⊥
+unfolding opening_core opening_replica struck execute applied cancelled recovered verdict_of event_of after next_action first_cpu made_cpu next fetch_stop instruction_stop instruction_of call_at permits_of alu_of taken_by meaning serve payload_of
+stuck-not-last h = no-end exit_job (replay exit_job last_lent) Deadlock refl (λ e. let f : false ≡ true = e in cc) (λ thread e. e) (λ e. e) h.1
+
 -- ---- limit_row
 
 pub limit-vote-fits : IsAllowed (small_job exit_guest [] 3 3) (replay (small_job exit_guest [] 3 3) exit_runs) (Vote 0 2 0 Nobody Served)
@@ -251,3 +259,95 @@ waiters-lowest = refl
 pub waiters-then-waits : may_free waiters_job (replay waiters_job (unlocked ++ Free 1 ∷ [])) 2 ≡ false
 unfolding opening_core opening_replica struck execute applied cancelled recovered verdict_of event_of after next_action first_cpu made_cpu next fetch_stop instruction_stop instruction_of call_at permits_of alu_of taken_by meaning serve payload_of
 waiters-then-waits = refl
+
+pub waiters-lent : may_free waiters_job (replay waiters_job (unlocked ++ Take 0 0 0 ∷ [])) 1 ≡ false
+unfolding opening_core opening_replica struck execute applied cancelled recovered verdict_of event_of after next_action first_cpu made_cpu next fetch_stop instruction_stop instruction_of call_at permits_of alu_of taken_by meaning serve payload_of
+waiters-lent = refl
+
+-- ---- vote_row
+
+pub vote-lent : IsAllowed deadlock_job (replay deadlock_job one_lent) (Vote 0 3 0 Nobody Blocked) → ⊥
+unfolding opening_core opening_replica struck execute applied cancelled recovered verdict_of event_of after next_action first_cpu made_cpu next fetch_stop instruction_stop instruction_of call_at permits_of alu_of taken_by meaning serve payload_of
+vote-lent h = let f : false ≡ true = h.may in cc
+
+pub vote-home : IsAllowed deadlock_job (replay deadlock_job both_stand) (Vote 0 3 0 Nobody Blocked)
+unfolding opening_core opening_replica struck execute applied cancelled recovered verdict_of event_of after next_action first_cpu made_cpu next fetch_stop instruction_stop instruction_of call_at permits_of alu_of taken_by meaning serve payload_of
+vote-home = record { may = refl; verdict = refl; count_is = refl; event = _; comes = refl; did_is = refl; fits = lit≤ tt }
+
+pub vote-either : IsAllowed deadlock_job (replay deadlock_job both_stand) (Vote 1 3 0 Nobody Blocked)
+unfolding opening_core opening_replica struck execute applied cancelled recovered verdict_of event_of after next_action first_cpu made_cpu next fetch_stop instruction_stop instruction_of call_at permits_of alu_of taken_by meaning serve payload_of
+vote-either = record { may = refl; verdict = refl; count_is = refl; event = _; comes = refl; did_is = refl; fits = lit≤ tt }
+
+pub vote-lowest : IsNext deadlock_job (replay deadlock_job both_stand) (Vote 0 3 0 Nobody Blocked)
+unfolding opening_core opening_replica struck execute applied cancelled recovered verdict_of event_of after next_action first_cpu made_cpu next fetch_stop instruction_stop instruction_of call_at permits_of alu_of taken_by meaning serve payload_of
+vote-lowest = refl
+
+pub vote-not-higher : IsNext deadlock_job (replay deadlock_job both_stand) (Vote 1 3 0 Nobody Blocked) → ⊥
+unfolding opening_core opening_replica struck execute applied cancelled recovered verdict_of event_of after next_action first_cpu made_cpu next fetch_stop instruction_stop instruction_of call_at permits_of alu_of taken_by meaning serve payload_of
+vote-not-higher h = let f : act.Vote 0 ≡ act.Vote 1 = h in cc
+
+pub vote-may : IsAllowed letter_job (replay letter_job (until_free (driven 200 letter_job))) (Vote 2 4 0 Nobody Served)
+unfolding opening_core opening_replica struck execute applied cancelled recovered verdict_of event_of after next_action first_cpu made_cpu next fetch_stop instruction_stop instruction_of call_at permits_of alu_of taken_by meaning serve payload_of
+vote-may = record { may = refl; verdict = refl; count_is = refl; event = _; comes = refl; did_is = refl; fits = lit≤ tt }
+
+pub vote-free : IsNext letter_job (replay letter_job (until_free (driven 200 letter_job))) (Free 0)
+unfolding opening_core opening_replica struck execute applied cancelled recovered verdict_of event_of after next_action first_cpu made_cpu next fetch_stop instruction_stop instruction_of call_at permits_of alu_of taken_by meaning serve payload_of
+vote-free = refl
+
+pub vote-not-next : IsNext letter_job (replay letter_job (until_free (driven 200 letter_job))) (Vote 2 4 0 Nobody Served) → ⊥
+unfolding opening_core opening_replica struck execute applied cancelled recovered verdict_of event_of after next_action first_cpu made_cpu next fetch_stop instruction_stop instruction_of call_at permits_of alu_of taken_by meaning serve payload_of
+vote-not-next h = let f : act.Free 0 ≡ act.Vote 2 = h in cc
+
+-- ---- parted_row
+
+pub parted-two : IsAllowed (small_job exit_guest (flip_a0 1 ∷ []) 2 1000000000) (replay (small_job exit_guest (flip_a0 1 ∷ []) 2 1000000000) parted_pair) (End Differ)
+unfolding opening_core opening_replica struck execute applied cancelled recovered verdict_of event_of after next_action first_cpu made_cpu next fetch_stop instruction_stop instruction_of call_at permits_of alu_of taken_by meaning serve payload_of
+parted-two = (refl, for_vote 0 refl (refl, refl))
+
+pub parted-two-majority : IsAllowed (small_job exit_guest (flip_a0 1 ∷ []) 2 1000000000) (replay (small_job exit_guest (flip_a0 1 ∷ []) 2 1000000000) parted_pair) (End NoMajority) → ⊥
+unfolding opening_core opening_replica struck execute applied cancelled recovered verdict_of event_of after next_action first_cpu made_cpu next fetch_stop instruction_stop instruction_of call_at permits_of alu_of taken_by meaning serve payload_of
+parted-two-majority h = no-end (small_job exit_guest (flip_a0 1 ∷ []) 2 1000000000) (replay (small_job exit_guest (flip_a0 1 ∷ []) 2 1000000000) parted_pair) NoMajority refl (λ e. e) (λ thread e. let f : 3 ≤ 2 = e.1 in omega arith) (λ e. e) h.1
+
+pub parted-three : IsAllowed parted_job (replay parted_job parted_runs) (End NoMajority)
+unfolding opening_core opening_replica struck execute applied cancelled recovered verdict_of event_of after next_action first_cpu made_cpu next fetch_stop instruction_stop instruction_of call_at permits_of alu_of taken_by meaning serve payload_of
+parted-three = (refl, for_vote 0 refl (refl, lit≤ tt))
+
+pub parted-three-differ : IsAllowed parted_job (replay parted_job parted_runs) (End Differ) → ⊥
+unfolding opening_core opening_replica struck execute applied cancelled recovered verdict_of event_of after next_action first_cpu made_cpu next fetch_stop instruction_stop instruction_of call_at permits_of alu_of taken_by meaning serve payload_of
+parted-three-differ h = no-end parted_job (replay parted_job parted_runs) Differ refl (λ e. e) (λ thread e. let f : 3 ≡ 2 = e.1 in omega arith) (λ e. e) h.1
+
+-- ---- sink_row
+
+pub sink-none : IsAllowed hello_job (replay hello_job hello_written) (End (Sink 0))
+unfolding opening_core opening_replica struck execute applied cancelled recovered verdict_of event_of after next_action first_cpu made_cpu next fetch_stop instruction_stop instruction_of call_at permits_of alu_of taken_by meaning serve payload_of
+sink-none = (refl, alone (refl, lit< tt))
+
+pub sink-all-but-one : IsAllowed hello_job (replay hello_job hello_written) (End (Sink 4))
+unfolding opening_core opening_replica struck execute applied cancelled recovered verdict_of event_of after next_action first_cpu made_cpu next fetch_stop instruction_stop instruction_of call_at permits_of alu_of taken_by meaning serve payload_of
+sink-all-but-one = (refl, alone (refl, lit< tt))
+
+pub sink-all : IsAllowed hello_job (replay hello_job hello_written) (End (Sink 5)) → ⊥
+unfolding opening_core opening_replica struck execute applied cancelled recovered verdict_of event_of after next_action first_cpu made_cpu next fetch_stop instruction_stop instruction_of call_at permits_of alu_of taken_by meaning serve payload_of
+sink-all h = no-end hello_job (replay hello_job hello_written) (Sink 5) refl (λ e. let f : 5 < 5 = e.1 in omega arith) (λ thread e. e) (λ e. e) h.1
+
+pub sink-later : IsAllowed hello_job (replay hello_job (hello_written ++ Take 0 0 0 ∷ [])) (End (Sink 0)) → ⊥
+unfolding opening_core opening_replica struck execute applied cancelled recovered verdict_of event_of after next_action first_cpu made_cpu next fetch_stop instruction_stop instruction_of call_at permits_of alu_of taken_by meaning serve payload_of
+sink-later h = no-end hello_job (replay hello_job (hello_written ++ Take 0 0 0 ∷ [])) (Sink 0) refl (λ e. let f : 0 < 0 = e.1 in omega arith) (λ thread e. e) (λ e. e) h.1
+
+-- ---- watch_row
+
+-- it passes the test of legality
+watch-passes : test_legal watch_job (opening_core watch_job) watch_journal ≡ true
+unfolding opening_core opening_replica struck execute applied cancelled recovered verdict_of event_of after next_action first_cpu made_cpu next fetch_stop instruction_stop instruction_of call_at permits_of alu_of taken_by meaning serve payload_of
+watch-passes = refl
+
+pub watch-driven : driven 8 watch_job ≡ watch_journal
+unfolding opening_core opening_replica struck execute applied cancelled recovered verdict_of event_of after next_action first_cpu made_cpu next fetch_stop instruction_stop instruction_of call_at permits_of alu_of taken_by meaning serve payload_of
+watch-driven = refl
+
+pub watch-legal : Legal watch_job watch_journal
+watch-legal = legal-by-test watch_job (opening_core watch_job) watch_journal watch-passes
+
+pub watch-next : next_action watch_job (replay watch_job watch_journal) ≡ act.Lend 0 0
+unfolding opening_core opening_replica struck execute applied cancelled recovered verdict_of event_of after next_action first_cpu made_cpu next fetch_stop instruction_stop instruction_of call_at permits_of alu_of taken_by meaning serve payload_of
+watch-next = refl

@@ -2,13 +2,13 @@
 use Rattle.std.specs.Prelude.{◌≡◌, ◌≢◌, ℕ, zero, suc, ◌+◌, ◌<◌, ◌≤◌, ◌⊎◌, Bool, true, false, not, ◌&&◌, ◌||◌, ◌==◌, nat_lt, nat_le, List, [], ◌∷◌, ◌++◌, length, take, Option, Some, None, slice_get}
 use Rattle.std.specs.List.{list_any}
 use Rattle.std.specs.Option.{option_map_or, option_and_then}
-use Rattle.std.proofs.Common.{refl, sym, ap, ◌∙◌, subst, arith, inl, inr, ⊎_elim, append-nil, append_assoc}
+use Rattle.std.proofs.Common.{refl, sym, ap, ◌∙◌, subst, arith, inl, inr, ⊎_elim, append-nil, append_assoc, eq-eqb}
 use Rattle.std.proofs.lemmas.Bool.{true≢false, false≢true, leb-true, ltb-true, lt-ltb, and_parts, and_from, eqb-true}
 use Rattle.std.proofs.lemmas.Option.{option_and_then_some, slice_get_within}
 use Rattle.ro_pages.specs.Bytes.{Span, within}
 use Rattle.ro_plain.specs.Machine.{Program, Machine, opening, steppable, step, run, step_by, next_of}
 use Rattle.ro_plain.specs.Accesses.{Accesses, no_access, accesses, touches, conflict_at}
-use Rattle.ro_plain.specs.Order.{Sync, Unlocks, Locks, Makes, Joins, Exits, Nothing, sync_of, machine_at, sync_at, accesses_at, HappensBefore, in_thread, by_mutex, by_creation, by_join, chain, RaceFree}
+use Rattle.ro_plain.specs.Order.{Sync, Unlocks, Locks, Makes, Joins, Exits, Nothing, sync_of, machine_at, sync_at, accesses_at, HappensBefore, in_thread, by_mutex, by_creation, by_join, chain, RaceFree, at_place}
 use Rattle.ro_plain.proofs.Calls.{some-injective, steppable-parts, step-opens}
 use Rattle.ro_plain.proofs.Swap.{at-both}
 use Rattle.ro_legal.specs.Legal.{any_below}
@@ -104,6 +104,10 @@ is_ordered notes i j _ _ = true
 abbrev pub all_ordered : List Note → Bool
 all_ordered notes = all_below (length notes) (λ j. all_below j (λ i. is_ordered notes i j (slice_get notes i) (slice_get notes j)))
 
+-- no step of the set is directly before one that is not in it
+abbrev pub keeps_in : List Note → (ℕ → Bool) → Bool
+keeps_in notes inside = all_below (length notes) (λ j. all_below (length notes) (λ i. not (inside i && direct notes i j) || inside j))
+
 -- in each execution from here on, of so many steps less one at most, each conflict is ordered
 abbrev pub explores : ℕ → Program → Machine → List Note → Bool
 explores zero program machine seen = false
@@ -166,6 +170,15 @@ conflicts a b byte e = ⊎_elim first second (or-cases (touches a.writes byte &&
     second f =
         let p = and_parts (touches a.reads byte) (touches b.writes byte) f in
         or-right (overlap a.writes b.reads || overlap a.writes b.writes) (overlap a.reads b.writes) (overlaps a.reads b.writes byte p.0 p.1)
+
+get-beyond : (xs : List ℕ) (place : ℕ) → length xs ≤ place → slice_get xs place ≡ None
+get-beyond [] place h = refl
+get-beyond (x ∷ xs) zero h = absurd (omega arith)
+get-beyond (x ∷ xs) (suc place) h = get-beyond xs place (omega arith)
+
+no-thread : {X : Type 0} (f : Machine → ℕ → X) (none : X) (o : Option Machine) → at_place f none o None ≡ none
+no-thread f none None = refl
+no-thread f none (Some machine) = refl
 
 -- ---- in one execution
 
@@ -246,6 +259,59 @@ module _ (program : Program) (threads : List ℕ) (end : Machine) (runs : run pr
       let g = all-of j (λ k. is_ordered notes k j (slice_get notes k) (slice_get notes j)) (all-of (length notes) (λ l. all_below l (λ k. is_ordered notes k l (slice_get notes k) (slice_get notes l))) all j (omega arith)) i low in
       pair-is i j byte different conflicting one.0 other.0 one.1 other.1
       (subst (λ (o : Option Note). is_ordered notes i j (Some one.0) o ≡ true) other.1 (subst (λ (o : Option Note). is_ordered notes i j o (slice_get notes j) ≡ true) one.1 g))
+
+  -- ---- no order that leads out of a set of places
+
+  -- a step that is there by what it means
+  place-of : (sync : Sync) (place : ℕ) → sync_at program threads place ≡ sync → (sync ≡ Nothing → ⊥) → place < length threads
+  place-of sync place e means =
+      ⊎_elim (λ (h : place < length threads). h)
+      (λ (h : length threads ≤ place). absurd (means (sym e ∙ (ap (at_place (sync_of program) Nothing (machine_at program threads place)) (get-beyond threads place h) ∙ no-thread (sync_of program) Nothing (machine_at program threads place)))))
+      (lt-cases place (length threads))
+
+  -- the order by one step is the test's
+  direct-by : (i j : ℕ) → i < j → i < length threads → j < length threads → ((a b : Note) → slice_get notes i ≡ Some a → slice_get notes j ≡ Some b → follows (Some a) (Some b) ≡ true) → direct notes i j ≡ true
+  direct-by i j low here there f =
+      let count = count-notes program threads (opening program) end runs in
+      let a = get-within notes i (omega arith) in
+      let b = get-within notes j (omega arith) in
+      and_from (nat_lt i j) (follows (slice_get notes i) (slice_get notes j)) (lt-ltb i j low)
+      (subst (λ (o : Option Note). follows o (slice_get notes j) ≡ true) (sym a.1) (subst (λ (o : Option Note). follows (Some a.0) o ≡ true) (sym b.1) (f a.0 b.0 a.1 b.1)))
+
+  -- it is below the number of notes
+  step-in : (inside : ℕ → Bool) → keeps_in notes inside ≡ true → (i j : ℕ) → i < length threads → j < length threads → direct notes i j ≡ true → inside i ≡ true → inside j ≡ true
+  step-in inside keeps i j here there d e =
+      let count = count-notes program threads (opening program) end runs in
+      let g = all-of (length notes) (λ k. not (inside k && direct notes k j) || inside j) (all-of (length notes) (λ l. all_below (length notes) (λ k. not (inside k && direct notes k l) || inside l)) keeps j (omega arith)) i (omega arith) in
+      ⊎_elim (λ (h : not (inside i && direct notes i j) ≡ true). absurd (true≢false (sym h ∙ ap not (and_from (inside i) (direct notes i j) e d)))) (λ (h : inside j ≡ true). h)
+      (or-cases (not (inside i && direct notes i j)) (inside j) g)
+
+  -- what is after a place of the set is in it
+  pub stays-in : (inside : ℕ → Bool) → keeps_in notes inside ≡ true → (i j : ℕ) → HappensBefore program threads i j → inside i ≡ true → inside j ≡ true
+  stays-in inside keeps i j (in_thread thread low e f) g =
+      let here = slice_get_within threads i thread e in
+      let there = slice_get_within threads j thread f in
+      step-in inside keeps i j here there (direct-by i j low here there (λ a b p q.
+      or-left (a.thread == b.thread) (orders a.sync a.thread b.thread b.sync) (eq-eqb a.thread b.thread (some-injective (sym (at i a p).there ∙ (e ∙ (sym f ∙ (at j b q).there))))))) g
+  stays-in inside keeps i j (by_mutex mutex low e f) g =
+      let here = place-of (Unlocks mutex) i e (λ h. cc) in
+      let there = place-of (Locks mutex) j f (λ h. cc) in
+      step-in inside keeps i j here there (direct-by i j low here there (λ a b p q.
+      or-right (a.thread == b.thread) (orders a.sync a.thread b.thread b.sync)
+      (subst (λ (s : Sync). orders s a.thread b.thread b.sync ≡ true) (sym e ∙ sync-is i a p) (subst (λ (s : Sync). orders (Unlocks mutex) a.thread b.thread s ≡ true) (sym f ∙ sync-is j b q) (eq-eqb mutex mutex refl))))) g
+  stays-in inside keeps i j (by_creation thread low e f) g =
+      let here = place-of (Makes thread) i e (λ h. cc) in
+      let there = slice_get_within threads j thread f in
+      step-in inside keeps i j here there (direct-by i j low here there (λ a b p q.
+      or-right (a.thread == b.thread) (orders a.sync a.thread b.thread b.sync)
+      (subst (λ (s : Sync). orders s a.thread b.thread b.sync ≡ true) (sym e ∙ sync-is i a p) (eq-eqb thread b.thread (some-injective (sym f ∙ (at j b q).there)))))) g
+  stays-in inside keeps i j (by_join thread low e f h) g =
+      let here = slice_get_within threads i thread e in
+      let there = place-of (Joins thread) j h (λ k. cc) in
+      step-in inside keeps i j here there (direct-by i j low here there (λ a b p q.
+      or-right (a.thread == b.thread) (orders a.sync a.thread b.thread b.sync)
+      (subst (λ (s : Sync). orders s a.thread b.thread b.sync ≡ true) (sym f ∙ sync-is i a p) (subst (λ (s : Sync). orders Exits a.thread b.thread s ≡ true) (sym h ∙ sync-is j b q) (eq-eqb a.thread thread (some-injective (sym (at i a p).there ∙ e))))))) g
+  stays-in inside keeps i k (chain {j = j} p q) g = stays-in inside keeps j k q (stays-in inside keeps i j p g)
 
 -- ---- and in all
 

@@ -14,3 +14,4 @@ mod TableRows
 mod Explore
 mod RaceRows
 mod FiveRow
+mod HiddenRow

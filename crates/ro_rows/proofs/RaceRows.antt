@@ -1,5 +1,5 @@
 -- What the steps of a guest of many calls mean, and races of two threads.
-use Rattle.std.specs.Prelude.{zero, suc, Some, None, slice_get, ◌≡◌, ℕ, ◌<◌, List, [], ◌∷◌, ◌++◌, replicate}
+use Rattle.std.specs.Prelude.{zero, suc, Some, None, slice_get, ◌≡◌, ℕ, ◌<◌, true, false, ◌&&◌, ◌==◌, nat_le, List, [], ◌∷◌, ◌++◌, replicate}
 use Rattle.std.proofs.Common.{refl, sym, ◌∙◌, arith}
 use Rattle.std.proofs.Math.Dec.{lit<}
 use Rattle.ro_decode.specs.Table.{instruction_of}
@@ -14,8 +14,9 @@ use Rattle.ro_plain.specs.Machine.{Program, opening, steppable, step}
 use Rattle.ro_plain.proofs.Calls.{some-injective}
 use Rattle.ro_plain.specs.Accesses.{accesses}
 use Rattle.ro_plain.specs.Order.{Unlocks, Locks, Makes, Joins, Exits, Nothing, sync_of, sync_at, accesses_at, HappensBefore, in_thread, by_mutex, by_creation, by_join, chain, RaceFree}
-use Rattle.ro_rows.proofs.Explore.{explored-free}
-use Rattle.ro_rows.specs.Order.{syncs_from, bytes, none, calls_guest, calls_plan, racing_guest, racing_plan, created_guest, joined_guest, locked_guest}
+use Rattle.ro_simulation.specs.Guests.{locking_guest}
+use Rattle.ro_rows.proofs.Explore.{explored-free, stays-in}
+use Rattle.ro_rows.specs.Order.{syncs_from, bytes, none, calls_guest, calls_plan, racing_guest, racing_plan, created_guest, joined_guest, locked_guest, two_mutexes_guest, two_mutexes_plan, creations_plan, exits_plan}
 
 -- from a step that means nothing, the last of its thread, no step follows
 none-from : (program : Program) (threads : List ℕ) (i : ℕ) → sync_at program threads i ≡ Nothing → ((j : ℕ) → i < j → slice_get threads i ≡ slice_get threads j → ⊥) → (j : ℕ) → HappensBefore program threads i j → ⊥
@@ -90,3 +91,33 @@ races-by-join = explored-free 24 joined_guest refl
 pub races-by-mutex : RaceFree locked_guest
 unfolding opening sync_of accesses steppable step first_cpu made_cpu next fetch_stop instruction_stop instruction_of call_at permits_of alu_of taken_by meaning serve payload_of
 races-by-mutex = explored-free 28 locked_guest refl
+
+-- ---- unordered_row
+
+pub unordered-creation : HappensBefore locking_guest creations_plan 6 11
+unfolding opening sync_of accesses steppable step first_cpu made_cpu next fetch_stop instruction_stop instruction_of call_at permits_of alu_of taken_by meaning serve payload_of
+unordered-creation = by_creation 1 (lit< tt) refl refl
+
+pub unordered-other-creation : HappensBefore locking_guest creations_plan 10 11 → ⊥
+unfolding opening sync_of accesses steppable step first_cpu made_cpu next fetch_stop instruction_stop instruction_of call_at permits_of alu_of taken_by meaning serve payload_of
+unordered-other-creation h = let e : false ≡ true = stays-in locking_guest creations_plan _ refl (λ place. place == 10) refl 10 11 h refl in cc
+
+pub unordered-exit : HappensBefore locking_guest exits_plan 29 46
+unfolding opening sync_of accesses steppable step first_cpu made_cpu next fetch_stop instruction_stop instruction_of call_at permits_of alu_of taken_by meaning serve payload_of
+unordered-exit = by_join 1 (lit< tt) refl refl refl
+
+pub unordered-other-exit : HappensBefore locking_guest exits_plan 45 46 → ⊥
+unfolding opening sync_of accesses steppable step first_cpu made_cpu next fetch_stop instruction_stop instruction_of call_at permits_of alu_of taken_by meaning serve payload_of
+unordered-other-exit h = let e : false ≡ true = stays-in locking_guest exits_plan _ refl (λ place. place == 45) refl 45 46 h refl in cc
+
+pub unordered-mutexes : syncs_from two_mutexes_guest two_mutexes_plan 8 7 ≡ Locks 0x100A4 ∷ replicate 3 Nothing ++ Unlocks 0x100A4 ∷ Nothing ∷ Locks 0x100AC ∷ []
+unfolding opening sync_of accesses steppable step first_cpu made_cpu next fetch_stop instruction_stop instruction_of call_at permits_of alu_of taken_by meaning serve payload_of
+unordered-mutexes = refl
+
+pub unordered-other-mutex : HappensBefore two_mutexes_guest two_mutexes_plan 9 15 → ⊥
+unfolding opening sync_of accesses steppable step first_cpu made_cpu next fetch_stop instruction_stop instruction_of call_at permits_of alu_of taken_by meaning serve payload_of
+unordered-other-mutex h = let e : false ≡ true = stays-in two_mutexes_guest two_mutexes_plan _ refl (λ place. nat_le 9 place && nat_le place 12) refl 9 15 h refl in cc
+
+pub unordered-races : RaceFree two_mutexes_guest → ⊥
+unfolding opening sync_of accesses steppable step first_cpu made_cpu next fetch_stop instruction_stop instruction_of call_at permits_of alu_of taken_by meaning serve payload_of
+unordered-races h = unordered-other-mutex (h two_mutexes_plan (_, refl) 9 15 0x100A8 (lit< tt) (lit< tt) (λ e. let f : Some 0 ≡ Some 1 = e in cc) refl)

@@ -2,17 +2,19 @@
 use Rattle.std.specs.Prelude.{ℕ, ◌+◌, Bool, true, false, List, [], ◌∷◌, ◌++◌, Some, None, take}
 use Rattle.ro_journal.specs.declared.losers.Lost.TheVariants.{Nobody}
 use Rattle.ro_journal.specs.declared.Did.{Did}
-use Rattle.ro_journal.specs.declared.Did.TheVariants.{Served, Blocked as WasBlocked}
+use Rattle.ro_journal.specs.declared.Did.TheVariants.{Served, Blocked as WasBlocked, Watch}
 use Rattle.ro_journal.specs.declared.Entry.{Entry}
-use Rattle.ro_journal.specs.declared.Entry.TheVariants.{Take, Put, Vote}
+use Rattle.ro_journal.specs.declared.Entry.TheVariants.{Take, Put, Vote, Free}
 use Rattle.ro_faults.specs.declared.Target.TheVariants.{Register}
 use Rattle.ro_faults.specs.declared.Fault.{Fault}
 use Rattle.ro_plain.specs.Machine.{Program}
 use Rattle.ro_legal.specs.Core.{Job}
 use Rattle.ro_legal.specs.Laws.{hits}
-use Rattle.ro_simulation.specs.Guests.{guest, locking_guest}
+use Rattle.ro_simulation.specs.Guests.{exit_guest, guest, locking_guest}
 use Rattle.ro_simulation.specs.Drives.{driven}
-use Rattle.ro_rows.specs.Guests.{page_guest}
+use Rattle.ro_simulation.specs.Rows.{flip_a0}
+use Rattle.ro_rows.specs.Guests.{page_guest, loop_guest}
+use Rattle.ro_rows.specs.Rows.{deadlock_before, failing_journal}
 
 -- a job with so many replicas, one driver, so many steps at most, and the other settings as they are where none are given
 abbrev pub small_job : Program → List Fault → (replicas limit : ℕ) → Job
@@ -61,3 +63,44 @@ is_vote entry = false
 -- how many faults were struck in all
 abbrev pub all_hits : List Entry → ℕ
 all_hits journal = hits journal 0 + (hits journal 1 + hits journal 2)
+
+-- the entries before the first free
+abbrev pub until_free : List Entry → List Entry
+until_free [] = []
+until_free (Free thread ∷ journal) = []
+until_free (entry ∷ journal) = entry ∷ until_free journal
+
+-- of the two threads that come to a deadlock thread 0 stands in every replica, and thread 1 is lent in the last one
+abbrev pub one_lent : List Entry
+one_lent = take 24 deadlock_before ++ Take 0 2 1 ∷ []
+
+-- and then both stand
+abbrev pub both_stand : List Entry
+both_stand = one_lent ++ Put 0 2 1 3 0 ∷ []
+
+-- the last of three replicas is lent, and the others stand
+abbrev pub last_lent : List Entry
+last_lent = take 5 exit_runs
+
+-- each of three replicas wants to exit with another number
+abbrev pub parted_job : Job
+parted_job = small_job exit_guest (flip_a0 1 ∷ record { replica = 2; thread = 0; at = 1; target = Register 10 1 } ∷ []) 3 1000000000
+
+abbrev pub parted_runs : List Entry
+parted_runs = Take 0 0 0 ∷ Put 0 0 0 2 0 ∷ Take 0 1 0 ∷ Put 0 1 0 2 1 ∷ Take 0 2 0 ∷ Put 0 2 0 2 1 ∷ []
+
+-- one of two replicas does
+abbrev pub parted_pair : List Entry
+parted_pair = take 4 parted_runs
+
+-- the write of `hello` was served
+abbrev pub hello_written : List Entry
+hello_written = take 7 failing_journal
+
+-- a jump to itself, whose watchdog comes after three instructions
+abbrev pub watch_job : Job
+watch_job = record { program = loop_guest; faults = []; settings = record { replicas = 3; drivers = 1; watchdog = 3; quantum = 4096; limit = 1000000000 } }
+
+-- after each turn of the watchdog the thread runs on
+abbrev pub watch_journal : List Entry
+watch_journal = round 0 3 Watch ++ round 0 3 Watch

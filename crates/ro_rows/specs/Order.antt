@@ -64,3 +64,22 @@ joined_guest = guest (table_of (Some 0x1007C) (Some 0x10080) None None) true 140
 abbrev pub locked_guest : Program
 locked_guest = guest (table_of (Some 0x10094) None (Some 0x10098) (Some 0x1009C)) true 172
     (0x000101B7 ∷ 0x0A018513 ∷ 0x08018613 ∷ 0x0A418693 ∷ 0x030000EF ∷ 0x0A418513 ∷ 0x02C000EF ∷ 0x0A018423 ∷ 0x0A418513 ∷ 0x024000EF ∷ 0x00100073 ∷ 0x018000EF ∷ 0x0A018423 ∷ 0x0A418513 ∷ 0x010000EF ∷ 0x00100073 ∷ 0x00008067 ∷ 0x00008067 ∷ 0x00008067 ∷ 0x00000000 ∷ 0x00000000 ∷ 0x00000000 ∷ [])
+
+-- ---- what orders nothing
+
+-- each stores under a mutex of its own
+abbrev pub two_mutexes_guest : Program
+two_mutexes_guest = guest (table_of (Some 0x10094) None (Some 0x10098) (Some 0x1009C)) true 176
+    (0x000101B7 ∷ 0x0A018513 ∷ 0x08018613 ∷ 0x0AC18693 ∷ 0x030000EF ∷ 0x0A418513 ∷ 0x02C000EF ∷ 0x0A018423 ∷ 0x0A418513 ∷ 0x024000EF ∷ 0x00100073 ∷ 0x018000EF ∷ 0x0A018423 ∷ 0x0AC18513 ∷ 0x010000EF ∷ 0x00100073 ∷ 0x00008067 ∷ 0x00008067 ∷ 0x00008067 ∷ 0x00000000 ∷ 0x00000000 ∷ 0x00000000 ∷ 0x00000000 ∷ [])
+
+-- thread 0 stores and unlocks its mutex before thread 1 locks the other and stores
+abbrev pub two_mutexes_plan : List ℕ
+two_mutexes_plan = replicate 13 0 ++ replicate 3 1
+
+-- of the locking guest: thread 0 makes both threads, and then the first one steps
+abbrev pub creations_plan : List ℕ
+creations_plan = replicate 11 0 ++ replicate 4 1
+
+-- of the locking guest: both threads have exited when thread 0 joins the first one
+abbrev pub exits_plan : List ℕ
+exits_plan = replicate 14 0 ++ replicate 16 1 ++ replicate 16 2 ++ 0 ∷ []

@@ -83,3 +83,13 @@ healed_job = usual_job hell_o_guest (record { replica = 1; thread = 0; at = 1; t
 -- before the vote in which replica 1 loses
 abbrev pub before_vote : List Entry
 before_vote = Take 0 0 0 ∷ Put 0 0 0 2 0 ∷ Take 0 1 0 ∷ Put 0 1 0 2 1 ∷ Take 0 2 0 ∷ Put 0 2 0 2 0 ∷ []
+
+-- Of five replicas that write `hell` and then `o`, replica 0 is struck in `o`, which no view shows before it is written;
+-- replica 1 in a register that nothing reads, so that it loses the first vote and becomes a copy of replica 0; and behind that vote
+-- replica 2 is struck in `o` too.
+abbrev pub hidden_job : Job
+hidden_job = record {
+  program = hell_o_guest;
+  faults = record { replica = 0; thread = 0; at = 1; target = Byte 65676 0 } ∷ record { replica = 1; thread = 0; at = 1; target = Register 13 0 } ∷ record { replica = 2; thread = 0; at = 6; target = Byte 65676 0 } ∷ [];
+  settings = record { replicas = 5; drivers = 1; watchdog = 10000; quantum = 4096; limit = 1000000000 };
+}

@@ -2,7 +2,7 @@
 ghost use Rattle.std.specs.Prelude.{◌≡◌, true, false, [], ◌∷◌, ◌++◌, length, Some, None};
 ghost use Rattle.std.specs.List.{filter};
 ghost use Rattle.ro_journal.specs.declared.Did.TheVariants.{Served, Blocked};
-ghost use Rattle.ro_journal.specs.declared.How.TheVariants.{Exit, Deadlock, Limit};
+ghost use Rattle.ro_journal.specs.declared.How.TheVariants.{Exit, Deadlock, Differ, NoMajority, Limit, Sink};
 ghost use Rattle.ro_journal.specs.declared.Entry.TheVariants.{Take, Put, Vote, Free, End};
 ghost use Rattle.ro_journal.specs.declared.losers.Lost.TheVariants.{Nobody, One};
 ghost use Rattle.ro_journal.specs.Plan.{plan_of};
@@ -16,8 +16,8 @@ ghost use Rattle.ro_simulation.specs.Guests.{exit_guest};
 ghost use Rattle.ro_simulation.specs.Rows.{flip_a0};
 ghost use Rattle.ro_simulation.specs.Drives.{driven};
 ghost use Rattle.ro_rows.specs.Exit.{exit_job};
-ghost use Rattle.ro_rows.specs.Rows.{decisions, deadlock_job, deadlock_before};
-ghost use Rattle.ro_rows.specs.Edges.{small_job, waiters_job, two_wait, unlocked, letter_job, all_hits, is_vote, page_limit_job, before_free, exit_runs};
+ghost use Rattle.ro_rows.specs.Rows.{decisions, deadlock_job, deadlock_before, hello_job};
+ghost use Rattle.ro_rows.specs.Edges.{small_job, waiters_job, two_wait, unlocked, letter_job, all_hits, is_vote, page_limit_job, before_free, exit_runs, until_free, one_lent, both_stand, last_lent, parted_job, parted_runs, parted_pair, hello_written, watch_job, watch_journal};
 
 /// A row: no execution of the guest that exits with 7 has more than three steps, and one has more than two.
 pub fn length_row()
@@ -53,12 +53,14 @@ pub fn differ_row()
 {}
 
 /// A row: a deadlock may end the journal where nothing can be voted on, freed or lent, and not before: not at the
-/// opening, not while a vote can still be held, and not while a lease is out.
+/// opening, not while a vote can still be held or a blocked call served, and not while a lease is out, also where all else stands.
 pub fn stuck_row()
     ensures stuck { IsAllowed deadlock_job (replay deadlock_job deadlock_before) (End Deadlock) }
     ensures not_opening { IsAllowed deadlock_job (opening_core deadlock_job) (End Deadlock) → ⊥ }
     ensures not_going { IsAllowed exit_job (replay exit_job exit_runs) (End Deadlock) → ⊥ }
     ensures not_lent { IsAllowed exit_job (replay exit_job (Take 0 0 0 ∷ [])) (End Deadlock) → ⊥ }
+    ensures not_free { IsAllowed (page_limit_job 1000000000) (replay (page_limit_job 1000000000) before_free) (End Deadlock) → ⊥ }
+    ensures not_last { IsAllowed exit_job (replay exit_job last_lent) (End Deadlock) → ⊥ }
 {}
 
 /// A row: a vote that takes the plan to its limit is allowed, and one more step is a limit's end, with the plan's length and
@@ -86,7 +88,7 @@ pub fn free_first_row()
 {}
 
 /// A row: two threads wait for a mutex, the higher one for longer. Neither may be freed before the unlock and both may be
-/// behind it, and the lower one is.
+/// behind it, and the lower one is; but not while a lease is out.
 pub fn waiters_row()
     ensures legal { Legal waiters_job unlocked }
     ensures wait { may_free waiters_job (replay waiters_job two_wait) 1 ≡ false }
@@ -95,4 +97,42 @@ pub fn waiters_row()
     ensures may_too { may_free waiters_job (replay waiters_job unlocked) 2 ≡ true }
     ensures lowest { next_action waiters_job (replay waiters_job unlocked) ≡ act.Free 1 }
     ensures then_waits { may_free waiters_job (replay waiters_job (unlocked ++ Free 1 ∷ [])) 2 ≡ false }
+    ensures lent { may_free waiters_job (replay waiters_job (unlocked ++ Take 0 0 0 ∷ [])) 1 ≡ false }
+{}
+
+/// A row: a vote on a thread that stands in every replica waits until no lease is out, also none of another thread. Where two
+/// votes may be held the lower thread's comes next, and where a thread may be freed a vote does not.
+pub fn vote_row()
+    ensures lent { IsAllowed deadlock_job (replay deadlock_job one_lent) (Vote 0 3 0 Nobody Blocked) → ⊥ }
+    ensures home { IsAllowed deadlock_job (replay deadlock_job both_stand) (Vote 0 3 0 Nobody Blocked) }
+    ensures either { IsAllowed deadlock_job (replay deadlock_job both_stand) (Vote 1 3 0 Nobody Blocked) }
+    ensures lowest { IsNext deadlock_job (replay deadlock_job both_stand) (Vote 0 3 0 Nobody Blocked) }
+    ensures not_higher { IsNext deadlock_job (replay deadlock_job both_stand) (Vote 1 3 0 Nobody Blocked) → ⊥ }
+    ensures may { IsAllowed letter_job (replay letter_job (until_free (driven 200 letter_job))) (Vote 2 4 0 Nobody Served) }
+    ensures free { IsNext letter_job (replay letter_job (until_free (driven 200 letter_job))) (Free 0) }
+    ensures not_next { IsNext letter_job (replay letter_job (until_free (driven 200 letter_job))) (Vote 2 4 0 Nobody Served) → ⊥ }
+{}
+
+/// A row: where no view has a majority, two replicas end by a difference and three by no majority, and not the other way
+/// round.
+pub fn parted_row()
+    ensures two { IsAllowed (small_job exit_guest (flip_a0 1 ∷ []) 2 1000000000) (replay (small_job exit_guest (flip_a0 1 ∷ []) 2 1000000000) parted_pair) (End Differ) }
+    ensures two_majority { IsAllowed (small_job exit_guest (flip_a0 1 ∷ []) 2 1000000000) (replay (small_job exit_guest (flip_a0 1 ∷ []) 2 1000000000) parted_pair) (End NoMajority) → ⊥ }
+    ensures three { IsAllowed parted_job (replay parted_job parted_runs) (End NoMajority) }
+    ensures three_differ { IsAllowed parted_job (replay parted_job parted_runs) (End Differ) → ⊥ }
+{}
+
+/// A row: a sink may fail right behind a write, and has taken fewer bytes of it than all.
+pub fn sink_row()
+    ensures none { IsAllowed hello_job (replay hello_job hello_written) (End (Sink 0)) }
+    ensures all_but_one { IsAllowed hello_job (replay hello_job hello_written) (End (Sink 4)) }
+    ensures all { IsAllowed hello_job (replay hello_job hello_written) (End (Sink 5)) → ⊥ }
+    ensures later { IsAllowed hello_job (replay hello_job (hello_written ++ Take 0 0 0 ∷ [])) (End (Sink 0)) → ⊥ }
+{}
+
+/// A row: a vote on the watchdog's turn lets its thread run on in every replica.
+pub fn watch_row()
+    ensures driven_is { driven 8 watch_job ≡ watch_journal }
+    ensures legal { Legal watch_job watch_journal }
+    ensures next { next_action watch_job (replay watch_job watch_journal) ≡ act.Lend 0 0 }
 {}

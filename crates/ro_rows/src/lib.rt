@@ -19,17 +19,20 @@ ghost use Rattle.ro_plain.specs.Order.{RaceFree};
 ghost use Rattle.ro_legal.specs.Core.{Job, opening_core};
 ghost use Rattle.ro_legal.specs.Legal.{Legal, IsAllowed, replay, output_of};
 ghost use Rattle.ro_legal.specs.Action.{EachIsNext};
+ghost use Rattle.ro_legal.specs.Ideal.{StaysApart};
 ghost use Rattle.ro_simulation.specs.Guests.{exit_guest, usual_job};
 ghost use Rattle.ro_simulation.specs.Rows.{flip_a0, IsCovered};
+ghost use Rattle.ro_simulation.specs.Theorem.{IsFront};
 ghost use Rattle.ro_simulation.specs.Drives.{driven};
 ghost use Rattle.ro_rows.specs.Exit.{exit_file, exit_image, exit_job, exit_journal};
 ghost use Rattle.ro_rows.specs.Guests.{loop_guest};
-ghost use Rattle.ro_rows.specs.Rows.{five_job, IdealEnds, decisions, page_job, deadlock_job, deadlock_journal, pair_job, pair_journal, single_job, watched_job, hello_job, failing_journal, healed_job, before_vote};
+ghost use Rattle.ro_rows.specs.Rows.{five_job, IdealEnds, decisions, page_job, deadlock_job, deadlock_journal, pair_job, pair_journal, single_job, watched_job, hello_job, failing_journal, healed_job, hidden_job, before_vote};
 
 pub use edges::{
-    differ_row, free_first_row, length_row, limit_row, put_row, stuck_row, take_row, waiters_row,
+    differ_row, free_first_row, length_row, limit_row, parted_row, put_row, sink_row, stuck_row,
+    take_row, vote_row, waiters_row, watch_row,
 };
-pub use order::{accesses_row, before_row, calls_row, races_row, sync_row};
+pub use order::{accesses_row, before_row, calls_row, races_row, sync_row, unordered_row};
 pub use tables::{
     checks_row, errors_row, instructions_row, names_row, results_row, settings_row, threads_row,
     traps_row,
@@ -101,6 +104,19 @@ pub fn watched_row()
 pub fn five_row()
     ensures legal { Legal five_job (driven 20 five_job) }
     ensures decides { decisions (driven 20 five_job) ≡ Vote 0 2 1 (Two 0 3) Served ∷ End (Exit 7) ∷ [] }
+{}
+
+/// A row: of five replicas a copy differs where its winner does. Replica 0 is struck where no view shows it, replica 1 loses a
+/// vote and becomes a copy of it, and then replica 2 is struck: faults do not stay apart, and what is written is no front of what
+/// the unreplicated machine writes.
+pub fn hidden_row()
+    ensures race_free { RaceFree hidden_job.program }
+    ensures legal { Legal hidden_job (driven 30 hidden_job) }
+    ensures decides { decisions (driven 30 hidden_job) ≡ Vote 0 5 0 (One 1) Served ∷ Vote 0 3 0 (Two 3 4) Served ∷ Vote 0 2 0 Nobody Served ∷ End (Exit 0) ∷ [] }
+    ensures output { output_of hidden_job (driven 30 hidden_job) ≡ 104 ∷ 101 ∷ 108 ∷ 108 ∷ 110 ∷ [] }
+    ensures ideal { IdealEnds hidden_job (driven 30 hidden_job) (Exit 0) (104 ∷ 101 ∷ 108 ∷ 108 ∷ 111 ∷ []) }
+    ensures no_front { IsFront (output_of hidden_job (driven 30 hidden_job)) (104 ∷ 101 ∷ 108 ∷ 108 ∷ 111 ∷ []) → ⊥ }
+    ensures not_apart { StaysApart hidden_job (driven 30 hidden_job) → ⊥ }
 {}
 
 /// A row: the sink takes two bytes of `hello` and fails. The journal may end there, with `he` written.

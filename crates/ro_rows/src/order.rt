@@ -4,7 +4,7 @@ ghost use Rattle.ro_journal.specs.Plan.{plan_of};
 ghost use Rattle.ro_plain.specs.Order.{Sync, Unlocks, Locks, Makes, Joins, Exits, Nothing, HappensBefore, RaceFree, accesses_at};
 ghost use Rattle.ro_simulation.specs.Drives.{driven};
 ghost use Rattle.ro_simulation.specs.Guests.{locking_guest, usual_job};
-ghost use Rattle.ro_rows.specs.Order.{locking_plan, syncs_from, bytes, none, calls_guest, calls_plan, racing_guest, created_guest, joined_guest, locked_guest};
+ghost use Rattle.ro_rows.specs.Order.{locking_plan, syncs_from, bytes, none, calls_guest, calls_plan, racing_guest, created_guest, joined_guest, locked_guest, two_mutexes_guest, two_mutexes_plan, creations_plan, exits_plan};
 
 /// A row: the plan of the locking guest has 53 steps, and of them two create, two lock and unlock the mutex at 100E8,
 /// two exit, two join, and no other means anything for the order.
@@ -53,4 +53,17 @@ pub fn races_row()
     ensures by_creation { RaceFree created_guest }
     ensures by_join { RaceFree joined_guest }
     ensures by_mutex { RaceFree locked_guest }
+{}
+
+/// A row: what orders nothing. The creation of thread 2 comes before no step of thread 1, the exit of thread 2 before no join
+/// of thread 1, and an unlock before no lock of another mutex: of two threads that store to one byte, each under a mutex of
+/// its own, the second store is not after the first one, and so the program has races.
+pub fn unordered_row()
+    ensures creation { HappensBefore locking_guest creations_plan 6 11 }
+    ensures other_creation { HappensBefore locking_guest creations_plan 10 11 → ⊥ }
+    ensures exit { HappensBefore locking_guest exits_plan 29 46 }
+    ensures other_exit { HappensBefore locking_guest exits_plan 45 46 → ⊥ }
+    ensures mutexes { syncs_from two_mutexes_guest two_mutexes_plan 8 7 ≡ Locks 0x100A4 ∷ replicate 3 Nothing ++ Unlocks 0x100A4 ∷ Nothing ∷ Locks 0x100AC ∷ [] }
+    ensures other_mutex { HappensBefore two_mutexes_guest two_mutexes_plan 9 15 → ⊥ }
+    ensures races { RaceFree two_mutexes_guest → ⊥ }
 {}

@@ -1,5 +1,5 @@
 -- The parts are lemmas.
-use Rattle.ro_rows.proofs.EdgeRows.{waiters-legal, waiters-wait, waiters-wait-too, waiters-may, waiters-may-too, waiters-lowest, waiters-then-waits}
+use Rattle.ro_rows.proofs.EdgeRows.{waiters-legal, waiters-wait, waiters-wait-too, waiters-may, waiters-may-too, waiters-lowest, waiters-then-waits, waiters-lent}
 use Rattle.ro_rows.proofs.edges.waiters_row.Goals as goal
 
 pub returns-clause-legal : goal.returns-clause-legal
@@ -22,3 +22,6 @@ returns-clause-lowest c = waiters-lowest
 
 pub returns-clause-then_waits : goal.returns-clause-then_waits
 returns-clause-then_waits c = waiters-then-waits
+
+pub returns-clause-lent : goal.returns-clause-lent
+returns-clause-lent c = waiters-lent

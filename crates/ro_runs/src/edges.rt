@@ -663,10 +663,14 @@ fn store(rt: &impl Abort, alloc: Global) -> Result<MemStore, Fail> {
     Ok(store)
 }
 
-/// A gate whose first caller waits, for a while, until another driver has come to it twice.
+/// A gate that lets some leases pass. The first caller behind them waits, for a while, until another driver has come twice.
 #[derive(Drop)]
 struct Meeting {
-    /// The number of the driver that came first, and one more; 0 before.
+    /// How many leases pass before.
+    passing: u64,
+    /// How many have come.
+    come: AtomicU64,
+    /// The number of the driver that came first behind them, and one more; 0 before.
     first: AtomicU64,
     /// How often another driver came.
     others: AtomicU64,
@@ -676,6 +680,9 @@ struct Meeting {
 
 impl Gate for Meeting {
     fn pass<R: Wait>(&self, _rt: &R, driver: u32, _replica: u32, _thread: u32) {
+        if self.come.fetch_add(1, Ordering::SeqCst) < self.passing {
+            return;
+        }
         let name = u64::from(driver) + 1;
         match self
             .first
@@ -699,18 +706,38 @@ impl Gate for Meeting {
     }
 }
 
-// Two drivers are inside their runs at once: while one stands at the gate with its lease, the other takes two.
+// While one of two drivers stands at the gate with its lease, the other takes the replicas that are left: before the first vote,
+// and behind each, where drivers that went to rest or left would let it wait in vain. Each replica is lent once between votes.
 #[test]
 fn two_drivers_at_once(rt: HostRuntime) -> Result<(), Fail> {
-    let mut store = store(&rt, rt.alloc())?;
+    for (guest, status, votes) in [("seven", 7, 0), ("hello", 0, 0), ("hello", 0, 1)] {
+        assert_meeting(&rt, rt.alloc(), guest, status, votes)?;
+    }
+    Ok(())
+}
+
+fn assert_meeting<R: Threads + Wait + Abort + Sync>(
+    rt: &R,
+    alloc: Global,
+    guest: &str,
+    status: u8,
+    votes: u64,
+) -> Result<(), Fail> {
+    let mut store = store(rt, alloc)?;
     let gate = Meeting {
+        passing: votes.saturating_mul(3),
+        come: AtomicU64::new(0),
         first: AtomicU64::new(0),
         others: AtomicU64::new(0),
         met: AtomicU64::new(0),
     };
-    let words = ["run", "seven", "--drivers", "2"];
-    let done = do_command(&rt, rt.alloc(), &words, &mut store, &[], &gate)?.done;
-    assert_eq!(rt; done.answer, Answer::Exit(7));
-    assert_eq!(rt; gate.met.load(Ordering::SeqCst), 1);
+    let words = ["run", guest, "--drivers", "2"];
+    let done = do_command(rt, alloc, &words, &mut store, &[], &gate)?.done;
+    assert_eq!(rt; done.answer, Answer::Exit(status), "of {guest}");
+    assert_eq!(rt;
+        gate.met.load(Ordering::SeqCst),
+        1,
+        "of {guest} behind {votes} votes"
+    );
     Ok(())
 }

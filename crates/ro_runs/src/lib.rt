@@ -18,3 +18,5 @@ mod outside;
 mod rows;
 #[cfg(test)]
 mod tests;
+#[cfg(test)]
+mod traps;

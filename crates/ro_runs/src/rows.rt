@@ -530,6 +530,24 @@ pub(crate) const STRUCK: &[Row] = &[
         summary: Some("votes 0 copies 0 struck 3 steps 0 bytes 0\n"),
         answer: "answer no-majority\n",
     },
+    // Three differ in the end, of which one is a copy of another: faults don't stay apart.
+    Row {
+        title: "a copy of a winner with a hidden difference",
+        guest: "hello_in_two",
+        options: &["--replicas", "5", "--drivers", "1"],
+        input: None,
+        faults: Some(Text {
+            part: "0 0 1 mem 65676 0\n1 0 1 reg 13 0\n2 0 6 mem 65676 0\n",
+            times: 1,
+        }),
+        status: 0,
+        written: Text {
+            part: "helln",
+            times: 1,
+        },
+        summary: Some("votes 3 copies 3 struck 3 steps 13 bytes 5\n"),
+        answer: "answer exit 0\n",
+    },
     Row {
         title: "a fault that vanishes",
         guest: "exit_7",

@@ -1,7 +1,7 @@
 -- What a call comes to, whichever it is: one of a few shapes.
 use Rattle.std.specs.Prelude.{◌≡◌, ◌+◌, ◌==◌, ℕ, Bool, true, false, cond, not, ◌&&◌, List, [], ◌∷◌, ◌++◌, length, take, drop, Option, Some, None, slice_get, slice_set, nat_le}
-use Rattle.std.proofs.Common.{refl}
-use Rattle.std.proofs.lemmas.Bool.{true≢false}
+use Rattle.std.proofs.Common.{refl, sym, subst}
+use Rattle.std.proofs.lemmas.Bool.{true≢false, eqb-true}
 use Rattle.ro_event.specs.declared.calls.Which.{Which}
 use Rattle.ro_event.specs.declared.calls.Which.TheVariants.{System, Create, Join, Exit, ThreadSelf, MutexInit, MutexDestroy, Lock, TryLock, Unlock}
 use Rattle.ro_event.specs.declared.calls.Call.{Call}
@@ -16,15 +16,21 @@ use Rattle.ro_kernel.specs.declared.Life.TheVariants.{Live, Exited, Joined}
 use Rattle.ro_kernel.specs.Kernel.{Setup, Kernel}
 use Rattle.ro_kernel.specs.Serve.{Served, Done, Blocked, Ends, answers, stores_effect, minus, capped, fits, serve_read, serve_write, serve_brk, serve_system, serve_create, joined, serve_join_at, serve_exit, lock_at, trylock_at, unlock_at, on_mutex, serve_which, serve}
 
+-- a call that may set the owner of a mutex
+pub data IsOnMutex : Which → Type 0 where
+  on_lock : IsOnMutex Lock
+  on_trylock : IsOnMutex TryLock
+  on_unlock : IsOnMutex Unlock
+
 pub data Shape (setup : Setup) (kernel : Kernel) (u : ℕ) (call : Call) : Served → Type 0 where
   -- a value, and nothing else
   says : (value : ℕ) → Shape setup kernel u call (answers kernel u call value)
   -- the next bytes of the input, where they may be stored
-  reads : (xs : List ℕ) → permits_of setup.ranges Write call.a1 (capped call.a2) ≡ true → Shape setup kernel u call (Done (record kernel { taken = kernel.taken + length (take (capped call.a2) xs) }) (stores_effect u call (length (take (capped call.a2) xs)) call.a1 (take (capped call.a2) xs)))
+  reads : (number : ℕ) → call.which ≡ System number → (xs : List ℕ) → permits_of setup.ranges Write call.a1 (capped call.a2) ≡ true → Shape setup kernel u call (Done (record kernel { taken = kernel.taken + length (take (capped call.a2) xs) }) (stores_effect u call (length (take (capped call.a2) xs)) call.a1 (take (capped call.a2) xs)))
   -- the break
-  breaks : (end : ℕ) → Shape setup kernel u call (answers (record kernel { heap_end = end }) u call end)
+  breaks : call.which ≡ System 214 → (end : ℕ) → Shape setup kernel u call (answers (record kernel { heap_end = end }) u call end)
   -- a mutex has another owner, or none
-  owns : (owner : Option ℕ) → Shape setup kernel u call (answers (record kernel { owners = with_owner kernel.owners call.a0 owner }) u call 0)
+  owns : IsOnMutex call.which → (owner : Option ℕ) → Shape setup kernel u call (answers (record kernel { owners = with_owner kernel.owners call.a0 owner }) u call 0)
   -- a thread is made
   makes : fits setup.ranges call.a0 ≡ true → nat_le 16 (length kernel.lives) ≡ false → Shape setup kernel u call (Done (record kernel { lives = kernel.lives ++ Live ∷ [] }) (record {
     thread = u;
@@ -55,7 +61,7 @@ pub data Shape (setup : Setup) (kernel : Kernel) (u : ℕ) (call : Call) : Serve
   stops : (status : ℕ) → Shape setup kernel u call (Ends kernel (ExitHow status))
   stops_last : Shape setup kernel u call (Ends (record kernel { lives = slice_set kernel.lives u (Exited call.a0) }) (ExitHow 0))
 
-set-by : (b : Bool) → not b ≡ false → b ≡ true
+pub set-by : (b : Bool) → not b ≡ false → b ≡ true
 set-by true h = refl
 set-by false h = absurd (true≢false h)
 
@@ -64,27 +70,30 @@ module _ (setup : Setup) (kernel : Kernel) (u : ℕ) (call : Call) where
   either true x y p q = p
   either false x y p q = q
 
-  tested : (b : Bool) (x y : Served) → Shape setup kernel u call x → (b ≡ false → Shape setup kernel u call y) → Shape setup kernel u call (cond b x y)
-  tested true x y p q = p
+  tested : (b : Bool) (x y : Served) → (b ≡ true → Shape setup kernel u call x) → (b ≡ false → Shape setup kernel u call y) → Shape setup kernel u call (cond b x y)
+  tested true x y p q = p refl
   tested false x y p q = q refl
 
-  of-read : Shape setup kernel u call (serve_read setup kernel u call)
-  of-read =
-      let l = tested (not (permits_of setup.ranges Write call.a1 (capped call.a2))) _ _ (says (minus 14)) (λ h. reads (drop kernel.taken setup.input) (set-by _ h)) in
+  of-read : (number : ℕ) → call.which ≡ System number → Shape setup kernel u call (serve_read setup kernel u call)
+  of-read number e =
+      let l = tested (not (permits_of setup.ranges Write call.a1 (capped call.a2))) _ _ (λ h. says (minus 14)) (λ h. reads number e (drop kernel.taken setup.input) (set-by _ h)) in
       search (l, either, says)
 
   of-write : Shape setup kernel u call (serve_write setup kernel u call)
   of-write = search (either, says)
 
-  of-brk : Shape setup kernel u call (serve_brk setup kernel u call)
-  of-brk = search (either, says, breaks)
+  of-brk : call.which ≡ System 214 → Shape setup kernel u call (serve_brk setup kernel u call)
+  of-brk e = either _ _ _ (breaks e call.a0) (says kernel.heap_end)
 
-  of-system : (number : ℕ) → Shape setup kernel u call (serve_system setup kernel u call number)
-  of-system number = search (either, of-read, of-write, of-brk, says, stops)
+  of-system : (number : ℕ) → call.which ≡ System number → Shape setup kernel u call (serve_system setup kernel u call number)
+  of-system number e =
+      let r = of-read number e in
+      let l = tested (number == 214) _ _ (λ h. of-brk (subst (λ (n : ℕ). call.which ≡ System n) (eqb-true number 214 h) e)) (λ h. says (minus 38)) in
+      search (either, r, of-write, l, stops)
 
   of-create : Shape setup kernel u call (serve_create setup kernel u call)
   of-create =
-      let l = tested (not (fits setup.ranges call.a0)) _ _ (says 14) (λ h. tested (nat_le 16 (length kernel.lives)) _ _ (says 11) (λ k. makes (set-by _ h) k)) in
+      let l = tested (not (fits setup.ranges call.a0)) _ _ (λ h. says 14) (λ h. tested (nat_le 16 (length kernel.lives)) _ _ (λ k. says 11) (λ k. makes (set-by _ h) k)) in
       search (l, either, says)
 
   of-join_at : (o : Option Life) → slice_get kernel.lives call.a0 ≡ o → Shape setup kernel u call (serve_join_at setup kernel u call o)
@@ -92,42 +101,46 @@ module _ (setup : Setup) (kernel : Kernel) (u : ℕ) (call : Call) where
   of-join_at (Some Joined) e = search (either, says)
   of-join_at (Some Live) e = search (either, says, waits)
   of-join_at (Some (Exited value)) e =
-      let l = tested (not (call.a1 == 0) && not (fits setup.ranges call.a1)) _ _ (says 14) (λ h. joins value e h) in search (l, either, says)
+      let l = tested (not (call.a1 == 0) && not (fits setup.ranges call.a1)) _ _ (λ h. says 14) (λ h. joins value e h) in search (l, either, says)
 
   of-exit : Shape setup kernel u call (serve_exit kernel u call)
   of-exit = search (either, leaves, stops_last)
 
-  of-lock_at : (o : Option (Option ℕ)) → Shape setup kernel u call (lock_at kernel u call o)
-  of-lock_at None = search (either, says, owns)
-  of-lock_at (Some None) = owns (Some u)
-  of-lock_at (Some (Some owner)) = search (either, says, waits)
+  module _ (on : IsOnMutex call.which) where
+    sets : (owner : Option ℕ) → Shape setup kernel u call (answers (record kernel { owners = with_owner kernel.owners call.a0 owner }) u call 0)
+    sets owner = owns on owner
 
-  of-trylock_at : (o : Option (Option ℕ)) → Shape setup kernel u call (trylock_at kernel u call o)
-  of-trylock_at None = search (either, says, owns)
-  of-trylock_at (Some None) = owns (Some u)
-  of-trylock_at (Some (Some owner)) = says 16
+    of-lock_at : (o : Option (Option ℕ)) → Shape setup kernel u call (lock_at kernel u call o)
+    of-lock_at None = search (either, says, sets)
+    of-lock_at (Some None) = sets (Some u)
+    of-lock_at (Some (Some owner)) = search (either, says, waits)
 
-  of-unlock_at : (o : Option (Option ℕ)) → Shape setup kernel u call (unlock_at kernel u call o)
-  of-unlock_at None = says 1
-  of-unlock_at (Some None) = says 1
-  of-unlock_at (Some (Some owner)) = search (either, says, owns)
+    of-trylock_at : (o : Option (Option ℕ)) → Shape setup kernel u call (trylock_at kernel u call o)
+    of-trylock_at None = search (either, says, sets)
+    of-trylock_at (Some None) = sets (Some u)
+    of-trylock_at (Some (Some owner)) = says 16
+
+    of-unlock_at : (o : Option (Option ℕ)) → Shape setup kernel u call (unlock_at kernel u call o)
+    of-unlock_at None = says 1
+    of-unlock_at (Some None) = says 1
+    of-unlock_at (Some (Some owner)) = search (either, says, sets)
 
   of-mutex : (served : Served) → Shape setup kernel u call served → Shape setup kernel u call (on_mutex setup kernel u call served)
   of-mutex served h = search (either, says, h)
 
-  of-which : (which : Which) → Shape setup kernel u call (serve_which setup kernel u call which)
-  of-which (System number) = of-system number
-  of-which Create = of-create
-  of-which Join = of-join_at (slice_get kernel.lives call.a0) refl
-  of-which Exit = of-exit
-  of-which ThreadSelf = says u
-  of-which MutexInit = of-mutex _ (says 0)
-  of-which MutexDestroy = of-mutex _ (says 0)
-  of-which Lock = of-mutex _ (of-lock_at (owner_of kernel.owners call.a0))
-  of-which TryLock = of-mutex _ (of-trylock_at (owner_of kernel.owners call.a0))
-  of-which Unlock = of-mutex _ (of-unlock_at (owner_of kernel.owners call.a0))
+  of-which : (which : Which) → call.which ≡ which → Shape setup kernel u call (serve_which setup kernel u call which)
+  of-which (System number) e = of-system number e
+  of-which Create e = of-create
+  of-which Join e = of-join_at (slice_get kernel.lives call.a0) refl
+  of-which Exit e = of-exit
+  of-which ThreadSelf e = says u
+  of-which MutexInit e = of-mutex _ (says 0)
+  of-which MutexDestroy e = of-mutex _ (says 0)
+  of-which Lock e = of-mutex _ (of-lock_at (subst IsOnMutex (sym e) on_lock) (owner_of kernel.owners call.a0))
+  of-which TryLock e = of-mutex _ (of-trylock_at (subst IsOnMutex (sym e) on_trylock) (owner_of kernel.owners call.a0))
+  of-which Unlock e = of-mutex _ (of-unlock_at (subst IsOnMutex (sym e) on_unlock) (owner_of kernel.owners call.a0))
 
   -- what comes of a thread's call has one of the shapes
   pub shape-of : Shape setup kernel u call (serve setup kernel u call)
   unfolding serve
-  shape-of = of-which call.which
+  shape-of = of-which call.which refl

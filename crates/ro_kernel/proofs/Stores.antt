@@ -1,7 +1,7 @@
 -- What a served call stores, the guest could have stored itself.
 use Rattle.std.specs.Prelude.{◌≡◌, ℕ, zero, suc, ◌+◌, ◌≤◌, ◌^◌, ◌%◌, Bool, true, false, cond, not, ◌&&◌, List, [], length, take, ◌==◌, nat_le}
 use Rattle.std.proofs.Common.{refl, sym, subst, arith, length-take}
-use Rattle.std.proofs.lemmas.Bool.{true≢false, eqb-true, leb-true, le-leb, and_parts, and_from}
+use Rattle.std.proofs.lemmas.Bool.{eqb-true, leb-true, le-leb, and_parts, and_from}
 use Rattle.ro_event.specs.declared.calls.Call.{Call}
 use Rattle.ro_event.specs.Effects.{Effect}
 use Rattle.ro_region.specs.declared.Kind.{Kind}
@@ -12,7 +12,7 @@ use Rattle.ro_pages.specs.Bytes.{bytes_of}
 use Rattle.ro_kernel.specs.Kernel.{Setup, Kernel}
 use Rattle.ro_kernel.specs.Serve.{Served, Done, capped, fits, serve}
 use Rattle.ro_kernel.proofs.Yields.{Yields, done, blocked, ends, yields-done}
-use Rattle.ro_kernel.proofs.Shapes.{Shape, says, reads, breaks, owns, makes, joins, leaves, waits, stops, stops_last, shape-of}
+use Rattle.ro_kernel.proofs.Shapes.{set-by, Shape, says, reads, breaks, owns, makes, joins, leaves, waits, stops, stops_last, shape-of}
 
 -- fewer bytes are permitted too
 each-fewer : (ranges : List Range) (kind : Kind) (place more fewer : ℕ) → fewer ≤ more → permits_each ranges kind place more ≡ true → permits_each ranges kind place fewer ≡ true
@@ -37,10 +37,6 @@ permits-none ranges kind = refl
 abbrev pub Stores : List Range → Kernel → Effect → Type 0
 Stores ranges after effect = permits_of ranges Write effect.place (length effect.bytes) ≡ true
 
-set-by : (b : Bool) → not b ≡ false → b ≡ true
-set-by true h = refl
-set-by false h = absurd (true≢false h)
-
 module _ (setup : Setup) (kernel : Kernel) (thread : ℕ) (call : Call) where
   fits-permits : (p : ℕ) → fits setup.ranges p ≡ true → permits_of setup.ranges Write p 4 ≡ true
   fits-permits p h = (and_parts (p % 4 == 0) (permits_of setup.ranges Write p 4) h).1
@@ -52,9 +48,9 @@ module _ (setup : Setup) (kernel : Kernel) (thread : ℕ) (call : Call) where
 
   stores-of : {served : Served} → Shape setup kernel thread call served → Yields (Stores setup.ranges) served
   stores-of (says value) = done (permits-none setup.ranges Write)
-  stores-of (reads xs h) = done (permits-fewer setup.ranges Write call.a1 (capped call.a2) (length (take (capped call.a2) xs)) (grind (arith, length-take)) h)
-  stores-of (breaks end) = done (permits-none setup.ranges Write)
-  stores-of (owns owner) = done (permits-none setup.ranges Write)
+  stores-of (reads number e xs h) = done (permits-fewer setup.ranges Write call.a1 (capped call.a2) (length (take (capped call.a2) xs)) (grind (arith, length-take)) h)
+  stores-of (breaks e end) = done (permits-none setup.ranges Write)
+  stores-of (owns on owner) = done (permits-none setup.ranges Write)
   stores-of (makes f n) = done (fits-permits call.a0 f)
   stores-of (joins value e h) = done (value-fits value (call.a1 == 0) refl h)
   stores-of leaves = done (permits-none setup.ranges Write)

@@ -15,10 +15,10 @@ use Rattle.ro_kernel.specs.Kernel.{Setup, Kernel, lives_on}
 use Rattle.ro_kernel.specs.Serve.{Served, Done, Blocked, Ends, serve}
 use Rattle.ro_kernel.proofs.Kept.{IsOwn, Own, done, serve-own}
 use Rattle.ro_kernel.proofs.Stores.{stores-permitted}
+use Rattle.ro_kernel.proofs.Fits.{fit-effect}
 use Rattle.ro_legal.specs.Event.{Event, call_event, event_of}
 use Rattle.ro_legal.specs.Sound.{IsOver, traps}
 use Rattle.ro_legal.proofs.Served.{made_count, IsTidy, Tidy, tidy_done, tidy_end, serve-tidy}
-use Rattle.ro_legal.proofs.Sizes.{served-small}
 
 -- an event of a live thread
 pub record Happens (kernel : Kernel) (thread : ℕ) (event : Event) : Type 0 where
@@ -77,16 +77,16 @@ module _ (setup : Setup) (kernel : Kernel) (thread : ℕ) (call : Call) (payload
   by-served (Done after effect) e =
       let tidy = tidy-of after effect (subst (Tidy kernel thread) e (serve-tidy setup kernel thread call)) in
       let own = own-of after effect (subst (Own kernel thread) e (serve-own setup kernel thread call)) in
-      let small = served-small setup kernel thread call after effect e in
+      let fit = fit-effect setup kernel thread call after effect e in
       record {
         lives_are = tidy.one_life_each;
         others_live = λ d other differs h. own.keeps_live other differs h;
         blocks_live = λ c f. absurd (let g : None ≡ Some c = f in cc);
         thread_is = own.thread_is;
         creator_is = own.creator_is;
-        few = small.few;
+        few = fit.few;
         within = within-permits setup effect.place (length effect.bytes) (stores-permitted setup kernel thread call after effect e);
-        place_left = small.place_left;
+        place_left = fit.place_left;
         ends_well = no-end;
       }
   by-served Blocked e = quiet kernel thread _ refl refl refl refl refl no-end

@@ -7,7 +7,6 @@ pub mod Journals
 -- what a served call keeps of the kernel
 pub mod Served
 -- how much a served call stores
-pub mod Sizes
 -- an event of a live thread
 pub mod Happens
 -- what an effect does to a replica

@@ -1,21 +1,17 @@
 -- What a served call leaves as it is: dead threads stay dead, one life for each thread, the caller goes on, and the program ends by an exit only.
-use Rattle.std.specs.Prelude.{◌≡◌, ◌≢◌, ℕ, zero, suc, ◌+◌, ◌<◌, Bool, true, false, cond, List, [], ◌∷◌, ◌++◌, length, Option, Some, None, slice_get, slice_set}
+use Rattle.std.specs.Prelude.{◌≡◌, ◌≢◌, ℕ, zero, suc, ◌+◌, ◌<◌, true, false, List, [], ◌∷◌, ◌++◌, length, Option, Some, None, slice_get, slice_set}
 use Rattle.std.proofs.Common.{refl, sym, ap, ◌∙◌, subst, arith, ⊎_elim, length-append}
 use Rattle.std.proofs.lemmas.Bool.{false≢true, cases_eq}
 use Rattle.std.proofs.lemmas.List.{length-set}
-use Rattle.ro_event.specs.declared.calls.Which.{Which}
-use Rattle.ro_event.specs.declared.calls.Which.TheVariants.{System, Create, Join, Exit, ThreadSelf, MutexInit, MutexDestroy, Lock, TryLock, Unlock}
 use Rattle.ro_event.specs.declared.calls.Call.{Call}
-use Rattle.ro_event.specs.declared.effects.Goes.TheVariants.{Stays, Returns}
 use Rattle.ro_event.specs.declared.effects.Made.{Made}
 use Rattle.ro_event.specs.Effects.{Effect}
 use Rattle.ro_journal.specs.declared.How.{How}
-use Rattle.ro_journal.specs.declared.How.TheVariants.{Exit as ExitHow}
-use Rattle.ro_mutex.specs.Owners.{owner_of, with_owner}
+use Rattle.ro_mutex.specs.Owners.{with_owner}
 use Rattle.ro_kernel.specs.declared.Life.{Life}
 use Rattle.ro_kernel.specs.declared.Life.TheVariants.{Live, Exited, Joined}
 use Rattle.ro_kernel.specs.Kernel.{Setup, Kernel, is_live, live_option, lives_on}
-use Rattle.ro_kernel.specs.Serve.{Served, Done, Blocked, Ends, answers, stores_effect, serve_read, serve_write, serve_brk, serve_system, serve_create, joined, serve_join_at, serve_exit, gets, lock_at, trylock_at, unlock_at, on_mutex, serve_which, serve}
+use Rattle.ro_kernel.specs.Serve.{Served, Done, Blocked, Ends, answers, serve}
 use Rattle.ro_kernel.proofs.Kept.{slice_get-set_other}
 use Rattle.ro_legal.specs.Sound.{IsOver, exits}
 use Rattle.ro_kernel.proofs.Shapes.{Shape, says, reads, breaks, owns, makes, joins, leaves, waits, stops, stops_last, shape-of}
@@ -74,9 +70,9 @@ module _ (setup : Setup) (kernel : Kernel) (u : ℕ) (call : Call) where
 
   tidy-of : {served : Served} → Shape setup kernel u call served → Tidy kernel u served
   tidy-of (says value) = tidy-answers kernel kernel u call value refl
-  tidy-of (reads xs h) = tidy_done (record { one_life_each = add-none (length kernel.lives); stays_dead = λ t d short h. h; goes_on = refl; backs_none = refl })
-  tidy-of (breaks end) = tidy-answers kernel (record kernel { heap_end = end }) u call end refl
-  tidy-of (owns owner) = tidy-answers kernel (record kernel { owners = with_owner kernel.owners call.a0 owner }) u call 0 refl
+  tidy-of (reads number e xs h) = tidy_done (record { one_life_each = add-none (length kernel.lives); stays_dead = λ t d short h. h; goes_on = refl; backs_none = refl })
+  tidy-of (breaks e end) = tidy-answers kernel (record kernel { heap_end = end }) u call end refl
+  tidy-of (owns on owner) = tidy-answers kernel (record kernel { owners = with_owner kernel.owners call.a0 owner }) u call 0 refl
   tidy-of (makes f n) = tidy_done (record {
     one_life_each = length-append kernel.lives (Live ∷ []);
     stays_dead = λ t d short h. ap live_option (sym (get-append-short kernel.lives (Live ∷ []) t short)) ∙ h;

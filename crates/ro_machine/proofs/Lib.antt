@@ -1,5 +1,4 @@
 pub mod Quick
-pub mod Effects
 pub mod Faults
 pub mod Joined
 pub mod Planned

@@ -24,7 +24,7 @@ use Rattle.ro_kernel.proofs.Stores.{stores-permitted}
 use Rattle.ro_replica.proofs.Payloads.{permitted_ends}
 use Rattle.ro_plain.specs.Machine.{with_made, called}
 use Rattle.ro_machine.specs.Seen.{machine_with}
-use Rattle.ro_machine.proofs.Effects.{made_count, fit-effect, fit-ended}
+use Rattle.ro_kernel.proofs.Fits.{made_count, fit-effect, fit-ended}
 
 -- a thread that lives was made
 pub lives-made : (lives : List Life) (t : ℕ) → live_option (slice_get lives t) ≡ true → t < length lives

@@ -1,13 +1,14 @@
 -- Elements of lists that are changed in one place, filtered, mapped or made longer.
-use Rattle.std.specs.Prelude.{◌≡◌, ◌≢◌, ℕ, zero, suc, ◌<◌, ◌⊎◌, Bool, true, false, cond, ◌||◌, ◌==◌, List, [], ◌∷◌, ◌++◌, length, map, Option, Some, None, is_some, slice_get, slice_set}
+use Rattle.std.specs.Prelude.{◌≡◌, ◌≢◌, ℕ, zero, suc, Bool, true, false, cond, ◌||◌, ◌==◌, List, [], ◌∷◌, ◌++◌, length, map, Option, Some, None, is_some, slice_get, slice_set}
 use Rattle.std.specs.List.{filter, list_all, filter_map, cons_option}
-use Rattle.std.proofs.Common.{refl, sym, ap, ◌∙◌, arith, inl, inr}
+use Rattle.std.proofs.Common.{refl, sym, ap, ◌∙◌, arith}
 use Rattle.std.proofs.lemmas.Bool.{true≢false, and_parts, and_from, eq-eqb}
 use Rattle.ro_journal.specs.declared.losers.Lost.{Lost}
 use Rattle.ro_journal.specs.declared.losers.Lost.TheVariants.{One, Two}
 use Rattle.ro_journal.specs.Losers.{numbers}
 use Rattle.ro_vote.specs.Numbers.{is_among}
 use Rattle.ro_plain.proofs.Calls.{some-injective}
+pub use Rattle.ro_plain.proofs.Places.{get-within, get-set-same, get-set-cases, get-append-cases}
 use Rattle.ro_replica.specs.Replica.{changed_at}
 use Rattle.ro_legal.specs.Sound.{Listed}
 
@@ -15,18 +16,6 @@ use Rattle.ro_legal.specs.Sound.{Listed}
 pub is-some-get : {X : Type 0} (o : Option X) → is_some o ≡ true → (x : X) × (o ≡ Some x)
 is-some-get None h = absurd (true≢false (sym h))
 is-some-get (Some x) h = (x, refl)
-
--- below the length there is an element
-pub get-within : {X : Type 0} (xs : List X) (i : ℕ) → i < length xs → (x : X) × (slice_get xs i ≡ Some x)
-get-within [] i h = absurd (omega arith)
-get-within (x ∷ xs) zero h = (x, refl)
-get-within (x ∷ xs) (suc i) h = get-within xs i (omega arith)
-
--- the element that was set
-pub get-set-same : {X : Type 0} (xs : List X) (i : ℕ) (x y : X) → slice_get xs i ≡ Some x → slice_get (slice_set xs i y) i ≡ Some y
-get-set-same [] i x y h = absurd (let e : None ≡ Some x = h in cc)
-get-set-same (z ∷ xs) zero x y h = refl
-get-set-same (z ∷ xs) (suc i) x y h = get-set-same xs i x y h
 
 -- setting an element to itself changes nothing
 pub set-same : {X : Type 0} (xs : List X) (i : ℕ) (x : X) → slice_get xs i ≡ Some x → slice_set xs i x ≡ xs
@@ -38,17 +27,6 @@ set-same (z ∷ xs) (suc i) x h = ap {B = List _} (λ r. z ∷ r) (set-same xs i
 pub get-append-last : {X : Type 0} (xs : List X) (y : X) → slice_get (xs ++ y ∷ []) (length xs) ≡ Some y
 get-append-last [] y = refl
 get-append-last (x ∷ xs) y = get-append-last xs y
-
--- an element of a list with one more is an old one or the new one
-pub get-append-cases : {X : Type 0} (xs : List X) (y : X) (i : ℕ) (x : X) → slice_get (xs ++ y ∷ []) i ≡ Some x → (slice_get xs i ≡ Some x) ⊎ ((i ≡ length xs) × (y ≡ x))
-get-append-cases [] y zero x h = inr (refl, some-injective h)
-get-append-cases [] y (suc i) x h = absurd (let e : None ≡ Some x = h in cc)
-get-append-cases (z ∷ xs) y zero x h = inl h
-get-append-cases (z ∷ xs) y (suc i) x h = by (get-append-cases xs y i x h)
-  where
-    by : (slice_get xs i ≡ Some x) ⊎ ((i ≡ length xs) × (y ≡ x)) → (slice_get xs i ≡ Some x) ⊎ ((suc i ≡ suc (length xs)) × (y ≡ x))
-    by (inl e) = inl e
-    by (inr e) = inr (ap suc e.0, e.1)
 
 -- an element of a mapped list
 pub record MappedFrom {X Y : Type 0} (f : X → Y) (xs : List X) (i : ℕ) (y : Y) : Type 0 where
@@ -102,18 +80,6 @@ pub length-changed : {X : Type 0} (f : X → X) (xs : List X) (t : ℕ) → leng
 length-changed f [] t = refl
 length-changed f (x ∷ xs) zero = refl
 length-changed f (x ∷ xs) (suc t) = ap suc (length-changed f xs t)
-
--- an element of a list in which one is replaced
-pub get-set-cases : {X : Type 0} (xs : List X) (t i : ℕ) (x y : X) → slice_get (slice_set xs t x) i ≡ Some y → ((i ≢ t) × (slice_get xs i ≡ Some y)) ⊎ ((i ≡ t) × (x ≡ y))
-get-set-cases [] t i x y h = absurd (let e : None ≡ Some y = h in cc)
-get-set-cases (z ∷ xs) zero zero x y h = inr (refl, some-injective h)
-get-set-cases (z ∷ xs) zero (suc i) x y h = inl ((λ (e : suc i ≡ 0). omega arith), h)
-get-set-cases (z ∷ xs) (suc t) zero x y h = inl ((λ (e : 0 ≡ suc t). omega arith), h)
-get-set-cases (z ∷ xs) (suc t) (suc i) x y h = by (get-set-cases xs t i x y h)
-  where
-    by : ((i ≢ t) × (slice_get xs i ≡ Some y)) ⊎ ((i ≡ t) × (x ≡ y)) → ((suc i ≢ suc t) × (slice_get xs i ≡ Some y)) ⊎ ((suc i ≡ suc t) × (x ≡ y))
-    by (inl e) = inl ((λ (g : suc i ≡ suc t). e.0 (omega arith)), e.1)
-    by (inr e) = inr (ap suc e.0, e.1)
 
 -- a filter of one element more
 filtered-cons : {X : Type 0} (p : X → Bool) (y : X) (xs : List X) (x : X) → (Listed (filter p xs) x → Listed xs x × (p x ≡ true)) → (b : Bool) → p y ≡ b → Listed (cond b (y ∷ filter p xs) (filter p xs)) x → Listed (y ∷ xs) x × (p x ≡ true)

@@ -11,7 +11,6 @@ mod OtherRows
 mod OrderRows
 mod EdgeRows
 mod TableRows
-mod Explore
 mod RaceRows
 mod FiveRow
 mod HiddenRow

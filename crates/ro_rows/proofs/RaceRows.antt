@@ -15,7 +15,7 @@ use Rattle.ro_plain.proofs.Calls.{some-injective}
 use Rattle.ro_plain.specs.Accesses.{accesses}
 use Rattle.ro_plain.specs.Order.{Unlocks, Locks, Makes, Joins, Exits, Nothing, sync_of, sync_at, accesses_at, HappensBefore, in_thread, by_mutex, by_creation, by_join, chain, RaceFree}
 use Rattle.ro_simulation.specs.Guests.{locking_guest}
-use Rattle.ro_rows.proofs.Explore.{explored-free, stays-in}
+use Rattle.ro_plain.proofs.Explore.{explored-free, stays-in}
 use Rattle.ro_rows.specs.Order.{syncs_from, bytes, none, calls_guest, calls_plan, racing_guest, racing_plan, created_guest, joined_guest, locked_guest, two_mutexes_guest, two_mutexes_plan, creations_plan, exits_plan}
 
 -- from a step that means nothing, the last of its thread, no step follows

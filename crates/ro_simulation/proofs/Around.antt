@@ -2,13 +2,8 @@
 use Rattle.std.specs.Prelude.{◌≡◌, ◌≢◌, ℕ, zero, suc, ◌+◌, ◌<◌, List, [], ◌∷◌, ◌++◌, replicate, Some, None, slice_get, slice_set}
 use Rattle.std.proofs.Common.{refl, sym, ap, ◌∙◌, arith, append_assoc}
 use Rattle.ro_thread.specs.declared.Thread.{Thread}
-use Rattle.ro_plain.proofs.Ahead.{Without}
+use Rattle.ro_plain.proofs.Ahead.{Without, Without-append}
 use Rattle.ro_legal.specs.Ideal.{ahead_from}
-
--- neither of two lists has the thread
-pub Without-append : (t : ℕ) (xs ys : List ℕ) → Without t xs → Without t ys → Without t (xs ++ ys)
-Without-append t [] ys h k = k
-Without-append t (x ∷ xs) ys h k = (h.0, Without-append t xs ys h.1 k)
 
 -- the steps of another thread are not the thread's
 pub Without-replicate : (t n x : ℕ) → x ≢ t → Without t (replicate n x)

@@ -25,7 +25,7 @@ use Rattle.ro_legal.specs.Legal.{any_below, is_stuck, MayEnd, due, alone, for_vo
 use Rattle.ro_legal.specs.Sound.{IsOver, exits, traps}
 use Rattle.ro_simulation.specs.Invariant.{TracksIdeal}
 use Rattle.ro_simulation.specs.Theorem.{EndsAs, TwoThreeOrFive}
-use Rattle.ro_simulation.proofs.Stays.{live-within}
+use Rattle.ro_plain.proofs.StaysAfter.{live-within}
 use Rattle.ro_legal.proofs.Lists.{get-within, all-from}
 use Rattle.ro_vote.proofs.Verdicts.{never-splits}
 use Rattle.ro_simulation.proofs.Kept.{going-from, none-lent}

@@ -27,7 +27,7 @@ use Rattle.ro_plain.proofs.Stays.{steppable-along}
 use Rattle.ro_legal.specs.Core.{Job}
 use Rattle.ro_legal.specs.Event.{quiet_effect}
 use Rattle.ro_simulation.specs.Invariant.{StopStands, Agrees}
-use Rattle.ro_simulation.proofs.Stays.{Stays, stays}
+use Rattle.ro_plain.proofs.StaysAfter.{Stays, stays}
 use Rattle.ro_simulation.proofs.Ahead.{KeepsRest, BackedRun-keeps, reach-run, TakenAfter, take-after, stays-along}
 use Rattle.ro_legal.proofs.Lists.{get-set-same, get-append-last}
 use Rattle.ro_legal.proofs.Served.{IsTidy}

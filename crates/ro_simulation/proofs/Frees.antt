@@ -22,7 +22,7 @@ use Rattle.ro_legal.specs.Event.{Event, call_event, core_after}
 use Rattle.ro_legal.specs.Legal.{freed_event, core_after_event, after, MayFree}
 use Rattle.ro_vote.specs.Numbers.{is_among}
 use Rattle.ro_simulation.specs.Invariant.{Agrees, StandsAtCall, TracksIdeal}
-use Rattle.ro_simulation.proofs.Stays.{live-within}
+use Rattle.ro_plain.proofs.StaysAfter.{live-within}
 use Rattle.ro_simulation.proofs.Ahead.{BackedRun-head, plain-executes}
 use Rattle.ro_legal.proofs.Lists.{get-within}
 use Rattle.ro_simulation.proofs.Views.{Comes, comes-by, none-left}

@@ -25,7 +25,7 @@ use Rattle.ro_legal.specs.Ideal.{ideal}
 use Rattle.ro_legal.specs.Sound.{IsSound}
 use Rattle.ro_vote.specs.Numbers.{is_among, AtMostHalf}
 use Rattle.ro_simulation.specs.Invariant.{Agrees, StandsAtCall, TracksIdeal}
-use Rattle.ro_simulation.proofs.Stays.{live-within}
+use Rattle.ro_plain.proofs.StaysAfter.{live-within}
 use Rattle.ro_simulation.proofs.Ahead.{KeepsRest, BackedRun-keeps, BackedRun-run}
 use Rattle.ro_legal.proofs.Lists.{MappedFrom, get-map, length-mapped}
 use Rattle.ro_legal.proofs.Effects.{backed_after, sound-applied}

@@ -30,7 +30,7 @@ use Rattle.ro_simulation.specs.Theorem.{Simulates, IsComplete, by_exit, by_trap,
 use Rattle.ro_simulation.proofs.Alike.{agrees-is-alike}
 use Rattle.ro_legal.proofs.Ordered.{put-parts, ordered}
 use Rattle.ro_legal.proofs.Sound.{HasFault}
-use Rattle.ro_simulation.proofs.Stays.{live-within}
+use Rattle.ro_plain.proofs.StaysAfter.{live-within}
 use Rattle.ro_simulation.proofs.Entries.{put-fault, put-going}
 use Rattle.ro_simulation.proofs.Ends.{never-differ}
 use Rattle.ro_simulation.proofs.Votes.{after-vote}

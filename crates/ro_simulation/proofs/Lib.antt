@@ -1,5 +1,3 @@
-pub mod Pages
-pub mod Stays
 pub mod Ahead
 pub mod Around
 pub mod Views

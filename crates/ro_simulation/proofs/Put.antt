@@ -17,7 +17,7 @@ use Rattle.ro_legal.specs.Core.{Job}
 use Rattle.ro_legal.specs.Legal.{arrival, arrived}
 use Rattle.ro_legal.specs.Ideal.{ahead}
 use Rattle.ro_simulation.specs.Invariant.{RunsAhead, StopStands, Agrees}
-use Rattle.ro_simulation.proofs.Stays.{Stays, stays}
+use Rattle.ro_plain.proofs.StaysAfter.{Stays, stays}
 use Rattle.ro_simulation.proofs.Ahead.{StepsBacked, backed-step, BackedRun-keeps, reach-run, push}
 use Rattle.ro_simulation.proofs.Views.{ahead-is, live-at-end}
 use Rattle.ro_legal.proofs.Lists.{get-set-same, get-set-cases, ChangedFrom, unchanged, changed_here, get-changed}

@@ -4,7 +4,7 @@ use Rattle.std.specs.Option.{option_and_then}
 use Rattle.std.proofs.Common.{refl, sym, ap, ◌∙◌, subst, arith, append-nil, length-append}
 use Rattle.std.proofs.lemmas.List.{length-set}
 use Rattle.ro_event.specs.declared.calls.Which.{Which}
-use Rattle.ro_event.specs.declared.calls.Which.TheVariants.{System, Create, Join, Exit, ThreadSelf, MutexInit, MutexDestroy, Lock, TryLock, Unlock}
+use Rattle.ro_event.specs.declared.calls.Which.TheVariants.{System}
 use Rattle.ro_event.specs.declared.calls.Call.{Call}
 use Rattle.ro_event.specs.declared.effects.Made.{Made}
 use Rattle.ro_event.specs.declared.stops.Stop.{Stop}
@@ -33,7 +33,7 @@ use Rattle.ro_replica.specs.Views.{payload_at}
 use Rattle.ro_legal.specs.Event.{Event, quiet_effect, call_event, event_of}
 use Rattle.ro_legal.specs.Sound.{IsOver, traps}
 use Rattle.ro_simulation.specs.Invariant.{StopStands, Agrees, StandsAtCall}
-use Rattle.ro_simulation.proofs.Stays.{Stays, stays}
+use Rattle.ro_plain.proofs.StaysAfter.{Stays, stays}
 use Rattle.ro_simulation.proofs.Ahead.{KeepsRest, BackedRun-keeps, reach-run, stays-along}
 use Rattle.ro_simulation.proofs.Around.{Without-replicate}
 use Rattle.ro_legal.proofs.Served.{made_count, Tidy, tidy_done, tidy_blocked, tidy_end, serve-tidy}
@@ -50,15 +50,7 @@ blocked-no-write setup kernel t call e = by call.which refl
   where
     by : (w : Which) → call.which ≡ w → is_write call.which ≡ false
     by (System number) f = absurd (never-blocked (subst IsServed e (system-served setup kernel t call number f)))
-    by Create f = ap is_write f
-    by Join f = ap is_write f
-    by Exit f = ap is_write f
-    by ThreadSelf f = ap is_write f
-    by MutexInit f = ap is_write f
-    by MutexDestroy f = ap is_write f
-    by Lock f = ap is_write f
-    by TryLock f = ap is_write f
-    by Unlock f = ap is_write f
+    by other f = ap is_write f
 
 -- The event, and the machine after it: a replica that agrees agrees with that machine.
 pub record EventStep (job : Job) (backed : Backed) (machine middle : Machine) (t : ℕ) (event : Event) (after : Machine) : Type 0 where

@@ -22,15 +22,15 @@ use Rattle.ro_plain.specs.Order.{RaceFree}
 use Rattle.ro_plain.proofs.Backed.{backed-is-plain}
 use Rattle.ro_plain.proofs.Calls.{some-injective, steppable-from}
 use Rattle.ro_plain.proofs.Stays.{steppable-along, payload-stays}
-use Rattle.ro_plain.proofs.Ahead.{Without}
+use Rattle.ro_plain.proofs.Ahead.{Without, Without-append}
 use Rattle.ro_legal.specs.Core.{Job}
 use Rattle.ro_replica.specs.Views.{payload_at, view_with, view_of}
 use Rattle.ro_legal.specs.Ideal.{ahead_from, ahead}
 use Rattle.ro_simulation.specs.Invariant.{RunsAhead, StopStands}
-use Rattle.ro_simulation.proofs.Stays.{Stays}
+use Rattle.ro_plain.proofs.StaysAfter.{Stays}
 use Rattle.ro_simulation.proofs.Ahead.{BackedParts, BackedRun-split, BackedRun-join, BackedHead, BackedRun-head, KeepsRest, BackedRun-keeps, reach-run, pull, stays-along}
 use Rattle.ro_legal.proofs.Lists.{set-same}
-use Rattle.ro_simulation.proofs.Around.{Around, around, Without-append}
+use Rattle.ro_simulation.proofs.Around.{Around, around}
 
 -- ---- the stop that stands
 

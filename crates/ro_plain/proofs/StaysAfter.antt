@@ -6,7 +6,7 @@ use Rattle.std.proofs.lemmas.Option.{slice_get_within, option_and_then_some}
 use Rattle.std.proofs.lemmas.Bool.{true≢false}
 use Rattle.ro_decode.specs.declared.Instr.{Instr}
 use Rattle.ro_event.specs.declared.calls.Which.{Which}
-use Rattle.ro_event.specs.declared.calls.Which.TheVariants.{System, Create, Join, Exit, ThreadSelf, MutexInit, MutexDestroy, Lock, TryLock, Unlock}
+use Rattle.ro_event.specs.declared.calls.Which.TheVariants.{System, Create, Join, Lock, TryLock, Unlock}
 use Rattle.ro_event.specs.declared.calls.Call.{Call}
 use Rattle.ro_event.specs.declared.stops.Stop.{Stop}
 use Rattle.ro_event.specs.declared.stops.Stop.TheVariants.{Calls, Trap, PageFault, Watchdog}
@@ -25,7 +25,7 @@ use Rattle.ro_plain.proofs.Calls.{some-injective, steppable-parts, Keeps, step_b
 use Rattle.ro_plain.proofs.Swap.{run-append, take-seam, slice_get-seam, slice_get-second, take-second, at-both}
 use Rattle.ro_plain.proofs.Exists.{HasStep, IsPassable, no_stop, a_trap, a_system_call, instruction-passable, fetched-step}
 use Rattle.ro_plain.proofs.Unordered.{happens-later}
-use Rattle.ro_simulation.proofs.Pages.{fetched-with-all}
+use Rattle.ro_plain.proofs.MorePages.{fetched-with-all}
 
 -- the stretch of an instruction that is read
 agree-fetched : (program : Program) (m n : Memory) (cpu : Cpu) (o : Option Stop) → o ≡ None → AgreeOn m n (cond (is_none o) (fetched cpu ∷ []) []) → AgreeOn m n (fetched cpu ∷ [])
@@ -67,16 +67,12 @@ fetched-nothing program machine t cpu (Some instr) = passable-nothing program ma
 
 -- a call that makes a thread makes the next one
 makes-by : (machine : Machine) (call : Call) (w : Which) (made : ℕ) → sync_by machine call w ≡ Makes made → made ≡ length machine.kernel.lives
-makes-by machine call (System n) made e = absurd (let f : Nothing ≡ Makes made = e in cc)
 makes-by machine call Create made e = let f : Makes (length machine.kernel.lives) ≡ Makes made = e in cc
 makes-by machine call Join made e = absurd (let f : Joins call.a0 ≡ Makes made = e in cc)
-makes-by machine call Exit made e = absurd (let f : Nothing ≡ Makes made = e in cc)
-makes-by machine call ThreadSelf made e = absurd (let f : Nothing ≡ Makes made = e in cc)
-makes-by machine call MutexInit made e = absurd (let f : Nothing ≡ Makes made = e in cc)
-makes-by machine call MutexDestroy made e = absurd (let f : Nothing ≡ Makes made = e in cc)
 makes-by machine call Lock made e = absurd (let f : Locks call.a0 ≡ Makes made = e in cc)
 makes-by machine call TryLock made e = absurd (let f : Locks call.a0 ≡ Makes made = e in cc)
 makes-by machine call Unlock made e = absurd (let f : Unlocks call.a0 ≡ Makes made = e in cc)
+makes-by machine call other made e = absurd (let f : Nothing ≡ Makes made = e in cc)
 
 -- through the tests
 makes-cond : (b c : Bool) (s : Sync) (made n : ℕ) → (s ≡ Makes made → made ≡ n) → cond b Exits (cond c s Nothing) ≡ Makes made → made ≡ n

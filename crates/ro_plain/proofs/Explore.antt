@@ -3,7 +3,7 @@ use Rattle.std.specs.Prelude.{◌≡◌, ◌≢◌, ℕ, zero, suc, ◌+◌, ◌
 use Rattle.std.specs.List.{list_any}
 use Rattle.std.specs.Option.{option_map_or, option_and_then}
 use Rattle.std.proofs.Common.{refl, sym, ap, ◌∙◌, subst, arith, inl, inr, ⊎_elim, append-nil, append_assoc, eq-eqb}
-use Rattle.std.proofs.lemmas.Bool.{true≢false, false≢true, leb-true, ltb-true, lt-ltb, and_parts, and_from, eqb-true}
+use Rattle.std.proofs.lemmas.Bool.{or_cases, or_left, or_right, true≢false, false≢true, leb-true, ltb-true, lt-ltb, and_parts, and_from, eqb-true}
 use Rattle.std.proofs.lemmas.Option.{option_and_then_some, slice_get_within}
 use Rattle.ro_pages.specs.Bytes.{Span, within}
 use Rattle.ro_plain.specs.Machine.{Program, Machine, opening, steppable, step, run, step_by, next_of}
@@ -11,9 +11,7 @@ use Rattle.ro_plain.specs.Accesses.{Accesses, no_access, accesses, touches, conf
 use Rattle.ro_plain.specs.Order.{Sync, Unlocks, Locks, Makes, Joins, Exits, Nothing, sync_of, machine_at, sync_at, accesses_at, HappensBefore, in_thread, by_mutex, by_creation, by_join, chain, RaceFree, at_place}
 use Rattle.ro_plain.proofs.Calls.{some-injective, steppable-parts, step-opens}
 use Rattle.ro_plain.proofs.Swap.{at-both}
-use Rattle.ro_legal.specs.Legal.{any_below}
-use Rattle.ro_legal.proofs.Lists.{get-within}
-use Rattle.ro_simulation.proofs.Entries.{or-cases, or-left, or-right}
+use Rattle.ro_plain.proofs.Places.{get-within}
 
 -- ---- an execution with what its steps mean and access
 
@@ -53,6 +51,11 @@ count-notes program (t ∷ threads) machine end e =
     ap suc (ap (λ (o : Option Machine). length (option_map_or (λ a. notes_from program a threads) o [])) g ∙ count-notes program threads after end h))
 
 -- ---- the order, as a test
+
+-- a number below this one passes
+abbrev pub any_below : ℕ → (ℕ → Bool) → Bool
+any_below zero test = false
+any_below (suc n) test = any_below n test || test n
 
 abbrev pub locks : ℕ → Sync → Bool
 locks mutex (Locks other) = mutex == other
@@ -130,7 +133,7 @@ all-of (suc n) test e i low =
 
 any-of : (n : ℕ) (test : ℕ → Bool) → any_below n test ≡ true → (k : ℕ) × (test k ≡ true)
 any-of zero test e = absurd (false≢true e)
-any-of (suc n) test e = ⊎_elim (λ (f : any_below n test ≡ true). any-of n test f) (λ (f : test n ≡ true). (n, f)) (or-cases (any_below n test) (test n) e)
+any-of (suc n) test e = ⊎_elim (λ (f : any_below n test ≡ true). any-of n test f) (λ (f : test n ≡ true). (n, f)) (or_cases (any_below n test) (test n) e)
 
 meet-at : (x y : Span) (byte : ℕ) → within x byte ≡ true → within y byte ≡ true → meet x y ≡ true
 meet-at x y byte e f =
@@ -145,31 +148,31 @@ meet-at x y byte e f =
 meets-one : (x : Span) (ys : List Span) (byte : ℕ) → within x byte ≡ true → touches ys byte ≡ true → list_any (meet x) ys ≡ true
 meets-one x [] byte e f = f
 meets-one x (y ∷ ys) byte e f =
-    ⊎_elim (λ (g : within y byte ≡ true). or-left (meet x y) (list_any (meet x) ys) (meet-at x y byte e g)) (λ (g : touches ys byte ≡ true). or-right (meet x y) (list_any (meet x) ys) (meets-one x ys byte e g))
-    (or-cases (within y byte) (touches ys byte) f)
+    ⊎_elim (λ (g : within y byte ≡ true). or_left (meet x y) (list_any (meet x) ys) (meet-at x y byte e g)) (λ (g : touches ys byte ≡ true). or_right (meet x y) (list_any (meet x) ys) (meets-one x ys byte e g))
+    (or_cases (within y byte) (touches ys byte) f)
 
 overlaps : (xs ys : List Span) (byte : ℕ) → touches xs byte ≡ true → touches ys byte ≡ true → overlap xs ys ≡ true
 overlaps [] ys byte e f = e
 overlaps (x ∷ xs) ys byte e f =
-    ⊎_elim (λ (g : within x byte ≡ true). or-left (list_any (meet x) ys) (overlap xs ys) (meets-one x ys byte g f)) (λ (g : touches xs byte ≡ true). or-right (list_any (meet x) ys) (overlap xs ys) (overlaps xs ys byte g f))
-    (or-cases (within x byte) (touches xs byte) e)
+    ⊎_elim (λ (g : within x byte ≡ true). or_left (list_any (meet x) ys) (overlap xs ys) (meets-one x ys byte g f)) (λ (g : touches xs byte ≡ true). or_right (list_any (meet x) ys) (overlap xs ys) (overlaps xs ys byte g f))
+    (or_cases (within x byte) (touches xs byte) e)
 
 conflicts : (a b : Accesses) (byte : ℕ) → conflict_at a b byte ≡ true → conflict a b ≡ true
-conflicts a b byte e = ⊎_elim first second (or-cases (touches a.writes byte && (touches b.reads byte || touches b.writes byte)) (touches a.reads byte && touches b.writes byte) e)
+conflicts a b byte e = ⊎_elim first second (or_cases (touches a.writes byte && (touches b.reads byte || touches b.writes byte)) (touches a.reads byte && touches b.writes byte) e)
   where
     first : (touches a.writes byte && (touches b.reads byte || touches b.writes byte)) ≡ true → conflict a b ≡ true
     first f =
         let p = and_parts (touches a.writes byte) (touches b.reads byte || touches b.writes byte) f in
-        or-left (overlap a.writes b.reads || overlap a.writes b.writes) (overlap a.reads b.writes)
+        or_left (overlap a.writes b.reads || overlap a.writes b.writes) (overlap a.reads b.writes)
         (⊎_elim
-        (λ (g : touches b.reads byte ≡ true). or-left (overlap a.writes b.reads) (overlap a.writes b.writes) (overlaps a.writes b.reads byte p.0 g))
-        (λ (g : touches b.writes byte ≡ true). or-right (overlap a.writes b.reads) (overlap a.writes b.writes) (overlaps a.writes b.writes byte p.0 g))
-        (or-cases (touches b.reads byte) (touches b.writes byte) p.1))
+        (λ (g : touches b.reads byte ≡ true). or_left (overlap a.writes b.reads) (overlap a.writes b.writes) (overlaps a.writes b.reads byte p.0 g))
+        (λ (g : touches b.writes byte ≡ true). or_right (overlap a.writes b.reads) (overlap a.writes b.writes) (overlaps a.writes b.writes byte p.0 g))
+        (or_cases (touches b.reads byte) (touches b.writes byte) p.1))
 
     second : (touches a.reads byte && touches b.writes byte) ≡ true → conflict a b ≡ true
     second f =
         let p = and_parts (touches a.reads byte) (touches b.writes byte) f in
-        or-right (overlap a.writes b.reads || overlap a.writes b.writes) (overlap a.reads b.writes) (overlaps a.reads b.writes byte p.0 p.1)
+        or_right (overlap a.writes b.reads || overlap a.writes b.writes) (overlap a.reads b.writes) (overlaps a.reads b.writes byte p.0 p.1)
 
 get-beyond : (xs : List ℕ) (place : ℕ) → length xs ≤ place → slice_get xs place ≡ None
 get-beyond [] place h = refl
@@ -224,7 +227,7 @@ module _ (program : Program) (threads : List ℕ) (end : Machine) (runs : run pr
       ⊎_elim
       (λ (h : (a.thread == b.thread) ≡ true). in_thread a.thread low (at i a e).there ((at j b f).there ∙ ap Some (sym (eqb-true a.thread b.thread h))))
       (λ (h : orders a.sync a.thread b.thread b.sync ≡ true). ordered-by i j a b low e f a.sync b.sync refl refl h)
-      (or-cases (a.thread == b.thread) (orders a.sync a.thread b.thread b.sync) g)
+      (or_cases (a.thread == b.thread) (orders a.sync a.thread b.thread b.sync) g)
 
   direct-is : (i j : ℕ) → direct notes i j ≡ true → HappensBefore program threads i j
   direct-is i j e =
@@ -237,7 +240,7 @@ module _ (program : Program) (threads : List ℕ) (end : Machine) (runs : run pr
       ⊎_elim (λ (f : direct notes i j ≡ true). direct-is i j f) (λ (f : any_below j (λ k. direct notes i k && before fuel notes k j) ≡ true).
       let k = any-of j (λ k. direct notes i k && before fuel notes k j) f in
       let p = and_parts (direct notes i k.0) (before fuel notes k.0 j) k.1 in chain (direct-is i k.0 p.0) (before-is fuel k.0 j p.1))
-      (or-cases (direct notes i j) (any_below j (λ k. direct notes i k && before fuel notes k j)) e)
+      (or_cases (direct notes i j) (any_below j (λ k. direct notes i k && before fuel notes k j)) e)
 
   pair-is : (i j byte : ℕ) → slice_get threads i ≢ slice_get threads j → conflict_at (accesses_at program threads i) (accesses_at program threads j) byte ≡ true → (a b : Note) → slice_get notes i ≡ Some a → slice_get notes j ≡ Some b → is_ordered notes i j (Some a) (Some b) ≡ true → HappensBefore program threads i j
   pair-is i j byte different conflicting a b e f g =
@@ -248,8 +251,8 @@ module _ (program : Program) (threads : List ℕ) (end : Machine) (runs : run pr
       let both : conflict_at a.accesses b.accesses byte ≡ true = subst (λ (y : Accesses). conflict_at a.accesses y byte ≡ true) (accesses-are j b f) (subst (λ (x : Accesses). conflict_at x (accesses_at program threads j) byte ≡ true) (accesses-are i a e) conflicting) in
       absurd (true≢false (sym k ∙ ap not (conflicts a.accesses b.accesses byte both))))
       (λ (k : before 6 notes i j ≡ true). before-is 6 i j k)
-      (or-cases (not (conflict a.accesses b.accesses)) (before 6 notes i j) h))
-      (or-cases (a.thread == b.thread) (not (conflict a.accesses b.accesses) || before 6 notes i j) g)
+      (or_cases (not (conflict a.accesses b.accesses)) (before 6 notes i j) h))
+      (or_cases (a.thread == b.thread) (not (conflict a.accesses b.accesses) || before 6 notes i j) g)
 
   all-is : all_ordered notes ≡ true → (i j byte : ℕ) → i < j → j < length threads → slice_get threads i ≢ slice_get threads j → conflict_at (accesses_at program threads i) (accesses_at program threads j) byte ≡ true → HappensBefore program threads i j
   all-is all i j byte low short different conflicting =
@@ -284,7 +287,7 @@ module _ (program : Program) (threads : List ℕ) (end : Machine) (runs : run pr
       let count = count-notes program threads (opening program) end runs in
       let g = all-of (length notes) (λ k. not (inside k && direct notes k j) || inside j) (all-of (length notes) (λ l. all_below (length notes) (λ k. not (inside k && direct notes k l) || inside l)) keeps j (omega arith)) i (omega arith) in
       ⊎_elim (λ (h : not (inside i && direct notes i j) ≡ true). absurd (true≢false (sym h ∙ ap not (and_from (inside i) (direct notes i j) e d)))) (λ (h : inside j ≡ true). h)
-      (or-cases (not (inside i && direct notes i j)) (inside j) g)
+      (or_cases (not (inside i && direct notes i j)) (inside j) g)
 
   -- what is after a place of the set is in it
   pub stays-in : (inside : ℕ → Bool) → keeps_in notes inside ≡ true → (i j : ℕ) → HappensBefore program threads i j → inside i ≡ true → inside j ≡ true
@@ -292,24 +295,24 @@ module _ (program : Program) (threads : List ℕ) (end : Machine) (runs : run pr
       let here = slice_get_within threads i thread e in
       let there = slice_get_within threads j thread f in
       step-in inside keeps i j here there (direct-by i j low here there (λ a b p q.
-      or-left (a.thread == b.thread) (orders a.sync a.thread b.thread b.sync) (eq-eqb a.thread b.thread (some-injective (sym (at i a p).there ∙ (e ∙ (sym f ∙ (at j b q).there))))))) g
+      or_left (a.thread == b.thread) (orders a.sync a.thread b.thread b.sync) (eq-eqb a.thread b.thread (some-injective (sym (at i a p).there ∙ (e ∙ (sym f ∙ (at j b q).there))))))) g
   stays-in inside keeps i j (by_mutex mutex low e f) g =
       let here = place-of (Unlocks mutex) i e (λ h. cc) in
       let there = place-of (Locks mutex) j f (λ h. cc) in
       step-in inside keeps i j here there (direct-by i j low here there (λ a b p q.
-      or-right (a.thread == b.thread) (orders a.sync a.thread b.thread b.sync)
+      or_right (a.thread == b.thread) (orders a.sync a.thread b.thread b.sync)
       (subst (λ (s : Sync). orders s a.thread b.thread b.sync ≡ true) (sym e ∙ sync-is i a p) (subst (λ (s : Sync). orders (Unlocks mutex) a.thread b.thread s ≡ true) (sym f ∙ sync-is j b q) (eq-eqb mutex mutex refl))))) g
   stays-in inside keeps i j (by_creation thread low e f) g =
       let here = place-of (Makes thread) i e (λ h. cc) in
       let there = slice_get_within threads j thread f in
       step-in inside keeps i j here there (direct-by i j low here there (λ a b p q.
-      or-right (a.thread == b.thread) (orders a.sync a.thread b.thread b.sync)
+      or_right (a.thread == b.thread) (orders a.sync a.thread b.thread b.sync)
       (subst (λ (s : Sync). orders s a.thread b.thread b.sync ≡ true) (sym e ∙ sync-is i a p) (eq-eqb thread b.thread (some-injective (sym f ∙ (at j b q).there)))))) g
   stays-in inside keeps i j (by_join thread low e f h) g =
       let here = slice_get_within threads i thread e in
       let there = place-of (Joins thread) j h (λ k. cc) in
       step-in inside keeps i j here there (direct-by i j low here there (λ a b p q.
-      or-right (a.thread == b.thread) (orders a.sync a.thread b.thread b.sync)
+      or_right (a.thread == b.thread) (orders a.sync a.thread b.thread b.sync)
       (subst (λ (s : Sync). orders s a.thread b.thread b.sync ≡ true) (sym f ∙ sync-is i a p) (subst (λ (s : Sync). orders Exits a.thread b.thread s ≡ true) (sym h ∙ sync-is j b q) (eq-eqb a.thread thread (some-injective (sym (at i a p).there ∙ e))))))) g
   stays-in inside keeps i k (chain {j = j} p q) g = stays-in inside keeps j k q (stays-in inside keeps i j p g)
 

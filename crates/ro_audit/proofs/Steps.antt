@@ -241,8 +241,8 @@ unfolding opening_core
 opening-is job = (refl, refl, refl)
 
 -- a core that was just opened, and nothing is lent
-pub opened : (job : Job) (core : CoreOf) (lent : List (Option LentOf)) (held : Option (List ℕ)) (failures : ℕ) → held ≡ Some [] → Opens job held failures core → InRange job.settings → length lent ≡ job.settings.drivers → ((driver : ℕ) → slice_index_or lent driver None ≡ None) → Follows core lent 0
-opened job core lent held failures none o range count vacant =
+pub opened : (job : Job) (core : CoreOf) (lent : List (Option LentOf)) (held : Option (List ℕ)) (failures sure : ℕ) → held ≡ Some [] → Opens job held failures sure core → InRange job.settings → length lent ≡ job.settings.drivers → ((driver : ℕ) → slice_index_or lent driver None ≡ None) → Follows core lent 0
+opened job core lent held failures sure none o range count vacant =
     let o-is = opening-is job in
     let at : core_at core ≡ opening_core job = ap (λ (j : Job). replay j core.journal) o.job_is ∙ ap (replay job) o.journal_is in
     record {

@@ -156,6 +156,7 @@ fn whole(follower: Follower) -> Audited
     } = follower;
     let steps = core.steps();
     let Finished {
+        image: _,
         how,
         views,
         journal: _,

@@ -141,6 +141,7 @@ impl Follower {
             copies: _,
         } = self;
         let Finished {
+            image: _,
             how: _,
             views: _,
             journal: _,

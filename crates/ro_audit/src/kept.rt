@@ -47,6 +47,8 @@ impl Sink for Kept {
 
     ghost failures = { λ k. k.failures };
 
+    ghost sure = { λ _. 0 };
+
     fn give(&mut self, piece: &[u8]) -> Result<usize, Failed> {
         match self.bytes.extend_from_slice(piece) {
             Ok(()) => Ok(piece.len()),

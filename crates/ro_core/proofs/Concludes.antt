@@ -41,8 +41,8 @@ module _ (f : Fields) (h : Holds f) (how : How) (going : is_going (state_in f) �
 pub ended-wrote : (old new : Run) (how : How) → WithAnySink (λ o n. Appends o n (End how)) old new → WithAnySink Quiet old new → LastWrote (fields_of new) (sent_in (fields_of old)) []
 unfolding after
 ended-wrote old new how appends quiet =
-    let a = appends None 0 in
-    let q = quiet None 0 in
+    let a = appends None 0 0 in
+    let q = quiet None 0 0 in
     record {
       few = omega arith;
       sent = q.sent ∙ sym (append-nil (sent_in (fields_of old)));

@@ -1,5 +1,5 @@
 -- Turns of the one driver.
-use Rattle.std.proofs.Common.{◌≡◌, ◌⊎◌, inl, inr, ℕ, true, true≢false, List, [], ◌∷◌, ◌++◌, Option, Some, None, refl, sym, ap, ◌∙◌, subst, arith, append_assoc, append-nil}
+use Rattle.std.proofs.Common.{◌≡◌, ◌⊎◌, inl, inr, ℕ, ◌+◌, ◌<◌, ◌≤◌, length, length-append, true, true≢false, List, [], ◌∷◌, ◌++◌, Option, Some, None, refl, sym, ap, ◌∙◌, subst, arith, append_assoc, append-nil}
 use Rattle.std.specs.Prelude.{IsSome, IfSome}
 use Rattle.std.proofs.lemmas.Bool.{false≢true}
 use Rattle.ro_io.specs.Outside.{Rose, more}
@@ -12,11 +12,12 @@ use Rattle.ro_legal.specs.declared.actions.Action.TheVariants.{Lend}
 use Rattle.ro_legal.specs.Core.{Job, Core, opening_core, is_going}
 use Rattle.ro_legal.specs.Legal.{IsAllowed, after, replay, replay_with}
 use Rattle.ro_legal.specs.Action.{next_action, IsNext}
-use Rattle.ro_core.specs.Seen.{CoreOf, state, sent, Appends, Quiet, Sends, Stays}
+use Rattle.ro_core.specs.Seen.{CoreOf, state, sent, offered, offered_by, Appends, Quiet, Sends, Stays}
 use Rattle.ro_legal.proofs.Journals.{LegalFrom-append, EachIsNext-append, replay_more}
 use Rattle.ro_core.proofs.Held.{with-leases}
 use Rattle.ro_legal.proofs.Nexts.{lend_is_next}
 use Rattle.ro_core.specs.Driven.{HasRun, IsDriven, IsHome, HasFailed, Goes}
+use Rattle.ro_core.proofs.Offered.{offers_more}
 use Rattle.ro_core.proofs.Outside.{rose_later, rose_before, more_more, more_none}
 
 -- ---- the state of a core whose sink has not failed
@@ -96,6 +97,19 @@ pub not_failed : (core : CoreOf) → core.failed ≡ None → outcome_of core.jo
 not_failed core calm none (inl some) = not_some core.failed calm some
 not_failed core calm none (inr ended) = let f : None ≡ Some (Sink ended.0) = sym none ∙ ended.1 in cc
 
+-- ---- how many bytes have left, and are offered
+
+same_length : (xs ys : List ℕ) → xs ≡ ys → length xs ≡ length ys
+same_length xs ys e = ap (λ (zs : List ℕ). length zs) e
+
+appends_offer : (old new : CoreOf) (entry : Entry) → Appends old new entry → length (offered old) ≤ length (offered new)
+appends_offer old new entry a =
+    (let same : length (offered new) ≡ length (offered_by old.job (old.journal ++ entry ∷ [])) = ap (λ (j : Job). length (offered_by j new.journal)) a.job ∙ ap (λ (js : List Entry). length (offered_by old.job js)) a.journal in
+    let more = offers_more old.job old.journal entry in
+    omega (arith, same, more))
+
+-- ---- one entry more, whether bytes leave or not
+
 -- nothing leaves, and the entry is no end by a failing sink, or one of a sink that had failed
 pub goes_quiet : (old new : CoreOf) (entry : Entry) → Appends old new entry → Quiet old new → ((taken : ℕ) → outcome_of (entry ∷ []) ≡ Some (Sink taken) → HasFailed old) → (HasFailed old → HasFailed new) → Goes old new
 goes_quiet old new entry a q sinks keeps = record {
@@ -110,6 +124,9 @@ goes_quiet old new entry a q sinks keeps = record {
   blames = λ failed. inl (by (failed_cases old new entry a failed));
   keeps = keeps;
   calm = λ unfailed. q.failures;
+  sure = λ unfailed. (let less = same_length (sent new) (sent old) q.sent in let left : new.sure ≡ old.sure = q.sure in omega (arith, less, left));
+  offers = appends_offer old new entry a;
+  full = λ failed. inl (by (failed_cases old new entry a failed));
 }
   where
     by : (IsSome new.failed) ⊎ (HasFailed old ⊎ ((taken : ℕ) × (outcome_of (entry ∷ []) ≡ Some (Sink taken)))) → HasFailed old
@@ -131,6 +148,9 @@ goes_sending old new entry bytes a s sinks unfailed = record {
   blames = λ failed. by (failed_cases old new entry a failed);
   keeps = λ failed. absurd (unfailed failed);
   calm = λ none. s.calm (none_is new.failed (λ some. none (inl some)));
+  sure = λ none. (let left = s.sure (none_is new.failed (λ some. none (inl some))) in let all = same_length (sent new) (sent old ++ bytes) s.sent in omega (arith, left, all, length-append (sent old) bytes));
+  offers = appends_offer old new entry a;
+  full = λ failed. fills (failed_cases old new entry a failed);
 }
   where
     rose : (o : Option ℕ) → IsSome o → IfSome o (λ taken. Rose old.failures new.failures) → Rose old.failures new.failures
@@ -141,6 +161,15 @@ goes_sending old new entry bytes a s sinks unfailed = record {
     by (inl some) = inr (rose new.failed some s.failed)
     by (inr (inl was)) = inl was
     by (inr (inr is)) = absurd (sinks is.0 is.1)
+
+    over : (o : Option ℕ) → IsSome o → IfSome o (λ taken. old.sure + length (sent old) < length (offered new)) → old.sure + length (sent old) < length (offered new)
+    over None h f = absurd (false≢true h)
+    over (Some taken) h f = f
+
+    fills : (IsSome new.failed) ⊎ (HasFailed old ⊎ ((taken : ℕ) × (outcome_of (entry ∷ []) ≡ Some (Sink taken)))) → HasFailed old ⊎ ((HasFailed old → ⊥) × (old.sure + length (sent old) < length (offered new)))
+    fills (inl some) = inr (unfailed, over new.failed some s.full)
+    fills (inr (inl was)) = inl was
+    fills (inr (inr is)) = absurd (sinks is.0 is.1)
 
 -- nothing happened
 pub goes_none : (core : CoreOf) → Goes core core
@@ -156,6 +185,9 @@ goes_none core = record {
   blames = λ failed. inl failed;
   keeps = λ failed. failed;
   calm = λ none. refl;
+  sure = λ none. omega arith;
+  offers = omega arith;
+  full = λ failed. inl failed;
 }
 
 both_empty : (xs ys : List Entry) → xs ++ ys ≡ [] → (xs ≡ []) × (ys ≡ [])
@@ -175,8 +207,19 @@ goes_on old mid new g h = record {
   blames = λ failed. by (h.blames failed);
   keeps = λ failed. h.keeps (g.keeps failed);
   calm = λ none. h.calm none ∙ g.calm (λ failed. none (h.keeps failed));
+  sure = λ none. (let one = g.sure (λ failed. none (h.keeps failed)) in let other = h.sure none in omega (arith, one, other));
+  offers = (let one = g.offers in let other = h.offers in omega (arith, one, other));
+  full = λ failed. fills (h.full failed);
 }
   where
+    filled : HasFailed old ⊎ ((HasFailed old → ⊥) × (old.sure + length (sent old) < length (offered mid))) → HasFailed old ⊎ ((HasFailed old → ⊥) × (old.sure + length (sent old) < length (offered new)))
+    filled (inl was) = inl was
+    filled (inr over) = inr (over.0, (let one = over.1 in let other = h.offers in omega (arith, one, other)))
+
+    fills : HasFailed mid ⊎ ((HasFailed mid → ⊥) × (mid.sure + length (sent mid) < length (offered new))) → HasFailed old ⊎ ((HasFailed old → ⊥) × (old.sure + length (sent old) < length (offered new)))
+    fills (inl was) = filled (g.full was)
+    fills (inr over) = inr ((λ failed. over.0 (g.keeps failed)), (let one = g.sure over.0 in let other = over.1 in omega (arith, one, other)))
+
     later : HasFailed old ⊎ Rose old.failures mid.failures → HasFailed old ⊎ Rose old.failures new.failures
     later (inl was) = inl was
     later (inr rose) = inr (rose_before old.failures mid.failures new.failures rose h.failures)
@@ -209,6 +252,9 @@ stays_goes old new s = record {
   blames = λ failed. inl (by failed);
   keeps = back;
   calm = λ none. s.failures;
+  sure = λ none. (let same = same_length (sent new) (sent old) (stays_sent old new s) in let left : new.sure ≡ old.sure = s.sure in omega (arith, same, left));
+  offers = (let same : length (offered new) ≡ length (offered old) = ap (λ (j : Job). length (offered_by j new.journal)) s.job ∙ ap (λ (js : List Entry). length (offered_by old.job js)) s.journal in omega (arith, same));
+  full = λ failed. inl (by failed);
 }
   where
     by : HasFailed new → HasFailed old

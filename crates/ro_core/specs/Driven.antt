@@ -1,5 +1,5 @@
 -- The core of a run that drivers drive.
-use Rattle.std.specs.Prelude.{◌≡◌, ◌⊎◌, ℕ, ◌≤◌, List, [], ◌∷◌, ◌++◌, Some, IsSome}
+use Rattle.std.specs.Prelude.{◌≡◌, ◌⊎◌, ℕ, ◌+◌, ◌<◌, ◌≤◌, List, [], ◌∷◌, ◌++◌, length, Some, IsSome}
 use Rattle.ro_io.specs.Outside.{Rose, more}
 use Rattle.ro_event.specs.Views.{View}
 use Rattle.ro_journal.specs.declared.How.{How}
@@ -12,7 +12,7 @@ use Rattle.ro_legal.specs.Jobs.{CanRun}
 use Rattle.ro_legal.specs.Core.{Job, opening_core, views_of}
 use Rattle.ro_legal.specs.Legal.{Legal, EndsVote, replay}
 use Rattle.ro_legal.specs.Action.{next_action, EachIsNext}
-use Rattle.ro_core.specs.Seen.{CoreOf, state, sent}
+use Rattle.ro_core.specs.Seen.{CoreOf, state, sent, offered}
 
 -- the journal is legal, and each entry of it came next
 pub record HasRun (job : Job) (journal : List Entry) : Type 0 where
@@ -32,12 +32,15 @@ abbrev pub HasFailed : CoreOf → Type 0
 HasFailed core = IsSome core.failed ⊎ ((taken : ℕ) × (outcome_of core.journal ≡ Some (Sink taken)))
 
 -- The core goes on: what it was opened with stays, its journal grows, what leaves is in the sink, where the sink fails its
--- count rises, and where it has not failed the count is as it was.
+-- count rises, at more bytes than it surely takes, and where it has not failed the count is as it was.
 pub record Goes (old new : CoreOf) : Type 0 where
   pub job : new.job ≡ old.job
   pub entries : List Entry
   pub journal : new.journal ≡ old.journal ++ entries
   pub still : entries ≡ [] → new.failures ≡ old.failures
+  pub sure : (HasFailed new → ⊥) → old.sure + length (sent old) ≤ new.sure + length (sent new)
+  pub offers : length (offered old) ≤ length (offered new)
+  pub full : HasFailed new → HasFailed old ⊎ ((HasFailed old → ⊥) × (old.sure + length (sent old) < length (offered new)))
   pub bytes : List ℕ
   pub sent : sent new ≡ sent old ++ bytes
   pub held : new.held ≡ more old.held bytes

@@ -107,6 +107,10 @@ pub record Holds (f : Fields) : Type 0 where
   pub failed_well : (bytes : ℕ) → f.due ≡ Some (Sink bytes) → (bytes < (core_in f).wrote) × (is_going (core_in f) ≡ true)
   pub room : length f.leases + one_end f.ended ≤ f.places
 
+-- while no end is due and none has come, the sink has never failed
+abbrev pub IsFresh : Fields → (failures : ℕ) → Type 0
+IsFresh f failures = f.due ≡ None → f.ended ≡ None → failures ≡ 0
+
 -- of a seat: whether its replica is there and the thread can be lent
 abbrev pub seat_unstopped : (thread : ℕ) → Option ReplicaOf → Bool
 seat_unstopped thread None = false

@@ -45,9 +45,9 @@ job_of r = (fields_of r).job
 abbrev pub state_of : Run → Core
 state_of r = state_in (fields_of r)
 
--- the core of a run and a sink that holds and counts this
-abbrev pub core_of : Fields → (held : Option (List ℕ)) → (failures : ℕ) → CoreOf
-core_of f held failures = record {
+-- the core of a run and a sink that holds and counts this, and surely takes so many bytes
+abbrev pub core_of : Fields → (held : Option (List ℕ)) → (failures sure : ℕ) → CoreOf
+core_of f held failures sure = record {
   job = f.job;
   journal = f.journal;
   failed = failed_of f.due;
@@ -55,14 +55,19 @@ core_of f held failures = record {
   views = f.views;
   held = held;
   failures = failures;
+  sure = sure;
 }
 
 abbrev pub silent : Run → CoreOf
-silent r = core_of (fields_of r) None 0
+silent r = core_of (fields_of r) None 0 0
 
 -- a relation of cores, whatever their sink, which stays as it is
 abbrev pub WithAnySink : (CoreOf → CoreOf → Type 0) → (old new : Run) → Type 0
-WithAnySink R old new = (held : Option (List ℕ)) (failures : ℕ) → R (core_of (fields_of old) held failures) (core_of (fields_of new) held failures)
+WithAnySink R old new = (held : Option (List ℕ)) (failures sure : ℕ) → R (core_of (fields_of old) held failures sure) (core_of (fields_of new) held failures sure)
+
+-- whether an end is due or has come stays as it is
+abbrev pub SameEnds : (old new : Run) → Type 0
+SameEnds old new = (new.due ≡ old.due) × (new.ended ≡ old.ended)
 
 -- the bytes that have left
 abbrev pub sent_in : Fields → List ℕ

@@ -15,7 +15,7 @@ use Rattle.ro_legal.specs.Core.{Job, Core, may_vote, views_of, lease_of}
 use Rattle.ro_legal.specs.Legal.{IsAllowed, EndsVote, after, replay, replay_with, cut_output, output_of}
 
 -- what a core was opened with; its journal; of a failing sink how many bytes of the last write it took; for how many
--- entries there is room; the views of the last vote; and what its sink holds and counts
+-- entries there is room; the views of the last vote; what its sink holds and counts, and how many more bytes it surely takes
 pub record CoreOf : Type 0 where
   pub job : Job
   pub journal : List Entry
@@ -24,6 +24,7 @@ pub record CoreOf : Type 0 where
   pub views : List View
   pub held : Option (List ℕ)
   pub failures : ℕ
+  pub sure : ℕ
 
 -- the core that the journal leaves, with the end that a failing sink makes due
 abbrev pub state : CoreOf → Core
@@ -37,13 +38,27 @@ sent_of job journal (Some bytes) = cut_output (replay job journal) (Sink bytes)
 abbrev pub sent : CoreOf → List ℕ
 sent core = sent_of core.job core.journal core.failed
 
+-- the entries before its end, if it has one
+abbrev pub before_end : List Entry → List Entry
+before_end [] = []
+before_end (End how ∷ entries) = []
+before_end (entry ∷ entries) = entry ∷ before_end entries
+
+-- the bytes of all writes, whole, also of that at which a sink failed
+abbrev pub offered_by : Job → List Entry → List ℕ
+offered_by job journal = output_of job (before_end journal)
+
+abbrev pub offered : CoreOf → List ℕ
+offered core = offered_by core.job core.journal
+
 -- a core that was just opened
-pub record Opens (job : Job) (held : Option (List ℕ)) (failures : ℕ) (core : CoreOf) : Type 0 where
+pub record Opens (job : Job) (held : Option (List ℕ)) (failures sure : ℕ) (core : CoreOf) : Type 0 where
   pub job_is : core.job ≡ job
   pub journal_is : core.journal ≡ []
   pub failed_is : core.failed ≡ None
   pub held_is : core.held ≡ held
   pub failures_is : core.failures ≡ failures
+  pub sure_is : core.sure ≡ sure
 
 -- one entry more
 pub record Appends (old new : CoreOf) (entry : Entry) : Type 0 where
@@ -56,9 +71,12 @@ pub record Quiet (old new : CoreOf) : Type 0 where
   pub sent : sent new ≡ sent old
   pub held : new.held ≡ old.held
   pub failures : new.failures ≡ old.failures
+  pub sure : new.sure ≡ old.sure
 
--- these bytes leave; where not all could, the sink failed, and it failed only there
+-- These bytes leave; where not all could, the sink failed, at more bytes than it surely takes, and it failed only there.
 pub record Sends (old new : CoreOf) (bytes : List ℕ) : Type 0 where
+  pub sure : new.failed ≡ None → old.sure ≤ new.sure + length bytes
+  pub full : IfSome new.failed (λ taken. old.sure + length (sent old) < length (offered new))
   pub sent : sent new ≡ sent old ++ bytes
   pub held : new.held ≡ more old.held bytes
   pub failures : old.failures ≤ new.failures
@@ -79,6 +97,7 @@ pub record Stays (old new : CoreOf) : Type 0 where
   pub failed : new.failed ≡ old.failed
   pub held : new.held ≡ old.held
   pub failures : new.failures ≡ old.failures
+  pub sure : new.sure ≡ old.sure
 
 -- room for a take, its put, the puts of the leases that are out, and the end
 abbrev pub HasRoom : CoreOf → Type 0

@@ -7,7 +7,7 @@ ghost use Rattle.ro_legal.specs.Core.{is_going, is_home, is_lendable, may_vote, 
 ghost use Rattle.ro_legal.specs.Legal.{MayTake, EndsVote, EndsFree};
 ghost use Rattle.ro_core.specs.Seen.{state, sent, Stays};
 ghost use Rattle.ro_core.specs.Fields.{failed_of, Holds};
-ghost use Rattle.ro_core.specs.Runs.{fields_of, job_of, state_of, sent_in, IsHeld, WithAnySink};
+ghost use Rattle.ro_core.specs.Runs.{fields_of, job_of, state_of, sent_in, IsHeld, SameEnds, WithAnySink};
 
 use crate::cores::Core;
 use crate::events::Coming;
@@ -137,6 +137,7 @@ impl Run {
         ensures holds { Holds (fields_of self.new) }
         ensures stays { WithAnySink Stays self.old self.new }
         ensures end { (how : HowSeen) → (result ≡ Some how) ↔ EndsVote (job_of self.old) (state_of self.old) thread how }
+        ensures ends { SameEnds self.old self.new }
     {
         self.seats.show(thread, self.views.as_mut_slice());
         match verdict(self.views.as_slice()) {

@@ -32,18 +32,20 @@ pub struct Core<K: Sink> {
 
 impl<K: Sink> Model for Core<K> {
     ghost use Rattle.ro_core.specs.Seen.{CoreOf};
-    ghost use Rattle.ro_core.specs.Fields.{Holds};
+    ghost use Rattle.ro_core.specs.Fields.{Holds, IsFresh};
     ghost use Rattle.ro_core.specs.Runs.{fields_of, core_of};
 
     ghost Value = { CoreOf };
 
-    ghost view = { λ c. core_of (fields_of c.run) (K.held c.out) (K.failures c.out) };
+    ghost view = { λ c. core_of (fields_of c.run) (K.held c.out) (K.failures c.out) (K.sure c.out) };
 
-    ghost invariant = { λ c. Holds (fields_of c.run) };
+    ghost invariant = { λ c. Holds (fields_of c.run) × IsFresh (fields_of c.run) (K.failures c.out) };
 }
 
 /// What a core leaves behind.
 pub struct Finished<K> {
+    /// The image with which it was opened.
+    pub image: Executable,
     /// How the run ended, if it did.
     pub how: Option<How>,
     /// Where it ended by a vote of views that had no majority, those views in the order of the replicas.
@@ -61,7 +63,7 @@ pub struct Refused<K> {
 }
 
 impl<K: Sink> Core<K> {
-    /// Opens a core for the program of an image, an input and faults to be struck.
+    /// Opens a core for the program of an image, an input and faults to be struck, over a sink that has not failed.
     ///
     /// # Errors
     /// Where there is no memory; the image and the sink come back.
@@ -75,7 +77,8 @@ impl<K: Sink> Core<K> {
     ) -> Result<Core<K>, Refused<K>>
         requires settings { InRange settings }
         requires faults { AreFaults faults.now }
-        ensures opens { IfOk result (λ c. Opens (record { program = record { image = image; input = input.now }; faults = faults.now; settings = settings }) (K.held out) (K.failures out) c) }
+        requires unfailed { K.failures out ≡ 0 }
+        ensures opens { IfOk result (λ c. Opens (record { program = record { image = image; input = input.now }; faults = faults.now; settings = settings }) (K.held out) (K.failures out) (K.sure out) c) }
         ensures back { IfErr result (λ r. (r.image ≡ image) × (r.out ≡ out)) }
     {
         match Run::begin(alloc, image, input, faults, settings) {
@@ -166,8 +169,9 @@ impl<K: Sink> Core<K> {
         self.run.end(how);
     }
 
-    /// Hands out how the run ended, if it did, the views of a vote that came to nothing, the journal and the sink.
+    /// Hands out the image, how the run ended, if it did, the views of a vote that came to nothing, the journal and the sink.
     pub fn finish(self) -> Finished<K>
+        ensures image { result.image ≡ self.job.program.image }
         ensures how { result.how ≡ outcome_of self.journal }
         ensures views { KeepsViews self.job self.journal result.views.items }
         ensures kept { (outcome_of self.journal ≡ Some Differ) ⊎ (outcome_of self.journal ≡ Some NoMajority) → result.views.items ≡ self.views }
@@ -180,7 +184,7 @@ impl<K: Sink> Core<K> {
     {
         let Core { run, out } = self;
         let Run {
-            image: _,
+            image,
             faults: _,
             settings: _,
             journal,
@@ -196,6 +200,7 @@ impl<K: Sink> Core<K> {
             alloc,
         } = run;
         Finished {
+            image,
             how: ended,
             views: kept_views(alloc, ended, views),
             journal,

@@ -5,7 +5,7 @@ ghost use Rattle.ro_journal.specs.declared.Entry.TheVariants.{Take};
 ghost use Rattle.ro_legal.specs.Legal.{IsAllowed, is_lease};
 ghost use Rattle.ro_core.specs.Seen.{Appends, Quiet, Stays, HasRoom, IsLent, MayReturn, ReturnIs};
 ghost use Rattle.ro_core.specs.Fields.{Holds};
-ghost use Rattle.ro_core.specs.Runs.{fields_of, job_of, state_of, silent, WithAnySink};
+ghost use Rattle.ro_core.specs.Runs.{fields_of, job_of, state_of, silent, SameEnds, WithAnySink};
 
 use crate::runs::Run;
 use ro_journal::Entry;
@@ -23,6 +23,7 @@ impl Run {
         ensures holds { Holds (fields_of self.new) }
         ensures stays { WithAnySink Stays self.old self.new }
         ensures room { OnOk result (HasRoom (silent self.new)) }
+        ensures ends { SameEnds self.old self.new }
     {
         self.leases.reserve(1)?;
         self.journal.reserve(self.leases.len() + 3)
@@ -37,6 +38,7 @@ impl Run {
         ensures entry { WithAnySink (λ old new. Appends old new (Take driver replica thread)) self.old self.new }
         ensures quiet { WithAnySink Quiet self.old self.new }
         ensures lent { IsLent (silent self.old) replica thread result }
+        ensures ends { SameEnds self.old self.new }
     {
         self.journal.push_reserved(Entry::Take {
             driver,
@@ -61,6 +63,7 @@ impl Run {
         ensures holds { Holds (fields_of self.new) }
         ensures entry { WithAnySink (λ old new. ReturnIs old new driver ran.count ran.hit) self.old self.new }
         ensures quiet { WithAnySink Quiet self.old self.new }
+        ensures ends { SameEnds self.old self.new }
     {
         let Some(lease) = lease_of(self.leases.as_slice(), driver) else {
             unreachable!()

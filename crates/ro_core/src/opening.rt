@@ -47,7 +47,7 @@ impl Run {
         requires settings { InRange settings }
         requires faults { AreFaults faults.now }
         ensures holds { IfOk result (λ run. Holds (fields_of run)) }
-        ensures opens { IfOk result (λ run. (held : Option (List ℕ)) (count : ℕ) → Opens (record { program = record { image = image; input = input.now }; faults = faults.now; settings = settings }) held count (core_of (fields_of run) held count)) }
+        ensures opens { IfOk result (λ run. (held : Option (List ℕ)) (count sure : ℕ) → Opens (record { program = record { image = image; input = input.now }; faults = faults.now; settings = settings }) held count sure (core_of (fields_of run) held count sure)) }
         ensures back { IfErr result (λ given. given ≡ image) }
     {
         match Opening::new(alloc, &image, input, faults, settings) {

@@ -1,5 +1,5 @@
 //! The run of a core: all that a core is but its sink.
-ghost use Rattle.std.specs.Prelude.{◌≡◌, ◌≢◌, ◌++◌, ◌∷◌, [], ℕ, true};
+ghost use Rattle.std.specs.Prelude.{◌≡◌, ◌≢◌, ◌++◌, ◌∷◌, [], ℕ, Some, true};
 ghost use Rattle.ro_journal.specs.declared.How.TheVariants.{Sink as BySink};
 ghost use Rattle.ro_journal.specs.declared.Entry.TheVariants.{End};
 ghost use Rattle.ro_legal.specs.declared.actions.Action.TheVariants as act;
@@ -54,6 +54,7 @@ impl Run {
         ensures allowed { IsAllowed (job_of self.old) (replay (job_of self.old) self.old.journal.items) (End how) × IsNext (job_of self.old) (replay (job_of self.old) self.old.journal.items) (End how) }
         ensures appends { WithAnySink (λ old new. Appends old new (End how)) self.old self.new }
         ensures quiet { WithAnySink Quiet self.old self.new }
+        ensures ended { self.new.ended ≡ Some how }
     {
         self.journal.push_reserved(Entry::End { how });
         self.due = None;

@@ -1,7 +1,7 @@
 //! Drivers: each takes turns at a post until all is over.
 #![tactic(auto)]
 
-ghost use Rattle.std.specs.Prelude.{◌≡◌, ℕ, ◌<◌, ◌≤◌, length, All, IsSome, IfSome, OnOk, slice_index_or, slice_index};
+ghost use Rattle.std.specs.Prelude.{◌≡◌, ℕ, ◌<◌, ◌≤◌, length, All, IsSome, IfSome, OnErr, OnOk, slice_index_or, slice_index};
 ghost use Rattle.ro_drive.specs.Drives.{IsReady, IsDriven, Drove};
 
 use ro_io::Gate;
@@ -12,6 +12,9 @@ use std::thread;
 use std::thread::Threads;
 
 /// Takes turns until all is over. A lease passes the gate and runs with no lock held.
+///
+/// # Errors
+/// Where memory was wanting at a turn.
 pub fn drive<R: Wait, P: Post, G: Gate>(
     rt: &R,
     post: &P,
@@ -22,13 +25,15 @@ pub fn drive<R: Wait, P: Post, G: Gate>(
     ensures same { P.is_ours post.now pass.new × (P.number pass.new ≡ P.number pass.old) }
     ensures rest { P.at_rest pass.new }
     ensures over { OnOk result (P.is_over pass.new) }
+    ensures wants { OnErr result (P.wants pass.new) }
 {
     for _ in rt.forever() {
         match post.turn(rt, pass) {
             Ok(Turn::Leased(lease)) => {
                 let (driver, replica, thread) = P::place(&lease);
-                gate.pass(rt, driver, replica, thread);
-                let back = P::run(lease);
+                let passed = gate.pass(rt, driver, replica, thread);
+                let back = P::run::<G>(lease, &passed);
+                gate.leave(passed);
                 post.give_back(rt, pass, back);
             }
             Ok(Turn::Did) => {}
@@ -42,8 +47,8 @@ pub fn drive<R: Wait, P: Post, G: Gate>(
 
 // Drives one driver, and leaves its answer.
 fn drive_one<R: Wait, P: Post, G: Gate>(rt: &R, post: &P, driver: &mut Driver<P::Pass>, gate: &G)
-    requires { IsReady P.is_ours P.number P.at_rest P.is_over post.now driver.old }
-    ensures { Drove P.is_ours P.number P.at_rest P.is_over post.now driver.old driver.new }
+    requires { IsReady P.is_ours P.number P.at_rest P.is_over P.wants post.now driver.old }
+    ensures { Drove P.is_ours P.number P.at_rest P.is_over P.wants post.now driver.old driver.new }
 {
     let answer = drive(rt, post, &mut driver.pass, gate);
     driver.outcome = Some(answer);
@@ -56,8 +61,8 @@ pub fn drive_all<R: Threads + Wait + Sync, P: Post<Pass: Send> + Sync, G: Gate +
     drivers: &mut [Driver<P::Pass>],
     gate: &G,
 )
-    requires { All (IsReady P.is_ours P.number P.at_rest P.is_over post.now) drivers.old }
-    ensures { IsDriven P.is_ours P.number P.at_rest P.is_over post.now drivers.old drivers.new }
+    requires { All (IsReady P.is_ours P.number P.at_rest P.is_over P.wants post.now) drivers.old }
+    ensures { IsDriven P.is_ours P.number P.at_rest P.is_over P.wants post.now drivers.old drivers.new }
 {
     let count = drivers.len();
     if count == 0 {
@@ -68,8 +73,8 @@ pub fn drive_all<R: Threads + Wait + Sync, P: Post<Pass: Send> + Sync, G: Gate +
         drivers,
         count,
         &|_, driver: &mut Driver<P::Pass>|
-            requires { IsReady P.is_ours P.number P.at_rest P.is_over post.now driver.old }
-            ensures { Drove P.is_ours P.number P.at_rest P.is_over post.entry.now driver.old driver.new }
+            requires { IsReady P.is_ours P.number P.at_rest P.is_over P.wants post.now driver.old }
+            ensures { Drove P.is_ours P.number P.at_rest P.is_over P.wants post.entry.now driver.old driver.new }
         { drive_one(rt, post, driver, gate) },
     );
 }

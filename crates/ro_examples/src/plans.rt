@@ -1,4 +1,6 @@
 //! Plans of small guests.
+ghost use Rattle.std.specs.Prelude.{◌≡◌};
+
 use ro_image::{Executable, read_executable};
 use ro_io::{Act, MemSink};
 use ro_journal::{Did, Entry, How, Lost};
@@ -6,6 +8,7 @@ use ro_machine::{MOST_STEPS, Plain, PlainEnd, PlanErr, StepErr, TooLong, plan_st
 use ro_make::{bench_image, image_bytes};
 use std::alloc::{AllocError, Global};
 use std::process::Abort;
+use std::sync::Arc;
 use std::test::Fail;
 
 // Ends with the status 7.
@@ -110,11 +113,16 @@ fn run(
     image: Executable,
     journal: &[Entry],
     out: &mut MemSink,
-) -> Result<PlainEnd, PlanErr> {
+) -> Result<PlainEnd, PlanErr>
+    requires { out.old.failures ≡ 0 }
+{
     let Ok(_) = plan_steps(journal) else {
         panic!(rt; "it is short");
     };
-    run_plan(alloc, image, &[], journal, out)
+    let Ok(image) = Arc::new(alloc, image) else {
+        return Err(PlanErr::NoMemory);
+    };
+    run_plan(alloc, &image, &[], journal, out)
 }
 
 #[test]
@@ -184,10 +192,8 @@ fn written_in_turns(
     alloc: Global,
     image: Executable,
 ) -> Result<Vec<u8>, AllocError> {
-    let mut plain = match Plain::begin(alloc, image, &[]) {
-        Ok(plain) => plain,
-        Err(error) => return Err(error),
-    };
+    let image = Arc::new(alloc, image)?;
+    let mut plain = Plain::begin(alloc, &image, &[])?;
     let mut text = Vec::new(alloc);
     for _ in 0..100_000 {
         for thread in 0..plain.made() {

@@ -6,6 +6,7 @@ use ro_make::image_bytes;
 use ro_races::{Found, RacesErr, check};
 use std::alloc::{AllocError, Global};
 use std::process::Abort;
+use std::sync::Arc;
 use std::test::Fail;
 
 // Two threads that store to one page, side by side; thread 0 joins the other at the end.
@@ -249,8 +250,8 @@ fn run(
     let Ok(_) = plan_steps(journal) else {
         panic!(rt; "it is short");
     };
-    let image = image(rt, alloc, words, names)?;
-    Ok(check(alloc, image, b"x", journal))
+    let image = Arc::new(alloc, image(rt, alloc, words, names)?)?;
+    Ok(check(alloc, &image, b"x", journal))
 }
 
 #[test]

@@ -1,5 +1,5 @@
 -- A sink over memory.
-use Rattle.std.specs.Prelude.{ℕ, ◌+◌, List, [], ◌∷◌, ◌++◌, length, take, drop, min, max, nat_le, if◌then◌else◌, Option, Some, None}
+use Rattle.std.specs.Prelude.{ℕ, ◌+◌, ◌-◌, List, [], ◌∷◌, ◌++◌, length, take, drop, min, max, nat_le, if◌then◌else◌, Option, Some, None}
 use Rattle.ro_io.specs.Outside.{risen}
 use Rattle.ro_io.specs.declared.mem_sink.Act.{Act}
 use Rattle.ro_io.specs.declared.mem_sink.Act.TheVariants.{Take, Fail}
@@ -10,6 +10,11 @@ pub record SinkState : Type 0 where
   pub room : ℕ
   pub acts : List Act
   pub failures : ℕ
+
+-- how many more bytes a sink surely takes that has so many of its room: none while it has acts to come
+abbrev pub room_left : List Act → (room used : ℕ) → ℕ
+room_left [] room used = room - used
+room_left (act ∷ acts) room used = 0
 
 -- how many bytes of so many the next act takes, if any: all where no act is left
 abbrev pub portion_of : List Act → (size : ℕ) → Option ℕ

@@ -14,7 +14,7 @@ mod sinks;
 mod stores;
 
 pub use file_store::FileStore;
-pub use gates::{Gate, OpenGate};
+pub use gates::{Gate, OpenGate, Place};
 pub use mem_sink::{Act, MemSink};
 pub use mem_store::MemStore;
 pub use out_sink::OutSink;

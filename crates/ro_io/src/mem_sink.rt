@@ -2,7 +2,7 @@
 ghost use Rattle.std.specs.Prelude.{◌≡◌, ◌+◌, ◌<◌, ◌≤◌, ◌++◌, [], Some, drop, length, take, IfOk, OnErr, IfSome, vec_len, vec_capacity};
 ghost use Rattle.std.specs.Result.{result_ok};
 ghost use Rattle.ro_io.specs.Outside.{Rose};
-ghost use Rattle.ro_io.specs.MemSink.{portion_of, taken_of, after_piece};
+ghost use Rattle.ro_io.specs.MemSink.{portion_of, room_left, taken_of, after_piece};
 
 use crate::sinks::{Failed, Sink};
 use std::alloc::{AllocError, Global};
@@ -74,6 +74,8 @@ impl Sink for MemSink {
 
     ghost failures = { λ s. s.failures };
 
+    ghost sure = { λ s. room_left s.acts s.room (length s.bytes) };
+
     fn give(&mut self, piece: &[u8]) -> Result<usize, Failed>
         requires { 0 < length piece.now }
         ensures count { IfOk result (λ n. (0 < n) × (n ≤ length piece.now)) }
@@ -82,6 +84,8 @@ impl Sink for MemSink {
         ensures cause { OnErr result (Rose self.old.failures self.new.failures) }
         ensures calm { IfOk result (λ _. self.new.failures ≡ self.old.failures) }
         ensures failures { self.old.failures ≤ self.new.failures }
+        ensures sure { IfOk result (λ n. room_left self.old.acts self.old.room (length self.old.bytes) ≤ room_left self.new.acts self.new.room (length self.new.bytes) + n) }
+        ensures full { OnErr result (room_left self.old.acts self.old.room (length self.old.bytes) < length piece.now) }
 
         // Which answer comes, and all that it changes.
         ensures answer { result_ok result ≡ taken_of self.old piece.now }

@@ -1,5 +1,5 @@
 //! A store over memory.
-ghost use Rattle.std.specs.Prelude.{◌≡◌, ◌≤◌, ◌↔◌, ◌++◌, true, List, [], ◌∷◌, Some, None, nat_eq, find, length, take, IfOk, IfSome, OnOk, OnErr, IsErrOf, IfErr};
+ghost use Rattle.std.specs.Prelude.{◌≡◌, ◌≤◌, ◌↔◌, ◌++◌, true, List, [], ◌∷◌, Some, None, nat_eq, find, length, take, IfOk, IfSome, OnOk, OnErr, IsErr, IsErrOf, IfErr, IsSome};
 ghost use Rattle.std.specs.Option.{option_copied};
 ghost use Rattle.std.specs.Cmp.Lexicographic.{pointwise};
 ghost use Rattle.ro_io.specs.Outside.{Asks, Call, Rose, IsFront, risen, unfailed};
@@ -56,15 +56,23 @@ impl Noted {
         Noted(Some(Vec::new(alloc)))
     }
 
-    // Notes one more.
-    fn note(&mut self, alloc: Global, name: &str, failed: bool)
-        ensures { IfSome self.new (λ all. (earlier : List Call) × (self.old ≡ Some earlier) × (all ≡ earlier ++ record { name = name.now; failed = failed } ∷ [])) }
+    // Notes one more, if the calls before are noted.
+    //
+    // # Errors
+    // Where there is no memory for it. No call is noted any more then.
+    fn note(&mut self, alloc: Global, name: &str, failed: bool) -> Result<(), AllocError>
+        ensures told { IfSome self.new (λ all. (earlier : List Call) × (self.old ≡ Some earlier) × (all ≡ earlier ++ record { name = name.now; failed = failed } ∷ [])) }
+        ensures lasts { OnOk result (IsSome self.old → IsSome self.new) }
+        ensures ceases { OnErr result (self.new ≡ None) }
     {
-        if let Some(calls) = &mut self.0 {
-            if push_call(alloc, calls, name, failed).is_err() {
-                self.0 = None;
-            }
+        let Some(calls) = &mut self.0 else {
+            return Ok(());
+        };
+        if let Err(error) = push_call(alloc, calls, name, failed) {
+            self.0 = None;
+            return Err(error);
         }
+        Ok(())
     }
 }
 
@@ -192,12 +200,34 @@ impl MemStore {
     }
 
     // Counts a call, and notes it.
-    fn count(&mut self, name: &str, failed: bool)
+    //
+    // # Errors
+    // Where there is no memory to note it. It is counted all the same.
+    fn count(&mut self, name: &str, failed: bool) -> Result<(), AllocError>
         ensures after { self.new ≡ record self.old { calls = risen self.old.calls; noted = self.new.noted } }
         ensures noted { IfSome self.new.noted (λ all. (earlier : List Call) × (self.old.noted ≡ Some earlier) × (all ≡ earlier ++ record { name = name.now; failed = failed } ∷ [])) }
+        ensures lasts { OnOk result (IsSome self.old.noted → IsSome self.new.noted) }
+        ensures ceases { OnErr result (self.new.noted ≡ None) }
     {
         self.calls = self.calls.saturating_add(1);
-        self.noted.note(self.alloc, name, failed);
+        self.noted.note(self.alloc, name, failed)
+    }
+
+    // Counts a call that fails, and its failure, where it can be noted.
+    fn fail(&mut self, name: &str) -> Result<Vec<u8>, FetchError>
+        ensures refused { IsErr result }
+        ensures after { IsErrOf result FetchError.Failed → self.new ≡ record self.old { calls = risen self.old.calls; failures = risen self.old.failures; noted = self.new.noted } }
+        ensures wanting { IsErrOf result FetchError.NoMemory → self.new ≡ record self.old { calls = risen self.old.calls; noted = self.new.noted } }
+        ensures noted { IfSome self.new.noted (λ all. (earlier : List Call) × (self.old.noted ≡ Some earlier) × (all ≡ earlier ++ record { name = name.now; failed = true } ∷ [])) }
+        ensures lasts { IsErrOf result FetchError.Failed → IsSome self.old.noted → IsSome self.new.noted }
+        ensures silent { IsErrOf result FetchError.NoMemory → self.new.noted ≡ None }
+        ensures failures { self.old.failures ≤ self.new.failures }
+    {
+        if self.count(name, true).is_err() {
+            return Err(FetchError::NoMemory);
+        }
+        self.failures = self.failures.saturating_add(1);
+        Err(FetchError::Failed)
     }
 
     // What the next call fetches, if it does not fail.
@@ -232,21 +262,23 @@ impl Store for MemStore {
         ensures lost { IsErrOf result FetchError.Failed → Asks (record { count = self.old.calls; list = self.old.noted }) (record { count = self.new.calls; list = self.new.noted }) (record { name = name.now; failed = true } ∷ []) }
         ensures asked { (IsErrOf result FetchError.Failed → ⊥) → Asks (record { count = self.old.calls; list = self.old.noted }) (record { count = self.new.calls; list = self.new.noted }) (unfailed (name.now ∷ [])) }
 
-        // Which answer comes, but for want of memory, and all that the call changes.
+        // Which answer comes, but for want of memory, and all that the call changes. It ceases to tell only where the
+        // answer is want of memory.
         ensures fetched { IfOk result (λ bytes.
             fetched_of self.old name.now most ≡ Some bytes.items) }
-        ensures failed { IsErrOf result FetchError.Failed ↔
-            (fetched_of self.old name.now most ≡ None) }
-        ensures after { self.new ≡ after_fetch self.old name.now most self.new.noted }
+        ensures failed { IsErrOf result FetchError.Failed → fetched_of self.old name.now most ≡ None }
+        ensures after { (IsErrOf result FetchError.NoMemory → ⊥) → self.new ≡ after_fetch self.old name.now most self.new.noted }
+        ensures wanting { IsErrOf result FetchError.NoMemory → self.new ≡ record self.old { calls = risen self.old.calls; noted = self.new.noted } }
+        ensures lasts { (IsErrOf result FetchError.NoMemory → ⊥) → IsSome self.old.noted → IsSome self.new.noted }
     {
         let Some(bytes) = self.next(name, most) else {
-            self.count(name, true);
-            self.failures = self.failures.saturating_add(1);
-            return Err(FetchError::Failed);
+            return self.fail(name);
         };
         let copy = copy_of(alloc, bytes);
-        self.count(name, false);
-        copy
+        match self.count(name, false) {
+            Ok(()) => copy,
+            Err(_) => Err(FetchError::NoMemory),
+        }
     }
 }
 

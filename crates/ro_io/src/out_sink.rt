@@ -40,6 +40,8 @@ impl<W: Write> Sink for OutSink<W> {
 
     ghost failures = { λ s. s.1 };
 
+    ghost sure = { λ _. 0 };
+
     fn give(&mut self, piece: &[u8]) -> Result<usize, Failed>
         requires { 0 < length piece.now }
         ensures count { IfOk result (λ n. (0 < n) × (n ≤ length piece.now)) }

@@ -77,6 +77,8 @@ impl Work for Lent {
 
     ghost gives = { Gives };
 
+    ghost place_of = { λ l. (l.driver, l.number, l.thread) };
+
     fn place(&self) -> (u32, u32, u32)
         ensures { result ≡ (self.now.driver, self.now.number, self.now.thread) }
     {

@@ -1,5 +1,6 @@
 //! The machine.
 ghost use Rattle.std.specs.Prelude.{◌≡◌, ℕ, List, [], None, Some, IfOk, IfErr, IfSome, OnErr, OnOk, length, replicate, true, ◌∷◌, ◌≤◌, ◌<◌, slice_get, vec_capacity};
+ghost use Rattle.std.specs.Arc.{arc_value};
 ghost use Rattle.ro_exec.specs.declared.Cpu.{Cpu as CpuSeen};
 ghost use Rattle.ro_exec.specs.Threads.{first_cpu as first};
 ghost use Rattle.ro_kernel.specs.Kernel.{lives_on};
@@ -40,7 +41,7 @@ pub(crate) const MOST_WRITTEN: usize = MOST_BYTES as usize;
 /// that step in any order.
 #[derive(Drop)]
 pub struct Plain {
-    image: Executable,
+    image: Arc<Executable>,
     regions: Arc<Regions>,
     pages: Pages,
     cpus: Vec<Cpu>,
@@ -62,19 +63,19 @@ impl Model for Plain {
 
     ghost coded = { Prim.hlevel (codes, coded_held) };
 
-    ghost view = { λ p. record { program = record { image = p.image; input = p.kernel.setup.input }; held = p.pages; cpus = p.cpus.items; kernel = p.kernel.kernel; ended = p.ended; written = p.written.items } };
+    ghost view = { λ p. record { program = record { image = arc_value p.image; input = p.kernel.setup.input }; held = p.pages; cpus = p.cpus.items; kernel = p.kernel.kernel; ended = p.ended; written = p.written.items } };
 
-    ghost invariant = { λ p. IsWhole p.image (arc_value p.regions) p.kernel p.cpus.items p.written.items (vec_capacity p.cpus) (vec_capacity p.written) };
+    ghost invariant = { λ p. IsWhole (arc_value p.image) (arc_value p.regions) p.kernel p.cpus.items p.written.items (vec_capacity p.cpus) (vec_capacity p.written) };
 }
 
 impl Plain {
-    /// The machine at the opening of a program.
+    /// The machine at the opening of a program, which it shares.
     ///
     /// # Errors
     /// Where there is no memory.
-    pub fn begin(alloc: Global, image: Executable, input: &[u8]) -> Result<Plain, AllocError>
-        ensures program { IfOk result (λ p. p.program ≡ record { image = image; input = input.now }) }
-        ensures opening { IfOk result (λ p. machine_of p [] ≡ opening (record { image = image; input = input.now })) }
+    pub fn begin(alloc: Global, image: &Arc<Executable>, input: &[u8]) -> Result<Plain, AllocError>
+        ensures program { IfOk result (λ p. p.program ≡ record { image = arc_value image.now; input = input.now }) }
+        ensures opening { IfOk result (λ p. machine_of p [] ≡ opening (record { image = arc_value image.now; input = input.now })) }
         ensures written { IfOk result (λ p. p.written ≡ []) }
     {
         let regions = Arc::new(alloc, Regions::new(alloc, image.ranges())?)?;
@@ -83,7 +84,7 @@ impl Plain {
         let kernel = Kernel::new(alloc, image.heap(), Arc::try_clone(&regions)?, input)?;
         let written = Vec::with_capacity(alloc, MOST_WRITTEN)?;
         Ok(Plain {
-            image,
+            image: Arc::try_clone(image)?,
             regions,
             pages,
             cpus,

@@ -24,6 +24,7 @@ pub(crate) fn play_one<K: Sink>(
     progress: Progress,
     out: &mut K,
 ) -> Result<Progress, PlanErr>
+    requires unfailed { K.failures out.old ≡ 0 }
     requires steps { progress.steps + 1 ≤ 1000000000 }
     requires bytes { progress.bytes ≤ 4096 * progress.steps }
     ensures bytes { IfOk result (λ p. p.bytes ≤ 4096 * p.steps) }
@@ -60,6 +61,7 @@ fn play_part<K: Sink>(
     progress: Progress,
     out: &mut K,
 ) -> Result<Progress, PlanErr>
+    requires unfailed { K.failures out.old ≡ 0 }
     requires some { 0 < most }
     requires steps { progress.steps + most ≤ 1000000000 }
     requires bytes { progress.bytes ≤ 4096 * progress.steps }
@@ -90,6 +92,7 @@ fn play<K: Sink>(
     progress: Progress,
     out: &mut K,
 ) -> Result<Progress, PlanErr>
+    requires unfailed { K.failures out.old ≡ 0 }
     requires steps { progress.steps + count ≤ 1000000000 }
     requires bytes { progress.bytes ≤ 4096 * progress.steps }
     ensures bytes { IfOk result (λ p. p.bytes ≤ 4096 * p.steps) }
@@ -114,6 +117,7 @@ fn play_entry<K: Sink>(
     progress: Progress,
     out: &mut K,
 ) -> Result<Progress, PlanErr>
+    requires unfailed { K.failures out.old ≡ 0 }
     requires steps { progress.steps + length (entry_plan entry.now) ≤ 1000000000 }
     requires bytes { progress.bytes ≤ 4096 * progress.steps }
     ensures bytes { IfOk result (λ p. p.bytes ≤ 4096 * p.steps) }
@@ -143,6 +147,7 @@ fn play_vote<K: Sink>(
     progress: Progress,
     out: &mut K,
 ) -> Result<Progress, PlanErr>
+    requires unfailed { K.failures out.old ≡ 0 }
     requires steps { progress.steps + (count + event) ≤ 1000000000 }
     requires bytes { progress.bytes ≤ 4096 * progress.steps }
     ensures bytes { IfOk result (λ p. p.bytes ≤ 4096 * p.steps) }
@@ -161,7 +166,8 @@ pub(crate) fn play_all<K: Sink>(
     journal: &[Entry],
     out: &mut K,
 ) -> Result<Progress, PlanErr>
-    requires { length (plan_of journal.now) ≤ 1000000000 }
+    requires unfailed { K.failures out.old ≡ 0 }
+    requires length { length (plan_of journal.now) ≤ 1000000000 }
     ensures failures { K.failures out.old ≤ K.failures out.new }
     ensures calm { IfOk result (λ _. K.failures out.new ≡ K.failures out.old) }
     ensures played { IfOk result (λ p. Played plain.old (plan_of journal.now) plain.new (K.held out.old) (K.held out.new) 0 p.steps 0 p.bytes) }

@@ -1,5 +1,6 @@
 //! Running the plan of a journal.
 ghost use Rattle.std.specs.Prelude.{◌≡◌, ℕ, List, ◌≤◌, IfOk, IfErr, length};
+ghost use Rattle.std.specs.Arc.{arc_value};
 ghost use Rattle.ro_journal.specs.Plan.{plan_of};
 ghost use Rattle.ro_machine.specs.Seen.{machine_of};
 ghost use Rattle.ro_machine.specs.Plans.{RunsPlan, Fails, EndsAs};
@@ -11,23 +12,25 @@ use ro_image::Executable;
 use ro_io::Sink;
 use ro_journal::{Entry, How};
 use std::alloc::{AllocError, Global};
+use std::sync::Arc;
 
-/// Runs the plan of a journal on the unreplicated machine of a program and an input. What a step writes goes to the sink
-/// before the next step is taken. The plan is never spelled out: it takes no memory.
+/// Runs the plan of a journal on the unreplicated machine of a program and an input. What its steps write goes to a sink that
+/// has not failed. The plan is never spelled out: it takes no memory.
 ///
 /// # Errors
 /// `NoStep` at the plan's first step that does not exist, `SinkFailed` where the sink failed, and `NoMemory`. The steps
 /// before it were taken, and the sink has what they wrote. Its count of failures rose with `SinkFailed` alone.
 pub fn run_plan<K: Sink>(
     alloc: Global,
-    image: Executable,
+    image: &Arc<Executable>,
     input: &[u8],
     journal: &[Entry],
     out: &mut K,
 ) -> Result<PlainEnd, PlanErr>
-    requires { length (plan_of journal.now) ≤ 1000000000 }
-    ensures runs { IfOk result (λ end. RunsPlan (record { image = image; input = input.now }) (plan_of journal.now) (K.held out.old) (K.held out.new) end.how end.bytes) }
-    ensures fails { IfErr result (Fails (record { image = image; input = input.now }) (plan_of journal.now) (K.held out.old) (K.held out.new) (K.failures out.old) (K.failures out.new)) }
+    requires length { length (plan_of journal.now) ≤ 1000000000 }
+    requires unfailed { K.failures out.old ≡ 0 }
+    ensures runs { IfOk result (λ end. RunsPlan (record { image = arc_value image.now; input = input.now }) (plan_of journal.now) (K.held out.old) (K.held out.new) end.how end.bytes) }
+    ensures fails { IfErr result (Fails (record { image = arc_value image.now; input = input.now }) (plan_of journal.now) (K.held out.old) (K.held out.new) (K.failures out.old) (K.failures out.new)) }
     ensures calm { IfOk result (λ _. K.failures out.new ≡ K.failures out.old) }
     ensures failures { K.failures out.old ≤ K.failures out.new }
 {

@@ -177,7 +177,7 @@ tied_end start core new count count' number how t next allowed is a quiet less c
 module _ (start core : CoreOf) (count : CountOf) (p : PassOf) (back : BackOf) (t : Tied start core count) (legal : Legal core.job core.journal) (calm : IsSome core.failed → (state core).leases ≡ []) (k : Knew p count) (may : MayGiveBack start.job p back) where
   -- a core like this one, whose sink has not failed
   abbrev plain : CoreOf
-  plain = record { job = core.job; journal = core.journal; failed = None; room = core.room; views = core.views; held = core.held; failures = core.failures }
+  plain = record { job = core.job; journal = core.journal; failed = None; room = core.room; views = core.views; held = core.held; failures = core.failures; sure = core.sure }
 
   first : (m : MayReturn plain p.number back.replica back.ran.count back.ran.hit) × (m.lease ≡ may.returns.lease)
   first = still_returns start.job p count plain back t.goes.job t.journal refl k legal t.owned may
@@ -367,7 +367,7 @@ put_rests start old new p q back t may m =
     entry = Put p.number back.number back.thread back.ran.count back.ran.hit
 
     plain : CoreOf
-    plain = record { job = core.job; journal = core.journal; failed = None; room = core.room; views = core.views; held = core.held; failures = core.failures }
+    plain = record { job = core.job; journal = core.journal; failed = None; room = core.room; views = core.views; held = core.held; failures = core.failures; sure = core.sure }
 
     first : (k : MayReturn plain p.number back.replica back.ran.count back.ran.hit) × (k.lease ≡ may.returns.lease)
     first = still_returns start.job p old.count plain back t.goes.job t.journal refl m.knew t.driven.legal t.owned may

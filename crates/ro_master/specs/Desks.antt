@@ -47,7 +47,7 @@ pub record Tied (start core : CoreOf) (count : CountOf) : Type 0 where
 
 -- the core that a pass has seen, with nothing of its sink
 abbrev pub seen_core : Job → PassOf → CoreOf
-seen_core job p = record { job = job; journal = journal_of p.seen; failed = None; room = 0; views = []; held = None; failures = 0 }
+seen_core job p = record { job = job; journal = journal_of p.seen; failed = None; room = 0; views = []; held = None; failures = 0; sure = 0 }
 
 abbrev pub seen_state : Job → PassOf → Core
 seen_state job p = replay job (journal_of p.seen)

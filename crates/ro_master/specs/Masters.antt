@@ -17,6 +17,13 @@ pub record TurnDid (start : CoreOf) (r : Result (Turn LentOf) AllocError) (p q :
   pub tied : Tied start old.core old.count
   pub did : MatchResult r (λ t. TurnIs t old new p q) (λ _. Looked old new p q × TakesMemory (next_action old.core.job (state old.core)))
 
+-- there was a desk of which the pass has seen all, where what came next may want memory
+pub record WantsMemory (start : CoreOf) (p : PassOf) : Type 0 where
+  pub desk : DeskOf
+  pub tied : Tied start desk.core desk.count
+  pub seen : p.seen ≡ desk.count.history
+  pub takes : TakesMemory (next_action desk.core.job (state desk.core))
+
 pub record PutDid (start : CoreOf) (back : BackOf) (p q : PassOf) : Type 0 where
   pub old : DeskOf
   pub new : DeskOf

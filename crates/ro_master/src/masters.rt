@@ -1,12 +1,12 @@
 //! The master: a lock round the desk.
-ghost use Rattle.std.specs.Prelude.{◌≡◌, [], IfErr, IfOk, MatchResult, length, vec_capacity};
+ghost use Rattle.std.specs.Prelude.{◌≡◌, [], IfErr, IfOk, MatchResult, OnErr, length, vec_capacity};
 ghost use Rattle.std.specs.List.{All};
 ghost use Rattle.ro_post.specs.Turns.{IfOver};
 ghost use Rattle.ro_core.specs.Seen.{state};
 ghost use Rattle.ro_legal.specs.Jobs.{CanRun};
 ghost use Rattle.ro_core.specs.Driven.{IsDriven, IsHome, Goes, KeepsLast};
-ghost use Rattle.ro_master.specs.Desks.{AtRest, MayGiveBack, Rests, IsOver, AreWithin};
-ghost use Rattle.ro_master.specs.Masters.{TurnDid, PutDid, fresh_drivers, AreAll, AllKnew};
+ghost use Rattle.ro_master.specs.Desks.{AtRest, MayGiveBack, Rests, IsOver, AreWithin, Owned};
+ghost use Rattle.ro_master.specs.Masters.{TurnDid, PutDid, WantsMemory, fresh_drivers, AreAll, AllKnew};
 ghost use Rattle.ro_master.specs.History.{journal_of};
 ghost use Rattle.ro_master.specs.Passes.{CountOf, empty_count};
 
@@ -15,7 +15,7 @@ use crate::passes::{Counter, Opened, Pass};
 use crate::seats::Naming;
 use crate::waking::Wakes;
 use ro_core::Core;
-use ro_io::Sink;
+use ro_io::{Gate, Sink};
 use ro_lease::{Back, Lent};
 use ro_post::{Driver, Post, Turn, Work};
 use std::alloc::{AllocError, Global};
@@ -57,6 +57,7 @@ impl<K: Sink, N: Naming> Master<K, N> {
         ensures number { pass.new.number ≡ pass.old.number }
         ensures rest { MatchResult result (λ t. Rests N.start.job t pass.new) (λ _. AtRest N.start.job pass.new) }
         ensures over { IfOk result (λ t. IfOver t (IsOver N.start.job pass.new)) }
+        ensures wants { OnErr result (WantsMemory N.start pass.new) }
     {
         let (answer, wakes) = self.locked_turn(rt, pass);
         self.wake(wakes);
@@ -150,12 +151,13 @@ impl<K: Sink, N: Naming> Master<K, N> {
         Ok((master, all))
     }
 
-    /// Hands the core back, once every pass has come back.
+    /// Hands the core back, once every pass has come back. Of its history each take and each put bears the number of the driver
+    /// that it names, and each pass's own places are those of its number.
     pub fn close(self, drivers: Vec<Driver<Pass<N>>>) -> Core<K>
         ensures goes { Goes N.start result }
         ensures driven { IsDriven result }
         ensures last { KeepsLast result.job result.journal result.views }
-        ensures seen { (count : CountOf) × (journal_of count.history ≡ result.journal) × (count.given ≡ result.job.settings.drivers) × AreWithin count.given count.history × AllKnew count drivers.items }
+        ensures seen { (count : CountOf) × (journal_of count.history ≡ result.journal) × (count.given ≡ result.job.settings.drivers) × AreWithin count.given count.history × Owned count.history × AllKnew count drivers.items }
         ensures home { AreAll N.start.job 0 drivers.items → (length drivers.items ≡ N.start.job.settings.drivers) → IsHome result }
     {
         let Master {
@@ -170,6 +172,7 @@ impl<K: Sink, N: Naming> Master<K, N> {
 impl<K: Sink, N: Naming> Post for Master<K, N> {
     ghost use Rattle.ro_lease.specs.Loans.{Gives};
     ghost use Rattle.ro_master.specs.Desks.{AtRest, MayGiveBack, IsOver};
+    ghost use Rattle.ro_master.specs.Masters.{WantsMemory};
 
     type Pass = Pass<N>;
 
@@ -178,6 +181,8 @@ impl<K: Sink, N: Naming> Post for Master<K, N> {
     type Back = Back;
 
     ghost gives = { Gives };
+
+    ghost place_of = { λ l. (l.driver, l.number, l.thread) };
 
     ghost is_ours = { λ m p. Unit {0} };
 
@@ -189,11 +194,13 @@ impl<K: Sink, N: Naming> Post for Master<K, N> {
 
     ghost is_over = { IsOver N.start.job };
 
+    ghost wants = { WantsMemory N.start };
+
     fn place(lease: &Lent) -> (u32, u32, u32) {
         lease.place()
     }
 
-    fn run(lease: Lent) -> Back {
+    fn run<G: Gate>(lease: Lent, _passed: &G::Passed) -> Back {
         lease.run()
     }
 
@@ -202,6 +209,7 @@ impl<K: Sink, N: Naming> Post for Master<K, N> {
         ensures same { Unit {0} × (pass.new.number ≡ pass.old.number) }
         ensures lease { MatchResult result (λ t. Rests N.start.job t pass.new) (λ _. AtRest N.start.job pass.new) }
         ensures over { IfOk result (λ t. IfOver t (IsOver N.start.job pass.new)) }
+        ensures wants { OnErr result (WantsMemory N.start pass.new) }
         ensures did { TurnDid N.start result pass.old pass.new }
     {
         self.take_turn(rt, pass)

@@ -1,5 +1,6 @@
 //! Checking the plan of a journal.
 ghost use Rattle.std.specs.Prelude.{ℕ, List, ◌≡◌, ◌<◌, ◌≤◌, ◌+◌, ◌++◌, OnOk, IfOk, IfErr, length, replicate};
+ghost use Rattle.std.specs.Arc.{arc_value};
 ghost use Rattle.ro_journal.specs.Plan.{entry_plan, plan_of};
 ghost use Rattle.ro_plain.specs.Machine.{Program};
 ghost use Rattle.ro_races.specs.Shadows.{IsTable};
@@ -15,6 +16,7 @@ use ro_image::Executable;
 use ro_journal::Entry;
 use ro_machine::{Lane, Plain};
 use std::alloc::{AllocError, Global};
+use std::sync::Arc;
 
 /// Runs the plan of a journal on the unreplicated machine of a program and an input, and tells its first race: that whose
 /// second step is the earliest, of these that at the lowest byte, and of these that whose first step is the latest. It says
@@ -25,13 +27,13 @@ use std::alloc::{AllocError, Global};
 /// `NoStep` at the plan's first step that does not exist, also where an earlier step has a race, and `NoMemory`.
 pub fn check(
     alloc: Global,
-    image: Executable,
+    image: &Arc<Executable>,
     input: &[u8],
     journal: &[Entry],
 ) -> Result<Found, RacesErr>
     requires { length (plan_of journal.now) ≤ 1000000000 }
-    ensures checks { IfOk result (Checks (record { image = image; input = input.now }) (plan_of journal.now)) }
-    ensures lacks { IfErr result (Lacks (record { image = image; input = input.now }) (plan_of journal.now)) }
+    ensures checks { IfOk result (Checks (record { image = arc_value image.now; input = input.now }) (plan_of journal.now)) }
+    ensures lacks { IfErr result (Lacks (record { image = arc_value image.now; input = input.now }) (plan_of journal.now)) }
 {
     let Ok(mut checker) = begin(alloc, image, input) else {
         return Err(RacesErr::NoMemory);
@@ -41,11 +43,11 @@ pub fn check(
 }
 
 /// A run of which no step was taken.
-fn begin(alloc: Global, image: Executable, input: &[u8]) -> Result<Checker, AllocError>
+fn begin(alloc: Global, image: &Arc<Executable>, input: &[u8]) -> Result<Checker, AllocError>
     ensures reads { IfOk result (λ checker. IsTable checker.reads.items) }
     ensures writes { IfOk result (λ checker. IsTable checker.writes.items) }
     ensures steps { IfOk result (λ checker. checker.steps ≡ 0) }
-    ensures follows { IfOk result (λ checker. (threads : List ℕ) → Follows (record { image = image; input = input.now }) threads checker) }
+    ensures follows { IfOk result (λ checker. (threads : List ℕ) → Follows (record { image = arc_value image.now; input = input.now }) threads checker) }
 {
     let plain = Plain::begin(alloc, image, input)?;
     let reads = new_table(alloc)?;

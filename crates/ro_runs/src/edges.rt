@@ -1,8 +1,10 @@
 //! Rows: a command over a store and sinks in memory, and what it comes to.
+ghost use Rattle.std.specs.Prelude.{◌≡◌, IfOk};
+
 use ro_event::{Call, Stop, Which};
 use ro_files::Job;
 use ro_image::read_executable;
-use ro_io::{Act, Gate, MemSink, MemStore, OpenGate};
+use ro_io::{Act, Gate, MemSink, MemStore, OpenGate, Place};
 use ro_journal::{Entry, How};
 use ro_make::image_bytes;
 use ro_report::{Answer, FileKind, JournalCode};
@@ -57,13 +59,14 @@ fn job_at_hand(rt: HostRuntime) -> Result<(), Fail> {
         settings: Settings::DEFAULT,
     };
     let out = sink(rt.alloc(), &[Act::Take(2)])?;
-    let ran = run_job(&rt, rt.alloc(), job, out, &OpenGate);
+    let (job, ran) = run_job(&rt, rt.alloc(), job, out, &OpenGate);
     assert_eq!(rt; ran.answer, Answer::Exit(0));
     assert_eq!(rt; ran.bytes, 5);
     assert_eq!(rt; ran.out.bytes(), b"hello".as_slice());
     let end = Entry::End { how: How::Exit(0) };
     assert_eq!(rt; ran.journal.last(), Some(&end));
     assert!(rt; ran.views.is_empty());
+    assert_eq!(rt; job.settings, Settings::DEFAULT);
     Ok(())
 }
 
@@ -533,7 +536,9 @@ fn words_of<'a>(alloc: Global, command: &[&'a str]) -> Result<Vec<&'a str>, Fail
     Ok(words)
 }
 
-fn sink(alloc: Global, acts: &[Act]) -> Result<MemSink, Fail> {
+fn sink(alloc: Global, acts: &[Act]) -> Result<MemSink, Fail>
+    ensures { IfOk result (λ sink. sink.failures ≡ 0) }
+{
     Ok(MemSink::new(alloc, 1_000, Vec::from_slice(alloc, acts)?)?)
 }
 
@@ -678,8 +683,9 @@ struct Meeting {
     met: AtomicU64,
 }
 
-impl Gate for Meeting {
-    fn pass<R: Wait>(&self, _rt: &R, driver: u32, _replica: u32, _thread: u32) {
+impl Meeting {
+    // Waits, where the driver is the first, for the others.
+    fn meet(&self, driver: u32) {
         if self.come.fetch_add(1, Ordering::SeqCst) < self.passing {
             return;
         }
@@ -704,6 +710,23 @@ impl Gate for Meeting {
             }
         }
     }
+}
+
+impl Gate for Meeting {
+    type Passed = Place;
+
+    ghost place_of = { λ p. (p.driver, p.replica, p.thread) };
+
+    fn pass<R: Wait>(&self, _rt: &R, driver: u32, replica: u32, thread: u32) -> Place {
+        self.meet(driver);
+        Place {
+            driver,
+            replica,
+            thread,
+        }
+    }
+
+    fn leave(&self, _passed: Place) {}
 }
 
 // While one of two drivers stands at the gate with its lease, the other takes the replicas that are left: before the first vote,

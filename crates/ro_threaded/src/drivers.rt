@@ -1,6 +1,6 @@
 //! Two drivers are inside their runs at once.
 use ro_drive::drive_all;
-use ro_io::OpenGate;
+use ro_io::{Gate, OpenGate, Place};
 use ro_post::{Driver, Post, Turn};
 use std::alloc::AllocError;
 use std::sync::Wait;
@@ -46,6 +46,8 @@ impl<'a> Post for Hall<'a> {
 
     ghost gives = { λ lease back. Unit {0} };
 
+    ghost place_of = { λ lease. (lease.driver, 0, 0) };
+
     ghost is_ours = { λ post pass. Unit {0} };
 
     ghost number = { λ pass. pass.number };
@@ -56,12 +58,14 @@ impl<'a> Post for Hall<'a> {
 
     ghost is_over = { λ pass. Unit {0} };
 
+    ghost wants = { λ pass. Unit {0} };
+
     fn place(lease: &Visit<'a>) -> (u32, u32, u32) {
         (lease.driver, 0, 0)
     }
 
     // The first that is called waits, for a while, until another is.
-    fn run(lease: Visit<'a>) {
+    fn run<G: Gate>(lease: Visit<'a>, _passed: &G::Passed) {
         if lease.meeting.called.fetch_add(1, Ordering::SeqCst) == 0 {
             for _ in 0..100_000_000u32 {
                 if lease.meeting.called.load(Ordering::SeqCst) == 2 {
@@ -113,5 +117,49 @@ fn two_runs_at_once(rt: HostRuntime) -> Result<(), Fail> {
     for driver in &drivers {
         assert!(rt; driver.outcome.is_some());
     }
+    Ok(())
+}
+
+/// A gate that counts those that pass, and those that leave.
+#[derive(Drop)]
+struct Counting {
+    passed: AtomicU64,
+    left: AtomicU64,
+}
+
+impl Gate for Counting {
+    type Passed = Place;
+
+    ghost place_of = { λ p. (p.driver, p.replica, p.thread) };
+
+    fn pass<R: Wait>(&self, _rt: &R, driver: u32, replica: u32, thread: u32) -> Place {
+        self.passed.fetch_add(1, Ordering::SeqCst);
+        Place {
+            driver,
+            replica,
+            thread,
+        }
+    }
+
+    fn leave(&self, _passed: Place) {
+        self.left.fetch_add(1, Ordering::SeqCst);
+    }
+}
+
+#[test]
+fn each_lease_passes_once(rt: HostRuntime) -> Result<(), Fail> {
+    let meeting = Meeting {
+        called: AtomicU64::new(0),
+        met: AtomicU64::new(0),
+    };
+    let hall = Hall { meeting: &meeting };
+    let gate = Counting {
+        passed: AtomicU64::new(0),
+        left: AtomicU64::new(0),
+    };
+    let mut drivers = [driver(0), driver(1)];
+    drive_all(&rt, &hall, &mut drivers, &gate);
+    assert_eq!(rt; gate.passed.load(Ordering::SeqCst), 2);
+    assert_eq!(rt; gate.left.load(Ordering::SeqCst), 2);
     Ok(())
 }

@@ -40,7 +40,7 @@ some_text : (one other : List ℕ) → ◌≡◌ {A = Option (List ℕ)} (Some o
 some_text one other e = cc
 
 module _ (asked : AskedBench) (job : Job) (came : Came) (same : job ≡ bench_job asked) (outcome : IsOutcome came.answer (outcome_of came.journal)) (ran : IsRunOf came job) where
-  module _ (start last : List ℕ) (empty : start ≡ []) (held_before : came.held_before ≡ Some start) (held_after : came.held_after ≡ Some last) where
+  module _ (start last : List ℕ) (empty : start ≡ []) (sure : came.sure ≡ 64) (held_before : came.held_before ≡ Some start) (held_after : came.held_after ≡ Some last) where
     none_held : came.held_before ≡ Some []
     none_held = held_before ∙ ap (λ (bytes : List ℕ). Some bytes) empty
 
@@ -50,12 +50,14 @@ module _ (asked : AskedBench) (job : Job) (came : Came) (same : job ≡ bench_jo
         ∙ ap (λ (j : Job). Some (output_of j came.journal)) same)
 
     pub is_bench : (old new : Option (List ℕ)) (before after : ℕ) (answer : Answer) → EndsBench asked came.answer last old new before after answer
-        → IsBench asked came.journal old new before after answer
+        → IsBench asked came.journal came.views old new before after answer
     is_bench old new before after answer ends = record {
       inner = came;
       run = subst (IsRunOf came) same ran;
       empty = none_held;
+      sure = sure;
       journal_is = refl;
+      views_are = refl;
       outcome = outcome;
       ends = subst (λ (bytes : List ℕ). EndsBench asked came.answer bytes old new before after answer) its_output ends;
     }

@@ -104,14 +104,14 @@ module _ (came : CamePlain) (program : Program) (journal : List Entry) where
   complete_cause how NoMajority done is ran = absurd (let other : IsComplete ByNoMajority = subst IsComplete (let f : Some how ≡ Some ByNoMajority = is in cc) done in elim other [ ])
   complete_cause how (Limit steps next) done is ran = absurd (let other : IsComplete (ByLimit steps next) = subst IsComplete (let f : Some how ≡ Some (ByLimit steps next) = is in cc) done in elim other [ ])
   complete_cause how (SinkFailed taken) done is ran = absurd (let other : IsComplete (BySink taken) = subst IsComplete (let f : Some how ≡ Some (BySink taken) = is in cc) done in elim other [ ])
-  complete_cause how Unended done is ran = absurd (let f : Some how ≡ None = is in cc)
+  complete_cause how Unended done is ran = absurd is
   complete_cause how StoreFailed done is ran = absurd (let f : Some how ≡ None = is in cc)
   complete_cause how (BadExe code) done is ran = absurd (let f : Some how ≡ None = is in cc)
   complete_cause how (BadFaults line code) done is ran = absurd (let f : Some how ≡ None = is in cc)
   complete_cause how (BadPlan line code) done is ran = absurd (let f : Some how ≡ None = is in cc)
-  complete_cause how (NoStep place) done is ran = absurd (let f : Some how ≡ None = is in cc)
-  complete_cause how NoRace done is ran = absurd (let f : Some how ≡ None = is in cc)
-  complete_cause how (Race i j byte) done is ran = absurd (let f : Some how ≡ None = is in cc)
+  complete_cause how (NoStep place) done is ran = absurd is
+  complete_cause how NoRace done is ran = absurd is
+  complete_cause how (Race i j byte) done is ran = absurd is
   complete_cause how BadWords done is ran = absurd (let f : Some how ≡ None = is in cc)
   complete_cause how (TooLong kind) done is ran = absurd (let f : Some how ≡ None = is in cc)
   complete_cause how NoMemory done is ran = absurd (let f : Some how ≡ None = is in cc)

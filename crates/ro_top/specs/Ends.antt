@@ -17,11 +17,13 @@ use Rattle.ro_machine.specs.Plans.{RunsPlan, LacksStep, BreaksOff, StopsShort}
 use Rattle.ro_plain.specs.Machine.{Program}
 use Rattle.ro_races.specs.declared.found.Found.TheVariants.{NoRace as NoneFound, Pair}
 use Rattle.ro_races.specs.Follows.{Checks, LacksStep as LacksCheckedStep}
+use Rattle.ro_core.specs.Seen.{offered_by}
 use Rattle.ro_core.specs.Driven.{ShowsLast}
 
 -- ---- ends of a run
 
--- what the run came to: an answer of a run is the journal's outcome, and at each other answer there is none
+-- what the run came to: an answer of a run is the journal's outcome; where the command is refused or memory is wanting there is
+-- none; and no run comes to an answer that is a plan's alone
 abbrev pub IsOutcome : Answer → Option How → Type 0
 IsOutcome (Exit status) outcome = outcome ≡ Some (ByExit status)
 IsOutcome Deadlock outcome = outcome ≡ Some ByDeadlock
@@ -30,6 +32,10 @@ IsOutcome Differ outcome = outcome ≡ Some ByDiffer
 IsOutcome NoMajority outcome = outcome ≡ Some ByNoMajority
 IsOutcome (Limit steps next) outcome = outcome ≡ Some (ByLimit steps next)
 IsOutcome (SinkFailed taken) outcome = outcome ≡ Some (BySink taken)
+IsOutcome Unended outcome = ⊥
+IsOutcome (NoStep place) outcome = ⊥
+IsOutcome NoRace outcome = ⊥
+IsOutcome (Race i j byte) outcome = ⊥
 IsOutcome answer outcome = outcome ≡ None
 
 -- nothing could be done any more
@@ -67,15 +73,19 @@ pub record CutsWrite (job : Job) (journal : List Entry) (taken : ℕ) : Type 0 w
   pub journal_is : journal ≡ before ++ End (BySink taken) ∷ []
   pub short : taken < (replay job before).wrote
 
--- Why a run ends so, where the views that were kept are these, and the sink's count of failures was the one and is the other. An exit
--- and a trap are the program's own.
-abbrev pub EndCause : Job → List Entry → (views : List View) → (before after : ℕ) → Answer → Type 0
-EndCause job journal views before after Deadlock = IsStuck job journal
-EndCause job journal views before after Differ = AreTwo job journal views
-EndCause job journal views before after NoMajority = AreSplit job journal views
-EndCause job journal views before after (Limit steps next) = EndsAtLimit job journal steps next
-EndCause job journal views before after (SinkFailed taken) = CutsWrite job journal taken × Rose before after
-EndCause job journal views before after answer = ⊤
+-- Why a run ends so, where the views that were kept are these, the sink's count of failures was the one and is the other, and it
+-- surely took so many bytes. An exit and a trap are the program's own, and there is no memory only by chance. A run has no other
+-- answer.
+abbrev pub EndCause : Job → List Entry → (views : List View) → (before after sure : ℕ) → Answer → Type 0
+EndCause job journal views before after sure Deadlock = IsStuck job journal
+EndCause job journal views before after sure Differ = AreTwo job journal views
+EndCause job journal views before after sure NoMajority = AreSplit job journal views
+EndCause job journal views before after sure (Limit steps next) = EndsAtLimit job journal steps next
+EndCause job journal views before after sure (SinkFailed taken) = CutsWrite job journal taken × Rose before after × (sure < length (offered_by job journal))
+EndCause job journal views before after sure (Exit status) = ⊤
+EndCause job journal views before after sure (Trap cause) = ⊤
+EndCause job journal views before after sure NoMemory = ⊤
+EndCause job journal views before after sure answer = ⊥
 
 -- ---- ends of a plan
 

@@ -7,7 +7,7 @@ ghost use Rattle.ro_words.specs.Commands.{bench_by, to_bench};
 ghost use Rattle.ro_files.specs.Causes.{IsRefusal, JobCause};
 ghost use Rattle.ro_io.specs.Outside.{Files};
 ghost use Rattle.ro_files.specs.Files.{bench_job as bench_job_of};
-ghost use Rattle.ro_top.specs.Top.{EndsBench, IsBench, OfItsBench};
+ghost use Rattle.ro_top.specs.Top.{EndsBench, IsBench, OfItsBench, bench_sink};
 ghost use Rattle.ro_files.specs.Refusals.{RefusesExe};
 
 use crate::running::{JobRun, run_job};
@@ -42,7 +42,8 @@ pub(crate) fn bench<R: Threads + Wait + Sync, K: Sink, G: Gate + Sync>(
     out: &mut K,
     gate: &G,
 ) -> Benched
-    ensures bench { OfItsBench (bench_by command.now) result.journal.items (K.held out.old) (K.held out.new) (K.failures out.old) (K.failures out.new) result.answer }
+    requires unfailed { K.failures out.old ≡ 0 }
+    ensures bench { OfItsBench (bench_by command.now) result.journal.items result.views.items (K.held out.old) (K.held out.new) (K.failures out.old) (K.failures out.new) result.answer }
     ensures no_views { result.answer ≢ a.Differ → result.answer ≢ a.NoMajority → result.views.items ≡ [] }
     ensures refused { IsRefusal result.answer → result.journal.items ≡ [] }
     ensures untouched { IsRefusal result.answer → (K.held out.new ≡ K.held out.old) × (K.failures out.new ≡ K.failures out.old) }
@@ -68,20 +69,22 @@ fn bench_in<R: Threads + Wait + Sync, K: Sink, G: Gate + Sync>(
     out: &mut K,
     gate: &G,
 ) -> Benched
+    requires unfailed { K.failures out.old ≡ 0 }
+    requires sink { sink ≡ bench_sink }
     requires job { job_of job.image job.input.items job.faults.items job.settings ≡ bench_job_of (bench_by command.now) }
     requires can_run { CanRun (job_of job.image job.input.items job.faults.items job.settings) }
-    requires empty { sink.bytes ≡ [] }
-    ensures bench { IsBench (bench_by command.now) result.journal.items (K.held out.old) (K.held out.new) (K.failures out.old) (K.failures out.new) result.answer }
+    ensures bench { IsBench (bench_by command.now) result.journal.items result.views.items (K.held out.old) (K.held out.new) (K.failures out.old) (K.failures out.new) result.answer }
     ensures no_views { result.answer ≢ a.Differ → result.answer ≢ a.NoMajority → result.views.items ≡ [] }
     ensures done { IsRefusal result.answer → ⊥ }
 {
+    let (_job, run) = run_job(rt, alloc, job, sink, gate);
     let JobRun {
         answer,
         journal,
         views,
         bytes: _bytes,
         out: sink,
-    } = run_job(rt, alloc, job, sink, gate);
+    } = run;
     Benched {
         answer: written(command, answer, &sink, out),
         journal,
@@ -91,6 +94,7 @@ fn bench_in<R: Threads + Wait + Sync, K: Sink, G: Gate + Sync>(
 
 // Writes the line of a run that exited, and answers how that ended; else its own answer.
 fn written<K: Sink>(command: &BenchCommand, answer: Answer, sink: &MemSink, out: &mut K) -> Answer
+    requires unfailed { K.failures out.old ≡ 0 }
     ensures { EndsBench (bench_by command.now) answer sink.now.bytes (K.held out.old) (K.held out.new) (K.failures out.old) (K.failures out.new) result }
 {
     match answer {
@@ -106,7 +110,7 @@ fn written<K: Sink>(command: &BenchCommand, answer: Answer, sink: &MemSink, out:
 fn bench_job(alloc: Global, command: &BenchCommand) -> Result<(Job, MemSink), Answer>
     ensures job { IfOk result (λ r. job_of r.0.image r.0.input.items r.0.faults.items r.0.settings ≡ bench_job_of (bench_by command.now)) }
     ensures can_run { IfOk result (λ r. CanRun (job_of r.0.image r.0.input.items r.0.faults.items r.0.settings)) }
-    ensures empty { IfOk result (λ r. r.1.bytes ≡ []) }
+    ensures sink { IfOk result (λ r. r.1 ≡ bench_sink) }
     ensures refused { IfErr result (RefusesExe (bench_file command.now.seed command.now.size)) }
 {
     let Ok(file) = bench_image(alloc, command.seed, command.size) else {

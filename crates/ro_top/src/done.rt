@@ -48,6 +48,7 @@ impl<K> Done<K> {
 /// Tells that there is no memory for the words of a command, which is then the whole report, and answers the status with which a
 /// process ends.
 pub fn without_words<E: Sink>(report: &mut E) -> u8
+    requires unfailed { E.failures report.old ≡ 0 }
     ensures { (told : Told) × (result ≡ status_of told a.NoMemory) × IsTold told (E.held report.old) (E.held report.new) (answer_text a.NoMemory) × (told ≡ t.Failed → Rose (E.failures report.old) (E.failures report.new)) × (told ≡ t.Whole → E.failures report.new ≡ E.failures report.old) }
 {
     answered(report, &Answer::NoMemory)
@@ -55,6 +56,7 @@ pub fn without_words<E: Sink>(report: &mut E) -> u8
 
 /// Tells an answer, which is then the whole report, and answers the status with which a process ends.
 pub fn answered<E: Sink>(report: &mut E, answer: &Answer) -> u8
+    requires unfailed { E.failures report.old ≡ 0 }
     ensures { (told : Told) × (result ≡ status_of told answer.now) × IsTold told (E.held report.old) (E.held report.new) (answer_text answer.now) × (told ≡ t.Failed → Rose (E.failures report.old) (E.failures report.new)) × (told ≡ t.Whole → E.failures report.new ≡ E.failures report.old) }
 {
     let told = tell_answer(report, answer);

@@ -25,6 +25,7 @@ pub(crate) fn inject<K: Sink>(
     command: &InjectCommand<'_>,
     out: &mut K,
 ) -> Answer
+    requires unfailed { K.failures out.old ≡ 0 }
     ensures { ((result ≡ a.NoMemory) × (K.held out.new ≡ K.held out.old) × (K.failures out.new ≡ K.failures out.old))
         ⊎ WritesText (faults_text (faults_drawn (segments_in image.now.ranges) command.now.replica command.now.seed command.now.count)) (K.held out.old) (K.held out.new) (K.failures out.old) (K.failures out.new) result }
 {

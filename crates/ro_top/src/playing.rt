@@ -9,6 +9,7 @@ use ro_journal::How;
 use ro_machine::{PlainEnd, PlanErr, TooLong, plan_steps, run_plan};
 use ro_report::Answer;
 use std::alloc::Global;
+use std::sync::Arc;
 
 // What a plan's run came to, before it is told.
 pub(crate) struct Played {
@@ -31,6 +32,7 @@ pub(crate) fn unplayed(answer: Answer) -> Played
 
 // Runs the plan of a journal, unless it is too long.
 pub(crate) fn play<K: Sink>(alloc: Global, replay: Replay, out: &mut K) -> Played
+    requires unfailed { K.failures out.old ≡ 0 }
     ensures cause { PlanCause (record { answer = result.answer; steps = result.steps; bytes = result.bytes; held_before = K.held out.old; held_after = K.held out.new; failures_before = K.failures out.old; failures_after = K.failures out.new }) (record { image = replay.image; input = replay.input.items }) replay.journal.items result.answer }
 {
     let Replay {
@@ -42,7 +44,10 @@ pub(crate) fn play<K: Sink>(alloc: Global, replay: Replay, out: &mut K) -> Playe
         Ok(steps) => steps,
         Err(TooLong { steps, next }) => return unplayed(Answer::Limit { steps, next }),
     };
-    match run_plan(alloc, image, input.as_slice(), journal.as_slice(), out) {
+    let Ok(image) = Arc::new(alloc, image) else {
+        return unplayed(Answer::NoMemory);
+    };
+    match run_plan(alloc, &image, input.as_slice(), journal.as_slice(), out) {
         Ok(PlainEnd { how, bytes }) => Played {
             answer: answer_behind(how),
             steps,

@@ -10,6 +10,7 @@ use ro_machine::{TooLong, plan_steps};
 use ro_races::{Found, RacesErr, check};
 use ro_report::Answer;
 use std::alloc::Global;
+use std::sync::Arc;
 
 // Checks the plan of a journal, unless it is too long.
 pub(crate) fn race(alloc: Global, replay: Replay) -> Answer
@@ -31,7 +32,10 @@ fn first_race(alloc: Global, image: Executable, input: &[u8], journal: &[Entry])
     requires { length (plan_of journal.now) ≤ 1000000000 }
     ensures { RacesCause (record { image = image; input = input.now }) journal.now result }
 {
-    match check(alloc, image, input, journal) {
+    let Ok(image) = Arc::new(alloc, image) else {
+        return Answer::NoMemory;
+    };
+    match check(alloc, &image, input, journal) {
         Ok(Found::NoRace) => Answer::NoRace,
         Ok(Found::Pair { i, j, byte }) => Answer::Race { i, j, byte },
         Err(RacesErr::NoStep { place }) => Answer::NoStep { place },

@@ -20,6 +20,7 @@ pub(crate) fn tell<E: Sink>(
     bytes: u64,
     answer: &Answer,
 ) -> Told
+    requires unfailed { E.failures report.old ≡ 0 }
     requires struck { struck_in journal.now < 2 ^ 64 }
     requires steps { steps_in journal.now < 2 ^ 64 }
     ensures told { IsTold result (E.held report.old) (E.held report.new) (report_of shown journal.now bytes answer.now) }
@@ -34,6 +35,7 @@ pub(crate) fn tell<E: Sink>(
 
 // Tells the report of a plan's run.
 pub(crate) fn tell_plan<E: Sink>(report: &mut E, steps: u64, bytes: u64, answer: &Answer) -> Told
+    requires unfailed { E.failures report.old ≡ 0 }
     ensures told { IsTold result (E.held report.old) (E.held report.new) (plain_report steps bytes answer.now) }
     ensures cause { result ≡ told.Failed → Rose (E.failures report.old) (E.failures report.new) }
     ensures calm { result ≡ told.Whole → E.failures report.new ≡ E.failures report.old }
@@ -46,6 +48,7 @@ pub(crate) fn tell_plan<E: Sink>(report: &mut E, steps: u64, bytes: u64, answer:
 
 // Tells an answer.
 pub(crate) fn tell_answer<E: Sink>(report: &mut E, answer: &Answer) -> Told
+    requires unfailed { E.failures report.old ≡ 0 }
     ensures told { IsTold result (E.held report.old) (E.held report.new) (answer_text answer.now) }
     ensures cause { result ≡ told.Failed → Rose (E.failures report.old) (E.failures report.new) }
     ensures calm { result ≡ told.Whole → E.failures report.new ≡ E.failures report.old }
@@ -57,6 +60,7 @@ pub(crate) fn tell_answer<E: Sink>(report: &mut E, answer: &Answer) -> Told
 }
 
 fn give_plan<E: Sink>(report: &mut E, steps: u64, bytes: u64, answer: &Answer) -> Result<(), Failed>
+    requires unfailed { E.failures report.old ≡ 0 }
     ensures ok { OnOk result (E.held report.new ≡ more (E.held report.old) (plain_report steps bytes answer.now)) }
     ensures err { OnErr result (TakesFront (E.held report.old) (E.held report.new) (plain_report steps bytes answer.now)) }
     ensures cause { OnErr result (Rose (E.failures report.old) (E.failures report.new)) }
@@ -73,6 +77,7 @@ fn give_steps<E: Sink>(
     bytes: u64,
     answer: &Answer,
 ) -> Result<(), Failed>
+    requires unfailed { E.failures report.old ≡ 0 }
     ensures ok { OnOk result (E.held report.new ≡ more (E.held report.old) (plain_part steps bytes answer.now)) }
     ensures err { OnErr result (TakesFront (E.held report.old) (E.held report.new) (plain_part steps bytes answer.now)) }
     ensures cause { OnErr result (Rose (E.failures report.old) (E.failures report.new)) }
@@ -103,6 +108,7 @@ fn give_report<E: Sink>(
     bytes: u64,
     answer: &Answer,
 ) -> Result<(), Failed>
+    requires unfailed { E.failures report.old ≡ 0 }
     requires struck { struck_in journal.now < 2 ^ 64 }
     requires steps { steps_in journal.now < 2 ^ 64 }
     ensures ok { OnOk result (E.held report.new ≡ more (E.held report.old) (report_of shown journal.now bytes answer.now)) }
@@ -116,6 +122,7 @@ fn give_report<E: Sink>(
 
 // The journal, where it is to be shown and anything ran.
 fn give_journal<E: Sink>(report: &mut E, shown: bool, journal: &[Entry]) -> Result<(), Failed>
+    requires unfailed { E.failures report.old ≡ 0 }
     ensures ok { OnOk result (E.held report.new ≡ more (E.held report.old) (journal_part shown journal.now)) }
     ensures err { OnErr result (TakesFront (E.held report.old) (E.held report.new) (journal_part shown journal.now)) }
     ensures cause { OnErr result (Rose (E.failures report.old) (E.failures report.new)) }
@@ -131,6 +138,7 @@ fn give_journal<E: Sink>(report: &mut E, shown: bool, journal: &[Entry]) -> Resu
 
 // A line for each entry.
 fn give_entries<E: Sink>(report: &mut E, journal: &[Entry]) -> Result<(), Failed>
+    requires unfailed { E.failures report.old ≡ 0 }
     ensures ok { OnOk result (E.held report.new ≡ more (E.held report.old) (entries_text journal.now)) }
     ensures err { OnErr result (TakesFront (E.held report.old) (E.held report.new) (entries_text journal.now)) }
     ensures cause { OnErr result (Rose (E.failures report.old) (E.failures report.new)) }
@@ -152,6 +160,7 @@ fn give_lines<E: Sink>(
     bytes: u64,
     answer: &Answer,
 ) -> Result<(), Failed>
+    requires unfailed { E.failures report.old ≡ 0 }
     requires struck { struck_in journal.now < 2 ^ 64 }
     requires steps { steps_in journal.now < 2 ^ 64 }
     ensures ok { OnOk result (E.held report.new ≡ more (E.held report.old) (report_text journal.now bytes answer.now)) }
@@ -165,6 +174,7 @@ fn give_lines<E: Sink>(
 
 // The summary, where anything ran.
 fn give_summary<E: Sink>(report: &mut E, journal: &[Entry], bytes: u64) -> Result<(), Failed>
+    requires unfailed { E.failures report.old ≡ 0 }
     requires struck { struck_in journal.now < 2 ^ 64 }
     requires steps { steps_in journal.now < 2 ^ 64 }
     ensures ok { OnOk result (E.held report.new ≡ more (E.held report.old) (summary_part journal.now bytes)) }
@@ -181,6 +191,7 @@ fn give_summary<E: Sink>(report: &mut E, journal: &[Entry], bytes: u64) -> Resul
 
 // Gives all of the bytes, a piece at a time.
 fn give_all<E: Sink>(sink: &mut E, bytes: &[u8]) -> Result<(), Failed>
+    requires unfailed { E.failures sink.old ≡ 0 }
     ensures ok { OnOk result (E.held sink.new ≡ more (E.held sink.old) bytes.now) }
     ensures err { OnErr result (TakesFront (E.held sink.old) (E.held sink.new) bytes.now) }
     ensures cause { OnErr result (Rose (E.failures sink.old) (E.failures sink.new)) }

@@ -51,8 +51,8 @@ pub(crate) fn nothing<K>(alloc: Global, answer: Answer, out: K) -> JobRun<K>
     }
 }
 
-/// Runs a program that is at hand as two, three or five replicas. What it writes goes to `out`, and each lease passes the
-/// gate before it runs.
+/// Runs a program that is at hand as two, three or five replicas. What it writes goes to `out`, which has not failed yet, and
+/// each lease passes the gate before it runs. The job comes back as it was.
 ///
 /// Clause `run` speaks of this very job: its fields are those that clause `run` of `romain` has for a job that the store's files spell.
 pub fn run_job<R: Threads + Wait + Sync, K: Sink + Send, G: Gate + Sync>(
@@ -61,14 +61,16 @@ pub fn run_job<R: Threads + Wait + Sync, K: Sink + Send, G: Gate + Sync>(
     job: Job,
     out: K,
     gate: &G,
-) -> JobRun<K>
-    requires { CanRun (job_of job.image job.input.items job.faults.items job.settings) }
-    ensures run { IsRunOf (record { journal = result.journal.items; answer = result.answer; views = result.views.items; bytes = result.bytes; held_before = K.held out; held_after = K.held result.out; failures_before = K.failures out; failures_after = K.failures result.out }) (job_of job.image job.input.items job.faults.items job.settings) }
-    ensures counts { AreCounts result.journal.items }
-    ensures answer { IsOutcome result.answer (outcome_of result.journal.items) }
-    ensures program { IsRefusal result.answer → ⊥ }
-    ensures no_views { result.answer ≢ a.Differ → result.answer ≢ a.NoMajority → result.views.items ≡ [] }
-    ensures nothing_run { result.journal.items ≡ [] → (K.held result.out ≡ K.held out) × (K.failures result.out ≡ K.failures out) }
+) -> (Job, JobRun<K>)
+    requires unfailed { K.failures out ≡ 0 }
+    requires can_run { CanRun (job_of job.image job.input.items job.faults.items job.settings) }
+    ensures run { IsRunOf (record { journal = result.1.journal.items; answer = result.1.answer; views = result.1.views.items; bytes = result.1.bytes; held_before = K.held out; held_after = K.held result.1.out; failures_before = K.failures out; failures_after = K.failures result.1.out; sure = K.sure out }) (job_of job.image job.input.items job.faults.items job.settings) }
+    ensures counts { AreCounts result.1.journal.items }
+    ensures answer { IsOutcome result.1.answer (outcome_of result.1.journal.items) }
+    ensures program { IsRefusal result.1.answer → ⊥ }
+    ensures no_views { result.1.answer ≢ a.Differ → result.1.answer ≢ a.NoMajority → result.1.views.items ≡ [] }
+    ensures nothing_run { result.1.journal.items ≡ [] → (K.held result.1.out ≡ K.held out) × (K.failures result.1.out ≡ K.failures out) }
+    ensures back { job_of result.0.image result.0.input.items result.0.faults.items result.0.settings ≡ job_of job.image job.input.items job.faults.items job.settings }
 {
     let Job {
         image,
@@ -85,24 +87,40 @@ pub fn run_job<R: Threads + Wait + Sync, K: Sink + Send, G: Gate + Sync>(
         out,
     ) {
         Ok(core) => core,
-        Err(Refused { image: _, out }) => return nothing(alloc, Answer::NoMemory, out),
+        Err(Refused { image, out }) => {
+            let job = Job {
+                image,
+                input,
+                faults,
+                settings,
+            };
+            return (job, nothing(alloc, Answer::NoMemory, out));
+        }
     };
     // Where there was no memory the journal has no end, and that is the answer.
     let core = drive(rt, alloc, core, gate);
     let Finished {
         how,
+        image,
         views,
         journal,
         bytes,
         out,
     } = core.finish();
-    JobRun {
+    let job = Job {
+        image,
+        input,
+        faults,
+        settings,
+    };
+    let run = JobRun {
         answer: answer_of(how),
         journal,
         views,
         bytes,
         out,
-    }
+    };
+    (job, run)
 }
 
 // The answer of a run that ended so, or for which there was no memory.

@@ -31,7 +31,7 @@ use std::alloc::Global;
 use std::sync::Wait;
 use std::thread::Threads;
 
-/// Does what a command asks for: its words begin with the program's name, and then stand the command's name, its arguments and
+/// Does what a command asks for, with sinks that have not failed: its words begin with the program's name, and then stand the command's name, its arguments and
 /// its options.
 ///
 /// The files that it names are fetched from `store`, the executable first, then the input, then the faults or the plan: each once, no
@@ -56,7 +56,8 @@ pub fn romain<'a, R: Threads + Wait + Sync, S: Store, K: Sink + Send, E: Sink, G
     report: &mut E,
     gate: &G,
 ) -> Done<K>
-    ensures run { (asked : AskedRun) → command_of (texts_of words.now) ≡ Some (to_run asked) → (bytes : ℕ) × OfItsJob (S.told store.old) asked result.journal.items (IsRunOf (record { journal = result.journal.items; answer = result.answer; views = result.views.items; bytes = bytes; held_before = K.held out; held_after = K.held result.out; failures_before = K.failures out; failures_after = K.failures result.out })) × IsTold result.told (E.held report.old) (E.held report.new) (report_of asked.journal result.journal.items bytes result.answer) }
+    requires unfailed { (K.failures out ≡ 0) × (E.failures report.old ≡ 0) }
+    ensures run { (asked : AskedRun) → command_of (texts_of words.now) ≡ Some (to_run asked) → (bytes : ℕ) × OfItsJob (S.told store.old) asked result.journal.items result.answer (IsRunOf (record { journal = result.journal.items; answer = result.answer; views = result.views.items; bytes = bytes; held_before = K.held out; held_after = K.held result.out; failures_before = K.failures out; failures_after = K.failures result.out; sure = K.sure out })) × IsTold result.told (E.held report.old) (E.held report.new) (report_of asked.journal result.journal.items bytes result.answer) }
     ensures answer { (asked : AskedRun) → command_of (texts_of words.now) ≡ Some (to_run asked) → IsOutcome result.answer (outcome_of result.journal.items) }
     ensures nothing_run { (asked : AskedRun) → command_of (texts_of words.now) ≡ Some (to_run asked) → result.journal.items ≡ [] → (K.held result.out ≡ K.held out) × (K.failures result.out ≡ K.failures out) }
     ensures plain { (asked : AskedPlan) → command_of (texts_of words.now) ≡ Some (to_plain asked) → (steps : ℕ) × (bytes : ℕ) × OfItsPlan (S.told store.old) asked (record { answer = result.answer; steps = steps; bytes = bytes; held_before = K.held out; held_after = K.held result.out; failures_before = K.failures out; failures_after = K.failures result.out }) × IsTold result.told (E.held report.old) (E.held report.new) (plain_report steps bytes result.answer) }
@@ -66,7 +67,7 @@ pub fn romain<'a, R: Threads + Wait + Sync, S: Store, K: Sink + Send, E: Sink, G
     ensures races_out { (asked : AskedPlan) → command_of (texts_of words.now) ≡ Some (to_races asked) → (K.held result.out ≡ K.held out) × (K.failures result.out ≡ K.failures out) }
     ensures inject { (asked : AskedInject) → command_of (texts_of words.now) ≡ Some (to_inject asked) → OfItsDraw (S.told store.old) asked (K.held out) (K.held result.out) (K.failures out) (K.failures result.out) result.answer }
     ensures inject_told { (asked : AskedInject) → command_of (texts_of words.now) ≡ Some (to_inject asked) → (result.journal.items ≡ []) × IsTold result.told (E.held report.old) (E.held report.new) (answer_text result.answer) }
-    ensures bench { (asked : AskedBench) → command_of (texts_of words.now) ≡ Some (to_bench asked) → OfItsBench asked result.journal.items (K.held out) (K.held result.out) (K.failures out) (K.failures result.out) result.answer }
+    ensures bench { (asked : AskedBench) → command_of (texts_of words.now) ≡ Some (to_bench asked) → OfItsBench asked result.journal.items result.views.items (K.held out) (K.held result.out) (K.failures out) (K.failures result.out) result.answer }
     ensures bench_told { (asked : AskedBench) → command_of (texts_of words.now) ≡ Some (to_bench asked) → IsTold result.told (E.held report.old) (E.held report.new) (answer_text result.answer) }
     ensures words { command_of (texts_of words.now) ≡ None → (result.answer ≡ a.BadWords) ⊎ (result.answer ≡ a.NoMemory) }
     ensures words_told { command_of (texts_of words.now) ≡ None → (result.journal.items ≡ []) × IsTold result.told (E.held report.old) (E.held report.new) (answer_text result.answer) }
@@ -94,6 +95,7 @@ pub fn romain<'a, R: Threads + Wait + Sync, S: Store, K: Sink + Send, E: Sink, G
 
 // The words spell no command, or there was no memory to read them.
 fn refuse<K, E: Sink>(alloc: Global, error: WordsError, out: K, report: &mut E) -> Done<K>
+    requires unfailed { E.failures report.old ≡ 0 }
     ensures bad { error ≡ w.Bad → result.answer ≡ a.BadWords }
     ensures memory { error ≡ w.NoMemory → result.answer ≡ a.NoMemory }
     ensures journal { result.journal.items ≡ [] }
@@ -127,8 +129,9 @@ fn run_command<R: Threads + Wait + Sync, S: Store, K: Sink + Send, E: Sink, G: G
     report: &mut E,
     gate: &G,
 ) -> Done<K>
-    requires { InRange command.now.settings }
-    ensures run { (bytes : ℕ) × OfItsJob (S.told store.old) (run_by command.now) result.journal.items (IsRunOf (record { journal = result.journal.items; answer = result.answer; views = result.views.items; bytes = bytes; held_before = K.held out; held_after = K.held result.out; failures_before = K.failures out; failures_after = K.failures result.out })) × IsTold result.told (E.held report.old) (E.held report.new) (report_of command.now.journal result.journal.items bytes result.answer) }
+    requires unfailed { (K.failures out ≡ 0) × (E.failures report.old ≡ 0) }
+    requires settings { InRange command.now.settings }
+    ensures run { (bytes : ℕ) × OfItsJob (S.told store.old) (run_by command.now) result.journal.items result.answer (IsRunOf (record { journal = result.journal.items; answer = result.answer; views = result.views.items; bytes = bytes; held_before = K.held out; held_after = K.held result.out; failures_before = K.failures out; failures_after = K.failures result.out; sure = K.sure out })) × IsTold result.told (E.held report.old) (E.held report.new) (report_of command.now.journal result.journal.items bytes result.answer) }
     ensures answer { IsOutcome result.answer (outcome_of result.journal.items) }
     ensures nothing_run { result.journal.items ≡ [] → (K.held result.out ≡ K.held out) × (K.failures result.out ≡ K.failures out) }
     ensures no_views { result.answer ≢ a.Differ → result.answer ≢ a.NoMajority → result.views.items ≡ [] }
@@ -166,8 +169,9 @@ fn ran<R: Threads + Wait + Sync, S: Store, K: Sink + Send, G: Gate + Sync>(
     out: K,
     gate: &G,
 ) -> JobRun<K>
-    requires { InRange command.now.settings }
-    ensures run { OfItsJob (S.told store.old) (run_by command.now) result.journal.items (IsRunOf (record { journal = result.journal.items; answer = result.answer; views = result.views.items; bytes = result.bytes; held_before = K.held out; held_after = K.held result.out; failures_before = K.failures out; failures_after = K.failures result.out })) }
+    requires unfailed { K.failures out ≡ 0 }
+    requires settings { InRange command.now.settings }
+    ensures run { OfItsJob (S.told store.old) (run_by command.now) result.journal.items result.answer (IsRunOf (record { journal = result.journal.items; answer = result.answer; views = result.views.items; bytes = result.bytes; held_before = K.held out; held_after = K.held result.out; failures_before = K.failures out; failures_after = K.failures result.out; sure = K.sure out })) }
     ensures counts { AreCounts result.journal.items }
     ensures answer { IsOutcome result.answer (outcome_of result.journal.items) }
     ensures nothing_run { result.journal.items ≡ [] → (K.held result.out ≡ K.held out) × (K.failures result.out ≡ K.failures out) }
@@ -179,7 +183,10 @@ fn ran<R: Threads + Wait + Sync, S: Store, K: Sink + Send, G: Gate + Sync>(
     ensures asks { AsksFor (S.told store.old) (to_run (run_by command.now)) (S.calls store.old) (S.calls store.new) result.answer }
 {
     match job_from(alloc, command, store) {
-        Ok(job) => run_job(rt, alloc, job, out, gate),
+        Ok(job) => {
+            let (_job, run) = run_job(rt, alloc, job, out, gate);
+            run
+        }
         Err(answer) => nothing(alloc, answer, out),
     }
 }
@@ -192,6 +199,7 @@ fn plain_command<S: Store, K: Sink, E: Sink>(
     out: K,
     report: &mut E,
 ) -> Done<K>
+    requires unfailed { (K.failures out ≡ 0) × (E.failures report.old ≡ 0) }
     ensures plain { (steps : ℕ) × (bytes : ℕ) × OfItsPlan (S.told store.old) (plan_by command.now) (record { answer = result.answer; steps = steps; bytes = bytes; held_before = K.held out; held_after = K.held result.out; failures_before = K.failures out; failures_after = K.failures result.out }) × IsTold result.told (E.held report.old) (E.held report.new) (plain_report steps bytes result.answer) }
     ensures journal { result.journal.items ≡ [] }
     ensures views { result.views.items ≡ [] }
@@ -226,6 +234,7 @@ fn played<S: Store, K: Sink>(
     store: &mut S,
     out: &mut K,
 ) -> Played
+    requires unfailed { K.failures out.old ≡ 0 }
     ensures plain { OfItsPlan (S.told store.old) (plan_by command.now) (record { answer = result.answer; steps = result.steps; bytes = result.bytes; held_before = K.held out.old; held_after = K.held out.new; failures_before = K.failures out.old; failures_after = K.failures out.new }) }
     ensures untouched { IsRefusal result.answer → (K.held out.new ≡ K.held out.old) × (K.failures out.new ≡ K.failures out.old) }
     ensures refusal { IsRefusal result.answer → JobCause (S.told store.old) (to_plain (plan_by command.now)) (S.failures store.old) (S.failures store.new) result.answer }
@@ -247,6 +256,7 @@ fn races_command<S: Store, K, E: Sink>(
     out: K,
     report: &mut E,
 ) -> Done<K>
+    requires unfailed { E.failures report.old ≡ 0 }
     ensures races { OfItsRaces (S.told store.old) (plan_by command.now) result.answer }
     ensures text { IsTold result.told (E.held report.old) (E.held report.new) (answer_text result.answer) }
     ensures journal { result.journal.items ≡ [] }
@@ -292,6 +302,7 @@ fn inject_command<S: Store, K: Sink, E: Sink>(
     out: K,
     report: &mut E,
 ) -> Done<K>
+    requires unfailed { (K.failures out ≡ 0) × (E.failures report.old ≡ 0) }
     ensures draw { OfItsDraw (S.told store.old) (inject_by command.now) (K.held out) (K.held result.out) (K.failures out) (K.failures result.out) result.answer }
     ensures text { IsTold result.told (E.held report.old) (E.held report.new) (answer_text result.answer) }
     ensures journal { result.journal.items ≡ [] }
@@ -323,6 +334,7 @@ fn injected<S: Store, K: Sink>(
     store: &mut S,
     out: &mut K,
 ) -> Answer
+    requires unfailed { K.failures out.old ≡ 0 }
     ensures draw { OfItsDraw (S.told store.old) (inject_by command.now) (K.held out.old) (K.held out.new) (K.failures out.old) (K.failures out.new) result }
     ensures untouched { IsRefusal result → (K.held out.new ≡ K.held out.old) × (K.failures out.new ≡ K.failures out.old) }
     ensures refusal { IsRefusal result → JobCause (S.told store.old) (to_inject (inject_by command.now)) (S.failures store.old) (S.failures store.new) result }
@@ -345,7 +357,8 @@ fn bench_command<R: Threads + Wait + Sync, K: Sink, E: Sink, G: Gate + Sync>(
     report: &mut E,
     gate: &G,
 ) -> Done<K>
-    ensures bench { OfItsBench (bench_by command.now) result.journal.items (K.held out) (K.held result.out) (K.failures out) (K.failures result.out) result.answer }
+    requires unfailed { (K.failures out ≡ 0) × (E.failures report.old ≡ 0) }
+    ensures bench { OfItsBench (bench_by command.now) result.journal.items result.views.items (K.held out) (K.held result.out) (K.failures out) (K.failures result.out) result.answer }
     ensures text { IsTold result.told (E.held report.old) (E.held report.new) (answer_text result.answer) }
     ensures no_views { result.answer ≢ a.Differ → result.answer ≢ a.NoMajority → result.views.items ≡ [] }
     ensures told { result.told ≡ t.Failed → Rose (E.failures report.old) (E.failures report.new) }

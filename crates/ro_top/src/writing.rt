@@ -7,6 +7,7 @@ use ro_report::Answer;
 
 // Writes a text, and says how that ended.
 pub(crate) fn write<K: Sink>(out: &mut K, text: &[u8]) -> Answer
+    requires unfailed { K.failures out.old ≡ 0 }
     requires { length text.now < 2 ^ 32 }
     ensures { WritesText text.now (K.held out.old) (K.held out.new) (K.failures out.old) (K.failures out.new) result }
 {

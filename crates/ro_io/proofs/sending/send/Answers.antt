@@ -12,4 +12,5 @@ loop-sent-preserved g c =
           ∙ more-more (g.K.Sink.held c.args.out.now) (take c.loop-sent.sent c.args.bytes.now) _
           ∙ ap (more (g.K.Sink.held c.args.out.now)) (sym (sent-more c.args.bytes.now c.loop-sent.sent c.in-Ok.taken (length c.args.bytes.now - c.loop-sent.sent) e.count.1)),
       e.calm ∙ i.2,
+      (let before = i.3 in let more = e.sure in omega (arith, before, more)),
     )

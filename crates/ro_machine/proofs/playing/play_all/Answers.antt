@@ -7,7 +7,7 @@ use Rattle.ro_machine.proofs.Joined.{played-join, halts-later, halts-plan, plan-
 use Rattle.ro_machine.proofs.playing.play_all.Goals as goal
 
 pub play_entry-requires-clause-steps : goal.play_entry-requires-clause-steps
-play_entry-requires-clause-steps g c = plan-room c.args.journal.now c.loop-entry.entry-index (Take 0 0 0) 1000000000 c.loop-entry.now.steps (omega arith) c.requires (omega (arith, c.loop-entry.invariant.played.steps_are))
+play_entry-requires-clause-steps g c = plan-room c.args.journal.now c.loop-entry.entry-index (Take 0 0 0) 1000000000 c.loop-entry.now.steps (omega arith) c.requires.length (omega (arith, c.loop-entry.invariant.played.steps_are))
 
 pub returns-in_err-now-clause-halts : goal.returns-in_err-now-clause-halts
 returns-in_err-now-clause-halts g c =

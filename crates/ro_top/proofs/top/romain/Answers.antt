@@ -14,7 +14,7 @@ returns-in-Ok-Run-clause-run g c = λ asked is.
     let same : run_by c.in-Ok-Run.command ≡ asked = one_run (texts_of c.args.words.now) (run_by c.in-Ok-Run.command) asked (c.in-Ok-Run.ensures.spelled ∙ ap (λ (x : Command). Some (asked_by x)) c.in-Ok-Run.field-0-is) is in
     let run = c.run_command.ensures.run in (
       run.0,
-      same_job _ _ _ _ _ same run.1,
+      same_job _ _ _ _ _ _ same run.1,
       subst (λ (x : AskedRun). IsTold c.run_command.result.told (g.E.Sink.held c.args.report.now) (g.E.Sink.held c.run_command.new.report) (report_of x.journal c.run_command.result.journal.items run.0 c.run_command.result.answer)) same run.2,
     )
 

@@ -14,8 +14,8 @@ returns-clause-entry g c =
     let how = c.args.how in (
       subst (λ (v : CoreOf). IsAllowed v.job (replay v.job v.journal) (End how)) c.self.view_is c.end.ensures.allowed.0,
       subst (λ (v : CoreOf). IsNext v.job (replay v.job v.journal) (End how)) c.self.view_is c.end.ensures.allowed.1,
-      with-old (λ old new. Appends old new (End how)) c.self.view_is (c.end.ensures.appends (g.K.Sink.held c.self.inside.out) (g.K.Sink.failures c.self.inside.out)),
+      with-old (λ old new. Appends old new (End how)) c.self.view_is (c.end.ensures.appends (g.K.Sink.held c.self.inside.out) (g.K.Sink.failures c.self.inside.out) (g.K.Sink.sure c.self.inside.out)),
     )
 
 pub returns-clause-quiet : goal.returns-clause-quiet
-returns-clause-quiet g c = with-old Quiet c.self.view_is (c.end.ensures.quiet (g.K.Sink.held c.self.inside.out) (g.K.Sink.failures c.self.inside.out))
+returns-clause-quiet g c = with-old Quiet c.self.view_is (c.end.ensures.quiet (g.K.Sink.held c.self.inside.out) (g.K.Sink.failures c.self.inside.out) (g.K.Sink.sure c.self.inside.out))

@@ -3,4 +3,4 @@ use Rattle.ro_core.proofs.Held.{with-old}
 use Rattle.ro_core.proofs.cores.Core.room.Goals as goal
 
 pub returns-clause-stays : goal.returns-clause-stays
-returns-clause-stays g c = with-old Stays c.self.view_is (c.room.ensures.stays (g.K.Sink.held c.self.inside.out) (g.K.Sink.failures c.self.inside.out))
+returns-clause-stays g c = with-old Stays c.self.view_is (c.room.ensures.stays (g.K.Sink.held c.self.inside.out) (g.K.Sink.failures c.self.inside.out) (g.K.Sink.sure c.self.inside.out))

@@ -11,7 +11,7 @@ returns-in-Ok-clause-holds c =
     (o.setup ∙ ap (λ (s : Setup). record { ranges = c.args.image.ranges; heap = c.args.image.heap; input = s.input }) (sym o.setup)) o.kernel refl refl refl refl refl o.views o.none o.room
 
 pub returns-in-Ok-clause-opens : goal.returns-in-Ok-clause-opens
-returns-in-Ok-clause-opens c held count =
+returns-in-Ok-clause-opens c held count sure =
     let o = c.in-Ok.ensures in
     record {
       job_is = ap (λ fs. record { program = record { image = c.args.image; input = c.in-Ok.opening.kernel.setup.input }; faults = fs; settings = c.args.settings }) o.faults
@@ -20,4 +20,5 @@ returns-in-Ok-clause-opens c held count =
       failed_is = refl;
       held_is = refl;
       failures_is = refl;
+      sure_is = refl;
     }

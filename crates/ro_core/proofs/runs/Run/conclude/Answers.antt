@@ -15,11 +15,12 @@ returns-clause-holds c =
     (omega (arith, room, c.push_reserved.ensures.len, c.push_reserved.ensures.capacity)) c.requires.views
 
 pub returns-clause-quiet : goal.returns-clause-quiet
-returns-clause-quiet c held failures =
+returns-clause-quiet c held failures sure =
     let f = fields_of c.args.self.now in
     record {
       failed = (concluding f c.requires.holds c.args.how c.requires.going c.requires.allowed).not_failed;
       sent = ap (λ js. sent_of f.job js (failed_of f.due)) c.push_reserved.ensures.items ∙ conclude-sent f c.requires.holds c.args.how c.requires.going c.requires.allowed c.requires.not_sink;
       held = refl;
       failures = refl;
+      sure = refl;
     }

@@ -21,14 +21,15 @@ returns-clause-allowed c =
     ((end-not-over f c.requires.holds c.args.how c.requires.next, allowed.0), allowed.1)
 
 pub returns-clause-appends : goal.returns-clause-appends
-returns-clause-appends c held failures = record { job = refl; journal = c.push_reserved.ensures.items }
+returns-clause-appends c held failures sure = record { job = refl; journal = c.push_reserved.ensures.items }
 
 pub returns-clause-quiet : goal.returns-clause-quiet
-returns-clause-quiet c held failures =
+returns-clause-quiet c held failures sure =
     let f = fields_of c.args.self.now in
     record {
       failed = refl;
       sent = ap (λ js. sent_of f.job js None) c.push_reserved.ensures.items ∙ end-sent f c.requires.holds c.args.how c.requires.next;
       held = refl;
       failures = refl;
+      sure = refl;
     }

@@ -72,14 +72,14 @@ returns-clause-entry c =
     let other = c.if-self.false in (
       subst (λ (k : Core). MayFree f.job k c.args.thread) (sym (free-goes f c.requires.holds c.args.thread c.requires.may).same) (free-allowed f c.requires.holds c.args.thread c.requires.may c.in-Some.call c.in-Some.is (omega arith)),
       refl,
-      λ held failures. record {
+      λ held failures sure. record {
         job = c.occur.ensures.job ∙ ap (λ (x : Setup). record { program = record { image = c.prepare.new.self.image; input = x.input }; faults = c.prepare.new.self.faults.items; settings = c.prepare.new.self.settings }) c.serve.ensures.setup ∙ m.job;
         journal = c.occur.ensures.journal ∙ ap (λ (js : List Entry). js ++ Free c.args.thread ∷ []) m.journal;
       },
     )
 
 pub returns-clause-quiet : goal.returns-clause-quiet
-returns-clause-quiet c held failures =
+returns-clause-quiet c held failures sure =
     let f : Fields = fields_of c.args.self.now in
     let m = c.prepare.ensures.makes in
     let job = ap (λ (x : Setup). record { program = record { image = c.prepare.new.self.image; input = x.input }; faults = c.prepare.new.self.faults.items; settings = c.prepare.new.self.settings }) c.serve.ensures.setup ∙ m.job in
@@ -89,4 +89,5 @@ returns-clause-quiet c held failures =
       sent = wrote.sent ∙ append-nil _ ∙ ap (λ (j : Job). output_of j c.prepare.new.self.journal.items) job ∙ ap (output_of f.job) m.journal ∙ sym (ap (sent_of f.job f.journal) (free-goes f c.requires.holds c.args.thread c.requires.may).not_failed);
       held = refl;
       failures = refl;
+      sure = refl;
     }

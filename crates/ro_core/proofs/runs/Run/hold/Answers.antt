@@ -131,7 +131,7 @@ returns-clause-entry c =
           (ap (λ (x : Stop). (event_of f.kernel.setup f.kernel.kernel c.args.thread x view.payload).did) (sym c.stop.ensures) ∙ c.of-coming.ensures.did view.payload)
           c.since-count.ensures (let a = c.since-count.ensures in let b = c.from.ensures in let d = c.steps.ensures in omega arith) (omega arith),
       refl,
-      λ held failures. record {
+      λ held failures sure. record {
         job = c.occur.ensures.job ∙ ap (λ (x : Setup). record { program = record { image = c.prepare.new.self.image; input = x.input }; faults = c.prepare.new.self.faults.items; settings = c.prepare.new.self.settings }) c.happen.ensures.setup ∙ m.job;
         journal = c.occur.ensures.journal ∙ ap (λ (js : List Entry). js ++ Vote c.args.thread c.since-count.result c.args.won.won c.args.won.lost c.of-coming.result.did ∷ []) m.journal;
       },

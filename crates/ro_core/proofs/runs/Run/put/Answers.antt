@@ -64,13 +64,13 @@ returns-clause-holds c =
     (omega (arith, room, c.push_reserved.ensures.len, c.push_reserved.ensures.capacity))
 
 pub returns-clause-entry : goal.returns-clause-entry
-returns-clause-entry c held failures lease of_driver =
+returns-clause-entry c held failures sure lease of_driver =
     let f : Fields = fields_of c.args.self.now in
     let same = same-lease f c.requires.holds c.args.driver lease c.in-Some.lease of_driver (ap (find (λ (l : Lease). l.driver == c.args.driver)) (sym c.as_slice.ensures.value) ∙ sym c.in-Some.ensures) in
     record { job = refl; journal = c.push_reserved.ensures.items ∙ ap (λ (l : Lease). f.journal ++ Put c.args.driver l.replica l.thread c.args.ran.count c.args.ran.hit ∷ []) (sym same) }
 
 pub returns-clause-quiet : goal.returns-clause-quiet
-returns-clause-quiet c held failures =
+returns-clause-quiet c held failures sure =
     let f : Fields = fields_of c.args.self.now in
     let r = c.requires.returns in
     let none : failed_of f.due ≡ None = ap failed_of (put-not-due f c.requires.holds c.args.driver r.lease.replica r.lease.thread c.args.ran.count c.args.ran.hit r.allowed) in
@@ -80,4 +80,5 @@ returns-clause-quiet c held failures =
           ∙ put-output f.job f.journal c.args.driver c.in-Some.lease.replica c.in-Some.lease.thread c.args.ran.count c.args.ran.hit ∙ sym (ap (sent_of f.job f.journal) none);
       held = refl;
       failures = refl;
+      sure = refl;
     }

@@ -28,7 +28,7 @@ returns-clause-holds c =
     (omega (arith, parts.0, same, c.push_reserved.ensures.len, c.push_reserved.ensures.capacity))
 
 pub returns-clause-quiet : goal.returns-clause-quiet
-returns-clause-quiet c held failures =
+returns-clause-quiet c held failures sure =
     let f : Fields = fields_of c.args.self.now in
     let none = (take-goes f c.requires.holds c.args.driver c.args.replica c.args.thread c.requires.allowed).not_failed in
     record {
@@ -37,6 +37,7 @@ returns-clause-quiet c held failures =
           ∙ take-output f.job f.journal c.args.driver c.args.replica c.args.thread ∙ sym (ap (sent_of f.job f.journal) none);
       held = refl;
       failures = refl;
+      sure = refl;
     }
 
 pub returns-clause-lent : goal.returns-clause-lent

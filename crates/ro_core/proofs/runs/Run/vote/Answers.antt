@@ -45,7 +45,7 @@ split-requires-clause-views c =
     view-views f c.requires.holds c.args.thread c.requires.may _ (items ∙ c.show.ensures.views f.job (core_in f).replicas (view-home f c.requires.holds c.args.thread c.requires.may))
 
 pub returns-in-Some-clause-entry : goal.returns-in-Some-clause-entry
-returns-in-Some-clause-entry c = IfOk-weaker c.hold.result _ _ (λ voted x. (x.0, x.1, λ held failures. let a = x.2 held failures in record { job = a.job; journal = a.journal })) c.hold.ensures.entry
+returns-in-Some-clause-entry c = IfOk-weaker c.hold.result _ _ (λ voted x. (x.0, x.1, λ held failures sure. let a = x.2 held failures sure in record { job = a.job; journal = a.journal })) c.hold.ensures.entry
 
 pub returns-in-Some-clause-majority : goal.returns-in-Some-clause-majority
 returns-in-Some-clause-majority c =
@@ -56,10 +56,10 @@ returns-in-Some-clause-majority c =
 
 pub returns-in-Some-clause-err : goal.returns-in-Some-clause-err
 returns-in-Some-clause-err c =
-    on_err_weaker c.hold.result (λ x held failures. let s = x held failures in record { job = s.job; journal = s.journal; failed = s.failed; held = s.held; failures = s.failures }) c.hold.ensures.err
+    on_err_weaker c.hold.result (λ x held failures sure. let s = x held failures sure in record { job = s.job; journal = s.journal; failed = s.failed; held = s.held; failures = s.failures; sure = s.sure }) c.hold.ensures.err
 
 pub returns-in-None-clause-entry : goal.returns-in-None-clause-entry
-returns-in-None-clause-entry c = (c.split.ensures.allowed, c.split.ensures.decides, λ held failures. let a = c.split.ensures.appends held failures in record { job = a.job; journal = a.journal })
+returns-in-None-clause-entry c = (c.split.ensures.allowed, c.split.ensures.decides, λ held failures sure. let a = c.split.ensures.appends held failures sure in record { job = a.job; journal = a.journal })
 
 pub returns-in-None-clause-shown : goal.returns-in-None-clause-shown
 returns-in-None-clause-shown c split =

@@ -3,10 +3,12 @@
 
     tools/reasons.py LOG              of the edits that `rt ci` or `rt must-fail` told in this text; - is standard input
     tools/reasons.py --try [CRATE]..  tries the edits of these crates, or of all, and tells the goals in full
+    tools/reasons.py --names          tries none, and tells those that take a call away which a proof of that function names
 
 An edit that only makes a proof name what isn't there any more says nothing of the contract: it is refused whatever the body
-does. Status 1 where one fell for a name, an import or a field, or isn't refused. In a text each refusal is cut to one line: where that line
-has no goal, `untold` is said, and --try says which it is.
+does. Status 1 where one fell for a name, an import or a field, or isn't refused. In a text each refusal is cut to one line: where
+that line has no goal, `untold` is said; and a goal that got another name and so lost its answer looks there like any other.
+--try tells them apart. --names finds such edits without the prover, and those of which the call was told by its goal too.
 """
 import importlib.machinery
 import importlib.util
@@ -99,6 +101,9 @@ def tried(names):
         if any(below.build_rlib(["--jobs", "1"], anew=False) for below in crate.below()):
             sys.exit(f"a library below {crate.name} isn't proved")
         with tempfile.TemporaryDirectory() as kept:
+            before = pathlib.Path(crate.folder, "out/incremental")  # what the crate's own checks kept
+            if before.is_dir():
+                shutil.copytree(before, kept, dirs_exist_ok=True)
             for edit in edits:
                 title = edit.relative_to(ROOT)
                 texts, why = rt.read_edit(str(edit), crate.folder)
@@ -110,9 +115,53 @@ def tried(names):
                 yield title, reason_of(ran.stdout) if is_refused else Reason("not refused, or not read by the prover", False)
 
 
+def pairs_of(text):
+    """The file of each change of an edit, and what it takes away and puts there."""
+    path = old = ""
+    for line in text.splitlines():
+        kind, _, rest = line.partition(": ")
+        if kind == "file":
+            path = rest.strip()
+        elif kind == "old":
+            old = rest
+        elif kind in ("new", "new:"):
+            yield path, old, rest
+
+
+def functions(source):
+    """The text of each function of a file, from its name up to the next one's."""
+    starts = [*re.finditer(r"\bfn (\w+)", source)]
+    for start, after in zip(starts, [*starts[1:], None]):
+        yield start[1], source[start.start():after.start() if after else len(source)]
+
+
+def calls(text):
+    return set(re.findall(r"(\w+)(?:::<[^>]*>)?\(", text))
+
+
+def lost_names(crate, text):
+    """The calls that an edit takes away from a function whose proof names them."""
+    for path, old, new in pairs_of(text):
+        source = (crate / path).read_text()
+        for (name, before), (_, after) in zip(functions(source), functions(source.replace(old, new))):
+            lost = calls(before) - calls(after)
+            proofs = [file.read_text() for file in (crate / "proofs").rglob("*.antt") if file.parent.name.lstrip("+") == name]
+            cited = {word for proof in proofs for words in re.findall(r"\b(?:c|goal)\.([\w-]+)", proof) for word in words.split("-")}
+            yield from (f"{name} {call}" for call in sorted(lost & cited))
+
+
+def named():
+    for edit in sorted([*ROOT.glob("crates/*/must-fail/*.edit"), *EDITS.glob("*/*.edit")]):
+        crate = ROOT / "crates" / (edit.parent.name if EDITS in edit.parents else edit.parent.parent.name)
+        for lost in lost_names(crate, edit.read_text()):
+            yield edit.relative_to(ROOT), Reason(f"the proof of {lost}", False)
+
+
 def main(words):
     if words[:1] == ["--try"]:
         reasons = tried(words[1:])
+    elif words == ["--names"]:
+        reasons = named()
     elif len(words) == 1 and words[0] not in ("-h", "--help"):
         text = sys.stdin.read() if words[0] == "-" else pathlib.Path(words[0]).read_text(errors="replace")
         reasons = told_in(text)

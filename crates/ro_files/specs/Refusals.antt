@@ -1,4 +1,4 @@
--- Why words, or one file of a command, are refused.
+-- Why one file of a command is refused.
 use Rattle.std.specs.Prelude.{◌≡◌, ⊤, ℕ, ◌<◌, true, List, [], ◌∷◌, length, Option, Some, None, Err}
 use Rattle.ro_io.specs.Outside.{Asks, Calls, Files, Rose, unfailed}
 use Rattle.ro_image.specs.Executable.{bad_code}
@@ -8,15 +8,8 @@ use Rattle.ro_journal_text.specs.declared.errors.JournalError.TheVariants.{Bad a
 use Rattle.ro_journal_text.specs.Reading.{file_journal}
 use Rattle.ro_report.specs.declared.answers.FileKind.{FileKind}
 use Rattle.ro_report.specs.declared.answers.Answer.{Answer}
-use Rattle.ro_report.specs.declared.answers.Answer.TheVariants.{StoreFailed, BadExe, BadFaults, BadPlan, BadWords, TooLong, NoMemory}
-use Rattle.ro_words.specs.Commands.{command_of}
+use Rattle.ro_report.specs.declared.answers.Answer.TheVariants.{StoreFailed, BadExe, BadFaults, BadPlan, TooLong, NoMemory}
 use Rattle.ro_files.specs.Files.{most_of, IsFile}
-
--- they spell no command
-abbrev pub RefusesWords : (words : List (List ℕ)) → Answer → Type 0
-RefusesWords words BadWords = command_of words ≡ None
-RefusesWords words NoMemory = ⊤
-RefusesWords words answer = ⊥
 
 -- It could not be fetched, or has more bytes than it may have; and that was the store's one call.
 abbrev pub RefusesFile : Option Files → FileKind → (name : List ℕ) → (before after : ℕ) → (old new : Calls) → Answer → Type 0

@@ -3,10 +3,11 @@ from auditing.cores import Copy, Core, Judged, unlike
 from auditing.drawing import line_of
 from auditing.jobs import Entry, Fault
 from auditing.kernel import Call
+from auditing.reasons import core_behind, reason_of
 from auditing.replicas import PageFault, Stop, Trap, Watchdog
 from journals import Vote
 
-LEFT_OUT = "function", "instruction", "why"  # what a file's symbols and words tell, and why an entry is not allowed
+LEFT_OUT = "function", "instruction"  # what a file's symbols and words tell
 
 WORDS = {  # of the parts of a view
     "pc": "the pc", "since": "the instructions since the last vote", "stop": "what it stands at", "payload": "what is written"}
@@ -16,8 +17,9 @@ def told(judged: Judged, entries: list[Entry]) -> dict:
     """The JSON of a journal, but for what is left out."""
     copies = [copy_told(copy) for copy in judged.core.copies]
     if judged.place is not None:
-        line = line_of(entries[judged.place])
-        return {"entries": len(entries), "verdict": "illegal", "place": judged.place, "entry": line, "copies": copies}
+        entry = entries[judged.place]
+        why = reason_of(core_behind(judged.core.job, entries[:judged.place]), entry)
+        return {"entries": len(entries), "verdict": "illegal", "place": judged.place, "entry": line_of(entry), "why": why, "copies": copies}
     end = end_told(judged.core, entries) if judged.core.ended else None
     return {"entries": len(entries), "verdict": "legal", "steps": judged.core.steps, "end": end, "copies": copies}
 

@@ -35,11 +35,6 @@ how_of (Differ fields) = how.Differ
 how_of (NoMajority fields) = how.NoMajority
 how_of (Sink taken) = how.Sink taken
 
--- where the first entry is that is not allowed
-abbrev pub place_of : Verdict → Option ℕ
-place_of (Legal steps end) = None
-place_of (Illegal place entry why) = Some place
-
 -- the journal is legal, with a plan of so many steps and this end, or the entry at the place is the first that is not allowed
 abbrev pub Judges : Job → List Entry → Verdict → Type 0
 Judges job entries (Legal steps end) = IsLegal job entries × (steps ≡ (replay job entries).steps) × (option_map how_of end ≡ outcome_of entries)
@@ -76,11 +71,6 @@ pub record Finds (job : Job) (entries : List Entry) (findings : Findings) : Type
   pub judged : Judges job entries findings.verdict
   pub copies : map copied_of findings.copies.items ≡ copies_from 0 (allowed_in findings.verdict entries)
 
--- the journal is legal, or the entry at the place is the first that is not allowed
-abbrev pub IsJudged : Job → List Entry → (place : Option ℕ) → Type 0
-IsJudged job entries None = IsLegal job entries
-IsJudged job entries (Some place) = FirstIllegal job entries place
-
--- the journal of this name was judged, of the job that the files of the run make
-abbrev pub IsAuditOf : Option Files → AskedRun → (journal : List ℕ) → Option ℕ → Type 0
-IsAuditOf files run journal place = (job : Job) × (entries : List Entry) × IsJobOf files run job × IsJournalOf files journal entries × IsJudged job entries place
+-- The journal of this name was judged, of the job that the files of the run make, and this was found.
+abbrev pub IsAuditOf : Option Files → AskedRun → (journal : List ℕ) → Findings → Type 0
+IsAuditOf files run journal findings = (job : Job) × (entries : List Entry) × IsJobOf files run job × IsJournalOf files journal entries × Finds job entries findings

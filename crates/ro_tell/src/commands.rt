@@ -1,6 +1,6 @@
 //! The command, from its words to its answer.
-ghost use Rattle.std.specs.Prelude.{◌≡◌, ◌≢◌, ◌<◌, List, IfErr, IfOk, None, Option, Some, option_map, length};
-ghost use Rattle.ro_journal.specs.declared.Entry.{Entry as EntrySeen};
+ghost use Rattle.std.specs.Prelude.{◌≡◌, ◌<◌, ◌∷◌, [], Err, IfErr, IfOk, None, Option, Some, option_map, length};
+ghost use Rattle.ro_io.specs.Outside.{Asks, unfailed};
 ghost use Rattle.ro_journal.specs.declared.How.{How as HowSeen};
 ghost use Rattle.ro_settings.specs.Ranges.{InRange};
 ghost use Rattle.ro_legal.specs.Core.{Job as JobSeen};
@@ -11,8 +11,8 @@ ghost use Rattle.ro_words.specs.declared.commands.WordsError.TheVariants as w;
 ghost use Rattle.ro_legal.specs.Jobs.{job_of, CanRun};
 ghost use Rattle.ro_audit.specs.Audits.{FirstIllegal, Tells};
 ghost use Rattle.ro_audit.specs.Following.{IsTrail};
-ghost use Rattle.ro_files.specs.Files.{IsJobOf};
-ghost use Rattle.ro_tell.specs.Judging.{Finds, IsAuditOf, IsJournalOf, IsJudged, how_of, place_of};
+ghost use Rattle.ro_tell.specs.Causes.{AuditCause, RefusesJournal, WordsCause, audit_names};
+ghost use Rattle.ro_tell.specs.Judging.{Finds, IsAuditOf, IsJournalOf, how_of};
 
 use crate::copies::copies_made;
 use crate::fields::fields;
@@ -37,19 +37,21 @@ pub enum Form {
 /// What a journal was judged to be.
 #[derive(Drop)]
 pub struct Judged {
-    /// The place of the first entry that is not allowed; none where the journal is legal.
-    pub place: Option<usize>,
-    /// What is told of it.
+    /// What was found of it.
+    pub findings: Findings,
+    /// What is told of that.
     pub text: String,
 }
 
 /// Audits what the words ask for, of which the first is the program's name.
 ///
 /// # Errors
-/// The answer of a run whose words or files are bad.
+/// The answer of a run whose words or files are bad. Words that spell no audit are answered before the store is asked for anything.
 pub fn audit_words<S: Store>(alloc: Global, words: &[&str], store: &mut S) -> Result<Judged, Answer>
-    ensures judged { IfOk result (λ judged. (asked : AskedAudit) × (audit_of (texts_of words.now) ≡ Some asked) × IsAuditOf (S.told store.old) asked.run asked.journal judged.place) }
-    ensures words { IfErr result (λ answer. answer ≡ a.BadWords → audit_of (texts_of words.now) ≡ None) }
+    ensures judged { IfOk result (λ judged. (asked : AskedAudit) × (audit_of (texts_of words.now) ≡ Some asked) × IsAuditOf (S.told store.old) asked.run asked.journal judged.findings × Asks (S.calls store.old) (S.calls store.new) (unfailed (audit_names asked.run asked.journal))) }
+    ensures refused { IfErr result (WordsCause (S.told store.old) (texts_of words.now) (S.failures store.old) (S.failures store.new) (S.calls store.old) (S.calls store.new)) }
+    ensures told { S.told store.new ≡ S.told store.old }
+    ensures calm { (result ≡ Err a.StoreFailed → ⊥) → S.failures store.new ≡ S.failures store.old }
 {
     match parse_audit(alloc, words) {
         Ok(audit) => { audit_files(alloc, &audit.run, audit.journal, form_of(&audit), store) }
@@ -68,7 +70,8 @@ fn form_of(audit: &AuditCommand<'_>) -> Form {
 
 // The answer to words that spell no audit, or for which there is no memory.
 fn answer_of(error: WordsError) -> Answer
-    ensures { result ≡ a.BadWords → error ≡ w.Bad }
+    ensures bad { error ≡ w.Bad → result ≡ a.BadWords }
+    ensures memory { error ≡ w.NoMemory → result ≡ a.NoMemory }
 {
     match error {
         WordsError::Bad => Answer::BadWords,
@@ -88,24 +91,16 @@ pub fn audit_files<S: Store>(
     store: &mut S,
 ) -> Result<Judged, Answer>
     requires { InRange run.now.settings }
-    ensures judged { IfOk result (λ judged. IsAuditOf (S.told store.old) (run_by run.now) name.now judged.place) }
-    ensures files { IfErr result (λ answer. answer ≢ a.BadWords) }
+    ensures judged { IfOk result (λ judged. IsAuditOf (S.told store.old) (run_by run.now) name.now judged.findings) }
+    ensures asked { IfOk result (λ _. Asks (S.calls store.old) (S.calls store.new) (unfailed (audit_names (run_by run.now) name.now))) }
+    ensures refused { IfErr result (AuditCause (S.told store.old) (run_by run.now) name.now (S.failures store.old) (S.failures store.new) (S.calls store.old) (S.calls store.new)) }
+    ensures told { S.told store.new ≡ S.told store.old }
+    ensures calm { (result ≡ Err a.StoreFailed → ⊥) → S.failures store.new ≡ S.failures store.old }
 {
     let findings = find(alloc, run, name, store)?;
-    let place = place_of(&findings.verdict);
     match told(alloc, &findings, form) {
-        Ok(text) => Ok(Judged { place, text }),
+        Ok(text) => Ok(Judged { findings, text }),
         Err(_) => Err(Answer::NoMemory),
-    }
-}
-
-// The place of the first entry that is not allowed.
-fn place_of(verdict: &Verdict) -> Option<usize>
-    ensures { result ≡ place_of verdict.now }
-{
-    match verdict {
-        Verdict::Legal { .. } => None,
-        Verdict::Illegal { place, .. } => Some(*place),
     }
 }
 
@@ -117,7 +112,8 @@ fn told(alloc: Global, findings: &Findings, form: Form) -> Result<String, AllocE
     }
 }
 
-/// Finds what is to be told of the journal of a file, which is said to be of a run.
+/// Finds what is to be told of the journal of a file, which is said to be of a run. The files of the run are fetched first, and then
+/// the journal's: each once, and none after one that is refused.
 ///
 /// # Errors
 /// The answer of a run whose files are bad.
@@ -128,16 +124,30 @@ pub fn find<S: Store>(
     store: &mut S,
 ) -> Result<Findings, Answer>
     requires { InRange run.now.settings }
-    ensures found { IfOk result (λ findings. (job : JobSeen) × (entries : List EntrySeen) × IsJobOf (S.told store.old) (run_by run.now) job × IsJournalOf (S.told store.old) name.now entries × Finds job entries findings) }
-    ensures files { IfErr result (λ answer. answer ≢ a.BadWords) }
+    ensures found { IfOk result (IsAuditOf (S.told store.old) (run_by run.now) name.now) }
+    ensures asked { IfOk result (λ _. Asks (S.calls store.old) (S.calls store.new) (unfailed (audit_names (run_by run.now) name.now))) }
+    ensures refused { IfErr result (AuditCause (S.told store.old) (run_by run.now) name.now (S.failures store.old) (S.failures store.new) (S.calls store.old) (S.calls store.new)) }
+    ensures told { S.told store.new ≡ S.told store.old }
+    ensures calm { (result ≡ Err a.StoreFailed → ⊥) → S.failures store.new ≡ S.failures store.old }
 {
     let FetchedJob { job, executable } = fetch_job(alloc, run, store)?;
-    let file = fetch(store, alloc, FileKind::Plan, name)?;
-    let entries = journal(alloc, file.as_slice())?;
+    let entries = fetch_journal(alloc, name, store)?;
     match judge(alloc, job, executable.as_slice(), entries.as_slice()) {
         Ok(findings) => Ok(findings),
         Err(_) => Err(Answer::NoMemory),
     }
+}
+
+// The journal of a file.
+fn fetch_journal<S: Store>(alloc: Global, name: &str, store: &mut S) -> Result<Vec<Entry>, Answer>
+    ensures journal { IfOk result (λ journal. IsJournalOf (S.told store.old) name.now journal.items) }
+    ensures asked { IfOk result (λ _. Asks (S.calls store.old) (S.calls store.new) (unfailed (name.now ∷ []))) }
+    ensures refused { IfErr result (RefusesJournal (S.told store.old) name.now (S.failures store.old) (S.failures store.new) (S.calls store.old) (S.calls store.new)) }
+    ensures told { S.told store.new ≡ S.told store.old }
+    ensures calm { (result ≡ Err a.StoreFailed → ⊥) → S.failures store.new ≡ S.failures store.old }
+{
+    let file = fetch(store, alloc, FileKind::Plan, name)?;
+    journal(alloc, file.as_slice())
 }
 
 // Follows the journal of a job, and finds what came of it.

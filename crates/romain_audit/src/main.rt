@@ -4,19 +4,15 @@
 //! with the status of a run whose words or files are bad.
 #![tactic(auto)]
 
+mod auditing;
+
+use auditing::audit;
 use ro_io::{FileStore, OutSink};
-use ro_tell::{Judged, audit_words};
-use ro_top::{answered, without_words};
+use ro_top::without_words;
 use std::alloc::{AllocError, Global};
 use std::env::{self, Args};
 use std::io::ErrorKind;
 use std::process::ExitCode;
-
-/// The status where an entry is not allowed.
-const ILLEGAL: u8 = 238;
-
-/// The status where standard output can't be written.
-const UNTOLD: u8 = 251;
 
 fn main(rt: HostRuntime) -> ExitCode {
     let alloc = rt.alloc();
@@ -28,24 +24,10 @@ fn main(rt: HostRuntime) -> ExitCode {
         return ExitCode::from(without_words(&mut report));
     };
     let mut store = FileStore::new(&rt);
-    let status = match audit_words(alloc, texts.as_slice(), &mut store) {
-        Ok(judged) => tell(&rt, &judged),
-        Err(answer) => answered(&mut report, &answer),
-    };
-    ExitCode::from(status)
+    let mut out = OutSink::new(rt.stdout());
+    ExitCode::from(audit(alloc, texts.as_slice(), &mut store, &mut out, &mut report))
 }
 
-// Prints what was judged, and answers the status.
-fn tell(rt: &HostRuntime, judged: &Judged) -> u8 {
-    let text = judged.text.as_str();
-    if print!(rt; "{text}").is_err() {
-        return UNTOLD;
-    }
-    match judged.place {
-        None => 0,
-        Some(_) => ILLEGAL,
-    }
-}
 // The words of the command line. Words that are no texts are no command, and so are none.
 fn words(rt: &HostRuntime, alloc: Global) -> Result<Vec<String>, AllocError> {
     match env::args(rt) {

@@ -6,5 +6,7 @@ pub mod Slots
 pub mod Steps
 -- an end that is not allowed
 pub mod Ends
+-- the length of the plan
+pub mod Plans
 -- what is told
 pub mod Telling

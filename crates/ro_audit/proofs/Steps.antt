@@ -22,7 +22,7 @@ use Rattle.ro_replica.specs.Runs.{RanTo, run_of, with_stop}
 use Rattle.ro_replica.specs.Seen.{ReplicaOf, replica_of, Runs}
 use Rattle.ro_lease.specs.Loans.{LentOf, BackOf, Gives}
 use Rattle.ro_legal.specs.declared.actions.Lease.{Lease}
-use Rattle.ro_legal.specs.Core.{Job, Core, opening_core, is_idle, may_vote, may_free, lease_of}
+use Rattle.ro_legal.specs.Core.{Job, Core, opening_core, is_idle, is_out, may_vote, may_free, lease_of}
 use Rattle.ro_legal.specs.Event.{Event, call_event, with_recovered}
 use Rattle.ro_legal.specs.Legal.{lease_run, arrived, core_after_put, core_after_event, event_in, freed_event, after, IsAllowed, MayTake, MayPut, Legal, replay, replay_with, output_of}
 use Rattle.ro_core.specs.Seen.{CoreOf, state, sent, sent_of, Opens, Appends, Quiet, Sends, IsLent, MayReturn, ReturnIs}
@@ -32,7 +32,10 @@ use Rattle.ro_legal.proofs.Leases.{event_leases, leases_apart, one_each}
 use Rattle.ro_legal.proofs.Ordered.{end-alone, vote-parts, free-parts, freed-is, ordered}
 use Rattle.ro_legal.proofs.Single.{one-decides, one-frees}
 use Rattle.ro_core.proofs.Lending.{put_became, out_found}
-use Rattle.ro_audit.specs.Following.{Lends, Slot, Follows, Followed, IsInPlace, NotInPlace, Same, core_at}
+use Rattle.ro_audit.specs.declared.follower.Why.{Why}
+use Rattle.ro_audit.specs.declared.follower.Why.TheVariants.{NotOut, Ran}
+use Rattle.ro_audit.specs.Audits.{Compete, IsReason}
+use Rattle.ro_audit.specs.Following.{Lends, Slot, Follows, Followed, IsInPlace, IsUnless, NotInPlace, Same, core_at}
 use Rattle.ro_audit.specs.declared.follower.InPlace.{InPlace}
 use Rattle.ro_audit.proofs.Runs.{Arrives, one-run}
 use Rattle.ro_audit.proofs.Slots.{AreSlots, its_lease, slots-take, slots-put, slots-alone, none-out, out-found}
@@ -282,13 +285,13 @@ module _ (old new : CoreOf) (job : new.job ≡ old.job) (journal : new.journal �
   }
 
   -- what was followed from the one was followed from the other
-  pub same-followed : (entry : Entry) (answer : Bool) (core : CoreOf) (lent : List (Option LentOf)) (wrote : ℕ) → Followed new entry answer core lent wrote → Followed old entry answer core lent wrote
-  same-followed entry true core lent wrote w = (
+  pub same-followed : (entry : Entry) (answer : Option Why) (core : CoreOf) (lent : List (Option LentOf)) (wrote : ℕ) → Followed new entry answer core lent wrote → Followed old entry answer core lent wrote
+  same-followed entry None core lent wrote w = (
     to-old (λ j c. IsAllowed j c entry) w.0,
     record { job = w.1.job ∙ job; journal = w.1.journal ∙ ap (λ (js : List Entry). js ++ entry ∷ []) journal },
     w.2,
   )
-  same-followed entry false core lent wrote w = λ m. w (to-new (λ j c. IsAllowed j c entry) m)
+  same-followed entry (Some why) core lent wrote w = (λ m. w.0 (to-new (λ j c. IsAllowed j c entry) m), to-old (λ j c. IsReason j c entry why) w.1)
 
 -- ---- in whose place a run ends
 
@@ -303,13 +306,13 @@ is-in-place old new how place s n = to-old old new s.job s.journal (λ j c. IsIn
 
 -- ---- what a vote or a free came to, and the entry
 
-module _ (old new : CoreOf) (thread : ℕ) (entry came : Entry) (answer : Bool) (lent : List (Option LentOf)) (wrote : ℕ) (f : Follows old lent wrote) (same : IsTrue answer ↔ (came ≡ entry)) where
-  by-answer : (wrote' : ℕ) → (IsAllowed old.job (core_at old) entry → came ≡ entry) → IsAllowed old.job (core_at old) came → Appends old new came → Follows new lent wrote' → Followed old entry answer new lent wrote'
-  by-answer wrote' one allowed appends follows = by answer same
+module _ (old new : CoreOf) (thread : ℕ) (entry came : Entry) (answer : Option Why) (lent : List (Option LentOf)) (wrote : ℕ) (f : Follows old lent wrote) (same : IsUnless came entry answer) where
+  by-answer : (wrote' : ℕ) → (IsAllowed old.job (core_at old) entry → came ≡ entry) → IsAllowed old.job (core_at old) came → Compete old.job (core_at old) entry came → Appends old new came → Follows new lent wrote' → Followed old entry answer new lent wrote'
+  by-answer wrote' one allowed compete appends follows = by answer same
     where
-      by : (b : Bool) → IsTrue b ↔ (came ≡ entry) → Followed old entry b new lent wrote'
-      by true s = (subst (IsAllowed old.job (core_at old)) (s.0 refl) allowed, subst (Appends old new) (s.0 refl) appends, follows)
-      by false s = λ m. true≢false (sym (s.1 (one m)))
+      by : (o : Option Why) → IsUnless came entry o → Followed old entry o new lent wrote'
+      by None s = (subst (IsAllowed old.job (core_at old)) s allowed, subst (Appends old new) s appends, follows)
+      by (Some why) s = (λ m. s.1 (one m), subst (IsReason old.job (core_at old) entry) (sym s.0) (allowed, s.1, compete))
 
   pub vote-followed : (wrote' : ℕ) (bytes : List ℕ) → may_vote (core_at old) thread ≡ true → DecidesVote old.job (core_at old) thread entry → IsAllowed old.job (state old) came → DecidesVote old.job (state old) thread came → Appends old new came → Sends old new bytes → new.failed ≡ None
       → wrote' ≡ length (sent new) - length (sent old) → Followed old entry answer new lent wrote'
@@ -317,51 +320,63 @@ module _ (old new : CoreOf) (thread : ℕ) (entry came : Entry) (answer : Bool) 
       let at = state-is old f.calm in
       let allowed' : IsAllowed old.job (core_at old) came = subst (λ (c : Core). IsAllowed old.job c came) at allowed in
       let decides' : DecidesVote old.job (core_at old) thread came = subst (λ (c : Core). DecidesVote old.job c thread came) at came_decides in
-      by-answer wrote' (λ m. one-decides old.job (core_at old) thread came entry allowed' decides' m decides) allowed' appends (vote-follows old new thread came lent wrote wrote' bytes f may allowed' decides' appends sends calm is)
+      by-answer wrote' (λ m. one-decides old.job (core_at old) thread came entry allowed' decides' m decides) allowed' (thread, inl (may, decides, decides')) appends (vote-follows old new thread came lent wrote wrote' bytes f may allowed' decides' appends sends calm is)
 
   pub free-followed : may_free old.job (core_at old) thread ≡ true → DecidesFree old.job (core_at old) thread entry → IsAllowed old.job (state old) came → DecidesFree old.job (state old) thread came → Appends old new came → Quiet old new → Followed old entry answer new lent 0
   free-followed may decides allowed came_decides appends quiet =
       let at = state-is old f.calm in
       let allowed' : IsAllowed old.job (core_at old) came = subst (λ (c : Core). IsAllowed old.job c came) at allowed in
       let decides' : DecidesFree old.job (core_at old) thread came = subst (λ (c : Core). DecidesFree old.job c thread came) at came_decides in
-      by-answer 0 (λ m. one-frees old.job (core_at old) thread came entry allowed' decides' m decides) allowed' appends (free-follows old new thread came lent wrote f may allowed' decides' appends quiet)
-
--- an answer that is no
-pub refused : (old core : CoreOf) (entry : Entry) (answer : Bool) (lent : List (Option LentOf)) (wrote : ℕ) → answer ≡ false → (IsAllowed old.job (core_at old) entry → ⊥) → Followed old entry answer core lent wrote
-refused old core entry answer lent wrote e none = subst (λ (b : Bool). Followed old entry b core lent wrote) (sym e) none
+      by-answer 0 (λ m. one-frees old.job (core_at old) thread came entry allowed' decides' m decides) allowed' (thread, inr (may, decides, decides')) appends (free-follows old new thread came lent wrote f may allowed' decides' appends quiet)
 
 -- ---- what may not come back
 
+-- an entry that is not allowed, and why
+abbrev Refuses : CoreOf → Entry → Why → Type 0
+Refuses core entry why = (IsAllowed core.job (core_at core) entry → ⊥) × IsReason core.job (core_at core) entry why
+
+false-by : (b : Bool) → (b ≡ true → ⊥) → b ≡ false
+false-by true none = absurd (none refl)
+false-by false none = refl
+
+not-out : (core : CoreOf) (driver replica thread count hit : ℕ) → (is_out (core_at core) driver replica thread ≡ true → ⊥) → Refuses core (Put driver replica thread count hit) NotOut
+not-out core driver replica thread count hit none = (λ m. none m.out, false-by (is_out (core_at core) driver replica thread) none)
+
 -- nothing is lent to the driver
-pub none-lent : (core : CoreOf) (driver replica thread count hit : ℕ) (o : Option LentOf) → o ≡ None → Slot core.job (core_at core) driver o → MayPut core.job (core_at core) driver replica thread count hit → ⊥
-none-lent core driver replica thread count hit o e s m = none-out (core_at core) driver replica thread (subst (Slot core.job (core_at core) driver) e s) m.out
+pub none-lent : (core : CoreOf) (driver replica thread count hit : ℕ) (o : Option LentOf) → o ≡ None → Slot core.job (core_at core) driver o → Refuses core (Put driver replica thread count hit) NotOut
+none-lent core driver replica thread count hit o e s = not-out core driver replica thread count hit (λ out. none-out (core_at core) driver replica thread (subst (Slot core.job (core_at core) driver) e s) out)
 
 -- another thread is
 pub other-lent : (core : CoreOf) (driver replica thread count hit : ℕ) (lent : LentOf) (answer : Bool) → Legal core.job core.journal → Lends core.job (core_at core) driver lent → IsTrue answer ↔ ((lent.number ≡ replica) × (lent.thread ≡ thread)) → answer ≡ false
-    → MayPut core.job (core_at core) driver replica thread count hit → ⊥
-other-lent core driver replica thread count hit lent answer legal s is fails m =
-    let found = out-found driver replica thread (its_lease driver lent) (core_at core).leases (one_each core.job core.journal legal) s.held m.out in
-    true≢false (sym (is.1 found) ∙ fails)
+    → Refuses core (Put driver replica thread count hit) NotOut
+other-lent core driver replica thread count hit lent answer legal s is fails = not-out core driver replica thread count hit (λ out.
+    let found = out-found driver replica thread (its_lease driver lent) (core_at core).leases (one_each core.job core.journal legal) s.held out in
+    true≢false (sym (is.1 found) ∙ fails))
 
 -- its run comes to something else
 pub other-run : (core : CoreOf) (driver replica thread count hit : ℕ) (lent : LentOf) (back : BackOf) (answer : Bool) → Lends core.job (core_at core) driver lent → Gives lent back → (lent.number ≡ replica) × (lent.thread ≡ thread)
-    → IsTrue answer ↔ ((back.ran.count ≡ count) × (back.ran.hit ≡ hit)) → answer ≡ false → MayPut core.job (core_at core) driver replica thread count hit → ⊥
-other-run core driver replica thread count hit lent back answer s g its is fails m =
-    let one = run-is-one core.job (core_at core) driver lent back s g replica thread count hit its.0 its.1 m in
-    true≢false (sym (is.1 one) ∙ fails)
+    → IsTrue answer ↔ ((back.ran.count ≡ count) × (back.ran.hit ≡ hit)) → answer ≡ false → Refuses core (Put driver replica thread count hit) (Ran back.ran.count back.ran.hit)
+other-run core driver replica thread count hit lent back answer s g its is fails = (
+  λ m. true≢false (sym (is.1 (run-is-one core.job (core_at core) driver lent back s g replica thread count hit its.0 its.1 m)) ∙ fails),
+  (
+    subst (λ (n : ℕ). MayPut core.job (core_at core) driver replica n back.ran.count back.ran.hit) its.1
+        (subst (λ (n : ℕ). MayPut core.job (core_at core) driver n lent.thread back.ran.count back.ran.hit) its.0 (run-may-put core.job (core_at core) driver lent back s g)),
+    λ same. true≢false (sym (is.1 same) ∙ fails),
+  ),
+)
 
 -- a put that was followed
 pub put-followed : (core new : CoreOf) (driver replica thread count hit : ℕ) (lent : LentOf) (back : BackOf) (items items' : List (Option LentOf)) (wrote : ℕ) → Follows core items wrote → Lends core.job (core_at core) driver lent → Gives lent back
     → (lent.number ≡ replica) × (lent.thread ≡ thread) → (back.ran.count ≡ count) × (back.ran.hit ≡ hit) → ReturnIs core new driver back.ran.count back.ran.hit → Quiet core new → driver < length items → items' ≡ slice_set items driver None
-    → Followed core (Put driver replica thread count hit) true new items' 0
+    → Followed core (Put driver replica thread count hit) None new items' 0
 put-followed core new driver replica thread count hit lent back items items' wrote f s g its ran r q within is =
     let may = run-may-put core.job (core_at core) driver lent back s g in
     let appends : Appends core new (Put driver lent.number lent.thread back.ran.count back.ran.hit) = r (its_lease driver lent) (ap (λ (c : Core). lease_of c driver) (state-is core f.calm) ∙ s.held) in
-    let done : Followed core (Put driver lent.number lent.thread back.ran.count back.ran.hit) true new items' 0 =
+    let done : Followed core (Put driver lent.number lent.thread back.ran.count back.ran.hit) None new items' 0 =
     (may, appends, put-follows core new driver lent.number lent.thread back.ran.count back.ran.hit items items' wrote f may appends q within is)
     in
     let same : Put driver lent.number lent.thread back.ran.count back.ran.hit ≡ Put driver replica thread count hit =
     ap (λ (n : ℕ). Put driver n lent.thread back.ran.count back.ran.hit) its.0 ∙ ap (λ (n : ℕ). Put driver replica n back.ran.count back.ran.hit) its.1
     ∙ ap (λ (n : ℕ). Put driver replica thread n back.ran.hit) ran.0 ∙ ap (Put driver replica thread count) ran.1
     in
-    subst (λ (e : Entry). Followed core e true new items' 0) same done
+    subst (λ (e : Entry). Followed core e None new items' 0) same done

@@ -1,5 +1,6 @@
 -- What is told of a journal that was followed.
 use Rattle.std.proofs.Common.{◌≡◌, ℕ, suc, ◌+◌, ◌-◌, ◌<◌, ◌≤◌, true, List, [], ◌∷◌, ◌++◌, length, take, drop, Some, None, get_or, refl, sym, ap, ◌∙◌, arith, length-append, append_assoc}
+use Rattle.std.specs.Prelude.{is_some}
 use Rattle.std.proofs.Math.Seq.{drop-cons}
 use Rattle.std.proofs.lemmas.List.{length-take-le, take-append-drop}
 use Rattle.ro_journal.specs.declared.How.{How}
@@ -15,9 +16,12 @@ use Rattle.ro_core.proofs.Held.{not-split}
 use Rattle.ro_legal.proofs.Ordered.{going-parts, ordered}
 use Rattle.ro_legal.proofs.Outcomes.{over_from, ended_is_outcome}
 use Rattle.ro_audit.specs.declared.audits.Audited.{Audited}
-use Rattle.ro_audit.specs.Audits.{FirstIllegal, Tells}
+use Rattle.ro_audit.specs.declared.follower.Why.{Why}
+use Rattle.ro_audit.specs.declared.follower.Why.TheVariants.{NoEnd, Behind}
+use Rattle.ro_audit.specs.Audits.{FirstIllegal, IsReason, Tells}
 use Rattle.ro_audit.specs.Following.{AtEntry, core_at}
 use Rattle.ro_audit.proofs.Ends.{no-sink-end}
+use Rattle.ro_audit.proofs.Plans.{plan-end}
 
 -- ---- a failing sink's end
 
@@ -41,7 +45,7 @@ module _ (job : Job) (journal : List Entry) (taken : ℕ) (legal : Legal job jou
   cut-tells told t audited how steps output views few = record {
     legal = legal_more job journal (End (Sink taken)) legal allowed;
     how = how ∙ sym ends;
-    steps = steps ∙ t.steps ∙ ap (λ (c : Core). c.steps) (sym (replay_more job journal (End (Sink taken))));
+    steps = steps ∙ t.steps ∙ ap length (sym (plan-end journal (Sink taken)));
     output = output ∙ ap (λ (n : ℕ). take n (output_of job journal)) same ∙ ap (λ (c : Core). c.output) (sym (replay_more job journal (End (Sink taken))));
     views = not-split job (journal ++ End (Sink taken) ∷ []) audited.views.items (Sink taken) ends (λ (e : Sink taken ≡ Differ). cc) (λ (e : Sink taken ≡ NoMajority). cc);
     no_views = λ _ _. views ∙ t.no_views (λ (e : outcome_of journal ≡ Some Differ). let f : None ≡ Some Differ = sym none-yet ∙ e in cc) (λ (e : outcome_of journal ≡ Some NoMajority). let f : None ≡ Some NoMajority = sym none-yet ∙ e in cc);
@@ -53,8 +57,8 @@ module _ (job : Job) (journal : List Entry) (taken : ℕ) (legal : Legal job jou
 -- ---- the first entry that is not allowed
 
 -- behind a journal that was followed
-pub stopped : (core : CoreOf) (journal : List Entry) (place : ℕ) (entry : Entry) → AtEntry core journal place entry → Legal core.job core.journal → (IsAllowed core.job (core_at core) entry → ⊥) → FirstIllegal core.job journal place
-stopped core journal place entry at legal not_allowed = record {
+pub stopped : (core : CoreOf) (journal : List Entry) (place : ℕ) (entry : Entry) (why : Why) → AtEntry core journal place entry → Legal core.job core.journal → (IsAllowed core.job (core_at core) entry → ⊥) → IsReason core.job (core_at core) entry why → FirstIllegal core.job journal place why
+stopped core journal place entry why at legal not_allowed reason = record {
   before = core.journal;
   entry = entry;
   rest = at.rest;
@@ -62,11 +66,14 @@ stopped core journal place entry at legal not_allowed = record {
   place_is = at.place_is;
   legal = legal;
   not_allowed = not_allowed;
+  reason = reason;
 }
 
 -- a failing sink's end that may not come
-pub sink-stopped : (core : CoreOf) (journal : List Entry) (place taken : ℕ) → AtEntry core journal place (End (Sink taken)) → Legal core.job core.journal → (is_going (core_at core) ≡ true → taken < (core_at core).wrote → ⊥) → FirstIllegal core.job journal place
-sink-stopped core journal place taken at legal none = stopped core journal place (End (Sink taken)) at legal (no-sink-end core.job (core_at core) taken (ordered core.job core.journal legal) none)
+pub sink-stopped : (core : CoreOf) (journal : List Entry) (place taken : ℕ) → AtEntry core journal place (End (Sink taken)) → Legal core.job core.journal → (is_going (core_at core) ≡ true → taken < (core_at core).wrote → ⊥) → FirstIllegal core.job journal place NoEnd
+sink-stopped core journal place taken at legal none =
+    let not_allowed = no-sink-end core.job (core_at core) taken (ordered core.job core.journal legal) none in
+    stopped core journal place (End (Sink taken)) NoEnd at legal not_allowed not_allowed
 
 nothing-behind : (job : Job) (core : Core) (how : How) (entry : Entry) → core.ended ≡ Some how → IsAllowed job core entry → ⊥
 nothing-behind job core how entry ended m = let e : entry ∷ [] ≡ [] = over_from job core how (entry ∷ []) ended (m, tt) in cc
@@ -76,10 +83,10 @@ unfolding after
 ended-sink job journal taken = ap (λ (c : Core). c.ended) (replay_more job journal (End (Sink taken)))
 
 -- an entry behind it
-pub behind-stopped : (core : CoreOf) (journal : List Entry) (place taken : ℕ) → AtEntry core journal place (End (Sink taken)) → Legal core.job core.journal → is_going (core_at core) ≡ true → taken < (core_at core).wrote → place + 1 < length journal → FirstIllegal core.job journal (place + 1)
+pub behind-stopped : (core : CoreOf) (journal : List Entry) (place taken : ℕ) → AtEntry core journal place (End (Sink taken)) → Legal core.job core.journal → is_going (core_at core) ≡ true → taken < (core_at core).wrote → place + 1 < length journal → FirstIllegal core.job journal (place + 1) Behind
 behind-stopped core journal place taken at legal going less more = by at.rest refl
   where
-    by : (rest : List Entry) → at.rest ≡ rest → FirstIllegal core.job journal (place + 1)
+    by : (rest : List Entry) → at.rest ≡ rest → FirstIllegal core.job journal (place + 1) Behind
     by [] e =
         let n : length journal ≡ length core.journal + 1 = ap length at.journal_is ∙ ap (λ (r : List Entry). length (core.journal ++ End (Sink taken) ∷ r)) e ∙ length-append core.journal (End (Sink taken) ∷ []) in
         absurd (let p = at.place_is in omega arith)
@@ -91,6 +98,7 @@ behind-stopped core journal place taken at legal going less more = by at.rest re
       place_is = length-append core.journal (End (Sink taken) ∷ []) ∙ ap (λ (n : ℕ). n + 1) at.place_is;
       legal = legal_more core.job core.journal (End (Sink taken)) legal (allowed core.job core.journal taken legal going less);
       not_allowed = λ m. nothing-behind core.job (replay core.job (core.journal ++ End (Sink taken) ∷ [])) (Sink taken) entry (ended-sink core.job core.journal taken) m;
+      reason = ap is_some (ended-sink core.job core.journal taken);
     }
 
 -- the only entry left

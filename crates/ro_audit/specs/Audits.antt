@@ -1,17 +1,42 @@
 -- What an audit tells of a journal.
-use Rattle.std.specs.Prelude.{◌≡◌, ◌≢◌, ℕ, List, [], ◌∷◌, ◌++◌, length, Some}
+use Rattle.std.specs.Prelude.{◌≡◌, ◌≢◌, ◌⊎◌, ℕ, true, false, List, [], ◌∷◌, ◌++◌, length, Some, IsSome}
 use Rattle.ro_journal.specs.declared.How.TheVariants.{Differ, NoMajority}
 use Rattle.ro_journal.specs.declared.Entry.{Entry}
-use Rattle.ro_journal.specs.Plan.{outcome_of}
-use Rattle.ro_legal.specs.Core.{Job}
-use Rattle.ro_legal.specs.Legal.{IsAllowed, Legal, replay, output_of}
+use Rattle.ro_journal.specs.declared.Entry.TheVariants.{Take, Put, Vote, Free, End}
+use Rattle.ro_journal.specs.Plan.{outcome_of, plan_of}
+use Rattle.ro_legal.specs.Core.{Job, Core, is_out, may_vote, may_free}
+use Rattle.ro_legal.specs.Decides.{DecidesVote, DecidesFree}
+use Rattle.ro_legal.specs.Legal.{IsAllowed, MayTake, MayPut, Legal, replay, output_of}
 use Rattle.ro_core.specs.Seen.{KeepsViews}
+use Rattle.ro_audit.specs.declared.follower.Why.{Why}
+use Rattle.ro_audit.specs.declared.follower.Why.TheVariants.{NotLendable, NotOut, Ran, NoVote, NoFree, Comes, NoEnd, Behind}
 use Rattle.ro_audit.specs.declared.audits.Audited.{Audited}
 use Rattle.ro_audit.specs.declared.audits.AuditError.{AuditError}
 use Rattle.ro_audit.specs.declared.audits.AuditError.TheVariants.{Illegal, NoMemory}
 
--- the entry at the place is the first that is not allowed in the core that those before it leave
-pub record FirstIllegal (job : Job) (journal : List Entry) (place : ℕ) : Type 0 where
+-- the entry, and the one that comes in its stead, decide the vote on a thread that may be voted on, or free one that may be freed
+abbrev pub Compete : Job → Core → (entry came : Entry) → Type 0
+Compete job core entry came = (thread : ℕ) ×
+    (((may_vote core thread ≡ true) × DecidesVote job core thread entry × DecidesVote job core thread came)
+    ⊎ ((may_free job core thread ≡ true) × DecidesFree job core thread entry × DecidesFree job core thread came))
+
+-- What a reason says of an entry that is not allowed in a core: another comes in its stead, or the run has ended; the thread can't be
+-- lent to the driver; no such lease is out, or its run comes back after other counts; the thread can't be voted on, or has no call
+-- that may be served; the run does not end so.
+abbrev pub IsReason : Job → Core → Entry → Why → Type 0
+IsReason job core entry (Comes came) = IsAllowed job core came × (came ≢ entry) × Compete job core entry came
+IsReason job core entry Behind = IsSome core.ended
+IsReason job core (Take driver replica thread) NotLendable = MayTake job core driver replica thread → ⊥
+IsReason job core (Put driver replica thread count hit) NotOut = is_out core driver replica thread ≡ false
+IsReason job core (Put driver replica thread count hit) (Ran other struck) =
+    MayPut job core driver replica thread other struck × ((other ≡ count) × (struck ≡ hit) → ⊥)
+IsReason job core (Vote thread count won lost did) NoVote = may_vote core thread ≡ false
+IsReason job core (Free thread) NoFree = may_free job core thread ≡ false
+IsReason job core (End how) NoEnd = IsAllowed job core (End how) → ⊥
+IsReason job core entry why = ⊥
+
+-- the entry at the place is the first that is not allowed in the core that those before it leave, and this is why
+pub record FirstIllegal (job : Job) (journal : List Entry) (place : ℕ) (why : Why) : Type 0 where
   pub before : List Entry
   pub entry : Entry
   pub rest : List Entry
@@ -19,17 +44,18 @@ pub record FirstIllegal (job : Job) (journal : List Entry) (place : ℕ) : Type 
   pub place_is : length before ≡ place
   pub legal : Legal job before
   pub not_allowed : IsAllowed job (replay job before) entry → ⊥
+  pub reason : IsReason job (replay job before) entry why
 
 -- the journal is legal, and this is what its replay comes to
 pub record Tells (job : Job) (journal : List Entry) (audited : Audited) : Type 0 where
   pub legal : Legal job journal
   pub how : audited.how ≡ outcome_of journal
-  pub steps : audited.steps ≡ (replay job journal).steps
+  pub steps : audited.steps ≡ length (plan_of journal)
   pub output : audited.output.items ≡ output_of job journal
   pub views : KeepsViews job journal audited.views.items
   pub no_views : outcome_of journal ≢ Some Differ → outcome_of journal ≢ Some NoMajority → audited.views.items ≡ []
 
 -- why there is no audit; want of memory has no cause in the journal
 abbrev pub IsCause : Job → List Entry → AuditError → Type 0
-IsCause job journal (Illegal place why) = FirstIllegal job journal place
+IsCause job journal (Illegal place why) = FirstIllegal job journal place why
 IsCause job journal NoMemory = Unit {0}

@@ -1,5 +1,5 @@
 -- A journal that is followed.
-use Rattle.std.specs.Prelude.{◌≡◌, ◌<◌, ◌≤◌, ℕ, Bool, true, false, List, [], ◌∷◌, ◌++◌, length, Option, Some, None, slice_get, slice_index_or}
+use Rattle.std.specs.Prelude.{◌≡◌, ◌≢◌, ◌<◌, ◌≤◌, ℕ, true, List, [], ◌∷◌, ◌++◌, length, Option, Some, None, slice_get, slice_index_or}
 use Rattle.ro_journal.specs.declared.How.{How}
 use Rattle.ro_journal.specs.declared.How.TheVariants.{Sink}
 use Rattle.ro_journal.specs.declared.Entry.{Entry}
@@ -15,7 +15,9 @@ use Rattle.ro_audit.specs.declared.follower.InPlace.{InPlace}
 use Rattle.ro_audit.specs.declared.follower.InPlace.TheVariants.{OfVote, OfFree}
 use Rattle.ro_audit.specs.declared.follower.Walk.{Walk}
 use Rattle.ro_audit.specs.declared.follower.Walk.TheVariants.{Whole, Cut, Stopped}
-use Rattle.ro_audit.specs.Audits.{FirstIllegal}
+use Rattle.ro_audit.specs.declared.follower.Why.{Why}
+use Rattle.ro_audit.specs.declared.follower.Why.TheVariants.{Comes}
+use Rattle.ro_audit.specs.Audits.{FirstIllegal, IsReason}
 
 -- what is lent to a driver: its lease is out, and the replica is the core's
 pub record Lends (job : Job) (core : Core) (driver : ℕ) (lent : LentOf) : Type 0 where
@@ -46,10 +48,15 @@ pub record Follows (core : CoreOf) (lent : List (Option LentOf)) (wrote : ℕ) :
 abbrev pub core_at : CoreOf → Core
 core_at core = replay core.job core.journal
 
--- the entry was followed, or it is not allowed
-abbrev pub Followed : CoreOf → Entry → Bool → CoreOf → List (Option LentOf) → ℕ → Type 0
-Followed old entry true core lent wrote = IsAllowed old.job (core_at old) entry × Appends old core entry × Follows core lent wrote
-Followed old entry false core lent wrote = IsAllowed old.job (core_at old) entry → ⊥
+-- the entry was followed, or it is not allowed, and why
+abbrev pub Followed : CoreOf → Entry → Option Why → CoreOf → List (Option LentOf) → ℕ → Type 0
+Followed old entry None core lent wrote = IsAllowed old.job (core_at old) entry × Appends old core entry × Follows core lent wrote
+Followed old entry (Some why) core lent wrote = (IsAllowed old.job (core_at old) entry → ⊥) × IsReason old.job (core_at old) entry why
+
+-- it is what came, or that is why it is not allowed
+abbrev pub IsUnless : (came entry : Entry) → Option Why → Type 0
+IsUnless came entry None = came ≡ entry
+IsUnless came entry (Some why) = (why ≡ Comes came) × (came ≢ entry)
 
 -- in the place of what the run would end so
 abbrev pub IsInPlace : Job → Core → How → InPlace → Type 0
@@ -77,7 +84,7 @@ abbrev pub Walked : Job → List Entry → Walk → CoreOf → List (Option Lent
 Walked job journal Whole core lent wrote = (core.job ≡ job) × (core.journal ≡ journal) × Follows core lent wrote
 Walked job journal (Cut taken) core lent wrote =
     (core.job ≡ job) × (core.journal ++ End (Sink taken) ∷ [] ≡ journal) × (is_going (core_at core) ≡ true) × (taken < wrote) × Follows core lent wrote
-Walked job journal (Stopped place) core lent wrote = FirstIllegal job journal place
+Walked job journal (Stopped place why) core lent wrote = FirstIllegal job journal place why
 
 -- the trail of a journal
 abbrev pub IsTrail : Job → List Entry → Trail → Type 0

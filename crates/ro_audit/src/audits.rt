@@ -134,8 +134,7 @@ impl Trail {
         match walk {
             Walk::Whole => Ok(whole(follower)),
             Walk::Cut(taken) => Ok(cut(follower, taken)),
-            Walk::Stopped(place) => {
-                let why = follower.why;
+            Walk::Stopped { place, why } => {
                 follower.discard();
                 Err(AuditError::Illegal { place, why })
             }
@@ -144,6 +143,7 @@ impl Trail {
 }
 
 // What a journal that was followed to its end comes to.
+#[tactic(auto, using(crate::proofs::Plans::plan_steps))]
 fn whole(follower: Follower) -> Audited
     ensures { Follows follower.core follower.lent.items follower.wrote → Tells follower.core.job follower.core.journal result }
 {
@@ -151,7 +151,6 @@ fn whole(follower: Follower) -> Audited
         core,
         lent: _,
         wrote: _,
-        why: _,
         copies: _,
     } = follower;
     let steps = core.steps();

@@ -8,7 +8,7 @@ ghost use Rattle.ro_legal.specs.declared.actions.Action.TheVariants as act;
 ghost use Rattle.ro_legal.specs.Core.{is_going, may_vote, may_free};
 ghost use Rattle.ro_legal.specs.Legal.{EndsVote, EndsFree};
 ghost use Rattle.ro_legal.specs.Decides.{DecidesVote, DecidesFree};
-ghost use Rattle.ro_audit.specs.Following.{Follows, Followed, IsInPlace, NotInPlace, Same, AtEntry, Walked, core_at};
+ghost use Rattle.ro_audit.specs.Following.{Follows, Followed, IsInPlace, IsUnless, NotInPlace, Same, AtEntry, Walked, core_at};
 
 use crate::copies::{Parts, parts_between};
 use crate::kept::Kept;
@@ -30,8 +30,6 @@ pub(crate) struct Follower {
     pub lent: Vec<Option<Lent>>,
     /// How many bytes the last entry wrote.
     pub wrote: u64,
-    /// Why the last entry is not allowed.
-    pub why: Why,
     /// What differed in each copy that the votes made.
     pub copies: Vec<Parts>,
 }
@@ -64,8 +62,8 @@ pub(crate) enum Walk {
     Whole,
     /// It ends by a failing sink, which took so many bytes of the last write.
     Cut(u32),
-    /// The entry at this place is not allowed.
-    Stopped(usize),
+    /// The entry at this place is not allowed, and why it is not.
+    Stopped { place: usize, why: Why },
 }
 
 /// In the place of what a run ends.
@@ -101,7 +99,6 @@ impl Follower {
                 core,
                 lent,
                 wrote: 0,
-                why: Why::NoEnd,
                 copies: Vec::new(alloc),
             }),
             Err(Refused { image: _, out: _ }) => Err(AllocError),
@@ -124,8 +121,8 @@ impl Follower {
             {
                 return Ok(self.cut(taken, place, journal));
             }
-            if !self.follow(entry)? {
-                return Ok(Walk::Stopped(place));
+            if let Some(why) = self.follow(entry)? {
+                return Ok(Walk::Stopped { place, why });
             }
         }
         Ok(Walk::Whole)
@@ -137,7 +134,6 @@ impl Follower {
             core,
             lent: _,
             wrote: _,
-            why: _,
             copies: _,
         } = self;
         let Finished {
@@ -150,11 +146,11 @@ impl Follower {
         } = core.finish();
     }
 
-    // Follows one entry, which is no failing sink's end; answers whether it is allowed.
-    fn follow(&mut self, entry: &Entry) -> Result<bool, AllocError>
+    // Follows one entry, which is no failing sink's end; answers why it is not allowed, if it is not.
+    fn follow(&mut self, entry: &Entry) -> Result<Option<Why>, AllocError>
         requires follows { Follows self.old.core self.old.lent.items self.old.wrote }
         requires not_sink { (bytes : ℕ) → entry.now ≢ End (BySink bytes) }
-        ensures { IfOk result (λ yes. Followed self.old.core entry.now yes self.new.core self.new.lent.items self.new.wrote) }
+        ensures { IfOk result (λ why. Followed self.old.core entry.now why self.new.core self.new.lent.items self.new.wrote) }
     {
         match *entry {
             Entry::Take {
@@ -178,35 +174,32 @@ impl Follower {
                 if self.core.may_vote(thread) {
                     self.vote_noted(thread, won, lost, entry)
                 } else {
-                    Ok(self.refuse(Why::NoVote))
+                    Ok(Some(Why::NoVote))
                 }
             }
             Entry::Free { thread } => {
                 if self.core.may_free(thread) {
                     self.free(thread, entry)
                 } else {
-                    Ok(self.refuse(Why::NoFree))
+                    Ok(Some(Why::NoFree))
                 }
             }
             Entry::End { how } => self.end(how),
         }
     }
 
-    // Notes why an entry is not allowed.
-    fn refuse(&mut self, why: Why) -> bool
-        ensures { result ≡ false }
-    {
-        self.why = why;
-        false
-    }
-
     // Lends a thread of a replica to a driver, where that is allowed.
-    fn take(&mut self, driver: u32, replica: u32, thread: u32) -> Result<bool, AllocError>
+    fn take(
+        &mut self,
+        driver: u32,
+        replica: u32,
+        thread: u32,
+    ) -> Result<Option<Why>, AllocError>
         requires { Follows self.old.core self.old.lent.items self.old.wrote }
-        ensures { IfOk result (λ yes. Followed self.old.core (Take driver replica thread) yes self.new.core self.new.lent.items self.new.wrote) }
+        ensures { IfOk result (λ why. Followed self.old.core (Take driver replica thread) why self.new.core self.new.lent.items self.new.wrote) }
     {
         if !self.core.may_take(driver, replica, thread) {
-            return Ok(self.refuse(Why::NotLendable));
+            return Ok(Some(Why::NotLendable));
         }
         self.core.room()?;
         let quantum = self.core.settings().quantum;
@@ -214,19 +207,26 @@ impl Follower {
         let lent = Lent::new(driver, replica, thread, quantum, taken);
         lend(self.lent.as_mut_slice(), driver, lent);
         self.wrote = 0;
-        Ok(true)
+        Ok(None)
     }
 
     // Runs what is lent to a driver and puts it back, where the entry is that of its run.
-    fn put(&mut self, driver: u32, replica: u32, thread: u32, count: u32, hit: u32) -> bool
+    fn put(
+        &mut self,
+        driver: u32,
+        replica: u32,
+        thread: u32,
+        count: u32,
+        hit: u32,
+    ) -> Option<Why>
         requires { Follows self.old.core self.old.lent.items self.old.wrote }
         ensures { Followed self.old.core (Put driver replica thread count hit) result self.new.core self.new.lent.items self.new.wrote }
     {
         let Some(lent) = take_back(self.lent.as_mut_slice(), driver) else {
-            return self.refuse(Why::NotOut);
+            return Some(Why::NotOut);
         };
         if !is_of(&lent, replica, thread) {
-            return self.refuse(Why::NotOut);
+            return Some(Why::NotOut);
         }
         let Back {
             replica: returned,
@@ -234,20 +234,22 @@ impl Follower {
             ..
         } = lent.run();
         if !came_to(&ran, count, hit) {
-            let (count, hit) = (ran.count, ran.hit);
-            return self.refuse(Why::Ran { count, hit });
+            return Some(Why::Ran {
+                count: ran.count,
+                hit: ran.hit,
+            });
         }
         self.core.put(driver, returned, ran);
         self.wrote = 0;
-        true
+        None
     }
 
-    // Holds a vote that may be held, and answers whether it comes to this entry, which would decide it.
-    fn vote(&mut self, thread: u32, entry: &Entry) -> Result<bool, AllocError>
+    // Holds a vote that may be held, and answers what it comes to where that is not this entry, which would decide it.
+    fn vote(&mut self, thread: u32, entry: &Entry) -> Result<Option<Why>, AllocError>
         requires follows { Follows self.old.core self.old.lent.items self.old.wrote }
         requires may { IsTrue (may_vote (core_at self.old.core) thread) }
         requires decides { DecidesVote self.old.core.job (core_at self.old.core) thread entry.now }
-        ensures { IfOk result (λ yes. Followed self.old.core entry.now yes self.new.core self.new.lent.items self.new.wrote) }
+        ensures { IfOk result (λ why. Followed self.old.core entry.now why self.new.core self.new.lent.items self.new.wrote) }
     {
         let before = self.core.bytes();
         let came = self.core.vote(thread)?;
@@ -255,8 +257,7 @@ impl Follower {
             return Err(AllocError);
         }
         self.wrote = self.core.bytes() - before;
-        self.why = Why::Comes(came);
-        Ok(is_same(&came, entry))
+        Ok(unless_same(came, entry))
     }
 
     // The same of a vote whose entry names who won and who lost; what differs in the copies that it makes is noted.
@@ -266,19 +267,19 @@ impl Follower {
         won: u32,
         lost: Lost,
         entry: &Entry,
-    ) -> Result<bool, AllocError>
+    ) -> Result<Option<Why>, AllocError>
         requires follows { Follows self.old.core self.old.lent.items self.old.wrote }
         requires may { IsTrue (may_vote (core_at self.old.core) thread) }
         requires decides { DecidesVote self.old.core.job (core_at self.old.core) thread entry.now }
-        ensures { IfOk result (λ yes. Followed self.old.core entry.now yes self.new.core self.new.lent.items self.new.wrote) }
+        ensures { IfOk result (λ why. Followed self.old.core entry.now why self.new.core self.new.lent.items self.new.wrote) }
     {
         let before = self.copies.len();
         self.note_all(thread, won, lost)?;
-        let follows = self.vote(thread, entry)?;
-        if !follows {
+        let why = self.vote(thread, entry)?;
+        if why.is_some() {
             self.copies.truncate(before);
         }
-        Ok(follows)
+        Ok(why)
     }
 
     // Notes what differs in the copies that a vote is about to make.
@@ -308,36 +309,35 @@ impl Follower {
         Ok(())
     }
 
-    // Serves a call that may be served, and answers whether that comes to this entry, which would decide it.
-    fn free(&mut self, thread: u32, entry: &Entry) -> Result<bool, AllocError>
+    // Serves a call that may be served, and answers what that comes to where it is not this entry, which would decide it.
+    fn free(&mut self, thread: u32, entry: &Entry) -> Result<Option<Why>, AllocError>
         requires follows { Follows self.old.core self.old.lent.items self.old.wrote }
         requires may { IsTrue (may_free self.old.core.job (core_at self.old.core) thread) }
         requires decides { DecidesFree self.old.core.job (core_at self.old.core) thread entry.now }
-        ensures { IfOk result (λ yes. Followed self.old.core entry.now yes self.new.core self.new.lent.items self.new.wrote) }
+        ensures { IfOk result (λ why. Followed self.old.core entry.now why self.new.core self.new.lent.items self.new.wrote) }
     {
         let came = self.core.free(thread)?;
         self.wrote = 0;
-        self.why = Why::Comes(came);
-        Ok(is_same(&came, entry))
+        Ok(unless_same(came, entry))
     }
 
     // Ends the run so, where that is allowed: the end is due, or nothing can be done, or it comes in the place of a vote or a
     // free.
-    fn end(&mut self, how: How) -> Result<bool, AllocError>
+    fn end(&mut self, how: How) -> Result<Option<Why>, AllocError>
         requires follows { Follows self.old.core self.old.lent.items self.old.wrote }
         requires not_sink { (bytes : ℕ) → how ≢ BySink bytes }
-        ensures { IfOk result (λ yes. Followed self.old.core (End how) yes self.new.core self.new.lent.items self.new.wrote) }
+        ensures { IfOk result (λ why. Followed self.old.core (End how) why self.new.core self.new.lent.items self.new.wrote) }
     {
         if is_end(self.core.next_action(), how) {
             self.core.end(how);
             self.wrote = 0;
-            return Ok(true);
+            return Ok(None);
         }
         let entry = Entry::End { how };
         match self.place_of(how) {
             Some(InPlace::OfVote(thread)) => self.vote(thread, &entry),
             Some(InPlace::OfFree(thread)) => self.free(thread, &entry),
-            None => Ok(self.refuse(Why::NoEnd)),
+            None => Ok(Some(Why::NoEnd)),
         }
     }
 
@@ -402,18 +402,22 @@ impl Follower {
 
     // A failing sink's end at this place of the journal: it may come while bytes of the last write are left, and is the last
     // entry.
-    fn cut(&mut self, taken: u32, place: usize, journal: &[Entry]) -> Walk
-        requires follows { Follows self.old.core self.old.lent.items self.old.wrote }
-        requires there { AtEntry self.old.core journal.now place (End (BySink taken)) }
-        ensures { Walked self.old.core.job journal.now result self.new.core self.new.lent.items self.new.wrote }
+    fn cut(&self, taken: u32, place: usize, journal: &[Entry]) -> Walk
+        requires follows { Follows self.now.core self.now.lent.items self.now.wrote }
+        requires there { AtEntry self.now.core journal.now place (End (BySink taken)) }
+        ensures { Walked self.now.core.job journal.now result self.now.core self.now.lent.items self.now.wrote }
     {
         if !self.may_cut(taken) {
-            self.why = Why::NoEnd;
-            return Walk::Stopped(place);
+            return Walk::Stopped {
+                place,
+                why: Why::NoEnd,
+            };
         }
         if place + 1 < journal.len() {
-            self.why = Why::Behind;
-            return Walk::Stopped(place + 1);
+            return Walk::Stopped {
+                place: place + 1,
+                why: Why::Behind,
+            };
         }
         Walk::Cut(taken)
     }
@@ -471,6 +475,17 @@ fn came_to(ran: &Ran, count: u32, hit: u32) -> bool
     ensures { IsTrue result ↔ ((ran.now.count ≡ count) × (ran.now.hit ≡ hit)) }
 {
     ran.count == count && ran.hit == hit
+}
+
+// What came, where it is not this entry.
+fn unless_same(came: Entry, entry: &Entry) -> Option<Why>
+    ensures { IsUnless came entry.now result }
+{
+    if is_same(&came, entry) {
+        None
+    } else {
+        Some(Why::Comes(came))
+    }
 }
 
 fn is_same(came: &Entry, entry: &Entry) -> bool

@@ -5,12 +5,12 @@ use Rattle.ro_journal.specs.declared.How.TheVariants as how
 use Rattle.ro_journal.specs.Losers.{numbers}
 use Rattle.ro_journal.specs.declared.Entry.{Entry}
 use Rattle.ro_journal.specs.declared.Entry.TheVariants.{Vote}
-use Rattle.ro_journal.specs.Plan.{outcome_of}
+use Rattle.ro_journal.specs.Plan.{outcome_of, plan_of}
 use Rattle.ro_journal_text.specs.Reading.{file_journal}
 use Rattle.ro_report.specs.declared.answers.FileKind.TheVariants.{Plan}
 use Rattle.ro_io.specs.Outside.{Files}
 use Rattle.ro_legal.specs.Core.{Job}
-use Rattle.ro_legal.specs.Legal.{Legal as IsLegal, replay}
+use Rattle.ro_legal.specs.Legal.{Legal as IsLegal}
 use Rattle.ro_audit.specs.Audits.{FirstIllegal}
 use Rattle.ro_files.specs.Files.{IsContent, IsJobOf}
 use Rattle.ro_words.specs.Commands.{AskedRun}
@@ -35,10 +35,10 @@ how_of (Differ fields) = how.Differ
 how_of (NoMajority fields) = how.NoMajority
 how_of (Sink taken) = how.Sink taken
 
--- the journal is legal, with a plan of so many steps and this end, or the entry at the place is the first that is not allowed
+-- the journal is legal, with a plan of so many steps and this end, or the entry at the place is the first that is not allowed, and why
 abbrev pub Judges : Job → List Entry → Verdict → Type 0
-Judges job entries (Legal steps end) = IsLegal job entries × (steps ≡ (replay job entries).steps) × (option_map how_of end ≡ outcome_of entries)
-Judges job entries (Illegal place entry why) = FirstIllegal job entries place × (slice_get entries place ≡ Some entry)
+Judges job entries (Legal steps end) = IsLegal job entries × (steps ≡ length (plan_of entries)) × (option_map how_of end ≡ outcome_of entries)
+Judges job entries (Illegal place entry why) = FirstIllegal job entries place why × (slice_get entries place ≡ Some entry)
 
 -- a copy that a vote made: the place of its entry, the thread, and the replica that lost
 pub record Copied : Type 0 where

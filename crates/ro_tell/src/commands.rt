@@ -264,7 +264,7 @@ fn illegal(
     case: &Case<'_>,
 ) -> Result<Findings, AllocError>
     requires { place < length case.now.entries.now }
-    ensures { (job : JobSeen) → FirstIllegal job case.now.entries.now place → IfOk result (Finds job case.now.entries.now) }
+    ensures { (job : JobSeen) → FirstIllegal job case.now.entries.now place why → IfOk result (Finds job case.now.entries.now) }
 {
     Ok(Findings {
         entries: case.entries.len(),

@@ -4,7 +4,7 @@ use Rattle.ro_legal.specs.Action.{next_action}
 use Rattle.ro_legal.proofs.Ordered.{ordered}
 use Rattle.ro_audit.specs.Following.{core_at}
 use Rattle.ro_audit.proofs.Ends.{no-such-end}
-use Rattle.ro_audit.proofs.Steps.{state-is, end-follows, refused}
+use Rattle.ro_audit.proofs.Steps.{state-is, end-follows}
 use Rattle.ro_audit.proofs.follower.Follower.end.Goals as goal
 
 pub returns-then-is_end : goal.returns-then-is_end
@@ -15,6 +15,6 @@ returns-then-is_end c =
 pub returns-in-None : goal.returns-in-None
 returns-in-None c =
     let core = c.args.self.now.core in
-    refused core c.refuse.new.self.core (End c.args.how) c.refuse.result c.refuse.new.self.lent.items c.refuse.new.self.wrote c.refuse.ensures
-    (no-such-end core.job (core_at core) c.args.how (ordered core.job core.journal c.requires.follows.legal)
-    (λ e. true≢false (sym (c.is_end.ensures.1 (c.next_action.ensures.next ∙ ap (next_action core.job) (state-is core c.requires.follows.calm) ∙ e)) ∙ c.if-is_end.false)) c.requires.not_sink (c.place_of.ensures.none c.in-None.is))
+    let none = no-such-end core.job (core_at core) c.args.how (ordered core.job core.journal c.requires.follows.legal)
+    (λ e. true≢false (sym (c.is_end.ensures.1 (c.next_action.ensures.next ∙ ap (next_action core.job) (state-is core c.requires.follows.calm) ∙ e)) ∙ c.if-is_end.false)) c.requires.not_sink (c.place_of.ensures.none c.in-None.is) in
+    (none, none)

@@ -4,23 +4,21 @@ use Rattle.std.proofs.lemmas.List.{with_items_is, length-set}
 use Rattle.ro_journal.specs.declared.Entry.TheVariants.{Put}
 use Rattle.ro_lease.specs.Loans.{LentOf, BackOf, Gives}
 use Rattle.ro_audit.specs.Following.{Slot, core_at}
-use Rattle.ro_audit.proofs.Steps.{none-lent, other-lent, other-run, may-return, put-followed, refused}
+use Rattle.ro_audit.proofs.Steps.{none-lent, other-lent, other-run, may-return, put-followed}
 use Rattle.ro_audit.proofs.follower.Follower.put.Goals as goal
 
 pub returns-in_default : goal.returns-in_default
 returns-in_default c =
     let core = c.args.self.now.core in
     let slot : slice_index_or c.args.self.now.lent.items c.args.driver None ≡ None = ap (λ (xs : List (Option LentOf)). slice_index_or xs c.args.driver None) (sym c.as_mut_slice.ensures.value) ∙ sym c.take_back.ensures.lent ∙ c.in_default.is in
-    refused core c.refuse.new.self.core (Put c.args.driver c.args.replica c.args.thread c.args.count c.args.hit) c.refuse.result c.refuse.new.self.lent.items c.refuse.new.self.wrote c.refuse.ensures
-    (none-lent core c.args.driver c.args.replica c.args.thread c.args.count c.args.hit (slice_index_or c.args.self.now.lent.items c.args.driver None) slot (c.requires.slots c.args.driver))
+    none-lent core c.args.driver c.args.replica c.args.thread c.args.count c.args.hit (slice_index_or c.args.self.now.lent.items c.args.driver None) slot (c.requires.slots c.args.driver)
 
 pub returns-then-not-is_of : goal.returns-then-not-is_of
 returns-then-not-is_of c =
     let core = c.args.self.now.core in
     let slot : slice_index_or c.args.self.now.lent.items c.args.driver None ≡ Some c.in-Some.lent = ap (λ (xs : List (Option LentOf)). slice_index_or xs c.args.driver None) (sym c.as_mut_slice.ensures.value) ∙ sym c.take_back.ensures.lent ∙ c.in-Some.is in
     let lends = subst (Slot core.job (core_at core) c.args.driver) slot (c.requires.slots c.args.driver) in
-    refused core c.refuse-then-not-is_of.new.self.core (Put c.args.driver c.args.replica c.args.thread c.args.count c.args.hit) c.refuse-then-not-is_of.result c.refuse-then-not-is_of.new.self.lent.items c.refuse-then-not-is_of.new.self.wrote c.refuse-then-not-is_of.ensures
-    (other-lent core c.args.driver c.args.replica c.args.thread c.args.count c.args.hit c.in-Some.lent c.is_of.result c.requires.legal lends c.is_of.ensures c.if-not-is_of.true)
+    other-lent core c.args.driver c.args.replica c.args.thread c.args.count c.args.hit c.in-Some.lent c.is_of.result c.requires.legal lends c.is_of.ensures c.if-not-is_of.true
 
 pub returns-then-not-came_to : goal.returns-then-not-came_to
 returns-then-not-came_to c =
@@ -29,8 +27,7 @@ returns-then-not-came_to c =
     let lends = subst (Slot core.job (core_at core) c.args.driver) slot (c.requires.slots c.args.driver) in
     let back : BackOf = record { driver = c.returned.inside.driver; number = c.returned.inside.number; thread = c.returned.inside.thread; replica = c.returned.inside.replica; ran = c.returned.inside.ran } in
     let gives : Gives c.in-Some.lent back = subst (Gives c.in-Some.lent) (sym c.returned.view_is) c.run.ensures in
-    refused core c.refuse-then-not-came_to.new.self.core (Put c.args.driver c.args.replica c.args.thread c.args.count c.args.hit) c.refuse-then-not-came_to.result c.refuse-then-not-came_to.new.self.lent.items c.refuse-then-not-came_to.new.self.wrote c.refuse-then-not-came_to.ensures
-    (other-run core c.args.driver c.args.replica c.args.thread c.args.count c.args.hit c.in-Some.lent back c.came_to.result lends gives (c.is_of.ensures.0 c.if-not-is_of.false) c.came_to.ensures c.if-not-came_to.true)
+    other-run core c.args.driver c.args.replica c.args.thread c.args.count c.args.hit c.in-Some.lent back c.came_to.result lends gives (c.is_of.ensures.0 c.if-not-is_of.false) c.came_to.ensures c.if-not-came_to.true
 
 pub put-requires : goal.put-requires
 put-requires c =

@@ -1,4 +1,4 @@
-use Rattle.std.proofs.Common.{List, Option, Some, true, length, set, ap, ◌∙◌, subst}
+use Rattle.std.proofs.Common.{List, Option, Some, None, length, set, ap, ◌∙◌, subst}
 use Rattle.std.proofs.lemmas.List.{with_items_is, length-set}
 use Rattle.ro_journal.specs.declared.Entry.TheVariants.{Take}
 use Rattle.ro_settings.specs.declared.Settings.{Settings}
@@ -18,7 +18,7 @@ returns c =
     let may' = to-new core mid stays.job stays.journal (λ j k. MayTake j k c.args.driver c.args.replica c.args.thread) may in
     let f = same-follows core mid stays.job stays.journal c.args.self.now.lent.items c.args.self.now.wrote stays.failed stays.held c.requires in
     let items = with_items_is c.args.self.now.lent c.lend.new.lent (ap length c.lend.ensures ∙ length-set c.as_mut_slice.result.now c.args.driver (Some c.new-lent.result) ∙ c.as_mut_slice.ensures.len) in
-    same-followed core mid stays.job stays.journal (Take c.args.driver c.args.replica c.args.thread) true c.take-taken.new.self _ 0 (
+    same-followed core mid stays.job stays.journal (Take c.args.driver c.args.replica c.args.thread) None c.take-taken.new.self _ 0 (
       may',
       c.take-taken.ensures.entry,
       take-follows mid c.take-taken.new.self c.args.driver c.args.replica c.args.thread c.args.self.now.lent.items _ c.args.self.now.wrote c.settings-quantum.result.quantum c.take-taken.result f may' c.take-taken.ensures.entry c.take-taken.ensures.quiet c.take-taken.ensures.lent

@@ -1,7 +1,8 @@
-use Rattle.std.proofs.Common.{◌≡◌, Bool, get_or, subst, ap, ◌∙◌, refl}
+use Rattle.std.proofs.Common.{◌≡◌, Option, get_or, subst, ap, ◌∙◌, refl}
 use Rattle.ro_journal.specs.declared.How.TheVariants.{Sink}
 use Rattle.ro_journal.specs.declared.Entry.TheVariants.{Take, End}
 use Rattle.ro_legal.specs.Core.{Job}
+use Rattle.ro_audit.specs.declared.follower.Why.{Why}
 use Rattle.ro_audit.specs.Audits.{FirstIllegal}
 use Rattle.ro_audit.specs.Following.{Followed}
 use Rattle.ro_audit.proofs.Telling.{at-place, stopped}
@@ -17,10 +18,11 @@ cut-requires-clause-there c =
     in
     at-place c.loop-place.self.core c.args.journal.now c.loop-place.place _ (Take 0 0 0) c.loop-place.invariant.2 c.loop-place-test.true here
 
-pub returns-then-not-branch : goal.returns-then-not-branch
-returns-then-not-branch c =
+pub returns-in-Some : goal.returns-in-Some
+returns-in-Some c =
     let core = c.loop-place.self.core in
     let entry = get_or c.args.journal.now c.loop-place.place (Take 0 0 0) in
     let at = at-place core c.args.journal.now c.loop-place.place entry (Take 0 0 0) c.loop-place.invariant.2 c.loop-place-test.true refl in
-    subst (λ (j : Job). FirstIllegal j c.args.journal.now c.loop-place.place) c.loop-place.invariant.1
-    (stopped core c.args.journal.now c.loop-place.place entry at c.loop-place.invariant.0.legal (subst (λ (b : Bool). Followed core entry b c.follow.new.self.core c.follow.new.self.lent.items c.follow.new.self.wrote) c.if-not-branch.true c.in_ok-follow.ensures))
+    let refused = subst (λ (o : Option Why). Followed core entry o c.follow.new.self.core c.follow.new.self.lent.items c.follow.new.self.wrote) c.in-Some.is c.in_ok-why.ensures in
+    subst (λ (j : Job). FirstIllegal j c.args.journal.now c.loop-place.place c.in-Some.why) c.loop-place.invariant.1
+    (stopped core c.args.journal.now c.loop-place.place entry c.in-Some.why at c.loop-place.invariant.0.legal refused.0 refused.1)

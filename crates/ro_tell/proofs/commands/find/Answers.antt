@@ -1,6 +1,7 @@
-use Rattle.std.proofs.Common.{List, rules, subst}
-use Rattle.ro_journal.specs.declared.Entry.{Entry}
+use Rattle.std.proofs.Common.{rules, subst}
 use Rattle.ro_legal.specs.Jobs.{job_of}
+use Rattle.ro_files.specs.declared.asking.Job.{Job as JobSeen}
+use Rattle.ro_files.specs.Files.{IsJobOf}
 use Rattle.ro_words.specs.Commands.{run_by}
 use Rattle.ro_tell.specs.Judging.{Finds, IsJournalOf}
 use Rattle.ro_tell.proofs.Asked.{refuses_behind}
@@ -8,19 +9,20 @@ use Rattle.ro_tell.proofs.commands.find.Goals as goal
 
 pub returns-in_err-entries-clause-refused : goal.returns-in_err-entries-clause-refused
 returns-in_err-entries-clause-refused g c =
-    let job = job_of c.in_ok-job.job.image c.in_ok-job.job.input.items c.in_ok-job.job.faults.items c.in_ok-job.job.settings in
+    let fetched = c.in_ok-job.field-0.job in
+    let job = job_of fetched.image fetched.input.items fetched.faults.items fetched.settings in
     let behind = refuses_behind (g.S.Store.told c.args.store.now) (run_by c.args.run.now) job (g.S.Store.calls c.args.store.now) (g.S.Store.calls c.fetch_job.new.store) c.in_ok-job.ensures.job c.in_ok-job.ensures.asked
-    (g.S.Store.told c.fetch_job.new.store) c.args.name.now (g.S.Store.failures c.args.store.now) (g.S.Store.failures c.fetch_job.new.store) (g.S.Store.failures c.fetch_journal.new.store) (g.S.Store.calls c.fetch_journal.new.store)
-    c.in_err-entries.field-0.0 c.fetch_job.ensures.told (c.in_ok-job.ensures.calm (λ e. cc)) c.in_err-entries.ensures.refused
+        (g.S.Store.told c.fetch_job.new.store) c.args.name.now (g.S.Store.failures c.args.store.now) (g.S.Store.failures c.fetch_job.new.store) (g.S.Store.failures c.fetch_journal.new.store) (g.S.Store.calls c.fetch_journal.new.store)
+        c.in_err-entries.field-0.0 c.fetch_job.ensures.told (c.in_ok-job.ensures.calm (λ e. cc)) c.in_err-entries.ensures.refused
     in
     search (behind, rules)
 
 pub returns-in-Ok-clause-found : goal.returns-in-Ok-clause-found
 returns-in-Ok-clause-found g c =
-    let job = job_of c.in_ok-job.job.image c.in_ok-job.job.input.items c.in_ok-job.job.faults.items c.in_ok-job.job.settings in (
-      job,
-      c.in_ok-entries.entries.items,
-      c.in_ok-job.ensures.job,
-      subst (λ t. IsJournalOf t c.args.name.now c.in_ok-entries.entries.items) c.fetch_job.ensures.told c.in_ok-entries.ensures.journal,
-      subst (λ (entries : List Entry). Finds job entries c.in-Ok.findings) c.as_slice-2.ensures.value c.in-Ok.ensures,
-    )
+    let job = job_of c.in_ok-job.job.image c.in_ok-job.job.input.items c.in_ok-job.job.faults.items c.in_ok-job.job.settings in
+    let is : IsJobOf (g.S.Store.told c.args.store.now) (run_by c.args.run.now) job =
+    subst (λ (j : JobSeen). IsJobOf (g.S.Store.told c.args.store.now) (run_by c.args.run.now) (job_of j.image j.input.items j.faults.items j.settings)) c.in_ok-job.job-is c.in_ok-job.ensures.job
+    in
+    let journal = subst (λ t. IsJournalOf t c.args.name.now c.in_ok-entries.entries.items) c.fetch_job.ensures.told c.in_ok-entries.ensures.journal in
+    let found : Finds job c.in_ok-entries.entries.items c.in-Ok.findings = search (c.in-Ok.ensures, c.judge.ensures, rules) in
+    (job, c.in_ok-entries.entries.items, is, journal, found)

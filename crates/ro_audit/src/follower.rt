@@ -189,12 +189,7 @@ impl Follower {
     }
 
     // Lends a thread of a replica to a driver, where that is allowed.
-    fn take(
-        &mut self,
-        driver: u32,
-        replica: u32,
-        thread: u32,
-    ) -> Result<Option<Why>, AllocError>
+    fn take(&mut self, driver: u32, replica: u32, thread: u32) -> Result<Option<Why>, AllocError>
         requires { Follows self.old.core self.old.lent.items self.old.wrote }
         ensures { IfOk result (λ why. Followed self.old.core (Take driver replica thread) why self.new.core self.new.lent.items self.new.wrote) }
     {
@@ -211,14 +206,7 @@ impl Follower {
     }
 
     // Runs what is lent to a driver and puts it back, where the entry is that of its run.
-    fn put(
-        &mut self,
-        driver: u32,
-        replica: u32,
-        thread: u32,
-        count: u32,
-        hit: u32,
-    ) -> Option<Why>
+    fn put(&mut self, driver: u32, replica: u32, thread: u32, count: u32, hit: u32) -> Option<Why>
         requires { Follows self.old.core self.old.lent.items self.old.wrote }
         ensures { Followed self.old.core (Put driver replica thread count hit) result self.new.core self.new.lent.items self.new.wrote }
     {

@@ -74,7 +74,7 @@ offers_more job journal entry = by (comes journal entry)
     by (inl e) = (let same : length (offered_by job (journal ++ entry ∷ [])) ≡ length (offered_by job journal) = ap (λ (js : List Entry). length (output_of job js)) e in omega (arith, same))
     by (inr more) =
         (let same : length (offered_by job (journal ++ entry ∷ [])) ≡ length (after job (replay job (before_end journal)) entry).output =
-            ap (λ (js : List Entry). length (output_of job js)) more.1 ∙ ap (λ (c : Core). length c.output) (replay_more job (before_end journal) entry) in
+        ap (λ (js : List Entry). length (output_of job js)) more.1 ∙ ap (λ (c : Core). length c.output) (replay_more job (before_end journal) entry) in
         let grows : length (replay job (before_end journal)).output ≤ length (after job (replay job (before_end journal)) entry).output = entry_grows job (replay job (before_end journal)) entry more.0 in
         omega (arith, same, grows))
 

@@ -69,7 +69,7 @@ took-sends old mid new bytes failed held held' failures failures' sure sure' sen
   sure = λ e. took-left bytes held held' failures failures' sure sure' failed t (sym noted.failed_is ∙ e);
   full =
       let same : length (offered_by (job_of new) new.journal.items) ≡ length (offered_by (job_of mid) mid.journal.items) =
-          ap (λ (j : Job). length (offered_by j new.journal.items)) noted.job ∙ ap (λ (js : List Entry). length (offered_by (job_of mid) js)) noted.journal in
+      ap (λ (j : Job). length (offered_by j new.journal.items)) noted.job ∙ ap (λ (js : List Entry). length (offered_by (job_of mid) js)) noted.journal in
       subst (λ (o : Option ℕ). IfSome o (λ taken. sure + length (sent_in (fields_of old)) < length (offered_by (job_of new) new.journal.items))) (sym noted.failed_is)
       (took-full bytes held held' failures failures' sure sure' failed t (length (sent_in (fields_of old))) (length (offered_by (job_of new) new.journal.items)) (λ some. same ∙ offers some));
 }

@@ -30,7 +30,7 @@ use Rattle.ro_simulation.specs.Theorem.{IsFront}
 use Rattle.ro_simulation.proofs.Checks.{test_legal, legal-by-test}
 use Rattle.ro_simulation.proofs.Simulates.{simulates}
 use Rattle.ro_rows.specs.Rows.{IdealEnds, decisions, hidden_job}
-use Rattle.ro_rows.proofs.Explore.{explored-free}
+use Rattle.ro_plain.proofs.Explore.{explored-free}
 
 -- the guest has one thread, so its steps are in order
 pub hidden-race-free : RaceFree hidden_job.program

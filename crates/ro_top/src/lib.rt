@@ -14,6 +14,7 @@ mod top;
 mod writing;
 
 pub use done::{Done, Told, answered, without_words};
+pub use reports::give_all;
 pub use ro_report::{Answer, FileKind, JournalCode};
 pub use running::{JobRun, run_job};
 pub use top::romain;

@@ -189,8 +189,11 @@ fn give_summary<E: Sink>(report: &mut E, journal: &[Entry], bytes: u64) -> Resul
     give_all(report, summary(journal, bytes).as_bytes())
 }
 
-// Gives all of the bytes, a piece at a time.
-fn give_all<E: Sink>(sink: &mut E, bytes: &[u8]) -> Result<(), Failed>
+/// Gives all of the bytes to a sink, a piece at a time.
+///
+/// # Errors
+/// Where the sink failed. It took a front of the bytes then.
+pub fn give_all<E: Sink>(sink: &mut E, bytes: &[u8]) -> Result<(), Failed>
     requires unfailed { E.failures sink.old ≡ 0 }
     ensures ok { OnOk result (E.held sink.new ≡ more (E.held sink.old) bytes.now) }
     ensures err { OnErr result (TakesFront (E.held sink.old) (E.held sink.new) bytes.now) }

@@ -4,7 +4,7 @@ use Rattle.ro_files.specs.declared.asking.Job.{Job as JobSeen}
 use Rattle.ro_files.specs.Files.{IsJobOf}
 use Rattle.ro_words.specs.Commands.{run_by}
 use Rattle.ro_tell.specs.Judging.{Finds, IsJournalOf}
-use Rattle.ro_tell.proofs.Asked.{refuses_behind}
+use Rattle.ro_tell.proofs.Asked.{all_asks, refuses_behind}
 use Rattle.ro_tell.proofs.commands.find.Goals as goal
 
 pub returns-in_err-entries-clause-refused : goal.returns-in_err-entries-clause-refused
@@ -12,8 +12,8 @@ returns-in_err-entries-clause-refused g c =
     let fetched = c.in_ok-job.field-0.job in
     let job = job_of fetched.image fetched.input.items fetched.faults.items fetched.settings in
     let behind = refuses_behind (g.S.Store.told c.args.store.now) (run_by c.args.run.now) job (g.S.Store.calls c.args.store.now) (g.S.Store.calls c.fetch_job.new.store) c.in_ok-job.ensures.job c.in_ok-job.ensures.asked
-        (g.S.Store.told c.fetch_job.new.store) c.args.name.now (g.S.Store.failures c.args.store.now) (g.S.Store.failures c.fetch_job.new.store) (g.S.Store.failures c.fetch_journal.new.store) (g.S.Store.calls c.fetch_journal.new.store)
-        c.in_err-entries.field-0.0 c.fetch_job.ensures.told (c.in_ok-job.ensures.calm (λ e. cc)) c.in_err-entries.ensures.refused
+    (g.S.Store.told c.fetch_job.new.store) c.args.name.now (g.S.Store.failures c.args.store.now) (g.S.Store.failures c.fetch_job.new.store) (g.S.Store.failures c.fetch_journal.new.store) (g.S.Store.calls c.fetch_journal.new.store)
+    c.in_err-entries.field-0.0 c.fetch_job.ensures.told (c.in_ok-job.ensures.calm (λ e. cc)) c.in_err-entries.ensures.refused
     in
     search (behind, rules)
 
@@ -26,3 +26,10 @@ returns-in-Ok-clause-found g c =
     let journal = subst (λ t. IsJournalOf t c.args.name.now c.in_ok-entries.entries.items) c.fetch_job.ensures.told c.in_ok-entries.ensures.journal in
     let found : Finds job c.in_ok-entries.entries.items c.in-Ok.findings = search (c.in-Ok.ensures, c.judge.ensures, rules) in
     (job, c.in_ok-entries.entries.items, is, journal, found)
+
+pub returns-in-Ok-clause-asked : goal.returns-in-Ok-clause-asked
+returns-in-Ok-clause-asked g c =
+    let fetched = c.in_ok-job.field-0.job in
+    let job = job_of fetched.image fetched.input.items fetched.faults.items fetched.settings in
+    all_asks (g.S.Store.told c.args.store.now) (run_by c.args.run.now) job (g.S.Store.calls c.args.store.now) (g.S.Store.calls c.fetch_job.new.store) c.in_ok-job.ensures.job c.in_ok-job.ensures.asked
+    c.args.name.now (g.S.Store.calls c.fetch_journal.new.store) c.in_ok-entries.ensures.asked

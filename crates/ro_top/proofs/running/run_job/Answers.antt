@@ -24,7 +24,7 @@ returns-in-Err-clause-run g c =
 pub returns-clause-counts : goal.returns-clause-counts
 returns-clause-counts g c =
     let opens = opens_same c.args.job.image c.args.job.settings c.as_slice.result.now c.args.job.input.items c.as_slice-2.result.now c.args.job.faults.items _ _ _ c.in-Ok.core c.in-Ok.ensures.opens c.as_slice.ensures.value c.as_slice-2.ensures.value in
-    ran_counts _ _ _ _ _ opens _ c.drive-core.ensures.goes c.drive-core.ensures.driven c.drive-core.ensures.all_sent _ c.finish-how.ensures.journal
+    ran_counts _ _ _ _ _ opens _ c.drive-core.ensures.goes c.drive-core.ensures.driven c.drive-core.ensures.all_sent _ c.finish-image.ensures.journal
 
 pub returns-clause-run : goal.returns-clause-run
 returns-clause-run g c =
@@ -32,28 +32,28 @@ returns-clause-run g c =
     let goes = c.drive-core.ensures.goes in
     let driven = c.drive-core.ensures.driven in
     let sent = c.drive-core.ensures.all_sent in
-    let is = c.finish-how.ensures.journal in
-    let outcome = subst (IsOutcome c.answer_of.result) c.finish-how.ensures.how c.answer_of.ensures.answer in
+    let is = c.finish-image.ensures.journal in
+    let outcome = subst (IsOutcome c.answer_of.result) c.finish-image.ensures.how c.answer_of.ensures.answer in
     is_run _ _ (subst (λ js. IsOutcome c.answer_of.result (outcome_of js)) (sym is) outcome) (record {
       ran = ran _ _ _ _ _ opens _ goes driven sent _ is;
       home = ran_home _ _ _ _ _ opens _ goes driven sent _ is c.drive-core.ensures.home;
-      output = c.finish-how.ensures.sink.0 ∙ ran_held _ _ _ _ _ opens _ goes driven sent _ is;
-      bytes = c.finish-how.ensures.bytes ∙ ap length (ran_sent _ _ _ _ opens _ goes driven sent _ is);
-      calm = λ other. c.finish-how.ensures.sink.1 ∙ ran_calm _ _ _ _ _ opens _ goes driven sent _ is c.drive-core.ensures.ended c.finish-how.ensures.open other;
-      end = ran_cause _ _ _ _ _ opens _ goes driven sent _ is _ (λ split. subst (ShowsLast c.drive-core.result.job c.drive-core.result.journal) (sym (c.finish-how.ensures.kept split)) (c.drive-core.ensures.last split)) _ c.finish-how.ensures.sink.1
+      output = c.finish-image.ensures.sink.0 ∙ ran_held _ _ _ _ _ opens _ goes driven sent _ is;
+      bytes = c.finish-image.ensures.bytes ∙ ap length (ran_sent _ _ _ _ _ opens _ goes driven sent _ is);
+      calm = λ other. c.finish-image.ensures.sink.1 ∙ ran_calm _ _ _ _ _ opens _ goes driven sent _ is c.drive-core.ensures.ended c.finish-image.ensures.open other;
+      end = ran_cause _ _ _ _ _ opens _ goes driven sent _ is _ (λ split. subst (ShowsLast c.drive-core.result.job c.drive-core.result.journal) (sym (c.finish-image.ensures.kept split)) (c.drive-core.ensures.last split)) _ c.finish-image.ensures.sink.1
           c.answer_of.result outcome c.answer_of.ensures.program;
     })
 
 pub returns-clause-no_views : goal.returns-clause-no_views
 returns-clause-no_views g c differ majority =
-    let is = subst (IsOutcome c.answer_of.result) c.finish-how.ensures.how c.answer_of.ensures.answer in
-    c.finish-how.ensures.no_views (not_differ _ c.answer_of.result is differ) (not_majority _ c.answer_of.result is majority)
+    let is = subst (IsOutcome c.answer_of.result) c.finish-image.ensures.how c.answer_of.ensures.answer in
+    c.finish-image.ensures.no_views (not_differ _ c.answer_of.result is differ) (not_majority _ c.answer_of.result is majority)
 
 pub returns-clause-nothing_run : goal.returns-clause-nothing_run
 returns-clause-nothing_run g c none =
     let opens = opens_same c.args.job.image c.args.job.settings c.as_slice.result.now c.args.job.input.items c.as_slice-2.result.now c.args.job.faults.items _ _ _ c.in-Ok.core c.in-Ok.ensures.opens c.as_slice.ensures.value c.as_slice-2.ensures.value in
-    let same = nothing_ran _ _ _ _ _ opens _ c.drive-core.ensures.goes c.drive-core.ensures.driven c.drive-core.ensures.all_sent _ c.finish-how.ensures.journal none in
-    (c.finish-how.ensures.sink.0 ∙ same.0, c.finish-how.ensures.sink.1 ∙ same.1)
+    let same = nothing_ran _ _ _ _ _ opens _ c.drive-core.ensures.goes c.drive-core.ensures.driven c.drive-core.ensures.all_sent _ c.finish-image.ensures.journal none in
+    (c.finish-image.ensures.sink.0 ∙ same.0, c.finish-image.ensures.sink.1 ∙ same.1)
 
 pub drive-core-requires-clause-can_run : goal.drive-core-requires-clause-can_run
 drive-core-requires-clause-can_run g c κs lives =

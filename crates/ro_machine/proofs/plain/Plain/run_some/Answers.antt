@@ -2,6 +2,7 @@ use Rattle.std.proofs.Common.{◌<◌, [], None, length, replicate, refl, ap, �
 use Rattle.std.specs.Prelude.{slice_set}
 use Rattle.std.proofs.lemmas.Option.{slice_get_read}
 use Rattle.std.specs.Arc.{arc_value}
+use Rattle.ro_image.specs.Image.{Image}
 use Rattle.ro_kernel.specs.Kernel.{lives_on}
 use Rattle.ro_machine.specs.Parts.{Plays}
 use Rattle.ro_machine.specs.Seen.{PlainOf}
@@ -18,4 +19,4 @@ returns-clause-plays c =
     subst (λ (v : PlainOf). Plays v (replicate c.run-ran.result.count c.args.thread) (record { program = record { image = (arc_value c.self.inside.image); input = c.self.inside.kernel.setup.input }; held = c.run-ran.new.memory; cpus = slice_set c.self.inside.cpus.items c.args.thread c.run-ran.new.thread.cpu; kernel = c.self.inside.kernel.kernel; ended = c.self.inside.ended; written = c.self.inside.written.items }) []) c.self.view_is
     (plays-on (record { image = (arc_value c.self.inside.image); input = c.self.inside.kernel.setup.input }) c.self.inside.pages c.run-ran.new.memory c.self.inside.cpus.items c.self.inside.kernel.kernel c.self.inside.written.items c.self.inside.written.items c.deref.result.now c.calls.result.now c.self.inside.ended 4294967295 _ c.args.thread c.run-ran.result.count
     (record { cpu = c.index.result.now; since = 0; done = 0; stop = None }) c.run-ran.new.thread
-    (ap (λ v. v.ended) c.self.view_is ∙ c.requires.going) (ap (λ v. lives_on v.kernel c.args.thread) c.self.view_is ∙ c.requires.live) there (c.deref.ensures ∙ c.self.invariant.regions_are) c.calls.ensures c.run-ran.ensures.run.runs)
+    (ap (λ v. v.ended) c.self.view_is ∙ c.requires.going) (ap (λ v. lives_on v.kernel c.args.thread) c.self.view_is ∙ c.requires.live) there (c.deref.ensures ∙ c.self.invariant.regions_are) (c.calls.ensures ∙ ap (λ (i : Image). i.calls) c.deref-2.ensures) c.run-ran.ensures.run.runs)

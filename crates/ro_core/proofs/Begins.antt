@@ -55,10 +55,10 @@ nothing-blocked (suc n) (suc thread) = nothing-blocked n thread
 
 pub opening-holds : (f : Fields) → InRange f.job.settings → f.journal ≡ [] → AreFirst f.job.program.image f.job.faults f.job.settings.watchdog f.seats → length f.seats ≡ f.job.settings.replicas
     → f.leases ≡ [] → f.kernel.setup ≡ setup_of f.job.program → f.kernel.kernel ≡ opening_kernel f.job.program.image.heap
-    → f.blocked ≡ replicate 16 None → f.steps ≡ 0 → f.due ≡ None → f.ended ≡ None → f.sent ≡ 0
+    → f.blocked ≡ replicate 16 None → f.steps ≡ 0 → f.scrubbed ≡ 0 → f.due ≡ None → f.ended ≡ None → f.sent ≡ 0
     → length f.views ≡ f.job.settings.replicas → NoneStands f.job.settings.replicas f.groups → 1 ≤ f.places → Holds f
 unfolding opening_core
-opening-holds f in_range journal first count leases setup kernel blocked steps due ended sent views none room =
+opening-holds f in_range journal first count leases setup kernel blocked steps scrubbed due ended sent views none room =
     let core : replay f.job f.journal ≡ opening_core f.job = ap (replay f.job) journal in
     record {
       in_range = in_range;
@@ -69,6 +69,7 @@ opening-holds f in_range journal first count leases setup kernel blocked steps d
       blocked_count = ap length blocked;
       blocked_are = λ t. ap (λ (bs : List (Option Call)). blocked_at bs t) blocked ∙ nothing-blocked 16 t ∙ sym (ap (λ (x : Core). x.blocked t) core);
       steps_are = steps ∙ sym (ap (λ (x : Core). x.steps) core);
+      scrubbed_are = scrubbed ∙ sym (ap (λ (x : Core). x.scrubbed) core);
       counts = record {
         sent_are = sent ∙ ap (λ (x : Core). length x.output) (sym core) ∙ ap (λ (o : Option ℕ). length (sent_of f.job f.journal o)) (sym (ap failed_of due));
         few = omega arith;

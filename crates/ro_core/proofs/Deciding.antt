@@ -6,23 +6,23 @@ use Rattle.ro_journal.specs.Losers.{numbers}
 use Rattle.ro_journal.specs.declared.How.{How}
 use Rattle.ro_journal.specs.declared.How.TheVariants.{Deadlock, Sink}
 use Rattle.ro_journal.specs.declared.Entry.{Entry}
-use Rattle.ro_journal.specs.declared.Entry.TheVariants.{Vote, Free, End}
+use Rattle.ro_journal.specs.declared.Entry.TheVariants.{Vote, Free, Scrub, End}
 use Rattle.ro_journal.specs.Plan.{outcome_of}
-use Rattle.ro_legal.specs.declared.actions.Action.TheVariants.{Vote as DoVote, Free as DoFree, End as DoEnd, Over}
+use Rattle.ro_legal.specs.declared.actions.Action.TheVariants.{Vote as DoVote, Free as DoFree, Scrub as DoScrub, End as DoEnd, Over}
 use Rattle.ro_legal.specs.Core.{Job, Core, is_going}
 use Rattle.ro_legal.specs.Event.{with_recovered}
-use Rattle.ro_legal.specs.Legal.{IsAllowed, EndsVote, EndsFree, event_in, freed_event, after, replay, replay_with, output_of}
+use Rattle.ro_legal.specs.Legal.{IsAllowed, EndsVote, EndsFree, event_in, freed_event, after, replay, replay_with, output_of, EndsScrub}
 use Rattle.ro_legal.specs.Action.{next_action, IsNext}
 use Rattle.ro_core.specs.Seen.{CoreOf, state, sent, sent_of, Appends, Quiet, Sends}
-use Rattle.ro_legal.specs.Decides.{DecidesVote, DecidesFree}
+use Rattle.ro_legal.specs.Decides.{DecidesVote, DecidesFree, DecidesScrub}
 use Rattle.ro_core.proofs.Held.{with-ended}
 use Rattle.ro_legal.proofs.Leases.{event_leases}
 use Rattle.ro_legal.proofs.Outcomes.{ended_is_outcome}
-use Rattle.ro_legal.proofs.Nexts.{vote_next, free_next, end_is, over_is_next}
+use Rattle.ro_legal.proofs.Nexts.{vote_next, free_next, scrub_next, end_is, over_is_next}
 use Rattle.ro_legal.specs.Sound.{IsOver}
 use Rattle.ro_core.specs.Driven.{IsDriven, IsHome, HasFailed, Goes}
 use Rattle.ro_legal.proofs.Lasts.{ended_cut}
-use Rattle.ro_legal.proofs.Ordered.{ordered}
+use Rattle.ro_legal.proofs.Ordered.{ordered, scrub-parts}
 use Rattle.ro_legal.proofs.Journals.{outcome_of-append}
 use Rattle.ro_core.proofs.LastViews.{going_open, end_open}
 use Rattle.ro_core.proofs.Turns.{going_calm, calm_state, driven_more, home_new, not_failed, goes_quiet, goes_sending}
@@ -65,7 +65,7 @@ decides_no_sink job core thread entry decides taken e = let f : None ≡ Some (S
 
 frees_next : (job : Job) (core : Core) (thread : ℕ) (entry : Entry) → next_action job core ≡ DoFree thread → DecidesFree job core thread entry → IsNext job core entry
 frees_next job core thread (Free t) next decides = next ∙ ap DoFree (sym decides)
-frees_next job core thread (End how) next decides = inr (inr (inr (thread, next, decides)))
+frees_next job core thread (End how) next decides = inr (inr (inr (inl (thread, next, decides))))
 frees_next job core thread entry next decides = absurd decides
 
 frees_home : (job : Job) (core : Core) (thread : ℕ) (entry : Entry) → DecidesFree job core thread entry → core.leases ≡ [] → (after job core entry).leases ≡ []
@@ -77,6 +77,29 @@ frees_home job core thread entry decides home = absurd decides
 frees_no_sink : (job : Job) (core : Core) (thread : ℕ) (entry : Entry) → DecidesFree job core thread entry → (taken : ℕ) → outcome_of (entry ∷ []) ≡ Some (Sink taken) → ⊥
 frees_no_sink job core thread (End how) decides taken e = let same : how ≡ Sink taken = (let f : Some how ≡ Some (Sink taken) = e in cc) in subst (EndsFree job core) same decides
 frees_no_sink job core thread entry decides taken e = let f : None ≡ Some (Sink taken) = e in cc
+
+-- ---- what decides a scrub
+
+pub scrub_going : (core : CoreOf) → next_action core.job (state core) ≡ DoScrub → is_going (state core) ≡ true
+scrub_going core next = (scrub-parts (state core) (scrub_next core.job (state core) next)).going
+
+pub scrub_calm : (core : CoreOf) → next_action core.job (state core) ≡ DoScrub → core.failed ≡ None
+scrub_calm core next = going_calm core (scrub_going core next)
+
+scrubs_next : (job : Job) (core : Core) (entry : Entry) → next_action job core ≡ DoScrub → DecidesScrub core entry → IsNext job core entry
+scrubs_next job core (Scrub w l) next decides = next
+scrubs_next job core (End how) next decides = inr (inr (inr (inr (next, decides))))
+scrubs_next job core entry next decides = absurd decides
+
+scrubs_home : (job : Job) (core : Core) (entry : Entry) → DecidesScrub core entry → core.leases ≡ [] → (after job core entry).leases ≡ []
+unfolding after
+scrubs_home job core (Scrub w l) decides home = home
+scrubs_home job core (End how) decides home = home
+scrubs_home job core entry decides home = absurd decides
+
+scrubs_no_sink : (core : Core) (entry : Entry) → DecidesScrub core entry → (taken : ℕ) → outcome_of (entry ∷ []) ≡ Some (Sink taken) → ⊥
+scrubs_no_sink core (End how) decides taken e = let same : how ≡ Sink taken = (let f : Some how ≡ Some (Sink taken) = e in cc) in subst (EndsScrub core) same decides
+scrubs_no_sink core entry decides taken e = let f : None ≡ Some (Sink taken) = e in cc
 
 -- ---- the core after it
 
@@ -115,6 +138,19 @@ module _ (old new : CoreOf) (entry : Entry) (driven : IsDriven old) (home : IsHo
 
     pub freed_goes : Quiet old new → Goes old new
     freed_goes q = goes_quiet old new entry a q (λ taken e. absurd (frees_no_sink old.job (state old) thread entry decides taken e)) (λ failed. absurd (not_failed old calm (going_open old driven (free_going old thread next)) failed))
+
+  module _ (next : next_action old.job (state old) ≡ DoScrub) (decides : DecidesScrub (state old) entry) where
+    scrubs_at : DecidesScrub (replay old.job old.journal) entry
+    scrubs_at = subst (λ (c : Core). DecidesScrub c entry) at decides
+
+    pub scrubbed_driven : IsDriven new
+    scrubbed_driven = driven_more old new entry driven a allowed_at (scrubs_next old.job (replay old.job old.journal) entry (ap (next_action old.job) (sym at) ∙ next) scrubs_at)
+
+    pub scrubbed_home : IsHome new
+    scrubbed_home = home_new old new entry a (scrubs_home old.job (replay old.job old.journal) entry scrubs_at home_at)
+
+    pub scrubbed_goes : Quiet old new → Goes old new
+    scrubbed_goes q = goes_quiet old new entry a q (λ taken e. absurd (scrubs_no_sink (state old) entry decides taken e)) (λ failed. absurd (not_failed old calm (going_open old driven (scrub_going old next)) failed))
 
 -- ---- the end
 

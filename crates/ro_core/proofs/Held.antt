@@ -97,6 +97,7 @@ pub record Becomes (f f' : Fields) (entry : Entry) : Type 0 where
   pub blocked_count : length f'.blocked ≡ 16
   pub blocked : (thread : ℕ) → blocked_at f'.blocked thread ≡ (after f.job (core_in f) entry).blocked thread
   pub steps : f'.steps ≡ (after f.job (core_in f) entry).steps
+  pub scrubbed : f'.scrubbed ≡ (after f.job (core_in f) entry).scrubbed
   pub counts : CountsBytes f'.sent f'.steps (sent_of f.job f'.journal (failed_of f'.due))
   pub due : (f'.due ≡ (after f.job (core_in f) entry).due) ⊎ ((bytes : ℕ) × (f'.due ≡ Some (Sink bytes)))
   pub not_sink : (bytes : ℕ) → f'.due ≡ Some (Sink bytes) → (bytes < (after f.job (core_in f) entry).wrote) × (is_going (after f.job (core_in f) entry) ≡ true)
@@ -131,6 +132,7 @@ module _ (f f' : Fields) (entry : Entry) (h : Holds f) (allowed : IsAllowed f.jo
     blocked_count = b.blocked_count;
     blocked_are = λ t. b.blocked t ∙ sym (ap (λ (c : Core). c.blocked t) core_is);
     steps_are = b.steps ∙ sym (ap (λ (c : Core). c.steps) core_is);
+    scrubbed_are = b.scrubbed ∙ sym (ap (λ (c : Core). c.scrubbed) core_is);
     counts = subst (λ (j : Job). CountsBytes f'.sent f'.steps (sent_of j f'.journal (failed_of f'.due))) (sym b.job) b.counts;
     due_is = due_is (failed_of f'.due) refl b.due;
     ended_is = b.ended ∙ sym (ap (λ (c : Core). c.ended) core_is);

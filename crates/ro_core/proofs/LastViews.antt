@@ -5,21 +5,21 @@ use Rattle.ro_event.specs.Views.{View}
 use Rattle.ro_journal.specs.declared.How.{How}
 use Rattle.ro_journal.specs.declared.How.TheVariants.{Deadlock, Differ, NoMajority, Sink}
 use Rattle.ro_journal.specs.declared.Entry.{Entry}
-use Rattle.ro_journal.specs.declared.Entry.TheVariants.{Vote, Free, End}
+use Rattle.ro_journal.specs.declared.Entry.TheVariants.{Vote, Free, Scrub, End}
 use Rattle.ro_journal.specs.Plan.{outcome_of}
-use Rattle.ro_legal.specs.declared.actions.Action.TheVariants.{Vote as DoVote, End as DoEnd}
+use Rattle.ro_legal.specs.declared.actions.Action.TheVariants.{Vote as DoVote, Scrub as DoScrub, End as DoEnd}
 use Rattle.ro_legal.specs.Core.{Job, Core, is_going, views_of}
-use Rattle.ro_legal.specs.Legal.{EndsVote, EndsFree, replay, replay_with}
+use Rattle.ro_legal.specs.Legal.{EndsVote, EndsFree, EndsScrub, replay, replay_with}
 use Rattle.ro_legal.specs.Action.{next_action}
 use Rattle.ro_core.specs.Seen.{CoreOf, state, Appends, Stays}
-use Rattle.ro_legal.specs.Decides.{DecidesVote, DecidesFree, IsSplit}
+use Rattle.ro_legal.specs.Decides.{DecidesVote, DecidesFree, DecidesScrub, IsSplit}
 use Rattle.ro_legal.specs.Sound.{IsOver}
 use Rattle.ro_legal.proofs.Journals.{outcome_of-append}
 use Rattle.ro_core.proofs.Held.{with-ended}
 use Rattle.ro_legal.proofs.Nexts.{end_next, end_is}
 use Rattle.ro_legal.proofs.Ordered.{going-parts, ordered}
 use Rattle.ro_legal.proofs.Outcomes.{ended_is_outcome}
-use Rattle.ro_core.specs.Driven.{IsDriven, ShowsLast, KeepsLast}
+use Rattle.ro_core.specs.Driven.{IsDriven, ShowsLast, ScrubsLast, KeepsLast}
 
 -- a core that goes on has a journal without an end
 pub going_open : (core : CoreOf) → IsDriven core → is_going (state core) ≡ true → outcome_of core.journal ≡ None
@@ -55,7 +55,7 @@ pub voted_last : (old new : CoreOf) (thread : ℕ) (entry : Entry) → outcome_o
 voted_last old new thread (Vote voted n w l d) none at next decides a shown = none_last new.job new.journal new.views (more_open old new (Vote voted n w l d) none a refl)
 voted_last old new thread (End how) none at next decides a shown = λ split.
     let views = shown (is_split how (outcome_of new.journal) (ends_so old new how none a) split) in
-    subst (λ (j : Job). ShowsLast j new.journal new.views) (sym a.job) (record {
+    subst (λ (j : Job). ShowsLast j new.journal new.views ⊎ ScrubsLast j new.journal) (sym a.job) (inl (record {
       before = old.journal;
       how = how;
       journal_is = a.journal;
@@ -63,7 +63,7 @@ voted_last old new thread (End how) none at next decides a shown = λ split.
       next = ap (next_action old.job) (sym at) ∙ next;
       in_place = subst (λ (c : Core). EndsVote old.job c thread how) at decides;
       views_are = views ∙ ap (λ (c : Core). views_of old.job c thread) at;
-    })
+    }))
 voted_last old new thread entry none at next decides a shown = absurd decides
 
 -- ---- a free
@@ -76,6 +76,20 @@ freed_last old new thread (End how) none decides a = λ split. absurd (by (is_sp
     by (inl e) = subst (EndsFree old.job (state old)) (let f : End how ≡ End Differ = e in let g : how ≡ Differ = cc in g) decides
     by (inr e) = subst (EndsFree old.job (state old)) (let f : End how ≡ End NoMajority = e in let g : how ≡ NoMajority = cc in g) decides
 freed_last old new thread entry none decides a = absurd decides
+
+-- ---- a scrub
+
+pub scrubbed_last : (old new : CoreOf) (entry : Entry) → outcome_of old.journal ≡ None → state old ≡ replay old.job old.journal → next_action old.job (state old) ≡ DoScrub → DecidesScrub (state old) entry → Appends old new entry → KeepsLast new.job new.journal new.views
+scrubbed_last old new (Scrub w l) none at next decides a = none_last new.job new.journal new.views (more_open old new (Scrub w l) none a refl)
+scrubbed_last old new (End how) none at next decides a = λ split.
+    subst (λ (j : Job). ShowsLast j new.journal new.views ⊎ ScrubsLast j new.journal) (sym a.job) (inr (record {
+      before = old.journal;
+      how = how;
+      journal_is = a.journal;
+      next = ap (next_action old.job) (sym at) ∙ next;
+      in_place = subst (λ (c : Core). EndsScrub c how) at decides;
+    }))
+scrubbed_last old new entry none at next decides a = absurd decides
 
 -- ---- an end that is due, or comes where nothing can be done
 

@@ -109,12 +109,12 @@ module _ (r : Run) (o : Occurrence) (can : CanOccur r o) where
 
   module _ (f' : Fields) (job : f'.job ≡ f.job) (journal : f'.journal ≡ f.journal ++ o.entry ∷ []) (due : f'.due ≡ o.event.due) where
     pub occurs-holds : AreHome f.job f'.seats (all_applied o.event.effect can.replicas) → AreGrouped (all_applied o.event.effect can.replicas) f'.groups → f'.leases ≡ f.leases → f'.kernel ≡ r.kernel → f'.blocked ≡ slice_set r.blocked o.thread o.event.blocked
-        → f'.steps ≡ r.steps + o.steps → f'.ended ≡ f.ended → f'.views ≡ f.views → f'.sent ≡ r.sent + length payload → 1 ≤ f'.places → Holds f'
-    occurs-holds home groups leases kernel blocked counted ended views sent room =
+        → f'.steps ≡ r.steps + o.steps → f'.scrubbed ≡ r.scrubbed → f'.ended ≡ f.ended → f'.views ≡ f.views → f'.sent ≡ r.sent + length payload → 1 ≤ f'.places → Holds f'
+    occurs-holds home groups leases kernel blocked counted scrubbed ended views sent room =
         happened-holds f f' h o.entry can.allowed o.thread can.count can.replicas event can.came goes-on can.alone happens occurs-few journal
         job home groups leases (ap (λ (k : State). k.setup) kernel ∙ can.amid.setup) (ap (λ (k : State). k.kernel) kernel)
         (blocked ∙ ap (λ bs. slice_set bs o.thread o.event.blocked) can.amid.blocked)
-        (let a = can.counted in let b = can.amid.steps in omega arith) due ended
+        (let a = can.counted in let b = can.amid.steps in omega arith) (scrubbed ∙ can.amid.scrubbed) due ended
         (ap length views ∙ h.views_count ∙ h.seats_are.count ∙ (ordered f.job f.journal h.legal).replica_count ∙ sym many ∙ sym (length-applied o.event.effect can.replicas) ∙ sym (home-count f.job f'.seats (all_applied o.event.effect can.replicas) home))
         fits (let b = can.amid.sent in omega arith) can.no_end room
 

@@ -1,5 +1,5 @@
 -- A vote of views that have no majority.
-use Rattle.std.proofs.Common.{◌≡◌, ◌≢◌, ℕ, Bool, true, false, true≢false, [], ◌∷◌, ◌++◌, length, None, refl, sym, ap, ◌∙◌, subst, arith, eqb-true}
+use Rattle.std.proofs.Common.{inl, ◌≡◌, ◌≢◌, ℕ, Bool, true, false, true≢false, [], ◌∷◌, ◌++◌, length, None, refl, sym, ap, ◌∙◌, subst, arith, eqb-true}
 use Rattle.std.specs.Prelude.{◌==◌, if◌then◌else◌}
 use Rattle.std.proofs.lemmas.Bool.{eq-eqb}
 use Rattle.ro_journal.specs.declared.How.TheVariants.{Differ, NoMajority, Sink}
@@ -49,7 +49,7 @@ module _ (f : Fields) (h : Holds f) (thread : ℕ) (may : may_vote (state_in f) 
     pub split-keeps : KeepsViews f.job (f.journal ++ End (split_end (length f.views)) ∷ []) f.views
     split-keeps = λ e.
         let same = (goes f h split-going).same in
-        record {
+        inl (record {
           before = f.journal;
           how = split_end (length f.views);
           journal_is = refl;
@@ -57,4 +57,4 @@ module _ (f : Fields) (h : Holds f) (thread : ℕ) (may : may_vote (state_in f) 
           may = ap (λ (c : Core). may_vote c thread) (sym same) ∙ may;
           in_place = subst (λ (c : Core). EndsVote f.job c thread (split_end (length f.views))) same split-ends;
           views_are = views ∙ ap (λ (c : Core). views_of f.job c thread) same;
-        }
+        })

@@ -23,6 +23,7 @@ viewed-holds f views h still same = record {
   blocked_count = h.blocked_count;
   blocked_are = h.blocked_are;
   steps_are = h.steps_are;
+  scrubbed_are = h.scrubbed_are;
   counts = h.counts;
   due_is = h.due_is;
   ended_is = h.ended_is;

@@ -364,9 +364,9 @@ length-applied effect replicas = length-mapped (λ replica. cancelled (applied e
 
 -- ---- fields that only made room
 
-kept-holds : (f f' : Fields) → Holds f → f.leases ≡ [] → f'.job ≡ f.job → f'.journal ≡ f.journal → AreHome f.job f'.seats (core_in f).replicas → f'.leases ≡ f.leases → f'.kernel ≡ f.kernel → f'.blocked ≡ f.blocked → f'.steps ≡ f.steps → f'.due ≡ f.due → f'.ended ≡ f.ended → f'.views ≡ f.views → f'.sent ≡ f.sent
+kept-holds : (f f' : Fields) → Holds f → f.leases ≡ [] → f'.job ≡ f.job → f'.journal ≡ f.journal → AreHome f.job f'.seats (core_in f).replicas → f'.leases ≡ f.leases → f'.kernel ≡ f.kernel → f'.blocked ≡ f.blocked → f'.steps ≡ f.steps → f'.scrubbed ≡ f.scrubbed → f'.due ≡ f.due → f'.ended ≡ f.ended → f'.views ≡ f.views → f'.sent ≡ f.sent
     → f'.groups ≡ f.groups → f.places ≤ f'.places → Holds f'
-kept-holds f f' h alone job journal home leases kernel blocked steps due ended views count groups room =
+kept-holds f f' h alone job journal home leases kernel blocked steps scrubbed due ended views count groups room =
     let core : core_in f' ≡ core_in f = ap (λ (j : Job). replay j f'.journal) job ∙ ap (replay f.job) journal in
     let state : state_in f' ≡ state_in f = ap (λ (j : Job). replay_with j f'.journal (failed_of f'.due)) job ∙ ap (λ (js : List Entry). replay_with f.job js (failed_of f'.due)) journal ∙ ap (λ (o : Option How). replay_with f.job f.journal (failed_of o)) due in
     record {
@@ -378,6 +378,7 @@ kept-holds f f' h alone job journal home leases kernel blocked steps due ended v
       blocked_count = ap length blocked ∙ h.blocked_count;
       blocked_are = λ t. ap (λ (bs : List (Option Call)). blocked_at bs t) blocked ∙ h.blocked_are t ∙ sym (ap (λ (c : Core). c.blocked t) core);
       steps_are = steps ∙ h.steps_are ∙ sym (ap (λ (c : Core). c.steps) core);
+      scrubbed_are = scrubbed ∙ h.scrubbed_are ∙ sym (ap (λ (c : Core). c.scrubbed) core);
       counts = subst (λ (j : Job). CountsBytes f'.sent f'.steps (sent_of j f'.journal (failed_of f'.due))) (sym job)
           (same-counts f f' h count steps (ap (λ (js : List Entry). sent_of f.job js (failed_of f'.due)) journal ∙ ap (λ (o : Option How). sent_of f.job f.journal (failed_of o)) due));
       due_is = due ∙ h.due_is ∙ sym (ap (λ (c : Core). c.due) state);
@@ -395,10 +396,10 @@ kept-holds f f' h alone job journal home leases kernel blocked steps due ended v
 pub ready-home : (f : Fields) → Holds f → f.leases ≡ [] → AreHome f.job f.seats (core_in f).replicas
 ready-home f h alone = all-home f.job (core_in f) f.seats h.seats_are (sym h.leases_are ∙ alone)
 
-pub made-room : (f f' : Fields) → Holds f → f.leases ≡ [] → f'.job ≡ f.job → f'.journal ≡ f.journal → AreHome f.job f'.seats (core_in f).replicas → f'.leases ≡ f.leases → f'.kernel ≡ f.kernel → f'.blocked ≡ f.blocked → f'.steps ≡ f.steps → f'.due ≡ f.due → f'.ended ≡ f.ended → f'.views ≡ f.views → f'.sent ≡ f.sent
+pub made-room : (f f' : Fields) → Holds f → f.leases ≡ [] → f'.job ≡ f.job → f'.journal ≡ f.journal → AreHome f.job f'.seats (core_in f).replicas → f'.leases ≡ f.leases → f'.kernel ≡ f.kernel → f'.blocked ≡ f.blocked → f'.steps ≡ f.steps → f'.scrubbed ≡ f.scrubbed → f'.due ≡ f.due → f'.ended ≡ f.ended → f'.views ≡ f.views → f'.sent ≡ f.sent
     → f'.groups ≡ f.groups → f.places ≤ f'.places → MakesRoom f f'
-made-room f f' h alone job journal home leases kernel blocked steps due ended views count groups room = record {
-  holds = kept-holds f f' h alone job journal home leases kernel blocked steps due ended views count groups room;
+made-room f f' h alone job journal home leases kernel blocked steps scrubbed due ended views count groups room = record {
+  holds = kept-holds f f' h alone job journal home leases kernel blocked steps scrubbed due ended views count groups room;
   job = job;
   journal = journal;
   leases = leases;

@@ -1,7 +1,7 @@
 //! What the core does next.
 ghost use Rattle.std.specs.Prelude.{◌≡◌, ◌<◌, ◌&&◌, length, true};
 ghost use Rattle.ro_legal.specs.Core.{is_going, nothing_lent, is_lendable, may_vote, may_free};
-ghost use Rattle.ro_legal.specs.Action.{lowest_below, threads_made, lend_next, first_action, next_action as next};
+ghost use Rattle.ro_legal.specs.Action.{lowest_below, threads_made, lend_next, first_action, is_scrub_due, scrub_action, next_action as next};
 ghost use Rattle.ro_core.specs.Fields.{Holds};
 ghost use Rattle.ro_core.specs.Runs.{fields_of, job_of, state_of};
 
@@ -23,11 +23,40 @@ impl Run {
         if let Some(how) = self.due {
             return Action::End(how);
         }
+        if self.is_scrub_due() {
+            return self.scrub_action();
+        }
         match self.first_action() {
             Some(action) => action,
             None => {
                 if self.leases.is_empty() {
                     Action::End(How::Deadlock)
+                } else {
+                    Action::Wait
+                }
+            }
+        }
+    }
+
+    // Whether so many steps came since the last scrub that the next one is due.
+    fn is_scrub_due(&self) -> bool
+        requires holds { Holds (fields_of self.now) }
+        ensures { result ≡ is_scrub_due (job_of self.now) (state_of self.now) }
+    {
+        let scrub = self.settings.scrub;
+        scrub != 0 && scrub <= self.steps && self.scrubbed <= self.steps - scrub
+    }
+
+    // What comes next where a scrub is due: threads are lent until all stand still.
+    fn scrub_action(&self) -> Action
+        requires holds { Holds (fields_of self.now) }
+        ensures { result ≡ scrub_action (state_of self.now) }
+    {
+        match self.lowest_to_lend() {
+            Some(action) => action,
+            None => {
+                if self.leases.is_empty() {
+                    Action::Scrub
                 } else {
                     Action::Wait
                 }

@@ -7,10 +7,10 @@ ghost use Rattle.ro_settings.specs.Ranges.{InRange};
 ghost use Rattle.ro_replica.specs.Seen.{AreFaults};
 ghost use Rattle.ro_legal.specs.declared.actions.Action.TheVariants as act;
 ghost use Rattle.ro_legal.specs.Core.{may_vote, may_free, views_of};
-ghost use Rattle.ro_legal.specs.Legal.{IsAllowed, Legal, replay};
+ghost use Rattle.ro_legal.specs.Legal.{IsAllowed, Legal, may_scrub, replay};
 ghost use Rattle.ro_legal.specs.Action.{next_action as next, IsNext};
 ghost use Rattle.ro_core.specs.Seen.{state, sent, Opens, Appends, Quiet, Sends, IsOfMajority, Stays, KeepsViews, HasRoom, IsLent, MayReturn, ReturnIs};
-ghost use Rattle.ro_legal.specs.Decides.{DecidesVote, DecidesFree, IsSplit};
+ghost use Rattle.ro_legal.specs.Decides.{DecidesVote, DecidesFree, DecidesScrub, IsSplit};
 
 use crate::runs::Run;
 use ro_event::View;
@@ -160,6 +160,21 @@ impl<K: Sink> Core<K> {
         self.run.free(thread)
     }
 
+    /// Compares the replicas whole, of which none is lent and in each of which every live thread stands still: each that is
+    /// not as more than half of them becomes as these. The entry that was appended is answered. Where no more than half are
+    /// the same, that is an end.
+    ///
+    /// # Errors
+    /// Where there is no memory; nothing has changed then.
+    pub fn scrub(&mut self) -> Result<Entry, AllocError>
+        requires { IsTrue (may_scrub (state self.old)) }
+        ensures entry { IfOk result (λ entry. IsAllowed self.old.job (state self.old) entry × DecidesScrub (state self.old) entry × Appends self.old self.new entry) }
+        ensures quiet { OnOk result (Quiet self.old self.new) }
+        ensures err { OnErr result (Stays self.old self.new) }
+    {
+        self.run.scrub()
+    }
+
     /// Ends the run so, where this end is due or nothing can be done any more.
     pub fn end(&mut self, how: How)
         requires { next self.old.job (state self.old) ≡ act.End how }
@@ -193,6 +208,7 @@ impl<K: Sink> Core<K> {
             kernel: _,
             blocked: _,
             steps: _,
+            scrubbed: _,
             sent,
             due: _,
             ended,

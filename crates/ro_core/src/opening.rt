@@ -61,6 +61,7 @@ impl Run {
                 kernel: opening.kernel,
                 blocked: [None; THREADS],
                 steps: 0,
+                scrubbed: 0,
                 sent: 0,
                 due: None,
                 ended: None,

@@ -36,6 +36,8 @@ pub(crate) struct Run {
     pub blocked: [Option<Call>; THREADS],
     /// The length of the plan so far.
     pub steps: u64,
+    /// How long it was at the last scrub.
+    pub scrubbed: u64,
     /// How many bytes left.
     pub sent: u64,
     pub due: Option<How>,

@@ -185,8 +185,8 @@ impl Run {
         Ok(entry)
     }
 
-    // Makes room for an entry and the end, and for an event in every replica, each of which is at home.
-    fn prepare(&mut self) -> Result<(), AllocError>
+    /// Makes room for an entry and the end, and for an event in every replica, each of which is at home.
+    pub fn prepare(&mut self) -> Result<(), AllocError>
         requires holds { Holds (fields_of self.old) }
         requires alone { self.old.leases.items ≡ [] }
         ensures makes { MakesRoom (fields_of self.old) (fields_of self.new) }

@@ -1,10 +1,9 @@
 -- The text of a journal, read back.
-use Rattle.std.proofs.Common.{ℕ, Bool, true, false, ◌≡◌, ◌+◌, ◌^◌, ◌<◌, ◌&&◌, ◌||◌, ◌==◌, not, nat_le, nat_lt, List, [], ◌∷◌, ◌++◌, Option, Some, None, Ok, Err, length, decimal, codes, cond, arith, refl, sym, ap, ◌∙◌, length-append}
+use Rattle.std.proofs.Common.{ℕ, Bool, true, false, ◌≡◌, ◌+◌, ◌^◌, ◌<◌, ◌&&◌, ◌||◌, ◌==◌, not, nat_le, nat_lt, List, [], ◌∷◌, ◌++◌, Option, Some, Ok, Err, length, decimal, codes, cond, arith, refl, ap, ◌∙◌, length-append}
 use Rattle.std.specs.Char.{is_ascii_digit}
-use Rattle.std.specs.List.{All, list_all}
+use Rattle.std.specs.List.{list_all}
 use Rattle.std.specs.Str.{bytes_eq}
-use Rattle.std.proofs.lemmas.Bool.{and_parts, and_from, false≢true, leb-true, ltb-true, ne_eqb, not-true}
-use Rattle.std.proofs.lemmas.List.Elements.{All-nil, All-cons}
+use Rattle.std.proofs.lemmas.Bool.{and_parts, and_from, false≢true, leb-true, ltb-true, not-true}
 use Rattle.std.proofs.lemmas.List.Splits.{slice_split_none, slice_split_at}
 use Rattle.ro_text.specs.Numbers.{are_digits, is_number, value_of, within}
 use Rattle.ro_text.specs.Lines.{spaced, is_plain, parts_of}
@@ -17,7 +16,7 @@ use Rattle.ro_journal.specs.declared.How.TheVariants.{Exit, Deadlock, Trap, Limi
 use Rattle.ro_journal.specs.declared.losers.Lost.{Lost}
 use Rattle.ro_journal.specs.declared.losers.Lost.TheVariants.{Nobody, One, Two}
 use Rattle.ro_journal.specs.declared.Entry.{Entry}
-use Rattle.ro_journal.specs.declared.Entry.TheVariants.{Take, Put, Vote, Free, End}
+use Rattle.ro_journal.specs.declared.Entry.TheVariants.{Take, Put, Vote, Free, Scrub, End}
 use Rattle.ro_journal_text.specs.declared.versions.Version.{Version}
 use Rattle.ro_journal_text.specs.declared.versions.Version.TheVariants.{First, Second}
 use Rattle.ro_journal_text.specs.declared.errors.JournalCode.TheVariants.{Range}
@@ -163,6 +162,12 @@ entry_back version (Vote thread count won lost did) h =
     let x = did_back did in
     (rw (t.plain, n.plain, w.plain, l.0, x.0) refl, rw (t.spells, n.spells, w.spells, t.value, n.value, w.value, l.1, x.1) refl)
 entry_back version (Free thread) h = let t = spelled 0 15 thread (omega arith) h in (rw (t.plain) refl, rw (t.spells, t.value) refl)
+entry_back First (Scrub won lost) h = absurd (false≢true h)
+entry_back Second (Scrub won lost) h =
+    let one = and_parts (within 0 4 won) (is_lost Second lost) h in
+    let w = spelled 0 4 won (omega arith) one.0 in
+    let l = lost_back Second lost one.1 in
+    (rw (w.plain, l.0) refl, rw (w.spells, w.value, l.1) refl)
 entry_back version (End how) h = let e = how_back how h in (e.0, rw (e.1) refl)
 
 nonempty : (entry : Entry) → 0 < length (entry_words entry)
@@ -170,6 +175,7 @@ nonempty (Take driver replica thread) = omega arith
 nonempty (Put driver replica thread count hit) = omega arith
 nonempty (Vote thread count won lost did) = omega arith
 nonempty (Free thread) = omega arith
+nonempty (Scrub won lost) = omega arith
 nonempty (End how) = omega arith
 
 entry_read : (version : Version) (entry : Entry) → is_entry version entry ≡ true → line_entry version (spaced (entry_words entry)) ≡ Ok entry

@@ -1,5 +1,5 @@
 -- Losers, parted by commas.
-use Rattle.std.proofs.Common.{ℕ, Bool, true, false, ◌≡◌, ◌+◌, ◌<◌, ◌&&◌, ◌||◌, ◌==◌, not, nat_le, List, [], ◌∷◌, Option, Some, None, Result, Ok, Err, IfOk, length, codes, cond, arith, refl, sym, ap, ◌∙◌}
+use Rattle.std.proofs.Common.{ℕ, Bool, true, false, ◌≡◌, ◌&&◌, ◌||◌, ◌==◌, not, nat_le, List, [], ◌∷◌, Option, Some, None, Result, Ok, Err, IfOk, length, codes, cond, arith, refl, sym, ap, ◌∙◌}
 use Rattle.std.specs.Char.{is_ascii_digit}
 use Rattle.std.specs.List.{All, list_all, join_with_byte}
 use Rattle.std.specs.Option.{option_map}
@@ -12,8 +12,7 @@ use Rattle.ro_journal.specs.declared.Did.{Did}
 use Rattle.ro_journal.specs.declared.How.{How}
 use Rattle.ro_journal.specs.declared.losers.Lost.{Lost}
 use Rattle.ro_journal.specs.declared.losers.Lost.TheVariants.{Nobody, One, Two}
-use Rattle.ro_journal.specs.declared.Entry.{Entry}
-use Rattle.ro_journal.specs.declared.Entry.TheVariants.{Vote, Free, End}
+use Rattle.ro_journal.specs.declared.Entry.TheVariants.{Vote, Free, Scrub, End}
 use Rattle.ro_journal_text.specs.declared.versions.Version.{Version}
 use Rattle.ro_journal_text.specs.declared.versions.Version.TheVariants.{First, Second}
 use Rattle.ro_journal_text.specs.declared.errors.JournalCode.{JournalCode}
@@ -95,6 +94,17 @@ vote_refused version thread count won (Some lost) code h did = by (is_lost versi
         let e : code ≡ Range = cc in
         ap (λ (c : JournalCode). Err c) e
         ∙ sym (ap (λ b. cond b (Ok (Vote thread count won lost did)) (Err Range)) (with_false (within 0 15 thread && within 0 1000000 count && within 0 (most_replica version) won) (is_lost version lost) t))
+
+-- a scrub whose losers are refused
+pub scrub_refused : (won : ℕ) (lost : Option Lost) (code : JournalCode) → Err code ≡ ranged (is_lost Second) lost → Err code ≡ ranged (is_entry Second) (option_map (λ l. Scrub won l) lost)
+scrub_refused won None code h = let e : code ≡ Form = cc in ap (λ (c : JournalCode). Err c) e
+scrub_refused won (Some lost) code h = by (is_lost Second lost) refl h
+  where
+    by : (b : Bool) → is_lost Second lost ≡ b → Err code ≡ cond b (Ok lost) (Err Range) → Err code ≡ ranged (is_entry Second) (Some (Scrub won lost))
+    by true t q = absurd (cc)
+    by false t q =
+        let e : code ≡ Range = cc in
+        ap (λ (c : JournalCode). Err c) e ∙ sym (ap (λ b. cond b (Ok (Scrub won lost)) (Err Range)) (with_false (within 0 4 won) (is_lost Second lost) t))
 
 -- a word that is neither a number nor a dash
 pub later_read : (version : Version) (word : List ℕ) → is_number word ≡ false → bytes_eq word (codes "-") ≡ false → version ≡ Second → ranged (is_lost Second) (several_of (listed word)) ≡ ranged (is_lost version) (lost_of version word)

@@ -3,15 +3,16 @@ use Rattle.std.proofs.Common.{ℕ, Bool, true, false, Bor, map, ◌≡◌, ◌�
 use Rattle.std.specs.Str.{bytes_eq}
 use Rattle.ro_journal_text.specs.declared.errors.JournalCode.TheVariants.{Form}
 use Rattle.ro_journal_text.specs.declared.versions.Version.{Version}
-use Rattle.ro_journal_text.specs.Reading.{put_of, vote_of, entry_of, is_entry, ranged}
+use Rattle.ro_journal_text.specs.Reading.{put_of, vote_of, scrub_of, entry_of, is_entry, ranged}
 
-none_of : {A : Type 0} (a b c d e : Bool) (x : A) → cond a x (cond b x (cond c x (cond d x (cond e x x)))) ≡ x
-none_of true b c d e x = refl
-none_of false true c d e x = refl
-none_of false false true d e x = refl
-none_of false false false true e x = refl
-none_of false false false false true x = refl
-none_of false false false false false x = refl
+none_of : {A : Type 0} (a b c d e f : Bool) (x : A) → cond a x (cond b x (cond c x (cond d x (cond e x (cond f x x))))) ≡ x
+none_of true b c d e f x = refl
+none_of false true c d e f x = refl
+none_of false false true d e f x = refl
+none_of false false false true e f x = refl
+none_of false false false false true f x = refl
+none_of false false false false false true x = refl
+none_of false false false false false false x = refl
 
 pub many_words : (version : Version) (words : List (List ℕ)) → 6 < length words → Err Form ≡ ranged (is_entry version) (entry_of version words)
 many_words version [] h = absurd (omega (arith, h))
@@ -22,7 +23,7 @@ many_words version (a ∷ b ∷ c ∷ d ∷ []) h = absurd (omega (arith, h))
 many_words version (a ∷ b ∷ c ∷ d ∷ e ∷ []) h = absurd (omega (arith, h))
 many_words version (a ∷ b ∷ c ∷ d ∷ e ∷ f ∷ []) h = absurd (omega (arith, h))
 many_words version (a ∷ b ∷ c ∷ d ∷ e ∷ f ∷ g ∷ words) h =
-    sym (ap (ranged (is_entry version)) (none_of (bytes_eq a (codes "take")) (bytes_eq a (codes "put")) (bytes_eq a (codes "vote")) (bytes_eq a (codes "free")) (bytes_eq a (codes "end")) None))
+    sym (ap (ranged (is_entry version)) (none_of (bytes_eq a (codes "take")) (bytes_eq a (codes "put")) (bytes_eq a (codes "vote")) (bytes_eq a (codes "free")) (bytes_eq a (codes "scrub")) (bytes_eq a (codes "end")) None))
 
 pub put_fields : (version : Version) (fields : List (Bor (List ℕ))) → length fields ≢ 5 → Err Form ≡ ranged (is_entry version) (put_of (map (λ word. word.now) fields))
 put_fields version [] h = refl
@@ -41,3 +42,9 @@ vote_fields version (a ∷ b ∷ c ∷ []) h = refl
 vote_fields version (a ∷ b ∷ c ∷ d ∷ []) h = refl
 vote_fields version (a ∷ b ∷ c ∷ d ∷ e ∷ []) h = absurd (h refl)
 vote_fields version (a ∷ b ∷ c ∷ d ∷ e ∷ f ∷ fields) h = refl
+
+pub scrub_fields : (version : Version) (fields : List (Bor (List ℕ))) → length fields ≢ 2 → Err Form ≡ ranged (is_entry version) (scrub_of version (map (λ word. word.now) fields))
+scrub_fields version [] h = refl
+scrub_fields version (a ∷ []) h = refl
+scrub_fields version (a ∷ b ∷ []) h = absurd (h refl)
+scrub_fields version (a ∷ b ∷ c ∷ fields) h = refl

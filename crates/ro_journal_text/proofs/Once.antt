@@ -9,12 +9,13 @@ use Rattle.ro_text.specs.Lines.{spaced, words_of}
 use Rattle.ro_journal.specs.declared.Did.{Did}
 use Rattle.ro_journal.specs.declared.How.{How}
 use Rattle.ro_journal.specs.declared.Entry.{Entry}
-use Rattle.ro_journal.specs.declared.Entry.TheVariants.{Take, Put, Vote, Free, End}
+use Rattle.ro_journal.specs.declared.Entry.TheVariants.{Take, Put, Vote, Free, Scrub, End}
 use Rattle.ro_journal.specs.declared.losers.Lost.{Lost}
 use Rattle.ro_journal_text.specs.declared.versions.Version.{Version}
+use Rattle.ro_journal_text.specs.declared.versions.Version.TheVariants.{First, Second}
 use Rattle.ro_journal_text.specs.declared.errors.JournalCode.TheVariants.{Range}
 use Rattle.ro_journal_text.specs.Texts.{entry_words}
-use Rattle.ro_journal_text.specs.Reading.{did_of, lost_of, how_of, take_of, put_of, vote_with, vote_of, free_of, end_of, entry_of, most_replica, is_lost, is_entry, ranged, line_entry}
+use Rattle.ro_journal_text.specs.Reading.{did_of, lost_of, how_of, take_of, put_of, vote_with, vote_of, free_of, scrub_in, scrub_of, end_of, entry_of, most_replica, is_lost, is_entry, ranged, line_entry}
 use Rattle.ro_journal_text.proofs.Wording.{same, pick, chosen, inner, once, replica_once, did_once, lost_once, how_once}
 
 take_once : (version : Version) (fields : List (List ℕ)) (entry : Entry) → take_of fields ≡ Some entry → is_entry version entry ≡ true → entry_words entry ≡ codes "take" ∷ fields
@@ -85,6 +86,25 @@ free_once version (thread ∷ []) entry h fits =
     ap entry_words (sym e) ∙ rw (once 0 15 thread (omega arith) p.0 (ap (is_entry version) e ∙ fits)) refl
 free_once version (a ∷ b ∷ fields) entry h fits = absurd (cc)
 
+scrub_in_once : (version : Version) (won lost : List ℕ) (entry : Entry) → scrub_in version won lost ≡ Some entry → is_entry version entry ≡ true → entry_words entry ≡ codes "scrub" ∷ won ∷ lost ∷ []
+scrub_in_once First won lost entry h fits = absurd (cc)
+scrub_in_once Second won lost entry h fits =
+    let p = chosen (is_number won) (option_map (λ l. Scrub (value_of won) l) (lost_of Second lost)) entry h in
+    by p.0 (lost_of Second lost) refl p.1
+  where
+    by : is_number won ≡ true → (read : Option Lost) → lost_of Second lost ≡ read → option_map (λ l. Scrub (value_of won) l) read ≡ Some entry → entry_words entry ≡ codes "scrub" ∷ won ∷ lost ∷ []
+    by n None r q = absurd (cc)
+    by n (Some l) r q =
+        let e = inner (Scrub (value_of won) l) entry q in
+        let f = and_parts (within 0 4 (value_of won)) (is_lost Second l) (ap (is_entry Second) e ∙ fits) in
+        ap entry_words (sym e) ∙ rw (replica_once Second won n f.0, lost_once Second lost l r f.1) refl
+
+scrub_once : (version : Version) (fields : List (List ℕ)) (entry : Entry) → scrub_of version fields ≡ Some entry → is_entry version entry ≡ true → entry_words entry ≡ codes "scrub" ∷ fields
+scrub_once version [] entry h fits = absurd (cc)
+scrub_once version (a ∷ []) entry h fits = absurd (cc)
+scrub_once version (won ∷ lost ∷ []) entry h fits = scrub_in_once version won lost entry h fits
+scrub_once version (a ∷ b ∷ c ∷ fields) entry h fits = absurd (cc)
+
 end_once : (version : Version) (fields : List (List ℕ)) (entry : Entry) → end_of fields ≡ Some entry → is_entry version entry ≡ true → entry_words entry ≡ codes "end" ∷ fields
 end_once version fields entry h fits = by (how_of fields) refl h
   where
@@ -104,8 +124,11 @@ entry_once version (kind ∷ fields) entry h fits = elim (pick (bytes_eq kind (c
       | inl p ↦ vote_once version fields entry p.1 fits ∙ ap (λ k. k ∷ fields) (sym (same kind (codes "vote") p.0))
       | inr q ↦ elim (pick (bytes_eq kind (codes "free")) (free_of fields) _ entry q.1) [
         | inl p ↦ free_once version fields entry p.1 fits ∙ ap (λ k. k ∷ fields) (sym (same kind (codes "free") p.0))
-        | inr q ↦ let p = chosen (bytes_eq kind (codes "end")) (end_of fields) entry q.1 in
-            end_once version fields entry p.1 fits ∙ ap (λ k. k ∷ fields) (sym (same kind (codes "end") p.0))
+        | inr q ↦ elim (pick (bytes_eq kind (codes "scrub")) (scrub_of version fields) _ entry q.1) [
+          | inl p ↦ scrub_once version fields entry p.1 fits ∙ ap (λ k. k ∷ fields) (sym (same kind (codes "scrub") p.0))
+          | inr q ↦ let p = chosen (bytes_eq kind (codes "end")) (end_of fields) entry q.1 in
+              end_once version fields entry p.1 fits ∙ ap (λ k. k ∷ fields) (sym (same kind (codes "end") p.0))
+        ]
       ]
     ]
   ]

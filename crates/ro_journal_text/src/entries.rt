@@ -1,6 +1,6 @@
 //! The entry of a line.
 ghost use Rattle.std.specs.Prelude.{◌≡◌, [], ◌∷◌, map};
-ghost use Rattle.ro_journal_text.specs.Reading.{take_of, put_of, vote_of, free_of, end_of, entry_of, is_entry, ranged, line_entry};
+ghost use Rattle.ro_journal_text.specs.Reading.{take_of, put_of, vote_of, free_of, scrub_of, end_of, entry_of, is_entry, ranged, line_entry};
 
 use crate::errors::JournalCode;
 use crate::versions::Version;
@@ -40,6 +40,8 @@ fn read_kind(kind: &[u8], fields: &[&[u8]], version: Version) -> Result<Entry, J
         read_vote(fields, version)
     } else if kind == b"free".as_slice() {
         read_free(fields)
+    } else if kind == b"scrub".as_slice() {
+        read_scrub(fields, version)
     } else if kind == b"end".as_slice() {
         read_end(fields)
     } else {
@@ -191,6 +193,33 @@ fn free_entry(thread: &[u8]) -> Result<Entry, JournalCode>
             thread: thread as u32,
         }),
         None => Err(JournalCode::Range),
+    }
+}
+
+fn read_scrub(fields: &[&[u8]], version: Version) -> Result<Entry, JournalCode>
+    ensures { result ≡ ranged (is_entry version) (scrub_of version (map (λ word. word.now) fields.now)) }
+{
+    match (fields, version) {
+        ([won, lost], Version::Second) => scrub_entry(won, lost),
+        _ => Err(JournalCode::Form),
+    }
+}
+
+fn scrub_entry(won: &[u8], lost: &[u8]) -> Result<Entry, JournalCode>
+    ensures { result ≡ ranged (is_entry Version.Second) (scrub_of Version.Second (won.now ∷ lost.now ∷ [])) }
+{
+    if !is_number(won) {
+        return Err(JournalCode::Form);
+    }
+    match read_lost(lost, Version::Second) {
+        Err(code) => Err(code),
+        Ok(lost) => match value_within(won, 0, Version::Second.most_replica()) {
+            Some(won) => Ok(Entry::Scrub {
+                won: won as u32,
+                lost,
+            }),
+            None => Err(JournalCode::Range),
+        },
     }
 }
 

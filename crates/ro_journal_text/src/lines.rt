@@ -38,6 +38,7 @@ pub fn entry_text(entry: &Entry) -> Line
             did,
         } => vote_text(thread, count, won, lost, did),
         Entry::Free { thread } => free_text(thread),
+        Entry::Scrub { won, lost } => scrub_text(won, lost),
         Entry::End { how } => end_text(how),
     }
 }
@@ -115,6 +116,16 @@ fn free_text(thread: u32) -> Line
     let mut text = Text::new();
     text.push("free");
     text.add_number(u64::from(thread));
+    text.end()
+}
+
+fn scrub_text(won: u32, lost: Lost) -> Line
+    ensures { result ≡ entry_text (Entry.Scrub won lost) }
+{
+    let mut text = Text::new();
+    text.push("scrub");
+    text.add_number(u64::from(won));
+    add_lost(&mut text, lost);
     text.end()
 }
 

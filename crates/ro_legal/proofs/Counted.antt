@@ -7,7 +7,7 @@ use Rattle.ro_event.specs.Effects.{Effect}
 use Rattle.ro_region.specs.declared.Range.{Range}
 use Rattle.ro_journal.specs.Losers.{numbers}
 use Rattle.ro_journal.specs.declared.Entry.{Entry}
-use Rattle.ro_journal.specs.declared.Entry.TheVariants.{Take, Put, Vote, Free, End}
+use Rattle.ro_journal.specs.declared.Entry.TheVariants.{Take, Put, Vote, Free, Scrub, End}
 use Rattle.ro_exec.specs.Next.{Layout}
 use Rattle.ro_exec.specs.Threads.{made_cpu}
 use Rattle.ro_thread.specs.declared.Thread.{Thread}
@@ -26,7 +26,7 @@ use Rattle.ro_legal.proofs.Lists.{ChangedFrom, unchanged, changed_here, get-chan
 use Rattle.ro_legal.proofs.Sound.{Instructs, instructs, instructed, RunParts, run-parts}
 use Rattle.ro_legal.proofs.Copies.{AfterCopy, not_lost, is_copy, after-copy, still-there}
 use Rattle.ro_legal.proofs.Effects.{backed_after, threads_after}
-use Rattle.ro_legal.proofs.Ordered.{put-parts, get-opening, one-thread, event-parts}
+use Rattle.ro_legal.proofs.Ordered.{put-parts, get-opening, one-thread, event-parts, scrub-winner}
 
 -- more are counted too
 counts-more : (less more : ℕ) (replica : Replica) → less ≤ more → Counts less replica → Counts more replica
@@ -161,6 +161,9 @@ counted-after most job core (Vote thread count won lost did) may h =
     (counted-event most core thread count (with_recovered won (numbers lost) core.replicas) (event_in job core thread won) (each-copied most won e.winner (numbers lost) core.replicas e.there h) h)
 counted-after most job core (Free thread) may h =
     more-counted most (most + job.settings.quantum) (core_after_event core thread 0 core.replicas (freed_event job core thread)) (omega arith) (counted-event most core thread 0 core.replicas (freed_event job core thread) h h)
+counted-after most job core (Scrub won lost) may h =
+    let w = scrub-winner core won lost may in
+    more-counted most (most + job.settings.quantum) (after job core (Scrub won lost)) (omega arith) (each-copied most won w.0 (numbers lost) core.replicas w.1 h)
 counted-after most job core (End how) may h = more-counted most (most + job.settings.quantum) (after job core (End how)) (omega arith) h
 
 counted-from : (most : ℕ) (job : Job) (core : Core) (journal : List Entry) → LegalFrom job core journal → AreCounted most core → AreCounted (most + job.settings.quantum * length journal) (replay_from job core journal)

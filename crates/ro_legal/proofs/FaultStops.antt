@@ -10,7 +10,7 @@ use Rattle.ro_event.specs.Effects.{Effect}
 use Rattle.ro_region.specs.declared.Range.{Range}
 use Rattle.ro_journal.specs.Losers.{numbers}
 use Rattle.ro_journal.specs.declared.Entry.{Entry}
-use Rattle.ro_journal.specs.declared.Entry.TheVariants.{Take, Put, Vote, Free, End}
+use Rattle.ro_journal.specs.declared.Entry.TheVariants.{Take, Put, Vote, Free, Scrub, End}
 use Rattle.ro_exec.specs.Next.{Layout, Backed}
 use Rattle.ro_pages.specs.Bytes.{covers_page}
 use Rattle.ro_exec.specs.Threads.{made_cpu}
@@ -31,7 +31,7 @@ use Rattle.ro_legal.proofs.Lists.{ChangedFrom, unchanged, changed_here, get-chan
 use Rattle.ro_legal.proofs.Sound.{Instructs, instructs, instructed, RunParts, run-parts}
 use Rattle.ro_legal.proofs.Copies.{AfterCopy, not_lost, is_copy, after-copy, still-there}
 use Rattle.ro_legal.proofs.Effects.{backed_after, threads_after}
-use Rattle.ro_legal.proofs.Ordered.{put-parts, get-opening, one-thread, event-parts}
+use Rattle.ro_legal.proofs.Ordered.{put-parts, get-opening, one-thread, event-parts, scrub-winner}
 use Rattle.ro_legal.proofs.FaultPages.{fault-standing}
 
 fault-changed : (backed : Backed) (f : Thread → Thread) → ((x : Thread) → IsFault backed x.stop → IsFault backed (f x).stop) → (threads : List Thread) (t : ℕ) → ((place : ℕ) (x : Thread) → slice_get threads place ≡ Some x → IsFault backed x.stop) → (place : ℕ) (x : Thread) → slice_get (changed_at f threads t) place ≡ Some x → IsFault backed x.stop
@@ -213,6 +213,7 @@ fault-after job core (Vote thread count won lost did) may h =
     let e = event-parts job core thread won may.event may.comes in
     fault-event core thread count (with_recovered won (numbers lost) core.replicas) (event_in job core thread won) (each-copied won e.winner (numbers lost) core.replicas e.there h) h
 fault-after job core (Free thread) may h = fault-event core thread 0 core.replicas (freed_event job core thread) h h
+fault-after job core (Scrub won lost) may h = let w = scrub-winner core won lost may in each-copied won w.0 (numbers lost) core.replicas w.1 h
 fault-after job core (End how) may h = h
 
 opening-faults : (job : Job) (number : ℕ) → HasFaults (opening_replica job.program.image job.faults number)

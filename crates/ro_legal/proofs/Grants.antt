@@ -18,7 +18,7 @@ use Rattle.ro_journal.specs.declared.Did.{Did}
 use Rattle.ro_journal.specs.declared.Did.TheVariants.{Served, Blocked, PageBacked, Watch, Trapped}
 use Rattle.ro_journal.specs.declared.How.{How}
 use Rattle.ro_journal.specs.declared.Entry.{Entry}
-use Rattle.ro_journal.specs.declared.Entry.TheVariants.{Take, Put, Vote, Free, End}
+use Rattle.ro_journal.specs.declared.Entry.TheVariants.{Take, Put, Vote, Free, Scrub, End}
 use Rattle.ro_kernel.proofs.Kept.{slice_get-set_other}
 use Rattle.ro_kernel.specs.Kernel.{Setup, Kernel, lives_on}
 use Rattle.ro_kernel.specs.Serve.{Served as Serving, Done, Blocked as Blocks, Ends, serve}
@@ -39,7 +39,7 @@ use Rattle.ro_legal.proofs.Effects.{backed_after, threads_after}
 use Rattle.ro_legal.proofs.Happens.{Happens, event-happens, call-happens}
 use Rattle.ro_legal.proofs.Journals.{LegalFrom-parts, legal-keeps, replay_more}
 use Rattle.ro_legal.proofs.Leases.{Apart, has_replica, lease-parts, out_has, gone, event_leases, apart_after}
-use Rattle.ro_legal.proofs.Ordered.{going-parts, put-parts, vote-parts, free-parts, event-parts, freed-is}
+use Rattle.ro_legal.proofs.Ordered.{going-parts, put-parts, vote-parts, free-parts, scrub-parts, event-parts, freed-is}
 use Rattle.ro_legal.proofs.Retired.{RunMeets, meets}
 
 -- ---- what is lent can go on
@@ -107,6 +107,7 @@ go-after job core (Vote thread count won lost did) may apart h =
     go-none (core_after_event core thread count (with_recovered won (numbers lost) core.replicas) (event_in job core thread won)) (event_leases core thread count (with_recovered won (numbers lost) core.replicas) (event_in job core thread won) ∙ (vote-parts core thread may.may).alone)
 go-after job core (Free thread) may apart h =
     go-none (core_after_event core thread 0 core.replicas (freed_event job core thread)) (event_leases core thread 0 core.replicas (freed_event job core thread) ∙ (free-parts job core thread may.may).alone)
+go-after job core (Scrub won lost) may apart h = go-none (after job core (Scrub won lost)) (scrub-parts core may.may).alone
 go-after job core (End how) may apart h = h
 
 -- in a legal journal each thread that is lent can go on
@@ -337,6 +338,18 @@ free-keeps job core freed may replica thread stands call f at = by (cases_eq fre
     by (inl e) = inr (inr e)
     by (inr d) = inl (kept d)
 
+scrub-keeps : (job : Job) (core : Core) (won : ℕ) (lost : Lost) (replica thread : ℕ) (stands : Thread)
+    → Found core replica thread stands → Goes (after job core (Scrub won lost)) (Scrub won lost) replica thread stands
+unfolding after
+scrub-keeps job core won lost replica thread stands f = by (cases_Bool (is_among (numbers lost) replica))
+  where
+    new : Core
+    new = record core { replicas = with_recovered won (numbers lost) core.replicas; scrubbed = core.steps; wrote = 0 }
+
+    by : (is_among (numbers lost) replica ≡ true) ⊎ (is_among (numbers lost) replica ≡ false) → Goes new (Scrub won lost) replica thread stands
+    by (inl e) = inr (inr e)
+    by (inr g) = inl (found-is new replica thread stands (record { value = f.value; in_core = copied-other won (numbers lost) core.replicas replica g ∙ f.in_core; there = f.there }))
+
 entry-keeps : (job : Job) (core : Core) (entry : Entry) → IsAllowed job core entry → LentGo core → (replica thread : ℕ) (stands : Thread) (call : Call)
     → Found core replica thread stands → stands.stop ≡ Some (Calls call) → Goes (after job core entry) entry replica thread stands
 unfolding after
@@ -344,6 +357,7 @@ entry-keeps job core (Take driver taken lent) may go replica thread stands call 
 entry-keeps job core (Put driver ran_in ran count hit) may go replica thread stands call f at = inl (put-keeps job core driver ran_in ran count hit may go replica thread stands call f at)
 entry-keeps job core (Vote voted count won lost did) may go replica thread stands call f at = vote-keeps job core voted count won lost did may replica thread stands call f at
 entry-keeps job core (Free freed) may go replica thread stands call f at = free-keeps job core freed may replica thread stands call f at
+entry-keeps job core (Scrub won lost) may go replica thread stands call f at = scrub-keeps job core won lost replica thread stands f
 entry-keeps job core (End how) may go replica thread stands call f at = inl (found-is core replica thread stands f)
 
 -- a legal journal with one entry more
@@ -368,6 +382,7 @@ ended-none job core (Take driver replica thread) may = (going-parts core may.goi
 ended-none job core (Put driver replica thread count hit) may = may.not_ended
 ended-none job core (Vote thread count won lost did) may = (vote-parts core thread may.may).not_ended
 ended-none job core (Free thread) may = (free-parts job core thread may.may).not_ended
+ended-none job core (Scrub won lost) may = (scrub-parts core may.may).not_ended
 ended-none job core (End how) may = may.0
 
 end-last : (job : Job) (core : Core) (how : How) (behind : List Entry) → LegalFrom job (after job core (End how)) behind → behind ≡ []

@@ -3,7 +3,7 @@ use Rattle.std.proofs.Common.{◌≡◌, ◌≢◌, ℕ, ◌<◌, ◌==◌, Bool
 use Rattle.std.specs.List.{filter, find, list_any}
 use Rattle.ro_journal.specs.Losers.{numbers}
 use Rattle.ro_journal.specs.declared.Entry.{Entry}
-use Rattle.ro_journal.specs.declared.Entry.TheVariants.{Take, Put, Vote, Free, End}
+use Rattle.ro_journal.specs.declared.Entry.TheVariants.{Take, Put, Vote, Free, Scrub, End}
 use Rattle.ro_kernel.proofs.Kept.{slice_get-set_other}
 use Rattle.ro_replica.specs.Replica.{Replica}
 use Rattle.ro_replica.specs.Runs.{RanTo}
@@ -15,7 +15,7 @@ use Rattle.ro_legal.specs.Laws.{Names, HasLease}
 use Rattle.ro_legal.specs.Sound.{IsOrdered}
 use Rattle.ro_legal.proofs.Journals.{LegalFrom-parts, legal-keeps, replay_more}
 use Rattle.ro_legal.proofs.Leases.{has_replica, has_driver, Apart, OneEach, or_true, not_false, lease-parts, has-filter, gone_number, event_leases, leases_keep, leases_apart, one_each, out_has}
-use Rattle.ro_legal.proofs.Ordered.{ordered, vote-parts, free-parts, end-alone}
+use Rattle.ro_legal.proofs.Ordered.{ordered, vote-parts, free-parts, scrub-parts, end-alone}
 
 -- ---- leases of one driver
 
@@ -111,6 +111,7 @@ out_after job core driver lease value by (Put other replica thread count hit) o 
     out_put job core driver lease value other replica thread count differs (other_replica driver other replica thread lease core.leases apart differs out.held m.out) out (lease_run job core replica thread count)
 out_after job core driver lease value by (Vote thread count won lost did) o apart m names ne out = absurd (none_found driver lease core.leases (vote-parts core thread m.may).alone out.held)
 out_after job core driver lease value by (Free thread) o apart m names ne out = absurd (none_found driver lease core.leases (free-parts job core thread m.may).alone out.held)
+out_after job core driver lease value by (Scrub won lost) o apart m names ne out = absurd (none_found driver lease core.leases (scrub-parts core m.may).alone out.held)
 out_after job core driver lease value by (End how) o apart m names ne out = absurd (none_found driver lease core.leases (end-alone job core how m.1 o) out.held)
 
 -- and so in a legal journal
@@ -131,6 +132,7 @@ idle_after job core driver by (Take other replica thread) names ne idle = ap (λ
 idle_after job core driver by (Put other replica thread count hit) names ne idle = idle_put job core driver other replica thread count idle (lease_run job core replica thread count)
 idle_after job core driver by (Vote thread count won lost did) names ne idle = ap (λ (ls : List Lease). not (has_driver driver ls)) (event_leases core thread count (with_recovered won (numbers lost) core.replicas) (event_in job core thread won)) ∙ idle
 idle_after job core driver by (Free thread) names ne idle = ap (λ (ls : List Lease). not (has_driver driver ls)) (event_leases core thread 0 core.replicas (freed_event job core thread)) ∙ idle
+idle_after job core driver by (Scrub won lost) names ne idle = idle
 idle_after job core driver by (End how) names ne idle = idle
 
 -- ---- where every driver is at rest no lease is out

@@ -51,3 +51,5 @@ pub mod FaultStops
 pub mod Lasting
 -- with one driver each lease comes back in the next entry
 pub mod OneDriver
+-- scrubs come in time
+pub mod InTime

@@ -9,7 +9,7 @@ use Rattle.ro_exec.specs.Threads.{made_cpu}
 use Rattle.ro_exec.specs.Next.{Backed}
 use Rattle.ro_journal.specs.Losers.{numbers}
 use Rattle.ro_journal.specs.declared.Entry.{Entry}
-use Rattle.ro_journal.specs.declared.Entry.TheVariants.{Take, Put, Vote, Free, End}
+use Rattle.ro_journal.specs.declared.Entry.TheVariants.{Take, Put, Vote, Free, Scrub, End}
 use Rattle.ro_faults.specs.declared.Fault.{Fault}
 use Rattle.ro_kernel.specs.Serve.{serve}
 use Rattle.ro_thread.specs.declared.Thread.{Thread}
@@ -26,7 +26,7 @@ use Rattle.ro_legal.proofs.Lists.{ChangedFrom, unchanged, changed_here, get-chan
 use Rattle.ro_legal.proofs.Copies.{AfterCopy, not_lost, is_copy, after-copy, still-there}
 use Rattle.ro_legal.proofs.Effects.{backed_after, threads_after}
 use Rattle.ro_legal.proofs.Leases.{Apart, apart_after}
-use Rattle.ro_legal.proofs.Ordered.{AreSound, copied-sound, get-opening, one-thread, event-parts, free-parts, freed-is, ordered-after, ordered-opening}
+use Rattle.ro_legal.proofs.Ordered.{AreSound, copied-sound, get-opening, one-thread, event-parts, free-parts, scrub-winner, freed-is, ordered-after, ordered-opening}
 use Rattle.ro_legal.proofs.Grants.{LentGo, go-after, go-none, LentThread, lent-thread, lent-meets}
 use Rattle.ro_legal.proofs.Retired.{RunMeets, filter-filter, filter-same, length-parts, is_passed, same-bool, not-or}
 
@@ -402,6 +402,10 @@ meets-after job journal core (Free thread) may ordered go h =
     let event : Event = call_event core.kernel thread p.call [] (serve (setup_of job.program) core.kernel thread p.call) in
     subst (λ (o : Option Event). AllMeet job (journal ++ Free thread ∷ []) (core_after_event core thread 0 core.replicas o)) (sym (freed-is job core thread p.call p.blocked_on))
     (meets-event job journal (Free thread) core thread 0 core.replicas event (λ n. ((λ t. refl), refl)) (λ number r e. (r, e, same-replica r)) h)
+meets-after job journal core (Scrub won lost) may ordered go h = λ number r e.
+    let w = scrub-winner core won lost may in
+    let s = copied-same job core ordered.backed core.replicas won w.0 (numbers lost) ordered.sound w.1 number r e in
+    meets-quiet job journal (Scrub won lost) number s.0 r ((λ t. refl), refl) s.2 (h number s.0 s.1)
 meets-after job journal core (End how) may ordered go h = λ number r e. meets-same job journal (End how) core (λ n. ((λ t. refl), refl)) h number r e
 
 meets-from : (job : Job) (before : List Entry) (core : Core) (journal : List Entry) → LegalFrom job core journal → IsOrdered job core → Apart core.leases → LentGo core → AllMeet job before core → AllMeet job (before ++ journal) (replay_from job core journal)

@@ -5,10 +5,10 @@ use Rattle.std.proofs.lemmas.Bool.{cases_lt, and_from}
 use Rattle.ro_journal.specs.declared.How.{How}
 use Rattle.ro_journal.specs.declared.How.TheVariants.{Deadlock}
 use Rattle.ro_legal.specs.declared.actions.Action.{Action}
-use Rattle.ro_legal.specs.declared.actions.Action.TheVariants.{Vote as DoVote, Free as DoFree, Lend, End as DoEnd, Wait, Over}
+use Rattle.ro_legal.specs.declared.actions.Action.TheVariants.{Vote as DoVote, Free as DoFree, Scrub as DoScrub, Lend, End as DoEnd, Wait, Over}
 use Rattle.ro_legal.specs.Core.{Job, Core, is_going, nothing_lent, is_lendable, may_vote, may_free}
-use Rattle.ro_legal.specs.Legal.{any_below, is_stuck, MayEnd, due, alone}
-use Rattle.ro_legal.specs.Action.{or_else, lowest_below, map_action, threads_made, lend_in, lend_next, first_action, action_or, action_unless_due, next_action}
+use Rattle.ro_legal.specs.Legal.{any_below, is_stuck, may_scrub, MayEnd, due, alone}
+use Rattle.ro_legal.specs.Action.{or_else, lowest_below, map_action, threads_made, lend_in, lend_next, first_action, action_or, is_scrub_due, scrub_action, action_unless_due, next_action}
 
 -- no number below n passes
 none_below : (n : ℕ) (test : ℕ → Bool) → lowest_below n test ≡ None → any_below n test ≡ false
@@ -39,7 +39,7 @@ both_false true b e f = absurd (true≢false e)
 both_false false b e f = f
 
 -- a test that fails at each number below n
-never_below : (n : ℕ) (test : ℕ → Bool) → any_below n test ≡ false → (k : ℕ) → k < n → test k ≡ false
+pub never_below : (n : ℕ) (test : ℕ → Bool) → any_below n test ≡ false → (k : ℕ) → k < n → test k ≡ false
 never_below zero test e k h = absurd (omega arith)
 never_below (suc n) test e k h = elim (cases_lt k n) [
   | inl less ↦ never_below n test (or_parts (any_below n test) (test n) e).0 k less
@@ -63,8 +63,9 @@ mapped f (Some n) rest P some none = some n refl
 data NextIs (job : Job) (core : Core) : Action → Type 0 where
   is_over : is_some core.ended ≡ true → NextIs job core Over
   is_end : {how : How} → core.ended ≡ None → MayEnd job core how → unwrap_or core.due Deadlock ≡ how → NextIs job core (DoEnd how)
-  is_free : {thread : ℕ} → may_free job core thread ≡ true → NextIs job core (DoFree thread)
-  is_vote : {thread : ℕ} → may_vote core thread ≡ true → NextIs job core (DoVote thread)
+  is_free : {thread : ℕ} → may_free job core thread ≡ true → is_scrub_due job core ≡ false → NextIs job core (DoFree thread)
+  is_vote : {thread : ℕ} → may_vote core thread ≡ true → is_scrub_due job core ≡ false → NextIs job core (DoVote thread)
+  is_scrub : may_scrub core ≡ true → NextIs job core DoScrub
   is_lend : {replica thread : ℕ} → is_going core ≡ true → is_lendable core replica thread ≡ true → NextIs job core (Lend replica thread)
   is_wait : nothing_lent core ≡ false → NextIs job core Wait
 
@@ -85,20 +86,47 @@ module _ (job : Job) (core : Core) where
   abbrev lend : Option ℕ
   lend = lowest_below (length core.replicas) (λ replica. some_in replica)
 
+  -- where no lease is found the thread can be lent in no replica
+  none_lendable : lend ≡ None → (t : ℕ) → t < made → any_below (length core.replicas) (λ replica. is_lendable core replica t) ≡ false
+  none_lendable lends t less =
+      all_false_below (length core.replicas) (λ replica. is_lendable core replica t) (λ r under.
+      never_below made (is_lendable core r) (never_below (length core.replicas) (λ replica. some_in replica) (none_below (length core.replicas) (λ replica. some_in replica) lends) r under) t less)
+
   -- where nothing can be done the core is stuck
   stuck : is_going core ≡ true → nothing_lent core ≡ true → free ≡ None → vote ≡ None → lend ≡ None → is_stuck job core ≡ true
   stuck going home frees votes lends =
       and_from _ _ (and_from _ _ going home) (ap not (all_false_below made (λ thread. may_vote core thread || may_free job core thread || any_below (length core.replicas) (λ replica. is_lendable core replica thread)) (λ t less.
       both_false (may_vote core t || may_free job core t) (any_below (length core.replicas) (λ replica. is_lendable core replica t))
       (both_false (may_vote core t) (may_free job core t) (never_below made (may_vote core) (none_below made (may_vote core) votes) t less) (never_below made (may_free job core) (none_below made (may_free job core) frees) t less))
-      (all_false_below (length core.replicas) (λ replica. is_lendable core replica t) (λ r under.
-      never_below made (is_lendable core r) (never_below (length core.replicas) (λ replica. some_in replica) (none_below (length core.replicas) (λ replica. some_in replica) lends) r under) t less)))))
+      (none_lendable lends t less))))
 
-  by_first : core.ended ≡ None → core.due ≡ None → (b : Bool) → nothing_lent core ≡ b → NextIs job core (action_or (if b then DoEnd Deadlock else Wait) (first_action job core))
-  by_first still none b lent =
-      mapped DoFree free (or_else (map_action DoVote vote) (lend_next core)) (λ (o : Option Action). NextIs job core (action_or (if b then DoEnd Deadlock else Wait) o)) (λ t e. is_free (found_below made (may_free job core) t e)) (λ frees.
-      mapped DoVote vote (lend_next core) (λ (o : Option Action). NextIs job core (action_or (if b then DoEnd Deadlock else Wait) o)) (λ t e. is_vote (found_below made (may_vote core) t e)) (λ votes.
-      lending frees votes lend refl))
+  -- where nothing can be lent the replicas may be scrubbed
+  all_still : is_going core ≡ true → nothing_lent core ≡ true → lend ≡ None → may_scrub core ≡ true
+  all_still going home lends =
+      and_from _ _ (and_from _ _ going home) (ap not (all_false_below made (λ thread. any_below (length core.replicas) (λ replica. is_lendable core replica thread)) (none_lendable lends)))
+
+  -- what can be lent, or else something
+  lending : is_going core ≡ true → (otherwise : Action) → (lend ≡ None → NextIs job core otherwise) → (o : Option ℕ) → lend ≡ o → NextIs job core (action_or otherwise (lend_in core o))
+  lending going otherwise left None e = left e
+  lending going otherwise left (Some r) e = threads (lowest_below made (is_lendable core r)) refl
+    where
+      threads : (o : Option ℕ) → lowest_below made (is_lendable core r) ≡ o → NextIs job core (action_or otherwise (map_action (λ thread. Lend r thread) o))
+      threads None f = absurd (true≢false (sym (found_below (length core.replicas) (λ replica. some_in replica) r e) ∙ none_below made (is_lendable core r) f))
+      threads (Some t) f = is_lend going (found_below made (is_lendable core r) t f)
+
+  -- while a scrub is due
+  by_scrub : is_going core ≡ true → (b : Bool) → nothing_lent core ≡ b → NextIs job core (action_or (if b then DoScrub else Wait) (lend_next core))
+  by_scrub going b lent = lending going (if b then DoScrub else Wait) (left b lent) lend refl
+    where
+      left : (b : Bool) → nothing_lent core ≡ b → lend ≡ None → NextIs job core (if b then DoScrub else Wait)
+      left true home lends = is_scrub (all_still going home lends)
+      left false out lends = is_wait out
+
+  by_first : core.ended ≡ None → core.due ≡ None → is_scrub_due job core ≡ false → (b : Bool) → nothing_lent core ≡ b → NextIs job core (action_or (if b then DoEnd Deadlock else Wait) (first_action job core))
+  by_first still none rests b lent =
+      mapped DoFree free (or_else (map_action DoVote vote) (lend_next core)) (λ (o : Option Action). NextIs job core (action_or (if b then DoEnd Deadlock else Wait) o)) (λ t e. is_free (found_below made (may_free job core) t e) rests) (λ frees.
+      mapped DoVote vote (lend_next core) (λ (o : Option Action). NextIs job core (action_or (if b then DoEnd Deadlock else Wait) o)) (λ t e. is_vote (found_below made (may_vote core) t e) rests) (λ votes.
+      lending going (if b then DoEnd Deadlock else Wait) (left b lent frees votes) lend refl))
     where
       going : is_going core ≡ true
       going = and_from _ _ (ap is_none none) (ap is_none still)
@@ -107,21 +135,17 @@ module _ (job : Job) (core : Core) where
       left true home frees votes lends = is_end still (alone (stuck going home frees votes lends)) (ap (λ (o : Option How). unwrap_or o Deadlock) none)
       left false out frees votes lends = is_wait out
 
-      lending : free ≡ None → vote ≡ None → (o : Option ℕ) → lend ≡ o → NextIs job core (action_or (if b then DoEnd Deadlock else Wait) (lend_in core o))
-      lending frees votes None e = left b lent frees votes e
-      lending frees votes (Some r) e = threads (lowest_below made (is_lendable core r)) refl
-        where
-          threads : (o : Option ℕ) → lowest_below made (is_lendable core r) ≡ o → NextIs job core (action_or (if b then DoEnd Deadlock else Wait) (map_action (λ thread. Lend r thread) o))
-          threads None f = absurd (true≢false (sym (found_below (length core.replicas) (λ replica. some_in replica) r e) ∙ none_below made (is_lendable core r) f))
-          threads (Some t) f = is_lend going (found_below made (is_lendable core r) t f)
-
   next_is : NextIs job core (next_action job core)
   unfolding next_action
   next_is = by (is_some core.ended) refl
     where
       by_due : core.ended ≡ None → (d : Option How) → core.due ≡ d → NextIs job core (action_unless_due job core d)
       by_due still (Some how) e = is_end still (due e) (ap (λ (o : Option How). unwrap_or o Deadlock) e)
-      by_due still None e = by_first still e (nothing_lent core) refl
+      by_due on None e = choose (is_scrub_due job core) refl
+        where
+          choose : (b : Bool) → is_scrub_due job core ≡ b → NextIs job core (if b then scrub_action core else action_or (if nothing_lent core then DoEnd Deadlock else Wait) (first_action job core))
+          choose true rests = by_scrub (and_from _ _ (ap is_none e) (ap is_none on)) (nothing_lent core) refl
+          choose false rests = by_first on e rests (nothing_lent core) refl
 
       by : (b : Bool) → is_some core.ended ≡ b → NextIs job core (if b then Over else action_unless_due job core core.due)
       by true e = is_over e
@@ -149,14 +173,35 @@ module _ (job : Job) (core : Core) where
   vote_next thread e = by (comes (DoVote thread) e)
     where
       by : NextIs job core (DoVote thread) → may_vote core thread ≡ true
-      by (is_vote may) = may
+      by (is_vote may rests) = may
+
+  -- no vote comes next while a scrub is due
+  pub vote_rests : (thread : ℕ) → next_action job core ≡ DoVote thread → is_scrub_due job core ≡ false
+  vote_rests thread e = by (comes (DoVote thread) e)
+    where
+      by : NextIs job core (DoVote thread) → is_scrub_due job core ≡ false
+      by (is_vote may rests) = rests
 
   -- a call that is to be served next may be served
   pub free_next : (thread : ℕ) → next_action job core ≡ DoFree thread → may_free job core thread ≡ true
   free_next thread e = by (comes (DoFree thread) e)
     where
       by : NextIs job core (DoFree thread) → may_free job core thread ≡ true
-      by (is_free may) = may
+      by (is_free may rests) = may
+
+  -- nor does a free
+  pub free_rests : (thread : ℕ) → next_action job core ≡ DoFree thread → is_scrub_due job core ≡ false
+  free_rests thread e = by (comes (DoFree thread) e)
+    where
+      by : NextIs job core (DoFree thread) → is_scrub_due job core ≡ false
+      by (is_free may rests) = rests
+
+  -- replicas that are to be scrubbed next may be scrubbed
+  pub scrub_next : next_action job core ≡ DoScrub → may_scrub core ≡ true
+  scrub_next e = by (comes DoScrub e)
+    where
+      by : NextIs job core DoScrub → may_scrub core ≡ true
+      by (is_scrub may) = may
 
   -- what is to be lent may be lent
   pub lend_is_next : (replica thread : ℕ) → next_action job core ≡ Lend replica thread → (is_going core ≡ true) × (is_lendable core replica thread ≡ true)
@@ -190,6 +235,15 @@ unfolding next_action
 next_due job core how e due_is = ap (λ (b : Bool). if b then Over else action_unless_due job core core.due) e ∙ ap (action_unless_due job core) due_is
 
 -- while nothing is due the first of what can be done comes next
-pub next_first : (job : Job) (core : Core) → is_some core.ended ≡ false → core.due ≡ None → next_action job core ≡ action_or (if nothing_lent core then DoEnd Deadlock else Wait) (first_action job core)
+pub next_first : (job : Job) (core : Core) → is_some core.ended ≡ false → core.due ≡ None → is_scrub_due job core ≡ false → next_action job core ≡ action_or (if nothing_lent core then DoEnd Deadlock else Wait) (first_action job core)
 unfolding next_action
-next_first job core over none = ap (λ (b : Bool). if b then Over else action_unless_due job core core.due) over ∙ ap (action_unless_due job core) none
+next_first job core over none rests =
+    ap (λ (b : Bool). if b then Over else action_unless_due job core core.due) over ∙ ap (action_unless_due job core) none
+    ∙ ap (λ (b : Bool). if b then scrub_action core else action_or (if nothing_lent core then DoEnd Deadlock else Wait) (first_action job core)) rests
+
+-- while a scrub is due it comes next, once nothing is lent and nothing can be
+pub next_scrub : (job : Job) (core : Core) → is_some core.ended ≡ false → core.due ≡ None → is_scrub_due job core ≡ true → next_action job core ≡ scrub_action core
+unfolding next_action
+next_scrub job core over none due_now =
+    ap (λ (b : Bool). if b then Over else action_unless_due job core core.due) over ∙ ap (action_unless_due job core) none
+    ∙ ap (λ (b : Bool). if b then scrub_action core else action_or (if nothing_lent core then DoEnd Deadlock else Wait) (first_action job core)) due_now

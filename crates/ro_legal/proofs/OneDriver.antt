@@ -6,7 +6,7 @@ use Rattle.std.proofs.lemmas.Bool.{and_parts}
 use Rattle.ro_journal.specs.declared.losers.Lost.{Lost}
 use Rattle.ro_journal.specs.Losers.{numbers}
 use Rattle.ro_journal.specs.declared.Entry.{Entry}
-use Rattle.ro_journal.specs.declared.Entry.TheVariants.{Take, Put, Vote, Free, End}
+use Rattle.ro_journal.specs.declared.Entry.TheVariants.{Take, Put, Vote, Free, Scrub, End}
 use Rattle.ro_replica.specs.Runs.{RanTo}
 use Rattle.ro_legal.specs.declared.actions.Lease.{Lease}
 use Rattle.ro_legal.specs.Core.{Job, Core, opening_core}
@@ -14,7 +14,7 @@ use Rattle.ro_legal.specs.Event.{with_recovered}
 use Rattle.ro_legal.specs.Legal.{is_lease, core_after_put, event_in, freed_event, after, MayTake, MayPut, LegalFrom, Legal, replay_from, replay}
 use Rattle.ro_legal.specs.Sound.{IsOrdered}
 use Rattle.ro_legal.proofs.Leases.{event_leases}
-use Rattle.ro_legal.proofs.Ordered.{ordered-opening, ordered-after, vote-parts, free-parts, end-alone}
+use Rattle.ro_legal.proofs.Ordered.{ordered-opening, ordered-after, vote-parts, free-parts, scrub-parts, end-alone}
 use Rattle.ro_legal.specs.Turns.{TakesTurns}
 
 or_false : (b : Bool) → (b || false) ≡ b
@@ -67,6 +67,10 @@ module _ (job : Job) (one : job.settings.drivers ≡ 1) where
   unfolding after
   freed_home core thread home = event_leases core thread 0 core.replicas (freed_event job core thread) ∙ home
 
+  scrubbed_home : (core : Core) (won : ℕ) (lost : Lost) → core.leases ≡ [] → (after job core (Scrub won lost)).leases ≡ []
+  unfolding after
+  scrubbed_home core won lost home = home
+
   ended_home : (core : Core) (how : _) → core.leases ≡ [] → (after job core (End how)).leases ≡ []
   unfolding after
   ended_home core how home = home
@@ -86,6 +90,8 @@ module _ (job : Job) (one : job.settings.drivers ≡ 1) where
       still_lent core d r t (sym (ap (λ (c : Core). c.leases) (taken core d r t home)) ∙ (vote-parts (after job core (Take d r t)) v legal.1.0.may).alone)
   turns_from core (Take d r t ∷ Free v ∷ js) o legal home end =
       still_lent core d r t (sym (ap (λ (c : Core). c.leases) (taken core d r t home)) ∙ (free-parts job (after job core (Take d r t)) v legal.1.0.may).alone)
+  turns_from core (Take d r t ∷ Scrub w l ∷ js) o legal home end =
+      still_lent core d r t (sym (ap (λ (c : Core). c.leases) (taken core d r t home)) ∙ (scrub-parts (after job core (Take d r t)) legal.1.0.may).alone)
   turns_from core (Take d r t ∷ End how ∷ js) o legal home end =
       still_lent core d r t (sym (ap (λ (c : Core). c.leases) (taken core d r t home)) ∙ end-alone job (after job core (Take d r t)) how legal.1.0.1 (ordered-after job core (Take d r t) legal.0 o))
   turns_from core (Put d r t n k ∷ js) o legal home end =
@@ -94,6 +100,8 @@ module _ (job : Job) (one : job.settings.drivers ≡ 1) where
       turns_from (after job core (Vote t n w l i)) js (ordered-after job core (Vote t n w l i) legal.0 o) legal.1 (voted_home core t n w l i home) end
   turns_from core (Free t ∷ js) o legal home end =
       turns_from (after job core (Free t)) js (ordered-after job core (Free t) legal.0 o) legal.1 (freed_home core t home) end
+  turns_from core (Scrub w l ∷ js) o legal home end =
+      turns_from (after job core (Scrub w l)) js (ordered-after job core (Scrub w l) legal.0 o) legal.1 (scrubbed_home core w l home) end
   turns_from core (End how ∷ js) o legal home end =
       turns_from (after job core (End how)) js (ordered-after job core (End how) legal.0 o) legal.1 (ended_home core how home) end
 

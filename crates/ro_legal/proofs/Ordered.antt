@@ -17,7 +17,7 @@ use Rattle.ro_journal.specs.declared.Did.TheVariants.{Served as WasServed}
 use Rattle.ro_journal.specs.declared.How.{How}
 use Rattle.ro_journal.specs.declared.How.TheVariants.{Deadlock, Sink}
 use Rattle.ro_journal.specs.declared.Entry.{Entry}
-use Rattle.ro_journal.specs.declared.Entry.TheVariants.{Take, Put, Vote, Free, End}
+use Rattle.ro_journal.specs.declared.Entry.TheVariants.{Take, Put, Vote, Free, Scrub, End}
 use Rattle.ro_journal.specs.Plan.{event_steps}
 use Rattle.ro_kernel.specs.Kernel.{Kernel, lives_on}
 use Rattle.ro_kernel.specs.Serve.{Served, Done, Blocked, Ends, is_blocked, blocks, serve}
@@ -25,13 +25,14 @@ use Rattle.ro_exec.specs.Next.{Backed}
 use Rattle.ro_thread.specs.declared.Thread.{Thread}
 use Rattle.ro_replica.specs.Replica.{Replica, opening_replica, applied, cancelled, stop_of}
 use Rattle.ro_replica.specs.Runs.{RanTo, run_of, with_stop}
+use Rattle.ro_replica.specs.Snapshots.{snapshot_of}
 use Rattle.ro_plain.specs.Machine.{layout_of, setup_of}
 use Rattle.ro_plain.proofs.Ahead.{is-none-from}
 use Rattle.ro_plain.proofs.Calls.{some-injective}
 use Rattle.ro_legal.specs.declared.actions.Lease.{Lease}
 use Rattle.ro_legal.specs.Core.{Job, Core, opening_replicas, opening_core, is_going, nothing_lent, may_vote, may_free}
 use Rattle.ro_legal.specs.Event.{Event, call_event, with_copy, with_recovered, core_after}
-use Rattle.ro_legal.specs.Legal.{lease_run, arrived, arrival, core_after_put, event_with, event_in, freed_event, core_after_event, after, IsAllowed, MayTake, MayPut, MayVote, MayFree, MayEnd, due, alone, for_vote, for_free, Legal, replay}
+use Rattle.ro_legal.specs.Legal.{lease_run, arrived, arrival, core_after_put, event_with, event_in, freed_event, core_after_event, after, IsAllowed, MayTake, MayPut, MayVote, MayFree, may_scrub, MayScrub, MayEnd, due, alone, for_vote, for_free, for_scrub, Legal, replay}
 use Rattle.ro_legal.specs.Sound.{IsSound, IsOrdered}
 use Rattle.ro_legal.proofs.Lists.{get-set-cases, listed-filter, MappedFrom, get-map, length-mapped, get-append-cases}
 use Rattle.ro_legal.proofs.Sound.{sound-changed, run-well}
@@ -207,6 +208,25 @@ free-parts job core thread may = by (core.blocked thread) refl p.1
     by (Some call) e f = let q = and_parts _ _ p.0 in let g = going-parts core q.0 in
         record { going = q.0; alone = none-lent-is core q.1; not_due = g.0; not_ended = g.1; call = call; blocked_on = e; goes_on = not-true _ f }
 
+-- the same where the replicas may be scrubbed
+pub record ScrubParts (core : Core) : Type 0 where
+  pub going : is_going core ≡ true
+  pub alone : core.leases ≡ []
+  pub not_due : core.due ≡ None
+  pub not_ended : core.ended ≡ None
+
+pub scrub-parts : (core : Core) → may_scrub core ≡ true → ScrubParts core
+scrub-parts core may =
+    let p = and_parts _ _ may in
+    let q = and_parts _ _ p.0 in
+    let g = going-parts core q.0 in
+    record { going = q.0; alone = none-lent-is core q.1; not_due = g.0; not_ended = g.1 }
+
+-- the winner of a scrub is there
+pub scrub-winner : (core : Core) (won : ℕ) (lost : Lost) → MayScrub core won lost → (winner : Replica) × (slice_get core.replicas won ≡ Some winner)
+scrub-winner core won lost may =
+    let m = get-map (snapshot_of core.kernel) core.replicas won may.prevails.shown may.prevails.there in (m.from, m.there)
+
 -- the event of a vote, and what it was
 pub record EventParts (job : Job) (core : Core) (thread won : ℕ) (event : Event) : Type 0 where
   pub winner : Replica
@@ -269,6 +289,24 @@ ordered-free job core thread may h =
     subst (λ (o : Option Event). IsOrdered job (core_after_event core thread 0 core.replicas o)) (sym (freed-is job core thread p.call p.blocked_on))
     (ordered-event job core h thread 0 (h.blocked_live p.not_due p.not_ended thread p.call p.blocked_on) p.alone p.not_due p.not_ended event (call-happens (setup_of job.program) core.kernel thread p.call []) core.replicas refl h.sound fits)
 
+-- ---- a scrub
+
+ordered-scrub : (job : Job) (core : Core) (won : ℕ) (lost : Lost) → MayScrub core won lost → IsOrdered job core → IsOrdered job (after job core (Scrub won lost))
+unfolding after
+ordered-scrub job core won lost may h = record {
+  replica_count = length-with-copy won (numbers lost) core.replicas ∙ h.replica_count;
+  backed = h.backed;
+  sound = λ number r e. let w = scrub-winner core won lost may in
+      sound-with job core (after job core (Scrub won lost)) h.backed number r refl (copied-sound job core h.backed core.replicas won w.0 (numbers lost) w.1 h.sound number r e);
+  some_life = h.some_life;
+  few_lives = h.few_lives;
+  within_limit = h.within_limit;
+  blocked_live = h.blocked_live;
+  due_alone = h.due_alone;
+  due_over = h.due_over;
+  wrote_alone = λ (some : 0 < 0). absurd (omega arith);
+}
+
 -- ---- an end, and the opening
 
 -- nothing is lent where an end comes
@@ -279,6 +317,7 @@ end-alone job core (Sink bytes) (alone e) h = h.wrote_alone (let less : bytes < 
 end-alone job core how (alone e) h = absurd e
 end-alone job core how (for_vote thread may e) h = (vote-parts core thread may).alone
 end-alone job core how (for_free thread may e) h = (free-parts job core thread may).alone
+end-alone job core how (for_scrub may e) h = (scrub-parts core may).alone
 
 ordered-end : (job : Job) (core : Core) (how : How) → MayEnd job core how → IsOrdered job core → IsOrdered job (after job core (End how))
 unfolding after
@@ -345,6 +384,7 @@ ordered-after job core (Take driver replica thread) may h = ordered-take job cor
 ordered-after job core (Put driver replica thread count hit) may h = ordered-put job core driver replica thread count hit may h
 ordered-after job core (Vote thread count won lost did) may h = ordered-vote job core thread count won lost did may h
 ordered-after job core (Free thread) may h = ordered-free job core thread may h
+ordered-after job core (Scrub won lost) may h = ordered-scrub job core won lost may h
 ordered-after job core (End how) may h = ordered-end job core how may.1 h
 
 -- what every legal journal keeps

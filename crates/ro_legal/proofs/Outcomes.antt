@@ -3,14 +3,14 @@ use Rattle.std.proofs.Common.{◌≡◌, ℕ, true, List, [], ◌∷◌, Option,
 use Rattle.ro_journal.specs.Losers.{numbers}
 use Rattle.ro_journal.specs.declared.How.{How}
 use Rattle.ro_journal.specs.declared.Entry.{Entry}
-use Rattle.ro_journal.specs.declared.Entry.TheVariants.{Take, Put, Vote, Free, End}
+use Rattle.ro_journal.specs.declared.Entry.TheVariants.{Take, Put, Vote, Free, Scrub, End}
 use Rattle.ro_journal.specs.Plan.{outcome_of}
 use Rattle.ro_replica.specs.Replica.{Replica}
 use Rattle.ro_replica.specs.Runs.{RanTo}
 use Rattle.ro_legal.specs.Core.{Job, Core, opening_core, is_going}
 use Rattle.ro_legal.specs.Event.{Event, with_recovered}
 use Rattle.ro_legal.specs.Legal.{core_after_put, core_after_event, lease_run, event_in, freed_event, after, IsAllowed, LegalFrom, Legal, replay_from, replay}
-use Rattle.ro_legal.proofs.Ordered.{going-parts, vote-parts, free-parts}
+use Rattle.ro_legal.proofs.Ordered.{going-parts, vote-parts, free-parts, scrub-parts}
 
 event_ended : (core : Core) (thread count : ℕ) (replicas : List Replica) (event : Option Event) → (core_after_event core thread count replicas event).ended ≡ core.ended
 event_ended core thread count replicas None = refl
@@ -29,6 +29,7 @@ nothing_behind job core how (Take driver replica thread) e m = not_going_over co
 nothing_behind job core how (Put driver replica thread count hit) e m = let f : None ≡ Some how = sym m.not_ended ∙ e in cc
 nothing_behind job core how (Vote thread count won lost did) e m = not_going_over core how e (vote-parts core thread m.may).going
 nothing_behind job core how (Free thread) e m = not_going_over core how e (free-parts job core thread m.may).going
+nothing_behind job core how (Scrub won lost) e m = not_going_over core how e (scrub-parts core m.may).going
 nothing_behind job core how (End other) e m = let f : None ≡ Some how = sym m.0 ∙ e in cc
 
 pub over_from : (job : Job) (core : Core) (how : How) (journal : List Entry) → core.ended ≡ Some how → LegalFrom job core journal → journal ≡ []
@@ -45,6 +46,7 @@ ended_from job core (Vote thread count won lost did ∷ journal) e legal =
     ended_from job (after job core (Vote thread count won lost did)) journal (event_ended core thread count (with_recovered won (numbers lost) core.replicas) (event_in job core thread won) ∙ e) legal.1
 ended_from job core (Free thread ∷ journal) e legal =
     ended_from job (after job core (Free thread)) journal (event_ended core thread 0 core.replicas (freed_event job core thread) ∙ e) legal.1
+ended_from job core (Scrub won lost ∷ journal) e legal = ended_from job (after job core (Scrub won lost)) journal e legal.1
 ended_from job core (End how ∷ journal) e legal =
     let none : journal ≡ [] = over_from job (after job core (End how)) how journal refl legal.1 in
     ap (λ (js : List Entry). (replay_from job (after job core (End how)) js).ended) none

@@ -4,17 +4,18 @@ use Rattle.ro_journal.specs.declared.Did.{Did}
 use Rattle.ro_journal.specs.declared.How.{How}
 use Rattle.ro_journal.specs.declared.How.TheVariants.{Exit, Deadlock, Trap, Limit, Differ, NoMajority, Sink}
 use Rattle.ro_journal.specs.declared.Entry.{Entry}
-use Rattle.ro_journal.specs.declared.Entry.TheVariants.{Take, Put, Vote, Free, End}
+use Rattle.ro_journal.specs.declared.Entry.TheVariants.{Take, Put, Vote, Free, Scrub, End}
 use Rattle.ro_journal.specs.declared.losers.Lost.{Lost}
 use Rattle.ro_journal.specs.declared.losers.Lost.TheVariants.{Nobody, One, Two}
 use Rattle.ro_journal.specs.Losers.{numbers}
 use Rattle.ro_journal.specs.Plan.{event_steps}
 use Rattle.ro_vote.specs.Verdict.{Won, Split, verdict_of}
 use Rattle.ro_plain.proofs.Calls.{some-injective}
-use Rattle.ro_legal.specs.Core.{Job, Core, views_of}
+use Rattle.ro_legal.specs.Core.{Job, Core, views_of, snapshots_of}
 use Rattle.ro_legal.specs.Event.{Event}
-use Rattle.ro_legal.specs.Legal.{event_in, since_in, IsAllowed, MayVote, MayFree, PassesLimit, EndsVote, EndsFree}
-use Rattle.ro_legal.specs.Decides.{DecidesVote, DecidesFree}
+use Rattle.ro_legal.specs.Legal.{event_in, since_in, IsAllowed, MayVote, MayFree, MayScrub, PassesLimit, EndsVote, EndsFree, EndsScrub}
+use Rattle.ro_legal.specs.Decides.{DecidesVote, DecidesFree, DecidesScrub}
+use Rattle.ro_vote.proofs.Prevailing.{one-won, one-lost as same-losers}
 
 -- the losers are known by their numbers
 pub one-lost : (a b : Lost) → numbers a ≡ numbers b → a ≡ b
@@ -138,14 +139,17 @@ module _ (job : Job) (core : Core) (thread : ℕ) where
   one-decides (Vote t count won lost did) (Take driver replica lent) m d n e = absurd e
   one-decides (Vote t count won lost did) (Put driver replica lent ran hit) m d n e = absurd e
   one-decides (Vote t count won lost did) (Free freed) m d n e = absurd e
+  one-decides (Vote t count won lost did) (Scrub winner losers) m d n e = absurd e
   one-decides (End how) (Vote t count won lost did) m d n e = absurd (no-end count won lost did (subst (λ (x : ℕ). MayVote job core x count won lost did) e n) how d)
   one-decides (End how) (End other) m d n e = ap End (one-end how other d e)
   one-decides (End how) (Take driver replica lent) m d n e = absurd e
   one-decides (End how) (Put driver replica lent ran hit) m d n e = absurd e
   one-decides (End how) (Free freed) m d n e = absurd e
+  one-decides (End how) (Scrub winner losers) m d n e = absurd e
   one-decides (Take driver replica lent) other m d n e = absurd d
   one-decides (Put driver replica lent ran hit) other m d n e = absurd d
   one-decides (Free freed) other m d n e = absurd d
+  one-decides (Scrub winner losers) other m d n e = absurd d
 
   one-free-limit : (steps steps' next next' : ℕ) → EndsFree job core (Limit steps next) → EndsFree job core (Limit steps' next') → Limit steps next ≡ Limit steps' next'
   one-free-limit steps steps' next next' e f = ap (λ (x : ℕ). Limit x next) (e.0 ∙ sym f.0) ∙ ap (Limit steps') (e.1 ∙ sym f.1)
@@ -182,11 +186,73 @@ module _ (job : Job) (core : Core) (thread : ℕ) where
   one-frees (Free t) (Take driver replica lent) m d n e = absurd e
   one-frees (Free t) (Put driver replica lent ran hit) m d n e = absurd e
   one-frees (Free t) (Vote voted count won lost did) m d n e = absurd e
+  one-frees (Free t) (Scrub winner losers) m d n e = absurd e
   one-frees (End how) (Free t) m d n e = absurd (free-no-end (subst (MayFree job core) e n) how d)
   one-frees (End how) (End other) m d n e = ap End (one-free-end how other d e)
   one-frees (End how) (Take driver replica lent) m d n e = absurd e
   one-frees (End how) (Put driver replica lent ran hit) m d n e = absurd e
   one-frees (End how) (Vote voted count won lost did) m d n e = absurd e
+  one-frees (End how) (Scrub winner losers) m d n e = absurd e
   one-frees (Take driver replica lent) other m d n e = absurd d
   one-frees (Put driver replica lent ran hit) other m d n e = absurd d
   one-frees (Vote voted count won lost did) other m d n e = absurd d
+  one-frees (Scrub winner losers) other m d n e = absurd d
+
+module _ (job : Job) (core : Core) where
+  -- the scrub is one
+  pub one-scrub : (won won' : ℕ) (lost lost' : Lost) → MayScrub core won lost → MayScrub core won' lost' → Scrub won lost ≡ Scrub won' lost'
+  one-scrub won won' lost lost' m n =
+      let w = one-won (snapshots_of core) won won' (numbers lost) (numbers lost') m.prevails n.prevails in
+      let l = one-lost lost lost' (same-losers (snapshots_of core) won won' (numbers lost) (numbers lost') m.prevails n.prevails) in
+      ap (λ (x : ℕ). Scrub x lost) w ∙ ap (Scrub won') l
+
+  -- where a scrub is won no end comes in its place
+  pub scrub-no-end : (won : ℕ) (lost : Lost) → MayScrub core won lost → (how : How) → EndsScrub core how → ⊥
+  scrub-no-end won lost m Differ e = e.0 won (numbers lost) m.prevails
+  scrub-no-end won lost m NoMajority e = e.0 won (numbers lost) m.prevails
+  scrub-no-end won lost m (Limit steps next) e = e
+  scrub-no-end won lost m (Exit status) e = e
+  scrub-no-end won lost m (Trap code) e = e
+  scrub-no-end won lost m Deadlock e = e
+  scrub-no-end won lost m (Sink bytes) e = e
+
+  -- one end at most comes in the place of a scrub
+  pub one-scrub-end : (how other : How) → EndsScrub core how → EndsScrub core other → how ≡ other
+  one-scrub-end Differ Differ e f = refl
+  one-scrub-end Differ NoMajority e f = absurd (let two = e.1 in let three = f.1 in omega arith)
+  one-scrub-end Differ (Limit steps next) e f = absurd f
+  one-scrub-end Differ (Exit status) e f = absurd f
+  one-scrub-end Differ (Trap code) e f = absurd f
+  one-scrub-end Differ Deadlock e f = absurd f
+  one-scrub-end Differ (Sink bytes) e f = absurd f
+  one-scrub-end NoMajority Differ e f = absurd (let two = f.1 in let three = e.1 in omega arith)
+  one-scrub-end NoMajority NoMajority e f = refl
+  one-scrub-end NoMajority (Limit steps next) e f = absurd f
+  one-scrub-end NoMajority (Exit status) e f = absurd f
+  one-scrub-end NoMajority (Trap code) e f = absurd f
+  one-scrub-end NoMajority Deadlock e f = absurd f
+  one-scrub-end NoMajority (Sink bytes) e f = absurd f
+  one-scrub-end (Limit steps next) other e f = absurd e
+  one-scrub-end (Exit status) other e f = absurd e
+  one-scrub-end (Trap code) other e f = absurd e
+  one-scrub-end Deadlock other e f = absurd e
+  one-scrub-end (Sink bytes) other e f = absurd e
+
+  -- so of two entries that decide the scrub and are allowed both are the same
+  pub one-scrubs : (entry other : Entry) → IsAllowed job core entry → DecidesScrub core entry → IsAllowed job core other → DecidesScrub core other → entry ≡ other
+  one-scrubs (Scrub won lost) (Scrub won' lost') m d n e = one-scrub won won' lost lost' m n
+  one-scrubs (Scrub won lost) (End how) m d n e = absurd (scrub-no-end won lost m how e)
+  one-scrubs (Scrub won lost) (Take driver replica lent) m d n e = absurd e
+  one-scrubs (Scrub won lost) (Put driver replica lent ran hit) m d n e = absurd e
+  one-scrubs (Scrub won lost) (Vote voted count winner losers did) m d n e = absurd e
+  one-scrubs (Scrub won lost) (Free freed) m d n e = absurd e
+  one-scrubs (End how) (Scrub won lost) m d n e = absurd (scrub-no-end won lost n how d)
+  one-scrubs (End how) (End other) m d n e = ap End (one-scrub-end how other d e)
+  one-scrubs (End how) (Take driver replica lent) m d n e = absurd e
+  one-scrubs (End how) (Put driver replica lent ran hit) m d n e = absurd e
+  one-scrubs (End how) (Vote voted count winner losers did) m d n e = absurd e
+  one-scrubs (End how) (Free freed) m d n e = absurd e
+  one-scrubs (Take driver replica lent) other m d n e = absurd d
+  one-scrubs (Put driver replica lent ran hit) other m d n e = absurd d
+  one-scrubs (Vote voted count winner losers did) other m d n e = absurd d
+  one-scrubs (Free freed) other m d n e = absurd d

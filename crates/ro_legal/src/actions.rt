@@ -17,6 +17,8 @@ pub enum Action {
     Vote(u32),
     /// The call on which this thread is blocked is served.
     Free(u32),
+    /// All of each replica is compared.
+    Scrub,
     /// A thread of a replica is lent.
     Lend { replica: u32, thread: u32 },
     /// The run ends.

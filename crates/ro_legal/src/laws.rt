@@ -1,5 +1,5 @@
 //! What holds of every legal journal.
-ghost use Rattle.std.specs.Prelude.{false, true, is_some, ◌≡◌, ◌≢◌, ◌<◌, ◌⊎◌, ◌&&◌, ◌==◌, ◌∷◌, ◌++◌, ℕ, List, [], Some, None, not, length, slice_get};
+ghost use Rattle.std.specs.Prelude.{false, true, is_some, ◌≡◌, ◌≢◌, ◌<◌, ◌≤◌, ◌+◌, ◌⊎◌, ◌&&◌, ◌==◌, ◌∷◌, ◌++◌, ℕ, List, [], Some, None, not, length, slice_get};
 ghost use Rattle.std.specs.List.{filter};
 ghost use Rattle.ro_event.specs.declared.calls.Call.{Call};
 ghost use Rattle.ro_event.specs.declared.stops.Stop.TheVariants.{Calls, PageFault};
@@ -12,9 +12,9 @@ ghost use Rattle.ro_journal.specs.declared.Entry.TheVariants.{Put, End};
 ghost use Rattle.ro_journal.specs.declared.How.{How};
 ghost use Rattle.ro_legal.specs.declared.actions.Action.TheVariants as act;
 ghost use Rattle.ro_legal.specs.declared.actions.Lease.{Lease};
-ghost use Rattle.ro_legal.specs.Core.{Job, Core, is_going, is_idle, is_lendable, may_vote, may_free, nothing_lent};
-ghost use Rattle.ro_legal.specs.Legal.{Legal, MayEnd, replay};
-ghost use Rattle.ro_legal.specs.Action.{next_action};
+ghost use Rattle.ro_legal.specs.Core.{Job, Core, opening_core, is_going, is_idle, is_lendable, may_vote, may_free, nothing_lent};
+ghost use Rattle.ro_legal.specs.Legal.{Legal, MayEnd, may_scrub, replay};
+ghost use Rattle.ro_legal.specs.Action.{next_action, EachIsNext};
 ghost use Rattle.ro_legal.specs.Laws.{Names, HasLease, thread_in, Answers, LeavesBlocked, LetsGoOn, hits, has_come};
 ghost use Rattle.ro_legal.specs.Turns.{TakesTurns};
 
@@ -58,11 +58,12 @@ pub fn page_faults_wait()
     ensures { (job : Job) (journal : List Entry) → Legal job journal → (number thread page : ℕ) (replica : Replica) → slice_get (replay job journal).replicas number ≡ Some replica → stop_of replica thread ≡ Some (PageFault page) → replica.backed page ≡ false }
 {}
 
-/// What comes next may be done: the thread may be voted on, freed or lent, the end may come, or a lease is out that has to
-/// come back first.
+/// What comes next may be done: the thread may be voted on, freed or lent, the replicas may be scrubbed, the end may come, or
+/// a lease is out that has to come back first.
 pub fn next_may_be_done()
     ensures vote { (job : Job) (core : Core) (thread : ℕ) → next_action job core ≡ act.Vote thread → may_vote core thread ≡ true }
     ensures free { (job : Job) (core : Core) (thread : ℕ) → next_action job core ≡ act.Free thread → may_free job core thread ≡ true }
+    ensures scrub { (job : Job) (core : Core) → next_action job core ≡ act.Scrub → may_scrub core ≡ true }
     ensures lend { (job : Job) (core : Core) (replica thread : ℕ) → next_action job core ≡ act.Lend replica thread → (is_going core ≡ true) × (is_lendable core replica thread ≡ true) }
     ensures end { (job : Job) (core : Core) (how : How) → next_action job core ≡ act.End how → (core.ended ≡ None) × MayEnd job core how }
     ensures wait { (job : Job) (core : Core) → next_action job core ≡ act.Wait → nothing_lent core ≡ false }
@@ -87,4 +88,10 @@ pub fn idle_drivers_hold_nothing()
 /// With one driver, what it takes comes back in the next entry.
 pub fn one_driver_takes_turns()
     ensures { (job : Job) → job.settings.drivers ≡ 1 → (journal : List Entry) → Legal job journal → (replay job journal).leases ≡ [] → TakesTurns journal }
+{}
+
+/// Scrubs that are asked for come in time: where each entry is what the core does next, the plan grows by no more than the
+/// scrub's number and the watchdog's together from one scrub to the next.
+pub fn scrubs_come_in_time()
+    ensures { (job : Job) → 0 < job.settings.scrub → (journal : List Entry) → Legal job journal → EachIsNext job (opening_core job) journal → (replay job journal).steps ≤ (replay job journal).scrubbed + job.settings.scrub + job.settings.watchdog }
 {}

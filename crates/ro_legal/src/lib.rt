@@ -9,5 +9,5 @@ pub use actions::{Action, Lease};
 pub use laws::{
     end_is_last, granted_everywhere, idle_drivers_hold_nothing, leases_come_back, leases_last,
     next_may_be_done, no_other_flip, one_driver_takes_turns, one_grant_order, page_faults_wait,
-    same_pages, struck_once,
+    same_pages, scrubs_come_in_time, struck_once,
 };

@@ -134,7 +134,9 @@ fn play_entry<K: Sink>(
             ..
         } => play_vote(plain, *thread, *count, did.steps(), progress, out),
         Entry::Free { thread } => play_one(plain, *thread, progress, out),
-        Entry::Take { .. } | Entry::Put { .. } | Entry::End { .. } => Ok(progress),
+        Entry::Take { .. } | Entry::Put { .. } | Entry::Scrub { .. } | Entry::End { .. } => {
+            Ok(progress)
+        }
     }
 }
 

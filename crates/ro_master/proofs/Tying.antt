@@ -6,7 +6,7 @@ use Rattle.std.specs.declared.alloc.AllocError.{AllocError}
 use Rattle.ro_journal.specs.declared.How.{How}
 use Rattle.ro_journal.specs.declared.How.TheVariants.{Sink}
 use Rattle.ro_journal.specs.declared.Entry.{Entry}
-use Rattle.ro_journal.specs.declared.Entry.TheVariants.{Take, Put, Vote, Free, End}
+use Rattle.ro_journal.specs.declared.Entry.TheVariants.{Take, Put, Vote, Free, Scrub, End}
 use Rattle.ro_journal.specs.Plan.{outcome_of}
 use Rattle.ro_replica.specs.Seen.{replica_of, Runs}
 use Rattle.ro_legal.specs.declared.actions.Action.TheVariants as act
@@ -15,11 +15,11 @@ use Rattle.ro_legal.specs.Core.{Job, Core, is_going, is_idle, is_lendable, lease
 use Rattle.ro_legal.specs.Legal.{IsAllowed, MayTake, after, Legal, replay, replay_with}
 use Rattle.ro_legal.specs.Action.{next_action, IsNext}
 use Rattle.ro_core.specs.Seen.{CoreOf, state, Appends, Quiet, Sends, Stays, MayReturn, ReturnIs}
-use Rattle.ro_legal.specs.Decides.{DecidesVote, DecidesFree, IsSplit}
+use Rattle.ro_legal.specs.Decides.{DecidesVote, DecidesFree, DecidesScrub, IsSplit}
 use Rattle.ro_legal.proofs.Journals.{replay_more}
 use Rattle.ro_legal.proofs.Outcomes.{ended_is_outcome}
-use Rattle.ro_legal.proofs.Nexts.{lend_is_next, vote_next, free_next, over_is_next, next_over}
-use Rattle.ro_legal.proofs.Ordered.{going-parts, vote-parts, free-parts}
+use Rattle.ro_legal.proofs.Nexts.{lend_is_next, vote_next, free_next, scrub_next, over_is_next, next_over}
+use Rattle.ro_legal.proofs.Ordered.{going-parts, vote-parts, free-parts, scrub-parts}
 use Rattle.ro_post.specs.declared.posts.Turn.{Turn}
 use Rattle.ro_post.specs.declared.posts.Turn.TheVariants as a
 use Rattle.ro_post.specs.Turns.{IfOver}
@@ -29,10 +29,10 @@ use Rattle.ro_legal.specs.Jobs.{CanRun}
 use Rattle.ro_core.specs.Driven.{HasRun, IsDriven, Goes, KeepsLast}
 use Rattle.ro_legal.specs.Laws.{Names}
 use Rattle.ro_lease.specs.Loans.{LentOf, BackOf, Gives}
-use Rattle.ro_master.specs.Desks.{DeskOf, Tied, seen_core, seen_state, AtRest, MayGiveBack, Rests, IsOver, Moved, Looked, IsLoan, Decides, votes, frees, ends, TurnIs, PutIs, AnswersOver, TakesMemory}
+use Rattle.ro_master.specs.Desks.{DeskOf, Tied, seen_core, seen_state, AtRest, MayGiveBack, Rests, IsOver, Moved, Looked, IsLoan, Decides, votes, frees, scrubs, ends, TurnIs, PutIs, AnswersOver, TakesMemory}
 use Rattle.ro_core.proofs.Turns.{calm_state, lend_calm, driven_more, leases_with, not_failed, goes_quiet, goes_none, goes_on, stays_state, stays_goes, stays_driven, stays_next}
-use Rattle.ro_core.proofs.Deciding.{vote_going, vote_calm, free_going, free_calm, voted_driven, voted_goes, freed_driven, freed_goes, end_driven, end_goes}
-use Rattle.ro_core.proofs.LastViews.{going_open, none_last, more_open, stays_open, voted_last, freed_last, end_open, end_last}
+use Rattle.ro_core.proofs.Deciding.{vote_going, vote_calm, free_going, free_calm, voted_driven, voted_goes, freed_driven, freed_goes, scrub_going, scrub_calm, scrubbed_driven, scrubbed_goes, end_driven, end_goes}
+use Rattle.ro_core.proofs.LastViews.{going_open, none_last, more_open, stays_open, voted_last, freed_last, scrubbed_last, end_open, end_last}
 use Rattle.ro_legal.proofs.Leases.{one_each}
 use Rattle.ro_legal.proofs.Lasting.{idle_after_put, idle_after}
 use Rattle.ro_core.proofs.Lending.{lending, lent_returns}
@@ -143,6 +143,7 @@ tied_vote start core new count count' number thread entry bytes t next allowed d
     named (Put d r t n k) h = absurd h
     named (Vote v n w l d) h = tt
     named (Free f) h = absurd h
+    named (Scrub w l) h = absurd h
     named (End how) h = tt
 
 -- a free
@@ -161,6 +162,26 @@ tied_free start core new count count' number thread entry t next allowed decides
     named (Put d r t n k) h = absurd h
     named (Vote v n w l d) h = absurd h
     named (Free f) h = tt
+    named (Scrub w l) h = absurd h
+    named (End how) h = tt
+
+-- a scrub
+pub tied_scrub : (start core new : CoreOf) (count count' : CountOf) (number : ℕ) (entry : Entry) → Tied start core count → next_action core.job (state core) ≡ act.Scrub → IsAllowed core.job (state core) entry → DecidesScrub (state core) entry → Appends core new entry → Quiet core new
+    → number < count.given → count' ≡ counted count number entry → Tied start new count'
+tied_scrub start core new count count' number entry t next allowed decides a quiet less c =
+    let calm = scrub_calm core next in
+    let home = (scrub-parts (state core) (scrub_next core.job (state core) next)).alone in
+    tied_more start core new count count' number entry t a c (named entry decides) less
+    (scrubbed_driven core new entry t.driven home a calm allowed next decides)
+    (scrubbed_goes core new entry t.driven home a calm allowed next decides quiet)
+    (scrubbed_last core new entry (going_open core t.driven (scrub_going core next)) (calm_state core calm) next decides a)
+  where
+    named : (e : Entry) → DecidesScrub (state core) e → Names number e
+    named (Take d r t) h = absurd h
+    named (Put d r t n k) h = absurd h
+    named (Vote v n w l d) h = absurd h
+    named (Free f) h = absurd h
+    named (Scrub w l) h = tt
     named (End how) h = tt
 
 -- an end
@@ -265,19 +286,22 @@ lease_rests start old new p q replica thread lent t next m is back gives =
         (subst (λ (n : ℕ). Runs lent.replica.layout lent.replica.watchdog lent.quantum n (replica_of lent.replica) (replica_of back.replica) back.ran.count back.ran.hit back.ran.stop) is.thread_is gives.runs)
         (seen_core core.job q') refl seen
 
--- where the entry is a vote, a free or an end, the pass stays at rest
+-- where the entry is a vote, a free, a scrub or an end, the pass stays at rest
 idle_decided : (job : Job) (core : Core) (driver : ℕ) (c : CoreOf) (entry : Entry) → Decides c entry → is_idle core driver ≡ true → is_idle (after job core entry) driver ≡ true
 idle_decided job core driver c entry d idle = by entry d idle
   where
     keeps : (e : Entry) → Decides c e → Names (suc driver) e
     keeps (Take d r t) (votes th n h) = absurd h
     keeps (Take d r t) (frees th n h) = absurd h
+    keeps (Take d r t) (scrubs n h) = absurd h
     keeps (Take d r t) (ends how n h) = absurd (let f : Take d r t ≡ End how = h in cc)
     keeps (Put d r t n k) (votes th x h) = absurd h
     keeps (Put d r t n k) (frees th x h) = absurd h
+    keeps (Put d r t n k) (scrubs x h) = absurd h
     keeps (Put d r t n k) (ends how x h) = absurd (let f : Put d r t n k ≡ End how = h in cc)
     keeps (Vote t n w l i) h = tt
     keeps (Free t) h = tt
+    keeps (Scrub w l) h = tt
     keeps (End how) h = tt
 
     by : (e : Entry) → Decides c e → is_idle core driver ≡ true → is_idle (after job core e) driver ≡ true
@@ -338,6 +362,7 @@ turn_ended r old new p q did some = by r did
         decided : (entry : Entry) → Decides old.core entry → AnswersOver (Ok a.Did) × Looked old new p q
         decided entry (votes thread n h) = absurd (let f : act.Over ≡ act.Vote thread = sym over ∙ n in cc)
         decided entry (frees thread n h) = absurd (let f : act.Over ≡ act.Free thread = sym over ∙ n in cc)
+        decided entry (scrubs n h) = absurd (let f : act.Over ≡ act.Scrub = sym over ∙ n in cc)
         decided entry (ends how n h) = absurd (let f : act.Over ≡ act.End how = sym over ∙ n in cc)
     by (Ok a.Wait) did = absurd (let f : act.Over ≡ act.Wait = sym over ∙ did.0 in cc)
     by (Ok a.Over) did = (refl, did.1)

@@ -7,7 +7,7 @@ ghost use Rattle.ro_journal.specs.declared.Entry.TheVariants.{Take, End};
 ghost use Rattle.ro_legal.specs.declared.actions.Action.TheVariants as act;
 ghost use Rattle.ro_legal.specs.Action.{next_action as next};
 ghost use Rattle.ro_core.specs.Seen.{state};
-ghost use Rattle.ro_legal.specs.Decides.{DecidesVote, DecidesFree};
+ghost use Rattle.ro_legal.specs.Decides.{DecidesVote, DecidesFree, DecidesScrub};
 
 use crate::passes::{Counter, Pass};
 use crate::seats::Naming;
@@ -145,6 +145,25 @@ impl<K: Sink, N: Naming> Desk<K, N> {
         }
     }
 
+    // Scrubs.
+    fn scrub(&mut self, pass: &mut Pass<N>) -> Result<(), AllocError>
+        requires { next self.old.core.job (state self.old.core) ≡ act.Scrub }
+        ensures { MatchResult result (λ _. (entry : EntryOf) × DecidesScrub (state self.old.core) entry × Moved entry self.old self.new pass.old pass.new) (λ _. Looked self.old self.new pass.old pass.new) }
+    {
+        match self.core.scrub() {
+            Ok(entry) => {
+                let _entries = self.core.entries();
+                self.waking.stood();
+                pass.add(&mut self.count, &entry);
+                Ok(())
+            }
+            Err(_) => {
+                pass.learn(&mut self.count);
+                Err(AllocError)
+            }
+        }
+    }
+
     // Ends.
     fn end(&mut self, pass: &mut Pass<N>, how: How)
         requires { next self.old.core.job (state self.old.core) ≡ act.End how }
@@ -176,6 +195,10 @@ impl<K: Sink, N: Naming> Desk<K, N> {
                 Err(e) => Err(e),
             },
             Action::Free(thread) => match self.free(pass, thread) {
+                Ok(()) => Ok(Turn::Did),
+                Err(e) => Err(e),
+            },
+            Action::Scrub => match self.scrub(pass) {
                 Ok(()) => Ok(Turn::Did),
                 Err(e) => Err(e),
             },

@@ -154,6 +154,16 @@ copied_more l m n ns i z low is theirs h q rest =
           ∙ h q (ap (λ xs. is_listed xs q) (drop_more ns i 0 low) ∙ ap (λ b. b || is_listed (drop (i + 1) ns) q) (ne_eqb p q (λ e. other (sym e))) ∙ rest)
     ]
 
+-- one page more is the same
+pub same_more : (m n : FinMap nat_cmp (List ℕ)) (ns : List ℕ) (i : ℕ) → i < length ns → map.get m (get_or ns i 0) ≡ map.get n (get_or ns i 0)
+    → ((q : ℕ) → is_listed (drop i ns) q ≡ false → map.get m q ≡ map.get n q) → (q : ℕ) → is_listed (drop (i + 1) ns) q ≡ false → map.get m q ≡ map.get n q
+same_more m n ns i low same h q rest =
+    let p = get_or ns i 0 in
+    elim (cases_eq q p) [
+      | inl is ↦ ap (map.get m) is ∙ same ∙ sym (ap (map.get n) is)
+      | inr other ↦ h q (ap (λ xs. is_listed xs q) (drop_more ns i 0 low) ∙ ap (λ b. b || is_listed (drop (i + 1) ns) q) (ne_eqb p q (λ e. other (sym e))) ∙ rest)
+    ]
+
 -- maps that have the same for each page
 pub same_pages : (m n : FinMap nat_cmp (List ℕ)) → ((q : ℕ) → map.get m q ≡ map.get n q) → m ≡ n
 same_pages m n h = same_map nat_cmp_total nat_cmp-IsAntisymmetric m n h

@@ -121,6 +121,22 @@ impl Pages {
         written
     }
 
+    /// Whether another memory, in which the same pages are backed, has the same bytes.
+    pub fn is_same(&self, other: &Pages) -> bool
+        requires { (page : ℕ) → has_page self.now.pages page ≡ has_page other.now.pages page }
+        ensures same { result ≡ true → self.now.pages ≡ other.now.pages }
+        ensures apart { result ≡ false → memory_of self.now.pages ≢ memory_of other.now.pages }
+    {
+        for page in other.directory.numbers() {
+            let mine = self.directory.entry(*page);
+            let theirs = other.directory.entry(*page);
+            if !has_same_bytes(&self.backed[mine], &other.backed[theirs]) {
+                return false;
+            }
+        }
+        true
+    }
+
     /// Reads the bytes from an address on; those of a page that isn't backed are 0.
     pub fn read_bytes(&self, address: u32, bytes: &mut [u8])
         requires { address + length bytes.old ≤ 2 ^ 32 }
@@ -289,6 +305,7 @@ fn copy_page(mine: &mut Page, theirs: &Page) -> usize
 fn has_same_bytes(one: &[u32; PAGE_WORDS], other: &[u32; PAGE_WORDS]) -> bool
     ensures same { result ≡ true → bytes_in one.now ≡ bytes_in other.now }
     ensures apart { result ≡ false → bytes_in one.now ≢ bytes_in other.now }
+    ensures words { (length one.now ≡ 1024) × (length other.now ≡ 1024) }
 {
     for i in 0..PAGE_WORDS {
         if one[i] != other[i] {

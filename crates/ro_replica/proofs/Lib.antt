@@ -1,5 +1,6 @@
 pub mod Changes
 pub mod Copies
+pub mod Compared
 pub mod Counted
 pub mod Elements
 pub mod Going

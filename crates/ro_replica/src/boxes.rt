@@ -1,12 +1,14 @@
 //! A replica in a block of its own, so that it moves as one word.
-ghost use Rattle.std.specs.Prelude.{◌≡◌, ◌≤◌, IfOk, IsTrue, OnOk, Some, is_some};
+ghost use Rattle.std.specs.Prelude.{◌≡◌, ◌≤◌, ◌↔◌, IfOk, IsTrue, OnOk, Some, is_some};
 ghost use Rattle.ro_replica.specs.Replica.{applied, cancelled, stop_of, word_at};
 ghost use Rattle.ro_replica.specs.Seen.{replica_of, AreTwins, CanApply, CanCount, Keeps, Recovers, Runs, SameProgram};
+ghost use Rattle.ro_replica.specs.Snapshots.{snapshot_of};
 ghost use Rattle.ro_replica.specs.Views.{is_unstopped, view_of};
 
 use crate::replicas::Replica;
 use crate::running::Ran;
 use ro_event::{Effect, Stop, View};
+use ro_kernel::Kernel;
 use ro_recover::Twin;
 use std::alloc::{AllocError, Global};
 use std::marker::Model;
@@ -80,6 +82,14 @@ impl ReplicaBox {
         ensures { view_of self.now.layout.ranges thread (replica_of self.now) ≡ Some view.new }
     {
         self.replica.view(thread, view);
+    }
+
+    /// Whether another replica of the program is the same in all that its program can ever read.
+    pub fn is_same(&self, other: &ReplicaBox, kernel: &Kernel) -> bool
+        requires { AreTwins self.now other.now }
+        ensures { IsTrue result ↔ (snapshot_of kernel.now.kernel (replica_of self.now) ≡ snapshot_of kernel.now.kernel (replica_of other.now)) }
+    {
+        self.replica.is_same(&other.replica, kernel)
     }
 
     /// Does what an event does to a replica, and forgets the page faults that it settles.

@@ -5,7 +5,7 @@ use Rattle.ro_journal.specs.declared.losers.Lost.{Lost}
 use Rattle.ro_journal.specs.declared.losers.Lost.TheVariants.{Nobody, One, Two}
 use Rattle.ro_journal.specs.Losers.{numbers}
 use Rattle.ro_journal.specs.declared.Entry.{Entry}
-use Rattle.ro_journal.specs.declared.Entry.TheVariants.{Take, Put, Vote, Free, End}
+use Rattle.ro_journal.specs.declared.Entry.TheVariants.{Take, Put, Vote, Free, Scrub, End}
 use Rattle.ro_report.specs.Report.{copies_of, copies_in}
 
 -- at most two lose
@@ -19,6 +19,7 @@ of_one (Vote thread count won lost did) = few lost
 of_one (Take driver replica thread) = omega arith
 of_one (Put driver replica thread count hit) = omega arith
 of_one (Free thread) = omega arith
+of_one (Scrub won lost) = few lost
 of_one (End how) = omega arith
 
 -- at most two an entry

@@ -118,7 +118,7 @@ fn copies_of(entry: &Entry) -> u64
     ensures { result ≡ copies_of entry.now }
 {
     match *entry {
-        Entry::Vote { lost, .. } => lost.count() as u64,
+        Entry::Vote { lost, .. } | Entry::Scrub { lost, .. } => lost.count() as u64,
         _ => 0,
     }
 }

@@ -7,7 +7,7 @@ use Rattle.ro_journal.specs.declared.Entry.TheVariants.{End}
 use Rattle.ro_journal.specs.Plan.{outcome_of}
 use Rattle.ro_vote.specs.Verdict.{Verdict, Won, Split, verdict_of}
 use Rattle.ro_legal.specs.declared.actions.Action.{Action}
-use Rattle.ro_legal.specs.declared.actions.Action.TheVariants.{Vote as DoVote, Free as DoFree, Lend, End as DoEnd, Wait, Over}
+use Rattle.ro_legal.specs.declared.actions.Action.TheVariants.{Vote as DoVote, Free as DoFree, Scrub as DoScrub, Lend, End as DoEnd, Wait, Over}
 use Rattle.ro_legal.specs.Core.{Job, Core, opening_core, views_of}
 use Rattle.ro_legal.specs.Legal.{after}
 use Rattle.ro_legal.specs.Action.{next_action, EachIsNext}
@@ -34,6 +34,7 @@ module _ (fuel : ℕ) (job : Job) (rest : (core : Core) → outcome_of (driven_f
   action-next (Lend replica thread) e d = (e, (tt, rest _ d))
   action-next (DoVote thread) e d = vote-next thread (verdict_of (views_of job core thread)) e d
   action-next (DoFree thread) e d = (e, rest _ d)
+  action-next DoScrub e d = (e, rest _ d)
   action-next (DoEnd how) e d = (inl e, after-end fuel job core how)
   action-next Wait e d = tt
   action-next Over e d = tt

@@ -27,7 +27,7 @@ use Rattle.ro_plain.proofs.Calls.{some-injective}
 use Rattle.ro_legal.specs.declared.actions.Action.TheVariants as act
 use Rattle.ro_legal.specs.Core.{Job, Core, opening_core, may_free}
 use Rattle.ro_legal.specs.Event.{event_of}
-use Rattle.ro_legal.specs.Legal.{Legal, IsAllowed, HasArrived, arrival, EndsAlone, EndsVote, EndsFree, MayEnd, after, replay, output_of, due, alone, for_vote, for_free}
+use Rattle.ro_legal.specs.Legal.{Legal, IsAllowed, HasArrived, arrival, EndsAlone, EndsVote, EndsFree, EndsScrub, MayEnd, after, replay, output_of, due, alone, for_vote, for_free, for_scrub}
 use Rattle.ro_legal.specs.Action.{next_action, IsNext}
 use Rattle.ro_simulation.specs.Theorem.{CannotDiffer}
 use Rattle.ro_simulation.specs.Guests.{exit_guest}
@@ -42,12 +42,13 @@ use Rattle.ro_rows.specs.Edges.{small_job, waiters_job, two_wait, unlocked, lett
 no-machine : {P : Type 0} (machine : Machine) (o : Option Machine) → o ≡ Some machine → o ≡ None → P
 no-machine machine o e f = absurd (let g : None ≡ Some machine = sym f ∙ e in cc)
 
--- an end that neither is due, nor comes alone, nor in the place of a vote or a free
-no-end : (job : Job) (core : Core) (how : How) → core.due ≡ None → (EndsAlone job core how → ⊥) → ((thread : ℕ) → EndsVote job core thread how → ⊥) → (EndsFree job core how → ⊥) → MayEnd job core how → ⊥
-no-end job core how none a v f (due e) = absurd (let g : None ≡ Some how = sym none ∙ e in cc)
-no-end job core how none a v f (alone e) = a e
-no-end job core how none a v f (for_vote thread may e) = v thread e
-no-end job core how none a v f (for_free thread may e) = f e
+-- an end that neither is due, nor comes alone, nor in the place of a vote, a free or a scrub
+no-end : (job : Job) (core : Core) (how : How) → core.due ≡ None → (EndsAlone job core how → ⊥) → ((thread : ℕ) → EndsVote job core thread how → ⊥) → (EndsFree job core how → ⊥) → (EndsScrub core how → ⊥) → MayEnd job core how → ⊥
+no-end job core how none a v f s (due e) = absurd (let g : None ≡ Some how = sym none ∙ e in cc)
+no-end job core how none a v f s (alone e) = a e
+no-end job core how none a v f s (for_vote thread may e) = v thread e
+no-end job core how none a v f s (for_free thread may e) = f e
+no-end job core how none a v f s (for_scrub may e) = s e
 
 -- a stop that is not there
 no-stop : (stop : Option Stop) → is_none stop ≡ true → IsSome stop → ⊥
@@ -144,15 +145,15 @@ stuck-stuck = (refl, alone refl)
 
 pub stuck-not-opening : IsAllowed deadlock_job (opening_core deadlock_job) (End Deadlock) → ⊥
 unfolding opening_core opening_replica struck execute applied cancelled recovered verdict_of event_of after next_action first_cpu made_cpu next fetch_stop instruction_stop instruction_of call_at permits_of alu_of taken_by meaning serve payload_of
-stuck-not-opening h = no-end deadlock_job (opening_core deadlock_job) Deadlock refl (λ e. let f : false ≡ true = e in cc) (λ thread e. e) (λ e. e) h.1
+stuck-not-opening h = no-end deadlock_job (opening_core deadlock_job) Deadlock refl (λ e. let f : false ≡ true = e in cc) (λ thread e. e) (λ e. e) (λ e. e) h.1
 
 pub stuck-not-going : IsAllowed exit_job (replay exit_job exit_runs) (End Deadlock) → ⊥
 unfolding opening_core opening_replica struck execute applied cancelled recovered verdict_of event_of after next_action first_cpu made_cpu next fetch_stop instruction_stop instruction_of call_at permits_of alu_of taken_by meaning serve payload_of
-stuck-not-going h = no-end exit_job (replay exit_job exit_runs) Deadlock refl (λ e. let f : false ≡ true = e in cc) (λ thread e. e) (λ e. e) h.1
+stuck-not-going h = no-end exit_job (replay exit_job exit_runs) Deadlock refl (λ e. let f : false ≡ true = e in cc) (λ thread e. e) (λ e. e) (λ e. e) h.1
 
 pub stuck-not-lent : IsAllowed exit_job (replay exit_job (Take 0 0 0 ∷ [])) (End Deadlock) → ⊥
 unfolding opening_core opening_replica struck execute applied cancelled recovered verdict_of event_of after next_action first_cpu made_cpu next fetch_stop instruction_stop instruction_of call_at permits_of alu_of taken_by meaning serve payload_of
-stuck-not-lent h = no-end exit_job (replay exit_job (Take 0 0 0 ∷ [])) Deadlock refl (λ e. let f : false ≡ true = e in cc) (λ thread e. e) (λ e. e) h.1
+stuck-not-lent h = no-end exit_job (replay exit_job (Take 0 0 0 ∷ [])) Deadlock refl (λ e. let f : false ≡ true = e in cc) (λ thread e. e) (λ e. e) (λ e. e) h.1
 
 pub stuck-not-free : IsAllowed (page_limit_job 1000000000) (replay (page_limit_job 1000000000) before_free) (End Deadlock) → ⊥
 unfolding opening_core opening_replica struck execute applied cancelled recovered verdict_of event_of after next_action first_cpu made_cpu next fetch_stop instruction_stop instruction_of call_at permits_of alu_of taken_by meaning serve payload_of
@@ -170,7 +171,7 @@ limit-vote-fits = record { may = refl; verdict = refl; count_is = refl; event = 
 
 pub limit-no-limit : IsAllowed (small_job exit_guest [] 3 3) (replay (small_job exit_guest [] 3 3) exit_runs) (End (Limit 0 3)) → ⊥
 unfolding opening_core opening_replica struck execute applied cancelled recovered verdict_of event_of after next_action first_cpu made_cpu next fetch_stop instruction_stop instruction_of call_at permits_of alu_of taken_by meaning serve payload_of
-limit-no-limit h = no-end (small_job exit_guest [] 3 3) (replay (small_job exit_guest [] 3 3) exit_runs) (Limit 0 3) refl (λ e. e) (λ thread e. let f : 3 < 0 + 3 = e.above in omega arith) (λ e. let f : 3 ≡ 1 = e.1 in omega arith) h.1
+limit-no-limit h = no-end (small_job exit_guest [] 3 3) (replay (small_job exit_guest [] 3 3) exit_runs) (Limit 0 3) refl (λ e. e) (λ thread e. let f : 3 < 0 + 3 = e.above in omega arith) (λ e. let f : 3 ≡ 1 = e.1 in omega arith) (λ e. e) h.1
 
 pub limit-vote-passes : IsAllowed (small_job exit_guest [] 3 2) (replay (small_job exit_guest [] 3 2) exit_runs) (Vote 0 2 0 Nobody Served) → ⊥
 unfolding opening_core opening_replica struck execute applied cancelled recovered verdict_of event_of after next_action first_cpu made_cpu next fetch_stop instruction_stop instruction_of call_at permits_of alu_of taken_by meaning serve payload_of
@@ -186,7 +187,7 @@ limit-free-fits = record { may = refl; fits = lit≤ tt }
 
 pub limit-no-free-limit : IsAllowed (page_limit_job 18) (replay (page_limit_job 18) before_free) (End (Limit 17 1)) → ⊥
 unfolding opening_core opening_replica struck execute applied cancelled recovered verdict_of event_of after next_action first_cpu made_cpu next fetch_stop instruction_stop instruction_of call_at permits_of alu_of taken_by meaning serve payload_of
-limit-no-free-limit h = no-end (page_limit_job 18) (replay (page_limit_job 18) before_free) (Limit 17 1) refl (λ e. e) (λ thread e. let f : 18 < 17 + 1 = e.above in omega arith) (λ e. let f : 18 < 17 + 1 = e.2 in omega arith) h.1
+limit-no-free-limit h = no-end (page_limit_job 18) (replay (page_limit_job 18) before_free) (Limit 17 1) refl (λ e. e) (λ thread e. let f : 18 < 17 + 1 = e.above in omega arith) (λ e. let f : 18 < 17 + 1 = e.2 in omega arith) (λ e. e) h.1
 
 pub limit-free-passes : IsAllowed (page_limit_job 17) (replay (page_limit_job 17) before_free) (Free 0) → ⊥
 unfolding opening_core opening_replica struck execute applied cancelled recovered verdict_of event_of after next_action first_cpu made_cpu next fetch_stop instruction_stop instruction_of call_at permits_of alu_of taken_by meaning serve payload_of

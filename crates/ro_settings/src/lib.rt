@@ -17,6 +17,8 @@ pub struct Settings {
     pub quantum: u32,
     /// How many steps the run may have, 1 to 10^12.
     pub limit: u64,
+    /// After how many steps since the last scrub one is due, 0 to 10^12; with 0 none ever is.
+    pub scrub: u64,
 }
 
 impl Settings {
@@ -27,6 +29,7 @@ impl Settings {
         watchdog: 10_000,
         quantum: 4_096,
         limit: 1_000_000_000,
+        scrub: 0,
     };
 
     /// Whether each number lies in its range.
@@ -38,6 +41,7 @@ impl Settings {
             && (100..=1_000_000).contains(&self.watchdog)
             && (1..=65_536).contains(&self.quantum)
             && (1..=1_000_000_000_000).contains(&self.limit)
+            && self.scrub <= 1_000_000_000_000
     }
 }
 

@@ -7,7 +7,7 @@ use Rattle.ro_journal.specs.declared.Did.TheVariants.{Served, Blocked, PageBacke
 use Rattle.ro_journal.specs.declared.How.{How}
 use Rattle.ro_journal.specs.declared.How.TheVariants.{Exit}
 use Rattle.ro_journal.specs.declared.Entry.{Entry}
-use Rattle.ro_journal.specs.declared.Entry.TheVariants.{Take, Put, Vote, Free, End}
+use Rattle.ro_journal.specs.declared.Entry.TheVariants.{Take, Put, Vote, Free, Scrub, End}
 use Rattle.ro_journal.specs.declared.losers.Lost.{Lost}
 use Rattle.ro_journal.specs.Losers.{numbers}
 use Rattle.ro_journal.specs.Plan.{event_steps}
@@ -81,6 +81,7 @@ test_entry job core (Take driver replica thread) = test_take job core driver rep
 test_entry job core (Put driver replica thread count hit) = test_put job core driver replica thread count hit
 test_entry job core (Vote thread count won lost did) = test_vote job core thread count won lost did
 test_entry job core (Free thread) = may_free job core thread && nat_le (core.steps + 1) job.settings.limit
+test_entry job core (Scrub won lost) = false
 test_entry job core (End how) = is_none core.ended && test_end core.due how
 
 -- whether each entry is allowed in its turn
@@ -151,6 +152,7 @@ entry-allowed job core (Vote thread count won lost did) e =
     let a = and_parts _ _ e in let b = and_parts _ _ a.0 in let c = and_parts _ _ b.0 in let d = and_parts _ _ c.0 in
     vote-allowed job core thread count won lost did d.0 (verdict-is _ won (numbers lost) d.1) (same-number _ _ c.1) _ refl b.1 (leb-true _ _ a.1)
 entry-allowed job core (Free thread) e = let a = and_parts _ _ e in record { may = a.0; fits = leb-true _ _ a.1 }
+entry-allowed job core (Scrub won lost) e = absurd (false≢true e)
 entry-allowed job core (End how) e = let a = and_parts _ _ e in (is-none-from core.ended a.0, end-allowed job core core.due how refl a.1)
 
 -- a journal that passes is legal

@@ -19,9 +19,12 @@ use Rattle.ro_plain.specs.Machine.{Program, setup_of, Machine, called, step_by, 
 use Rattle.ro_plain.specs.Order.{RaceFree}
 use Rattle.ro_plain.proofs.Calls.{steppable-parts, step-at}
 use Rattle.ro_legal.specs.declared.actions.Lease.{Lease}
-use Rattle.ro_legal.specs.Core.{Job, Core, is_going, nothing_lent, is_home, is_lendable, may_vote, may_free, views_of}
+use Rattle.ro_legal.specs.Core.{Job, Core, is_going, nothing_lent, is_home, is_lendable, may_vote, may_free, views_of, snapshots_of}
 use Rattle.ro_replica.specs.Views.{is_unstopped}
-use Rattle.ro_legal.specs.Legal.{any_below, is_stuck, MayEnd, due, alone, for_vote, for_free}
+use Rattle.ro_legal.specs.Legal.{any_below, is_stuck, may_scrub, MayEnd, due, alone, for_vote, for_free, for_scrub}
+use Rattle.ro_legal.proofs.Ordered.{scrub-parts}
+use Rattle.ro_vote.specs.Prevails.{NonePrevails}
+use Rattle.ro_simulation.proofs.Scrubs.{some-good as some-still, always-prevails}
 use Rattle.ro_legal.specs.Sound.{IsOver, exits, traps}
 use Rattle.ro_simulation.specs.Invariant.{TracksIdeal}
 use Rattle.ro_simulation.specs.Theorem.{EndsAs, TwoThreeOrFive}
@@ -195,6 +198,17 @@ module _ (job : Job) (odds : List ℕ) (journal : List Entry) (core : Core) (h :
       let no_odd : length odds ≡ 0 = ap {B = ℕ} length none in
       never-splits odds _ (views_of job core t) (all-but-odd job free odds journal core h t parts good) (omega arith) split
 
+  -- three or five replicas always have a snapshot that prevails
+  always-scrubbed : RaceFree job.program → TwoThreeOrFive job → may_scrub core ≡ true → NonePrevails (snapshots_of core) → 3 ≤ length core.replicas → ⊥
+  always-scrubbed free count may none three =
+      always-prevails job odds journal core h may free (some-still job odds journal core h may (omega arith)) (less-than-half count three) none
+
+  -- two replicas that both agree have one snapshot
+  pub never-differ-still : RaceFree job.program → odds ≡ [] → may_scrub core ≡ true → NonePrevails (snapshots_of core) → length core.replicas ≡ 2 → ⊥
+  never-differ-still free even may none two =
+      let no_odd : length odds ≡ 0 = ap {B = ℕ} length even in
+      always-prevails job odds journal core h may free (some-still job odds journal core h may (omega arith)) (omega arith) none
+
   -- the machine stands as the end says
   pub end-as : RaceFree job.program → TwoThreeOrFive job → (how : How) → MayEnd job core how → EndsAs job.program h.machine how
   end-as free count how (due e) = let ended : h.machine.ended ≡ Some how = sym h.same_end ∙ e in over-as job.program h.machine how (h.ends_well how ended) ended
@@ -219,3 +233,10 @@ module _ (job : Job) (odds : List ℕ) (journal : List Entry) (core : Core) (h :
   end-as free count (Trap code) (for_free t may e) = absurd e
   end-as free count Deadlock (for_free t may e) = absurd e
   end-as free count (Sink bytes) (for_free t may e) = absurd e
+  end-as free count Differ (for_scrub may e) = sym h.same_end ∙ (scrub-parts core may).not_due
+  end-as free count NoMajority (for_scrub may e) = absurd (always-scrubbed free count may e.0 e.1)
+  end-as free count (Limit steps next) (for_scrub may e) = absurd e
+  end-as free count (Exit status) (for_scrub may e) = absurd e
+  end-as free count (Trap code) (for_scrub may e) = absurd e
+  end-as free count Deadlock (for_scrub may e) = absurd e
+  end-as free count (Sink bytes) (for_scrub may e) = absurd e

@@ -6,7 +6,7 @@ use Rattle.ro_event.specs.declared.calls.Call.{Call}
 use Rattle.ro_journal.specs.declared.Did.{Did}
 use Rattle.ro_journal.specs.declared.How.{How}
 use Rattle.ro_journal.specs.declared.Entry.{Entry}
-use Rattle.ro_journal.specs.declared.Entry.TheVariants.{Take, Put, Vote, Free, End}
+use Rattle.ro_journal.specs.declared.Entry.TheVariants.{Take, Put, Vote, Free, Scrub, End}
 use Rattle.ro_journal.specs.declared.losers.Lost.{Lost}
 use Rattle.ro_journal.specs.Losers.{numbers}
 use Rattle.ro_journal.specs.Plan.{outcome_of}
@@ -19,6 +19,7 @@ use Rattle.ro_plain.specs.Order.{RaceFree}
 use Rattle.ro_legal.specs.Core.{Job, Core, opening_core}
 use Rattle.ro_legal.specs.Event.{Event, call_event, with_recovered}
 use Rattle.ro_legal.specs.Legal.{lease_run, core_after_put, event_in, freed_event, core_after_event, after, MayPut, MayEnd, IsAllowed, LegalFrom, Legal, replay_from, replay}
+use Rattle.ro_legal.proofs.Ordered.{scrub-parts}
 use Rattle.ro_vote.specs.Numbers.{is_among, AtMostHalf}
 use Rattle.ro_simulation.specs.Invariant.{Agrees, TracksIdeal}
 use Rattle.ro_simulation.specs.Theorem.{event_payload, payload_by, payloads_from, payloads_of}
@@ -26,6 +27,7 @@ use Rattle.ro_simulation.proofs.Kept.{going-from}
 use Rattle.ro_simulation.proofs.Votes.{vote-parts, after-vote}
 use Rattle.ro_simulation.proofs.Frees.{free-parts, after-free}
 use Rattle.ro_simulation.proofs.Entries.{after-take, after-calm-put, after-struck-put}
+use Rattle.ro_simulation.proofs.Scrubs.{after-scrub}
 use Rattle.ro_simulation.proofs.Opening.{opening-holds}
 
 -- ---- journals in parts
@@ -53,6 +55,7 @@ allowed-not-ended job core (Take driver replica thread) h = (going-from core h.g
 allowed-not-ended job core (Put driver replica thread count hit) h = h.not_ended
 allowed-not-ended job core (Vote thread count won lost did) h = (vote-parts core thread h.may).going.not_ended
 allowed-not-ended job core (Free thread) h = (free-parts job core thread h.may).going.not_ended
+allowed-not-ended job core (Scrub won lost) h = (scrub-parts core h.may).not_ended
 allowed-not-ended job core (End how) h = h.0
 
 -- after an end comes nothing
@@ -73,6 +76,7 @@ pub data IsStep : Entry → Type 0 where
   puts : {driver replica thread count hit : ℕ} → IsStep (Put driver replica thread count hit)
   votes : {thread count won : ℕ} {lost : Lost} {did : Did} → IsStep (Vote thread count won lost did)
   frees : {thread : ℕ} → IsStep (Free thread)
+  scrubs : {won : ℕ} {lost : Lost} → IsStep (Scrub won lost)
 
 -- the output with the payload, and the end as it was
 pub record Leaves (core other : Core) (payload : List ℕ) : Type 0 where
@@ -109,6 +113,7 @@ step-leaves job core (Vote thread count won lost did) votes = event-leaves core 
 step-leaves job core (Free thread) frees =
     subst (Leaves core (core_after_event core thread 0 core.replicas (freed_event job core thread))) (free-no-payload job core thread (core.blocked thread))
     (event-leaves core thread 0 core.replicas (freed_event job core thread))
+step-leaves job core (Scrub won lost) scrubs = record { output = sym (append-nil core.output); ended = refl }
 step-leaves job core (End how) kind = elim kind [ ]
 
 -- ---- the outcome and the end of the core
@@ -126,6 +131,7 @@ outcome-ended job core (Take driver replica thread ∷ rest) how h e = outcome-e
 outcome-ended job core (Put driver replica thread count hit ∷ rest) how h e = outcome-ended job (after job core (Put driver replica thread count hit)) rest how h.1 e
 outcome-ended job core (Vote thread count won lost did ∷ rest) how h e = outcome-ended job (after job core (Vote thread count won lost did)) rest how h.1 e
 outcome-ended job core (Free thread ∷ rest) how h e = outcome-ended job (after job core (Free thread)) rest how h.1 e
+outcome-ended job core (Scrub won lost ∷ rest) how h e = outcome-ended job (after job core (Scrub won lost)) rest how h.1 e
 
 -- and the other way round
 pub ended-outcome : (job : Job) (core : Core) (journal : List Entry) (how : How) → core.ended ≡ None → LegalFrom job core journal → (replay_from job core journal).ended ≡ Some how → outcome_of journal ≡ Some how
@@ -136,6 +142,7 @@ ended-outcome job core (Take driver replica thread ∷ rest) how on h e = ended-
 ended-outcome job core (Put driver replica thread count hit ∷ rest) how on h e = ended-outcome job (after job core (Put driver replica thread count hit)) rest how ((step-leaves job core (Put driver replica thread count hit) puts).ended ∙ on) h.1 e
 ended-outcome job core (Vote thread count won lost did ∷ rest) how on h e = ended-outcome job (after job core (Vote thread count won lost did)) rest how ((step-leaves job core (Vote thread count won lost did) votes).ended ∙ on) h.1 e
 ended-outcome job core (Free thread ∷ rest) how on h e = ended-outcome job (after job core (Free thread)) rest how ((step-leaves job core (Free thread) frees).ended ∙ on) h.1 e
+ended-outcome job core (Scrub won lost ∷ rest) how on h e = ended-outcome job (after job core (Scrub won lost)) rest how ((step-leaves job core (Scrub won lost) scrubs).ended ∙ on) h.1 e
 
 -- ---- the invariant along a journal
 
@@ -170,73 +177,92 @@ pub record Struck (job : Job) (Q : List ℕ → Type 0) (struck : ℕ) (core : C
   pub is_odd : is_among odds struck ≡ true
   pub others : (number : ℕ) (r : Replica) → is_among odds number ≡ false → slice_get core.replicas number ≡ Some r → Agrees job machine r
 
--- Which replicas may be odd, and why the others agree where faults are struck.
-pub record Policy (job : Job) (Q : List ℕ → Type 0) (whole : List Entry) : Type 0 where
-  pub strikes : (odds : List ℕ) → Q odds → (before rest : List Entry) (driver replica thread count hit : ℕ) → whole ≡ before ++ Put driver replica thread count hit ∷ rest →
+-- an entry behind which the same replicas may be odd
+pub data IsCalm : Entry → Type 0 where
+  takes_calm : {driver replica thread : ℕ} → IsCalm (Take driver replica thread)
+  puts_calm : {driver replica thread count hit : ℕ} → hit ≡ 0 → IsCalm (Put driver replica thread count hit)
+  votes_calm : {thread count won : ℕ} {lost : Lost} {did : Did} → IsCalm (Vote thread count won lost did)
+  frees_calm : {thread : ℕ} → IsCalm (Free thread)
+
+-- Which replicas are allowed to be odd behind a scrub, where none is.
+pub record Scrubbed (job : Job) (Q : List ℕ → Type 0) : Type 0 where
+  pub odds : List ℕ
+  pub allows : Q odds
+  pub few : AtMostHalf job.settings.replicas odds
+
+-- Which replicas may be odd behind which journal, and why the others agree where faults are struck.
+pub record Policy (job : Job) (Q : List Entry → List ℕ → Type 0) (whole : List Entry) : Type 0 where
+  pub strikes : (odds : List ℕ) (before rest : List Entry) → Q before odds → (driver replica thread count hit : ℕ) → whole ≡ before ++ Put driver replica thread count hit ∷ rest →
       (core : Core) (reached : Reached job odds before core) → MayPut job core driver replica thread count hit → 0 < hit →
-      Struck job Q replica core reached.holds.machine
+      Struck job (Q (before ++ Put driver replica thread count hit ∷ [])) replica core reached.holds.machine
+  pub calm : (odds : List ℕ) (before : List Entry) (entry : Entry) → IsCalm entry → Q before odds → Q (before ++ entry ∷ []) odds
+  pub scrubbed : (odds : List ℕ) (before : List Entry) (won : ℕ) (lost : Lost) → Q before odds → AtMostHalf job.settings.replicas odds → Scrubbed job (Q (before ++ Scrub won lost ∷ []))
 
 -- A legal journal goes on, or has ended by its last entry.
-pub data Stage (job : Job) (Q : List ℕ → Type 0) (journal : List Entry) (core : Core) : Type 0 where
-  goes_on : (odds : List ℕ) → Q odds → Reached job odds journal core → Stage job Q journal core
-  has_ended : (before : List Entry) (how : How) (odds : List ℕ) (last : Core) → Q odds → journal ≡ before ++ End how ∷ [] → Reached job odds before last → MayEnd job last how → core ≡ after job last (End how) → Stage job Q journal core
+pub data Stage (job : Job) (Q : List Entry → List ℕ → Type 0) (journal : List Entry) (core : Core) : Type 0 where
+  goes_on : (odds : List ℕ) → Q journal odds → Reached job odds journal core → Stage job Q journal core
+  has_ended : (before : List Entry) (how : How) (odds : List ℕ) (last : Core) → Q before odds → journal ≡ before ++ End how ∷ [] → Reached job odds before last → MayEnd job last how → core ≡ after job last (End how) → Stage job Q journal core
 
 -- one entry
-pub data AfterEntry (job : Job) (Q : List ℕ → Type 0) (journal : List Entry) (core : Core) (entry : Entry) : Type 0 where
-  is_step : (odds : List ℕ) → Q odds → IsStep entry → TracksIdeal job odds (journal ++ entry ∷ []) (after job core entry) → AfterEntry job Q journal core entry
+pub data AfterEntry (job : Job) (Q : List Entry → List ℕ → Type 0) (journal : List Entry) (core : Core) (entry : Entry) : Type 0 where
+  is_step : (odds : List ℕ) → Q (journal ++ entry ∷ []) odds → IsStep entry → TracksIdeal job odds (journal ++ entry ∷ []) (after job core entry) → AfterEntry job Q journal core entry
   is_end : (how : How) → entry ≡ End how → MayEnd job core how → AfterEntry job Q journal core entry
 
-module _ (job : Job) (free : RaceFree job.program) (Q : List ℕ → Type 0) (whole : List Entry) (policy : Policy job Q whole) where
+module _ (job : Job) (free : RaceFree job.program) (Q : List Entry → List ℕ → Type 0) (whole : List Entry) (policy : Policy job Q whole) where
   -- the invariant after a put, with or without a strike
-  after-put : (odds : List ℕ) (q : Q odds) (journal rest : List Entry) (driver replica thread count hit : ℕ) → whole ≡ journal ++ Put driver replica thread count hit ∷ rest → (core : Core) (reached : Reached job odds journal core) → MayPut job core driver replica thread count hit → AfterEntry job Q journal core (Put driver replica thread count hit)
-  after-put odds q journal rest driver replica thread count zero whole_is core reached may =
-      is_step odds q puts (after-calm-put job odds journal core reached.holds driver replica thread count 0 may free refl)
-  after-put odds q journal rest driver replica thread count (suc hit) whole_is core reached may =
-      let s = policy.strikes odds q journal rest driver replica thread count (suc hit) whole_is core reached may (omega arith) in
+  after-put : (odds : List ℕ) (journal rest : List Entry) (q : Q journal odds) (driver replica thread count hit : ℕ) → whole ≡ journal ++ Put driver replica thread count hit ∷ rest → (core : Core) (reached : Reached job odds journal core) → MayPut job core driver replica thread count hit → AfterEntry job Q journal core (Put driver replica thread count hit)
+  after-put odds journal rest q driver replica thread count zero whole_is core reached may =
+      is_step odds (policy.calm odds journal (Put driver replica thread count 0) (puts_calm refl) q) puts (after-calm-put job odds journal core reached.holds driver replica thread count 0 may free refl)
+  after-put odds journal rest q driver replica thread count (suc hit) whole_is core reached may =
+      let s = policy.strikes odds journal rest q driver replica thread count (suc hit) whole_is core reached may (omega arith) in
       is_step s.odds s.allows puts (after-struck-put job odds journal core reached.holds driver replica thread count (suc hit) may s.odds s.few s.is_odd s.others)
 
   -- the invariant after an entry
-  after-entry : (odds : List ℕ) (q : Q odds) (journal rest : List Entry) (entry : Entry) → whole ≡ journal ++ entry ∷ rest → (core : Core) (reached : Reached job odds journal core) → IsAllowed job core entry → AfterEntry job Q journal core entry
-  after-entry odds q journal rest (Take driver replica thread) whole_is core reached h = is_step odds q takes (after-take job odds journal core reached.holds driver replica thread h)
-  after-entry odds q journal rest (Put driver replica thread count hit) whole_is core reached h = after-put odds q journal rest driver replica thread count hit whole_is core reached h
-  after-entry odds q journal rest (Vote thread count won lost did) whole_is core reached h = is_step odds q votes (after-vote job free odds journal core reached.holds thread count won did lost h).holds
-  after-entry odds q journal rest (Free thread) whole_is core reached h = is_step odds q frees (after-free job free odds journal core reached.holds thread h)
-  after-entry odds q journal rest (End how) whole_is core reached h = is_end how refl h.1
+  after-entry : (odds : List ℕ) (journal rest : List Entry) (q : Q journal odds) (entry : Entry) → whole ≡ journal ++ entry ∷ rest → (core : Core) (reached : Reached job odds journal core) → IsAllowed job core entry → AfterEntry job Q journal core entry
+  after-entry odds journal rest q (Take driver replica thread) whole_is core reached h = is_step odds (policy.calm odds journal (Take driver replica thread) takes_calm q) takes (after-take job odds journal core reached.holds driver replica thread h)
+  after-entry odds journal rest q (Put driver replica thread count hit) whole_is core reached h = after-put odds journal rest q driver replica thread count hit whole_is core reached h
+  after-entry odds journal rest q (Vote thread count won lost did) whole_is core reached h = is_step odds (policy.calm odds journal (Vote thread count won lost did) votes_calm q) votes (after-vote job free odds journal core reached.holds thread count won did lost h).holds
+  after-entry odds journal rest q (Free thread) whole_is core reached h = is_step odds (policy.calm odds journal (Free thread) frees_calm q) frees (after-free job free odds journal core reached.holds thread h)
+  after-entry odds journal rest q (Scrub won lost) whole_is core reached h =
+      let s = policy.scrubbed odds journal won lost q reached.holds.few in
+      is_step s.odds s.allows scrubs ((after-scrub job free odds journal core reached.holds won lost h).holds s.odds s.few)
+  after-entry odds journal rest q (End how) whole_is core reached h = is_end how refl h.1
 
   -- a journal that ends here
-  stage-end : (odds : List ℕ) (q : Q odds) (journal rest : List Entry) (core : Core) (how : How) → Reached job odds journal core → MayEnd job core how → rest ≡ [] → Stage job Q (journal ++ End how ∷ rest) (replay_from job (after job core (End how)) rest)
-  stage-end odds q journal rest core how reached may none =
+  stage-end : (odds : List ℕ) (journal rest : List Entry) (q : Q journal odds) (core : Core) (how : How) → Reached job odds journal core → MayEnd job core how → rest ≡ [] → Stage job Q (journal ++ End how ∷ rest) (replay_from job (after job core (End how)) rest)
+  stage-end odds journal rest q core how reached may none =
       has_ended journal how odds core q (ap (λ (r : List Entry). journal ++ End how ∷ r) none) reached may (ap (replay_from job (after job core (End how))) none)
 
   -- the invariant after any number of entries
-  pub reach : (odds : List ℕ) (q : Q odds) (journal rest tail : List Entry) (core : Core) → whole ≡ journal ++ (rest ++ tail) → Reached job odds journal core → LegalFrom job core rest → Stage job Q (journal ++ rest) (replay_from job core rest)
-  reach odds q journal [] tail core whole_is reached legal = goes_on odds q (subst (λ (j : List Entry). Reached job odds j core) (sym (append-nil journal)) reached)
-  reach odds q journal (entry ∷ rest) tail core whole_is reached legal =
-      after-reach odds q journal rest tail core entry whole_is reached legal.1 (after-entry odds q journal (rest ++ tail) entry whole_is core reached legal.0)
-      (λ odds' q' reached'. reach odds' q' (journal ++ entry ∷ []) rest tail (after job core entry) (whole_is ∙ sym (append_assoc journal (entry ∷ []) (rest ++ tail))) reached' legal.1)
+  pub reach : (odds : List ℕ) (journal rest tail : List Entry) (q : Q journal odds) (core : Core) → whole ≡ journal ++ (rest ++ tail) → Reached job odds journal core → LegalFrom job core rest → Stage job Q (journal ++ rest) (replay_from job core rest)
+  reach odds journal [] tail q core whole_is reached legal =
+      goes_on odds (subst (λ (j : List Entry). Q j odds) (sym (append-nil journal)) q) (subst (λ (j : List Entry). Reached job odds j core) (sym (append-nil journal)) reached)
+  reach odds journal (entry ∷ rest) tail q core whole_is reached legal =
+      after-reach odds journal rest tail q core entry whole_is reached legal.1 (after-entry odds journal (rest ++ tail) q entry whole_is core reached legal.0)
+      (λ odds' q' reached'. reach odds' (journal ++ entry ∷ []) rest tail q' (after job core entry) (whole_is ∙ sym (append_assoc journal (entry ∷ []) (rest ++ tail))) reached' legal.1)
     where
-      after-reach : (odds : List ℕ) (q : Q odds) (journal rest tail : List Entry) (core : Core) (entry : Entry) → whole ≡ journal ++ (entry ∷ (rest ++ tail)) → Reached job odds journal core → LegalFrom job (after job core entry) rest → AfterEntry job Q journal core entry
-          → ((odds' : List ℕ) → Q odds' → Reached job odds' (journal ++ entry ∷ []) (after job core entry) → Stage job Q ((journal ++ entry ∷ []) ++ rest) (replay_from job (after job core entry) rest))
+      after-reach : (odds : List ℕ) (journal rest tail : List Entry) (q : Q journal odds) (core : Core) (entry : Entry) → whole ≡ journal ++ (entry ∷ (rest ++ tail)) → Reached job odds journal core → LegalFrom job (after job core entry) rest → AfterEntry job Q journal core entry
+          → ((odds' : List ℕ) → Q (journal ++ entry ∷ []) odds' → Reached job odds' (journal ++ entry ∷ []) (after job core entry) → Stage job Q ((journal ++ entry ∷ []) ++ rest) (replay_from job (after job core entry) rest))
           → Stage job Q (journal ++ entry ∷ rest) (replay_from job (after job core entry) rest)
-      after-reach odds q journal rest tail core entry whole_is reached legal (is_step odds' q' kind h) later =
+      after-reach odds journal rest tail q core entry whole_is reached legal (is_step odds' q' kind h) later =
           subst (λ (j : List Entry). Stage job Q j (replay_from job (after job core entry) rest)) (append_assoc journal (entry ∷ []) rest) (later odds' q' (reached-next job odds odds' journal core entry kind reached h))
-      after-reach odds q journal rest tail core entry whole_is reached legal (is_end how same may) later =
+      after-reach odds journal rest tail q core entry whole_is reached legal (is_end how same may) later =
           subst (λ (e : Entry). Stage job Q (journal ++ e ∷ rest) (replay_from job (after job core e) rest)) (sym same)
-          (stage-end odds q journal rest core how reached may
+          (stage-end odds journal rest q core how reached may
           (nothing-after job (after job core (End how)) how rest (after-end-ended job core how) (subst (λ (e : Entry). LegalFrom job (after job core e) rest) same legal)))
 
   -- before an entry that is allowed the journal goes on
   pub record Before (journal : List Entry) (entry : Entry) : Type 0 where
     pub odds : List ℕ
-    pub allows : Q odds
+    pub allows : Q journal odds
     pub reached : Reached job odds journal (replay job journal)
     pub allowed : IsAllowed job (replay job journal) entry
 
   -- the invariant before an entry
-  pub reach-before : (odds : List ℕ) → AtMostHalf job.settings.replicas odds → Q odds → Legal job whole → (journal rest : List Entry) (entry : Entry) → whole ≡ journal ++ entry ∷ rest → Before journal entry
+  pub reach-before : (odds : List ℕ) → AtMostHalf job.settings.replicas odds → Q [] odds → Legal job whole → (journal rest : List Entry) (entry : Entry) → whole ≡ journal ++ entry ∷ rest → Before journal entry
   reach-before odds few q legal journal rest entry whole_is =
       let parts = legal-split job (opening_core job) journal (entry ∷ rest) (subst (Legal job) whole_is legal) in
-      by parts.1.0 (reach odds q [] journal (entry ∷ rest) (opening_core job) whole_is (opening-reached job odds few) parts.0)
+      by parts.1.0 (reach odds [] journal (entry ∷ rest) q (opening_core job) whole_is (opening-reached job odds few) parts.0)
     where
       by : IsAllowed job (replay job journal) entry → Stage job Q journal (replay job journal) → Before journal entry
       by allowed (goes_on o q' r) = record { odds = o; allows = q'; reached = r; allowed = allowed }

@@ -8,7 +8,7 @@ use Rattle.ro_journal.specs.declared.Did.{Did}
 use Rattle.ro_journal.specs.declared.How.{How}
 use Rattle.ro_journal.specs.declared.How.TheVariants.{Exit, Trap, Deadlock, Limit, Differ, NoMajority, Sink}
 use Rattle.ro_journal.specs.declared.Entry.{Entry}
-use Rattle.ro_journal.specs.declared.Entry.TheVariants.{Put, Vote}
+use Rattle.ro_journal.specs.declared.Entry.TheVariants.{Put, Vote, Scrub}
 use Rattle.ro_journal.specs.declared.losers.Lost.{Lost}
 use Rattle.ro_journal.specs.declared.losers.Lost.TheVariants.{Nobody, One, Two}
 use Rattle.ro_journal.specs.Losers.{numbers}
@@ -19,7 +19,7 @@ use Rattle.ro_plain.specs.Order.{RaceFree}
 use Rattle.ro_plain.proofs.Calls.{some-injective, steppable-parts, step-opens}
 use Rattle.ro_plain.proofs.Swap.{run-append}
 use Rattle.ro_legal.specs.Core.{Job, Core, opening_core}
-use Rattle.ro_legal.specs.Legal.{MayEnd, due, alone, for_vote, for_free, after, Legal, MayPut, replay}
+use Rattle.ro_legal.specs.Legal.{MayEnd, due, alone, for_vote, for_free, for_scrub, after, Legal, MayPut, replay}
 use Rattle.ro_legal.specs.Ideal.{IsAlike, AllAlikeBut, StaysApart}
 use Rattle.ro_legal.specs.Sound.{Listed, IsOver}
 use Rattle.ro_vote.specs.Numbers.{is_among, without}
@@ -32,7 +32,8 @@ use Rattle.ro_legal.proofs.Ordered.{put-parts, ordered}
 use Rattle.ro_legal.proofs.Sound.{HasFault}
 use Rattle.ro_plain.proofs.StaysAfter.{live-within}
 use Rattle.ro_simulation.proofs.Entries.{put-fault, put-going}
-use Rattle.ro_simulation.proofs.Ends.{never-differ}
+use Rattle.ro_simulation.proofs.Ends.{never-differ, never-differ-still}
+use Rattle.ro_simulation.proofs.Scrubs.{going as going-still, after-scrub}
 use Rattle.ro_simulation.proofs.Votes.{after-vote}
 use Rattle.ro_simulation.proofs.Journals.{outcome-ended, after-end-ended, Reached, Policy, Stage, goes_on, has_ended, Before, legal-split, reach-before}
 use Rattle.ro_simulation.proofs.Simulates.{stage}
@@ -66,24 +67,26 @@ module _ (job : Job) (journal : List Entry) (names : NamesFew job) where
   one-of-named replica f = ap (is_among names.named) (sym f.1) ∙ names.all f.0 f.2
 
   -- the named replicas are the odd ones throughout
-  pub named-policy : Policy job (λ odds. odds ≡ names.named) journal
+  pub named-policy : Policy job (λ before odds. odds ≡ names.named) journal
   named-policy = record {
-    strikes = λ odds q before rest driver replica thread count hit whole core reached may some. record {
+    strikes = λ odds before rest q driver replica thread count hit whole core reached may some. record {
       odds = names.named;
       allows = refl;
       few = names.few;
       is_odd = one-of-named replica (put-fault job odds before core reached.holds driver replica thread count hit may some);
       others = λ number r d e. reached.holds.others_agree (put-going job odds before core reached.holds driver replica thread count hit may).0 number r (ap (λ (l : List ℕ). is_among l number) q ∙ d) e;
     };
+    calm = λ odds before entry calm q. q;
+    scrubbed = λ odds before won lost q few. record { odds = odds; allows = q; few = few };
   }
 
   -- where a fault strikes, all but the named replicas are alike
   pub at-strike : RaceFree job.program → Legal job journal → (before rest : List Entry) (driver replica thread count hit : ℕ) →
       journal ≡ before ++ Put driver replica thread count hit ∷ rest → 0 < hit → IsTrue (is_among names.named replica) × AllAlikeBut job before names.named
   at-strike free legal before rest driver replica thread count hit whole some = at
-      (reach-before job free (λ odds. odds ≡ names.named) journal named-policy names.named names.few refl legal before rest (Put driver replica thread count hit) whole)
+      (reach-before job free (λ before odds. odds ≡ names.named) journal named-policy names.named names.few refl legal before rest (Put driver replica thread count hit) whole)
     where
-      at : Before job free (λ odds. odds ≡ names.named) journal named-policy before (Put driver replica thread count hit) → IsTrue (is_among names.named replica) × AllAlikeBut job before names.named
+      at : Before job free (λ before odds. odds ≡ names.named) journal named-policy before (Put driver replica thread count hit) → IsTrue (is_among names.named replica) × AllAlikeBut job before names.named
       at h =
           let going = (put-going job h.odds before (replay job before) h.reached.holds driver replica thread count hit h.allowed).0 in (
             one-of-named replica (put-fault job h.odds before (replay job before) h.reached.holds driver replica thread count hit h.allowed some),
@@ -170,21 +173,33 @@ none-listed job none = record {
 }
 
 module _ (job : Job) (journal : List Entry) (free : RaceFree job.program) (none : job.faults ≡ []) (legal : Legal job journal) where
+  -- a list without a number is of nobody
+  nobody : (lost : Lost) → ((l : ℕ) → is_among (numbers lost) l ≡ true → ⊥) → lost ≡ Nobody
+  nobody Nobody none = refl
+  nobody (One l) none = absurd (none l (ap (λ (b : Bool). b || false) (eq-eqb l l refl)))
+  nobody (Two l m) none = absurd (none l (ap (λ (b : Bool). b || is_among (m ∷ []) l) (eq-eqb l l refl)))
+
   -- no replica is odd, so none loses
   no-loser : (before rest : List Entry) (thread count won : ℕ) (lost : Lost) (did : Did) → journal ≡ before ++ Vote thread count won lost did ∷ rest → lost ≡ Nobody
   no-loser before rest thread count won lost did whole = at
-      (reach-before job free (λ odds. odds ≡ []) journal (named-policy job journal (none-listed job none)) [] (omega arith) refl legal before rest (Vote thread count won lost did) whole)
+      (reach-before job free (λ before odds. odds ≡ []) journal (named-policy job journal (none-listed job none)) [] (omega arith) refl legal before rest (Vote thread count won lost did) whole)
     where
-      odd-none : (odds : List ℕ) → odds ≡ [] → (l : ℕ) → is_among odds l ≡ true → ⊥
-      odd-none odds e l odd = true≢false (sym odd ∙ ap (λ (o : List ℕ). is_among o l) e)
+      at : Before job free (λ before odds. odds ≡ []) journal (named-policy job journal (none-listed job none)) before (Vote thread count won lost did) → lost ≡ Nobody
+      at h = nobody lost (λ l k.
+          let odd = (after-vote job free h.odds before (replay job before) h.reached.holds thread count won did lost h.allowed).losers_odd l k in
+          true≢false (sym odd ∙ ap (λ (o : List ℕ). is_among o l) h.allows))
 
-      none-in : (odds : List ℕ) → odds ≡ [] → (lost : Lost) → ((l : ℕ) → is_among (numbers lost) l ≡ true → is_among odds l ≡ true) → lost ≡ Nobody
-      none-in odds e Nobody odd = refl
-      none-in odds e (One l) odd = absurd (odd-none odds e l (odd l (ap (λ (b : Bool). b || false) (eq-eqb l l refl))))
-      none-in odds e (Two l m) odd = absurd (odd-none odds e l (odd l (ap (λ (b : Bool). b || is_among (m ∷ []) l) (eq-eqb l l refl))))
-
-      at : Before job free (λ odds. odds ≡ []) journal (named-policy job journal (none-listed job none)) before (Vote thread count won lost did) → lost ≡ Nobody
-      at h = none-in h.odds h.allows lost (after-vote job free h.odds before (replay job before) h.reached.holds thread count won did lost h.allowed).losers_odd
+  -- nor does one lose a scrub
+  no-scrub-loser : (before rest : List Entry) (won : ℕ) (lost : Lost) → journal ≡ before ++ Scrub won lost ∷ rest → lost ≡ Nobody
+  no-scrub-loser before rest won lost whole = at
+      (reach-before job free (λ before odds. odds ≡ []) journal (named-policy job journal (none-listed job none)) [] (omega arith) refl legal before rest (Scrub won lost) whole)
+    where
+      at : Before job free (λ before odds. odds ≡ []) journal (named-policy job journal (none-listed job none)) before (Scrub won lost) → lost ≡ Nobody
+      at h = nobody lost (λ l k.
+          let scrub = after-scrub job free h.odds before (replay job before) h.reached.holds won lost h.allowed in
+          let there = scrub.loser_there l k in
+          scrub.losers_differed l there.0 k there.1
+          (h.reached.holds.others_agree (going-still job h.odds before (replay job before) h.reached.holds h.allowed.may) l there.0 (ap (λ (o : List ℕ). is_among o l) h.allows) there.1))
 
   -- two replicas that both agree do not end by a difference
   cannot-differ : (odds : List ℕ) → odds ≡ [] → (before : List Entry) (core : Core) → Reached job odds before core → MayEnd job core Differ → ⊥
@@ -196,15 +211,16 @@ module _ (job : Job) (journal : List Entry) (free : RaceFree job.program) (none 
   cannot-differ odds even before core reached (alone e) = e
   cannot-differ odds even before core reached (for_vote t may e) = never-differ job odds before core reached.holds free even t may e.0 e.1
   cannot-differ odds even before core reached (for_free t may e) = e
+  cannot-differ odds even before core reached (for_scrub may e) = never-differ-still job odds before core reached.holds free even may e.0 e.1
 
   -- without faults no journal ends by a difference
   no-differ : outcome_of journal ≢ Some Differ
-  no-differ e = by (stage job free (λ odds. odds ≡ []) journal (named-policy job journal (none-listed job none)) [] (omega arith) refl legal)
+  no-differ e = by (stage job free (λ before odds. odds ≡ []) journal (named-policy job journal (none-listed job none)) [] (omega arith) refl legal)
     where
       ended : (replay job journal).ended ≡ Some Differ
       ended = outcome-ended job (opening_core job) journal Differ legal e
 
-      by : Stage job (λ odds. odds ≡ []) journal (replay job journal) → ⊥
+      by : Stage job (λ before odds. odds ≡ []) journal (replay job journal) → ⊥
       by (goes_on odds q reached) = let f : None ≡ Some Differ = sym reached.holds.not_ended ∙ ended in cc
       by (has_ended before how odds last q same reached may last_is) =
           let how_is : how ≡ Differ = some-injective (sym (ap (λ (c : Core). c.ended) last_is ∙ after-end-ended job last how) ∙ ended) in
@@ -214,6 +230,7 @@ module _ (job : Job) (journal : List Entry) (free : RaceFree job.program) (none 
   pub never-differs : NeverDiffers journal
   never-differs = record {
     no_loser = no-loser;
+    no_scrub_loser = no-scrub-loser;
     no_end = no-differ;
   }
 

@@ -9,6 +9,7 @@ pub mod Steps
 pub mod Copies
 pub mod Kept
 pub mod Votes
+pub mod Scrubs
 pub mod Entries
 pub mod Frees
 pub mod Ends
@@ -17,12 +18,14 @@ pub mod Alike
 pub mod Journals
 pub mod Simulates
 pub mod Laws
+pub mod Between
 pub mod AtMostOne
 pub mod RowsStruck
 pub mod Checks
 pub mod RowsThreads
 pub mod Strikes
 pub mod RowsWeaker
+pub mod RowsScrub
 pub mod Limits
 pub mod LockingGuest
 pub mod Repeats

@@ -11,7 +11,7 @@ use Rattle.ro_plain.specs.Machine.{IsExecution, AllEnd}
 use Rattle.ro_plain.specs.Order.{RaceFree}
 use Rattle.ro_plain.proofs.Calls.{some-injective}
 use Rattle.ro_legal.specs.Core.{Job, Core, opening_core}
-use Rattle.ro_legal.specs.Legal.{MayEnd, due, alone, for_vote, for_free, Legal, replay}
+use Rattle.ro_legal.specs.Legal.{MayEnd, due, alone, for_vote, for_free, for_scrub, Legal, replay}
 use Rattle.ro_legal.specs.Ideal.{StaysApart}
 use Rattle.ro_legal.specs.Sound.{IsOver}
 use Rattle.ro_simulation.specs.Invariant.{TracksIdeal}
@@ -51,6 +51,7 @@ module _ (job : Job) (free : RaceFree job.program) (odds : List ℕ) (journal : 
     next_is = e.1;
     above = e.2;
   }
+  passed steps next (for_scrub may e) = absurd e
 
 module _ (job : Job) (journal : List Entry) (free : RaceFree job.program) (legal : Legal job journal) (apart : StaysApart job journal) where
   -- the same for a journal with the same plan
@@ -74,12 +75,12 @@ module _ (job : Job) (journal : List Entry) (free : RaceFree job.program) (legal
 
   -- the last entry of a journal that ends
   ends-by : (how : How) → outcome_of journal ≡ Some how → EndsBy how
-  ends-by how e = by (stage job free (λ odds. Unit {0}) journal (apart-policy job journal apart) [] (omega arith) tt legal)
+  ends-by how e = by (stage job free (λ before odds. Unit {0}) journal (apart-policy job journal apart) [] (omega arith) tt legal)
     where
       ended : (replay job journal).ended ≡ Some how
       ended = outcome-ended job (opening_core job) journal how legal e
 
-      by : Stage job (λ odds. Unit {0}) journal (replay job journal) → EndsBy how
+      by : Stage job (λ before odds. Unit {0}) journal (replay job journal) → EndsBy how
       by (goes_on odds q reached) = absurd (let f : None ≡ Some how = sym reached.holds.not_ended ∙ ended in cc)
       by (has_ended before other odds last q same reached may last_is) =
           let how_is : other ≡ how = some-injective (sym (ap (λ (c : Core). c.ended) last_is ∙ after-end-ended job last other) ∙ ended) in
@@ -97,6 +98,7 @@ module _ (job : Job) (journal : List Entry) (free : RaceFree job.program) (legal
   more-cannot core three count (alone e) over = e
   more-cannot core three count (for_vote t may e) over = let two = e.1 in omega arith
   more-cannot core three count (for_free t may e) over = e
+  more-cannot core three count (for_scrub may e) over = let two = e.1 in omega arith
 
   -- so neither three nor five end by a difference
   no-differ-of : 3 ≤ job.settings.replicas → outcome_of journal ≡ Some Differ → ⊥

@@ -5,7 +5,7 @@ use Rattle.std.proofs.lemmas.List.{take-append-drop}
 use Rattle.ro_journal.specs.declared.How.{How}
 use Rattle.ro_journal.specs.declared.How.TheVariants.{Exit, Trap, Deadlock, Limit, Differ, NoMajority, Sink}
 use Rattle.ro_journal.specs.declared.Entry.{Entry}
-use Rattle.ro_journal.specs.declared.Entry.TheVariants.{Vote, End}
+use Rattle.ro_journal.specs.declared.Entry.TheVariants.{Vote, Scrub, End}
 use Rattle.ro_journal.specs.Plan.{outcome_of, plan_of}
 use Rattle.ro_kernel.specs.Kernel.{Kernel, lives_on}
 use Rattle.ro_replica.specs.Replica.{Replica}
@@ -13,18 +13,19 @@ use Rattle.ro_plain.specs.Machine.{Machine}
 use Rattle.ro_plain.specs.Order.{RaceFree}
 use Rattle.ro_plain.proofs.Calls.{some-injective}
 use Rattle.ro_legal.specs.Core.{Job, Core, opening_core}
-use Rattle.ro_legal.specs.Legal.{cut_output, after, MayVote, MayEnd, Legal, replay, output_of}
+use Rattle.ro_legal.specs.Legal.{cut_output, after, MayVote, MayScrub, MayEnd, Legal, replay, output_of}
 use Rattle.ro_legal.specs.Ideal.{ideal, IsAlike, StaysApart}
 use Rattle.ro_vote.specs.Numbers.{is_among, without, AtMostHalf}
 use Rattle.ro_journal.specs.Losers.{numbers}
 use Rattle.ro_vote.proofs.Places.{without-itself}
 use Rattle.std.proofs.lemmas.Bool.{eq-eqb}
 use Rattle.ro_simulation.specs.Invariant.{Agrees, TracksIdeal}
-use Rattle.ro_simulation.specs.Theorem.{payloads_of, IsFront, FewDiffer, GoesOn, AlikeAt, HaveEqualViews, HaveEqualPages, CopiesWell, EachCopiesWell, EndsAs, Simulates, TwoThreeOrFive}
+use Rattle.ro_simulation.specs.Theorem.{payloads_of, IsFront, FewDiffer, GoesOn, AlikeAt, HaveEqualViews, HaveEqualPages, CopiesWell, EachCopiesWell, ScrubsWell, EachScrubsWell, EndsAs, Simulates, TwoThreeOrFive}
 use Rattle.ro_simulation.proofs.Alike.{agrees-is-alike, alike-agrees}
 use Rattle.ro_simulation.proofs.Views.{arrives, equal-views}
 use Rattle.ro_simulation.proofs.Kept.{ideal-same}
 use Rattle.ro_simulation.proofs.Votes.{stopped-in, vote-parts, AfterVote, after-vote}
+use Rattle.ro_simulation.proofs.Scrubs.{going as going-still, scrub-replicas, AfterScrub, after-scrub}
 use Rattle.ro_simulation.proofs.Ends.{end-as}
 use Rattle.ro_simulation.proofs.Journals.{replay-append, payloads-append, outcome-ended, ended-outcome, after-end-ended, Reached, opening-reached, Policy, Stage, goes_on, has_ended, reach, reach-before}
 
@@ -76,9 +77,9 @@ module _ (job : Job) (free : RaceFree job.program) (odds : List ℕ) (journal be
 -- ---- faults stay apart
 
 -- the others are alike where faults are struck
-pub apart-policy : (job : Job) (journal : List Entry) → StaysApart job journal → Policy job (λ odds. Unit {0}) journal
+pub apart-policy : (job : Job) (journal : List Entry) → StaysApart job journal → Policy job (λ before odds. Unit {0}) journal
 apart-policy job journal apart = record {
-  strikes = λ odds q before rest driver replica thread count hit whole core reached may some.
+  strikes = λ odds before rest q driver replica thread count hit whole core reached may some.
       let s = apart before rest driver replica thread count hit whole some in
       record {
         odds = replica ∷ s.others;
@@ -87,12 +88,14 @@ apart-policy job journal apart = record {
         is_odd = ap (λ (b : Bool). b || is_among s.others replica) (eq-eqb replica replica refl);
         others = λ number r d e. alike-agrees job before reached.holds.machine r reached.holds.ideal_is (s.alike number r d (ap (λ (c : Core). slice_get c.replicas number) reached.is_replay ∙ e));
       };
+  calm = λ odds before entry calm q. tt;
+  scrubbed = λ odds before won lost q few. record { odds = odds; allows = tt; few = few };
 }
 
-module _ (job : Job) (free : RaceFree job.program) (Q : List ℕ → Type 0) (journal : List Entry) (policy : Policy job Q journal) (start : List ℕ) (start_few : AtMostHalf job.settings.replicas start) (start_allowed : Q start) (legal : Legal job journal) where
+module _ (job : Job) (free : RaceFree job.program) (Q : List Entry → List ℕ → Type 0) (journal : List Entry) (policy : Policy job Q journal) (start : List ℕ) (start_few : AtMostHalf job.settings.replicas start) (start_allowed : Q [] start) (legal : Legal job journal) where
   -- where the journal stands
   pub stage : Stage job Q journal (replay job journal)
-  stage = reach job free Q journal policy start start_allowed [] journal [] (opening_core job) (sym (append-nil journal)) (opening-reached job start start_few) legal
+  stage = reach job free Q journal policy start [] journal [] start_allowed (opening_core job) (sym (append-nil journal)) (opening-reached job start start_few) legal
 
   -- each copy is good
   pub copies-well : EachCopiesWell job journal
@@ -127,6 +130,29 @@ module _ (job : Job) (free : RaceFree job.program) (Q : List ℕ → Type 0) (jo
               (all.others_agree on_all number r d
               (ap (λ (c : Core). slice_get c.replicas number) (sym (replay-append job (opening_core job) before (Vote thread count won lost did ∷ []))) ∙ there))
 
+  -- each scrub is good
+  pub scrubs-well : EachScrubsWell job journal
+  scrubs-well before rest won lost whole =
+      let b = reach-before job free Q journal policy start start_few start_allowed legal before rest (Scrub won lost) whole in
+      by b.odds b.reached b.allowed
+    where
+      by : (odds : List ℕ) (reached : Reached job odds before (replay job before)) → MayScrub (replay job before) won lost → ScrubsWell job before (Scrub won lost) won (numbers lost)
+      by odds reached may = record {
+        winner_alike = λ winner there. agrees-is-alike job before reached.holds.machine winner reached.holds.ideal_is on (scrubbed.winner_agrees winner there);
+        losers_differed = λ l r k there alike. scrubbed.losers_differed l r k there (alike-agrees job before reached.holds.machine r reached.holds.ideal_is alike);
+        then_all = λ number r there.
+            agrees-is-alike job (before ++ Scrub won lost ∷ []) reached.holds.machine r (ideal-same job before (Scrub won lost) refl ∙ reached.holds.ideal_is) on
+            (scrubbed.all_agree number r
+            (ap (λ (rs : List Replica). slice_get rs number)
+            (sym (ap (λ (c : Core). c.replicas) (replay-append job (opening_core job) before (Scrub won lost ∷ [])) ∙ scrub-replicas job (replay job before) won lost)) ∙ there));
+      }
+        where
+          on : reached.holds.machine.ended ≡ None
+          on = going-still job odds before (replay job before) reached.holds may.may
+
+          scrubbed : AfterScrub job before (replay job before) reached.holds.machine won lost
+          scrubbed = after-scrub job free odds before (replay job before) reached.holds won lost may
+
   -- the opening has not ended
   opening_not_ended : (opening_core job).ended ≡ None
   opening_not_ended = (opening-reached job start start_few).holds.not_ended
@@ -153,6 +179,7 @@ module _ (job : Job) (free : RaceFree job.program) (Q : List ℕ → Type 0) (jo
       equal_views = equal-views-of job free odds journal journal (replay job journal) reached.holds same_state;
       equal_pages = equal-pages job free odds journal journal (replay job journal) reached.holds same_state;
       copies = copies-well;
+      scrubs = scrubs-well;
       ends_as = λ how e. absurd (let f : None ≡ Some how = sym reached.holds.not_ended ∙ outcome-ended job (opening_core job) journal how legal e in cc);
     }
 
@@ -223,6 +250,7 @@ module _ (job : Job) (free : RaceFree job.program) (Q : List ℕ → Type 0) (jo
       equal_views = equal-views-of job free odds journal before last reached.holds ended_state;
       equal_pages = equal-pages job free odds journal before last reached.holds ended_state;
       copies = copies-well;
+      scrubs = scrubs-well;
       ends_as = λ other e. subst (EndsAs job.program reached.holds.machine) (some-injective (sym outcome_is ∙ e)) (end-as job odds before last reached.holds free count how may);
     }
 
@@ -236,4 +264,4 @@ module _ (job : Job) (free : RaceFree job.program) (Q : List ℕ → Type 0) (jo
 
 -- the simulation theorem
 pub simulates : (job : Job) (journal : List Entry) → RaceFree job.program → TwoThreeOrFive job → Legal job journal → StaysApart job journal → Simulates job journal
-simulates job journal free count legal apart = simulates-with job free (λ odds. Unit {0}) journal (apart-policy job journal apart) [] (omega arith) tt legal count
+simulates job journal free count legal apart = simulates-with job free (λ before odds. Unit {0}) journal (apart-policy job journal apart) [] (omega arith) tt legal count

@@ -2,7 +2,7 @@
 use Rattle.std.specs.Prelude.{◌≡◌, ℕ, zero, suc, ◌<◌, List, [], ◌∷◌, ◌++◌}
 use Rattle.std.proofs.Common.{refl, sym, subst, arith, append_assoc, append-nil}
 use Rattle.ro_journal.specs.declared.Entry.{Entry}
-use Rattle.ro_journal.specs.declared.Entry.TheVariants.{Take, Put, Vote, Free, End}
+use Rattle.ro_journal.specs.declared.Entry.TheVariants.{Take, Put, Vote, Free, Scrub, End}
 
 -- the property holds of what comes before each such put, and of its replica
 abbrev pub EachStrike : (List Entry → ℕ → Type 0) → List Entry → List Entry → Type 0
@@ -17,6 +17,7 @@ later P past (Put driver replica thread count zero) rest h = h
 later P past (Take driver replica thread) rest h = h
 later P past (Vote thread count won lost did) rest h = h
 later P past (Free thread) rest h = h
+later P past (Scrub won lost) rest h = h
 later P past (End how) rest h = h
 
 -- at a put that strikes

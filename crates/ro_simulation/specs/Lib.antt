@@ -4,5 +4,6 @@ pub mod Guests
 pub mod Rows
 pub mod Drives
 pub mod Weaker
+pub mod Scrubbed
 pub mod Repeated
 pub mod AtMostOne

@@ -10,13 +10,14 @@ ghost use Rattle.ro_plain.specs.Order.{RaceFree};
 ghost use Rattle.ro_legal.specs.Core.{Job};
 ghost use Rattle.ro_legal.specs.Legal.{Legal};
 ghost use Rattle.ro_legal.specs.Ideal.{StaysApart};
-ghost use Rattle.ro_simulation.specs.Theorem.{Simulates, TwoThreeOrFive, WritesAsIdeal, AllOfOne, NamesFew, StaysAlone, NeverDiffers, PassedLimit, CannotDiffer, EndsComplete, IsComplete};
+ghost use Rattle.ro_simulation.specs.Theorem.{Simulates, TwoThreeOrFive, WritesAsIdeal, AllOfOne, NamesFew, StrikesFewBetweenScrubs, StaysAlone, NeverDiffers, PassedLimit, CannotDiffer, EndsComplete, IsComplete};
 ghost use Rattle.ro_simulation.specs.AtMostOne.{TwoOrThree, StrikesAlone, OneDiffers};
 ghost use Rattle.ro_simulation.specs.Repeated.{IsRepeated};
 ghost use Rattle.ro_simulation.specs.Guests.{exit_guest, locking_guest, usual_job};
 ghost use Rattle.ro_simulation.specs.Rows.{flip_a0, one_struck, two_struck, IsCovered};
 ghost use Rattle.ro_simulation.specs.Drives.{driven};
 ghost use Rattle.ro_simulation.specs.Weaker.{StaysNearlyApart, loading_guest, slipping, slipped};
+ghost use Rattle.ro_simulation.specs.Scrubbed.{hidden, scrubbed, unscrubbed};
 ghost use Rattle.ro_journal.specs.Plan.{outcome_of};
 
 /// The simulation theorem: in a legal journal of a race-free program whose faults stay apart, two, three or five
@@ -48,6 +49,12 @@ pub fn two_or_three_replicas()
 /// Few struck replicas stay apart: where all faults name at most half of the replicas, they stay apart.
 pub fn few_struck_replicas()
     ensures { (job : Job) (journal : List Entry) → RaceFree job.program → NamesFew job → Legal job journal → StaysApart job journal }
+{}
+
+/// Few struck replicas between scrubs stay apart: where faults strike at most half of the replicas from each scrub to the
+/// next, each time whichever they like, they stay apart.
+pub fn few_struck_between_scrubs()
+    ensures { (job : Job) (journal : List Entry) → RaceFree job.program → Legal job journal → StrikesFewBetweenScrubs job journal → StaysApart job journal }
 {}
 
 /// One struck replica stays apart: where all faults name one replica, they strike none while another differs.
@@ -102,4 +109,12 @@ pub fn weaker_alike_row()
     ensures nearly_apart { StaysNearlyApart (usual_job loading_guest slipping) slipped }
     ensures no_majority { outcome_of slipped ≡ Some NoMajority }
     ensures not_apart { StaysApart (usual_job loading_guest slipping) slipped → ⊥ }
+{}
+
+/// A row: two replicas are struck where nothing reads, one after the other. With a scrub between them faults stay apart, and
+/// without one they do not.
+pub fn scrubbed_row()
+    ensures covered { IsCovered (usual_job loading_guest hidden) scrubbed (Exit 7) [] }
+    ensures legal { Legal (usual_job loading_guest hidden) unscrubbed }
+    ensures not_apart { StaysApart (usual_job loading_guest hidden) unscrubbed → ⊥ }
 {}

@@ -11,7 +11,7 @@ push_reserved-requires c = let room = conclude-room (fields_of c.args.self.now) 
 pub returns-clause-holds : goal.returns-clause-holds
 returns-clause-holds c =
     let room = conclude-room (fields_of c.args.self.now) c.requires.holds c.args.how c.requires.going c.requires.allowed in
-    conclude-holds (fields_of c.args.self.now) c.requires.holds c.args.how c.requires.going c.requires.allowed c.requires.not_sink _ refl refl refl refl refl refl refl refl refl refl refl c.push_reserved.ensures.items
+    conclude-holds (fields_of c.args.self.now) c.requires.holds c.args.how c.requires.going c.requires.allowed c.requires.not_sink _ refl refl refl refl refl refl refl refl refl refl refl refl c.push_reserved.ensures.items
     (omega (arith, room, c.push_reserved.ensures.len, c.push_reserved.ensures.capacity)) c.requires.views
 
 pub returns-clause-quiet : goal.returns-clause-quiet

@@ -112,6 +112,7 @@ occur-requires c =
             setup = setup;
             blocked = refl;
             steps = refl;
+            scrubbed = refl;
             sent = refl;
             ended = refl;
             views = refl;

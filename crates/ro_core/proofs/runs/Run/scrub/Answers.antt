@@ -1,0 +1,49 @@
+use Rattle.std.proofs.Common.{◌≡◌, ◌≤◌, ◌++◌, ◌∷◌, [], List, Option, length, map, refl, sym, ap, ◌∙◌, subst}
+use Rattle.ro_journal.specs.declared.How.{How}
+use Rattle.ro_journal.specs.declared.Entry.{Entry}
+use Rattle.ro_journal.specs.declared.Entry.TheVariants.{End}
+use Rattle.ro_journal.specs.Losers.{numbers}
+use Rattle.ro_vote.specs.Prevails.{Prevails, NonePrevails}
+use Rattle.ro_replica.specs.Seen.{ReplicaOf}
+use Rattle.ro_legal.specs.Legal.{IsAllowed, MayEnd}
+use Rattle.ro_legal.specs.Decides.{DecidesScrub}
+use Rattle.ro_core.specs.Fields.{Fields, AreAllTwins, split_end}
+use Rattle.ro_core.specs.Seated.{seat_snapshot}
+use Rattle.ro_core.specs.Seen.{KeepsViews, Appends}
+use Rattle.ro_core.specs.Runs.{fields_of, state_of, WithAnySink}
+use Rattle.ro_core.proofs.Scrubs.{scrub-few, scrub-twins, scrub-won, scrub-none, scrub-not-over, scrub-ends, scrub-may-end, scrub-keeps}
+use Rattle.ro_core.proofs.runs.Run.scrub.Goals as goal
+
+pub prevailing-requires-clause-few : goal.prevailing-requires-clause-few
+prevailing-requires-clause-few c = subst (λ (xs : List (Option ReplicaOf)). length xs ≤ 5) (sym c.as_slice.ensures.value) (scrub-few (fields_of c.args.self.now) c.requires.holds c.requires.may)
+
+pub prevailing-requires-clause-twins : goal.prevailing-requires-clause-twins
+prevailing-requires-clause-twins c = subst AreAllTwins (sym c.as_slice.ensures.value) (scrub-twins (fields_of c.args.self.now) c.requires.holds c.requires.may)
+
+pub clean-requires : goal.clean-requires
+clean-requires c = record {
+  scrubbed = scrub-won (fields_of c.args.self.now) c.requires.holds c.requires.may c.in-Some.won.won c.in-Some.won.lost
+      (subst (λ (xs : List (Option ReplicaOf)). Prevails (map (seat_snapshot c.args.self.now.kernel.kernel) xs) c.in-Some.won.won (numbers c.in-Some.won.lost)) c.as_slice.ensures.value c.in-Some.ensures.won);
+}
+
+pub conclude-requires-clause-allowed : goal.conclude-requires-clause-allowed
+conclude-requires-clause-allowed c =
+    let f : Fields = fields_of c.args.self.now in
+    let none = scrub-none f c.requires.holds c.requires.may (subst (λ (xs : List (Option ReplicaOf)). NonePrevails (map (seat_snapshot c.args.self.now.kernel.kernel) xs)) c.as_slice.ensures.value (c.in-None.ensures.none refl)) in
+    subst (MayEnd f.job (state_of c.args.self.now)) (sym (c.split_of-how.ensures ∙ ap split_end (c.len.ensures ∙ c.args.self.now.seats.homes.ok.0))) (scrub-may-end f c.requires.holds c.requires.may none)
+
+pub conclude-requires-clause-views : goal.conclude-requires-clause-views
+conclude-requires-clause-views c =
+    let f : Fields = fields_of c.args.self.now in
+    let none = scrub-none f c.requires.holds c.requires.may (subst (λ (xs : List (Option ReplicaOf)). NonePrevails (map (seat_snapshot c.args.self.now.kernel.kernel) xs)) c.as_slice.ensures.value (c.in-None.ensures.none refl)) in
+    subst (λ (how : How). KeepsViews f.job (f.journal ++ End how ∷ []) f.views) (sym (c.split_of-how.ensures ∙ ap split_end (c.len.ensures ∙ c.args.self.now.seats.homes.ok.0))) (scrub-keeps f c.requires.holds c.requires.may none)
+
+pub returns-in-None-clause-entry : goal.returns-in-None-clause-entry
+returns-in-None-clause-entry c =
+    let f : Fields = fields_of c.args.self.now in
+    let none = scrub-none f c.requires.holds c.requires.may (subst (λ (xs : List (Option ReplicaOf)). NonePrevails (map (seat_snapshot c.args.self.now.kernel.kernel) xs)) c.as_slice.ensures.value (c.in-None.ensures.none refl)) in
+    let how : c.split_of-how.result ≡ split_end (length f.seats) = c.split_of-how.ensures ∙ ap split_end (c.len.ensures ∙ c.args.self.now.seats.homes.ok.0) in (
+      subst (IsAllowed f.job (state_of c.args.self.now)) (sym (c.conclude.ensures.entry ∙ ap (λ (h : How). End h) how)) (scrub-not-over f c.requires.holds c.requires.may, scrub-may-end f c.requires.holds c.requires.may none),
+      subst (DecidesScrub (state_of c.args.self.now)) (sym (c.conclude.ensures.entry ∙ ap (λ (h : How). End h) how)) (scrub-ends f c.requires.holds c.requires.may none),
+      subst (λ (e : Entry). WithAnySink (λ old new. Appends old new e) c.args.self.now c.conclude.new.self) (sym c.conclude.ensures.entry) c.conclude.ensures.appends,
+    )

@@ -10,7 +10,9 @@ use Rattle.ro_journal.specs.Plan.{plan_of}
 use Rattle.ro_report.specs.declared.answers.Answer.{Answer}
 use Rattle.ro_report.specs.declared.answers.Answer.TheVariants.{Exit, Deadlock, Trap, Unended, Differ, NoMajority, Limit, SinkFailed, NoStep, NoRace, Race, NoMemory}
 use Rattle.ro_vote.specs.Votes.{NoneIsHeld}
-use Rattle.ro_legal.specs.Core.{Job, may_vote, may_free}
+use Rattle.ro_vote.specs.Prevails.{NonePrevails}
+use Rattle.ro_replica.specs.Snapshots.{Snapshot}
+use Rattle.ro_legal.specs.Core.{Job, may_vote, may_free, snapshots_of}
 use Rattle.ro_legal.specs.Legal.{is_stuck, EndsVote, EndsFree, replay}
 use Rattle.ro_machine.specs.Lengths.{IsTooLong as IsLongPlan, IsLength}
 use Rattle.ro_machine.specs.Plans.{RunsPlan, LacksStep, BreaksOff, StopsShort}
@@ -18,7 +20,7 @@ use Rattle.ro_plain.specs.Machine.{Program}
 use Rattle.ro_races.specs.declared.found.Found.TheVariants.{NoRace as NoneFound, Pair}
 use Rattle.ro_races.specs.Follows.{Checks, LacksStep as LacksCheckedStep}
 use Rattle.ro_core.specs.Seen.{offered_by}
-use Rattle.ro_core.specs.Driven.{ShowsLast}
+use Rattle.ro_core.specs.Driven.{ShowsLast, ScrubsLast}
 
 -- ---- ends of a run
 
@@ -58,6 +60,20 @@ pub record AreSplit (job : Job) (journal : List Entry) (views : List View) : Typ
   pub count : (length views ≡ 3) ⊎ (length views ≡ 5)
   pub split : NoneIsHeld views
 
+-- Two replicas that a scrub compared, which are not equal. No thread was voted on, so there are no views.
+pub record AreTwoWhole (job : Job) (journal : List Entry) (views : List View) : Type 0 where
+  pub scrubs : ScrubsLast job journal views
+  pub one : Snapshot
+  pub other : Snapshot
+  pub snapshots_are : snapshots_of (replay job scrubs.before) ≡ one ∷ other ∷ []
+  pub differ : one ≢ other
+
+-- Three or five replicas that a scrub compared, of which no more than half are equal.
+pub record AreSplitWhole (job : Job) (journal : List Entry) (views : List View) : Type 0 where
+  pub scrubs : ScrubsLast job journal views
+  pub count : (length (snapshots_of (replay job scrubs.before)) ≡ 3) ⊎ (length (snapshots_of (replay job scrubs.before)) ≡ 5)
+  pub split : NonePrevails (snapshots_of (replay job scrubs.before))
+
 -- The vote or the free in whose place the end stands would have added so many steps to the plan, and passed the limit.
 pub record EndsAtLimit (job : Job) (journal : List Entry) (steps next : ℕ) : Type 0 where
   pub before : List Entry
@@ -78,8 +94,8 @@ pub record CutsWrite (job : Job) (journal : List Entry) (taken : ℕ) : Type 0 w
 -- answer.
 abbrev pub EndCause : Job → List Entry → (views : List View) → (before after sure : ℕ) → Answer → Type 0
 EndCause job journal views before after sure Deadlock = IsStuck job journal
-EndCause job journal views before after sure Differ = AreTwo job journal views
-EndCause job journal views before after sure NoMajority = AreSplit job journal views
+EndCause job journal views before after sure Differ = AreTwo job journal views ⊎ AreTwoWhole job journal views
+EndCause job journal views before after sure NoMajority = AreSplit job journal views ⊎ AreSplitWhole job journal views
 EndCause job journal views before after sure (Limit steps next) = EndsAtLimit job journal steps next
 EndCause job journal views before after sure (SinkFailed taken) = CutsWrite job journal taken × Rose before after × (sure < length (offered_by job journal))
 EndCause job journal views before after sure (Exit status) = ⊤

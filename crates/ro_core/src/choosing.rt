@@ -54,13 +54,8 @@ impl Run {
     {
         match self.lowest_to_lend() {
             Some(action) => action,
-            None => {
-                if self.leases.is_empty() {
-                    Action::Scrub
-                } else {
-                    Action::Wait
-                }
-            }
+            None if self.leases.is_empty() => Action::Scrub,
+            None => Action::Wait,
         }
     }
 

@@ -178,3 +178,11 @@ same_words [] [] l h = refl
 same_words [] (y ∷ ys) l h = absurd (omega arith)
 same_words (x ∷ xs) [] l h = absurd (omega arith)
 same_words (x ∷ xs) (y ∷ ys) l h = ap₂ (λ (z : ℕ) (zs : List ℕ). z ∷ zs) (h 0 (omega arith)) (same_words xs ys (omega arith) (λ i m. h (suc i) (omega arith)))
+
+-- words with the same bytes
+pub equal_words : (xs ys : List ℕ) → length xs ≡ length ys → ((i : ℕ) → slice_index xs i < 2 ^ 32) → ((i : ℕ) → slice_index ys i < 2 ^ 32) → bytes_in xs ≡ bytes_in ys → xs ≡ ys
+equal_words xs ys many low below same = same_words xs ys many (λ i l. by i (cases_eq (slice_index xs i) (slice_index ys i)))
+  where
+    by : (i : ℕ) → (slice_index xs i ≡ slice_index ys i) ⊎ (slice_index xs i ≢ slice_index ys i) → slice_index xs i ≡ slice_index ys i
+    by i (inl is) = is
+    by i (inr other) = absurd (other_bytes xs ys i (low i) (below i) other same)

@@ -307,10 +307,5 @@ fn has_same_bytes(one: &[u32; PAGE_WORDS], other: &[u32; PAGE_WORDS]) -> bool
     ensures apart { result ≡ false → bytes_in one.now ≢ bytes_in other.now }
     ensures words { (length one.now ≡ 1024) × (length other.now ≡ 1024) }
 {
-    for i in 0..PAGE_WORDS {
-        if one[i] != other[i] {
-            return false;
-        }
-    }
-    true
+    one == other
 }

@@ -1,11 +1,11 @@
-use Rattle.std.proofs.Common.{arith, ap}
-use Rattle.ro_pages.specs.Words.{bytes_in}
-use Rattle.ro_pages.proofs.WordParts.{other_bytes, same_words}
+use Rattle.std.proofs.Common.{arith, sym, ◌∙◌}
+use Rattle.std.proofs.lemmas.Bool.{true≢false}
+use Rattle.std.proofs.lemmas.Bool.Decides.{Decides-eqb}
+use Rattle.std.proofs.lemmas.Slice.Eq.{slice_eq-Decides}
+use Rattle.ro_pages.proofs.WordParts.{equal_words}
 use Rattle.ro_pages.proofs.table.has_same_bytes.Goals as goal
 
-pub returns-then-one-i-clause-apart : goal.returns-then-one-i-clause-apart
-returns-then-one-i-clause-apart c _ e =
-    other_bytes _ _ c.loop-i.i (omega (arith, c.type_inv.one)) (omega (arith, c.type_inv.other)) (λ same. absurd (omega (arith, same, c.if-one-i.true))) e
-
-pub returns-clause-same : goal.returns-clause-same
-returns-clause-same c _ = ap bytes_in (same_words _ _ (omega (arith, c.told-one, c.told-other)) (λ i l. c.loop-i.invariant i (omega (arith, c.told-one))))
+pub returns-clause-apart : goal.returns-clause-apart
+returns-clause-apart c e same =
+    let is = equal_words c.args.one.now c.args.other.now (omega (arith, c.told-one, c.told-other)) c.fits-one c.fits-other same in
+    true≢false (sym ((slice_eq-Decides Decides-eqb c.args.one.now c.args.other.now c.eq.result c.eq.ensures).1 is) ∙ e)

@@ -27,7 +27,7 @@ use Rattle.ro_plain.proofs.Calls.{some-injective}
 use Rattle.ro_legal.specs.declared.actions.Action.TheVariants as act
 use Rattle.ro_legal.specs.Core.{Job, Core, opening_core, may_free}
 use Rattle.ro_legal.specs.Event.{event_of}
-use Rattle.ro_legal.specs.Legal.{Legal, IsAllowed, HasArrived, arrival, EndsAlone, EndsVote, EndsFree, EndsScrub, MayEnd, after, replay, output_of, due, alone, for_vote, for_free, for_scrub}
+use Rattle.ro_legal.specs.Legal.{Legal, IsAllowed, may_scrub, HasArrived, arrival, EndsAlone, EndsVote, EndsFree, EndsScrub, MayEnd, after, replay, output_of, due, alone, for_vote, for_free, for_scrub}
 use Rattle.ro_legal.specs.Action.{next_action, IsNext}
 use Rattle.ro_simulation.specs.Theorem.{CannotDiffer}
 use Rattle.ro_simulation.specs.Guests.{exit_guest}
@@ -36,7 +36,7 @@ use Rattle.ro_simulation.specs.Drives.{driven}
 use Rattle.ro_simulation.proofs.Checks.{test_legal, legal-by-test}
 use Rattle.ro_rows.specs.Exit.{exit_job}
 use Rattle.ro_rows.specs.Rows.{decisions, deadlock_job, deadlock_before, hello_job}
-use Rattle.ro_rows.specs.Edges.{small_job, waiters_job, two_wait, unlocked, letter_job, all_hits, is_vote, page_limit_job, before_free, exit_runs, until_free, one_lent, both_stand, last_lent, parted_job, parted_runs, parted_pair, hello_written, watch_job, watch_journal}
+use Rattle.ro_rows.specs.Edges.{small_job, waiters_job, two_wait, unlocked, letter_job, all_hits, is_vote, page_limit_job, before_free, exit_runs, until_free, scrubbing, one_runs, one_lent, both_stand, last_lent, parted_job, parted_runs, parted_pair, hello_written, watch_job, watch_journal}
 
 -- a run that does not exist
 no-machine : {P : Type 0} (machine : Machine) (o : Option Machine) → o ≡ Some machine → o ≡ None → P
@@ -307,7 +307,7 @@ parted-two = (refl, for_vote 0 refl (refl, refl))
 
 pub parted-two-majority : IsAllowed (small_job exit_guest (flip_a0 1 ∷ []) 2 1000000000) (replay (small_job exit_guest (flip_a0 1 ∷ []) 2 1000000000) parted_pair) (End NoMajority) → ⊥
 unfolding opening_core opening_replica struck execute applied cancelled recovered verdict_of event_of after next_action first_cpu made_cpu next fetch_stop instruction_stop instruction_of call_at permits_of alu_of taken_by meaning serve payload_of
-parted-two-majority h = no-end (small_job exit_guest (flip_a0 1 ∷ []) 2 1000000000) (replay (small_job exit_guest (flip_a0 1 ∷ []) 2 1000000000) parted_pair) NoMajority refl (λ e. e) (λ thread e. let f : 3 ≤ 2 = e.1 in omega arith) (λ e. e) h.1
+parted-two-majority h = no-end (small_job exit_guest (flip_a0 1 ∷ []) 2 1000000000) (replay (small_job exit_guest (flip_a0 1 ∷ []) 2 1000000000) parted_pair) NoMajority refl (λ e. e) (λ thread e. let f : 3 ≤ 2 = e.1 in omega arith) (λ e. e) (λ e. let f : 3 ≤ 2 = e.1 in omega arith) h.1
 
 pub parted-three : IsAllowed parted_job (replay parted_job parted_runs) (End NoMajority)
 unfolding opening_core opening_replica struck execute applied cancelled recovered verdict_of event_of after next_action first_cpu made_cpu next fetch_stop instruction_stop instruction_of call_at permits_of alu_of taken_by meaning serve payload_of
@@ -315,7 +315,7 @@ parted-three = (refl, for_vote 0 refl (refl, lit≤ tt))
 
 pub parted-three-differ : IsAllowed parted_job (replay parted_job parted_runs) (End Differ) → ⊥
 unfolding opening_core opening_replica struck execute applied cancelled recovered verdict_of event_of after next_action first_cpu made_cpu next fetch_stop instruction_stop instruction_of call_at permits_of alu_of taken_by meaning serve payload_of
-parted-three-differ h = no-end parted_job (replay parted_job parted_runs) Differ refl (λ e. e) (λ thread e. let f : 3 ≡ 2 = e.1 in omega arith) (λ e. e) h.1
+parted-three-differ h = no-end parted_job (replay parted_job parted_runs) Differ refl (λ e. e) (λ thread e. let f : 3 ≡ 2 = e.1 in omega arith) (λ e. e) (λ e. let f : 3 ≡ 2 = e.1 in omega arith) h.1
 
 -- ---- sink_row
 
@@ -329,11 +329,11 @@ sink-all-but-one = (refl, alone (refl, lit< tt))
 
 pub sink-all : IsAllowed hello_job (replay hello_job hello_written) (End (Sink 5)) → ⊥
 unfolding opening_core opening_replica struck execute applied cancelled recovered verdict_of event_of after next_action first_cpu made_cpu next fetch_stop instruction_stop instruction_of call_at permits_of alu_of taken_by meaning serve payload_of
-sink-all h = no-end hello_job (replay hello_job hello_written) (Sink 5) refl (λ e. let f : 5 < 5 = e.1 in omega arith) (λ thread e. e) (λ e. e) h.1
+sink-all h = no-end hello_job (replay hello_job hello_written) (Sink 5) refl (λ e. let f : 5 < 5 = e.1 in omega arith) (λ thread e. e) (λ e. e) (λ e. e) h.1
 
 pub sink-later : IsAllowed hello_job (replay hello_job (hello_written ++ Take 0 0 0 ∷ [])) (End (Sink 0)) → ⊥
 unfolding opening_core opening_replica struck execute applied cancelled recovered verdict_of event_of after next_action first_cpu made_cpu next fetch_stop instruction_stop instruction_of call_at permits_of alu_of taken_by meaning serve payload_of
-sink-later h = no-end hello_job (replay hello_job (hello_written ++ Take 0 0 0 ∷ [])) (Sink 0) refl (λ e. let f : 0 < 0 = e.1 in omega arith) (λ thread e. e) (λ e. e) h.1
+sink-later h = no-end hello_job (replay hello_job (hello_written ++ Take 0 0 0 ∷ [])) (Sink 0) refl (λ e. let f : 0 < 0 = e.1 in omega arith) (λ thread e. e) (λ e. e) (λ e. e) h.1
 
 -- ---- watch_row
 
@@ -352,3 +352,45 @@ watch-legal = legal-by-test watch_job (opening_core watch_job) watch_journal wat
 pub watch-next : next_action watch_job (replay watch_job watch_journal) ≡ act.Lend 0 0
 unfolding opening_core opening_replica struck execute applied cancelled recovered verdict_of event_of after next_action first_cpu made_cpu next fetch_stop instruction_stop instruction_of call_at permits_of alu_of taken_by meaning serve payload_of
 watch-next = refl
+
+-- ---- due_row
+
+pub due-lent : may_scrub (replay deadlock_job one_lent) ≡ false
+unfolding opening_core opening_replica struck execute applied cancelled recovered verdict_of event_of after next_action first_cpu made_cpu next fetch_stop instruction_stop instruction_of call_at permits_of alu_of taken_by meaning serve payload_of
+due-lent = refl
+
+pub due-lendable : may_scrub (replay deadlock_job one_runs) ≡ false
+unfolding opening_core opening_replica struck execute applied cancelled recovered verdict_of event_of after next_action first_cpu made_cpu next fetch_stop instruction_stop instruction_of call_at permits_of alu_of taken_by meaning serve payload_of
+due-lendable = refl
+
+pub due-still : may_scrub (replay deadlock_job both_stand) ≡ true
+unfolding opening_core opening_replica struck execute applied cancelled recovered verdict_of event_of after next_action first_cpu made_cpu next fetch_stop instruction_stop instruction_of call_at permits_of alu_of taken_by meaning serve payload_of
+due-still = refl
+
+pub due-never : next_action deadlock_job (replay deadlock_job both_stand) ≡ act.Vote 0
+unfolding opening_core opening_replica struck execute applied cancelled recovered verdict_of event_of after next_action first_cpu made_cpu next fetch_stop instruction_stop instruction_of call_at permits_of alu_of taken_by meaning serve payload_of
+due-never = refl
+
+pub due-early : next_action (scrubbing (suc (replay deadlock_job both_stand).steps) deadlock_job) (replay deadlock_job both_stand) ≡ act.Vote 0
+unfolding opening_core opening_replica struck execute applied cancelled recovered verdict_of event_of after next_action first_cpu made_cpu next fetch_stop instruction_stop instruction_of call_at permits_of alu_of taken_by meaning serve payload_of
+due-early = refl
+
+pub due-due : next_action (scrubbing (replay deadlock_job both_stand).steps deadlock_job) (replay deadlock_job both_stand) ≡ act.Scrub
+unfolding opening_core opening_replica struck execute applied cancelled recovered verdict_of event_of after next_action first_cpu made_cpu next fetch_stop instruction_stop instruction_of call_at permits_of alu_of taken_by meaning serve payload_of
+due-due = refl
+
+pub due-before : next_action deadlock_job (replay deadlock_job one_runs) ≡ act.Vote 0
+unfolding opening_core opening_replica struck execute applied cancelled recovered verdict_of event_of after next_action first_cpu made_cpu next fetch_stop instruction_stop instruction_of call_at permits_of alu_of taken_by meaning serve payload_of
+due-before = refl
+
+pub due-lends : next_action (scrubbing 1 deadlock_job) (replay deadlock_job one_runs) ≡ act.Lend 2 1
+unfolding opening_core opening_replica struck execute applied cancelled recovered verdict_of event_of after next_action first_cpu made_cpu next fetch_stop instruction_stop instruction_of call_at permits_of alu_of taken_by meaning serve payload_of
+due-lends = refl
+
+pub due-waits : next_action (scrubbing 1 deadlock_job) (replay deadlock_job one_lent) ≡ act.Wait
+unfolding opening_core opening_replica struck execute applied cancelled recovered verdict_of event_of after next_action first_cpu made_cpu next fetch_stop instruction_stop instruction_of call_at permits_of alu_of taken_by meaning serve payload_of
+due-waits = refl
+
+pub due-not-freed : next_action (scrubbing 1 letter_job) (replay letter_job (until_free (driven 200 letter_job))) ≡ act.Scrub
+unfolding opening_core opening_replica struck execute applied cancelled recovered verdict_of event_of after next_action first_cpu made_cpu next fetch_stop instruction_stop instruction_of call_at permits_of alu_of taken_by meaning serve payload_of
+due-not-freed = refl

@@ -1,5 +1,5 @@
 //! Rows at the edges of what is allowed, and of what comes next.
-ghost use Rattle.std.specs.Prelude.{◌≡◌, true, false, [], ◌∷◌, ◌++◌, length, Some, None};
+ghost use Rattle.std.specs.Prelude.{◌≡◌, suc, true, false, [], ◌∷◌, ◌++◌, length, Some, None};
 ghost use Rattle.std.specs.List.{filter};
 ghost use Rattle.ro_journal.specs.declared.Did.TheVariants.{Served, Blocked};
 ghost use Rattle.ro_journal.specs.declared.How.TheVariants.{Exit, Deadlock, Differ, NoMajority, Limit, Sink};
@@ -9,7 +9,7 @@ ghost use Rattle.ro_journal.specs.Plan.{plan_of};
 ghost use Rattle.ro_plain.specs.Machine.{AllEnd};
 ghost use Rattle.ro_legal.specs.declared.actions.Action.TheVariants as act;
 ghost use Rattle.ro_legal.specs.Core.{opening_core, may_free};
-ghost use Rattle.ro_legal.specs.Legal.{Legal, IsAllowed, replay, output_of};
+ghost use Rattle.ro_legal.specs.Legal.{Legal, IsAllowed, may_scrub, replay, output_of};
 ghost use Rattle.ro_legal.specs.Action.{next_action, IsNext};
 ghost use Rattle.ro_simulation.specs.Theorem.{CannotDiffer};
 ghost use Rattle.ro_simulation.specs.Guests.{exit_guest};
@@ -17,7 +17,7 @@ ghost use Rattle.ro_simulation.specs.Rows.{flip_a0};
 ghost use Rattle.ro_simulation.specs.Drives.{driven};
 ghost use Rattle.ro_rows.specs.Exit.{exit_job};
 ghost use Rattle.ro_rows.specs.Rows.{decisions, deadlock_job, deadlock_before, hello_job};
-ghost use Rattle.ro_rows.specs.Edges.{small_job, waiters_job, two_wait, unlocked, letter_job, all_hits, is_vote, page_limit_job, before_free, exit_runs, until_free, one_lent, both_stand, last_lent, parted_job, parted_runs, parted_pair, hello_written, watch_job, watch_journal};
+ghost use Rattle.ro_rows.specs.Edges.{small_job, waiters_job, two_wait, unlocked, letter_job, all_hits, is_vote, page_limit_job, before_free, exit_runs, until_free, scrubbing, one_runs, one_lent, both_stand, last_lent, parted_job, parted_runs, parted_pair, hello_written, watch_job, watch_journal};
 
 /// A row: no execution of the guest that exits with 7 has more than three steps, and one has more than two.
 pub fn length_row()
@@ -135,4 +135,20 @@ pub fn watch_row()
     ensures driven_is { driven 8 watch_job ≡ watch_journal }
     ensures legal { Legal watch_job watch_journal }
     ensures next { next_action watch_job (replay watch_job watch_journal) ≡ act.Lend 0 0 }
+{}
+
+/// A row: replicas may be scrubbed where each live thread stands in every one of them and none is lent. A scrub is due once the
+/// plan has grown by its number, and not one step before; without a number it never is. While it is due threads are lent where they
+/// can be, a lease that is out is waited for, and nothing is voted on or freed.
+pub fn due_row()
+    ensures lent { may_scrub (replay deadlock_job one_lent) ≡ false }
+    ensures lendable { may_scrub (replay deadlock_job one_runs) ≡ false }
+    ensures still { may_scrub (replay deadlock_job both_stand) ≡ true }
+    ensures never { next_action deadlock_job (replay deadlock_job both_stand) ≡ act.Vote 0 }
+    ensures early { next_action (scrubbing (suc (replay deadlock_job both_stand).steps) deadlock_job) (replay deadlock_job both_stand) ≡ act.Vote 0 }
+    ensures due { next_action (scrubbing (replay deadlock_job both_stand).steps deadlock_job) (replay deadlock_job both_stand) ≡ act.Scrub }
+    ensures before { next_action deadlock_job (replay deadlock_job one_runs) ≡ act.Vote 0 }
+    ensures lends { next_action (scrubbing 1 deadlock_job) (replay deadlock_job one_runs) ≡ act.Lend 2 1 }
+    ensures waits { next_action (scrubbing 1 deadlock_job) (replay deadlock_job one_lent) ≡ act.Wait }
+    ensures not_freed { next_action (scrubbing 1 letter_job) (replay letter_job (until_free (driven 200 letter_job))) ≡ act.Scrub }
 {}

@@ -169,6 +169,26 @@ const COMMANDS: &[Row] = &[
             ..USUAL
         },
     },
+    Row {
+        words: &["romain", "run", "p0", "--scrub", "1000000000000"],
+        run: RunCommand {
+            settings: Settings {
+                scrub: 1_000_000_000_000,
+                ..SETTINGS
+            },
+            ..USUAL
+        },
+    },
+    Row {
+        words: &["romain", "run", "p0", "--scrub=0"],
+        run: RunCommand {
+            settings: Settings {
+                scrub: 0,
+                ..SETTINGS
+            },
+            ..USUAL
+        },
+    },
 ];
 
 #[test]
@@ -304,6 +324,12 @@ const NOT_COMMANDS: &[&[&str]] = &[
     &["romain", "run", "p0", "--quantum", "65537"],
     &["romain", "run", "p0", "--limit", "0"],
     &["romain", "run", "p0", "--limit", "1000000000001"],
+    &["romain", "run", "p0", "--scrub"],
+    &["romain", "run", "p0", "--scrub", "1000000000001"],
+    &["romain", "run", "p0", "--scrub", "never"],
+    &["romain", "run", "p0", "--scrub", "1", "--scrub=1"],
+    &["romain", "plain", "p0", "--plan", "j", "--scrub", "1"],
+    &["romain", "bench", "1", "1", "--scrub", "1"],
     &[
         "romain",
         "run",
@@ -412,6 +438,8 @@ const AUDITS: &[AuditRow] = &[
             "f",
             "--replicas",
             "5",
+            "--scrub",
+            "9",
             "--json",
             "--quantum=7",
             "--drivers",
@@ -427,6 +455,7 @@ const AUDITS: &[AuditRow] = &[
                     watchdog: 200,
                     quantum: 7,
                     limit: 500,
+                    scrub: 9,
                 },
                 ..USUAL
             },

@@ -1,5 +1,5 @@
 -- The edges of what is allowed, by computation.
-use Rattle.std.specs.Prelude.{◌≡◌, ℕ, zero, suc, ◌+◌, ◌<◌, ◌≤◌, IsSome, true, false, [], ◌∷◌, ◌++◌, length, Option, Some, None, is_none}
+use Rattle.std.specs.Prelude.{◌≡◌, ℕ, zero, suc, ◌+◌, ◌<◌, ◌≤◌, IsSome, Bool, true, false, [], ◌∷◌, ◌++◌, length, Option, Some, None, is_none}
 use Rattle.std.specs.List.{filter}
 use Rattle.std.specs.Option.{option_map}
 use Rattle.std.proofs.Common.{refl, sym, ap, ◌∙◌, inl, inr, arith, ⊎_elim}
@@ -22,6 +22,8 @@ use Rattle.ro_journal.specs.Plan.{plan_of}
 use Rattle.ro_vote.specs.Verdict.{verdict_of}
 use Rattle.ro_replica.specs.Replica.{opening_replica, applied, cancelled, recovered}
 use Rattle.ro_replica.specs.Runs.{RanTo, struck, execute}
+use Rattle.ro_replica.specs.Snapshots.{ThreadSnapshot, thread_snapshot}
+use Rattle.ro_thread.specs.declared.Thread.{Thread}
 use Rattle.ro_plain.specs.Machine.{Machine, opening, steppable, step, AllEnd}
 use Rattle.ro_plain.proofs.Calls.{some-injective}
 use Rattle.ro_legal.specs.declared.actions.Action.TheVariants as act
@@ -394,3 +396,18 @@ due-waits = refl
 pub due-not-freed : next_action (scrubbing 1 letter_job) (replay letter_job (until_free (driven 200 letter_job))) ≡ act.Scrub
 unfolding opening_core opening_replica struck execute applied cancelled recovered verdict_of event_of after next_action first_cpu made_cpu next fetch_stop instruction_stop instruction_of call_at permits_of alu_of taken_by meaning serve payload_of
 due-not-freed = refl
+
+-- ---- snapshot_row
+
+pub snapshot-exited : (one other : Thread) → one.since ≡ other.since → thread_snapshot false one ≡ thread_snapshot false other
+snapshot-exited one other e = ap (λ (n : ℕ). thread_snapshot false (record one { since = n })) e
+
+pub snapshot-counts : (lives : Bool) (one other : Thread) → thread_snapshot lives one ≡ thread_snapshot lives other → one.since ≡ other.since
+snapshot-counts true one other e = ap (λ (s : ThreadSnapshot). s.since) e
+snapshot-counts false one other e = ap (λ (s : ThreadSnapshot). s.since) e
+
+pub snapshot-registers : (one other : Thread) → thread_snapshot true one ≡ thread_snapshot true other → one.cpu ≡ other.cpu
+snapshot-registers one other e = some-injective (ap (λ (s : ThreadSnapshot). s.cpu) e)
+
+pub snapshot-stops : (one other : Thread) → thread_snapshot true one ≡ thread_snapshot true other → one.stop ≡ other.stop
+snapshot-stops one other e = ap (λ (s : ThreadSnapshot). s.stop) e

@@ -1,11 +1,13 @@
 //! Rows at the edges of what is allowed, and of what comes next.
-ghost use Rattle.std.specs.Prelude.{◌≡◌, suc, true, false, [], ◌∷◌, ◌++◌, length, Some, None};
+ghost use Rattle.std.specs.Prelude.{◌≡◌, suc, Bool, true, false, [], ◌∷◌, ◌++◌, length, Some, None};
 ghost use Rattle.std.specs.List.{filter};
 ghost use Rattle.ro_journal.specs.declared.Did.TheVariants.{Served, Blocked};
 ghost use Rattle.ro_journal.specs.declared.How.TheVariants.{Exit, Deadlock, Differ, NoMajority, Limit, Sink};
 ghost use Rattle.ro_journal.specs.declared.Entry.TheVariants.{Take, Put, Vote, Free, End};
 ghost use Rattle.ro_journal.specs.declared.losers.Lost.TheVariants.{Nobody, One};
 ghost use Rattle.ro_journal.specs.Plan.{plan_of};
+ghost use Rattle.ro_thread.specs.declared.Thread.{Thread};
+ghost use Rattle.ro_replica.specs.Snapshots.{thread_snapshot};
 ghost use Rattle.ro_plain.specs.Machine.{AllEnd};
 ghost use Rattle.ro_legal.specs.declared.actions.Action.TheVariants as act;
 ghost use Rattle.ro_legal.specs.Core.{opening_core, may_free};
@@ -151,4 +153,12 @@ pub fn due_row()
     ensures lends { next_action (scrubbing 1 deadlock_job) (replay deadlock_job one_runs) ≡ act.Lend 2 1 }
     ensures waits { next_action (scrubbing 1 deadlock_job) (replay deadlock_job one_lent) ≡ act.Wait }
     ensures not_freed { next_action (scrubbing 1 letter_job) (replay letter_job (until_free (driven 200 letter_job))) ≡ act.Scrub }
+{}
+
+/// A row: of a thread that has exited a scrub compares its count alone, of a live one registers, pc and stop too.
+pub fn snapshot_row()
+    ensures exited { (one other : Thread) → one.since ≡ other.since → thread_snapshot false one ≡ thread_snapshot false other }
+    ensures counts { (lives : Bool) (one other : Thread) → thread_snapshot lives one ≡ thread_snapshot lives other → one.since ≡ other.since }
+    ensures registers { (one other : Thread) → thread_snapshot true one ≡ thread_snapshot true other → one.cpu ≡ other.cpu }
+    ensures stops { (one other : Thread) → thread_snapshot true one ≡ thread_snapshot true other → one.stop ≡ other.stop }
 {}

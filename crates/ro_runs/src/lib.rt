@@ -17,6 +17,8 @@ mod outside;
 #[cfg(test)]
 mod rows;
 #[cfg(test)]
+mod scrubs;
+#[cfg(test)]
 mod tests;
 #[cfg(test)]
 mod traps;

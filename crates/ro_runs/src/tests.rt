@@ -1,6 +1,7 @@
 //! Runs the rows over stores and sinks in memory.
 use crate::guests::{GUESTS, Guest};
 use crate::rows::{ONE_THREAD, REFUSED, Row, STRUCK, THREADS, TRAPS, TURNS, Text};
+use crate::scrubs::SCRUBS;
 use ro_io::{MemSink, MemStore, OpenGate};
 use ro_make::image_bytes;
 use ro_top::romain;
@@ -48,6 +49,14 @@ fn struck(rt: HostRuntime) -> Result<(), Fail> {
 #[test]
 fn turns(rt: HostRuntime) -> Result<(), Fail> {
     for row in TURNS {
+        run(&rt, rt.alloc(), row)?;
+    }
+    Ok(())
+}
+
+#[test]
+fn scrubs(rt: HostRuntime) -> Result<(), Fail> {
+    for row in SCRUBS {
         run(&rt, rt.alloc(), row)?;
     }
     Ok(())

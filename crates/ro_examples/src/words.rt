@@ -170,20 +170,14 @@ const COMMANDS: &[Row] = &[
         },
     },
     Row {
-        words: &["romain", "run", "p0", "--scrub", "1000000000000"],
+        words: &["romain", "run", "p0", "--scrub", "0"],
+        run: USUAL,
+    },
+    Row {
+        words: &["romain", "run", "--scrub=1000000000000", "p0"],
         run: RunCommand {
             settings: Settings {
                 scrub: 1_000_000_000_000,
-                ..SETTINGS
-            },
-            ..USUAL
-        },
-    },
-    Row {
-        words: &["romain", "run", "p0", "--scrub=0"],
-        run: RunCommand {
-            settings: Settings {
-                scrub: 0,
                 ..SETTINGS
             },
             ..USUAL
@@ -324,12 +318,6 @@ const NOT_COMMANDS: &[&[&str]] = &[
     &["romain", "run", "p0", "--quantum", "65537"],
     &["romain", "run", "p0", "--limit", "0"],
     &["romain", "run", "p0", "--limit", "1000000000001"],
-    &["romain", "run", "p0", "--scrub"],
-    &["romain", "run", "p0", "--scrub", "1000000000001"],
-    &["romain", "run", "p0", "--scrub", "never"],
-    &["romain", "run", "p0", "--scrub", "1", "--scrub=1"],
-    &["romain", "plain", "p0", "--plan", "j", "--scrub", "1"],
-    &["romain", "bench", "1", "1", "--scrub", "1"],
     &[
         "romain",
         "run",
@@ -337,6 +325,10 @@ const NOT_COMMANDS: &[&[&str]] = &[
         "--limit",
         "1234567890123456789012345678901234567890",
     ],
+    &["romain", "run", "p0", "--scrub", "1000000000001"],
+    &["romain", "run", "p0", "--scrub", "-1"],
+    &["romain", "run", "p0", "--scrub"],
+    &["romain", "run", "p0", "--scrub", "1", "--scrub", "1"],
     &["romain", "run", "p0", "--plan", "j"],
     &["romain", "run", "p0", "--json"],
     &["romain", "audit", "p0", "--journal", "j"],
@@ -346,6 +338,7 @@ const NOT_COMMANDS: &[&[&str]] = &[
     &["romain", "plain", "p0", "--plan", "j", "--journal"],
     &["romain", "plain", "p0", "--plan", "j", "q0"],
     &["romain", "plain", "p0", "--plan", "j", "--faults", "f"],
+    &["romain", "plain", "p0", "--plan", "j", "--scrub", "1"],
     &["romain", "races", "p0"],
     &["romain", "races", "--plan", "j"],
     &["romain", "races", "p0", "--plan", "j", "--journal"],
@@ -360,6 +353,7 @@ const NOT_COMMANDS: &[&[&str]] = &[
     &["romain", "bench", "1", "2001"],
     &["romain", "bench", "1"],
     &["romain", "bench", "1", "1", "1"],
+    &["romain", "bench", "1", "1", "--scrub", "1"],
     &["romain", "run", "p0", "--limit", "many"],
     &["romain", "run", "p0", "--limit", "0x10"],
     &["romain", "run", "p0", "--limit", "1 "],
@@ -428,6 +422,8 @@ const AUDITS: &[AuditRow] = &[
             "romain",
             "audit",
             "--limit=500",
+            "--scrub",
+            "1",
             "--journal",
             "j",
             "--faults",
@@ -438,8 +434,6 @@ const AUDITS: &[AuditRow] = &[
             "f",
             "--replicas",
             "5",
-            "--scrub",
-            "9",
             "--json",
             "--quantum=7",
             "--drivers",
@@ -455,7 +449,7 @@ const AUDITS: &[AuditRow] = &[
                     watchdog: 200,
                     quantum: 7,
                     limit: 500,
-                    scrub: 9,
+                    scrub: 1,
                 },
                 ..USUAL
             },
@@ -518,6 +512,15 @@ const NOT_AUDITS: &[&[&str]] = &[
     &["romain", "audit", "p0", "--journal", "j", "--watchdog=99"],
     &["romain", "audit", "p0", "--journal", "j", "--quantum", "0"],
     &["romain", "audit", "p0", "--journal", "j", "--limit", "many"],
+    &[
+        "romain",
+        "audit",
+        "p0",
+        "--journal",
+        "j",
+        "--scrub",
+        "1000000000001",
+    ],
 ];
 
 #[test]

@@ -33,8 +33,8 @@ named_alike (Some exe) None f g journal a b = refl
 named_alike None settings f g journal a b = refl
 
 asked_alike : (f g : Text → Option Text) (journal : Bool) → AgreeOn run_names f g → asked_run f journal ≡ asked_run g journal
-asked_alike f g journal (exe, (input, (faults, (replicas, (drivers, (watchdog, (quantum, (limit, end)))))))) =
-    let settings : settings_of f ≡ settings_of g = rw (replicas, drivers, watchdog, quantum, limit) refl in
+asked_alike f g journal (exe, (input, (faults, (replicas, (drivers, (watchdog, (quantum, (limit, (scrub, end))))))))) =
+    let settings : settings_of f ≡ settings_of g = rw (replicas, drivers, watchdog, quantum, limit, scrub) refl in
     ap (λ (o : Option Text). run_from o (settings_of f) f journal) exe
     ∙ ap (λ (s : Option Settings). run_from (g (codes "exe")) s f journal) settings
     ∙ named_alike (g (codes "exe")) (settings_of g) f g journal input faults

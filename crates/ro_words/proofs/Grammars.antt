@@ -95,8 +95,9 @@ run_valued name =
     by_key (Known run_syntax run_built) (codes "watchdog") name (value (codes "watchdog") (record { required = false; takes = refl; flag = refl; alone = refl; cut = λ v. refl; by_long = refl; by_id = refl })) (λ f.
     by_key (Known run_syntax run_built) (codes "quantum") name (value (codes "quantum") (record { required = false; takes = refl; flag = refl; alone = refl; cut = λ v. refl; by_long = refl; by_id = refl })) (λ g.
     by_key (Known run_syntax run_built) (codes "limit") name (value (codes "limit") (record { required = false; takes = refl; flag = refl; alone = refl; cut = λ v. refl; by_long = refl; by_id = refl })) (λ h.
+    by_key (Known run_syntax run_built) (codes "scrub") name (value (codes "scrub") (record { required = false; takes = refl; flag = refl; alone = refl; cut = λ v. refl; by_long = refl; by_id = refl })) (λ k.
     by_key (Known run_syntax run_built) (codes "journal") name (is_flagged run_syntax run_built (codes "journal") name (record { named = refl; takes = refl; by_long = refl })) (λ i.
-    unmet (rw (a, b, d, e, f, g, h) refl) i (rw (a, b, d, e, f, g, h, i) refl)))))))))
+    unmet (rw (a, b, d, e, f, g, h, k) refl) i (rw (a, b, d, e, f, g, h, k, i) refl))))))))))
 
 pub run_from_places : AreFrom run_syntax run_built (codes "exe" ∷ []) 1
 unfolding run_built run_values options_built
@@ -146,8 +147,9 @@ audit_valued name =
     by_key (Known audit_syntax audit_built) (codes "watchdog") name (value (codes "watchdog") (record { required = false; takes = refl; flag = refl; alone = refl; cut = λ v. refl; by_long = refl; by_id = refl })) (λ f.
     by_key (Known audit_syntax audit_built) (codes "quantum") name (value (codes "quantum") (record { required = false; takes = refl; flag = refl; alone = refl; cut = λ v. refl; by_long = refl; by_id = refl })) (λ g.
     by_key (Known audit_syntax audit_built) (codes "limit") name (value (codes "limit") (record { required = false; takes = refl; flag = refl; alone = refl; cut = λ v. refl; by_long = refl; by_id = refl })) (λ h.
+    by_key (Known audit_syntax audit_built) (codes "scrub") name (value (codes "scrub") (record { required = false; takes = refl; flag = refl; alone = refl; cut = λ v. refl; by_long = refl; by_id = refl })) (λ k.
     by_key (Known audit_syntax audit_built) (codes "json") name (is_flagged audit_syntax audit_built (codes "json") name (record { named = refl; takes = refl; by_long = refl })) (λ i.
-    unmet (rw (j, a, b, d, e, f, g, h) refl) i (rw (j, a, b, d, e, f, g, h, i) refl))))))))))
+    unmet (rw (j, a, b, d, e, f, g, h, k) refl) i (rw (j, a, b, d, e, f, g, h, k, i) refl)))))))))))
 
 pub audit_from_places : AreFrom audit_syntax audit_built (codes "exe" ∷ []) 1
 unfolding audit_built audit_values options_built

@@ -54,22 +54,24 @@ pub from_number : (usual least most n : ℕ) (given : Option Text) → IsFrom le
 from_number usual least most n None fits is = let same : usual ≡ n = cc in subst (λ (x : ℕ). IsFrom least most x) same fits
 from_number usual least most n (Some text) fits is = in_from least most n text is
 
--- settings are made of five numbers
-pub made_of : (a b c d e : Option ℕ) (s : Settings) → settings_from a b c d e ≡ Some s
-    → (a ≡ Some s.replicas) × (b ≡ Some s.drivers) × (c ≡ Some s.watchdog) × (d ≡ Some s.quantum) × (e ≡ Some s.limit)
-made_of (Some a) (Some b) (Some c) (Some d) (Some e) s is =
-    let same : record { replicas = a; drivers = b; watchdog = c; quantum = d; limit = e } ≡ s = some_same _ s is in (
+-- settings are made of six numbers
+pub made_of : (a b c d e f : Option ℕ) (s : Settings) → settings_from a b c d e f ≡ Some s
+    → (a ≡ Some s.replicas) × (b ≡ Some s.drivers) × (c ≡ Some s.watchdog) × (d ≡ Some s.quantum) × (e ≡ Some s.limit) × (f ≡ Some s.scrub)
+made_of (Some a) (Some b) (Some c) (Some d) (Some e) (Some f) s is =
+    let same : record { replicas = a; drivers = b; watchdog = c; quantum = d; limit = e; scrub = f } ≡ s = some_same _ s is in (
       ap (λ (x : Settings). Some x.replicas) same,
       ap (λ (x : Settings). Some x.drivers) same,
       ap (λ (x : Settings). Some x.watchdog) same,
       ap (λ (x : Settings). Some x.quantum) same,
       ap (λ (x : Settings). Some x.limit) same,
+      ap (λ (x : Settings). Some x.scrub) same,
     )
-made_of None b c d e s is = cc
-made_of (Some a) None c d e s is = cc
-made_of (Some a) (Some b) None d e s is = cc
-made_of (Some a) (Some b) (Some c) None e s is = cc
-made_of (Some a) (Some b) (Some c) (Some d) None s is = cc
+made_of None b c d e f s is = cc
+made_of (Some a) None c d e f s is = cc
+made_of (Some a) (Some b) None d e f s is = cc
+made_of (Some a) (Some b) (Some c) None e f s is = cc
+made_of (Some a) (Some b) (Some c) (Some d) None f s is = cc
+made_of (Some a) (Some b) (Some c) (Some d) (Some e) None s is = cc
 
 -- so many replicas are two, three or five
 which : (n : ℕ) → are_replicas n ≡ true → IsReplicas n
@@ -99,13 +101,14 @@ only_fits n fits = ap (λ (b : Bool). if b then Some n else None) (are n fits)
 
 pub settings_fit : (given : Text → Option Text) (s : Settings) → settings_of given ≡ Some s → InRange s
 settings_fit given s is =
-    let parts = made_of _ _ _ _ _ s is in
+    let parts = made_of _ _ _ _ _ _ s is in
     record {
       replicas = (only_some (number_or 3 2 5 (given (codes "replicas"))) s.replicas parts.0).1;
       drivers = from_number 3 1 8 s.drivers (given (codes "drivers")) (omega arith, omega arith) parts.1;
       watchdog = from_number 10000 100 1000000 s.watchdog (given (codes "watchdog")) (omega arith, omega arith) parts.2;
       quantum = from_number 4096 1 65536 s.quantum (given (codes "quantum")) (omega arith, omega arith) parts.3;
       limit = from_number 1000000000 1 1000000000000 s.limit (given (codes "limit")) (omega arith, omega arith) parts.4;
+      scrub = (from_number 0 0 1000000000000 s.scrub (given (codes "scrub")) (omega arith, omega arith) parts.5).1;
     }
 
 run_from_fits : (exe : Option Text) (settings : Option Settings) (given : Text → Option Text) (journal : Bool) (asked : AskedRun)

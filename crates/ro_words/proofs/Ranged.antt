@@ -75,24 +75,26 @@ small_read E usual n given (Err e) low is reads =
 
 settings_wider : (given : Text → Option Text) (s : Settings) → settings_of given ≡ Some s → unranged given ≡ Some s
 settings_wider given s is =
-    let parts = made_of _ _ _ _ _ s is in
+    let parts = made_of _ _ _ _ _ _ s is in
     let replicas = wider 3 2 5 (2 ^ 32 - 1) s.replicas (given (codes "replicas")) (omega arith) (only_some (number_or 3 2 5 (given (codes "replicas"))) s.replicas parts.0).0 in
     let drivers = wider 3 1 8 (2 ^ 32 - 1) s.drivers (given (codes "drivers")) (omega arith) parts.1 in
     let watchdog = wider 10000 100 1000000 (2 ^ 32 - 1) s.watchdog (given (codes "watchdog")) (omega arith) parts.2 in
     let quantum = wider 4096 1 65536 (2 ^ 32 - 1) s.quantum (given (codes "quantum")) (omega arith) parts.3 in
     let limit = wider 1000000000 1 1000000000000 (2 ^ 64 - 1) s.limit (given (codes "limit")) (omega arith) parts.4 in
-    rw (replicas, drivers, watchdog, quantum, limit) refl
+    let scrub = wider 0 0 1000000000000 (2 ^ 64 - 1) s.scrub (given (codes "scrub")) (omega arith) parts.5 in
+    rw (replicas, drivers, watchdog, quantum, limit, scrub) refl
 
 pub settings_in_range : (given : Text → Option Text) (s : Settings) → Some s ≡ unranged given → InRange s → Some s ≡ settings_of given
 settings_in_range given s is fits =
-    let parts = made_of _ _ _ _ _ s (sym is) in
+    let parts = made_of _ _ _ _ _ _ s (sym is) in
     let read = narrower 3 2 5 (2 ^ 32 - 1) s.replicas (given (codes "replicas")) (few-replicas s.replicas fits.replicas) parts.0 in
     let replicas = ap replicas_only read ∙ only_fits s.replicas fits.replicas in
     let drivers = narrower 3 1 8 (2 ^ 32 - 1) s.drivers (given (codes "drivers")) fits.drivers parts.1 in
     let watchdog = narrower 10000 100 1000000 (2 ^ 32 - 1) s.watchdog (given (codes "watchdog")) fits.watchdog parts.2 in
     let quantum = narrower 4096 1 65536 (2 ^ 32 - 1) s.quantum (given (codes "quantum")) fits.quantum parts.3 in
     let limit = narrower 1000000000 1 1000000000000 (2 ^ 64 - 1) s.limit (given (codes "limit")) fits.limit parts.4 in
-    rw (replicas, drivers, watchdog, quantum, limit) refl
+    let scrub = narrower 0 0 1000000000000 (2 ^ 64 - 1) s.scrub (given (codes "scrub")) (omega arith, fits.scrub) parts.5 in
+    rw (replicas, drivers, watchdog, quantum, limit, scrub) refl
 
 pub settings_beyond : (given : Text → Option Text) (s : Settings) → Some s ≡ unranged given → (InRange s → ⊥) → None ≡ settings_of given
 settings_beyond given s is beyond = none_by _ (λ (t : Settings) (found : settings_of given ≡ Some t).

@@ -39,7 +39,7 @@ flag_built name = record (new_rule name) {
 unfoldable pub options_built : List Rule
 options_built = option_built (codes "input") false ∷ option_built (codes "faults") false
     ∷ option_built (codes "replicas") false ∷ option_built (codes "drivers") false ∷ option_built (codes "watchdog") false
-    ∷ option_built (codes "quantum") false ∷ option_built (codes "limit") false ∷ []
+    ∷ option_built (codes "quantum") false ∷ option_built (codes "limit") false ∷ option_built (codes "scrub") false ∷ []
 
 unfoldable pub run_values : List Rule
 run_values = place_built (codes "exe") 1 ∷ options_built

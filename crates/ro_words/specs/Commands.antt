@@ -50,15 +50,16 @@ abbrev pub replicas_only : Option ℕ → Option ℕ
 replicas_only None = None
 replicas_only (Some n) = if are_replicas n then Some n else None
 
-abbrev pub settings_from : (replicas drivers watchdog quantum limit : Option ℕ) → Option Settings
-settings_from (Some replicas) (Some drivers) (Some watchdog) (Some quantum) (Some limit) = Some (record {
+abbrev pub settings_from : (replicas drivers watchdog quantum limit scrub : Option ℕ) → Option Settings
+settings_from (Some replicas) (Some drivers) (Some watchdog) (Some quantum) (Some limit) (Some scrub) = Some (record {
   replicas = replicas;
   drivers = drivers;
   watchdog = watchdog;
   quantum = quantum;
   limit = limit;
+  scrub = scrub;
 })
-settings_from _ _ _ _ _ = None
+settings_from _ _ _ _ _ _ = None
 
 -- the settings, from the texts that are given under the options' names
 abbrev pub settings_of : (Text → Option Text) → Option Settings
@@ -68,6 +69,7 @@ settings_of given = settings_from
     (number_or default_settings.watchdog 100 1000000 (given (codes "watchdog")))
     (number_or default_settings.quantum 1 65536 (given (codes "quantum")))
     (number_or default_settings.limit 1 1000000000000 (given (codes "limit")))
+    (number_or default_settings.scrub 0 1000000000000 (given (codes "scrub")))
 
 -- the settings of these texts where each number is one that the code holds, whatever its range
 abbrev pub unranged : (Text → Option Text) → Option Settings
@@ -77,6 +79,7 @@ unranged given = settings_from
     (number_or default_settings.watchdog 0 (2 ^ 32 - 1) (given (codes "watchdog")))
     (number_or default_settings.quantum 0 (2 ^ 32 - 1) (given (codes "quantum")))
     (number_or default_settings.limit 0 (2 ^ 64 - 1) (given (codes "limit")))
+    (number_or default_settings.scrub 0 (2 ^ 64 - 1) (given (codes "scrub")))
 
 -- ---- commands
 
@@ -199,7 +202,7 @@ pub record Spelling (A : Type 0) : Type 0 where
 -- the options of a run that have a value
 abbrev pub run_options : List Text
 run_options = codes "input" ∷ codes "faults" ∷ codes "replicas" ∷ codes "drivers" ∷ codes "watchdog" ∷ codes "quantum"
-    ∷ codes "limit" ∷ []
+    ∷ codes "limit" ∷ codes "scrub" ∷ []
 
 abbrev pub run_syntax : Syntax
 run_syntax = record { places = codes "exe" ∷ []; needed = []; valued = run_options; flag = Some (codes "journal") }

@@ -66,7 +66,8 @@ fn run_options<'a>(alloc: Global, command: Command<'a>) -> Result<Command<'a>, A
         .arg(option(alloc, "drivers"))?
         .arg(option(alloc, "watchdog"))?
         .arg(option(alloc, "quantum"))?
-        .arg(option(alloc, "limit"))
+        .arg(option(alloc, "limit"))?
+        .arg(option(alloc, "scrub"))
 }
 
 // A command `NAME EXE --plan F`, and its option.

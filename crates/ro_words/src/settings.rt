@@ -31,6 +31,7 @@ fn unranged_settings(matches: &ArgMatches<'_>) -> Option<Settings>
         watchdog: small_number(matches.get_str("watchdog"), usual.watchdog)?,
         quantum: small_number(matches.get_str("quantum"), usual.quantum)?,
         limit: number(matches.get_str("limit"), usual.limit)?,
+        scrub: number(matches.get_str("scrub"), usual.scrub)?,
     })
 }
 

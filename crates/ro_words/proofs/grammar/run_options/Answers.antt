@@ -10,4 +10,5 @@ returns c = λ app reads.
     let e = adds_arg _ _ _ _ _ c.in_ok-arg-4.ensures d c.option-4.ensures.rule c.option-4.ensures.local in
     let f = adds_arg _ _ _ _ _ c.in_ok-arg-5.ensures e c.option-5.ensures.rule c.option-5.ensures.local in
     let g = adds_arg _ _ _ _ _ c.in_ok-arg-6.ensures f c.option-6.ensures.rule c.option-6.ensures.local in
-    IfOk-weaker c.arg-7.result _ _ (λ command added. adds_arg _ command _ _ _ added g c.option-7.ensures.rule c.option-7.ensures.local) c.arg-7.ensures
+    let h = adds_arg _ _ _ _ _ c.in_ok-arg-7.ensures g c.option-7.ensures.rule c.option-7.ensures.local in
+    IfOk-weaker c.arg-8.result _ _ (λ command added. adds_arg _ command _ _ _ added h c.option-8.ensures.rule c.option-8.ensures.local) c.arg-8.ensures

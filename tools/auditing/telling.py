@@ -43,11 +43,7 @@ def copy_told(copy: Copy) -> dict:
 
 
 def whole_told(whole: Whole) -> dict:
-    return {"threads": [{"thread": thread, "parts": parts} for thread, parts in whole.threads], "pages": pages_told(whole)}
-
-
-def pages_told(whole: Whole) -> list[str]:
-    return [f"{page:08x}" for page in whole.pages]
+    return {"threads": [{"thread": thread, "parts": parts} for thread, parts in whole.threads], "pages": whole.pages}
 
 
 def copy_line(copy: Copy) -> str:
@@ -66,7 +62,7 @@ def listed(parts: list[str]) -> str:
 
 def whole_words(whole: Whole) -> str:
     words = [f"{listed(parts)} of thread {thread}" for thread, parts in whole.threads]
-    return ", ".join(words + [f"the page {page}" for page in pages_told(whole)])
+    return ", ".join(words + [f"the page {page:08x}" for page in whole.pages])
 
 
 # ---- Ends
@@ -122,7 +118,7 @@ def split_told(core: Core) -> dict:
     whole, snapshots = unlike_whole(core.kernel, core.replicas), [replica.snapshot(core.kernel) for replica in core.replicas]
     threads = [{"thread": thread, "fields": fields_told([(*threads[thread], b"") for _, threads in snapshots])}
                for thread, _ in whole.threads]
-    return {"threads": threads, "pages": pages_told(whole)}
+    return {"threads": threads, "pages": whole.pages}
 
 
 def fields_told(views: list) -> list[dict]:

@@ -11,7 +11,8 @@
 Of each run the output's bytes and the status are compared with those of the run without faults, and no vote may have a
 loser that wasn't struck. This is sound for programs whose output and status don't depend on the order of their threads;
 where two runs without faults show that they do, there is no campaign. Where faults in two replicas met, nothing is promised
-and nothing is wrong; what is promised holds too where strikes hit at most half of the replicas from each scrub to the next. Status 1 where anything differs; the faults are printed then. docs/FAULTS.md has the rest.
+and nothing is wrong; what is promised holds too where strikes hit at most half of the replicas from each scrub to the next.
+Status 1 where anything differs; the faults are printed then. docs/FAULTS.md has the rest.
 """
 import argparse
 import collections
@@ -161,7 +162,8 @@ def job_of(arguments, campaign, number):
                   first.number if first.kind == "mem" else None, section, symbol, first.moment]
     return {"key": campaign.key + [number], "drawn": drawn_part, "romain": arguments.romain, "words": words, "faults": faults,
             "seconds": arguments.seconds, "machine": campaign.key[2], "replicas": replicas, "status": program.status,
-            "many": arguments.pattern in drawing.MANY and not arguments.unreplicated, "output": program.output, "strike": (struck[0].replica, first.thread, first.moment),
+            "many": arguments.pattern in drawing.MANY and not arguments.unreplicated, "output": program.output,
+            "strike": (struck[0].replica, first.thread, first.moment),
             "replicas_struck": sorted({fault.replica for fault in struck})}
 
 

@@ -330,8 +330,8 @@ class Picture:
         self.text(LEFT, self.tops[line + 1] - 6, f"from {self.scale.lines[line]} instructions on", fill=GREY, font_size=9)
 
     def mark(self, mark):
-        """A line over its lanes, a broad one of a scrub, which a vote at its place leaves to be seen; each copy is an arrow beside it, with both replicas' ends, and at a scrub all lanes of the loser
-        are framed."""
+        """A line over its lanes, a broad one of a scrub, so that a vote at its place leaves it to be seen; each copy is an arrow
+        beside it, with both replicas' ends, and all lanes of a scrub's loser are framed."""
         line, x = self.scale.place(mark.at)
         x, rows = x + LEFT, {lane: y for lane, y in self.rows[line].items() if mark.is_on(lane)}
         low, high = self.tops[line] + min(rows.values()) + 1, self.tops[line] + max(rows.values()) + LANE - 1

@@ -196,7 +196,8 @@ def take_end(draw: random.Random, lines: list[str]):
     del lines[draw.choice((len(lines) - 1, draw.randrange(len(lines)))):]
 
 
-CHANGES = [change_number] * 4 + [change_vote, change_scrub, change_scrub, drop, drop, double, swap, swap, put_end, put_end, take_end]
+CHANGES = [change_number] * 4 + [change_vote, change_scrub, change_scrub, drop, drop, double, swap, swap, put_end, put_end,
+                                 take_end]
 
 
 def draw_change(draw: random.Random, lines: list[str]) -> list[str]:

@@ -1,5 +1,5 @@
-"""The share of runs that end wrong against the number of faults a run, for each number of steps from scrub to scrub: a table, and a
-picture where matplotlib is here."""
+"""The share of runs that end wrong against the number of faults a run, for each number of steps from scrub to scrub: a table,
+and a picture where matplotlib is here."""
 import csv
 import dataclasses
 import pathlib
@@ -35,6 +35,11 @@ def points_of(kept):
         def count(fates=None, few=None):
             return sum(runs for is_few, fate, runs in found if fates is None or fate in fates if few is None or is_few == few)
         yield Point(*point, count(), count(few=1), count(WRONG, few=1), *(count([fate]) for fate in WRONG))
+
+
+# What of runs is counted in each part of the picture.
+PANELS = {"that end wrong or by no-majority": Point.wrong, "that end wrong": lambda point: point.wrong() - point.no_majority,
+          "in which strikes stay few": lambda point: point.few}
 
 
 def scrub_words(scrub):
@@ -77,15 +82,13 @@ def plot(points, path):
     for colour, scrub in zip(COLOURS, sorted({point.scrub for point in points}, key=lambda scrub: -(scrub or 10**13))):
         some = sorted((point for point in points if point.scrub == scrub), key=lambda point: point.faults)
         label = "no scrub" if scrub == 0 else f"a scrub every {scrub:,} steps"
-        counts = [point.wrong() for point in some], [point.wrong() - point.no_majority for point in some], [point.few for point in some]
-        for axes, part in zip(every, counts):
-            draw(axes, some, [(count, point.runs) for count, point in zip(part, some)], colour, label)
-    names = "that end wrong or by no-majority", "that end wrong", "in which strikes stay few"
-    for axes, name in zip(every, names):
+        for axes, count in zip(every, PANELS.values()):
+            draw(axes, some, [(count(point), point.runs) for point in some], colour, label)
+    for axes, name in zip(every, PANELS):
         axes.set_title(f"% of runs {name}", fontsize=9)
         axes.set_xlabel("faults a run")
         axes.set_xticks(sorted({point.faults for point in points}))
-        axes.set_ylim(0, 105 if name is names[-1] else None)
+        axes.set_ylim(0, 105 if axes is every[-1] else None)
     every[0].legend(frameon=False)
     save(drawn, path)
 

@@ -32,7 +32,9 @@ def draw_fault(draw: random.Random, file: bytes, replicas: int) -> str:
         where = f"{draw.randrange(32)}"
     else:
         stack = STACKS + STACK_STEP * thread + STACK_SIZE - 1 - draw.randrange(32)
-        where = f"{draw.choice((BASE + draw.randrange(len(file)), BASE + PAGE + draw.randrange(8), stack))} {draw.randrange(8)}"
+        hidden = BASE + draw.randrange(52)  # of the file's header, which no guest reads
+        places = hidden, BASE + draw.randrange(len(file)), BASE + PAGE + draw.randrange(8), stack
+        where = f"{draw.choice(places)} {draw.randrange(8)}"
     return f"{replica} {thread} {moment} {kind} {where}\n"
 
 

@@ -49,6 +49,26 @@ def row_sums():
     return b"".join(b"%d\n" % (sum(a * b for a, b in zip(row, sums)) % 2**32) for row in left)
 
 
+def digests():
+    accounts, group, last = 1024, 64, 2026
+
+    def draw():
+        nonlocal last
+        last = (last * 1664525 + 1013904223) % 2**32
+        return last >> 8
+
+    balances = [draw() for _ in range(accounts)]
+    for _ in range(int(given("ledger"))):
+        source, target, amount = draw() % accounts, draw() % accounts, draw()
+        balances[source] -= amount
+        balances[target] += amount
+    for start in range(0, accounts, group):
+        digest = 0
+        for balance in balances[start:start + group]:
+            digest = 31 * digest + balance
+        yield b"%d\n" % (digest % 2**32)
+
+
 def totals():
     numbers = [int(word) for word in given("parallel_sum").split()]
     return b"sum %d\nlargest %d\nnumbers %d\n" % (sum(numbers) % 2**32, max(numbers), len(numbers))
@@ -64,6 +84,7 @@ def expected():
         "sha256": (digest(), 0),
         "tape": (turned_lines(), 0),
         "matrix": (row_sums(), 0),
+        "ledger": (b"".join(digests()), 0),
         "parallel_sum": (totals(), 0),
         "lines": (b"%d\n" % count, count % 256),
     }

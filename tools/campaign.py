@@ -4,20 +4,26 @@
     tools/campaign.py --runs 1000 --rows rows.sqlite --table table.md --plot fates.svg --latencies latencies.svg
     tools/campaign.py --exe mine --input data --runs 1000 --rows rows.sqlite
     tools/campaign.py --exe mine --runs 1000 --rows rows.sqlite --unreplicated
+    tools/campaign.py --guests ledger --pattern scattered --faults-per-run 1,2,4,8 --scrub 0,100000,10000 --kinds reg,mem \
+        --runs 10000 --rows scrubs.sqlite --points scrubs
     tools/campaign.py --check 20
 
 Of each run the output's bytes and the status are compared with those of the run without faults, and no vote may have a
 loser that wasn't struck. This is sound for programs whose output and status don't depend on the order of their threads;
 where two runs without faults show that they do, there is no campaign. Where faults in two replicas met, nothing is promised
-and nothing is wrong. Status 1 where anything differs; the faults are printed then. docs/FAULTS.md has the rest.
+and nothing is wrong; what is promised holds too where strikes hit at most half of the replicas from each scrub to the next.
+Status 1 where anything differs; the faults are printed then. docs/FAULTS.md has the rest.
 """
 import argparse
+import collections
+import dataclasses
+import itertools
 import os
 import pathlib
 import subprocess
 import sys
 
-from campaigns import drawing, judging, programs, rows, running
+from campaigns import drawing, judging, points, programs, rows, running
 
 ROOT = programs.ROOT
 REPLICAS = [2, 3, 5]
@@ -31,6 +37,18 @@ class Input(argparse.Action):
         if not arguments.exe:
             parser.error("--input stands behind its --exe")
         arguments.exe[-1].input = value
+
+
+def numbers(text):
+    """Numbers that are parted by commas."""
+    return [int(number) for number in text.split(",")]
+
+
+def kinds(text):
+    chosen = text.split(",")
+    if not set(chosen) <= set(drawing.KINDS):
+        raise argparse.ArgumentTypeError(f"there are {', '.join(drawing.KINDS)}")
+    return [kind for kind in drawing.KINDS if kind in chosen]
 
 
 def request(text):
@@ -53,6 +71,11 @@ def read_arguments():
     faults.add_argument("--seed", type=int, default=1, help="of the draws (1)")
     faults.add_argument("--pattern", choices=drawing.PATTERNS, default="one",
                         help="; ".join(f"{name}: {what}" for name, what in drawing.PATTERNS.items()) + " (one)")
+    faults.add_argument("--faults-per-run", type=numbers, default=[2], metavar="K,..",
+                        help=f"how many under {' and '.join(drawing.MANY)}; of several numbers each is run (2)")
+    faults.add_argument("--kinds", type=kinds, default=drawing.KINDS, metavar="K,..", help="reg, pc, mem: what is struck (all)")
+    faults.add_argument("--scrub", type=numbers, default=[0], metavar="N,..",
+                        help="of the runs, 0 for never; of several numbers each is run, with the same faults (0)")
     faults.add_argument("--width", type=int, default=4, choices=range(1, 33), metavar="K", help="bits of a burst (4)")
     faults.add_argument("--replicas", type=int, choices=REPLICAS, default=3, help="(3)")
     faults.add_argument("--drivers", type=int, choices=range(1, MAX_DRIVERS + 1), default=1,
@@ -68,6 +91,8 @@ def read_arguments():
     told.add_argument("--table", type=pathlib.Path, metavar="FILE", help="tables of all rows (standard output)")
     told.add_argument("--plot", metavar="FILE", help="picture of the fates")
     told.add_argument("--latencies", metavar="FILE", help="picture of the latencies")
+    told.add_argument("--points", metavar="NAME", help="the share of runs that end wrong by faults a run and by scrubs, of "
+                      f"{' and '.join(drawing.MANY)}: NAME.md, NAME.csv, and NAME.svg and NAME.png by matplotlib")
     arguments = parser.parse_args()
     if arguments.check is not None:
         arguments.runs = arguments.check
@@ -100,40 +125,55 @@ def requests(arguments):
     return asked
 
 
-def campaign_of(arguments, program):
-    """What names a campaign of a program: the key of its rows, but for their numbers."""
+@dataclasses.dataclass
+class Campaign:
+    """Of one program, with one number of faults a run and of steps from scrub to scrub."""
+    program: programs.Program
+    count: int
+    scrub: int
+    key: list  # what names its rows, but for their numbers
+
+
+def campaigns_of(arguments, program):
     machine = "unreplicated" if arguments.unreplicated else "replicated"
     replicas = 1 if arguments.unreplicated else arguments.replicas
     width = arguments.width if arguments.pattern == "burst" else 1
-    return [program.name, program.image, machine, replicas, arguments.drivers, arguments.pattern, width, arguments.seed]
+    counts = arguments.faults_per_run if arguments.pattern in drawing.MANY else [2 if arguments.pattern.startswith("two") else 1]
+    for count, scrub in itertools.product(counts, arguments.scrub):
+        key = [program.name, program.image, machine, replicas, arguments.drivers, scrub, arguments.pattern, count, width,
+               ",".join(arguments.kinds), arguments.seed]
+        yield Campaign(program, count, scrub, key)
 
 
-def job_of(arguments, program, number):
+def job_of(arguments, campaign, number):
     """A run that is to be made, and what of its row is known before."""
-    campaign = campaign_of(arguments, program)
-    drawn = drawing.draw_run(program, arguments.seed, number, arguments.pattern, arguments.width, arguments.replicas)
+    program = campaign.program
+    drawn = drawing.draw_run(program, arguments.seed, number, arguments.pattern, arguments.replicas, campaign.count,
+                             arguments.width, arguments.kinds)
     struck = drawing.unreplicated(drawn) if arguments.unreplicated else drawn
     first = drawn[0]
     section, symbol = program.name_of(first.number) if first.kind == "mem" else ("", "")
     replicas = 2 if arguments.unreplicated else arguments.replicas
     words = program.words + ["--replicas", str(replicas), "--drivers", str(arguments.drivers),
                              "--limit", str(program.limit())]
+    words += ["--scrub", str(campaign.scrub)] if campaign.scrub else []
     faults = "".join(fault.line() for fault in struck)
     drawn_part = [faults, first.kind, first.place, first.number if first.kind == "reg" else None, first.bit,
                   first.number if first.kind == "mem" else None, section, symbol, first.moment]
-    return {"key": campaign + [number], "drawn": drawn_part, "romain": arguments.romain, "words": words, "faults": faults,
-            "seconds": arguments.seconds, "machine": campaign[2], "replicas": replicas, "status": program.status,
-            "output": program.output, "strike": (struck[0].replica, first.thread, first.moment),
+    return {"key": campaign.key + [number], "drawn": drawn_part, "romain": arguments.romain, "words": words, "faults": faults,
+            "seconds": arguments.seconds, "machine": campaign.key[2], "replicas": replicas, "status": program.status,
+            "many": arguments.pattern in drawing.MANY and not arguments.unreplicated, "output": program.output,
+            "strike": (struck[0].replica, first.thread, first.moment),
             "replicas_struck": sorted({fault.replica for fault in struck})}
 
 
-def jobs_of(arguments, opened, kept, drawn_parts):
+def jobs_of(arguments, campaigns, kept, drawn_parts):
     """The runs that are not among the rows yet. What was drawn for each is laid down until its row comes."""
-    for program in opened:
-        there = kept.numbers(campaign_of(arguments, program))
+    for campaign in campaigns:
+        there = kept.numbers(campaign.key)
         for number in range(arguments.runs):
             if number not in there:
-                job = job_of(arguments, program, number)
+                job = job_of(arguments, campaign, number)
                 drawn_parts[tuple(job["key"])] = job.pop("drawn"), job["words"]
                 yield job
 
@@ -160,11 +200,11 @@ def bar(done, total):
     return tqdm(done, total=total)
 
 
-def run_all(arguments, opened, kept):
+def run_all(arguments, campaigns, kept):
     """Makes the runs and keeps their rows; what differs is told at once."""
     drawn_parts = {}
-    jobs = jobs_of(arguments, opened, kept, drawn_parts)
-    total = sum(len(set(range(arguments.runs)) - kept.numbers(campaign_of(arguments, program))) for program in opened)
+    jobs = jobs_of(arguments, campaigns, kept, drawn_parts)
+    total = sum(len(set(range(arguments.runs)) - kept.numbers(campaign.key)) for campaign in campaigns)
     for key, judged in bar(results_of(arguments, jobs), total):
         drawn, words = drawn_parts.pop(tuple(key))
         kept.add(dict(zip(rows.KEY + rows.DRAWN, [*key, *drawn])) | judged)
@@ -177,7 +217,12 @@ def tell(arguments, kept):
     """Files and tables of all rows."""
     if arguments.csv:
         kept.write_csv(arguments.csv)
-    if not (arguments.table or arguments.plot or arguments.latencies or arguments.check is None):
+    if arguments.points:
+        trouble = points.tell(kept, arguments.points)
+        if trouble:
+            print(f"campaign: {trouble}", file=sys.stderr)
+    is_asked = arguments.table or arguments.plot or arguments.latencies
+    if not is_asked and (arguments.check is not None or arguments.points):
         return
     try:
         import pandas
@@ -189,7 +234,7 @@ def tell(arguments, kept):
     text = telling.table(frame)
     if arguments.table:
         arguments.table.write_text(text)
-    elif arguments.check is None:
+    elif arguments.check is None and not arguments.points:
         print(text)
     if arguments.plot:
         telling.plot_fates(frame, arguments.plot)
@@ -203,15 +248,19 @@ def main():
     build(arguments)
     opened = [programs.open_program(arguments, request) for request in asked]
     kept = rows.Rows(arguments.rows)
-    run_all(arguments, opened, kept)
+    if not kept.has_columns():
+        sys.exit(f"campaign: failed, nothing was run: the rows of {arguments.rows} have other columns")
+    campaigns = [campaign for program in opened for campaign in campaigns_of(arguments, program)]
+    run_all(arguments, campaigns, kept)
     tell(arguments, kept)
-    mine = [campaign_of(arguments, program) for program in opened]
-    of_mine = [row for row in kept.every() if [row[name] for name in rows.KEY[:-1]] in mine]
-    troubled = any(row["trouble"] for row in of_mine)
+    counts, troubled = collections.Counter(), False
+    for campaign in campaigns:
+        for fate, trouble, runs in kept.fates(campaign.key):
+            counts[fate] += runs
+            troubled = troubled or bool(trouble)
     fates = judging.FATES_ALONE if arguments.unreplicated else judging.FATES
-    counts = {fate: sum(row["fate"] == fate for row in of_mine) for fate in fates}
-    told = ", ".join(f"{count} {fate}" for fate, count in counts.items() if count or fate == "differs")
-    print(f"campaign: {'failed' if troubled else 'passed'}, {len(of_mine)} runs: {told}")
+    told = ", ".join(f"{counts[fate]} {fate}" for fate in fates if counts[fate] or fate == "differs")
+    print(f"campaign: {'failed' if troubled else 'passed'}, {counts.total()} runs: {told}")
     sys.exit(1 if troubled else 0)
 
 

@@ -38,6 +38,14 @@ class Free:
 
 
 @dataclasses.dataclass
+class Scrub:
+    """All replicas were compared whole; `losers` rise, none where all were the same."""
+    winner: int
+    losers: tuple
+    did = "scrub"  # in the place of what a vote did
+
+
+@dataclasses.dataclass
 class End:
     """How the run ended, in the answer's words."""
     how: str
@@ -45,7 +53,7 @@ class End:
 
 @dataclasses.dataclass
 class Report:
-    entries: list  # Put, Vote, Free, End in their order; without --journal none
+    entries: list  # Put, Vote, Free, Scrub, End in their order; without --journal none
     summary: dict  # votes, copies, struck, steps, bytes; empty where nothing ran
     answer: str
 
@@ -58,9 +66,13 @@ class Report:
         return counts
 
     def losses(self):
-        """The votes that had losers, each with its place in the journal."""
+        """The votes and scrubs that had losers, each with its place in the journal."""
         return [(place, entry) for place, entry in enumerate(self.entries)
-                if isinstance(entry, Vote) and entry.losers]
+                if isinstance(entry, Vote | Scrub) and entry.losers]
+
+
+def losers_of(word):
+    return () if word == "-" else tuple(map(int, word.split(",")))
 
 
 def read_entry(line):
@@ -71,10 +83,11 @@ def read_entry(line):
     if kind == "put":
         return Put(*map(int, words))
     if kind == "vote":
-        losers = () if words[3] == "-" else tuple(map(int, words[3].split(",")))
-        return Vote(int(words[0]), int(words[1]), int(words[2]), losers, words[4])
+        return Vote(int(words[0]), int(words[1]), int(words[2]), losers_of(words[3]), words[4])
     if kind == "free":
         return Free(int(words[0]))
+    if kind == "scrub":
+        return Scrub(int(words[0]), losers_of(words[1]))
     return End(" ".join(words)) if kind == "end" else None
 
 

@@ -5,10 +5,10 @@
     tools/timeline.py journal --faults one -o run.svg
 
 There is a lane for each thread of each replica. A bar is a run of instructions; time goes on by instructions, each replica
-for itself up to the vote that waits for it. A line is a vote, an arrow a copy, a flash a strike; long runs that would take
-too much room are cut, and short ones get a least width, so a line of a long journal holds some dozens of votes. With the
-fault list, strikes stand where they struck; without, at the end of their turn. `-` is standard input, and standard output
-where no -o is given.
+for itself up to the vote that waits for it. A line is a vote, one over all lanes a scrub, an arrow a copy, a flash a strike; the
+lanes of a scrub's losers are framed there. Long runs that would take too much room are cut, and short ones get a least width, so
+a line of a long journal holds some dozens of votes. With the fault list, strikes stand where they struck; without, at the end of
+their turn. `-` is standard input, and standard output where no -o is given.
 """
 import argparse
 import bisect
@@ -18,16 +18,16 @@ import pathlib
 import statistics
 import sys
 
-from journals import End, Free, Put, Vote, read_report
+from journals import End, Free, Put, Scrub, Vote, read_report
 
 LEFT, RIGHT, WIDTH = 96, 24, 1100  # margins and the whole width, in pixels
 LANE, BAR, GAP, HEAD, FOOT = 18, 10, 10, 22, 26  # a lane's height, a bar's, between threads, above and below a line's lanes
 LEAST, MOST, MIDDLE = 10, 180, 48  # widths of what lies between two marks: the least, the most, that of the median
 STRETCH, END = 8, 80  # how much wider a run of few marks is drawn, and the room for its end's words
 COLOURS = {"served": "#2171b5", "blocked": "#e6890a", "mapped": "#6a51a3", "watch": "#8c8c8c", "trapped": "#a50f15",
-           "free": "#238b45"}
+           "free": "#238b45", "scrub": "#d4449c"}
 MEANS = {"served": "call served", "blocked": "call waits", "mapped": "page needed", "watch": "watchdog", "trapped": "trap",
-         "free": "a waiting call served"}
+         "free": "a waiting call served", "scrub": "scrub, all replicas compared whole"}
 RED, GREY, RUNS, LOST = "#d62728", "#666666", "#9ecae1", "#f4a6a6"
 OVERVIEW = 34  # the height of the overview
 
@@ -42,11 +42,14 @@ class Bar:
 
 @dataclasses.dataclass
 class Mark:
-    what: str  # a vote's result, or free
+    what: str  # a vote's result, free or scrub
     at: int
-    thread: int
+    thread: int | None  # None: of all
     title: str
     copies: tuple = ()  # pairs of a winner and a loser
+
+    def is_on(self, lane):
+        return self.thread is None or lane[1] == self.thread
 
 
 @dataclasses.dataclass
@@ -111,13 +114,21 @@ class Clock:
     def vote(self, entry):
         stand = [at for (_, thread), at in self.at.items() if thread == entry.thread]
         self.now = max([self.now, *stand])
-        title = f"vote on thread {entry.thread}: {MEANS.get(entry.did, entry.did)}"
+        self.compare(entry, entry.thread, f"vote on thread {entry.thread}: {MEANS.get(entry.did, entry.did)}")
+        self.wait(entry.thread)
+
+    def scrub(self, entry):
+        """It comes when all stand still, and all go on from it."""
+        self.now = max([self.now, *self.at.values()])
+        self.compare(entry, None, MEANS["scrub"])
+        self.at = dict.fromkeys(self.at, self.now)
+
+    def compare(self, entry, thread, title):
         copies = tuple((entry.winner, loser) for loser in entry.losers)
         for winner, loser in copies:
             title += f"; replica {loser} lost and is a copy of replica {winner}"
             self.take_over(winner, loser)
-        self.marks.append(Mark(entry.did, self.now, entry.thread, title, copies))
-        self.wait(entry.thread)
+        self.marks.append(Mark(entry.did, self.now, thread, title, copies))
 
     def take_over(self, winner, loser):
         """The loser stands where the winner does, with all its threads."""
@@ -147,6 +158,8 @@ def layout(report, faults):
             clock.vote(entry)
         elif isinstance(entry, Free):
             clock.free(entry)
+        elif isinstance(entry, Scrub):
+            clock.scrub(entry)
         elif isinstance(entry, End):
             end = entry.how
     lanes = sorted({bar.lane for bar in clock.bars}, key=lambda lane: (lane[1], lane[0]))
@@ -234,7 +247,7 @@ class Picture:
         for strike in self.drawing.strikes:
             needed[self.scale.place(strike.at)[0]].add(strike.lane)
         for mark in self.drawing.marks:
-            needed[self.scale.place(mark.at)[0]] |= {lane for lane in self.drawing.lanes if lane[1] == mark.thread}
+            needed[self.scale.place(mark.at)[0]] |= set(filter(mark.is_on, self.drawing.lanes))
         return needed
 
     def rows_of(self, needed):
@@ -283,7 +296,7 @@ class Picture:
         for what in COLOURS:
             if any(mark.what == what for mark in self.drawing.marks):
                 self.add("line", x1=number(x + 4), y1=30, x2=number(x + 4), y2=44, stroke=COLOURS[what], stroke_width=2)
-                x = self.label(x + 12, "a waiting call served" if what == "free" else f"vote, {MEANS[what]}")
+                x = self.label(x + 12, MEANS[what] if what in ("free", "scrub") else f"vote, {MEANS[what]}")
         for colour, label in (RUNS, "runs"), (LOST, "runs behind a strike"):
             if colour == RUNS or self.drawing.strikes:
                 self.add("rect", x=number(x), y=33, width=14, height=BAR, fill=colour)
@@ -317,18 +330,23 @@ class Picture:
         self.text(LEFT, self.tops[line + 1] - 6, f"from {self.scale.lines[line]} instructions on", fill=GREY, font_size=9)
 
     def mark(self, mark):
-        """A line over the lanes of its thread; each copy is an arrow beside it, with both replicas' ends."""
+        """A line over its lanes, a broad one of a scrub, so that a vote at its place leaves it to be seen; each copy is an arrow
+        beside it, with both replicas' ends, and all lanes of a scrub's loser are framed."""
         line, x = self.scale.place(mark.at)
-        x, rows = x + LEFT, [y for lane, y in self.rows[line].items() if lane[1] == mark.thread]
-        low, high = self.tops[line] + min(rows) + 1, self.tops[line] + max(rows) + LANE - 1
+        x, rows = x + LEFT, {lane: y for lane, y in self.rows[line].items() if mark.is_on(lane)}
+        low, high = self.tops[line] + min(rows.values()) + 1, self.tops[line] + max(rows.values()) + LANE - 1
         dashes = {"stroke_dasharray": "3 2"} if mark.what in ("blocked", "watch") else {}
         self.add("line", title(mark.title), x1=number(x), y1=number(low), x2=number(x), y2=number(high),
-                 stroke=COLOURS.get(mark.what, "#000000"), stroke_width=2, **dashes)
+                 stroke=COLOURS.get(mark.what, "#000000"), stroke_width=6 if mark.thread is None else 2, **dashes)
         for copy in mark.copies:
-            winner, loser = (self.tops[line] + self.rows[line][replica, mark.thread] + 9 for replica in copy)
+            winner, loser = (self.tops[line] + min(y for lane, y in rows.items() if lane[0] == replica) + 9 for replica in copy)
             self.add("path", title(mark.title), d=f"M{number(x)} {number(winner)} h7 V{number(loser)} h-4 l4 -3 v6 l-4 -3",
                      fill="none", stroke=RED, stroke_width=2)
             self.text(x + 11, (winner + loser) / 2 + 3, "copy", fill=RED, font_size=9)
+            for lane, y in rows.items() if mark.thread is None else ():
+                if lane[0] == copy[1]:
+                    self.add("rect", title(mark.title), x=number(x - 4), y=number(self.tops[line] + y + 2), width=8,
+                             height=LANE - 4, fill="none", stroke=RED)
 
     def strike(self, strike):
         line, x = self.scale.place(strike.at)

@@ -5,7 +5,8 @@ import dataclasses
 from auditing.jobs import Entry, Fault, Job
 from auditing.kernel import Blocked, Call, Done, Effect, Ends, Kernel, Served, opening_kernel
 from auditing.replicas import Change, PageFault, Replica, Stands, Stop, Trap, View
-from journals import Free, Put, Take, Vote
+from fuzzing.machine import PAGE
+from journals import Free, Put, Scrub, Take, Vote
 
 
 class Illegal(Exception):
@@ -17,6 +18,7 @@ def needs(holds: bool, why: str):
         raise Illegal(why)
 
 
+PARTS = [*(f"x{number}" for number in range(1, 32)), "pc", "since", "stop", "payload"]  # of a view, as they are told
 STEPS = {"served": 1, "trapped": 1, "blocked": 0, "mapped": 0, "watch": 0}  # that an event itself adds to the plan
 
 
@@ -41,23 +43,40 @@ class Won:
 
 
 @dataclasses.dataclass
+class Whole:
+    """In what replicas differ that are compared whole."""
+    threads: list[tuple[int, list[str]]]  # each live one that differs, and the parts of it
+    pages: list[int]  # addresses
+
+
+@dataclasses.dataclass
 class Copy:
-    """A replica that lost a vote and became as the winner."""
-    place: int  # of the vote's entry
-    thread: int
+    """A replica that lost a vote or a scrub and became as the winner."""
+    place: int  # of the entry
+    thread: int | None  # None at a scrub
     replica: int
-    differed: list[str]  # the parts of its view that were not the winner's
+    differed: list[str] | Whole  # the parts of its view that were not the winner's, or all that was not
     undone: list[tuple[Fault, int]]  # what had struck it since its last copy, and how many instructions of its thread before
 
 
-def unlike(one: View, other: View) -> list[str]:
-    """The parts in which two views differ."""
+def unlike(one: View | tuple, other: View | tuple) -> list[str]:
+    """The parts in which two views differ, or two live threads of snapshots, which have no bytes that go out."""
     registers = [f"x{number}" for number in range(1, 32) if one[0][number] != other[0][number]]
     rest = zip(("pc", "since", "stop", "payload"), one[1:], other[1:])
     return registers + [name for name, mine, theirs in rest if mine != theirs]
 
 
-def verdict(views: list[View]) -> tuple[int, tuple[int, ...]] | None:
+def unlike_whole(kernel: Kernel, replicas: list[Replica]) -> Whole:
+    """In what the replicas differ from the first of them."""
+    (pages, threads), *others = [replica.snapshot(kernel) for replica in replicas]
+    differ = [page for page in sorted(pages) if any(other[page] != pages[page] for other, _ in others)]
+    parts = [(number, {part for _, other in others for part in unlike(mine, other[number])})
+             for number, mine in enumerate(threads) if kernel.lives_on(number)]
+    return Whole([(number, sorted(found, key=PARTS.index)) for number, found in parts if found], [page * PAGE for page in differ])
+
+
+def verdict(views: list) -> tuple[int, tuple[int, ...]] | None:
+    """Of views or snapshots: the lowest replica that shows what more than half of them show, and those that show another."""
     for number, view in enumerate(views):
         if 2 * views.count(view) > len(views):
             return number, tuple(loser for loser, other in enumerate(views) if other != view)
@@ -72,11 +91,12 @@ class Core:
         self.kernel = opening_kernel(self.replicas[0])
         self.blocked: dict[int, Call] = {}  # by thread, the voted call on which it is blocked
         self.steps = 0
+        self.scrubbed = 0  # the steps at the last scrub
         self.output = b""
         self.wrote = 0  # how many bytes the last entry's event wrote
         self.due: str | None = None  # an end that must come next
         self.ended: str | None = None
-        self.views: list[View] = []  # of the end differ or no-majority, those that had no majority
+        self.views: list[View] = []  # of the end differ or no-majority, those that had no majority; none at a scrub
         self.entries = 0  # how many were done
         self.copies: list[Copy] = []
 
@@ -90,6 +110,8 @@ class Core:
             self.vote(entry)
         elif isinstance(entry, Free):
             self.free(entry.thread)
+        elif isinstance(entry, Scrub):
+            self.scrub(entry)
         else:
             self.end(entry.how)
         self.entries += 1
@@ -116,6 +138,14 @@ class Core:
         """Nothing is lent, and the call on which the thread is blocked no longer blocks."""
         return (self.is_going() and not self.leases and thread in self.blocked
                 and not self.kernel.blocks(thread, self.blocked[thread]))
+
+    def may_scrub(self) -> bool:
+        """Nothing is lent and nothing can be: every thread that lives stands still in every replica."""
+        return self.is_going() and not self.leases and not self.some_lendable()
+
+    def some_lendable(self) -> bool:
+        return any(self.is_lendable(number, thread)
+                   for number in range(len(self.replicas)) for thread in range(len(self.kernel.lives)))
 
     # ---- A replica is lent, runs, and comes back
 
@@ -197,12 +227,12 @@ class Core:
             self.replicas[loser].become(self.replicas[won.winner])
         self.occur(entry.thread, won.count, won.event)
 
-    def copy(self, thread: int, winner: int, loser: int) -> Copy:
-        """The copy that is about to be made."""
-        replica = self.replicas[loser]
+    def copy(self, thread: int | None, winner: int, loser: int) -> Copy:
+        """The copy that is about to be made, at a vote on the thread or at a scrub."""
+        one, replica = self.replicas[winner], self.replicas[loser]
         undone = [(fault, replica.threads[fault.thread].done - fault.moment)
                   for fault in self.job.faults if fault in replica.struck]
-        differed = unlike(self.replicas[winner].view(thread), replica.view(thread))
+        differed = unlike_whole(self.kernel, [one, replica]) if thread is None else unlike(one.view(thread), replica.view(thread))
         return Copy(self.entries, thread, loser, differed, undone)
 
     def free(self, thread: int):
@@ -211,6 +241,21 @@ class Core:
         call = self.blocked[thread]
         self.occur(thread, 0, self.call_event(thread, call, b"", self.kernel.serve(thread, call)))
 
+    # ---- All replicas are compared whole
+
+    def prevailing(self) -> tuple[int, tuple[int, ...]] | None:
+        """What a scrub comes to; None where there is no majority."""
+        return verdict([replica.snapshot(self.kernel) for replica in self.replicas])
+
+    def scrub(self, entry: Scrub):
+        needs(self.may_scrub(), "there can be no scrub")
+        came = self.prevailing()
+        needs(came == (entry.winner, entry.losers), f"the scrub comes to {came}")
+        self.copies += [self.copy(None, entry.winner, loser) for loser in entry.losers]
+        for loser in entry.losers:
+            self.replicas[loser].become(self.replicas[entry.winner])
+        self.scrubbed, self.wrote = self.steps, 0
+
     # ---- Ends
 
     def end(self, how: str):
@@ -218,10 +263,11 @@ class Core:
         threads = range(len(self.kernel.lives))
         needs(how == self.due or self.ends_alone(how)
               or any(self.may_vote(thread) and self.ends_vote(thread, how) for thread in threads)
-              or any(self.may_free(thread) and self.is_passed(how, 1) for thread in threads), "the run doesn't end so")
+              or any(self.may_free(thread) and self.is_passed(how, 1) for thread in threads)
+              or self.may_scrub() and self.ends_scrub(how), "the run doesn't end so")
         if how in ("differ", "no-majority"):
-            split = next(thread for thread in threads if self.may_vote(thread) and self.won(thread) is None)
-            self.views = [replica.view(split) for replica in self.replicas]
+            split = [thread for thread in threads if self.may_vote(thread) and self.won(thread) is None]
+            self.views = [replica.view(split[0]) for replica in self.replicas] if split else []
         if how.startswith("sink "):
             self.output = self.output[:len(self.output) - self.wrote + int(how.split(" ")[1])]
         self.wrote, self.due, self.ended = 0, None, how
@@ -234,15 +280,22 @@ class Core:
     def is_stuck(self) -> bool:
         threads = range(len(self.kernel.lives))
         return self.is_going() and not self.leases and not any(
-            self.may_vote(thread) or self.may_free(thread)
-            or any(self.is_lendable(number, thread) for number in range(len(self.replicas))) for thread in threads)
+            self.may_vote(thread) or self.may_free(thread) for thread in threads) and not self.some_lendable()
 
     def ends_vote(self, thread: int, how: str) -> bool:
         """Whether the end comes in the place of a vote on the thread: no majority, or the limit would be passed."""
         won = self.won(thread)
         if won is None:
-            return how == ("differ" if len(self.replicas) == 2 else "no-majority")
+            return how == self.how_split()
         return self.is_passed(how, won.count + STEPS[won.event.did])
+
+    def ends_scrub(self, how: str) -> bool:
+        """Whether the end comes in the place of a scrub: no majority."""
+        return how == self.how_split() and self.prevailing() is None
+
+    def how_split(self) -> str:
+        """The end where there is no majority."""
+        return "differ" if len(self.replicas) == 2 else "no-majority"
 
     def is_passed(self, how: str, more: int) -> bool:
         """Whether the end says that so many steps more would pass the limit, and they would."""
@@ -254,17 +307,20 @@ class Judged:
     core: Core  # that the legal entries leave
     place: int | None = None  # of the first entry that isn't allowed, from 0
     why: str = ""
+    other: int | None = None  # the place of the first legal entry that isn't what the program does next, where that is asked
 
     def __str__(self):
         return "legal" if self.place is None else f"illegal {self.place}"
 
 
-def judge(job: Job, entries: list[Entry]) -> Judged:
-    """Whether each entry is allowed in the core that those before it leave."""
-    core = Core(job)
+def judge(job: Job, entries: list[Entry], is_next=None) -> Judged:
+    """Whether each entry is allowed in the core that those before it leave; and, by `is_next`, whether it is what comes next."""
+    core, other = Core(job), None
     for place, entry in enumerate(entries):
+        if is_next is not None and other is None and not is_next(core, entry):
+            other = place
         try:
             core.do(entry)
         except Illegal as illegal:
-            return Judged(core, place, str(illegal))
-    return Judged(core)
+            return Judged(core, place, str(illegal), other)
+    return Judged(core, other=other)

@@ -9,11 +9,12 @@ from auditing.replicas import Change
 from fuzzing import readers
 from fuzzing.machine import STACKS, STACK_SIZE, STACK_STEP
 from fuzzing.programs import BASE, PAGE
-from journals import End, Free, Put, Take, Vote
+from journals import End, Free, Put, Scrub, Take, Vote
 
 HEAD = "romain 2"
 CHOICES = {"replicas": [2, 3, 3, 5], "drivers": [1, 1, 2, 3, 8], "watchdog": [100, 100, 128, 10_000],
-           "quantum": [1, 2, 3, 7, 64, 4_096], "limit": [3, 20, 60, 300, 2_000]}
+           "quantum": [1, 2, 3, 7, 64, 4_096], "limit": [3, 20, 60, 300, 2_000],
+           "scrub": [0, 0, 1, 1, 7, 40, 300]}
 THREADS = [0, 0, 1, 2, 15]  # of which faults are drawn
 
 
@@ -31,7 +32,9 @@ def draw_fault(draw: random.Random, file: bytes, replicas: int) -> str:
         where = f"{draw.randrange(32)}"
     else:
         stack = STACKS + STACK_STEP * thread + STACK_SIZE - 1 - draw.randrange(32)
-        where = f"{draw.choice((BASE + draw.randrange(len(file)), BASE + PAGE + draw.randrange(8), stack))} {draw.randrange(8)}"
+        hidden = BASE + draw.randrange(52)  # of the file's header, which no guest reads
+        places = hidden, BASE + draw.randrange(len(file)), BASE + PAGE + draw.randrange(8), stack
+        where = f"{draw.choice(places)} {draw.randrange(8)}"
     return f"{replica} {thread} {moment} {kind} {where}\n"
 
 
@@ -59,6 +62,8 @@ def allowed(draw: random.Random, core: Core) -> list[Entry]:
         return [End(core.due)]
     if core.wrote and draw.randrange(10) == 0:
         return [End(f"sink {draw.randrange(core.wrote)}")]
+    if core.may_scrub() and draw.randrange(4) == 0:
+        return [scrub_of(core)]
     if core.is_stuck():
         return [End("deadlock")]
     threads, replicas = range(len(core.kernel.lives)), range(len(core.replicas))
@@ -86,11 +91,17 @@ def vote_of(core: Core, thread: int) -> Vote | End:
     """A vote, or the end that comes in its place."""
     won = core.won(thread)
     if won is None:
-        return End("differ" if len(core.replicas) == 2 else "no-majority")
+        return End(core.how_split())
     more = won.count + STEPS[won.event.did]
     if core.steps + more > core.job.limit:
         return End(f"limit {core.steps} {more}")
     return Vote(thread, won.count, won.winner, won.losers, won.event.did)
+
+
+def scrub_of(core: Core) -> Scrub | End:
+    """A scrub, or the end that comes in its place."""
+    came = core.prevailing()
+    return End(core.how_split()) if came is None else Scrub(*came)
 
 
 # ---- Texts
@@ -102,9 +113,14 @@ def line_of(entry: Entry) -> str:
     if isinstance(entry, Put):
         return f"put {entry.driver} {entry.replica} {entry.thread} {entry.retired} {entry.struck}"
     if isinstance(entry, Vote):
-        losers = ",".join(map(str, entry.losers)) or "-"
-        return f"vote {entry.thread} {entry.steps} {entry.winner} {losers} {entry.did}"
+        return f"vote {entry.thread} {entry.steps} {entry.winner} {losers_of(entry)} {entry.did}"
+    if isinstance(entry, Scrub):
+        return f"scrub {entry.winner} {losers_of(entry)}"
     return f"free {entry.thread}" if isinstance(entry, Free) else f"end {entry.how}"
+
+
+def losers_of(entry: Vote | Scrub) -> str:
+    return ",".join(map(str, entry.losers)) or "-"
 
 
 def text_of(lines: list[str]) -> bytes:
@@ -112,6 +128,9 @@ def text_of(lines: list[str]) -> bytes:
 
 
 # ---- Changes
+
+LOSERS = ["-", "-", "0", "1", "2", "0,1", "1,2", "3,4"]
+
 
 def change_number(draw: random.Random, lines: list[str]):
     """A number of an entry becomes another, mostly near it."""
@@ -131,10 +150,22 @@ def change_vote(draw: random.Random, lines: list[str]):
         place = draw.choice(places)
         words = lines[place].split(" ")
         if draw.randrange(2):
-            words[4] = draw.choice(("-", "0", "1", "2", "0,1", "1,2", "3,4"))
+            words[4] = draw.choice(LOSERS)
         else:
             words[5] = draw.choice(list(STEPS))
         lines[place] = " ".join(words)
+
+
+def change_scrub(draw: random.Random, lines: list[str]):
+    """A scrub has another winner or other losers, is dropped, or comes where none was."""
+    places = [place for place, line in enumerate(lines) if line.startswith("scrub ")]
+    how = draw.randrange(4) if places else 3
+    if how == 3:
+        lines.insert(draw.randrange(len(lines) + 1), f"scrub {draw.choice((0, 0, 0, 1))} {draw.choice(LOSERS)}")
+        return
+    place = draw.choice(places)
+    _, winner, losers = lines[place].split(" ")
+    lines[place:place + 1] = [[f"scrub {draw.randrange(5)} {losers}"], [f"scrub {winner} {draw.choice(LOSERS)}"], []][how]
 
 
 def drop(draw: random.Random, lines: list[str]):
@@ -167,7 +198,8 @@ def take_end(draw: random.Random, lines: list[str]):
     del lines[draw.choice((len(lines) - 1, draw.randrange(len(lines)))):]
 
 
-CHANGES = [change_number] * 4 + [change_vote, drop, drop, double, swap, swap, put_end, put_end, take_end]
+CHANGES = [change_number] * 4 + [change_vote, change_scrub, change_scrub, drop, drop, double, swap, swap, put_end, put_end,
+                                 take_end]
 
 
 def draw_change(draw: random.Random, lines: list[str]) -> list[str]:

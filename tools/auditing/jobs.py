@@ -2,9 +2,9 @@
 import dataclasses
 
 from fuzzing import readers
-from journals import End, Free, Put, Take, Vote, read_entry
+from journals import End, Free, Put, Scrub, Take, Vote, read_entry
 
-Entry = Take | Put | Vote | Free | End
+Entry = Take | Put | Vote | Free | Scrub | End
 
 
 @dataclasses.dataclass
@@ -30,6 +30,7 @@ class Job:
     watchdog: int
     quantum: int
     limit: int
+    scrub: int
 
 
 class Refused(Exception):

@@ -3,7 +3,7 @@ from auditing.cores import STEPS, Core
 from auditing.drawing import line_of
 from auditing.jobs import Entry, Job
 from auditing.replicas import Change
-from journals import Free, Put, Take, Vote
+from journals import Free, Put, Scrub, Take, Vote
 
 
 def core_behind(job: Job, entries: list[Entry]) -> Core:
@@ -26,6 +26,8 @@ def reason_of(core: Core, entry: Entry) -> dict:
         return {"reason": "comes", "entry": vote_comes_to(core, entry.thread)} if core.may_vote(entry.thread) else {"reason": "no_vote"}
     if isinstance(entry, Free):
         return {"reason": "comes", "entry": f"end limit {core.steps} 1"} if core.may_free(entry.thread) else {"reason": "no_free"}
+    if isinstance(entry, Scrub):
+        return {"reason": "comes", "entry": scrub_comes_to(core)} if core.may_scrub() else {"reason": "no_scrub"}
     return {"reason": "no_end"}
 
 
@@ -50,8 +52,14 @@ def vote_comes_to(core: Core, thread: int) -> str:
     """The line of a vote that may be held, or of the end in its place."""
     won = core.won(thread)
     if won is None:
-        return "end differ" if len(core.replicas) == 2 else "end no-majority"
+        return f"end {core.how_split()}"
     more = won.count + STEPS[won.event.did]
     if core.steps + more > core.job.limit:
         return f"end limit {core.steps} {more}"
     return line_of(Vote(thread, won.count, won.winner, won.losers, won.event.did))
+
+
+def scrub_comes_to(core: Core) -> str:
+    """The line of a scrub that may be made, or of the end in its place."""
+    came = core.prevailing()
+    return f"end {core.how_split()}" if came is None else line_of(Scrub(*came))

@@ -3,7 +3,7 @@ faults that wait. What an instruction does is told by the machine that tools/fuz
 import dataclasses
 
 from auditing.jobs import Fault, Job
-from auditing.kernel import Call, Effect, Goes, is_good_write, moved
+from auditing.kernel import Call, Effect, Goes, Kernel, is_good_write, moved
 from fuzzing.machine import EBREAK, ECALL, PAGE, WORD, Machine, low_bytes
 from racing.machine import made_registers
 
@@ -54,6 +54,7 @@ class Thread:
 
 
 View = tuple[list[int], int, int, Stop, bytes]  # registers, pc, instructions since, stop, bytes that go out
+Snapshot = tuple[dict[int, bytearray], list[tuple]]  # pages, and of each thread the same but the bytes
 
 
 class Replica(Machine):
@@ -152,6 +153,12 @@ class Replica(Machine):
         """All that a vote compares of a thread that stands still."""
         thread = self.threads[number]
         return thread.registers, thread.pc, thread.since, thread.stop, self.payload(thread.stop)
+
+    def snapshot(self, kernel: Kernel) -> Snapshot:
+        """All that a scrub compares: memory, of each thread its instructions since, and of each that lives the rest of it."""
+        threads = [(thread.registers, thread.pc, thread.since, thread.stop) if kernel.lives_on(number) else (thread.since,)
+                   for number, thread in enumerate(self.threads)]
+        return self.pages, threads
 
     def become(self, winner: "Replica"):
         """A copy of the winner, but for what this replica has retired itself and its own faults."""

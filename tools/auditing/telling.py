@@ -1,5 +1,5 @@
 """What an audit tells of a journal: its JSON, and the sentences of its copies."""
-from auditing.cores import Copy, Core, Judged, unlike
+from auditing.cores import Copy, Core, Judged, Whole, unlike, unlike_whole
 from auditing.drawing import line_of
 from auditing.jobs import Entry, Fault
 from auditing.kernel import Call
@@ -38,17 +38,31 @@ def fault_line(fault: Fault) -> str:
 
 def copy_told(copy: Copy) -> dict:
     undone = [{"fault": fault_line(fault), "before": before} for fault, before in copy.undone]
-    return {"place": copy.place, "thread": copy.thread, "replica": copy.replica, "differed": copy.differed, "undone": undone}
+    differed = whole_told(copy.differed) if isinstance(copy.differed, Whole) else copy.differed
+    return {"place": copy.place, "thread": copy.thread, "replica": copy.replica, "differed": differed, "undone": undone}
+
+
+def whole_told(whole: Whole) -> dict:
+    return {"threads": [{"thread": thread, "parts": parts} for thread, parts in whole.threads], "pages": whole.pages}
 
 
 def copy_line(copy: Copy) -> str:
     """The sentences of a copy."""
-    *most, last = [WORDS.get(part, part) for part in copy.differed]
-    parts = f"{', '.join(most)} and {last}" if most else last
+    parts = whole_words(copy.differed) if isinstance(copy.differed, Whole) else listed(copy.differed)
     strikes = [f"{fault_line(fault)}, struck {before} instruction{'' if before == 1 else 's'} before" for fault, before in copy.undone]
     explained = f"Undone: {'; '.join(strikes)}." if strikes else "No fault of the list in that replica explains it."
-    made = f"At entry {copy.place} replica {copy.replica} was overwritten at a vote on thread {copy.thread}"
-    return f"{made}: {parts} differed. {explained}"
+    where = "a scrub" if copy.thread is None else f"a vote on thread {copy.thread}"
+    return f"At entry {copy.place} replica {copy.replica} was overwritten at {where}: {parts} differed. {explained}"
+
+
+def listed(parts: list[str]) -> str:
+    *most, last = [WORDS.get(part, part) for part in parts]
+    return f"{', '.join(most)} and {last}" if most else last
+
+
+def whole_words(whole: Whole) -> str:
+    words = [f"{listed(parts)} of thread {thread}" for thread, parts in whole.threads]
+    return ", ".join(words + [f"the page {page:08x}" for page in whole.pages])
 
 
 # ---- Ends
@@ -62,8 +76,8 @@ def end_told(core: Core, entries: list[Entry]) -> dict:
         "trap": lambda: {"cause": first, "at": trap_told(core, entries)},
         "limit": lambda: {"steps": first, "next": rest[0],
                           "threads": [standing_told(core, thread) for thread in range(len(core.kernel.lives))]},
-        "differ": lambda: {"fields": fields_told(core)},
-        "no-majority": lambda: {"fields": fields_told(core)},
+        "differ": lambda: split_told(core),
+        "no-majority": lambda: split_told(core),
         "sink": lambda: {"taken": first},
     }
     return {"how": how, **more[how]()}
@@ -97,9 +111,18 @@ def standing_told(core: Core, thread: int) -> dict:
     return {"thread": thread, "pc": stands.pc, "stop": stop_word(stands.stop)}
 
 
-def fields_told(core: Core) -> list[dict]:
-    """The parts in which the views that had no majority differ."""
-    views = core.views
+def split_told(core: Core) -> dict:
+    """In what the replicas differ that had no majority: at a vote, or, where no views are left, at a scrub."""
+    if core.views:
+        return {"fields": fields_told(core.views)}
+    whole, snapshots = unlike_whole(core.kernel, core.replicas), [replica.snapshot(core.kernel) for replica in core.replicas]
+    threads = [{"thread": thread, "fields": fields_told([(*threads[thread], b"") for _, threads in snapshots])}
+               for thread, _ in whole.threads]
+    return {"threads": threads, "pages": whole.pages}
+
+
+def fields_told(views: list) -> list[dict]:
+    """The parts in which views differ."""
     parts = {part for view in views for part in unlike(views[0], view)}
     values = {"pc": [{"pc": pc} for _, pc, *_ in views], "since": [view[2] for view in views],
               **{f"x{number}": [view[0][number] for view in views] for number in range(1, 32)},

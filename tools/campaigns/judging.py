@@ -5,7 +5,9 @@ threads; a campaign looks whether another order shows, and takes no program wher
 replayed: the votes and frees of its journal name one execution without faults, and what that writes is what is wanted.
 `wanted` is the place for it.
 """
-from journals import Put, Vote, read_report
+import re
+
+from journals import Put, Scrub, Vote, losers_of, read_report
 
 # What may become of a run that is replicated, and of one that is not. `differs` may not be.
 FATES = ["vanished", "overwritten", "stopped", "no majority", "outvoted", "not reached", "differs"]
@@ -24,12 +26,13 @@ def strikes(report):
 
 def stay_apart(report):
     """Whether the journal of two or three replicas shows that the faults stayed apart: where two turns struck two replicas,
-    the first became a copy before the second began. It may be so without showing: a struck bit may have been written over."""
+    the first became a copy before the second began, or a scrub came between, which leaves all alike. It may be so without
+    showing: a struck bit may have been written over."""
     struck = strikes(report)
     for place, first in struck:
         for at, second in struck:
             if at > place and second.replica != first.replica and not any(
-                    isinstance(entry, Vote) and first.replica in entry.losers
+                    isinstance(entry, Scrub) or isinstance(entry, Vote) and first.replica in entry.losers
                     for entry in report.entries[place:second.taken]):
                 return False
     return True
@@ -52,16 +55,69 @@ def latency(report, replica, strike, until):
     return total if begun else None
 
 
+# The lines of a journal that tell of strikes and losers.
+MARKS = re.compile(r"^(?:put \d+ (?P<struck>\d+) \d+ \d+ [1-9]\d*|vote \d+ \d+ \d+ (?P<lost>[\d,]+) (?P<did>\w+)"
+                   r"|scrub \d+ (?P<scrubbed>\S+))$", re.M)
+
+
+class Story:
+    """What a journal tells of strikes, from each scrub to the next, from the opening to the first, and behind the last. A few
+    strikes hit at most half of the replicas; then scrubs leave all alike, and those that weren't struck since don't lose."""
+
+    def __init__(self, text, replicas):
+        self.few, self.found, self.unstruck = True, "", None  # found: what the first vote or scrub with losers did
+        struck = set()
+        for mark in MARKS.finditer(text):
+            if mark["struck"]:
+                struck.add(int(mark["struck"]))
+                self.few = self.few and 2 * len(struck) <= replicas
+                continue
+            losers = losers_of(mark["lost"] or mark["scrubbed"])
+            if losers:
+                self.found = self.found or mark["did"] or "scrub"
+                self.unstruck = next((loser for loser in losers if loser not in struck), self.unstruck)
+            if mark["scrubbed"]:
+                struck = set()
+
+
+def judge_many(job, status, output, text, story):
+    """Replicas that were struck by many faults, of which one after another may hit each replica."""
+    report = read_report(text[text.rfind("\nvotes ") + 1:])  # without the journal, of which the story is told
+    answer, struck = report.answer, report.summary.get("struck", 0)
+    row = {"status": status, "answer": answer, "struck": struck, "few": int(story.few), "vote": story.found or None}
+    is_right = (status, output) == wanted(job, report)
+    if story.few:
+        trouble = "" if is_right or is_stopped(job, answer, output) else f"status {status}; answer {answer}; {len(output)} bytes"
+        if story.unstruck is not None:
+            trouble = f"replica {story.unstruck} lost, which wasn't struck since the last scrub"
+        if trouble:
+            return row | {"fate": "differs", "trouble": trouble}
+    if answer in ("differ", "no-majority"):
+        return row | {"fate": "stopped" if answer == "differ" else "no majority"}
+    if not is_right:
+        return row | {"fate": "outvoted"}
+    return row | {"fate": "overwritten" if story.found else "vanished" if struck else "not reached"}
+
+
+def is_stopped(job, answer, output):
+    """Whether two replicas differed, and what was written is a front."""
+    return job["replicas"] == 2 and answer == "differ" and job["output"].startswith(output)
+
+
 def judge(job, done):
     """The row of a run: its fate, the vote that found it, the latency, and what is wrong, if anything."""
     if done is None:
         alone = job["machine"] == "unreplicated"
         return {"fate": "hang" if alone else "differs", "trouble": "" if alone else "it doesn't come to its end"}
     status, output, text = done
+    story = Story(text, job["replicas"])
+    if job["many"]:
+        return judge_many(job, status, output, text, story)
     report = read_report(text)
-    row = {"status": status, "answer": report.answer, "struck": report.summary.get("struck", 0)}
-    judged = judge_alone if job["machine"] == "unreplicated" else judge_replicas
-    return row | judged(job, status, output, report)
+    row = {"status": status, "answer": report.answer, "struck": report.summary.get("struck", 0), "few": int(story.few)}
+    if job["machine"] == "unreplicated":
+        return row | judge_alone(job, status, output, report)
+    return row | judge_replicas(job, status, output, report, story.few)
 
 
 def judge_alone(job, status, output, report):
@@ -77,11 +133,11 @@ def judge_alone(job, status, output, report):
     return {"fate": "crash", "trouble": f"two replicas struck alike end with {report.answer}"}
 
 
-def judge_replicas(job, status, output, report):
-    """Replicas that are compared."""
+def judge_replicas(job, status, output, report, few):
+    """Replicas that are compared; whether the strikes from scrub to scrub hit at most half of them."""
     losses = report.losses()
     trouble = trouble_of(job, status, output, report, losses)
-    apart = 2 * len(job["replicas_struck"]) <= job["replicas"] or stay_apart(report)
+    apart = 2 * len(job["replicas_struck"]) <= job["replicas"] or few or stay_apart(report)
     if trouble and apart:
         return {"fate": "differs", "trouble": trouble}
     strike = job["strike"]

@@ -28,8 +28,8 @@ def run_job(job):
 
 
 def locally(jobs, count):
-    """The jobs' rows as they come, `count` runs at once."""
-    with concurrent.futures.ThreadPoolExecutor(count) as pool:
+    """The jobs' rows as they come, `count` runs at once, by as many processes."""
+    with concurrent.futures.ProcessPoolExecutor(count) as pool:
         waiting = {pool.submit(run_job, job) for job in itertools.islice(jobs, 2 * count)}
         while waiting:
             done, waiting = concurrent.futures.wait(waiting, return_when=concurrent.futures.FIRST_COMPLETED)

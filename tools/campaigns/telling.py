@@ -4,37 +4,13 @@ import math
 import pandas
 
 from campaigns.drawing import KINDS, REGISTERS
+from campaigns.forms import figure, markdown, save, shown_rate
 from campaigns.judging import FATES, FATES_ALONE
 
 COLOURS = {"vanished": "#9ecae1", "overwritten": "#2171b5", "stopped": "#6a51a3", "no majority": "#fdae6b",
            "outvoted": "#e6550d", "not reached": "#d9d9d9", "differs": "#a50f15", "silent corruption": "#d94801",
            "crash": "#737373", "hang": "#252525"}
 LATENCIES = [0, 1, 10, 100, 1_000, 10_000, 100_000, 1_000_000]
-Z = 1.959964  # of 95 %
-
-
-def wilson(count, total):
-    """The rate and the ends of its 95 % Wilson interval."""
-    if total == 0:
-        return math.nan, 0.0, 1.0
-    rate = count / total
-    middle = (rate + Z * Z / (2 * total)) / (1 + Z * Z / total)
-    half = Z / (1 + Z * Z / total) * math.sqrt(rate * (1 - rate) / total + Z * Z / (4 * total * total))
-    return rate, max(0.0, middle - half), min(1.0, middle + half)
-
-
-def shown_rate(count, total):
-    if total == 0:
-        return ""
-    rate, low, high = wilson(count, total)
-    return f"{100 * rate:.1f} ({100 * low:.1f} to {100 * high:.1f})"
-
-
-def markdown(heads, lines):
-    """A table whose first column is left, the others right."""
-    rows = [heads, ["---", *["---:"] * (len(heads) - 1)], *lines]
-    return "".join("| " + " | ".join(str(cell) for cell in row) + " |\n" for row in rows) + "\n"
-
 
 def fates_of(frame):
     """The fates that come in it, in their order; `differs` always."""
@@ -96,19 +72,6 @@ def table(frame):
         text += fates_by(named.assign(symbol=named.program + ": " + named.symbol), "symbol", "symbol")
         text += latencies(some)
     return text
-
-
-def figure(height):
-    """matplotlib's, drawn without a screen; the same picture gives the same bytes."""
-    import matplotlib
-    matplotlib.use("Agg")
-    matplotlib.rcParams |= {"svg.hashsalt": "campaign", "font.size": 9, "svg.fonttype": "none"}
-    from matplotlib import pyplot
-    return pyplot.subplots(figsize=(8, height), constrained_layout=True)
-
-
-def save(drawn, path):
-    drawn.savefig(path, metadata={"Date": None} if str(path).endswith(".svg") else None)
 
 
 def plot_fates(frame, path):

@@ -90,7 +90,7 @@ def run_troubles(case, came, answer):
 
 class Executables:
     """Changed executables. Which are refused, and by which code, is known; what the others come to, too, as long as they have one
-    thread: output, answer, votes and steps, whatever the number of replicas and drivers and the quantum."""
+    thread: output, answer, votes and steps, whatever the number of replicas and drivers, the quantum and the scrubs."""
 
     LIMITS = [200, 2_000, 10_000]
 
@@ -105,7 +105,7 @@ class Executables:
         file, data = self.file(draw), draw.randbytes(draw.choice((0, 1, 100, 5000)))
         options = {"limit": draw.choice(self.LIMITS), "watchdog": draw.choice((100, 128, 1_000, 10_000)),
                    "quantum": draw.choice((1, 7, 128, 4_096)), "replicas": draw.choice((2, 3, 5)),
-                   "drivers": draw.choice((1, 1, 2, 3))}
+                   "drivers": draw.choice((1, 1, 2, 3)), "scrub": draw.choice((0, 0, 1, 50, 1_000))}
         words = [b"run", b"guest", b"--input", b"input"]
         for name, number in options.items():
             words += [b"--" + name.encode(), str(number).encode()]
@@ -163,7 +163,7 @@ class Faults:
         replicas = draw.choice((2, 3, 5))
         faults, bad = readers.faults_of(text, replicas)
         words = [b"run", b"guest", b"--faults", b"faults", b"--limit", b"50000", b"--replicas", str(replicas).encode(),
-                 b"--drivers", b"1"]
+                 b"--drivers", b"1", *draw.choice(([], [], [b"--scrub", b"1"], [b"--scrub", b"15"]))]
         wanted = f"faults {bad[0]} {bad[1]}" if bad else None
         struck = {fault[0] for fault in faults}
         if wanted is None and replicas > 2 and 2 * len(struck) <= replicas:
@@ -250,6 +250,7 @@ class Journals:
         for steps in left:
             for replica in range(3):
                 lines += [b"take 0 %d 0" % replica, b"put 0 %d 0 %d 0" % (replica, steps)]
+            lines += [b"scrub 0 %s" % draw.choice((b"-", b"1", b"1,2"))] * draw.choice((0, 0, 1))
             lines.append(b"vote 0 %d 0 %s served" % (steps, draw.choice((b"-", b"1", b"2"))))
         return b"\n".join(lines + [draw.choice((b"end exit 7", b"end limit 5 6", b"end sink 3", b"free 0"))]) + b"\n"
 

@@ -170,7 +170,7 @@ def faults_of(data, replicas):
 # ---- Words
 
 RANGES = {"replicas": (2, 5, 3), "drivers": (1, 8, 3), "watchdog": (100, 1_000_000, 10_000), "quantum": (1, 65_536, 4_096),
-          "limit": (1, 10**12, 10**9)}
+          "limit": (1, 10**12, 10**9), "scrub": (0, 10**12, 0)}
 VALUED = ["input", "faults", *RANGES]
 
 
@@ -224,9 +224,10 @@ DRIVER, THREAD = (0, 7), (0, 15)
 
 
 def entries_of(replica):
-    """The ranges of the numbers of each kind of entry but an end."""
+    """The ranges of the numbers of each kind of entry but an end, and but those of losers. The first version has no scrubs."""
     return {b"take": [DRIVER, replica, THREAD], b"put": [DRIVER, replica, THREAD, (0, 65_536), (0, 256)],
-            b"vote": [THREAD, (0, 1_000_000), replica], b"free": [THREAD]}
+            b"vote": [THREAD, (0, 1_000_000), replica], b"free": [THREAD],
+            **({b"scrub": [replica]} if replica == HEADS[b"romain 2"] else {})}
 
 
 def fields_code(fields, ranges):
@@ -258,12 +259,15 @@ def entry_code(words, replica):
         return 1
     ranges, rise = entries_of(replica)[kind], True
     if kind == b"vote":
-        if len(fields) != 5 or fields[4] not in DIDS:
+        if len(fields) != 5 or fields.pop() not in DIDS:
             return 1
-        losers, rise = losers_of(fields[3], replica)
+    if kind in (b"vote", b"scrub"):
+        if len(fields) != len(ranges) + 1:
+            return 1
+        losers, rise = losers_of(fields.pop(), replica)
         if losers is None:
             return 1
-        fields, ranges = fields[:3] + losers, ranges + [replica] * len(losers)
+        fields, ranges = fields + losers, ranges + [replica] * len(losers)
     code = fields_code(fields, ranges)
     return 2 if code is None and not rise else code
 

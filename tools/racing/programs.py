@@ -154,4 +154,5 @@ def draw_journal(draw: random.Random, plan: Plan) -> bytes:
     for thread, count in plan:
         forms = [f"vote {thread} {count} 0 - watch", f"vote {thread} {count - 1} 1 0 served"]
         lines.append(draw.choice(forms + [f"free {thread}"] if count == 1 else forms))
+        lines += draw.choice(([],) * 7 + (["scrub 0 -"], ["scrub 1 0,2"]))  # no steps
     return "".join(line + "\n" for line in lines).encode()

@@ -1,0 +1,48 @@
+"""What the core does next, after crates/ro_legal/specs/Action.antt: the choice that the program makes. A legal journal may choose
+otherwise."""
+from auditing.cores import Core
+from auditing.jobs import Entry
+from journals import End, Free, Put, Scrub, Take, Vote
+
+# What is done next is a word and the numbers that go with it: `lend` a replica and a thread, `vote` and `free` a thread, `scrub`,
+# `end` how, `wait`, `over`.
+Action = tuple
+
+
+def is_scrub_due(core: Core) -> bool:
+    return core.job.scrub != 0 and core.scrubbed + core.job.scrub <= core.steps
+
+
+def next_action(core: Core) -> Action:
+    """A free comes before a vote, and both before a lease; no vote and no free comes before a scrub that is due."""
+    if core.ended is not None:
+        return ("over",)
+    if core.due is not None:
+        return "end", core.due
+    threads, is_due = range(len(core.kernel.lives)), is_scrub_due(core)
+    found = [] if is_due else [("free", thread) for thread in threads if core.may_free(thread)]
+    found += [] if is_due or found else [("vote", thread) for thread in threads if core.may_vote(thread)]
+    found += [("lend", number, thread) for number in range(len(core.replicas)) for thread in threads
+              if not found and core.is_lendable(number, thread)][:1]
+    if found:
+        return found[0]
+    return ("wait",) if core.leases else ("scrub",) if is_due else ("end", "deadlock")
+
+
+def is_next(core: Core, entry: Entry) -> bool:
+    """Whether an entry that is allowed is what the core does next, or the end in its place; a lease comes back at any time."""
+    if isinstance(entry, Put):
+        return True
+    action = next_action(core)
+    if isinstance(entry, End):
+        return action == ("end", entry.how) or core.ends_alone(entry.how) or ends_in_place(core, action, entry.how)
+    wanted = {Take: lambda: ("lend", entry.replica, entry.thread), Vote: lambda: ("vote", entry.thread),
+              Free: lambda: ("free", entry.thread), Scrub: lambda: ("scrub",)}
+    return action == wanted[type(entry)]()
+
+
+def ends_in_place(core: Core, action: Action, how: str) -> bool:
+    """Whether the end comes in the place of this action."""
+    if action[0] == "vote":
+        return core.ends_vote(action[1], how)
+    return action[0] == "free" and core.is_passed(how, 1) or action[0] == "scrub" and core.ends_scrub(how)

@@ -4,7 +4,7 @@ use Rattle.ro_journal.specs.declared.How.{How}
 use Rattle.ro_journal.specs.declared.How.TheVariants as how
 use Rattle.ro_journal.specs.Losers.{numbers}
 use Rattle.ro_journal.specs.declared.Entry.{Entry}
-use Rattle.ro_journal.specs.declared.Entry.TheVariants.{Vote}
+use Rattle.ro_journal.specs.declared.Entry.TheVariants.{Vote, Scrub}
 use Rattle.ro_journal.specs.Plan.{outcome_of, plan_of}
 use Rattle.ro_journal_text.specs.Reading.{file_journal}
 use Rattle.ro_report.specs.declared.answers.FileKind.TheVariants.{Plan}
@@ -19,6 +19,8 @@ use Rattle.ro_findings.specs.declared.findings.Ended.TheVariants.{Exit, Deadlock
 use Rattle.ro_findings.specs.declared.findings.Verdict.{Verdict}
 use Rattle.ro_findings.specs.declared.findings.Verdict.TheVariants.{Legal, Illegal}
 use Rattle.ro_findings.specs.declared.findings.CopyMade.{CopyMade}
+use Rattle.ro_findings.specs.declared.findings.Differed.{Differed}
+use Rattle.ro_findings.specs.declared.findings.Differed.TheVariants.{AtVote, AtScrub}
 use Rattle.ro_findings.specs.declared.findings.Findings.{Findings}
 
 -- the journal of the file of this name
@@ -31,8 +33,8 @@ how_of (Exit status) = how.Exit status
 how_of (Deadlock threads) = how.Deadlock
 how_of (Trap cause at) = how.Trap cause
 how_of (Limit steps next threads) = how.Limit steps next
-how_of (Differ fields) = how.Differ
-how_of (NoMajority fields) = how.NoMajority
+how_of (Differ split) = how.Differ
+how_of (NoMajority split) = how.NoMajority
 how_of (Sink taken) = how.Sink taken
 
 -- the journal is legal, with a plan of so many steps and this end, or the entry at the place is the first that is not allowed, and why
@@ -40,19 +42,29 @@ abbrev pub Judges : Job → List Entry → Verdict → Type 0
 Judges job entries (Legal steps end) = IsLegal job entries × (steps ≡ length (plan_of entries)) × (option_map how_of end ≡ outcome_of entries)
 Judges job entries (Illegal place entry why) = FirstIllegal job entries place why × (slice_get entries place ≡ Some entry)
 
--- a copy that a vote made: the place of its entry, the thread, and the replica that lost
+-- a copy that a vote or a scrub made: the place of its entry, the thread that was voted on, and the replica that lost
 pub record Copied : Type 0 where
   pub place : ℕ
-  pub thread : ℕ
+  pub thread : Option ℕ
   pub replica : ℕ
+
+-- the thread that was voted on, where a replica differed at a vote
+abbrev pub thread_of : Differed → Option ℕ
+thread_of (AtVote thread parts) = Some thread
+thread_of (AtScrub threads pages) = None
 
 -- the same of a copy that is told
 abbrev pub copied_of : CopyMade → Copied
-copied_of copy = record { place = copy.place; thread = copy.thread; replica = copy.replica }
+copied_of copy = record { place = copy.place; thread = thread_of copy.differed; replica = copy.replica }
 
--- the copies that an entry makes: one of each replica that loses a vote
+-- the copies of these losers
+abbrev pub copies_of : (place : ℕ) → (thread : Option ℕ) → (losers : List ℕ) → List Copied
+copies_of place thread losers = map (λ replica. record { place = place; thread = thread; replica = replica }) losers
+
+-- the copies that an entry makes: one of each replica that loses a vote or a scrub
 abbrev pub copies_at : (place : ℕ) → Entry → List Copied
-copies_at place (Vote thread count won lost did) = map (λ replica. record { place = place; thread = thread; replica = replica }) (numbers lost)
+copies_at place (Vote thread count won lost did) = copies_of place (Some thread) (numbers lost)
+copies_at place (Scrub won lost) = copies_of place None (numbers lost)
 copies_at place entry = []
 
 -- those of entries from this place on

@@ -84,6 +84,13 @@ none-lent core = sym (ap not (any-turned (length core.replicas) (threads_made co
 pub scrub-by-lending : (core : Core) (idle none : Bool) → idle ≡ (is_going core && nothing_lent core) → none ≡ is_none (lend_next core) → (idle && none) ≡ may_scrub core
 scrub-by-lending core idle none e f = ap (λ (b : Bool). b && none) e ∙ ap (λ (b : Bool). is_going core && nothing_lent core && b) (f ∙ none-lent core)
 
+-- what is not something is nothing
+pub none-by-some : {X : Type 0} (o : Option X) (none : Bool) → is_some o ≡ not none → none ≡ is_none o
+none-by-some None true e = refl
+none-by-some None false e = absurd (true≢false (sym e))
+none-by-some (Some x) true e = absurd (true≢false e)
+none-by-some (Some x) false e = refl
+
 -- where one end comes in its place
 pub some-scrub-end : (job : Job) (core : Core) (how : How) → EndsScrub core how → (other : How) → (Some how ≡ Some other) ↔ EndsScrub core other
 some-scrub-end job core how e other = (

@@ -13,7 +13,7 @@ pub struct Findings {
     pub entries: usize,
     #[serde(flatten)]
     pub verdict: Verdict,
-    /// The copies that its votes made; of an illegal one those before the first entry that is not allowed.
+    /// The copies that its votes and scrubs made; of an illegal one those before the first entry that is not allowed.
     pub copies: Vec<CopyMade>,
 }
 
@@ -54,12 +54,31 @@ pub enum Ended {
         next: u64,
         threads: Vec<Standing>,
     },
-    /// Two replicas differ in these parts of their views.
-    Differ(Vec<Field>),
-    /// No more than half of the replicas agree; in these parts of their views not all do.
-    NoMajority(Vec<Field>),
+    /// Two replicas differ.
+    Differ(Split),
+    /// No more than half of the replicas agree.
+    NoMajority(Split),
     /// The output failed, and took so many bytes of the last write.
     Sink(u32),
+}
+
+/// In what replicas differ of which no more than half agree.
+#[derive(Drop)]
+pub enum Split {
+    /// At a vote: in these parts of their views.
+    AtVote(Vec<Field>),
+    /// At a scrub: in these parts of threads, and in the pages that begin at these addresses.
+    AtScrub {
+        threads: Vec<ThreadFields>,
+        pages: Vec<u32>,
+    },
+}
+
+/// A thread, and the parts of it that are not the same in all replicas.
+#[derive(Drop, Serialize)]
+pub struct ThreadFields {
+    pub thread: u32,
+    pub fields: Vec<Field>,
 }
 
 /// For what a thread waits.
@@ -178,20 +197,40 @@ pub enum Part {
     Payload,
 }
 
-/// A copy that a vote made: a replica that lost became as the winner.
+/// A copy that a vote or a scrub made: a replica that lost became as the winner.
 #[derive(Drop, Serialize)]
 pub struct CopyMade {
-    /// The place of the vote's entry, from 0.
+    /// The place of the entry, from 0.
     pub place: usize,
-    /// The thread that was voted on.
-    pub thread: u32,
     /// The replica that lost.
     pub replica: u32,
-    /// What of its view differed from the winner's.
-    #[serde(rename = "differed")]
-    pub parts: Vec<Part>,
+    /// In what it differed from the winner.
+    #[serde(flatten)]
+    pub differed: Differed,
     /// The faults that had struck the replica since it was last made a copy, or since the begin.
     pub undone: Vec<Strike>,
+}
+
+/// In what a replica differed from the winner.
+#[derive(Drop)]
+pub enum Differed {
+    /// At a vote on this thread: in these parts of its views.
+    AtVote {
+        thread: u32,
+        parts: Vec<Part>,
+    },
+    /// At a scrub: in these parts of threads, and in the pages that begin at these addresses.
+    AtScrub {
+        threads: Vec<ThreadParts>,
+        pages: Vec<u32>,
+    },
+}
+
+/// A thread, and parts of it.
+#[derive(Drop, Serialize)]
+pub struct ThreadParts {
+    pub thread: u32,
+    pub parts: Vec<Part>,
 }
 
 /// A fault that struck.

@@ -1,5 +1,8 @@
 //! What an audit finds, as JSON.
-use crate::findings::{Ended, Field, Findings, Function, Part, Standing, State, Trapped};
+use crate::findings::{
+    Differed, Ended, Field, Findings, Function, Part, Split, Standing, State, ThreadFields,
+    ThreadParts, Trapped,
+};
 use crate::lines::WithoutEnd;
 use ro_audit::Why;
 use ro_event::Stop;
@@ -87,6 +90,7 @@ pub(crate) fn write_why<S: Serializer>(why: &Why, out: &mut S) -> Result<(), S::
         }
         Why::NoVote => write_named("reason", "no_vote", &(), out),
         Why::NoFree => write_named("reason", "no_free", &(), out),
+        Why::NoScrub => write_named("reason", "no_scrub", &(), out),
         Why::Comes(entry) => {
             let line = WithoutEnd(entry_text(entry));
             write_named("reason", "comes", &Member("entry", &line), out)
@@ -129,10 +133,8 @@ impl Serialize for Ended {
                 };
                 write_named("how", "limit", &limit, out)
             }
-            Ended::Differ(fields) => write_named("how", "differ", &Member("fields", fields), out),
-            Ended::NoMajority(fields) => {
-                write_named("how", "no-majority", &Member("fields", fields), out)
-            }
+            Ended::Differ(split) => write_named("how", "differ", split, out),
+            Ended::NoMajority(split) => write_named("how", "no-majority", split, out),
             Ended::Sink(taken) => write_named("how", "sink", &Member("taken", taken), out),
         }
     }
@@ -151,6 +153,58 @@ struct Limit<'a> {
     steps: u64,
     next: u64,
     threads: &'a Vec<Standing>,
+}
+
+impl Described for Split {}
+
+impl Serialize for Split {
+    fn serialize<S: Serializer>(&self, out: &mut S) -> Result<(), S::Error> {
+        match self {
+            Split::AtVote(fields) => Member("fields", fields).serialize(out),
+            Split::AtScrub { threads, pages } => WholeFields { threads, pages }.serialize(out),
+        }
+    }
+}
+
+// In what replicas differ that were compared whole.
+#[derive(Clone, Copy, Serialize)]
+struct WholeFields<'a> {
+    threads: &'a Vec<ThreadFields>,
+    pages: &'a Vec<u32>,
+}
+
+impl Described for Differed {}
+
+impl Serialize for Differed {
+    fn serialize<S: Serializer>(&self, out: &mut S) -> Result<(), S::Error> {
+        match self {
+            Differed::AtVote { thread, parts } => write_differed(Some(*thread), parts, out),
+            Differed::AtScrub { threads, pages } => {
+                write_differed(None, &WholeParts { threads, pages }, out)
+            }
+        }
+    }
+}
+
+// Writes the thread that was voted on, if one was, and in what a replica differed.
+fn write_differed<T: Serialize, S: Serializer>(
+    thread: Option<u32>,
+    differed: &T,
+    out: &mut S,
+) -> Result<(), S::Error> {
+    out.begin_map(Some(2))?;
+    out.key("thread")?;
+    thread.serialize(out)?;
+    out.key("differed")?;
+    differed.serialize(out)?;
+    out.end_map()
+}
+
+// In what a replica differed that was compared whole.
+#[derive(Clone, Copy, Serialize)]
+struct WholeParts<'a> {
+    threads: &'a Vec<ThreadParts>,
+    pages: &'a Vec<u32>,
 }
 
 impl Described for State {}

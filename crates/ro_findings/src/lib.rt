@@ -7,6 +7,6 @@ mod lines;
 mod sentences;
 
 pub use findings::{
-    CopyMade, Ended, Field, Findings, Function, Instruction, Part, Place, Standing, State, Strike,
-    Trapped, Verdict, Waiting,
+    CopyMade, Differed, Ended, Field, Findings, Function, Instruction, Part, Place, Split,
+    Standing, State, Strike, ThreadFields, ThreadParts, Trapped, Verdict, Waiting,
 };

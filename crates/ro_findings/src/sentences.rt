@@ -1,7 +1,11 @@
 //! What an audit finds, in sentences: the first line is `legal` or `illegal PLACE`.
+ghost use Rattle.std.specs.Prelude.{◌≡◌, IfOk};
+ghost use Rattle.std.specs.String.{string_bytes};
+ghost use Rattle.ro_findings.specs.Sentences.{TellsVerdict, first_line};
+
 use crate::findings::{
-    CopyMade, Ended, Field, Findings, Instruction, Part, Standing, State, Strike, Trapped, Verdict,
-    Waiting,
+    CopyMade, Differed, Ended, Field, Findings, Instruction, Part, Split, Standing, State, Strike,
+    ThreadFields, ThreadParts, Trapped, Verdict, Waiting,
 };
 use crate::lines::WithoutEnd;
 use ro_audit::Why;
@@ -17,24 +21,43 @@ impl Findings {
     ///
     /// # Errors
     /// Where there is no memory.
-    pub fn sentences(&self, alloc: Global) -> Result<String, AllocError> {
+    pub fn sentences(&self, alloc: Global) -> Result<String, AllocError>
+        ensures { IfOk result (λ text. TellsVerdict self.now.verdict (string_bytes text)) }
+    {
+        let details = self.details(alloc)?;
+        let mut text = first_line(alloc, &self.verdict)?;
+        text.push_str(details.as_str())?;
+        Ok(text)
+    }
+
+    // What stands behind the first line.
+    fn details(&self, alloc: Global) -> Result<String, AllocError> {
         let mut text = String::new(alloc);
         match &self.verdict {
             Verdict::Legal { steps, end } => {
                 let count = self.entries;
-                writeln!(text, "legal")?;
                 writeln!(
                     text,
                     "The journal has {count} entries, and its plan {steps} steps."
                 )?;
                 tell_end(&mut text, end)?;
             }
-            Verdict::Illegal { place, entry, why } => tell_illegal(&mut text, *place, entry, *why)?,
+            Verdict::Illegal { entry, why, .. } => tell_illegal(&mut text, entry, *why)?,
         }
         for copy in &self.copies {
             tell_copy(&mut text, copy)?;
         }
         Ok(text)
+    }
+}
+
+// The line that says whether the journal is legal.
+fn first_line(alloc: Global, verdict: &Verdict) -> Result<String, AllocError>
+    ensures { IfOk result (λ text. string_bytes text ≡ first_line verdict.now) }
+{
+    match verdict {
+        Verdict::Legal { .. } => String::from_str(alloc, "legal\n"),
+        Verdict::Illegal { place, .. } => format!(in alloc; "illegal {place}\n"),
     }
 }
 
@@ -52,13 +75,13 @@ fn tell_end(text: &mut String, end: &Option<Ended>) -> Result<(), AllocError> {
             next,
             threads,
         } => tell_limit(text, *steps, *next, threads.as_slice()),
-        Ended::Differ(fields) => {
+        Ended::Differ(split) => {
             writeln!(text, "The two replicas differ.")?;
-            tell_fields(text, fields.as_slice())
+            tell_split(text, split)
         }
-        Ended::NoMajority(fields) => {
+        Ended::NoMajority(split) => {
             writeln!(text, "No more than half of the replicas agree.")?;
-            tell_fields(text, fields.as_slice())
+            tell_split(text, split)
         }
         Ended::Sink(taken) => writeln!(
             text,
@@ -193,6 +216,35 @@ fn trap_name(cause: u8) -> &'static str {
     }
 }
 
+// In what replicas differ of which no more than half agree.
+fn tell_split(text: &mut String, split: &Split) -> Result<(), AllocError> {
+    match split {
+        Split::AtVote(fields) => tell_fields(text, fields.as_slice()),
+        Split::AtScrub { threads, pages } => {
+            writeln!(text, "They were compared whole, at a scrub.")?;
+            for differing in threads {
+                tell_thread_fields(text, differing)?;
+            }
+            tell_pages(text, pages.as_slice())
+        }
+    }
+}
+
+// In which parts of a thread replicas differ.
+fn tell_thread_fields(text: &mut String, differing: &ThreadFields) -> Result<(), AllocError> {
+    let thread = differing.thread;
+    writeln!(text, "Of thread {thread}:")?;
+    tell_fields(text, differing.fields.as_slice())
+}
+
+// In which pages they do, one a line.
+fn tell_pages(text: &mut String, pages: &[u32]) -> Result<(), AllocError> {
+    for page in pages {
+        writeln!(text, "the bytes of the page {page:08x} differ")?;
+    }
+    Ok(())
+}
+
 // Each part in which views differ, replica by replica.
 fn tell_fields(text: &mut String, fields: &[Field]) -> Result<(), AllocError> {
     for field in fields {
@@ -251,14 +303,8 @@ fn tell_stops(text: &mut String, stops: &[Stop]) -> Result<(), AllocError> {
 }
 
 // The first entry that is not allowed, and why it is not.
-fn tell_illegal(
-    text: &mut String,
-    place: usize,
-    entry: &Entry,
-    why: Why,
-) -> Result<(), AllocError> {
+fn tell_illegal(text: &mut String, entry: &Entry, why: Why) -> Result<(), AllocError> {
     let line = WithoutEnd(entry_text(entry));
-    writeln!(text, "illegal {place}")?;
     writeln!(text, "The first entry that is not allowed is: {line}")?;
     match why {
         Why::NotLendable => writeln!(
@@ -272,6 +318,7 @@ fn tell_illegal(
         ),
         Why::NoVote => writeln!(text, "The thread can't be voted on."),
         Why::NoFree => writeln!(text, "The thread has no call that can be served."),
+        Why::NoScrub => writeln!(text, "No scrub may be made here."),
         Why::Comes(entry) => {
             let line = WithoutEnd(entry_text(&entry));
             writeln!(text, "What is allowed in its place is: {line}")
@@ -285,13 +332,39 @@ fn tell_illegal(
 fn tell_copy(text: &mut String, copy: &CopyMade) -> Result<(), AllocError> {
     let place = copy.place;
     let replica = copy.replica;
-    let thread = copy.thread;
     write!(
         text,
-        "At entry {place} replica {replica} was overwritten at a vote on thread {thread}: "
+        "At entry {place} replica {replica} was overwritten at "
     )?;
-    tell_parts(text, copy.parts.as_slice())?;
+    match &copy.differed {
+        Differed::AtVote { thread, parts } => {
+            write!(text, "a vote on thread {thread}: ")?;
+            tell_parts(text, parts.as_slice())?;
+        }
+        Differed::AtScrub { threads, pages } => {
+            write!(text, "a scrub: ")?;
+            tell_whole(text, threads.as_slice(), pages.as_slice())?;
+        }
+    }
+    write!(text, " differed.")?;
     tell_undone(text, copy.undone.as_slice())
+}
+
+// What differed in a replica that was compared whole.
+fn tell_whole(text: &mut String, threads: &[ThreadParts], pages: &[u32]) -> Result<(), AllocError> {
+    let mut between = "";
+    for differed in threads {
+        let thread = differed.thread;
+        text.push_str(between)?;
+        tell_parts(text, differed.parts.as_slice())?;
+        write!(text, " of thread {thread}")?;
+        between = ", ";
+    }
+    for page in pages {
+        write!(text, "{between}the page {page:08x}")?;
+        between = ", ";
+    }
+    Ok(())
 }
 
 // What differed.
@@ -306,7 +379,7 @@ fn tell_parts(text: &mut String, parts: &[Part]) -> Result<(), AllocError> {
         text.push_str(between)?;
         tell_part(text, *part)?;
     }
-    write!(text, " differed.")
+    Ok(())
 }
 
 fn tell_part(text: &mut String, part: Part) -> Result<(), AllocError> {

@@ -2,7 +2,7 @@
 use ro_audit::Why;
 use ro_event::{Call, Stop, Which};
 use ro_findings::{
-    Ended, Field, Findings, Function, Instruction, Place, Standing, State, Trapped, Verdict,
+    Ended, Field, Findings, Function, Instruction, Place, Split, Standing, State, Trapped, Verdict,
     Waiting,
 };
 use ro_io::MemStore;
@@ -280,7 +280,7 @@ fn differing_views(rt: HostRuntime) -> Result<(), Fail> {
     ];
     let json =
         r#"{"copies":[],"end":{"fields":[{"part":"pc","values":[{"function":{"name":"main","offset":0},"pc":65620},{"function":null,"pc":65624}]},{"part":"since","values":[2,3]},{"part":"x10","values":[7,255]},{"part":"stop","values":["call","watchdog"]},{"part":"payload","values":[5,0]}],"how":"differ"},"entries":8,"steps":3,"verdict":"legal"}"#;
-    let end = Ended::Differ(fields(alloc)?);
+    let end = Ended::Differ(Split::AtVote(fields(alloc)?));
     assert_told(
         &rt,
         alloc,
@@ -338,6 +338,11 @@ fn illegal_entries(rt: HostRuntime) -> Result<(), Fail> {
             Why::NoFree,
             "The thread has no call that can be served.",
             r#"{"reason":"no_free"}"#,
+        ),
+        (
+            Why::NoScrub,
+            "No scrub may be made here.",
+            r#"{"reason":"no_scrub"}"#,
         ),
         (
             Why::Comes(vote),
@@ -455,6 +460,84 @@ fn copies(rt: HostRuntime) -> Result<(), Fail> {
     let json =
         r#"{"copies":[{"differed":["x10","stop"],"place":6,"replica":2,"thread":0,"undone":[]}],"end":{"how":"exit","status":6},"entries":8,"steps":3,"verdict":"legal"}"#;
     assert_found(&rt, alloc, SHORT, faults, ALIKE, sentences.as_slice(), json)
+}
+
+// A journal of the first guest where a scrub makes a copy in replica 1, and one that ends in a scrub's place.
+const ONE_SCRUB: &str = "romain 2
+take 0 0 0
+put 0 0 0 5 0
+take 0 1 0
+put 0 1 0 5 3
+take 0 2 0
+put 0 2 0 5 0
+scrub 0 1
+vote 0 5 0 - served
+take 0 0 0
+put 0 0 0 2 0
+take 0 1 0
+put 0 1 0 2 0
+take 0 2 0
+put 0 2 0 2 0
+vote 0 2 0 - served
+end exit 0
+";
+
+const SPLIT: &str = "romain 2
+take 0 0 0
+put 0 0 0 5 0
+take 0 1 0
+put 0 1 0 5 3
+take 0 2 0
+put 0 2 0 5 1
+end no-majority
+";
+
+#[test]
+fn a_copy_by_a_scrub(rt: HostRuntime) -> Result<(), Fail> {
+    let faults = "1 0 1 reg 5 0\n1 0 2 reg 6 4\n1 0 3 mem 65661 0\n";
+    let sentences = [
+        "legal",
+        "The journal has 16 entries, and its plan 9 steps.",
+        "The program exited with status 0.",
+        "At entry 6 replica 1 was overwritten at a scrub: x5 and x6 of thread 0, the page 00010000 differed. Undone: 1 0 1 reg 5 0, struck 4 instructions before; 1 0 2 reg 6 4, struck 3 instructions before; 1 0 3 mem 65661 0, struck 2 instructions before.",
+    ];
+    let json =
+        r#"{"copies":[{"differed":{"pages":[65536],"threads":[{"parts":["x5","x6"],"thread":0}]},"place":6,"replica":1,"thread":null,"undone":[{"before":4,"fault":"1 0 1 reg 5 0"},{"before":3,"fault":"1 0 2 reg 6 4"},{"before":2,"fault":"1 0 3 mem 65661 0"}]}],"end":{"how":"exit","status":0},"entries":16,"steps":9,"verdict":"legal"}"#;
+    assert_found(
+        &rt,
+        rt.alloc(),
+        HELLO,
+        faults,
+        ONE_SCRUB,
+        sentences.as_slice(),
+        json,
+    )
+}
+
+#[test]
+fn an_end_in_a_scrubs_place(rt: HostRuntime) -> Result<(), Fail> {
+    let faults = "1 0 1 reg 5 0\n1 0 2 reg 6 4\n1 0 3 mem 65661 0\n2 0 3 mem 65661 1\n";
+    let sentences = [
+        "legal",
+        "The journal has 7 entries, and its plan 0 steps.",
+        "No more than half of the replicas agree.",
+        "They were compared whole, at a scrub.",
+        "Of thread 0:",
+        "x5: 00000000 00000001 00000000",
+        "x6: 00000000 00000010 00000000",
+        "the bytes of the page 00010000 differ",
+    ];
+    let json =
+        r#"{"copies":[],"end":{"how":"no-majority","pages":[65536],"threads":[{"fields":[{"part":"x5","values":[0,1,0]},{"part":"x6","values":[0,16,0]}],"thread":0}]},"entries":7,"steps":0,"verdict":"legal"}"#;
+    assert_found(
+        &rt,
+        rt.alloc(),
+        HELLO,
+        faults,
+        SPLIT,
+        sentences.as_slice(),
+        json,
+    )
 }
 
 // A guest whose first instruction loads where nothing may be read, and its journal.

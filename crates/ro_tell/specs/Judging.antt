@@ -1,24 +1,30 @@
 -- What a journal is judged to be.
-use Rattle.std.specs.Prelude.{◌≡◌, ℕ, suc, List, [], ◌∷◌, ◌++◌, length, map, take, Option, Some, None, Ok, option_map, slice_get}
+use Rattle.std.specs.Prelude.{◌≡◌, ◌≢◌, ⊤, IfSome, ℕ, suc, List, [], ◌∷◌, ◌++◌, length, map, take, Option, Some, None, Ok, option_map, slice_get}
 use Rattle.ro_journal.specs.declared.How.{How}
 use Rattle.ro_journal.specs.declared.How.TheVariants as how
 use Rattle.ro_journal.specs.Losers.{numbers}
 use Rattle.ro_journal.specs.declared.Entry.{Entry}
-use Rattle.ro_journal.specs.declared.Entry.TheVariants.{Vote}
+use Rattle.ro_journal.specs.declared.Entry.TheVariants.{Vote, Scrub}
 use Rattle.ro_journal.specs.Plan.{outcome_of, plan_of}
 use Rattle.ro_journal_text.specs.Reading.{file_journal}
 use Rattle.ro_report.specs.declared.answers.FileKind.TheVariants.{Plan}
 use Rattle.ro_io.specs.Outside.{Files}
 use Rattle.ro_legal.specs.Core.{Job}
 use Rattle.ro_legal.specs.Legal.{Legal as IsLegal}
+use Rattle.ro_event.specs.Views.{View}
+use Rattle.ro_core.specs.Seen.{EndsByScrub, ShowsViews}
 use Rattle.ro_audit.specs.Audits.{FirstIllegal}
 use Rattle.ro_files.specs.Files.{IsContent, IsJobOf}
 use Rattle.ro_words.specs.Commands.{AskedRun}
 use Rattle.ro_findings.specs.declared.findings.Ended.{Ended}
 use Rattle.ro_findings.specs.declared.findings.Ended.TheVariants.{Exit, Deadlock, Trap, Limit, Differ, NoMajority, Sink}
+use Rattle.ro_findings.specs.declared.findings.Split.{Split}
+use Rattle.ro_findings.specs.declared.findings.Split.TheVariants as split
 use Rattle.ro_findings.specs.declared.findings.Verdict.{Verdict}
 use Rattle.ro_findings.specs.declared.findings.Verdict.TheVariants.{Legal, Illegal}
 use Rattle.ro_findings.specs.declared.findings.CopyMade.{CopyMade}
+use Rattle.ro_findings.specs.declared.findings.Differed.{Differed}
+use Rattle.ro_findings.specs.declared.findings.Differed.TheVariants.{AtVote, AtScrub}
 use Rattle.ro_findings.specs.declared.findings.Findings.{Findings}
 
 -- the journal of the file of this name
@@ -31,28 +37,61 @@ how_of (Exit status) = how.Exit status
 how_of (Deadlock threads) = how.Deadlock
 how_of (Trap cause at) = how.Trap cause
 how_of (Limit steps next threads) = how.Limit steps next
-how_of (Differ fields) = how.Differ
-how_of (NoMajority fields) = how.NoMajority
+how_of (Differ split) = how.Differ
+how_of (NoMajority split) = how.NoMajority
 how_of (Sink taken) = how.Sink taken
+
+-- replicas that differ are told by views where there are some, and else whole
+abbrev pub IsSplitBy : List View → Split → Type 0
+IsSplitBy views (split.AtVote fields) = views ≢ []
+IsSplitBy views (split.AtScrub threads pages) = views ≡ []
+
+-- where an end is by replicas that differ, it tells them so
+abbrev pub TellsSplit : Split → Ended → Type 0
+TellsSplit split (Differ told) = told ≡ split
+TellsSplit split (NoMajority told) = told ≡ split
+TellsSplit split _ = ⊤
+
+-- replicas that differ are told by their views where the run ended in the place of a vote, and whole where it ended in that of a
+-- scrub
+abbrev pub IsSplitOf : Job → List Entry → Split → Type 0
+IsSplitOf job entries (split.AtVote fields) = (views : List View) × ShowsViews job entries views
+IsSplitOf job entries (split.AtScrub threads pages) = EndsByScrub job entries []
+
+abbrev pub IsEnded : Job → List Entry → Ended → Type 0
+IsEnded job entries (Differ split) = IsSplitOf job entries split
+IsEnded job entries (NoMajority split) = IsSplitOf job entries split
+IsEnded job entries _ = ⊤
 
 -- the journal is legal, with a plan of so many steps and this end, or the entry at the place is the first that is not allowed, and why
 abbrev pub Judges : Job → List Entry → Verdict → Type 0
-Judges job entries (Legal steps end) = IsLegal job entries × (steps ≡ length (plan_of entries)) × (option_map how_of end ≡ outcome_of entries)
+Judges job entries (Legal steps end) =
+    IsLegal job entries × (steps ≡ length (plan_of entries)) × (option_map how_of end ≡ outcome_of entries) × IfSome end (IsEnded job entries)
 Judges job entries (Illegal place entry why) = FirstIllegal job entries place why × (slice_get entries place ≡ Some entry)
 
--- a copy that a vote made: the place of its entry, the thread, and the replica that lost
+-- a copy that a vote or a scrub made: the place of its entry, the thread that was voted on, and the replica that lost
 pub record Copied : Type 0 where
   pub place : ℕ
-  pub thread : ℕ
+  pub thread : Option ℕ
   pub replica : ℕ
+
+-- the thread that was voted on, where a replica differed at a vote
+abbrev pub thread_of : Differed → Option ℕ
+thread_of (AtVote thread parts) = Some thread
+thread_of (AtScrub threads pages) = None
 
 -- the same of a copy that is told
 abbrev pub copied_of : CopyMade → Copied
-copied_of copy = record { place = copy.place; thread = copy.thread; replica = copy.replica }
+copied_of copy = record { place = copy.place; thread = thread_of copy.differed; replica = copy.replica }
 
--- the copies that an entry makes: one of each replica that loses a vote
+-- the copies of these losers
+abbrev pub copies_of : (place : ℕ) → (thread : Option ℕ) → (losers : List ℕ) → List Copied
+copies_of place thread losers = map (λ replica. record { place = place; thread = thread; replica = replica }) losers
+
+-- the copies that an entry makes: one of each replica that loses a vote or a scrub
 abbrev pub copies_at : (place : ℕ) → Entry → List Copied
-copies_at place (Vote thread count won lost did) = map (λ replica. record { place = place; thread = thread; replica = replica }) (numbers lost)
+copies_at place (Vote thread count won lost did) = copies_of place (Some thread) (numbers lost)
+copies_at place (Scrub won lost) = copies_of place None (numbers lost)
 copies_at place entry = []
 
 -- those of entries from this place on

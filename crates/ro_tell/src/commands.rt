@@ -1,5 +1,6 @@
 //! The command, from its words to its answer.
-ghost use Rattle.std.specs.Prelude.{◌≡◌, ◌<◌, ◌∷◌, [], Err, IfErr, IfOk, None, Option, Some, option_map, length};
+ghost use Rattle.std.specs.Prelude.{◌≡◌, ◌<◌, ◌∷◌, [], Err, IfErr, IfOk, IfSome, None, Option, Some, option_map, length, false, true};
+ghost use Rattle.std.specs.String.{string_bytes};
 ghost use Rattle.ro_io.specs.Outside.{Asks, unfailed};
 ghost use Rattle.ro_journal.specs.declared.How.{How as HowSeen};
 ghost use Rattle.ro_settings.specs.Ranges.{InRange};
@@ -11,16 +12,18 @@ ghost use Rattle.ro_words.specs.declared.commands.WordsError.TheVariants as w;
 ghost use Rattle.ro_legal.specs.Jobs.{job_of, CanRun};
 ghost use Rattle.ro_audit.specs.Audits.{FirstIllegal, Tells};
 ghost use Rattle.ro_audit.specs.Following.{IsTrail};
+ghost use Rattle.ro_findings.specs.Sentences.{TellsVerdict};
+ghost use Rattle.ro_tell.specs.declared.commands.Form.TheVariants as f;
 ghost use Rattle.ro_tell.specs.Causes.{AuditCause, RefusesJournal, WordsCause, audit_names};
-ghost use Rattle.ro_tell.specs.Judging.{Finds, IsAuditOf, IsJournalOf, how_of};
+ghost use Rattle.ro_tell.specs.Judging.{Finds, IsAuditOf, IsJournalOf, TellsSplit, how_of};
 
-use crate::copies::copies_made;
-use crate::fields::fields;
+use crate::copies::{copies_made, differences};
+use crate::fields::{Unlike, ends_split, split_of};
 use crate::standing::Stood;
-use ro_audit::{AuditError, Audited, Parts, Trail, Why, trace};
+use ro_audit::{AuditError, Audited, Difference, Trail, Why, trace};
 use ro_faults::Fault;
 use ro_files::{FetchedJob, Job, fetch, fetch_job, journal};
-use ro_findings::{Ended, Field, Findings, Verdict};
+use ro_findings::{Ended, Findings, Split, Verdict};
 use ro_io::Store;
 use ro_journal::{Entry, How};
 use ro_report::{Answer, FileKind};
@@ -48,7 +51,7 @@ pub struct Judged {
 /// # Errors
 /// The answer of a run whose words or files are bad. Words that spell no audit are answered before the store is asked for anything.
 pub fn audit_words<S: Store>(alloc: Global, words: &[&str], store: &mut S) -> Result<Judged, Answer>
-    ensures judged { IfOk result (λ judged. (asked : AskedAudit) × (audit_of (texts_of words.now) ≡ Some asked) × IsAuditOf (S.told store.old) asked.run asked.journal judged.findings × Asks (S.calls store.old) (S.calls store.new) (unfailed (audit_names asked.run asked.journal))) }
+    ensures judged { IfOk result (λ judged. (asked : AskedAudit) × (audit_of (texts_of words.now) ≡ Some asked) × IsAuditOf (S.told store.old) asked.run asked.journal judged.findings × Asks (S.calls store.old) (S.calls store.new) (unfailed (audit_names asked.run asked.journal)) × (asked.json ≡ false → TellsVerdict judged.findings.verdict (string_bytes judged.text))) }
     ensures refused { IfErr result (WordsCause (S.told store.old) (texts_of words.now) (S.failures store.old) (S.failures store.new) (S.calls store.old) (S.calls store.new)) }
     ensures told { S.told store.new ≡ S.told store.old }
     ensures calm { (result ≡ Err a.StoreFailed → ⊥) → S.failures store.new ≡ S.failures store.old }
@@ -60,7 +63,10 @@ pub fn audit_words<S: Store>(alloc: Global, words: &[&str], store: &mut S) -> Re
 }
 
 // In which form the words ask for it.
-fn form_of(audit: &AuditCommand<'_>) -> Form {
+fn form_of(audit: &AuditCommand<'_>) -> Form
+    ensures sentences { audit.now.json ≡ false → result ≡ f.Sentences }
+    ensures json { audit.now.json ≡ true → result ≡ f.Json }
+{
     if audit.json {
         Form::Json
     } else {
@@ -92,6 +98,7 @@ pub fn audit_files<S: Store>(
 ) -> Result<Judged, Answer>
     requires { InRange run.now.settings }
     ensures judged { IfOk result (λ judged. IsAuditOf (S.told store.old) (run_by run.now) name.now judged.findings) }
+    ensures sentences { form ≡ f.Sentences → IfOk result (λ judged. TellsVerdict judged.findings.verdict (string_bytes judged.text)) }
     ensures asked { IfOk result (λ _. Asks (S.calls store.old) (S.calls store.new) (unfailed (audit_names (run_by run.now) name.now))) }
     ensures refused { IfErr result (AuditCause (S.told store.old) (run_by run.now) name.now (S.failures store.old) (S.failures store.new) (S.calls store.old) (S.calls store.new)) }
     ensures told { S.told store.new ≡ S.told store.old }
@@ -105,7 +112,9 @@ pub fn audit_files<S: Store>(
 }
 
 // What is told of findings.
-fn told(alloc: Global, findings: &Findings, form: Form) -> Result<String, AllocError> {
+fn told(alloc: Global, findings: &Findings, form: Form) -> Result<String, AllocError>
+    ensures { form ≡ f.Sentences → IfOk result (λ text. TellsVerdict findings.now.verdict (string_bytes text)) }
+{
     match form {
         Form::Sentences => findings.sentences(alloc),
         Form::Json => findings.json(alloc),
@@ -173,13 +182,15 @@ fn judge(
         faults.as_slice(),
         settings,
         entries,
-    )?;
-    let seen = Seen::of(alloc, &trail, entries, executable);
+    )
+    .map_err(|_| AllocError)?;
     let case = Case {
         executable,
         entries,
         faults: faults.as_slice(),
+        replicas: settings.replicas,
     };
+    let seen = Seen::of(alloc, &trail, &case);
     conclude(alloc, trail, seen, &case)
 }
 
@@ -189,6 +200,8 @@ struct Case<'a> {
     executable: &'a [u8],
     entries: &'a [Entry],
     faults: &'a [Fault],
+    // How many replicas there are.
+    replicas: u32,
 }
 
 // What a trail shows before it is given up.
@@ -196,19 +209,21 @@ struct Case<'a> {
 struct Seen {
     stood: Stood,
     // What differed in each copy.
-    parts: Vec<Parts>,
+    differences: Vec<Difference>,
+    // In what its replicas differ, where the run ended by that.
+    unlike: Unlike,
 }
 
 impl Seen {
-    fn of(
-        alloc: Global,
-        trail: &Trail,
-        entries: &[Entry],
-        executable: &[u8],
-    ) -> Result<Seen, AllocError> {
+    fn of(alloc: Global, trail: &Trail, case: &Case<'_>) -> Result<Seen, AllocError> {
         Ok(Seen {
-            stood: Stood::behind(alloc, trail, entries, executable)?,
-            parts: Vec::from_slice(alloc, trail.copies())?,
+            stood: Stood::behind(alloc, trail, case.entries, case.executable)?,
+            differences: differences(alloc, trail)?,
+            unlike: if ends_split(case.entries) {
+                Unlike::of(alloc, trail, case.executable, case.replicas)?
+            } else {
+                Unlike::nothing(alloc)
+            },
         })
     }
 }
@@ -223,35 +238,40 @@ fn conclude(
     requires { (job : JobSeen) × IsTrail job case.now.entries.now trail }
     ensures { (job : JobSeen) → IsTrail job case.now.entries.now trail → IfOk result (Finds job case.now.entries.now) }
 {
-    let audited = trail.tell();
-    let Seen { stood, parts } = seen?;
+    let (_, audited) = trail.tell();
+    let seen = seen?;
     match audited {
-        Ok(audited) => legal(alloc, audited, stood, parts.as_slice(), case),
+        Ok(audited) => legal(alloc, audited, seen, case),
         Err(AuditError::Illegal { place, why }) => {
-            illegal(alloc, place, why, parts.as_slice(), case)
+            illegal(alloc, place, why, seen.differences.as_slice(), case)
         }
         Err(AuditError::NoMemory) => Err(AllocError),
     }
 }
 
 // What is found of a legal journal.
+#[tactic(auto, using(crate::proofs::Splits::told_end))]
 fn legal(
     alloc: Global,
     audited: Audited,
-    stood: Stood,
-    parts: &[Parts],
+    seen: Seen,
     case: &Case<'_>,
 ) -> Result<Findings, AllocError>
     ensures { (job : JobSeen) → Tells job case.now.entries.now audited → IfOk result (Finds job case.now.entries.now) }
 {
-    let fields = fields(alloc, case.executable, audited.views.as_slice())?;
+    let Seen {
+        stood,
+        differences,
+        unlike,
+    } = seen;
+    let split = split_of(alloc, case.executable, audited.views.as_slice(), unlike)?;
     Ok(Findings {
         entries: case.entries.len(),
         verdict: Verdict::Legal {
             steps: audited.steps,
-            end: ended(audited.how, fields, stood),
+            end: ended(audited.how, split, stood),
         },
-        copies: copies_made(alloc, case.entries, case.faults, parts)?,
+        copies: copies_made(alloc, case.entries, case.faults, differences.as_slice())?,
     })
 }
 
@@ -260,7 +280,7 @@ fn illegal(
     alloc: Global,
     place: usize,
     why: Why,
-    parts: &[Parts],
+    differences: &[Difference],
     case: &Case<'_>,
 ) -> Result<Findings, AllocError>
     requires { place < length case.now.entries.now }
@@ -273,13 +293,14 @@ fn illegal(
             entry: case.entries[place],
             why,
         },
-        copies: copies_made(alloc, &case.entries[..place], case.faults, parts)?,
+        copies: copies_made(alloc, &case.entries[..place], case.faults, differences)?,
     })
 }
 
 // How a run ended, with what it is told by.
-fn ended(how: Option<How>, fields: Vec<Field>, stood: Stood) -> Option<Ended>
-    ensures { option_map how_of result ≡ how }
+fn ended(how: Option<How>, split: Split, stood: Stood) -> Option<Ended>
+    ensures how { option_map how_of result ≡ how }
+    ensures split { IfSome result (TellsSplit split) }
 {
     let Stood {
         waiting,
@@ -295,8 +316,8 @@ fn ended(how: Option<How>, fields: Vec<Field>, stood: Stood) -> Option<Ended>
             next,
             threads,
         },
-        How::Differ => Ended::Differ(fields),
-        How::NoMajority => Ended::NoMajority(fields),
+        How::Differ => Ended::Differ(split),
+        How::NoMajority => Ended::NoMajority(split),
         How::Sink(taken) => Ended::Sink(taken),
     })
 }

@@ -1,21 +1,42 @@
-//! The copies that votes made, and the strikes that each undid.
-ghost use Rattle.std.specs.Prelude.{◌≡◌, ◌++◌, ◌∷◌, [], IfOk, OnOk, map};
+//! The copies that votes and scrubs made, and the strikes that each undid.
+ghost use Rattle.std.specs.Prelude.{◌≡◌, ◌++◌, ◌∷◌, [], IfOk, None, OnOk, map};
 ghost use Rattle.ro_journal.specs.Losers.{numbers};
-ghost use Rattle.ro_tell.specs.Judging.{copied_of, copies_at, copies_from};
+ghost use Rattle.ro_tell.specs.Judging.{copied_of, copies_at, copies_from, copies_of, thread_of};
 
-use ro_audit::Parts;
+use ro_audit::{Difference, Parts, Trail, Whole};
 use ro_faults::Fault;
-use ro_findings::{CopyMade, Part, Strike};
+use ro_findings::{CopyMade, Differed, Part, Strike, ThreadParts};
 use ro_journal::{Entry, Lost};
 use std::alloc::{AllocError, Global};
 use std::collections::BTreeMap;
 
-/// The copies that the votes of these entries made in a run with these faults. What differed in each is told in their order.
+/// What differed in each copy of a trail, in their order, to be kept when the trail is given up.
+pub(crate) fn differences(alloc: Global, trail: &Trail) -> Result<Vec<Difference>, AllocError> {
+    let mut kept = Vec::with_capacity(alloc, trail.copies().len())?;
+    for difference in trail.copies() {
+        kept.push(kept_of(alloc, difference)?)?;
+    }
+    Ok(kept)
+}
+
+// The same of one copy.
+fn kept_of(alloc: Global, difference: &Difference) -> Result<Difference, AllocError> {
+    match difference {
+        Difference::OfViews(parts) => Ok(Difference::OfViews(*parts)),
+        Difference::OfReplicas(Whole { threads, pages }) => Ok(Difference::OfReplicas(Whole {
+            threads: Vec::from_slice(alloc, threads.as_slice())?,
+            pages: Vec::from_slice(alloc, pages.as_slice())?,
+        })),
+    }
+}
+
+/// The copies that the votes and scrubs of these entries made in a run with these faults. What differed in each is told in their
+/// order.
 pub(crate) fn copies_made(
     alloc: Global,
     entries: &[Entry],
     faults: &[Fault],
-    parts: &[Parts],
+    differences: &[Difference],
 ) -> Result<Vec<CopyMade>, AllocError>
     ensures { IfOk result (λ copies. map copied_of copies.items ≡ copies_from 0 entries.now) }
 {
@@ -23,7 +44,7 @@ pub(crate) fn copies_made(
         alloc,
         made: Vec::new(alloc),
         strikes: Strikes::new(alloc, faults)?,
-        parts,
+        differences,
     };
     for (place, entry) in entries.iter().enumerate() {
         copies.pass(place, entry)?;
@@ -39,7 +60,7 @@ struct Copies<'a> {
     made: Vec<CopyMade>,
     strikes: Strikes,
     // What differed in each that is to be made.
-    parts: &'a [Parts],
+    differences: &'a [Difference],
 }
 
 impl Copies<'_> {
@@ -54,14 +75,15 @@ impl Copies<'_> {
                 count,
                 ..
             } => self.strikes.count(replica, thread, count),
-            Entry::Vote { thread, lost, .. } => self.push_all(place, thread, lost),
+            Entry::Vote { thread, lost, .. } => self.push_all(place, Some(thread), lost),
+            Entry::Scrub { lost, .. } => self.push_all(place, None, lost),
             _ => Ok(()),
         }
     }
 
-    // Those of a vote that these lost.
-    fn push_all(&mut self, place: usize, thread: u32, lost: Lost) -> Result<(), AllocError>
-        ensures { OnOk result (map copied_of self.new.made.items ≡ map copied_of self.old.made.items ++ map (λ replica. record { place = place; thread = thread; replica = replica }) (numbers lost)) }
+    // Those of a vote on a thread, or of a scrub, that these lost.
+    fn push_all(&mut self, place: usize, thread: Option<u32>, lost: Lost) -> Result<(), AllocError>
+        ensures { OnOk result (map copied_of self.new.made.items ≡ map copied_of self.old.made.items ++ copies_of place thread (numbers lost)) }
     {
         match lost {
             Lost::Nobody => Ok(()),
@@ -74,24 +96,67 @@ impl Copies<'_> {
     }
 
     // One of them.
-    fn push(&mut self, place: usize, thread: u32, replica: u32) -> Result<(), AllocError>
+    fn push(&mut self, place: usize, thread: Option<u32>, replica: u32) -> Result<(), AllocError>
         ensures { OnOk result (map copied_of self.new.made.items ≡ map copied_of self.old.made.items ++ record { place = place; thread = thread; replica = replica } ∷ []) }
     {
-        let parts = self.parts.get(self.made.len()).copied().unwrap_or_default();
-        let parts = parts_of(self.alloc, parts)?;
+        let difference = self.differences.get(self.made.len());
+        let differed = differed(self.alloc, thread, difference)?;
         let undone = self.strikes.undo(self.alloc, replica)?;
         self.made.push(CopyMade {
             place,
-            thread,
             replica,
-            parts,
+            differed,
             undone,
         })?;
         Ok(())
     }
 }
 
-// The parts in which views differ, registers first.
+// In what a replica differed at a vote on a thread, or at a scrub.
+fn differed(
+    alloc: Global,
+    thread: Option<u32>,
+    difference: Option<&Difference>,
+) -> Result<Differed, AllocError>
+    ensures { IfOk result (λ differed. thread_of differed ≡ thread) }
+{
+    match thread {
+        Some(thread) => Ok(Differed::AtVote {
+            thread,
+            parts: parts_at_vote(alloc, difference)?,
+        }),
+        None => at_scrub(alloc, difference),
+    }
+}
+
+// In which parts of its views it did at a vote.
+fn parts_at_vote(alloc: Global, difference: Option<&Difference>) -> Result<Vec<Part>, AllocError> {
+    match difference {
+        Some(Difference::OfViews(parts)) => parts_of(alloc, *parts),
+        _ => Ok(Vec::new(alloc)),
+    }
+}
+
+// In what it did at a scrub.
+fn at_scrub(alloc: Global, difference: Option<&Difference>) -> Result<Differed, AllocError>
+    ensures { IfOk result (λ differed. thread_of differed ≡ None) }
+{
+    let Some(Difference::OfReplicas(whole)) = difference else {
+        return Ok(Differed::AtScrub {
+            threads: Vec::new(alloc),
+            pages: Vec::new(alloc),
+        });
+    };
+    let mut threads = Vec::with_capacity(alloc, whole.threads.len())?;
+    for (thread, parts) in &whole.threads {
+        let (thread, parts) = (*thread, parts_of(alloc, *parts)?);
+        threads.push(ThreadParts { thread, parts })?;
+    }
+    let pages = Vec::from_slice(alloc, whole.pages.as_slice())?;
+    Ok(Differed::AtScrub { threads, pages })
+}
+
+// The parts that differ, registers first.
 fn parts_of(alloc: Global, parts: Parts) -> Result<Vec<Part>, AllocError> {
     let mut list = Vec::new(alloc);
     for number in 1..32 {

@@ -13,6 +13,9 @@ use ro_io::Sink;
 use ro_journal::Entry;
 use ro_report::Answer;
 
+/// The status of a process that could not tell what was to be told.
+pub const UNTOLD: u8 = 251;
+
 /// Whether the whole report was taken.
 #[derive(Clone, Copy, Debug, PartialEq, Eq)]
 pub enum Told {
@@ -68,7 +71,7 @@ fn status_of(told: Told, answer: &Answer) -> u8
     ensures { result ≡ status_of told answer.now }
 {
     if let Told::Failed = told {
-        return 251;
+        return UNTOLD;
     }
     match *answer {
         Answer::Exit(status) => status,

@@ -13,7 +13,7 @@ mod running;
 mod top;
 mod writing;
 
-pub use done::{Done, Told, answered, without_words};
+pub use done::{Done, Told, UNTOLD, answered, without_words};
 pub use reports::give_all;
 pub use ro_report::{Answer, FileKind, JournalCode};
 pub use running::{JobRun, run_job};

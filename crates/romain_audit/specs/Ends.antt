@@ -1,5 +1,5 @@
 -- With which status an audit ends, and what it tells.
-use Rattle.std.specs.Prelude.{◌≡◌, ◌⊎◌, ℕ, List, Option, Some}
+use Rattle.std.specs.Prelude.{◌≡◌, ◌⊎◌, ℕ, false, List, Option, Some}
 use Rattle.ro_io.specs.Outside.{Asks, Calls, Files, Rose, unfailed}
 use Rattle.ro_report.specs.Report.{answer_text}
 use Rattle.ro_report.specs.declared.answers.Answer.{Answer}
@@ -7,15 +7,16 @@ use Rattle.ro_words.specs.Commands.{AskedAudit, audit_of}
 use Rattle.ro_findings.specs.declared.findings.Findings.{Findings}
 use Rattle.ro_findings.specs.declared.findings.Verdict.{Verdict}
 use Rattle.ro_findings.specs.declared.findings.Verdict.TheVariants.{Legal, Illegal}
+use Rattle.ro_findings.specs.Sentences.{TellsVerdict}
 use Rattle.ro_tell.specs.Causes.{WordsCause, audit_names}
 use Rattle.ro_tell.specs.Judging.{IsAuditOf}
-use Rattle.ro_top.specs.Top.{status_of, IsTold}
+use Rattle.ro_top.specs.Top.{status_of, untold, IsTold}
 use Rattle.ro_top.specs.declared.done.Told.{Told}
 use Rattle.ro_top.specs.declared.done.Told.TheVariants.{Whole, Failed}
 
 -- the status where a journal was judged and that was told: 0 exactly for a legal one
 abbrev pub status_found : Told → Verdict → ℕ
-status_found Failed verdict = 251
+status_found Failed verdict = untold
 status_found Whole (Legal steps end) = 0
 status_found Whole (Illegal place entry why) = 238
 
@@ -42,7 +43,8 @@ pub record Came : Type 0 where
   pub report_before : Sunk
   pub report_after : Sunk
 
--- The audit that the words spell was made, what is found was to be told in the output, and the report got nothing.
+-- The audit that the words spell was made, what is found was to be told in the output, with the verdict first where JSON is not asked
+-- for, and the report got nothing.
 pub record IsFound (files : Option Files) (words : List (List ℕ)) (came : Came) : Type 0 where
   pub asked : AskedAudit
   pub asked_is : audit_of words ≡ Some asked
@@ -50,6 +52,7 @@ pub record IsFound (files : Option Files) (words : List (List ℕ)) (came : Came
   pub found : IsAuditOf files asked.run asked.journal findings
   pub asks : Asks came.calls_before came.calls_after (unfailed (audit_names asked.run asked.journal))
   pub text : List ℕ
+  pub verdict : asked.json ≡ false → TellsVerdict findings.verdict text
   pub told : Told
   pub gives : Gives told text came.out_before came.out_after
   pub silent : came.report_after ≡ came.report_before

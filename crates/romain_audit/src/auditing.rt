@@ -6,8 +6,11 @@ ghost use Rattle.romain_audit.specs.Ends.{Ends, Gives, status_found};
 use ro_findings::Verdict;
 use ro_io::{Failed, Sink, Store};
 use ro_tell::audit_words;
-use ro_top::{Told, answered, give_all};
+use ro_top::{Told, UNTOLD, answered, give_all};
 use std::alloc::Global;
+
+/// The status where a journal is not legal.
+const ILLEGAL: u8 = 238;
 
 /// Audits what the words ask for, of which the first is the program's name, and answers the status with which the process ends.
 ///
@@ -39,9 +42,9 @@ fn status_found(told: Told, verdict: &Verdict) -> u8
     ensures { result ≡ status_found told verdict.now }
 {
     match (told, verdict) {
-        (Told::Failed, _) => 251,
+        (Told::Failed, _) => UNTOLD,
         (Told::Whole, Verdict::Legal { .. }) => 0,
-        (Told::Whole, Verdict::Illegal { .. }) => 238,
+        (Told::Whole, Verdict::Illegal { .. }) => ILLEGAL,
     }
 }
 

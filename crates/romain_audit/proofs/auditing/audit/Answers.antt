@@ -1,4 +1,5 @@
-use Rattle.std.proofs.Common.{inl, inr, refl}
+use Rattle.std.proofs.Common.{inl, inr, refl, subst, sym}
+use Rattle.ro_findings.specs.Sentences.{TellsVerdict}
 use Rattle.romain_audit.proofs.auditing.audit.Goals as goal
 
 pub returns-in-Ok-clause-ends : goal.returns-in-Ok-clause-ends
@@ -11,6 +12,7 @@ returns-in-Ok-clause-ends g c =
       found = judged.2;
       asks = judged.3;
       text = c.as_bytes.result.now;
+      verdict = λ plain. subst (TellsVerdict c.in-Ok.judged.findings.verdict) (sym c.as_bytes.ensures.value) (judged.4 plain);
       told = c.give-told.result;
       gives = c.give-told.ensures;
       silent = refl;

@@ -7,7 +7,7 @@ use Rattle.ro_journal.specs.declared.How.TheVariants.{Exit, Deadlock, Trap, Limi
 use Rattle.ro_journal.specs.declared.Entry.TheVariants.{End}
 use Rattle.ro_legal.specs.declared.actions.Action.TheVariants.{Vote as DoVote, Free as DoFree, End as DoEnd, Wait}
 use Rattle.ro_legal.specs.Core.{Job, Core, is_going, nothing_lent, is_lendable, may_vote, may_free}
-use Rattle.ro_legal.specs.Legal.{any_below, is_stuck, IsAllowed, MayEnd, due, alone, for_vote, for_free, EndsAlone}
+use Rattle.ro_legal.specs.Legal.{any_below, is_stuck, IsAllowed, MayEnd, due, alone, for_vote, for_free, for_scrub, EndsAlone}
 use Rattle.ro_legal.specs.Action.{or_else, lowest_below, map_action, threads_made, lend_next, first_action, action_or, next_action}
 use Rattle.ro_legal.specs.Sound.{IsOrdered, IsOver}
 use Rattle.ro_legal.proofs.Nexts.{next_due, next_first}
@@ -101,7 +101,7 @@ module _ (job : Job) (core : Core) where
       omega arith
 
   -- an end that is not next, and comes in the place of nothing
-  pub no-such-end : (how : How) → IsOrdered job core → (next_action job core ≡ DoEnd how → ⊥) → ((bytes : ℕ) → how ≡ Sink bytes → ⊥) → ((thread : ℕ) → thread < 16 → NotInPlace job core how thread) → IsAllowed job core (End how) → ⊥
+  pub no-such-end : (how : How) → IsOrdered job core → (next_action job core ≡ DoEnd how → ⊥) → ((bytes : ℕ) → how ≡ Sink bytes → ⊥) → NotInPlace job core how → IsAllowed job core (End how) → ⊥
   no-such-end how o next sink none (open_yet, may) = by may next sink none
     where
       by-alone : (h : How) → EndsAlone job core h → (next_action job core ≡ DoEnd h → ⊥) → ((bytes : ℕ) → h ≡ Sink bytes → ⊥) → ⊥
@@ -113,11 +113,12 @@ module _ (job : Job) (core : Core) where
       by-alone Differ e n s = e
       by-alone NoMajority e n s = e
 
-      by : MayEnd job core how → (next_action job core ≡ DoEnd how → ⊥) → ((bytes : ℕ) → how ≡ Sink bytes → ⊥) → ((thread : ℕ) → thread < 16 → NotInPlace job core how thread) → ⊥
+      by : MayEnd job core how → (next_action job core ≡ DoEnd how → ⊥) → ((bytes : ℕ) → how ≡ Sink bytes → ⊥) → NotInPlace job core how → ⊥
       by (due e) n s z = n (next_due job core how (none-is core.ended open_yet) e)
       by (alone e) n s z = by-alone how e n s
-      by (for_vote thread may e) n s z = (z thread (vote-few thread o may)).0 may e
-      by (for_free thread may e) n s z = (z thread (free-few thread o may)).1 may e
+      by (for_vote thread may e) n s z = (z.threads thread (vote-few thread o may)).0 may e
+      by (for_free thread may e) n s z = (z.threads thread (free-few thread o may)).1 may e
+      by (for_scrub may e) n s z = z.scrub may e
 
   -- a failing sink's end that may not come
   pub no-sink-end : (bytes : ℕ) → IsOrdered job core → (is_going core ≡ true → bytes < core.wrote → ⊥) → IsAllowed job core (End (Sink bytes)) → ⊥
@@ -131,3 +132,4 @@ module _ (job : Job) (core : Core) where
       by (alone e) = none e.0 e.1
       by (for_vote thread may e) = e
       by (for_free thread may e) = e
+      by (for_scrub may e) = e

@@ -10,3 +10,5 @@ pub mod Ends
 pub mod Plans
 -- what is told
 pub mod Telling
+-- pages that are compared
+pub mod Pages

@@ -4,7 +4,7 @@ use Rattle.std.specs.Prelude.{replicate}
 use Rattle.std.proofs.lemmas.List.{length-replicate, append-nil}
 use Rattle.ro_journal.specs.declared.How.{How}
 use Rattle.ro_journal.specs.declared.Entry.{Entry}
-use Rattle.ro_journal.specs.declared.Entry.TheVariants.{Take, Put, Vote, Free, End}
+use Rattle.ro_journal.specs.declared.Entry.TheVariants.{Take, Put, Vote, Free, Scrub, End}
 use Rattle.ro_journal.specs.Losers.{numbers}
 use Rattle.ro_journal.specs.Plan.{entry_plan, event_steps, plan_of}
 use Rattle.ro_replica.specs.Runs.{RanTo}
@@ -36,6 +36,7 @@ entry-steps job core (Free thread) m =
     let comes = ap (λ (o : Option Event). (core_after_event core thread 0 core.replicas o).steps) (freed-is job core thread p.call p.blocked_on) in
     let one = ap event_steps (freed-steps job core.kernel thread p.call p.goes_on) in
     omega arith
+entry-steps job core (Scrub won lost) m = omega arith
 entry-steps job core (End how) m = omega arith
 
 steps-from : (job : Job) (core : Core) (journal : List Entry) → LegalFrom job core journal → (replay_from job core journal).steps ≡ core.steps + length (plan_of journal)

@@ -12,7 +12,7 @@ use Rattle.ro_journal.specs.Losers.{numbers}
 use Rattle.ro_journal.specs.declared.How.{How}
 use Rattle.ro_journal.specs.declared.How.TheVariants.{Exit, Deadlock, Trap, Limit, Differ, NoMajority, Sink}
 use Rattle.ro_journal.specs.declared.Entry.{Entry}
-use Rattle.ro_journal.specs.declared.Entry.TheVariants.{Take, Put, Vote, Free, End}
+use Rattle.ro_journal.specs.declared.Entry.TheVariants.{Take, Put, Vote, Free, Scrub, End}
 use Rattle.ro_kernel.specs.Kernel.{Kernel}
 use Rattle.ro_kernel.specs.Serve.{Served, Done, Blocked, Ends, serve}
 use Rattle.ro_settings.specs.Ranges.{InRange}
@@ -24,18 +24,18 @@ use Rattle.ro_lease.specs.Loans.{LentOf, BackOf, Gives}
 use Rattle.ro_legal.specs.declared.actions.Lease.{Lease}
 use Rattle.ro_legal.specs.Core.{Job, Core, opening_core, is_idle, is_out, may_vote, may_free, lease_of}
 use Rattle.ro_legal.specs.Event.{Event, call_event, with_recovered}
-use Rattle.ro_legal.specs.Legal.{lease_run, arrived, core_after_put, core_after_event, event_in, freed_event, after, IsAllowed, MayTake, MayPut, Legal, replay, replay_with, output_of}
+use Rattle.ro_legal.specs.Legal.{lease_run, arrived, core_after_put, core_after_event, event_in, freed_event, after, IsAllowed, MayTake, MayPut, Legal, may_scrub, EndsScrub, replay, replay_with, output_of}
 use Rattle.ro_core.specs.Seen.{CoreOf, state, sent, sent_of, Opens, Appends, Quiet, Sends, IsLent, MayReturn, ReturnIs}
-use Rattle.ro_legal.specs.Decides.{DecidesVote, DecidesFree}
+use Rattle.ro_legal.specs.Decides.{DecidesVote, DecidesFree, DecidesScrub}
 use Rattle.ro_legal.proofs.Journals.{replay_more, legal_more}
 use Rattle.ro_legal.proofs.Leases.{event_leases, leases_apart, one_each}
-use Rattle.ro_legal.proofs.Ordered.{end-alone, vote-parts, free-parts, freed-is, ordered}
-use Rattle.ro_legal.proofs.Single.{one-decides, one-frees}
+use Rattle.ro_legal.proofs.Ordered.{end-alone, vote-parts, free-parts, scrub-parts, freed-is, ordered}
+use Rattle.ro_legal.proofs.Single.{one-decides, one-frees, one-scrubs}
 use Rattle.ro_core.proofs.Lending.{put_became, out_found}
 use Rattle.ro_audit.specs.declared.follower.Why.{Why}
 use Rattle.ro_audit.specs.declared.follower.Why.TheVariants.{NotOut, Ran}
 use Rattle.ro_audit.specs.Audits.{Compete, IsReason}
-use Rattle.ro_audit.specs.Following.{Lends, Slot, Follows, Followed, IsInPlace, IsUnless, NotInPlace, Same, core_at}
+use Rattle.ro_audit.specs.Following.{Lends, Slot, Follows, Followed, IsInPlace, IsUnless, NotByThread, Same, core_at}
 use Rattle.ro_audit.specs.declared.follower.InPlace.{InPlace}
 use Rattle.ro_audit.proofs.Runs.{Arrives, one-run}
 use Rattle.ro_audit.proofs.Slots.{AreSlots, its_lease, slots-take, slots-put, slots-alone, none-out, out-found}
@@ -172,7 +172,7 @@ put-follows old new driver replica thread count hit lent lent' wrote f may a q w
     follows-quiet old new (Put driver replica thread count hit) lent wrote f a lent' may q (put-wrote old.job (core_at old) driver replica thread count hit may) (ap length is ∙ length-set lent driver None)
     (subst (AreSlots old.job (after old.job (core_at old) (Put driver replica thread count hit))) (sym is) slots)
 
--- ---- a vote, and a free
+-- ---- a vote, a free and a scrub
 
 vote-long : (job : Job) (core : Core) (thread : ℕ) (entry : Entry) → IsAllowed job core entry → DecidesVote job core thread entry → (length (after job core entry).output ≡ length core.output + (after job core entry).wrote) × ((after job core entry).leases ≡ core.leases)
 unfolding after
@@ -191,6 +191,7 @@ vote-long job core thread (End (Sink bytes)) m d = absurd d
 vote-long job core thread (Take driver replica lent) m d = absurd d
 vote-long job core thread (Put driver replica lent count hit) m d = absurd d
 vote-long job core thread (Free freed) m d = absurd d
+vote-long job core thread (Scrub won lost) m d = absurd d
 
 pub vote-follows : (old new : CoreOf) (thread : ℕ) (entry : Entry) (lent : List (Option LentOf)) (wrote wrote' : ℕ) (bytes : List ℕ) → Follows old lent wrote → may_vote (core_at old) thread ≡ true → IsAllowed old.job (core_at old) entry → DecidesVote old.job (core_at old) thread entry → Appends old new entry → Sends old new bytes
     → new.failed ≡ None → wrote' ≡ length (sent new) - length (sent old) → Follows new lent wrote'
@@ -218,12 +219,28 @@ free-wrote job core thread (End how) may d = (refl, refl)
 free-wrote job core thread (Take driver replica lent) may d = absurd d
 free-wrote job core thread (Put driver replica lent count hit) may d = absurd d
 free-wrote job core thread (Vote t count won lost did) may d = absurd d
+free-wrote job core thread (Scrub won lost) may d = absurd d
 
 pub free-follows : (old new : CoreOf) (thread : ℕ) (entry : Entry) (lent : List (Option LentOf)) (wrote : ℕ) → Follows old lent wrote → may_free old.job (core_at old) thread ≡ true → IsAllowed old.job (core_at old) entry → DecidesFree old.job (core_at old) thread entry → Appends old new entry → Quiet old new → Follows new lent 0
 free-follows old new thread entry lent wrote f may allowed decides a q =
     let none = free-wrote old.job (core_at old) thread entry may decides in
     follows-quiet old new entry lent wrote f a lent allowed q none.0 refl
     (slots-alone old.job (core_at old) (after old.job (core_at old) entry) lent (free-parts old.job (core_at old) thread may).alone none.1 f.slots)
+
+scrub-wrote : (job : Job) (core : Core) (entry : Entry) → DecidesScrub core entry → ((after job core entry).wrote ≡ 0) × ((after job core entry).leases ≡ core.leases)
+unfolding after
+scrub-wrote job core (Scrub won lost) d = (refl, refl)
+scrub-wrote job core (End how) d = (refl, refl)
+scrub-wrote job core (Take driver replica lent) d = absurd d
+scrub-wrote job core (Put driver replica lent count hit) d = absurd d
+scrub-wrote job core (Vote t count won lost did) d = absurd d
+scrub-wrote job core (Free freed) d = absurd d
+
+pub scrub-follows : (old new : CoreOf) (entry : Entry) (lent : List (Option LentOf)) (wrote : ℕ) → Follows old lent wrote → may_scrub (core_at old) ≡ true → IsAllowed old.job (core_at old) entry → DecidesScrub (core_at old) entry → Appends old new entry → Quiet old new → Follows new lent 0
+scrub-follows old new entry lent wrote f may allowed decides a q =
+    let none = scrub-wrote old.job (core_at old) entry decides in
+    follows-quiet old new entry lent wrote f a lent allowed q none.0 refl
+    (slots-alone old.job (core_at old) (after old.job (core_at old) entry) lent (scrub-parts (core_at old) may).alone none.1 f.slots)
 
 -- ---- an end
 
@@ -298,15 +315,18 @@ module _ (old new : CoreOf) (job : new.job ≡ old.job) (journal : new.journal �
 pub same-same : (old mid new : CoreOf) → Same old mid → Same mid new → Same old new
 same-same old mid new s t = record { job = t.job ∙ s.job; journal = t.journal ∙ s.journal }
 
-pub not-in-place : (old new : CoreOf) (how : How) (thread : ℕ) → Same old new → NotInPlace new.job (core_at new) how thread → NotInPlace old.job (core_at old) how thread
-not-in-place old new how thread s n = to-old old new s.job s.journal (λ j c. NotInPlace j c how thread) n
+pub not-by-thread : (old new : CoreOf) (how : How) (thread : ℕ) → Same old new → NotByThread new.job (core_at new) how thread → NotByThread old.job (core_at old) how thread
+not-by-thread old new how thread s n = to-old old new s.job s.journal (λ j c. NotByThread j c how thread) n
+
+pub not-by-scrub : (old new : CoreOf) (how : How) → Same old new → (may_scrub (core_at new) ≡ true → EndsScrub (core_at new) how → ⊥) → may_scrub (core_at old) ≡ true → EndsScrub (core_at old) how → ⊥
+not-by-scrub old new how s n = to-old old new s.job s.journal (λ j c. may_scrub c ≡ true → EndsScrub c how → ⊥) n
 
 pub is-in-place : (old new : CoreOf) (how : How) (place : InPlace) → Same old new → IsInPlace new.job (core_at new) how place → IsInPlace old.job (core_at old) how place
 is-in-place old new how place s n = to-old old new s.job s.journal (λ j c. IsInPlace j c how place) n
 
--- ---- what a vote or a free came to, and the entry
+-- ---- what a vote, a free or a scrub came to, and the entry
 
-module _ (old new : CoreOf) (thread : ℕ) (entry came : Entry) (answer : Option Why) (lent : List (Option LentOf)) (wrote : ℕ) (f : Follows old lent wrote) (same : IsUnless came entry answer) where
+module _ (old new : CoreOf) (entry came : Entry) (answer : Option Why) (lent : List (Option LentOf)) (wrote : ℕ) (f : Follows old lent wrote) (same : IsUnless came entry answer) where
   by-answer : (wrote' : ℕ) → (IsAllowed old.job (core_at old) entry → came ≡ entry) → IsAllowed old.job (core_at old) came → Compete old.job (core_at old) entry came → Appends old new came → Follows new lent wrote' → Followed old entry answer new lent wrote'
   by-answer wrote' one allowed compete appends follows = by answer same
     where
@@ -314,20 +334,27 @@ module _ (old new : CoreOf) (thread : ℕ) (entry came : Entry) (answer : Option
       by None s = (subst (IsAllowed old.job (core_at old)) s allowed, subst (Appends old new) s appends, follows)
       by (Some why) s = (λ m. s.1 (one m), subst (IsReason old.job (core_at old) entry) (sym s.0) (allowed, s.1, compete))
 
-  pub vote-followed : (wrote' : ℕ) (bytes : List ℕ) → may_vote (core_at old) thread ≡ true → DecidesVote old.job (core_at old) thread entry → IsAllowed old.job (state old) came → DecidesVote old.job (state old) thread came → Appends old new came → Sends old new bytes → new.failed ≡ None
+  pub vote-followed : (thread wrote' : ℕ) (bytes : List ℕ) → may_vote (core_at old) thread ≡ true → DecidesVote old.job (core_at old) thread entry → IsAllowed old.job (state old) came → DecidesVote old.job (state old) thread came → Appends old new came → Sends old new bytes → new.failed ≡ None
       → wrote' ≡ length (sent new) - length (sent old) → Followed old entry answer new lent wrote'
-  vote-followed wrote' bytes may decides allowed came_decides appends sends calm is =
+  vote-followed thread wrote' bytes may decides allowed came_decides appends sends calm is =
       let at = state-is old f.calm in
       let allowed' : IsAllowed old.job (core_at old) came = subst (λ (c : Core). IsAllowed old.job c came) at allowed in
       let decides' : DecidesVote old.job (core_at old) thread came = subst (λ (c : Core). DecidesVote old.job c thread came) at came_decides in
-      by-answer wrote' (λ m. one-decides old.job (core_at old) thread came entry allowed' decides' m decides) allowed' (thread, inl (may, decides, decides')) appends (vote-follows old new thread came lent wrote wrote' bytes f may allowed' decides' appends sends calm is)
+      by-answer wrote' (λ m. one-decides old.job (core_at old) thread came entry allowed' decides' m decides) allowed' (inl (thread, may, decides, decides')) appends (vote-follows old new thread came lent wrote wrote' bytes f may allowed' decides' appends sends calm is)
 
-  pub free-followed : may_free old.job (core_at old) thread ≡ true → DecidesFree old.job (core_at old) thread entry → IsAllowed old.job (state old) came → DecidesFree old.job (state old) thread came → Appends old new came → Quiet old new → Followed old entry answer new lent 0
-  free-followed may decides allowed came_decides appends quiet =
+  pub free-followed : (thread : ℕ) → may_free old.job (core_at old) thread ≡ true → DecidesFree old.job (core_at old) thread entry → IsAllowed old.job (state old) came → DecidesFree old.job (state old) thread came → Appends old new came → Quiet old new → Followed old entry answer new lent 0
+  free-followed thread may decides allowed came_decides appends quiet =
       let at = state-is old f.calm in
       let allowed' : IsAllowed old.job (core_at old) came = subst (λ (c : Core). IsAllowed old.job c came) at allowed in
       let decides' : DecidesFree old.job (core_at old) thread came = subst (λ (c : Core). DecidesFree old.job c thread came) at came_decides in
-      by-answer 0 (λ m. one-frees old.job (core_at old) thread came entry allowed' decides' m decides) allowed' (thread, inr (may, decides, decides')) appends (free-follows old new thread came lent wrote f may allowed' decides' appends quiet)
+      by-answer 0 (λ m. one-frees old.job (core_at old) thread came entry allowed' decides' m decides) allowed' (inr (inl (thread, may, decides, decides'))) appends (free-follows old new thread came lent wrote f may allowed' decides' appends quiet)
+
+  pub scrub-followed : may_scrub (core_at old) ≡ true → DecidesScrub (core_at old) entry → IsAllowed old.job (state old) came → DecidesScrub (state old) came → Appends old new came → Quiet old new → Followed old entry answer new lent 0
+  scrub-followed may decides allowed came_decides appends quiet =
+      let at = state-is old f.calm in
+      let allowed' : IsAllowed old.job (core_at old) came = subst (λ (c : Core). IsAllowed old.job c came) at allowed in
+      let decides' : DecidesScrub (core_at old) came = subst (λ (c : Core). DecidesScrub c came) at came_decides in
+      by-answer 0 (λ m. one-scrubs old.job (core_at old) came entry allowed' decides' m decides) allowed' (inr (inr (may, decides, decides'))) appends (scrub-follows old new came lent wrote f may allowed' decides' appends quiet)
 
 -- ---- what may not come back
 

@@ -8,11 +8,11 @@ use Rattle.ro_settings.specs.Ranges.{InRange}
 use Rattle.ro_replica.specs.Seen.{replica_of}
 use Rattle.ro_lease.specs.Loans.{LentOf}
 use Rattle.ro_legal.specs.Core.{Job, Core, is_going, is_idle, may_vote, may_free, lease_of}
-use Rattle.ro_legal.specs.Legal.{IsAllowed, Legal, EndsVote, EndsFree, replay, output_of}
+use Rattle.ro_legal.specs.Legal.{IsAllowed, Legal, may_scrub, EndsVote, EndsFree, EndsScrub, replay, output_of}
 use Rattle.ro_core.specs.Seen.{CoreOf, IsOfJob, Appends}
 use Rattle.ro_audit.specs.declared.audits.Trail.{Trail}
 use Rattle.ro_audit.specs.declared.follower.InPlace.{InPlace}
-use Rattle.ro_audit.specs.declared.follower.InPlace.TheVariants.{OfVote, OfFree}
+use Rattle.ro_audit.specs.declared.follower.InPlace.TheVariants.{OfVote, OfFree, OfScrub}
 use Rattle.ro_audit.specs.declared.follower.Walk.{Walk}
 use Rattle.ro_audit.specs.declared.follower.Walk.TheVariants.{Whole, Cut, Stopped}
 use Rattle.ro_audit.specs.declared.follower.Why.{Why}
@@ -62,10 +62,16 @@ IsUnless came entry (Some why) = (why ≡ Comes came) × (came ≢ entry)
 abbrev pub IsInPlace : Job → Core → How → InPlace → Type 0
 IsInPlace job core how (OfVote thread) = (may_vote core thread ≡ true) × EndsVote job core thread how
 IsInPlace job core how (OfFree thread) = (may_free job core thread ≡ true) × EndsFree job core how
+IsInPlace job core how OfScrub = (may_scrub core ≡ true) × EndsScrub core how
 
 -- no vote on the thread and no free of it would end so
-abbrev pub NotInPlace : Job → Core → How → (thread : ℕ) → Type 0
-NotInPlace job core how thread = (may_vote core thread ≡ true → EndsVote job core thread how → ⊥) × (may_free job core thread ≡ true → EndsFree job core how → ⊥)
+abbrev pub NotByThread : Job → Core → How → (thread : ℕ) → Type 0
+NotByThread job core how thread = (may_vote core thread ≡ true → EndsVote job core thread how → ⊥) × (may_free job core thread ≡ true → EndsFree job core how → ⊥)
+
+-- no vote, no free and no scrub would end so
+pub record NotInPlace (job : Job) (core : Core) (how : How) : Type 0 where
+  pub threads : (thread : ℕ) → thread < 16 → NotByThread job core how thread
+  pub scrub : may_scrub core ≡ true → EndsScrub core how → ⊥
 
 -- the same journal, with nothing but room and views of its own
 pub record Same (old new : CoreOf) : Type 0 where
@@ -86,6 +92,6 @@ Walked job journal (Cut taken) core lent wrote =
     (core.job ≡ job) × (core.journal ++ End (Sink taken) ∷ [] ≡ journal) × (is_going (core_at core) ≡ true) × (taken < wrote) × Follows core lent wrote
 Walked job journal (Stopped place why) core lent wrote = FirstIllegal job journal place why
 
--- the trail of a journal
+-- the trail of a journal of a job
 abbrev pub IsTrail : Job → List Entry → Trail → Type 0
-IsTrail job journal trail = Walked job journal trail.walk trail.follower.core trail.follower.lent.items trail.follower.wrote
+IsTrail job journal trail = (trail.follower.core.job ≡ job) × Walked job journal trail.walk trail.follower.core trail.follower.lent.items trail.follower.wrote

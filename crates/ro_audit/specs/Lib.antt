@@ -1,3 +1,4 @@
 pub mod Kept
+pub mod Pages
 pub mod Audits
 pub mod Following

@@ -1,5 +1,5 @@
 //! The audit of a journal.
-ghost use Rattle.std.specs.Prelude.{◌≡◌, ◌<◌, ◌++◌, ◌∷◌, [], List, IfOk, MatchResult, true};
+ghost use Rattle.std.specs.Prelude.{◌≡◌, ◌<◌, ◌++◌, ◌∷◌, [], List, IfErr, IfOk, MatchResult, true};
 ghost use Rattle.ro_journal.specs.declared.Entry.{Entry as EntrySeen};
 ghost use Rattle.ro_journal.specs.declared.How.TheVariants.{Sink as BySink};
 ghost use Rattle.ro_journal.specs.declared.Entry.TheVariants.{End};
@@ -10,9 +10,10 @@ ghost use Rattle.ro_legal.specs.Jobs.{job_of};
 ghost use Rattle.ro_audit.specs.Audits.{Tells, IsCause};
 ghost use Rattle.ro_audit.specs.Following.{Follows, IsTrail, core_at};
 
-use crate::copies::{Parts, shown};
+use crate::copies::{Difference, shown};
 use crate::follower::{Follower, Walk, Why};
 use crate::kept::Kept;
+use crate::whole::differing_pages;
 use ro_core::{Core, Finished};
 use ro_event::View;
 use ro_faults::Fault;
@@ -30,7 +31,8 @@ pub struct Audited {
     pub steps: u64,
     /// What it wrote.
     pub output: Vec<u8>,
-    /// Where it ended by a vote of views that had no majority, those views in the order of the replicas.
+    /// Where it ended by a vote of views that had no majority, those views in the order of the replicas; none where it ended by a
+    /// scrub.
     pub views: Vec<View>,
 }
 
@@ -42,24 +44,13 @@ pub enum AuditError {
     NoMemory,
 }
 
-impl From<AllocError> for AuditError {
-    ghost use Rattle.std.specs.Prelude.{◌≡◌};
-    ghost use Rattle.ro_audit.specs.declared.audits.AuditError.TheVariants.{NoMemory};
-
-    ghost from_gives = { λ _ e. e ≡ NoMemory };
-
-    fn from(_: AllocError) -> AuditError {
-        AuditError::NoMemory
-    }
-}
-
 /// A journal that was followed, and where that ended.
 pub struct Trail {
     pub(crate) follower: Follower,
     pub(crate) walk: Walk,
 }
 
-/// Follows the journal of a run entry by entry, and tells what it comes to.
+/// Follows the journal of a run entry by entry, and tells what it comes to; the image comes back.
 ///
 /// # Errors
 /// `Illegal` exactly where the journal is not legal, with the place of the first entry that is not allowed in the core that
@@ -71,19 +62,22 @@ pub fn audit(
     faults: &[Fault],
     settings: Settings,
     journal: &[Entry],
-) -> Result<Audited, AuditError>
+) -> (Executable, Result<Audited, AuditError>)
     requires settings { InRange settings }
     requires faults { AreFaults faults.now }
-    ensures { MatchResult result (Tells (job_of image input.now faults.now settings) journal.now) (IsCause (job_of image input.now faults.now settings) journal.now) }
+    ensures back { result.0 ≡ image }
+    ensures audited { MatchResult result.1 (Tells (job_of image input.now faults.now settings) journal.now) (IsCause (job_of image input.now faults.now settings) journal.now) }
 {
-    let trail = trace(alloc, image, input, faults, settings, journal)?;
-    trail.tell()
+    match trace(alloc, image, input, faults, settings, journal) {
+        Ok(trail) => trail.tell(),
+        Err(image) => (image, Err(AuditError::NoMemory)),
+    }
 }
 
 /// Follows the journal of a run entry by entry, up to the first that is not allowed.
 ///
 /// # Errors
-/// Where there is no memory.
+/// Where there is no memory; the image comes back.
 pub fn trace(
     alloc: Global,
     image: Executable,
@@ -91,24 +85,22 @@ pub fn trace(
     faults: &[Fault],
     settings: Settings,
     journal: &[Entry],
-) -> Result<Trail, AllocError>
+) -> Result<Trail, Executable>
     requires settings { InRange settings }
     requires faults { AreFaults faults.now }
-    ensures { IfOk result (IsTrail (job_of image input.now faults.now settings) journal.now) }
+    ensures trail { IfOk result (IsTrail (job_of image input.now faults.now settings) journal.now) }
+    ensures back { IfErr result (λ back. back ≡ image) }
 {
     let mut follower = Follower::begin(alloc, image, input, faults, settings)?;
     match follower.walk(journal) {
         Ok(walk) => Ok(Trail { follower, walk }),
-        Err(error) => {
-            follower.discard();
-            Err(error)
-        }
+        Err(_) => Err(follower.discard()),
     }
 }
 
 impl Trail {
-    /// The core that the entries leave up to where they were followed. Where an entry that is not allowed names a vote or a
-    /// call that is served, it has come to another entry by now.
+    /// The core that the entries leave up to where they were followed. Where an entry that is not allowed names a vote, a call
+    /// that is served or a scrub, it has come to another entry by now.
     pub fn core(&self) -> &Core<Kept>
         ensures { result.now ≡ self.now.follower.core }
     {
@@ -120,64 +112,83 @@ impl Trail {
         shown(&self.follower.core, replica, thread)
     }
 
-    /// Of each copy that a vote made, in their order, in which parts the loser's view differed from the winner's. That they
-    /// are those of the votes is told without a clause.
-    pub fn copies(&self) -> &[Parts] {
+    /// Of each copy that a vote or a scrub made, in their order, in what the loser differed from the winner. That they are
+    /// those of the votes and scrubs is told without a clause.
+    pub fn copies(&self) -> &[Difference] {
         self.follower.copies.as_slice()
     }
 
-    /// What the journal comes to, or the first entry that is not allowed.
-    pub fn tell(self) -> Result<Audited, AuditError>
-        ensures { (job : Job) (journal : List EntrySeen) → IsTrail job journal self → MatchResult result (Tells job journal) (IsCause job journal) }
+    /// The first address of each page, rising, in which not all replicas that are at home in that core have the same bytes.
+    ///
+    /// # Errors
+    /// Where there is no memory.
+    pub fn differing_pages(&self, alloc: Global) -> Result<Vec<u32>, AllocError> {
+        differing_pages(alloc, &self.follower.core)
+    }
+
+    /// The image, and what the journal comes to or the first entry that is not allowed.
+    pub fn tell(self) -> (Executable, Result<Audited, AuditError>)
+        ensures image { (job : Job) (journal : List EntrySeen) → IsTrail job journal self → result.0 ≡ job.program.image }
+        ensures told { (job : Job) (journal : List EntrySeen) → IsTrail job journal self → MatchResult result.1 (Tells job journal) (IsCause job journal) }
     {
         let Trail { follower, walk } = self;
         match walk {
-            Walk::Whole => Ok(whole(follower)),
-            Walk::Cut(taken) => Ok(cut(follower, taken)),
+            Walk::Whole => {
+                let (image, audited) = whole(follower);
+                (image, Ok(audited))
+            }
+            Walk::Cut(taken) => {
+                let (image, audited) = cut(follower, taken);
+                (image, Ok(audited))
+            }
             Walk::Stopped { place, why } => {
-                follower.discard();
-                Err(AuditError::Illegal { place, why })
+                let image = follower.discard();
+                (image, Err(AuditError::Illegal { place, why }))
             }
         }
     }
 }
 
-// What a journal that was followed to its end comes to.
+// The image, and what a journal that was followed to its end comes to.
 #[tactic(auto, using(crate::proofs::Plans::plan_steps))]
-fn whole(follower: Follower) -> Audited
-    ensures { Follows follower.core follower.lent.items follower.wrote → Tells follower.core.job follower.core.journal result }
+fn whole(follower: Follower) -> (Executable, Audited)
+    ensures image { result.0 ≡ follower.core.job.program.image }
+    ensures tells { Follows follower.core follower.lent.items follower.wrote → Tells follower.core.job follower.core.journal result.1 }
 {
     let Follower {
         core,
         lent: _,
         wrote: _,
         copies: _,
+        alloc: _,
     } = follower;
     let steps = core.steps();
     let Finished {
-        image: _,
+        image,
         how,
         views,
         journal: _,
         bytes: _,
         out,
     } = core.finish();
-    Audited {
+    let audited = Audited {
         how,
         steps,
         output: out.into_bytes(),
         views,
-    }
+    };
+    (image, audited)
 }
 
 // The same, with the end by a failing sink behind it.
-fn cut(follower: Follower, taken: u32) -> Audited
-    ensures { Follows follower.core follower.lent.items follower.wrote → is_going (core_at follower.core) ≡ true → taken < follower.wrote → Tells follower.core.job (follower.core.journal ++ End (BySink taken) ∷ []) result }
+fn cut(follower: Follower, taken: u32) -> (Executable, Audited)
+    ensures image { result.0 ≡ follower.core.job.program.image }
+    ensures tells { Follows follower.core follower.lent.items follower.wrote → is_going (core_at follower.core) ≡ true → taken < follower.wrote → Tells follower.core.job (follower.core.journal ++ End (BySink taken) ∷ []) result.1 }
 {
     let left = follower.wrote.saturating_sub(u64::from(taken));
-    let mut audited = whole(follower);
+    let (image, mut audited) = whole(follower);
     audited.how = Some(How::Sink(taken));
     let kept = audited.output.len().saturating_sub(left as usize);
     audited.output.truncate(kept);
-    audited
+    (image, audited)
 }

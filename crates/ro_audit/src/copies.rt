@@ -1,9 +1,51 @@
-//! What differs in a copy that a vote makes.
+//! What differs in a copy that a vote or a scrub makes.
 ghost use Rattle.std.specs.Prelude.{◌≡◌, ◌≢◌, ◌↔◌, IsTrue};
 
 use crate::kept::Kept;
+use crate::whole::Whole;
 use ro_core::Core;
 use ro_event::View;
+use std::alloc::{AllocError, Global};
+
+/// What differed in a copy.
+#[derive(Drop)]
+pub enum Difference {
+    /// In the views of the thread that a vote was on.
+    OfViews(Parts),
+    /// In all that a scrub compares.
+    OfReplicas(Whole),
+}
+
+/// What is compared before a copy is made.
+#[derive(Clone, Copy)]
+pub(crate) enum Compared {
+    /// The views of this thread, by a vote.
+    Views(u32),
+    /// The replicas whole, by a scrub.
+    Replicas,
+}
+
+impl Compared {
+    /// What of it differs in two replicas.
+    pub fn between(
+        self,
+        alloc: Global,
+        core: &Core<Kept>,
+        one: u32,
+        other: u32,
+    ) -> Result<Difference, AllocError> {
+        match self {
+            Compared::Views(thread) => {
+                let parts = parts_between(core, thread, one, other);
+                Ok(Difference::OfViews(parts))
+            }
+            Compared::Replicas => {
+                let whole = Whole::between(alloc, core, one, other)?;
+                Ok(Difference::OfReplicas(whole))
+            }
+        }
+    }
+}
 
 /// The parts in which two views differ; none by default.
 #[derive(Clone, Copy, Debug, Default, PartialEq, Eq)]
@@ -63,7 +105,7 @@ pub(crate) fn shown(core: &Core<Kept>, replica: u32, thread: u32) -> Option<View
     Some(view)
 }
 
-// What of a thread differs in two replicas.
+/// What of a thread that stands still differs in two replicas.
 pub(crate) fn parts_between(core: &Core<Kept>, thread: u32, one: u32, other: u32) -> Parts {
     match (shown(core, one, thread), shown(core, other, thread)) {
         (Some(one), Some(other)) => Parts::between(&one, &other),

@@ -1,16 +1,16 @@
 //! A follower of a journal: a core that makes the same entries, and the replicas that are lent.
-ghost use Rattle.std.specs.Prelude.{◌≡◌, ◌≢◌, ◌<◌, ◌↔◌, ℕ, [], IfOk, IfSome, IsSome, IsTrue, None, Some, length, slice_index_or, slice_set, false, true};
+ghost use Rattle.std.specs.Prelude.{◌≡◌, ◌≢◌, ◌<◌, ◌↔◌, ℕ, [], IfErr, IfOk, IfSome, IsSome, IsTrue, None, Some, length, slice_index_or, slice_set, false, true};
 ghost use Rattle.ro_journal.specs.declared.How.TheVariants.{Sink as BySink};
-ghost use Rattle.ro_journal.specs.declared.Entry.TheVariants.{Take, Put, End};
+ghost use Rattle.ro_journal.specs.declared.Entry.TheVariants.{Take, Put, Scrub, End};
 ghost use Rattle.ro_settings.specs.Ranges.{InRange};
 ghost use Rattle.ro_replica.specs.Seen.{AreFaults};
 ghost use Rattle.ro_legal.specs.declared.actions.Action.TheVariants as act;
 ghost use Rattle.ro_legal.specs.Core.{is_going, may_vote, may_free};
-ghost use Rattle.ro_legal.specs.Legal.{EndsVote, EndsFree};
-ghost use Rattle.ro_legal.specs.Decides.{DecidesVote, DecidesFree};
-ghost use Rattle.ro_audit.specs.Following.{Follows, Followed, IsInPlace, IsUnless, NotInPlace, Same, AtEntry, Walked, core_at};
+ghost use Rattle.ro_legal.specs.Legal.{may_scrub, EndsVote, EndsFree, EndsScrub};
+ghost use Rattle.ro_legal.specs.Decides.{DecidesVote, DecidesFree, DecidesScrub};
+ghost use Rattle.ro_audit.specs.Following.{Follows, Followed, IsInPlace, IsUnless, NotByThread, NotInPlace, Same, AtEntry, Walked, core_at};
 
-use crate::copies::{Parts, parts_between};
+use crate::copies::{Compared, Difference};
 use crate::kept::Kept;
 use ro_core::{Core, Finished, Refused};
 use ro_faults::Fault;
@@ -30,8 +30,9 @@ pub(crate) struct Follower {
     pub lent: Vec<Option<Lent>>,
     /// How many bytes the last entry wrote.
     pub wrote: u64,
-    /// What differed in each copy that the votes made.
-    pub copies: Vec<Parts>,
+    /// What differed in each copy that the votes and scrubs made.
+    pub copies: Vec<Difference>,
+    pub alloc: Global,
 }
 
 /// Why an entry is not allowed.
@@ -47,7 +48,9 @@ pub enum Why {
     NoVote,
     /// The thread has no call that may be served.
     NoFree,
-    /// The vote, or the call that is served, comes to this entry.
+    /// The replicas can't be compared whole: one is lent, or a thread of one can be.
+    NoScrub,
+    /// The vote, the call that is served, or the scrub comes to this entry.
     Comes(Entry),
     /// The run does not end so here.
     NoEnd,
@@ -73,35 +76,41 @@ pub(crate) enum InPlace {
     OfVote(u32),
     /// Of the call that is served for this thread.
     OfFree(u32),
+    /// Of the scrub.
+    OfScrub,
 }
 
 impl Follower {
     /// A follower of the journals of a run.
     ///
     /// # Errors
-    /// Where there is no memory.
+    /// Where there is no memory; the image comes back.
     pub fn begin(
         alloc: Global,
         image: Executable,
         input: &[u8],
         faults: &[Fault],
         settings: Settings,
-    ) -> Result<Follower, AllocError>
+    ) -> Result<Follower, Executable>
         requires settings { InRange settings }
         requires faults { AreFaults faults.now }
         ensures follows { IfOk result (λ f. Follows f.core f.lent.items f.wrote) }
         ensures job { IfOk result (λ f. f.core.job ≡ record { program = record { image = image; input = input.now }; faults = faults.now; settings = settings }) }
         ensures journal { IfOk result (λ f. f.core.journal ≡ []) }
+        ensures back { IfErr result (λ back. back ≡ image) }
     {
-        let lent = vacant(alloc, settings.drivers)?;
+        let Ok(lent) = vacant(alloc, settings.drivers) else {
+            return Err(image);
+        };
         match Core::begin(alloc, image, input, faults, settings, Kept::new(alloc)) {
             Ok(core) => Ok(Follower {
                 core,
                 lent,
                 wrote: 0,
                 copies: Vec::new(alloc),
+                alloc,
             }),
-            Err(Refused { image: _, out: _ }) => Err(AllocError),
+            Err(Refused { image, out: _ }) => Err(image),
         }
     }
 
@@ -112,7 +121,8 @@ impl Follower {
     pub fn walk(&mut self, journal: &[Entry]) -> Result<Walk, AllocError>
         requires follows { Follows self.old.core self.old.lent.items self.old.wrote }
         requires journal { self.old.core.journal ≡ [] }
-        ensures { IfOk result (λ walk. Walked self.old.core.job journal.now walk self.new.core self.new.lent.items self.new.wrote) }
+        ensures job { self.new.core.job ≡ self.old.core.job }
+        ensures walked { IfOk result (λ walk. Walked self.old.core.job journal.now walk self.new.core self.new.lent.items self.new.wrote) }
     {
         for (place, entry) in journal.iter().enumerate() {
             if let Entry::End {
@@ -128,29 +138,34 @@ impl Follower {
         Ok(Walk::Whole)
     }
 
-    /// Lets it go.
-    pub fn discard(self) {
+    /// Lets all go but the image.
+    pub fn discard(self) -> Executable
+        ensures { result ≡ self.core.job.program.image }
+    {
         let Follower {
             core,
             lent: _,
             wrote: _,
             copies: _,
+            alloc: _,
         } = self;
         let Finished {
-            image: _,
+            image,
             how: _,
             views: _,
             journal: _,
             bytes: _,
             out: _,
         } = core.finish();
+        image
     }
 
     // Follows one entry, which is no failing sink's end; answers why it is not allowed, if it is not.
     fn follow(&mut self, entry: &Entry) -> Result<Option<Why>, AllocError>
         requires follows { Follows self.old.core self.old.lent.items self.old.wrote }
         requires not_sink { (bytes : ℕ) → entry.now ≢ End (BySink bytes) }
-        ensures { IfOk result (λ why. Followed self.old.core entry.now why self.new.core self.new.lent.items self.new.wrote) }
+        ensures job { self.new.core.job ≡ self.old.core.job }
+        ensures followed { IfOk result (λ why. Followed self.old.core entry.now why self.new.core self.new.lent.items self.new.wrote) }
     {
         match *entry {
             Entry::Take {
@@ -184,6 +199,7 @@ impl Follower {
                     Ok(Some(Why::NoFree))
                 }
             }
+            Entry::Scrub { won, lost } => self.scrub_noted(won, lost),
             Entry::End { how } => self.end(how),
         }
     }
@@ -191,7 +207,8 @@ impl Follower {
     // Lends a thread of a replica to a driver, where that is allowed.
     fn take(&mut self, driver: u32, replica: u32, thread: u32) -> Result<Option<Why>, AllocError>
         requires { Follows self.old.core self.old.lent.items self.old.wrote }
-        ensures { IfOk result (λ why. Followed self.old.core (Take driver replica thread) why self.new.core self.new.lent.items self.new.wrote) }
+        ensures job { self.new.core.job ≡ self.old.core.job }
+        ensures followed { IfOk result (λ why. Followed self.old.core (Take driver replica thread) why self.new.core self.new.lent.items self.new.wrote) }
     {
         if !self.core.may_take(driver, replica, thread) {
             return Ok(Some(Why::NotLendable));
@@ -208,7 +225,8 @@ impl Follower {
     // Runs what is lent to a driver and puts it back, where the entry is that of its run.
     fn put(&mut self, driver: u32, replica: u32, thread: u32, count: u32, hit: u32) -> Option<Why>
         requires { Follows self.old.core self.old.lent.items self.old.wrote }
-        ensures { Followed self.old.core (Put driver replica thread count hit) result self.new.core self.new.lent.items self.new.wrote }
+        ensures job { self.new.core.job ≡ self.old.core.job }
+        ensures followed { Followed self.old.core (Put driver replica thread count hit) result self.new.core self.new.lent.items self.new.wrote }
     {
         let Some(lent) = take_back(self.lent.as_mut_slice(), driver) else {
             return Some(Why::NotOut);
@@ -237,7 +255,8 @@ impl Follower {
         requires follows { Follows self.old.core self.old.lent.items self.old.wrote }
         requires may { IsTrue (may_vote (core_at self.old.core) thread) }
         requires decides { DecidesVote self.old.core.job (core_at self.old.core) thread entry.now }
-        ensures { IfOk result (λ why. Followed self.old.core entry.now why self.new.core self.new.lent.items self.new.wrote) }
+        ensures job { self.new.core.job ≡ self.old.core.job }
+        ensures followed { IfOk result (λ why. Followed self.old.core entry.now why self.new.core self.new.lent.items self.new.wrote) }
     {
         let before = self.core.bytes();
         let came = self.core.vote(thread)?;
@@ -259,10 +278,11 @@ impl Follower {
         requires follows { Follows self.old.core self.old.lent.items self.old.wrote }
         requires may { IsTrue (may_vote (core_at self.old.core) thread) }
         requires decides { DecidesVote self.old.core.job (core_at self.old.core) thread entry.now }
-        ensures { IfOk result (λ why. Followed self.old.core entry.now why self.new.core self.new.lent.items self.new.wrote) }
+        ensures job { self.new.core.job ≡ self.old.core.job }
+        ensures followed { IfOk result (λ why. Followed self.old.core entry.now why self.new.core self.new.lent.items self.new.wrote) }
     {
         let before = self.copies.len();
-        self.note_all(thread, won, lost)?;
+        self.note_all(Compared::Views(thread), won, lost)?;
         let why = self.vote(thread, entry)?;
         if why.is_some() {
             self.copies.truncate(before);
@@ -270,30 +290,62 @@ impl Follower {
         Ok(why)
     }
 
-    // Notes what differs in the copies that a vote is about to make.
-    fn note_all(&mut self, thread: u32, won: u32, lost: Lost) -> Result<(), AllocError>
+    // Scrubs where that is allowed, and answers what it comes to where that is not this entry; what differs in the copies that
+    // it makes is noted.
+    fn scrub_noted(&mut self, won: u32, lost: Lost) -> Result<Option<Why>, AllocError>
+        requires { Follows self.old.core self.old.lent.items self.old.wrote }
+        ensures job { self.new.core.job ≡ self.old.core.job }
+        ensures followed { IfOk result (λ why. Followed self.old.core (Scrub won lost) why self.new.core self.new.lent.items self.new.wrote) }
+    {
+        if !self.core.may_scrub() {
+            return Ok(Some(Why::NoScrub));
+        }
+        let before = self.copies.len();
+        self.note_all(Compared::Replicas, won, lost)?;
+        let why = self.scrub(&Entry::Scrub { won, lost })?;
+        if why.is_some() {
+            self.copies.truncate(before);
+        }
+        Ok(why)
+    }
+
+    // Makes a scrub that may be made, and answers what it comes to where that is not this entry, which would decide it.
+    fn scrub(&mut self, entry: &Entry) -> Result<Option<Why>, AllocError>
+        requires follows { Follows self.old.core self.old.lent.items self.old.wrote }
+        requires may { IsTrue (may_scrub (core_at self.old.core)) }
+        requires decides { DecidesScrub (core_at self.old.core) entry.now }
+        ensures job { self.new.core.job ≡ self.old.core.job }
+        ensures followed { IfOk result (λ why. Followed self.old.core entry.now why self.new.core self.new.lent.items self.new.wrote) }
+    {
+        let came = self.core.scrub()?;
+        self.wrote = 0;
+        Ok(unless_same(came, entry))
+    }
+
+    // Notes what differs in the copies that a vote or a scrub is about to make.
+    fn note_all(&mut self, compared: Compared, won: u32, lost: Lost) -> Result<(), AllocError>
         ensures core { self.new.core ≡ self.old.core }
         ensures lent { self.new.lent ≡ self.old.lent }
         ensures wrote { self.new.wrote ≡ self.old.wrote }
     {
         match lost {
             Lost::Nobody => Ok(()),
-            Lost::One(number) => self.note(thread, won, number),
+            Lost::One(number) => self.note(compared, won, number),
             Lost::Two(lower, higher) => {
-                self.note(thread, won, lower)?;
-                self.note(thread, won, higher)
+                self.note(compared, won, lower)?;
+                self.note(compared, won, higher)
             }
         }
     }
 
     // The same of one of them.
-    fn note(&mut self, thread: u32, won: u32, replica: u32) -> Result<(), AllocError>
+    fn note(&mut self, compared: Compared, won: u32, replica: u32) -> Result<(), AllocError>
         ensures core { self.new.core ≡ self.old.core }
         ensures lent { self.new.lent ≡ self.old.lent }
         ensures wrote { self.new.wrote ≡ self.old.wrote }
     {
-        let parts = parts_between(&self.core, thread, won, replica);
-        self.copies.push(parts)?;
+        let difference = compared.between(self.alloc, &self.core, won, replica)?;
+        self.copies.push(difference)?;
         Ok(())
     }
 
@@ -302,19 +354,21 @@ impl Follower {
         requires follows { Follows self.old.core self.old.lent.items self.old.wrote }
         requires may { IsTrue (may_free self.old.core.job (core_at self.old.core) thread) }
         requires decides { DecidesFree self.old.core.job (core_at self.old.core) thread entry.now }
-        ensures { IfOk result (λ why. Followed self.old.core entry.now why self.new.core self.new.lent.items self.new.wrote) }
+        ensures job { self.new.core.job ≡ self.old.core.job }
+        ensures followed { IfOk result (λ why. Followed self.old.core entry.now why self.new.core self.new.lent.items self.new.wrote) }
     {
         let came = self.core.free(thread)?;
         self.wrote = 0;
         Ok(unless_same(came, entry))
     }
 
-    // Ends the run so, where that is allowed: the end is due, or nothing can be done, or it comes in the place of a vote or a
-    // free.
+    // Ends the run so, where that is allowed: the end is due, or nothing can be done, or it comes in the place of a vote, a free
+    // or a scrub.
     fn end(&mut self, how: How) -> Result<Option<Why>, AllocError>
         requires follows { Follows self.old.core self.old.lent.items self.old.wrote }
         requires not_sink { (bytes : ℕ) → how ≢ BySink bytes }
-        ensures { IfOk result (λ why. Followed self.old.core (End how) why self.new.core self.new.lent.items self.new.wrote) }
+        ensures job { self.new.core.job ≡ self.old.core.job }
+        ensures followed { IfOk result (λ why. Followed self.old.core (End how) why self.new.core self.new.lent.items self.new.wrote) }
     {
         if is_end(self.core.next_action(), how) {
             self.core.end(how);
@@ -325,6 +379,7 @@ impl Follower {
         match self.place_of(how) {
             Some(InPlace::OfVote(thread)) => self.vote(thread, &entry),
             Some(InPlace::OfFree(thread)) => self.free(thread, &entry),
+            Some(InPlace::OfScrub) => self.scrub(&entry),
             None => Ok(Some(Why::NoEnd)),
         }
     }
@@ -335,13 +390,16 @@ impl Follower {
         ensures follows { Follows self.new.core self.new.lent.items self.new.wrote }
         ensures same { Same self.old.core self.new.core }
         ensures some { IfSome result (λ place. IsInPlace self.old.core.job (core_at self.old.core) how place) }
-        ensures none { result ≡ None → (thread : ℕ) → thread < 16 → NotInPlace self.old.core.job (core_at self.old.core) how thread }
+        ensures none { result ≡ None → NotInPlace self.old.core.job (core_at self.old.core) how }
     {
         for thread in 0..ro_limits::MOST_THREADS {
             let place = self.place_at(thread, how);
             if place.is_some() {
                 return place;
             }
+        }
+        if self.ends_scrub(how) {
+            return Some(InPlace::OfScrub);
         }
         None
     }
@@ -352,7 +410,7 @@ impl Follower {
         ensures follows { Follows self.new.core self.new.lent.items self.new.wrote }
         ensures same { Same self.old.core self.new.core }
         ensures some { IfSome result (λ place. IsInPlace self.old.core.job (core_at self.old.core) how place) }
-        ensures none { result ≡ None → NotInPlace self.old.core.job (core_at self.old.core) how thread }
+        ensures none { result ≡ None → NotByThread self.old.core.job (core_at self.old.core) how thread }
     {
         if self.ends_vote(thread, how) {
             return Some(InPlace::OfVote(thread));
@@ -386,6 +444,14 @@ impl Follower {
             return false;
         }
         is_how(self.core.free_end(), how)
+    }
+
+    // Whether the run would end so in the place of a scrub.
+    fn ends_scrub(&self, how: How) -> bool
+        requires { Follows self.now.core self.now.lent.items self.now.wrote }
+        ensures { IsTrue result ↔ ((may_scrub (core_at self.now.core) ≡ true) × EndsScrub (core_at self.now.core) how) }
+    {
+        self.core.may_scrub() && is_how(self.core.scrub_end(), how)
     }
 
     // A failing sink's end at this place of the journal: it may come while bytes of the last write are left, and is the last

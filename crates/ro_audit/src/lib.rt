@@ -5,8 +5,10 @@ mod audits;
 mod copies;
 mod follower;
 mod kept;
+mod whole;
 
 pub use audits::{AuditError, Audited, Trail, audit, trace};
-pub use copies::Parts;
+pub use copies::{Difference, Parts};
 pub use follower::Why;
 pub use kept::Kept;
+pub use whole::Whole;

@@ -1,6 +1,6 @@
 -- What the questions to a core answer, from its fields.
-use Rattle.std.proofs.Common.{◌≡◌, ℕ, ◌≤◌, Bool, true, false, ◌&&◌, Option, Some, None, refl, sym, ap, subst, arith}
-use Rattle.std.specs.Prelude.{◌↔◌, slice_get}
+use Rattle.std.proofs.Common.{◌≡◌, ℕ, zero, suc, ◌≤◌, Bool, true, false, true≢false, not, ◌&&◌, ◌||◌, length, Option, Some, None, refl, sym, ap, ◌∙◌, subst, arith}
+use Rattle.std.specs.Prelude.{◌↔◌, is_none, is_some, slice_get}
 use Rattle.std.specs.Option.{option_map_or}
 use Rattle.std.proofs.lemmas.Option.{slice_get_within}
 use Rattle.ro_journal.specs.declared.How.{How}
@@ -9,11 +9,14 @@ use Rattle.ro_journal.specs.declared.losers.Lost.{Lost}
 use Rattle.ro_kernel.specs.Kernel.{lives_on}
 use Rattle.ro_replica.specs.Replica.{Replica}
 use Rattle.ro_replica.specs.Views.{is_unstopped}
-use Rattle.ro_legal.specs.Core.{Job, Core, is_home, is_lendable}
-use Rattle.ro_legal.specs.Legal.{MayVote, EndsVote}
+use Rattle.ro_legal.specs.declared.actions.Action.TheVariants.{Lend}
+use Rattle.ro_legal.specs.Core.{Job, Core, is_going, nothing_lent, is_home, is_lendable}
+use Rattle.ro_legal.specs.Legal.{any_below, MayVote, EndsVote, may_scrub, MayScrub, EndsScrub}
+use Rattle.ro_legal.specs.Action.{lowest_below, map_action, threads_made, lend_in, lend_next}
 use Rattle.ro_core.specs.Fields.{Fields, state_in, Holds}
-use Rattle.ro_core.proofs.Tests.{count-is}
-use Rattle.ro_legal.proofs.Single.{no-end, one-end}
+use Rattle.ro_core.proofs.Tests.{any-lowest, count-is, lend-test, lends-none}
+use Rattle.ro_legal.proofs.Nexts.{found_below}
+use Rattle.ro_legal.proofs.Single.{no-end, one-end, scrub-no-end, one-scrub-end}
 
 and-last : (b : Bool) → (b && false) ≡ false
 and-last true = refl
@@ -42,3 +45,55 @@ lends-within f h replica thread far = sym (by (slice_get (state_in f).replicas r
     by : (o : Option Replica) → slice_get (state_in f).replicas replica ≡ o → (is_home (state_in f) replica && lives_on (state_in f).kernel thread && option_map_or (is_unstopped thread) o false) ≡ false
     by None e = and-last (is_home (state_in f) replica && lives_on (state_in f).kernel thread)
     by (Some r) e = absurd (let w = slice_get_within (state_in f).replicas replica r e in let c = count-is f h in omega arith)
+
+-- ---- a scrub
+
+-- whether one of two passes below n
+any-either : (n : ℕ) (one other : ℕ → Bool) → any_below n (λ k. one k || other k) ≡ (any_below n one || any_below n other)
+any-either zero one other = refl
+any-either (suc n) one other = ap (λ (b : Bool). b || (one n || other n)) (any-either n one other) ∙ swap (any_below n one) (any_below n other) (one n) (other n)
+  where
+    swap : (a b c d : Bool) → ((a || b) || (c || d)) ≡ ((a || c) || (b || d))
+    swap true b c d = refl
+    swap false true true d = refl
+    swap false true false d = refl
+    swap false false c d = refl
+
+any-never : (n : ℕ) → any_below n (λ k. false) ≡ false
+any-never zero = refl
+any-never (suc n) = ap (λ (b : Bool). b || false) (any-never n)
+
+-- a pair is found either way round
+any-turned : (n m : ℕ) (test : ℕ → ℕ → Bool) → any_below m (λ k. any_below n (λ j. test j k)) ≡ any_below n (λ j. any_below m (test j))
+any-turned zero m test = any-never m
+any-turned (suc n) m test = any-either m (λ k. any_below n (λ j. test j k)) (test n) ∙ ap (λ (b : Bool). b || any_below m (test n)) (any-turned n m test)
+
+-- nothing can be lent where no thread of any replica can
+none-lent : (core : Core) → is_none (lend_next core) ≡ not (any_below (threads_made core) (λ thread. any_below (length core.replicas) (λ replica. is_lendable core replica thread)))
+none-lent core = sym (ap not (any-turned (length core.replicas) (threads_made core) (is_lendable core)) ∙ ap not (any-lowest (lend-test core) (length core.replicas)) ∙ by (lowest_below (length core.replicas) (lend-test core)) refl)
+  where
+    threads : (replica : ℕ) (o : Option ℕ) → lowest_below (threads_made core) (is_lendable core replica) ≡ o → lend-test core replica ≡ true → false ≡ is_none (map_action (λ thread. Lend replica thread) o)
+    threads replica None e some = absurd (true≢false (sym some ∙ lends-none core replica e))
+    threads replica (Some thread) e some = refl
+
+    by : (o : Option ℕ) → lowest_below (length core.replicas) (lend-test core) ≡ o → not (is_some o) ≡ is_none (lend_in core o)
+    by None e = refl
+    by (Some replica) e = threads replica (lowest_below (threads_made core) (is_lendable core replica)) refl (found_below (length core.replicas) (lend-test core) replica e)
+
+-- so the replicas may be scrubbed where nothing is lent and nothing can be
+pub scrub-by-lending : (core : Core) (idle none : Bool) → idle ≡ (is_going core && nothing_lent core) → none ≡ is_none (lend_next core) → (idle && none) ≡ may_scrub core
+scrub-by-lending core idle none e f = ap (λ (b : Bool). b && none) e ∙ ap (λ (b : Bool). is_going core && nothing_lent core && b) (f ∙ none-lent core)
+
+-- where one end comes in its place
+pub some-scrub-end : (job : Job) (core : Core) (how : How) → EndsScrub core how → (other : How) → (Some how ≡ Some other) ↔ EndsScrub core other
+some-scrub-end job core how e other = (
+  λ f. subst (EndsScrub core) (let g : Some how ≡ Some other = f in let same : how ≡ other = cc in same) e,
+  λ f. ap (λ (h : How). Some h) (one-scrub-end job core how other e f),
+)
+
+-- and where none does
+pub none-scrub-ends : (job : Job) (core : Core) (won : ℕ) (lost : Lost) → MayScrub core won lost → (other : How) → (None ≡ Some other) ↔ EndsScrub core other
+none-scrub-ends job core won lost m other = (
+  λ f. absurd (let g : None ≡ Some other = f in cc),
+  λ e. absurd (scrub-no-end job core won lost m other e),
+)

@@ -78,7 +78,7 @@ opening-holds f in_range journal first count leases setup kernel blocked steps s
       ended_is = ended ∙ sym (ap (λ (x : Core). x.ended) core);
       seats_are = subst (λ (x : Core). AreSeated f.job x f.seats) (sym core) (first-seated f.job f.seats first count);
       groups_are = subst (λ (x : Core). AreGrouped x.replicas f.groups) (sym core) (opening-grouped f.job f.groups none);
-      views_count = views ∙ sym count;
+      views_count = λ unended. views ∙ sym count;
       views_kept = no-views f.job f.journal f.views (ap outcome_of journal);
       failed_well = λ bytes g. absurd (let z : None ≡ Some (Sink bytes) = sym due ∙ g in cc);
       room = let one : one_end f.ended ≡ 1 = ap one_end ended in let none : length f.leases ≡ 0 = ap length leases in omega arith;

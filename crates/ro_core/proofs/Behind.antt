@@ -96,7 +96,7 @@ module _ (f f' : Fields) (h : Holds f) (entry : Entry) (allowed : IsAllowed f.jo
     ended = ended ∙ h.ended_is ∙ sym (ap (λ (c : Core). c.ended) came);
     seats = subst (λ (c : Core). AreSeated f.job c f'.seats) (sym came) (seated-home f.job (core_after (core_in f) thread count replicas event) f'.seats home core_alone);
     groups = subst (λ (c : Core). AreGrouped c.replicas f'.groups) (sym came) groups;
-    views_count = views;
+    views_count = λ unended. views;
     views_kept = no-views f.job _ f'.views (outcome_of-append f.journal (entry ∷ []) (no-outcome f h goes.not_ended) ∙ no_end);
     room = let none : length f'.leases ≡ 0 = ap length (leases ∙ alone) in let one : one_end f'.ended ≡ 1 = ap one_end (ended ∙ goes.not_ended) in omega arith;
   })

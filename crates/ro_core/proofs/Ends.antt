@@ -31,11 +31,11 @@ end-seated job core seats how h = record { count = h.count; each = λ number. by
     by number (Some (Some value)) e = e
 
 -- the fields behind an end that sends nothing more
-pub ended-holds : (f f' : Fields) → Holds f → (how : How) → f.ended ≡ None → MayEnd f.job (core_in f) how → output_of f.job (f.journal ++ End how ∷ []) ≡ sent_of f.job f.journal (failed_of f.due) → KeepsViews f.job (f.journal ++ End how ∷ []) f.views
-    → f'.job ≡ f.job → f'.kernel ≡ f.kernel → f'.blocked ≡ f.blocked → f'.steps ≡ f.steps → f'.scrubbed ≡ f.scrubbed → f'.views ≡ f.views → f'.seats ≡ f.seats → f'.groups ≡ f.groups → f'.leases ≡ f.leases → f'.due ≡ None → f'.ended ≡ Some how → f'.sent ≡ f.sent
+pub ended-holds : (f f' : Fields) → Holds f → (how : How) → f.ended ≡ None → MayEnd f.job (core_in f) how → output_of f.job (f.journal ++ End how ∷ []) ≡ sent_of f.job f.journal (failed_of f.due) → KeepsViews f.job (f.journal ++ End how ∷ []) f'.views
+    → f'.job ≡ f.job → f'.kernel ≡ f.kernel → f'.blocked ≡ f.blocked → f'.steps ≡ f.steps → f'.scrubbed ≡ f.scrubbed → f'.seats ≡ f.seats → f'.groups ≡ f.groups → f'.leases ≡ f.leases → f'.due ≡ None → f'.ended ≡ Some how → f'.sent ≡ f.sent
     → f'.journal ≡ f.journal ++ End how ∷ [] → f.places ≡ f'.places + 1 → Holds f'
 unfolding after
-ended-holds f f' h how none allowed output kept job kernel blocked steps scrubbed views seats groups leases due ended sent journal less = holds-step f f' (End how) h (sym h.ended_is ∙ none, allowed) (record {
+ended-holds f f' h how none allowed output kept job kernel blocked steps scrubbed seats groups leases due ended sent journal less = holds-step f f' (End how) h (sym h.ended_is ∙ none, allowed) (record {
   job = job;
   journal = journal;
   leases = leases ∙ h.leases_are;
@@ -51,8 +51,8 @@ ended-holds f f' h how none allowed output kept job kernel blocked steps scrubbe
   ended = ended;
   seats = subst (AreSeated f.job (after f.job (core_in f) (End how))) (sym seats) (end-seated f.job (core_in f) f.seats how h.seats_are);
   groups = subst (AreGrouped (core_in f).replicas) (sym groups) h.groups_are;
-  views_count = ap length views ∙ h.views_count ∙ sym (ap length seats);
-  views_kept = subst (KeepsViews f.job (f.journal ++ End how ∷ [])) (sym views) kept;
+  views_count = λ unended. absurd (let g : Some how ≡ None = sym ended ∙ unended in cc);
+  views_kept = kept;
   room = let k = h.room in let one : one_end f.ended ≡ 1 = ap one_end none in let no : one_end f'.ended ≡ 0 = ap one_end ended in let n : length f'.leases ≡ length f.leases = ap length leases in omega arith;
 })
 
@@ -133,8 +133,8 @@ module _ (f : Fields) (h : Holds f) (how : How) (is_next : next_action f.job (st
   pub end-room : 0 < f.places
   end-room = let e : one_end f.ended ≡ 1 = ap one_end ended-none in let k = h.room in omega arith
 
-  pub end-holds : (f' : Fields) → f'.job ≡ f.job → f'.kernel ≡ f.kernel → f'.blocked ≡ f.blocked → f'.steps ≡ f.steps → f'.scrubbed ≡ f.scrubbed → f'.views ≡ f.views → f'.seats ≡ f.seats → f'.groups ≡ f.groups → f'.leases ≡ f.leases → f'.due ≡ None → f'.ended ≡ Some how → f'.sent ≡ f.sent
+  pub end-holds : (f' : Fields) → f'.job ≡ f.job → f'.kernel ≡ f.kernel → f'.blocked ≡ f.blocked → f'.steps ≡ f.steps → f'.scrubbed ≡ f.scrubbed → f'.seats ≡ f.seats → f'.groups ≡ f.groups → f'.leases ≡ f.leases → f'.due ≡ None → f'.ended ≡ Some how → f'.sent ≡ f.sent
       → f'.journal ≡ f.journal ++ End how ∷ [] → f.places ≡ f'.places + 1 → Holds f'
-  end-holds f' job kernel blocked steps scrubbed views seats groups leases due ended sent journal less =
-      ended-holds f f' h how ended-none end-allowed.0 end-sent (not-split f.job _ f.views how (outcome_of-append f.journal (End how ∷ []) (no-outcome f h ended-none)) not-by-views.0 not-by-views.1)
-      job kernel blocked steps scrubbed views seats groups leases due ended sent journal less
+  end-holds f' job kernel blocked steps scrubbed seats groups leases due ended sent journal less =
+      ended-holds f f' h how ended-none end-allowed.0 end-sent (not-split f.job _ f'.views how (outcome_of-append f.journal (End how ∷ []) (no-outcome f h ended-none)) not-by-views.0 not-by-views.1)
+      job kernel blocked steps scrubbed seats groups leases due ended sent journal less

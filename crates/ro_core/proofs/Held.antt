@@ -104,7 +104,7 @@ pub record Becomes (f f' : Fields) (entry : Entry) : Type 0 where
   pub ended : f'.ended ≡ (after f.job (core_in f) entry).ended
   pub seats : AreSeated f.job (after f.job (core_in f) entry) f'.seats
   pub groups : AreGrouped (after f.job (core_in f) entry).replicas f'.groups
-  pub views_count : length f'.views ≡ length f'.seats
+  pub views_count : f'.ended ≡ None → length f'.views ≡ length f'.seats
   pub views_kept : KeepsViews f.job (f.journal ++ entry ∷ []) f'.views
   pub room : length f'.leases + one_end f'.ended ≤ f'.places
 

@@ -55,7 +55,7 @@ pub voted_last : (old new : CoreOf) (thread : ℕ) (entry : Entry) → outcome_o
 voted_last old new thread (Vote voted n w l d) none at next decides a shown = none_last new.job new.journal new.views (more_open old new (Vote voted n w l d) none a refl)
 voted_last old new thread (End how) none at next decides a shown = λ split.
     let views = shown (is_split how (outcome_of new.journal) (ends_so old new how none a) split) in
-    subst (λ (j : Job). ShowsLast j new.journal new.views ⊎ ScrubsLast j new.journal) (sym a.job) (inl (record {
+    subst (λ (j : Job). ShowsLast j new.journal new.views ⊎ ScrubsLast j new.journal new.views) (sym a.job) (inl (record {
       before = old.journal;
       how = how;
       journal_is = a.journal;
@@ -79,17 +79,19 @@ freed_last old new thread entry none decides a = absurd decides
 
 -- ---- a scrub
 
-pub scrubbed_last : (old new : CoreOf) (entry : Entry) → outcome_of old.journal ≡ None → state old ≡ replay old.job old.journal → next_action old.job (state old) ≡ DoScrub → DecidesScrub (state old) entry → Appends old new entry → KeepsLast new.job new.journal new.views
-scrubbed_last old new (Scrub w l) none at next decides a = none_last new.job new.journal new.views (more_open old new (Scrub w l) none a refl)
-scrubbed_last old new (End how) none at next decides a = λ split.
-    subst (λ (j : Job). ShowsLast j new.journal new.views ⊎ ScrubsLast j new.journal) (sym a.job) (inr (record {
+pub scrubbed_last : (old new : CoreOf) (entry : Entry) → outcome_of old.journal ≡ None → state old ≡ replay old.job old.journal → next_action old.job (state old) ≡ DoScrub → DecidesScrub (state old) entry → Appends old new entry
+    → (IsSplit entry → new.views ≡ []) → KeepsLast new.job new.journal new.views
+scrubbed_last old new (Scrub w l) none at next decides a no_views = none_last new.job new.journal new.views (more_open old new (Scrub w l) none a refl)
+scrubbed_last old new (End how) none at next decides a no_views = λ split.
+    subst (λ (j : Job). ShowsLast j new.journal new.views ⊎ ScrubsLast j new.journal new.views) (sym a.job) (inr (record {
       before = old.journal;
       how = how;
       journal_is = a.journal;
       next = ap (next_action old.job) (sym at) ∙ next;
       in_place = subst (λ (c : Core). EndsScrub c how) at decides;
+      no_views = no_views (is_split how (outcome_of new.journal) (ends_so old new how none a) split);
     }))
-scrubbed_last old new entry none at next decides a = absurd decides
+scrubbed_last old new entry none at next decides a no_views = absurd decides
 
 -- ---- an end that is due, or comes where nothing can be done
 

@@ -2,7 +2,7 @@
 use Rattle.std.proofs.Common.{◌≡◌, ◌≢◌, ◌⊎◌, inl, inr, ℕ, ◌+◌, ◌<◌, ◌≤◌, true, List, [], ◌∷◌, ◌++◌, length, Option, Some, None, refl, sym, ap, ◌∙◌, subst, arith, length-append}
 use Rattle.ro_journal.specs.declared.How.{How}
 use Rattle.ro_journal.specs.declared.Entry.{Entry}
-use Rattle.ro_journal.specs.declared.Entry.TheVariants.{Take, Put, Vote, Free, End}
+use Rattle.ro_journal.specs.declared.Entry.TheVariants.{Take, Put, Vote, Free, Scrub, End}
 use Rattle.ro_journal.specs.Plan.{outcome_of}
 use Rattle.ro_journal.specs.Losers.{numbers}
 use Rattle.ro_replica.specs.Replica.{Replica}
@@ -36,6 +36,7 @@ entry_grows job core (Take driver replica thread) other = omega arith
 entry_grows job core (Put driver replica thread count hit) other = put_grows job core driver replica thread count (lease_run job core replica thread count)
 entry_grows job core (Vote thread count won lost did) other = event_grows core thread count (with_recovered won (numbers lost) core.replicas) (event_in job core thread won)
 entry_grows job core (Free thread) other = event_grows core thread 0 core.replicas (freed_event job core thread)
+entry_grows job core (Scrub won lost) other = omega arith
 entry_grows job core (End how) other = absurd (other how refl)
 
 -- ---- the entries before an end
@@ -51,6 +52,7 @@ comes [] (Take driver replica thread) = inr ((λ how e. let f : Take driver repl
 comes [] (Put driver replica thread count hit) = inr ((λ how e. let f : Put driver replica thread count hit ≡ End how = e in cc), refl)
 comes [] (Vote thread count won lost did) = inr ((λ how e. let f : Vote thread count won lost did ≡ End how = e in cc), refl)
 comes [] (Free thread) = inr ((λ how e. let f : Free thread ≡ End how = e in cc), refl)
+comes [] (Scrub won lost) = inr ((λ how e. let f : Scrub won lost ≡ End how = e in cc), refl)
 comes [] (End how) = inl refl
 comes (End how ∷ journal) entry = inl refl
 comes (first ∷ journal) entry = by (comes journal entry)

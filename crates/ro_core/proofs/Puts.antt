@@ -146,7 +146,7 @@ module _ (f : Fields) (h : Holds f) (driver replica thread count hit : ℕ) (all
         ended = r.ended ∙ h.ended_is ∙ sym (ap (λ (c : Core). c.ended) is);
         seats = subst (AreSeated f.job (after f.job core (Put driver replica thread count hit))) (sym seats) (put_seated f.job core f.seats driver replica thread count hit value (leases_apart f.job f.journal h.legal) h.seats_are put-allowed program became);
         groups = put-grouped f.job core driver replica thread count hit put-allowed (lent-go f.job f.journal h.legal) f.groups f'.groups (replica_of value) became h.groups_are back;
-        views_count = ap length r.views ∙ h.views_count ∙ sym (length-set f.seats replica (Some value)) ∙ sym (ap length seats);
+        views_count = λ unended. ap length r.views ∙ h.views_count (sym r.ended ∙ unended) ∙ sym (length-set f.seats replica (Some value)) ∙ sym (ap length seats);
         views_kept = no-views f.job _ f'.views (outcome_of-append f.journal (Put driver replica thread count hit ∷ []) put-outcome);
         room = let k = h.room in let one : one_end f'.ended ≡ one_end f.ended = ap one_end r.ended in let n : length f'.leases ≡ length (filter (λ l. not (is_lease driver replica thread l)) f.leases) = ap length leases in omega (arith, put-fewer);
       })

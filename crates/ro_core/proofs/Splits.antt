@@ -29,7 +29,7 @@ module _ (f : Fields) (h : Holds f) (thread : ℕ) (may : may_vote (state_in f) 
   split-not-over = (vote-parts (state_in f) thread may).not_ended
 
   as-many : length (state_in f).replicas ≡ length f.views
-  as-many = ap length (replicas-are f h) ∙ sym h.seats_are.count ∙ sym h.views_count
+  as-many = ap length (replicas-are f h) ∙ sym h.seats_are.count ∙ sym (h.views_count (goes f h split-going).not_ended)
 
   module _ (views : f.views ≡ views_of f.job (state_in f) thread) (split : verdict_of f.views ≡ Split) where
     by-count : (b : Bool) → (length f.views == 2) ≡ b → EndsVote f.job (state_in f) thread (if b then Differ else NoMajority)

@@ -96,7 +96,7 @@ module _ (f : Fields) (h : Holds f) (driver replica thread : ℕ) (allowed : May
     ended = r.ended ∙ h.ended_is;
     seats = subst (AreSeated f.job (after f.job (core_in f) (Take driver replica thread))) (sym seats) (take_seated f.job (core_in f) f.seats driver replica thread take-seat.0 h.seats_are take-seat.1);
     groups = subst (AreGrouped (core_in f).replicas) (sym groups) h.groups_are;
-    views_count = ap length r.views ∙ h.views_count ∙ sym (length-set f.seats replica None) ∙ sym (ap length seats);
+    views_count = λ unended. ap length r.views ∙ h.views_count (sym r.ended ∙ unended) ∙ sym (length-set f.seats replica None) ∙ sym (ap length seats);
     views_kept = no-views f.job _ f'.views (outcome_of-append f.journal (Take driver replica thread ∷ []) (no-outcome f h take-goes.not_ended));
     room = let one : one_end f'.ended ≤ 1 = one-end-le f'.ended in let n : length f'.leases ≡ suc (length f.leases) = ap length leases in omega arith;
   })

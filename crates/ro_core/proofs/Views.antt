@@ -29,7 +29,7 @@ viewed-holds f views h still same = record {
   ended_is = h.ended_is;
   seats_are = h.seats_are;
   groups_are = h.groups_are;
-  views_count = same ∙ h.views_count;
+  views_count = λ unended. same ∙ h.views_count unended;
   views_kept = no-views f.job f.journal views (no-outcome f h still);
   failed_well = h.failed_well;
   room = h.room;
@@ -54,7 +54,7 @@ module _ (f : Fields) (h : Holds f) (thread : ℕ) (may : may_vote (state_in f) 
   view-stopped = stopped-home f.job thread f.seats (core_in f).replicas view-home ∙ (and_parts _ _ view-may).1
 
   as-many : length f.views ≡ f.job.settings.replicas
-  as-many = h.views_count ∙ h.seats_are.count ∙ (ordered f.job f.journal h.legal).replica_count
+  as-many = h.views_count view-still ∙ h.seats_are.count ∙ (ordered f.job f.journal h.legal).replica_count
 
   pub view-count : length f.views ≤ 5
   view-count = let range = few-replicas f.job.settings.replicas h.in_range.replicas in let many = as-many in omega arith

@@ -385,7 +385,7 @@ kept-holds f f' h alone job journal home leases kernel blocked steps scrubbed du
       ended_is = ended ∙ h.ended_is ∙ sym (ap (λ (c : Core). c.ended) core);
       seats_are = subst (λ (j : Job). AreSeated j (core_in f') f'.seats) (sym job) (subst (λ (c : Core). AreSeated f.job c f'.seats) (sym core) (seated-home f.job (core_in f) f'.seats home (sym h.leases_are ∙ alone)));
       groups_are = subst (λ (c : Core). AreGrouped c.replicas f'.groups) (sym core) (subst (AreGrouped (core_in f).replicas) (sym groups) h.groups_are);
-      views_count = ap length views ∙ h.views_count ∙ h.seats_are.count ∙ sym (home-count f.job f'.seats (core_in f).replicas home);
+      views_count = λ unended. ap length views ∙ h.views_count (sym ended ∙ unended) ∙ h.seats_are.count ∙ sym (home-count f.job f'.seats (core_in f).replicas home);
       views_kept = subst (λ (j : Job). KeepsViews j f'.journal f'.views) (sym job) (subst (λ (js : List Entry). KeepsViews f.job js f'.views) (sym journal) (subst (KeepsViews f.job f.journal) (sym views) h.views_kept));
       failed_well = λ bytes e. let w = h.failed_well bytes (sym due ∙ e) in
           (subst (λ (c : Core). bytes < c.wrote) (sym core) w.0, ap is_going core ∙ w.1);

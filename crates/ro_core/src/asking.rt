@@ -4,7 +4,7 @@ ghost use Rattle.std.specs.List.{list_any};
 ghost use Rattle.ro_journal.specs.declared.How.{How as HowSeen};
 ghost use Rattle.ro_replica.specs.Seen.{replica_of};
 ghost use Rattle.ro_legal.specs.Core.{is_going, is_home, is_lendable, may_vote, may_free};
-ghost use Rattle.ro_legal.specs.Legal.{MayTake, EndsVote, EndsFree};
+ghost use Rattle.ro_legal.specs.Legal.{MayTake, may_scrub, EndsVote, EndsFree, EndsScrub};
 ghost use Rattle.ro_core.specs.Seen.{state, sent, Stays};
 ghost use Rattle.ro_core.specs.Fields.{failed_of, Holds};
 ghost use Rattle.ro_core.specs.Runs.{fields_of, job_of, state_of, sent_in, IsHeld, SameEnds, WithAnySink};
@@ -12,6 +12,7 @@ ghost use Rattle.ro_core.specs.Runs.{fields_of, job_of, state_of, sent_in, IsHel
 use crate::cores::Core;
 use crate::events::Coming;
 use crate::runs::Run;
+use crate::scrubbing::prevailing;
 use crate::voting::split_of;
 use ro_event::Call;
 use ro_io::Sink;
@@ -50,6 +51,13 @@ impl<K: Sink> Core<K> {
         self.run.may_free(thread)
     }
 
+    /// Whether the replicas may be compared whole: none is lent, and in each of them every live thread stands still.
+    pub fn may_scrub(&self) -> bool
+        ensures { result ≡ may_scrub (state self.now) }
+    {
+        self.run.may_scrub()
+    }
+
     /// The end that would come in the place of a vote on a thread, if one would.
     pub fn vote_end(&mut self, thread: u32) -> Option<How>
         requires { IsTrue (may_vote (state self.old) thread) }
@@ -64,6 +72,14 @@ impl<K: Sink> Core<K> {
         ensures { (how : HowSeen) → (result ≡ Some how) ↔ EndsFree self.now.job (state self.now) how }
     {
         self.run.free_end()
+    }
+
+    /// The end that would come in the place of a scrub, if one would.
+    pub fn scrub_end(&self) -> Option<How>
+        requires { IsTrue (may_scrub (state self.now)) }
+        ensures { (how : HowSeen) → (result ≡ Some how) ↔ EndsScrub (state self.now) how }
+    {
+        self.run.scrub_end()
     }
 
     /// How many steps the plan has so far.
@@ -172,6 +188,18 @@ impl Run {
         }
         let steps = self.steps;
         Some(How::Limit { steps, next: 1 })
+    }
+
+    // The end that would come in the place of a scrub: that of replicas of which no more than half are the same.
+    fn scrub_end(&self) -> Option<How>
+        requires holds { Holds (fields_of self.now) }
+        requires may { may_scrub (state_of self.now) ≡ true }
+        ensures { (how : HowSeen) → (result ≡ Some how) ↔ EndsScrub (state_of self.now) how }
+    {
+        match prevailing(self.seats.homes.as_slice(), &self.kernel) {
+            Some(_) => None,
+            None => Some(split_of(self.seats.homes.len())),
+        }
     }
 
     fn steps(&self) -> u64

@@ -1,6 +1,7 @@
 //! What the core does next.
 ghost use Rattle.std.specs.Prelude.{◌≡◌, ◌<◌, ◌&&◌, length, true};
 ghost use Rattle.ro_legal.specs.Core.{is_going, nothing_lent, is_lendable, may_vote, may_free};
+ghost use Rattle.ro_legal.specs.Legal.{may_scrub};
 ghost use Rattle.ro_legal.specs.Action.{lowest_below, threads_made, lend_next, first_action, is_scrub_due, scrub_action, next_action as next};
 ghost use Rattle.ro_core.specs.Fields.{Holds};
 ghost use Rattle.ro_core.specs.Runs.{fields_of, job_of, state_of};
@@ -199,6 +200,14 @@ impl Run {
             Some(call) => self.kernel.ready(thread, call),
             None => false,
         }
+    }
+
+    /// Whether the replicas may be compared whole: nothing is lent, and nothing can be.
+    pub fn may_scrub(&self) -> bool
+        requires holds { Holds (fields_of self.now) }
+        ensures { result ≡ may_scrub (state_of self.now) }
+    {
+        self.is_idle() && self.lowest_to_lend().is_none()
     }
 
     /// Whether a thread may be lent in a replica.

@@ -170,6 +170,7 @@ impl<K: Sink> Core<K> {
         requires { IsTrue (may_scrub (state self.old)) }
         ensures entry { IfOk result (λ entry. IsAllowed self.old.job (state self.old) entry × DecidesScrub (state self.old) entry × Appends self.old self.new entry) }
         ensures quiet { OnOk result (Quiet self.old self.new) }
+        ensures no_views { IfOk result (λ entry. IsSplit entry → self.new.views ≡ []) }
         ensures err { OnErr result (Stays self.old self.new) }
     {
         self.run.scrub()

@@ -7,7 +7,7 @@ ghost use Rattle.ro_legal.specs.Core.{is_going};
 ghost use Rattle.ro_legal.specs.Legal.{IsAllowed, MayEnd, replay};
 ghost use Rattle.ro_legal.specs.Action.{next_action as next, IsNext};
 ghost use Rattle.ro_core.specs.Seen.{Appends, Quiet, KeepsViews};
-ghost use Rattle.ro_core.specs.Fields.{Holds};
+ghost use Rattle.ro_core.specs.Fields.{Holds, HoldsUnseen};
 ghost use Rattle.ro_core.specs.Runs.{fields_of, job_of, state_of, WithAnySink};
 
 use crate::seats::Seats;
@@ -63,9 +63,9 @@ impl Run {
         self.ended = Some(how);
     }
 
-    /// Ends the run in the place of a vote or a free.
+    /// Ends the run in the place of a vote, a free or a scrub, with the views that are to be kept.
     pub fn conclude(&mut self, how: How) -> Entry
-        requires holds { Holds (fields_of self.old) }
+        requires holds { HoldsUnseen (fields_of self.old) }
         requires going { is_going (state_of self.old) ≡ true }
         requires allowed { MayEnd (job_of self.old) (state_of self.old) how }
         requires views { KeepsViews (job_of self.old) (self.old.journal.items ++ End how ∷ []) self.old.views.items }

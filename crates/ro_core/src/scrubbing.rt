@@ -1,10 +1,10 @@
 //! The verdict of a scrub: which of the replicas more than half are as.
-ghost use Rattle.std.specs.Prelude.{◌≡◌, ◌≤◌, ◌<◌, ◌↔◌, ℕ, List, Some, None, true, IsNone, IsTrue, IfOk, IfSome, OnErr, OnOk, length, map, slice_get, slice_index_or};
+ghost use Rattle.std.specs.Prelude.{◌≡◌, ◌≤◌, ◌<◌, ◌↔◌, ℕ, List, [], Some, None, true, IsNone, IsTrue, IfOk, IfSome, OnErr, OnOk, length, map, slice_get, slice_index_or};
 ghost use Rattle.ro_journal.specs.Losers.{numbers};
 ghost use Rattle.ro_vote.specs.Prevails.{Prevails, NonePrevails, NoneAt, NoneBelow};
 ghost use Rattle.ro_replica.specs.Seen.{ReplicaOf, AreTwins};
 ghost use Rattle.ro_legal.specs.Legal.{IsAllowed, may_scrub};
-ghost use Rattle.ro_legal.specs.Decides.{DecidesScrub};
+ghost use Rattle.ro_legal.specs.Decides.{DecidesScrub, IsSplit};
 ghost use Rattle.ro_core.specs.Fields.{AreAllTwins, Holds};
 ghost use Rattle.ro_core.specs.Seated.{seat_snapshot};
 ghost use Rattle.ro_core.specs.Seen.{Appends, Quiet, Stays};
@@ -20,7 +20,7 @@ use std::alloc::AllocError;
 
 impl Run {
     /// Compares the replicas whole: each that is not as more than half of them becomes as these, and the entry that was
-    /// appended is answered. Where no more than half are the same, that is an end.
+    /// appended is answered. Where no more than half are the same, that is an end, and no views are kept.
     ///
     /// # Errors
     /// Where there is no memory; nothing has changed then.
@@ -30,12 +30,14 @@ impl Run {
         ensures holds { Holds (fields_of self.new) }
         ensures entry { IfOk result (λ entry. IsAllowed (job_of self.old) (state_of self.old) entry × DecidesScrub (state_of self.old) entry × WithAnySink (λ old new. Appends old new entry) self.old self.new) }
         ensures quiet { OnOk result (WithAnySink Quiet self.old self.new) }
+        ensures no_views { IfOk result (λ entry. IsSplit entry → self.new.views.items ≡ []) }
         ensures err { OnErr result (WithAnySink Stays self.old self.new) }
     {
         match prevailing(self.seats.homes.as_slice(), &self.kernel) {
             Some(won) => self.clean(won),
             None => {
                 let how = split_of(self.seats.homes.len());
+                self.views.clear();
                 Ok(self.conclude(how))
             }
         }
@@ -47,6 +49,7 @@ impl Run {
         ensures holds { Holds (fields_of self.new) }
         ensures entry { IfOk result (λ entry. IsAllowed (job_of self.old) (state_of self.old) entry × DecidesScrub (state_of self.old) entry × WithAnySink (λ old new. Appends old new entry) self.old self.new) }
         ensures quiet { OnOk result (WithAnySink Quiet self.old self.new) }
+        ensures won { IfOk result (λ entry. IsSplit entry → ⊥) }
         ensures err { OnErr result (WithAnySink Stays self.old self.new) }
     {
         self.prepare()?;

@@ -21,7 +21,7 @@ none_below (suc n) test e = by (lowest_below n test) (test n) refl refl e (λ f.
     by None false f g h rest = ap (λ (a : Bool). a || test n) (rest f) ∙ g
 
 -- a number that was found passes
-found_below : (n : ℕ) (test : ℕ → Bool) (k : ℕ) → lowest_below n test ≡ Some k → test k ≡ true
+pub found_below : (n : ℕ) (test : ℕ → Bool) (k : ℕ) → lowest_below n test ≡ Some k → test k ≡ true
 found_below zero test k e = absurd (let x : None ≡ Some k = e in cc)
 found_below (suc n) test k e = by (lowest_below n test) (test n) refl refl e (λ f. found_below n test k f)
   where

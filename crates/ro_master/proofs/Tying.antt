@@ -167,14 +167,14 @@ tied_free start core new count count' number thread entry t next allowed decides
 
 -- a scrub
 pub tied_scrub : (start core new : CoreOf) (count count' : CountOf) (number : ℕ) (entry : Entry) → Tied start core count → next_action core.job (state core) ≡ act.Scrub → IsAllowed core.job (state core) entry → DecidesScrub (state core) entry → Appends core new entry → Quiet core new
-    → number < count.given → count' ≡ counted count number entry → Tied start new count'
-tied_scrub start core new count count' number entry t next allowed decides a quiet less c =
+    → (IsSplit entry → new.views ≡ []) → number < count.given → count' ≡ counted count number entry → Tied start new count'
+tied_scrub start core new count count' number entry t next allowed decides a quiet no_views less c =
     let calm = scrub_calm core next in
     let home = (scrub-parts (state core) (scrub_next core.job (state core) next)).alone in
     tied_more start core new count count' number entry t a c (named entry decides) less
     (scrubbed_driven core new entry t.driven home a calm allowed next decides)
     (scrubbed_goes core new entry t.driven home a calm allowed next decides quiet)
-    (scrubbed_last core new entry (going_open core t.driven (scrub_going core next)) (calm_state core calm) next decides a)
+    (scrubbed_last core new entry (going_open core t.driven (scrub_going core next)) (calm_state core calm) next decides a no_views)
   where
     named : (e : Entry) → DecidesScrub (state core) e → Names number e
     named (Take d r t) h = absurd h

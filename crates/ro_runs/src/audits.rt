@@ -43,6 +43,17 @@ const ONE: &[Fault] = &[Fault {
     target: Target::Register { number: 10, bit: 0 },
 }];
 
+// A bit of its first instruction flips in replica 1 behind it, where nothing reads it any more.
+const UNREAD: &[Fault] = &[Fault {
+    replica: 1,
+    thread: 0,
+    at: 1,
+    target: Target::Byte {
+        address: 0x1_0054,
+        bit: 0,
+    },
+}];
+
 // And another in replica 2.
 const TWO: &[Fault] = &[
     Fault {
@@ -70,6 +81,8 @@ enum Of {
     ShortLimited,
     // `SHORT` as two replicas, of which one is struck.
     Differing,
+    // `SHORT` as two replicas, of which one is struck where nothing reads it.
+    Unread,
     // `SHORT` as three replicas, of which one is struck.
     Struck,
     // `SHORT` as three replicas, of which two are struck.
@@ -124,6 +137,10 @@ const LEGAL: &[Row] = &[
     Row { title: "two that differ", of: Of::Differing, lines: &["take 0 0 0", "put 0 0 0 2 0", "take 0 1 0", "put 0 1 0 2 1", "end differ"], want: Want::Legal(Some(How::Differ), 0, "", 2) },
     Row { title: "one that loses", of: Of::Struck, lines: &["take 0 0 0", "put 0 0 0 2 0", "take 0 1 0", "put 0 1 0 2 1", "take 0 2 0", "put 0 2 0 2 0", "vote 0 2 0 1 served", "end exit 7"], want: Want::Legal(Some(How::Exit(7)), 3, "", 0) },
     Row { title: "no majority", of: Of::Scattered, lines: &["take 0 0 0", "put 0 0 0 2 0", "take 0 1 0", "put 0 1 0 2 1", "take 0 2 0", "put 0 2 0 2 1", "end no-majority"], want: Want::Legal(Some(How::NoMajority), 0, "", 3) },
+    Row { title: "a scrub", of: Of::Short, lines: &["take 0 0 0", "put 0 0 0 2 0", "take 0 1 0", "put 0 1 0 2 0", "scrub 0 -", "vote 0 2 0 - served", "end exit 7"], want: Want::Legal(Some(How::Exit(7)), 3, "", 0) },
+    Row { title: "one that loses a scrub", of: Of::Struck, lines: &["take 0 0 0", "put 0 0 0 2 0", "take 0 1 0", "put 0 1 0 2 1", "take 0 2 0", "put 0 2 0 2 0", "scrub 0 1", "vote 0 2 0 - served", "end exit 7"], want: Want::Legal(Some(How::Exit(7)), 3, "", 0) },
+    Row { title: "two that differ at a scrub", of: Of::Unread, lines: &["take 0 0 0", "put 0 0 0 2 0", "take 0 1 0", "put 0 1 0 2 1", "end differ"], want: Want::Legal(Some(How::Differ), 0, "", 0) },
+    Row { title: "a difference that no vote sees", of: Of::Unread, lines: &["take 0 0 0", "put 0 0 0 2 0", "take 0 1 0", "put 0 1 0 2 1", "vote 0 2 0 - served", "end exit 7"], want: Want::Legal(Some(How::Exit(7)), 3, "", 0) },
     Row { title: "a write", of: Of::Hello, lines: FRONT, want: Want::Legal(None, 6, "hello", 0) },
     Row { title: "a trap", of: Of::Broken, lines: &["take 0 0 0", "put 0 0 0 0 0", "take 0 1 0", "put 0 1 0 0 0", "vote 0 0 0 - trapped", "end trap 3"], want: Want::Legal(Some(How::Trap(3)), 1, "", 0) },
 ];
@@ -145,7 +162,9 @@ const CHANGED: &[(usize, Edit, usize)] = &[
     (1, Edit::Dropped, 1),
     (1, Edit::Doubled, 2),
     (1, Edit::Swapped, 1),
+    (1, Edit::To("scrub 0 -"), 1),
     (2, Edit::To("take 0 0 0"), 2),
+    (2, Edit::To("scrub 0 -"), 2),
     (2, Edit::Dropped, 2),
     (3, Edit::Dropped, 3),
     (3, Edit::Swapped, 3),
@@ -155,6 +174,8 @@ const CHANGED: &[(usize, Edit, usize)] = &[
     (4, Edit::To("vote 0 2 0 - blocked"), 4),
     (4, Edit::To("vote 1 2 0 - served"), 4),
     (4, Edit::To("free 0"), 4),
+    (4, Edit::To("scrub 0 1"), 4),
+    (4, Edit::To("scrub 1 -"), 4),
     (4, Edit::Dropped, 4),
     (4, Edit::Doubled, 5),
     (5, Edit::To("end exit 8"), 5),
@@ -269,14 +290,15 @@ fn follow(
     let settings = settings_of(of);
     let image = image_of(rt, alloc, of)?;
     assert!(rt; settings.is_in_range());
-    match audit(
+    let (_, audited) = audit(
         alloc,
         image,
         &[],
         faults_of(of),
         settings,
         journal.as_slice(),
-    ) {
+    );
+    match audited {
         Ok(audited) => {
             let Want::Legal(how, steps, output, views) = want else {
                 panic!(rt; "{title} is legal");
@@ -322,6 +344,9 @@ fn faults_of(of: Of) -> &'static [Fault]
     if of.is_struck() {
         return ONE;
     }
+    if of.is_unread() {
+        return UNREAD;
+    }
     NONE
 }
 
@@ -332,6 +357,10 @@ impl Of {
 
     fn is_struck(self) -> bool {
         matches!(self, Of::Differing | Of::Struck)
+    }
+
+    fn is_unread(self) -> bool {
+        matches!(self, Of::Unread)
     }
 }
 

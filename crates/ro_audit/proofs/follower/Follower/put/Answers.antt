@@ -7,21 +7,21 @@ use Rattle.ro_audit.specs.Following.{Slot, core_at}
 use Rattle.ro_audit.proofs.Steps.{none-lent, other-lent, other-run, may-return, put-followed}
 use Rattle.ro_audit.proofs.follower.Follower.put.Goals as goal
 
-pub returns-in_default : goal.returns-in_default
-returns-in_default c =
+pub returns-in_default-clause-followed : goal.returns-in_default-clause-followed
+returns-in_default-clause-followed c =
     let core = c.args.self.now.core in
     let slot : slice_index_or c.args.self.now.lent.items c.args.driver None ≡ None = ap (λ (xs : List (Option LentOf)). slice_index_or xs c.args.driver None) (sym c.as_mut_slice.ensures.value) ∙ sym c.take_back.ensures.lent ∙ c.in_default.is in
     none-lent core c.args.driver c.args.replica c.args.thread c.args.count c.args.hit (slice_index_or c.args.self.now.lent.items c.args.driver None) slot (c.requires.slots c.args.driver)
 
-pub returns-then-not-is_of : goal.returns-then-not-is_of
-returns-then-not-is_of c =
+pub returns-then-not-is_of-clause-followed : goal.returns-then-not-is_of-clause-followed
+returns-then-not-is_of-clause-followed c =
     let core = c.args.self.now.core in
     let slot : slice_index_or c.args.self.now.lent.items c.args.driver None ≡ Some c.in-Some.lent = ap (λ (xs : List (Option LentOf)). slice_index_or xs c.args.driver None) (sym c.as_mut_slice.ensures.value) ∙ sym c.take_back.ensures.lent ∙ c.in-Some.is in
     let lends = subst (Slot core.job (core_at core) c.args.driver) slot (c.requires.slots c.args.driver) in
     other-lent core c.args.driver c.args.replica c.args.thread c.args.count c.args.hit c.in-Some.lent c.is_of.result c.requires.legal lends c.is_of.ensures c.if-not-is_of.true
 
-pub returns-then-not-came_to : goal.returns-then-not-came_to
-returns-then-not-came_to c =
+pub returns-then-not-came_to-clause-followed : goal.returns-then-not-came_to-clause-followed
+returns-then-not-came_to-clause-followed c =
     let core = c.args.self.now.core in
     let slot : slice_index_or c.args.self.now.lent.items c.args.driver None ≡ Some c.in-Some.lent = ap (λ (xs : List (Option LentOf)). slice_index_or xs c.args.driver None) (sym c.as_mut_slice.ensures.value) ∙ sym c.take_back.ensures.lent ∙ c.in-Some.is in
     let lends = subst (Slot core.job (core_at core) c.args.driver) slot (c.requires.slots c.args.driver) in
@@ -38,8 +38,8 @@ put-requires c =
     let gives : Gives c.in-Some.lent back = subst (Gives c.in-Some.lent) (sym c.returned.view_is) c.run.ensures in
     (may-return core c.args.driver c.in-Some.lent back c.requires.calm lends gives).0
 
-pub returns : goal.returns
-returns c =
+pub returns-clause-followed : goal.returns-clause-followed
+returns-clause-followed c =
     let core = c.args.self.now.core in
     let slot : slice_index_or c.args.self.now.lent.items c.args.driver None ≡ Some c.in-Some.lent = ap (λ (xs : List (Option LentOf)). slice_index_or xs c.args.driver None) (sym c.as_mut_slice.ensures.value) ∙ sym c.take_back.ensures.lent ∙ c.in-Some.is in
     let lends = subst (Slot core.job (core_at core) c.args.driver) slot (c.requires.slots c.args.driver) in

@@ -9,8 +9,8 @@ use Rattle.ro_audit.specs.Following.{core_at}
 use Rattle.ro_audit.proofs.Steps.{state-is, to-new, same-followed, same-follows, take-follows}
 use Rattle.ro_audit.proofs.follower.Follower.take.Goals as goal
 
-pub returns : goal.returns
-returns c =
+pub returns-clause-followed : goal.returns-clause-followed
+returns-clause-followed c =
     let core = c.args.self.now.core in
     let mid = c.room.new.self in
     let stays = c.in_ok-room.ensures.stays in

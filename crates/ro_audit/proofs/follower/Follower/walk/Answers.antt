@@ -18,11 +18,11 @@ cut-requires-clause-there c =
     in
     at-place c.loop-place.self.core c.args.journal.now c.loop-place.place _ (Take 0 0 0) c.loop-place.invariant.2 c.loop-place-test.true here
 
-pub returns-in-Some : goal.returns-in-Some
-returns-in-Some c =
+pub returns-in-Some-clause-walked : goal.returns-in-Some-clause-walked
+returns-in-Some-clause-walked c =
     let core = c.loop-place.self.core in
     let entry = get_or c.args.journal.now c.loop-place.place (Take 0 0 0) in
     let at = at-place core c.args.journal.now c.loop-place.place entry (Take 0 0 0) c.loop-place.invariant.2 c.loop-place-test.true refl in
-    let refused = subst (λ (o : Option Why). Followed core entry o c.follow.new.self.core c.follow.new.self.lent.items c.follow.new.self.wrote) c.in-Some.is c.in_ok-why.ensures in
+    let refused = subst (λ (o : Option Why). Followed core entry o c.follow.new.self.core c.follow.new.self.lent.items c.follow.new.self.wrote) c.in-Some.is c.in_ok-why.ensures.followed in
     subst (λ (j : Job). FirstIllegal j c.args.journal.now c.loop-place.place c.in-Some.why) c.loop-place.invariant.1
     (stopped core c.args.journal.now c.loop-place.place entry c.in-Some.why at c.loop-place.invariant.0.legal refused.0 refused.1)

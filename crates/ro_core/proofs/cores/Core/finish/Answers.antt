@@ -15,8 +15,8 @@ returns-clause-how g c = fields-outcome (fields_of c.self.inside.run) c.self.inv
 
 pub returns-clause-views : goal.returns-clause-views
 returns-clause-views g c split =
-    let is = sym (fields-outcome (fields_of c.self.inside.run) c.self.invariant ∙ ap (λ (v : CoreOf). outcome_of v.journal) c.self.view_is) in
-    subst (λ (vs : List View). ShowsViews c.args.self.job c.args.self.journal vs ⊎ EndsByScrub c.args.self.job c.args.self.journal) (sym (c.kept_views.ensures.split (subst (λ (o : Option How). (o ≡ Some Differ) ⊎ (o ≡ Some NoMajority)) is split)))
+    let is = sym (fields-outcome (fields_of c.self.inside.run) c.self.invariant.0 ∙ ap (λ (v : CoreOf). outcome_of v.journal) c.self.view_is) in
+    subst (λ (vs : List View). ShowsViews c.args.self.job c.args.self.journal vs ⊎ EndsByScrub c.args.self.job c.args.self.journal vs) (sym (c.kept_views.ensures.split (subst (λ (o : Option How). (o ≡ Some Differ) ⊎ (o ≡ Some NoMajority)) is split)))
     (subst (λ (v : CoreOf). KeepsViews v.job v.journal c.self.inside.run.views.items) c.self.view_is c.self.invariant.0.views_kept split)
 
 pub returns-clause-no_views : goal.returns-clause-no_views

@@ -43,7 +43,7 @@ returns-clause-holds c =
     (omega (arith, c.push_reserved.ensures.len, c.push_reserved.ensures.capacity, c.in_ok-prepare.ensures.room))
 
 pub returns-clause-quiet : goal.returns-clause-quiet
-returns-clause-quiet c held failures =
+returns-clause-quiet c held failures sure =
     let old : Fields = fields_of c.args.self.now in
     let f : Fields = fields_of c.prepare.new.self in
     let m = c.prepare.ensures.makes in
@@ -54,4 +54,5 @@ returns-clause-quiet c held failures =
           ∙ ap (λ (j : Job). sent_of j f.journal (failed_of f.due)) m.job ∙ ap (λ js. sent_of old.job js (failed_of f.due)) m.journal ∙ ap (λ o. sent_of old.job old.journal (failed_of o)) m.due;
       held = refl;
       failures = refl;
+      sure = refl;
     }

@@ -15,6 +15,9 @@ use Rattle.ro_core.proofs.Votes.{ready-stands}
 use Rattle.ro_core.proofs.Frees.{free-goes, free-not-over, free-alone, free-live, free-steps, free-ends, free-may-end, free-allowed, free-can, free-room}
 use Rattle.ro_core.proofs.runs.Run.free.Goals as goal
 
+pub conclude-requires-clause-holds : goal.conclude-requires-clause-holds
+conclude-requires-clause-holds c = (c.args.self.now.views.items, c.requires.holds)
+
 pub conclude-requires-clause-allowed : goal.conclude-requires-clause-allowed
 conclude-requires-clause-allowed c = free-may-end (fields_of c.args.self.now) c.requires.holds c.args.thread c.requires.may c.if-self.true
 

@@ -28,6 +28,9 @@ index-view-requires c = omega (arith, hold-within (fields_of c.args.self.now) c.
 pub overflow_sub-self : goal.overflow_sub-self
 overflow_sub-self c = hold-steps (fields_of c.args.self.now) c.args.thread c.args.won.won c.args.won.lost c.requires.held
 
+pub conclude-entry-requires-clause-holds : goal.conclude-entry-requires-clause-holds
+conclude-entry-requires-clause-holds c = (c.args.self.now.views.items, c.requires.held.holds)
+
 pub conclude-entry-requires-clause-allowed : goal.conclude-entry-requires-clause-allowed
 conclude-entry-requires-clause-allowed c =
     let f : Fields = fields_of c.args.self.now in

@@ -1,9 +1,11 @@
 use Rattle.std.proofs.Common.{◌≡◌, ◌≤◌, ◌++◌, ◌∷◌, [], List, Option, length, map, refl, sym, ap, ◌∙◌, subst}
+use Rattle.std.proofs.lemmas.Result.{IfOk-weaker}
 use Rattle.ro_journal.specs.declared.How.{How}
 use Rattle.ro_journal.specs.declared.Entry.{Entry}
 use Rattle.ro_journal.specs.declared.Entry.TheVariants.{End}
 use Rattle.ro_journal.specs.Losers.{numbers}
 use Rattle.ro_vote.specs.Prevails.{Prevails, NonePrevails}
+use Rattle.ro_event.specs.Views.{View}
 use Rattle.ro_replica.specs.Seen.{ReplicaOf}
 use Rattle.ro_legal.specs.Legal.{IsAllowed, MayEnd}
 use Rattle.ro_legal.specs.Decides.{DecidesScrub}
@@ -26,6 +28,9 @@ clean-requires c = record {
       (subst (λ (xs : List (Option ReplicaOf)). Prevails (map (seat_snapshot c.args.self.now.kernel.kernel) xs) c.in-Some.won.won (numbers c.in-Some.won.lost)) c.as_slice.ensures.value c.in-Some.ensures.won);
 }
 
+pub conclude-requires-clause-holds : goal.conclude-requires-clause-holds
+conclude-requires-clause-holds c = (c.args.self.now.views.items, c.requires.holds)
+
 pub conclude-requires-clause-allowed : goal.conclude-requires-clause-allowed
 conclude-requires-clause-allowed c =
     let f : Fields = fields_of c.args.self.now in
@@ -36,7 +41,8 @@ pub conclude-requires-clause-views : goal.conclude-requires-clause-views
 conclude-requires-clause-views c =
     let f : Fields = fields_of c.args.self.now in
     let none = scrub-none f c.requires.holds c.requires.may (subst (λ (xs : List (Option ReplicaOf)). NonePrevails (map (seat_snapshot c.args.self.now.kernel.kernel) xs)) c.as_slice.ensures.value (c.in-None.ensures.none refl)) in
-    subst (λ (how : How). KeepsViews f.job (f.journal ++ End how ∷ []) f.views) (sym (c.split_of-how.ensures ∙ ap split_end (c.len.ensures ∙ c.args.self.now.seats.homes.ok.0))) (scrub-keeps f c.requires.holds c.requires.may none)
+    subst (λ (vs : List View). KeepsViews f.job (f.journal ++ End c.split_of-how.result ∷ []) vs) (sym c.clear.ensures.items)
+    (subst (λ (how : How). KeepsViews f.job (f.journal ++ End how ∷ []) []) (sym (c.split_of-how.ensures ∙ ap split_end (c.len.ensures ∙ c.args.self.now.seats.homes.ok.0))) (scrub-keeps f c.requires.holds c.requires.may none))
 
 pub returns-in-None-clause-entry : goal.returns-in-None-clause-entry
 returns-in-None-clause-entry c =
@@ -45,5 +51,17 @@ returns-in-None-clause-entry c =
     let how : c.split_of-how.result ≡ split_end (length f.seats) = c.split_of-how.ensures ∙ ap split_end (c.len.ensures ∙ c.args.self.now.seats.homes.ok.0) in (
       subst (IsAllowed f.job (state_of c.args.self.now)) (sym (c.conclude.ensures.entry ∙ ap (λ (h : How). End h) how)) (scrub-not-over f c.requires.holds c.requires.may, scrub-may-end f c.requires.holds c.requires.may none),
       subst (DecidesScrub (state_of c.args.self.now)) (sym (c.conclude.ensures.entry ∙ ap (λ (h : How). End h) how)) (scrub-ends f c.requires.holds c.requires.may none),
-      subst (λ (e : Entry). WithAnySink (λ old new. Appends old new e) c.args.self.now c.conclude.new.self) (sym c.conclude.ensures.entry) c.conclude.ensures.appends,
+      subst (λ (e : Entry). WithAnySink (λ old new. Appends old new e) c.args.self.now c.conclude.new.self) (sym c.conclude.ensures.entry)
+          (λ held failures sure. let a = c.conclude.ensures.appends held failures sure in record { job = a.job; journal = a.journal }),
     )
+
+pub returns-in-None-clause-no_views : goal.returns-in-None-clause-no_views
+returns-in-None-clause-no_views c split = c.conclude.ensures.views ∙ c.clear.ensures.items
+
+pub returns-in-Some-clause-no_views : goal.returns-in-Some-clause-no_views
+returns-in-Some-clause-no_views c = IfOk-weaker c.clean.result _ _ (λ entry none split. absurd (none split)) c.clean.ensures.won
+
+pub returns-in-None-clause-quiet : goal.returns-in-None-clause-quiet
+returns-in-None-clause-quiet c held failures sure =
+    let q = c.conclude.ensures.quiet held failures sure in
+    record { failed = q.failed; sent = q.sent; held = q.held; failures = q.failures; sure = q.sure }

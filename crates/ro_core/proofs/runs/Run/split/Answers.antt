@@ -12,6 +12,9 @@ use Rattle.ro_core.proofs.Splits.{split-ends, split-may, split-keeps, split-goin
 use Rattle.ro_core.proofs.Concludes.{ended-wrote}
 use Rattle.ro_core.proofs.runs.Run.split.Goals as goal
 
+pub conclude-requires-clause-holds : goal.conclude-requires-clause-holds
+conclude-requires-clause-holds c = (c.args.self.now.views.items, c.requires.holds)
+
 pub conclude-requires-clause-going : goal.conclude-requires-clause-going
 conclude-requires-clause-going c = split-going (fields_of c.args.self.now) c.requires.holds c.args.thread c.requires.may
 

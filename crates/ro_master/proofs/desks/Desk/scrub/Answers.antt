@@ -20,7 +20,7 @@ invariant_of-self g c =
     let core = c.self.inside.core in
     let is = subst (λ (v : DeskOf). next_action v.core.job (state v.core) ≡ act.Scrub) (sym c.self.view_is) c.requires in
     let e = c.in-Ok.ensures.entry in
-    tied_scrub g.N.Naming.start core c.scrub.new.self c.self.inside.count c.add.new.desk c.args.pass.now.number c.in-Ok.entry c.self.invariant is e.0 e.1 e.2 c.in-Ok.ensures.quiet c.add.ensures.knew.number c.add.ensures.desk
+    tied_scrub g.N.Naming.start core c.scrub.new.self c.self.inside.count c.add.new.desk c.args.pass.now.number c.in-Ok.entry c.self.invariant is e.0 e.1 e.2 c.in-Ok.ensures.quiet c.in-Ok.ensures.no_views c.add.ensures.knew.number c.add.ensures.desk
 
 pub invariant_of-self-in-Err : goal.invariant_of-self-in-Err
 invariant_of-self-in-Err g c =

@@ -1,5 +1,5 @@
 -- What a journal is judged to be.
-use Rattle.std.specs.Prelude.{◌≡◌, ℕ, suc, List, [], ◌∷◌, ◌++◌, length, map, take, Option, Some, None, Ok, option_map, slice_get}
+use Rattle.std.specs.Prelude.{◌≡◌, ◌≢◌, ⊤, IfSome, ℕ, suc, List, [], ◌∷◌, ◌++◌, length, map, take, Option, Some, None, Ok, option_map, slice_get}
 use Rattle.ro_journal.specs.declared.How.{How}
 use Rattle.ro_journal.specs.declared.How.TheVariants as how
 use Rattle.ro_journal.specs.Losers.{numbers}
@@ -11,11 +11,15 @@ use Rattle.ro_report.specs.declared.answers.FileKind.TheVariants.{Plan}
 use Rattle.ro_io.specs.Outside.{Files}
 use Rattle.ro_legal.specs.Core.{Job}
 use Rattle.ro_legal.specs.Legal.{Legal as IsLegal}
+use Rattle.ro_event.specs.Views.{View}
+use Rattle.ro_core.specs.Seen.{EndsByScrub, ShowsViews}
 use Rattle.ro_audit.specs.Audits.{FirstIllegal}
 use Rattle.ro_files.specs.Files.{IsContent, IsJobOf}
 use Rattle.ro_words.specs.Commands.{AskedRun}
 use Rattle.ro_findings.specs.declared.findings.Ended.{Ended}
 use Rattle.ro_findings.specs.declared.findings.Ended.TheVariants.{Exit, Deadlock, Trap, Limit, Differ, NoMajority, Sink}
+use Rattle.ro_findings.specs.declared.findings.Split.{Split}
+use Rattle.ro_findings.specs.declared.findings.Split.TheVariants as split
 use Rattle.ro_findings.specs.declared.findings.Verdict.{Verdict}
 use Rattle.ro_findings.specs.declared.findings.Verdict.TheVariants.{Legal, Illegal}
 use Rattle.ro_findings.specs.declared.findings.CopyMade.{CopyMade}
@@ -37,9 +41,32 @@ how_of (Differ split) = how.Differ
 how_of (NoMajority split) = how.NoMajority
 how_of (Sink taken) = how.Sink taken
 
+-- replicas that differ are told by views where there are some, and else whole
+abbrev pub IsSplitBy : List View → Split → Type 0
+IsSplitBy views (split.AtVote fields) = views ≢ []
+IsSplitBy views (split.AtScrub threads pages) = views ≡ []
+
+-- where an end is by replicas that differ, it tells them so
+abbrev pub TellsSplit : Split → Ended → Type 0
+TellsSplit split (Differ told) = told ≡ split
+TellsSplit split (NoMajority told) = told ≡ split
+TellsSplit split _ = ⊤
+
+-- replicas that differ are told by their views where the run ended in the place of a vote, and whole where it ended in that of a
+-- scrub
+abbrev pub IsSplitOf : Job → List Entry → Split → Type 0
+IsSplitOf job entries (split.AtVote fields) = (views : List View) × ShowsViews job entries views
+IsSplitOf job entries (split.AtScrub threads pages) = EndsByScrub job entries []
+
+abbrev pub IsEnded : Job → List Entry → Ended → Type 0
+IsEnded job entries (Differ split) = IsSplitOf job entries split
+IsEnded job entries (NoMajority split) = IsSplitOf job entries split
+IsEnded job entries _ = ⊤
+
 -- the journal is legal, with a plan of so many steps and this end, or the entry at the place is the first that is not allowed, and why
 abbrev pub Judges : Job → List Entry → Verdict → Type 0
-Judges job entries (Legal steps end) = IsLegal job entries × (steps ≡ length (plan_of entries)) × (option_map how_of end ≡ outcome_of entries)
+Judges job entries (Legal steps end) =
+    IsLegal job entries × (steps ≡ length (plan_of entries)) × (option_map how_of end ≡ outcome_of entries) × IfSome end (IsEnded job entries)
 Judges job entries (Illegal place entry why) = FirstIllegal job entries place why × (slice_get entries place ≡ Some entry)
 
 -- a copy that a vote or a scrub made: the place of its entry, the thread that was voted on, and the replica that lost

@@ -1,5 +1,5 @@
 //! The command, from its words to its answer.
-ghost use Rattle.std.specs.Prelude.{◌≡◌, ◌<◌, ◌∷◌, [], Err, IfErr, IfOk, None, Option, Some, option_map, length, false, true};
+ghost use Rattle.std.specs.Prelude.{◌≡◌, ◌<◌, ◌∷◌, [], Err, IfErr, IfOk, IfSome, None, Option, Some, option_map, length, false, true};
 ghost use Rattle.std.specs.String.{string_bytes};
 ghost use Rattle.ro_io.specs.Outside.{Asks, unfailed};
 ghost use Rattle.ro_journal.specs.declared.How.{How as HowSeen};
@@ -15,10 +15,10 @@ ghost use Rattle.ro_audit.specs.Following.{IsTrail};
 ghost use Rattle.ro_findings.specs.Sentences.{TellsVerdict};
 ghost use Rattle.ro_tell.specs.declared.commands.Form.TheVariants as f;
 ghost use Rattle.ro_tell.specs.Causes.{AuditCause, RefusesJournal, WordsCause, audit_names};
-ghost use Rattle.ro_tell.specs.Judging.{Finds, IsAuditOf, IsJournalOf, how_of};
+ghost use Rattle.ro_tell.specs.Judging.{Finds, IsAuditOf, IsJournalOf, TellsSplit, how_of};
 
 use crate::copies::{copies_made, differences};
-use crate::fields::{ends_split, split_at_scrub, split_at_vote};
+use crate::fields::{Unlike, ends_split, split_of};
 use crate::standing::Stood;
 use ro_audit::{AuditError, Audited, Difference, Trail, Why, trace};
 use ro_faults::Fault;
@@ -211,7 +211,7 @@ struct Seen {
     // What differed in each copy.
     differences: Vec<Difference>,
     // In what its replicas differ, where the run ended by that.
-    split: Split,
+    unlike: Unlike,
 }
 
 impl Seen {
@@ -219,10 +219,10 @@ impl Seen {
         Ok(Seen {
             stood: Stood::behind(alloc, trail, case.entries, case.executable)?,
             differences: differences(alloc, trail)?,
-            split: if ends_split(case.entries) {
-                split_at_scrub(alloc, trail, case.executable, case.replicas)?
+            unlike: if ends_split(case.entries) {
+                Unlike::of(alloc, trail, case.executable, case.replicas)?
             } else {
-                Split::AtVote(Vec::new(alloc))
+                Unlike::nothing(alloc)
             },
         })
     }
@@ -250,6 +250,7 @@ fn conclude(
 }
 
 // What is found of a legal journal.
+#[tactic(auto, using(crate::proofs::Splits::told_end))]
 fn legal(
     alloc: Global,
     audited: Audited,
@@ -261,13 +262,9 @@ fn legal(
     let Seen {
         stood,
         differences,
-        split: at_scrub,
+        unlike,
     } = seen;
-    // An end in the place of a scrub hands out no views.
-    let split = match audited.views.as_slice() {
-        [] => at_scrub,
-        views => split_at_vote(alloc, case.executable, views)?,
-    };
+    let split = split_of(alloc, case.executable, audited.views.as_slice(), unlike)?;
     Ok(Findings {
         entries: case.entries.len(),
         verdict: Verdict::Legal {
@@ -302,7 +299,8 @@ fn illegal(
 
 // How a run ended, with what it is told by.
 fn ended(how: Option<How>, split: Split, stood: Stood) -> Option<Ended>
-    ensures { option_map how_of result ≡ how }
+    ensures how { option_map how_of result ≡ how }
+    ensures split { IfSome result (TellsSplit split) }
 {
     let Stood {
         waiting,

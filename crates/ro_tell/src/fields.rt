@@ -1,5 +1,6 @@
 //! In what replicas differ of which no more than half agree.
-ghost use Rattle.std.specs.Prelude.{◌<◌};
+ghost use Rattle.std.specs.Prelude.{◌<◌, IfOk};
+ghost use Rattle.ro_tell.specs.Judging.{IsSplitBy};
 
 use crate::places::place_at;
 use ro_audit::Trail;
@@ -8,12 +9,62 @@ use ro_findings::{Field, Split, ThreadFields};
 use ro_journal::{Entry, How};
 use std::alloc::{AllocError, Global};
 
-/// Each part that is not the same in all views of a vote; none where there are no views.
-pub(crate) fn split_at_vote(
+/// In what replicas differ that are compared whole.
+#[derive(Drop)]
+pub(crate) struct Unlike {
+    /// The threads that differ, and in which parts.
+    pub threads: Vec<ThreadFields>,
+    /// Where the pages begin that differ.
+    pub pages: Vec<u32>,
+}
+
+impl Unlike {
+    /// What differs where nothing is compared.
+    pub(crate) fn nothing(alloc: Global) -> Unlike {
+        Unlike {
+            threads: Vec::new(alloc),
+            pages: Vec::new(alloc),
+        }
+    }
+
+    /// What differs in the replicas of a trail, which are so many.
+    pub(crate) fn of(
+        alloc: Global,
+        trail: &Trail,
+        executable: &[u8],
+        replicas: u32,
+    ) -> Result<Unlike, AllocError> {
+        let mut threads = Vec::new(alloc);
+        for thread in 0..trail.core().kernel().made() {
+            let views = views_of(alloc, trail, replicas, thread)?;
+            let fields = fields(alloc, executable, views.as_slice())?;
+            if !fields.is_empty() {
+                threads.push(ThreadFields { thread, fields })?;
+            }
+        }
+        let pages = trail.differing_pages(alloc)?;
+        Ok(Unlike { threads, pages })
+    }
+}
+
+/// In what replicas differ of which no more than half agree: by their views where a vote showed some, and else whole.
+pub(crate) fn split_of(
     alloc: Global,
     executable: &[u8],
     views: &[View],
-) -> Result<Split, AllocError> {
+    unlike: Unlike,
+) -> Result<Split, AllocError>
+    ensures { IfOk result (IsSplitBy views.now) }
+{
+    if views.is_empty() {
+        let Unlike { threads, pages } = unlike;
+        return Ok(Split::AtScrub { threads, pages });
+    }
+    Ok(Split::AtVote(all_fields(alloc, executable, views)?))
+}
+
+// Each part that is not the same in all views.
+fn all_fields(alloc: Global, executable: &[u8], views: &[View]) -> Result<Vec<Field>, AllocError> {
     let mut fields = fields(alloc, executable, views)?;
     let differs = match views.first() {
         Some(first) => views.iter().any(|view| view.payload() != first.payload()),
@@ -26,26 +77,7 @@ pub(crate) fn split_at_vote(
             .collect(alloc)?;
         fields.push(Field::Payload(counts))?;
     }
-    Ok(Split::AtVote(fields))
-}
-
-/// In what the replicas of a trail differ, compared whole.
-pub(crate) fn split_at_scrub(
-    alloc: Global,
-    trail: &Trail,
-    executable: &[u8],
-    replicas: u32,
-) -> Result<Split, AllocError> {
-    let mut threads = Vec::new(alloc);
-    for thread in 0..trail.core().kernel().made() {
-        let views = views_of(alloc, trail, replicas, thread)?;
-        let fields = fields(alloc, executable, views.as_slice())?;
-        if !fields.is_empty() {
-            threads.push(ThreadFields { thread, fields })?;
-        }
-    }
-    let pages = trail.differing_pages(alloc)?;
-    Ok(Split::AtScrub { threads, pages })
+    Ok(fields)
 }
 
 /// Whether the last entry is an end by replicas that differ.
@@ -74,7 +106,7 @@ fn views_of(
     Ok(views)
 }
 
-// Each part that is not the same in all views, but for what is written; none where there are no views.
+// The same but for what is written; none where there are no views.
 fn fields(alloc: Global, executable: &[u8], views: &[View]) -> Result<Vec<Field>, AllocError> {
     let mut fields = Vec::new(alloc);
     let Some(first) = views.first() else {

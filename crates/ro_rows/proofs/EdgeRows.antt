@@ -159,11 +159,11 @@ stuck-not-lent h = no-end exit_job (replay exit_job (Take 0 0 0 ∷ [])) Deadloc
 
 pub stuck-not-free : IsAllowed (page_limit_job 1000000000) (replay (page_limit_job 1000000000) before_free) (End Deadlock) → ⊥
 unfolding opening_core opening_replica struck execute applied cancelled recovered verdict_of event_of after next_action first_cpu made_cpu next fetch_stop instruction_stop instruction_of call_at permits_of alu_of taken_by meaning serve payload_of
-stuck-not-free h = no-end (page_limit_job 1000000000) (replay (page_limit_job 1000000000) before_free) Deadlock refl (λ e. let f : false ≡ true = e in cc) (λ thread e. e) (λ e. e) h.1
+stuck-not-free h = no-end (page_limit_job 1000000000) (replay (page_limit_job 1000000000) before_free) Deadlock refl (λ e. let f : false ≡ true = e in cc) (λ thread e. e) (λ e. e) (λ e. e) h.1
 
 pub stuck-not-last : IsAllowed exit_job (replay exit_job last_lent) (End Deadlock) → ⊥
 unfolding opening_core opening_replica struck execute applied cancelled recovered verdict_of event_of after next_action first_cpu made_cpu next fetch_stop instruction_stop instruction_of call_at permits_of alu_of taken_by meaning serve payload_of
-stuck-not-last h = no-end exit_job (replay exit_job last_lent) Deadlock refl (λ e. let f : false ≡ true = e in cc) (λ thread e. e) (λ e. e) h.1
+stuck-not-last h = no-end exit_job (replay exit_job last_lent) Deadlock refl (λ e. let f : false ≡ true = e in cc) (λ thread e. e) (λ e. e) (λ e. e) h.1
 
 -- ---- limit_row
 

@@ -1,6 +1,6 @@
 //! A follower of a journal: a core that makes the same entries, and the replicas that are lent.
 ghost use Rattle.std.specs.Prelude.{◌≡◌, ◌≢◌, ◌<◌, ◌↔◌, ℕ, [], IfErr, IfOk, IfSome, IsSome, IsTrue, None, Some, length, slice_index_or, slice_set, false, true};
-ghost use Rattle.ro_journal.specs.declared.How.TheVariants.{Sink as BySink};
+ghost use Rattle.ro_journal.specs.declared.How.TheVariants.{Deadlock as ByDeadlock, Sink as BySink};
 ghost use Rattle.ro_journal.specs.declared.Entry.TheVariants.{Take, Put, Scrub, End};
 ghost use Rattle.ro_settings.specs.Ranges.{InRange};
 ghost use Rattle.ro_replica.specs.Seen.{AreFaults};
@@ -8,6 +8,7 @@ ghost use Rattle.ro_legal.specs.declared.actions.Action.TheVariants as act;
 ghost use Rattle.ro_legal.specs.Core.{is_going, may_vote, may_free};
 ghost use Rattle.ro_legal.specs.Legal.{may_scrub, EndsVote, EndsFree, EndsScrub};
 ghost use Rattle.ro_legal.specs.Decides.{DecidesVote, DecidesFree, DecidesScrub};
+ghost use Rattle.ro_core.specs.Seen.{EndsNow, state};
 ghost use Rattle.ro_audit.specs.Following.{Follows, Followed, IsInPlace, IsUnless, NotByThread, NotInPlace, Same, AtEntry, Walked, core_at};
 
 use crate::copies::{Compared, Difference};
@@ -370,7 +371,7 @@ impl Follower {
         ensures job { self.new.core.job ≡ self.old.core.job }
         ensures followed { IfOk result (λ why. Followed self.old.core (End how) why self.new.core self.new.lent.items self.new.wrote) }
     {
-        if is_end(self.core.next_action(), how) {
+        if self.ends_now(how) {
             self.core.end(how);
             self.wrote = 0;
             return Ok(None);
@@ -382,6 +383,19 @@ impl Follower {
             Some(InPlace::OfScrub) => self.scrub(&entry),
             None => Ok(Some(Why::NoEnd)),
         }
+    }
+
+    // Whether such an end may be appended by itself: it comes next, or it is a deadlock and nothing can be done.
+    fn ends_now(&self, how: How) -> bool
+        ensures { IsTrue result ↔ EndsNow self.now.core.job (state self.now.core) how }
+    {
+        if is_end(self.core.next_action(), how) {
+            return true;
+        }
+        if !is_deadlock(how) {
+            return false;
+        }
+        self.core.is_stuck()
     }
 
     // In the place of what the run would end so.
@@ -451,7 +465,10 @@ impl Follower {
         requires { Follows self.now.core self.now.lent.items self.now.wrote }
         ensures { IsTrue result ↔ ((may_scrub (core_at self.now.core) ≡ true) × EndsScrub (core_at self.now.core) how) }
     {
-        self.core.may_scrub() && is_how(self.core.scrub_end(), how)
+        if !self.core.may_scrub() {
+            return false;
+        }
+        is_how(self.core.scrub_end(), how)
     }
 
     // A failing sink's end at this place of the journal: it may come while bytes of the last write are left, and is the last
@@ -552,6 +569,12 @@ fn is_end(action: Action, how: How) -> bool
     ensures { IsTrue result ↔ (action ≡ act.End how) }
 {
     action == Action::End(how)
+}
+
+fn is_deadlock(how: How) -> bool
+    ensures { IsTrue result ↔ (how ≡ ByDeadlock) }
+{
+    how == How::Deadlock
 }
 
 fn is_how(end: Option<How>, how: How) -> bool

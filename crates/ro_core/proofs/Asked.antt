@@ -9,10 +9,10 @@ use Rattle.ro_journal.specs.declared.losers.Lost.{Lost}
 use Rattle.ro_kernel.specs.Kernel.{lives_on}
 use Rattle.ro_replica.specs.Replica.{Replica}
 use Rattle.ro_replica.specs.Views.{is_unstopped}
-use Rattle.ro_legal.specs.declared.actions.Action.TheVariants.{Lend}
-use Rattle.ro_legal.specs.Core.{Job, Core, is_going, nothing_lent, is_home, is_lendable}
-use Rattle.ro_legal.specs.Legal.{any_below, MayVote, EndsVote, may_scrub, MayScrub, EndsScrub}
-use Rattle.ro_legal.specs.Action.{lowest_below, map_action, threads_made, lend_in, lend_next}
+use Rattle.ro_legal.specs.declared.actions.Action.TheVariants.{Vote, Free, Lend}
+use Rattle.ro_legal.specs.Core.{Job, Core, is_going, nothing_lent, is_home, is_lendable, may_vote, may_free}
+use Rattle.ro_legal.specs.Legal.{any_below, is_stuck, MayVote, EndsVote, may_scrub, MayScrub, EndsScrub}
+use Rattle.ro_legal.specs.Action.{or_else, lowest_below, map_action, threads_made, lend_in, lend_next, first_action}
 use Rattle.ro_core.specs.Fields.{Fields, state_in, Holds}
 use Rattle.ro_core.proofs.Tests.{any-lowest, count-is, lend-test, lends-none}
 use Rattle.ro_legal.proofs.Nexts.{found_below}
@@ -83,6 +83,29 @@ none-lent core = sym (ap not (any-turned (length core.replicas) (threads_made co
 -- so the replicas may be scrubbed where nothing is lent and nothing can be
 pub scrub-by-lending : (core : Core) (idle none : Bool) → idle ≡ (is_going core && nothing_lent core) → none ≡ is_none (lend_next core) → (idle && none) ≡ may_scrub core
 scrub-by-lending core idle none e f = ap (λ (b : Bool). b && none) e ∙ ap (λ (b : Bool). is_going core && nothing_lent core && b) (f ∙ none-lent core)
+
+-- nothing can be done where nothing can be freed, voted on or lent
+none-first : (job : Job) (core : Core) → is_none (first_action job core) ≡ not (any_below (threads_made core) (λ thread. may_vote core thread || may_free job core thread || any_below (length core.replicas) (λ replica. is_lendable core replica thread)))
+none-first job core =
+    by (lowest_below (threads_made core) (may_free job core)) (lowest_below (threads_made core) (may_vote core))
+    ∙ sym (ap not (
+        any-either (threads_made core) (λ thread. may_vote core thread || may_free job core thread) lends
+        ∙ ap (λ (b : Bool). b || any_below (threads_made core) lends) (
+            any-either (threads_made core) (may_vote core) (may_free job core)
+            ∙ ap (λ (b : Bool). b || any_below (threads_made core) (may_free job core)) (any-lowest (may_vote core) (threads_made core))
+            ∙ ap (λ (b : Bool). is_some (lowest_below (threads_made core) (may_vote core)) || b) (any-lowest (may_free job core) (threads_made core)))))
+  where
+    lends : ℕ → Bool
+    lends thread = any_below (length core.replicas) (λ replica. is_lendable core replica thread)
+
+    by : (free vote : Option ℕ) → is_none (or_else (map_action Free free) (or_else (map_action Vote vote) (lend_next core))) ≡ not ((is_some vote || is_some free) || any_below (threads_made core) lends)
+    by (Some f) None = refl
+    by (Some f) (Some v) = refl
+    by None (Some v) = refl
+    by None None = none-lent core
+
+pub stuck-by-first : (job : Job) (core : Core) (idle none : Bool) → idle ≡ (is_going core && nothing_lent core) → none ≡ is_none (first_action job core) → (idle && none) ≡ is_stuck job core
+stuck-by-first job core idle none e f = ap (λ (b : Bool). b && none) e ∙ ap (λ (b : Bool). is_going core && nothing_lent core && b) (f ∙ none-first job core)
 
 -- what is not something is nothing
 pub none-by-some : {X : Type 0} (o : Option X) (none : Bool) → is_some o ≡ not none → none ≡ is_none o

@@ -1,6 +1,7 @@
 -- An end that is due, or comes alone, in the fields of a run.
-use Rattle.std.proofs.Common.{◌≡◌, ◌⊎◌, inl, inr, ℕ, ◌+◌, ◌<◌, List, [], ◌∷◌, ◌++◌, length, Option, Some, None, refl, sym, ap, ◌∙◌, subst, arith}
+use Rattle.std.proofs.Common.{◌≡◌, ◌⊎◌, inl, inr, ℕ, ◌+◌, ◌<◌, true, List, [], ◌∷◌, ◌++◌, length, Option, Some, None, refl, sym, ap, ◌∙◌, subst, arith}
 use Rattle.std.specs.Prelude.{slice_get, unwrap_or}
+use Rattle.std.proofs.lemmas.Bool.{and_parts}
 use Rattle.ro_journal.specs.declared.How.{How}
 use Rattle.ro_journal.specs.declared.How.TheVariants.{Deadlock, Differ, NoMajority, Sink}
 use Rattle.ro_journal.specs.declared.Entry.{Entry}
@@ -9,15 +10,14 @@ use Rattle.ro_event.specs.declared.calls.Call.{Call}
 use Rattle.ro_kernel.specs.State.{State}
 use Rattle.ro_replica.specs.Seen.{ReplicaOf}
 use Rattle.ro_legal.specs.Core.{Job, Core}
-use Rattle.ro_legal.specs.Legal.{after, MayEnd, alone, EndsAlone, replay_with, cut_output, output_of}
-use Rattle.ro_legal.specs.declared.actions.Action.TheVariants.{End as DoEnd}
-use Rattle.ro_legal.specs.Action.{next_action, IsNext}
-use Rattle.ro_core.specs.Seen.{KeepsViews, sent_of}
+use Rattle.ro_legal.specs.Legal.{after, is_stuck, MayEnd, alone, EndsAlone, replay_with, cut_output, output_of}
+use Rattle.ro_legal.specs.Action.{IsNext}
+use Rattle.ro_core.specs.Seen.{EndsNow, KeepsViews, sent_of}
 use Rattle.ro_legal.specs.Sound.{IsOver}
 use Rattle.ro_core.specs.Fields.{failed_of, Seated, AreSeated, one_end, Fields, core_in, state_in, blocked_at, Holds}
 use Rattle.ro_legal.proofs.Journals.{replay_more, outcome_of-append}
 use Rattle.ro_core.specs.Grouped.{AreGrouped}
-use Rattle.ro_legal.proofs.Ordered.{ordered}
+use Rattle.ro_legal.proofs.Ordered.{ordered, going-parts}
 use Rattle.ro_legal.proofs.Nexts.{end_next, end_is}
 use Rattle.ro_core.proofs.Held.{failed-cases, with-ended, not-split, no-outcome, same-counts, holds-step}
 
@@ -66,14 +66,36 @@ unfailed-not : (o : Option How) (bytes : ℕ) → failed_of o ≡ None → unwra
 unfailed-not None bytes none e = let f : Deadlock ≡ Sink bytes = e in cc
 unfailed-not (Some how) bytes none e = let f : Some bytes ≡ None = ap (λ (h : How). failed_of (Some h)) (sym e) ∙ none in cc
 
--- the end that is next, over a core in which a failing sink's end may be due
-module _ (f : Fields) (h : Holds f) (how : How) (is_next : next_action f.job (state_in f) ≡ DoEnd how) where
+-- an end that may be appended by itself
+module _ (job : Job) (core : Core) (how : How) where
+  -- where nothing can be done nothing is due, and no end has come
+  stuck-open : is_stuck job core ≡ true → (core.due ≡ None) × (core.ended ≡ None)
+  stuck-open stuck = going-parts core (and_parts _ _ (and_parts _ _ stuck).0).0
+
+  now-open : EndsNow job core how → core.ended ≡ None
+  now-open (inl next) = (end_next job core how next).0
+  now-open (inr stuck) = (stuck-open stuck.1).1
+
+  now-may : EndsNow job core how → MayEnd job core how
+  now-may (inl next) = (end_next job core how next).1
+  now-may (inr stuck) = subst (MayEnd job core) (sym stuck.0) (alone stuck.1)
+
+  now-is : EndsNow job core how → unwrap_or core.due Deadlock ≡ how
+  now-is (inl next) = end_is job core how next
+  now-is (inr stuck) = ap (λ (o : Option How). unwrap_or o Deadlock) (stuck-open stuck.1).0 ∙ sym stuck.0
+
+  now-next : EndsNow job core how → IsNext job core (End how)
+  now-next (inl next) = inl next
+  now-next (inr stuck) = inr (inl (subst (EndsAlone job core) (sym stuck.0) stuck.1))
+
+-- the same over a core in which a failing sink's end may be due
+module _ (f : Fields) (h : Holds f) (how : How) (now : EndsNow f.job (state_in f) how) where
   ended-none : f.ended ≡ None
-  ended-none = h.ended_is ∙ sym (with-ended f.job f.journal (failed_of f.due)) ∙ (end_next f.job (state_in f) how is_next).0
+  ended-none = h.ended_is ∙ sym (with-ended f.job f.journal (failed_of f.due)) ∙ now-open f.job (state_in f) how now
 
   -- what the code takes for the end
   pub end-how : unwrap_or f.due Deadlock ≡ how
-  end-how = ap (λ (o : Option How). unwrap_or o Deadlock) h.due_is ∙ end_is f.job (state_in f) how is_next
+  end-how = ap (λ (o : Option How). unwrap_or o Deadlock) h.due_is ∙ now-is f.job (state_in f) how now
 
   pub end-not-over : (core_in f).ended ≡ None
   end-not-over = sym h.ended_is ∙ ended-none
@@ -95,7 +117,7 @@ module _ (f : Fields) (h : Holds f) (how : How) (is_next : next_action f.job (st
     where
       plain : failed_of f.due ≡ None → MayEnd f.job (core_in f) how × IsNext f.job (core_in f) (End how)
       plain none =
-          (subst (λ (c : Core). MayEnd f.job c how) (unfailed none) (end_next f.job (state_in f) how is_next).1, inl (ap (next_action f.job) (sym (unfailed none)) ∙ is_next))
+          (subst (λ (c : Core). MayEnd f.job c how) (unfailed none) (now-may f.job (state_in f) how now), subst (λ (c : Core). IsNext f.job c (End how)) (unfailed none) (now-next f.job (state_in f) how now))
 
       by : (failed_of f.due ≡ None) ⊎ ((bytes : ℕ) × (f.due ≡ Some (Sink bytes))) → MayEnd f.job (core_in f) how × IsNext f.job (core_in f) (End how)
       by (inl none) = plain none

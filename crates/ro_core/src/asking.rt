@@ -4,7 +4,7 @@ ghost use Rattle.std.specs.List.{list_any};
 ghost use Rattle.ro_journal.specs.declared.How.{How as HowSeen};
 ghost use Rattle.ro_replica.specs.Seen.{replica_of};
 ghost use Rattle.ro_legal.specs.Core.{is_going, is_home, is_lendable, may_vote, may_free};
-ghost use Rattle.ro_legal.specs.Legal.{MayTake, may_scrub, EndsVote, EndsFree, EndsScrub};
+ghost use Rattle.ro_legal.specs.Legal.{MayTake, is_stuck, may_scrub, EndsVote, EndsFree, EndsScrub};
 ghost use Rattle.ro_core.specs.Seen.{state, sent, Stays};
 ghost use Rattle.ro_core.specs.Fields.{failed_of, Holds};
 ghost use Rattle.ro_core.specs.Runs.{fields_of, job_of, state_of, sent_in, IsHeld, SameEnds, WithAnySink};
@@ -56,6 +56,13 @@ impl<K: Sink> Core<K> {
         ensures { result ≡ may_scrub (state self.now) }
     {
         self.run.may_scrub()
+    }
+
+    /// Whether nothing can be done: none is lent, and no thread can be voted on, freed or lent.
+    pub fn is_stuck(&self) -> bool
+        ensures { result ≡ is_stuck self.now.job (state self.now) }
+    {
+        self.run.is_stuck()
     }
 
     /// The end that would come in the place of a vote on a thread, if one would.

@@ -1,7 +1,7 @@
 //! What the core does next.
 ghost use Rattle.std.specs.Prelude.{◌≡◌, ◌<◌, ◌&&◌, length, true};
 ghost use Rattle.ro_legal.specs.Core.{is_going, nothing_lent, is_lendable, may_vote, may_free};
-ghost use Rattle.ro_legal.specs.Legal.{may_scrub};
+ghost use Rattle.ro_legal.specs.Legal.{is_stuck, may_scrub};
 ghost use Rattle.ro_legal.specs.Action.{lowest_below, threads_made, lend_next, first_action, is_scrub_due, scrub_action, next_action as next};
 ghost use Rattle.ro_core.specs.Fields.{Holds};
 ghost use Rattle.ro_core.specs.Runs.{fields_of, job_of, state_of};
@@ -203,6 +203,14 @@ impl Run {
         ensures { result ≡ may_scrub (state_of self.now) }
     {
         self.is_idle() && self.lowest_to_lend().is_none()
+    }
+
+    /// Whether nothing can be done.
+    pub fn is_stuck(&self) -> bool
+        requires holds { Holds (fields_of self.now) }
+        ensures { result ≡ is_stuck (job_of self.now) (state_of self.now) }
+    {
+        self.is_idle() && self.first_action().is_none()
     }
 
     /// Whether a thread may be lent in a replica.

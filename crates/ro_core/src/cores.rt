@@ -5,11 +5,10 @@ ghost use Rattle.ro_journal.specs.declared.Entry.TheVariants.{Take, End};
 ghost use Rattle.ro_journal.specs.Plan.{outcome_of};
 ghost use Rattle.ro_settings.specs.Ranges.{InRange};
 ghost use Rattle.ro_replica.specs.Seen.{AreFaults};
-ghost use Rattle.ro_legal.specs.declared.actions.Action.TheVariants as act;
 ghost use Rattle.ro_legal.specs.Core.{may_vote, may_free, views_of};
 ghost use Rattle.ro_legal.specs.Legal.{IsAllowed, Legal, may_scrub, replay};
 ghost use Rattle.ro_legal.specs.Action.{next_action as next, IsNext};
-ghost use Rattle.ro_core.specs.Seen.{state, sent, Opens, Appends, Quiet, Sends, IsOfMajority, Stays, KeepsViews, HasRoom, IsLent, MayReturn, ReturnIs};
+ghost use Rattle.ro_core.specs.Seen.{state, sent, EndsNow, Opens, Appends, Quiet, Sends, IsOfMajority, Stays, KeepsViews, HasRoom, IsLent, MayReturn, ReturnIs};
 ghost use Rattle.ro_legal.specs.Decides.{DecidesVote, DecidesFree, DecidesScrub, IsSplit};
 
 use crate::runs::Run;
@@ -176,9 +175,9 @@ impl<K: Sink> Core<K> {
         self.run.scrub()
     }
 
-    /// Ends the run so, where this end is due or nothing can be done any more.
+    /// Ends the run so, where this end is due or nothing can be done any more, be a scrub due or not.
     pub fn end(&mut self, how: How)
-        requires { next self.old.job (state self.old) ≡ act.End how }
+        requires { EndsNow self.old.job (state self.old) how }
         ensures entry { IsAllowed self.old.job (replay self.old.job self.old.journal) (End how) × IsNext self.old.job (replay self.old.job self.old.journal) (End how) × Appends self.old self.new (End how) }
         ensures quiet { Quiet self.old self.new }
     {

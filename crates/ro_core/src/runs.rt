@@ -2,11 +2,10 @@
 ghost use Rattle.std.specs.Prelude.{◌≡◌, ◌≢◌, ◌++◌, ◌∷◌, [], ℕ, Some, true};
 ghost use Rattle.ro_journal.specs.declared.How.TheVariants.{Sink as BySink};
 ghost use Rattle.ro_journal.specs.declared.Entry.TheVariants.{End};
-ghost use Rattle.ro_legal.specs.declared.actions.Action.TheVariants as act;
 ghost use Rattle.ro_legal.specs.Core.{is_going};
 ghost use Rattle.ro_legal.specs.Legal.{IsAllowed, MayEnd, replay};
-ghost use Rattle.ro_legal.specs.Action.{next_action as next, IsNext};
-ghost use Rattle.ro_core.specs.Seen.{Appends, Quiet, KeepsViews};
+ghost use Rattle.ro_legal.specs.Action.{IsNext};
+ghost use Rattle.ro_core.specs.Seen.{EndsNow, Appends, Quiet, KeepsViews};
 ghost use Rattle.ro_core.specs.Fields.{Holds, HoldsUnseen};
 ghost use Rattle.ro_core.specs.Runs.{fields_of, job_of, state_of, WithAnySink};
 
@@ -48,10 +47,10 @@ pub(crate) struct Run {
 }
 
 impl Run {
-    /// Ends the run so, where this end is due or nothing can be done any more.
+    /// Ends the run so, where this end is due or nothing can be done any more, be a scrub due or not.
     pub fn end(&mut self, how: How)
         requires holds { Holds (fields_of self.old) }
-        requires next { next (job_of self.old) (state_of self.old) ≡ act.End how }
+        requires now { EndsNow (job_of self.old) (state_of self.old) how }
         ensures holds { Holds (fields_of self.new) }
         ensures allowed { IsAllowed (job_of self.old) (replay (job_of self.old) self.old.journal.items) (End how) × IsNext (job_of self.old) (replay (job_of self.old) self.old.journal.items) (End how) }
         ensures appends { WithAnySink (λ old new. Appends old new (End how)) self.old self.new }

@@ -1,13 +1,13 @@
-use Rattle.std.proofs.Common.{ap, ◌∙◌, subst}
+use Rattle.std.proofs.Common.{sym, subst}
 use Rattle.ro_journal.specs.declared.Entry.TheVariants.{End}
 use Rattle.ro_legal.specs.Legal.{IsAllowed, replay}
-use Rattle.ro_legal.specs.Action.{next_action, IsNext}
-use Rattle.ro_core.specs.Seen.{CoreOf, state, Appends, Quiet}
+use Rattle.ro_legal.specs.Action.{IsNext}
+use Rattle.ro_core.specs.Seen.{CoreOf, state, EndsNow, Appends, Quiet}
 use Rattle.ro_core.proofs.Held.{with-old}
 use Rattle.ro_core.proofs.cores.Core.end.Goals as goal
 
-pub end-requires-clause-next : goal.end-requires-clause-next
-end-requires-clause-next g c = ap (λ (v : CoreOf). next_action v.job (state v)) c.self.view_is ∙ c.requires
+pub end-requires-clause-now : goal.end-requires-clause-now
+end-requires-clause-now g c = subst (λ (v : CoreOf). EndsNow v.job (state v) c.args.how) (sym c.self.view_is) c.requires
 
 pub returns-clause-entry : goal.returns-clause-entry
 returns-clause-entry g c =

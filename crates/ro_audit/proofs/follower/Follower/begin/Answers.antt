@@ -3,6 +3,6 @@ use Rattle.ro_audit.specs.Kept.{KeptOf}
 use Rattle.ro_audit.proofs.Steps.{opened}
 use Rattle.ro_audit.proofs.follower.Follower.begin.Goals as goal
 
-pub returns-in-Ok-clause-follows : goal.returns-in-Ok-clause-follows
-returns-in-Ok-clause-follows c =
+pub returns-in-Ok-begin-clause-follows : goal.returns-in-Ok-begin-clause-follows
+returns-in-Ok-begin-clause-follows c =
     opened _ _ _ _ _ _ (ap (λ (k : KeptOf). Some k.bytes) c.new.ensures) c.in-Ok.ensures.opens c.requires.settings c.in_ok-lent.ensures.count c.in_ok-lent.ensures.vacant

@@ -51,3 +51,6 @@ returns-clause-followed c =
     (c.is_of.ensures.0 c.if-not-is_of.false) (c.came_to.ensures.0 c.if-not-came_to.false) c.put.ensures.entry c.put.ensures.quiet
     (subst (λ (xs : List (Option LentOf)). c.args.driver < length xs) c.as_mut_slice.ensures.value vacant.1)
     (items ∙ vacant.0 ∙ ap (λ (xs : List (Option LentOf)). set xs c.args.driver None) c.as_mut_slice.ensures.value)
+
+pub returns-clause-job : goal.returns-clause-job
+returns-clause-job c = c.put.ensures.entry.appends.job

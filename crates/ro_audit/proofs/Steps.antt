@@ -407,3 +407,13 @@ put-followed core new driver replica thread count hit lent back items items' wro
     ∙ ap (λ (n : ℕ). Put driver replica thread n back.ran.hit) ran.0 ∙ ap (Put driver replica thread count) ran.1
     in
     subst (λ (e : Entry). Followed core e None new items' 0) same done
+
+-- what holds of a journal holds of the same one
+pub same-old : (P : Job → Core → Type 0) (old new : CoreOf) → Same old new → P new.job (core_at new) → P old.job (core_at old)
+same-old P old new same = to-old old new same.job same.journal P
+
+pub same-new : (P : Job → Core → Type 0) (old new : CoreOf) → Same old new → P old.job (core_at old) → P new.job (core_at new)
+same-new P old new same = to-new old new same.job same.journal P
+
+pub same-both : (one two three : CoreOf) → Same one two → Same two three → Same one three
+same-both one two three s t = record { job = t.job ∙ s.job; journal = t.journal ∙ s.journal }

@@ -465,10 +465,7 @@ impl Follower {
         requires { Follows self.now.core self.now.lent.items self.now.wrote }
         ensures { IsTrue result ↔ ((may_scrub (core_at self.now.core) ≡ true) × EndsScrub (core_at self.now.core) how) }
     {
-        if !self.core.may_scrub() {
-            return false;
-        }
-        is_how(self.core.scrub_end(), how)
+        self.core.may_scrub() && is_how(self.core.scrub_end(), how)
     }
 
     // A failing sink's end at this place of the journal: it may come while bytes of the last write are left, and is the last

@@ -5,4 +5,4 @@ use Rattle.ro_audit.proofs.follower.Follower.begin.Goals as goal
 
 pub returns-in-Ok-begin-clause-follows : goal.returns-in-Ok-begin-clause-follows
 returns-in-Ok-begin-clause-follows c =
-    opened _ _ _ _ _ _ (ap (λ (k : KeptOf). Some k.bytes) c.new.ensures) c.in-Ok.ensures.opens c.requires.settings c.in_ok-lent.ensures.count c.in_ok-lent.ensures.vacant
+    opened _ _ _ _ _ _ (ap (λ (k : KeptOf). Some k.bytes) c.new.ensures) c.in-Ok-begin.ensures.opens c.requires.settings c.in-Ok.ensures.count c.in-Ok.ensures.vacant

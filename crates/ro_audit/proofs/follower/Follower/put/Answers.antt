@@ -53,4 +53,4 @@ returns-clause-followed c =
     (items ∙ vacant.0 ∙ ap (λ (xs : List (Option LentOf)). set xs c.args.driver None) c.as_mut_slice.ensures.value)
 
 pub returns-clause-job : goal.returns-clause-job
-returns-clause-job c = c.put.ensures.entry.appends.job
+returns-clause-job c = (returns-clause-followed c).1.job

@@ -1,8 +1,9 @@
-use Rattle.std.proofs.Common.{length, sym, ap, ◌∙◌, subst}
+use Rattle.std.proofs.Common.{List, ◌⊎◌, length, sym, ap, ◌∙◌, subst}
+use Rattle.ro_event.specs.Views.{View}
 use Rattle.ro_legal.specs.Core.{Job}
 use Rattle.ro_journal.specs.Plan.{outcome_of}
 use Rattle.ro_legal.specs.Jobs.{CanRun, job_of}
-use Rattle.ro_core.specs.Driven.{HasRun, ShowsLast}
+use Rattle.ro_core.specs.Driven.{HasRun, ShowsLast, ScrubsLast}
 use Rattle.ro_top.specs.Ends.{IsOutcome, EndCause}
 use Rattle.ro_top.proofs.Claims.{is_run, not_differ, not_majority}
 use Rattle.ro_top.proofs.Finishing.{none_bytes, none_given, opens_same, none_home, ran_home, ran, ran_counts, ran_sent, ran_held, nothing_ran, ran_calm, ran_cause}
@@ -40,7 +41,7 @@ returns-clause-run g c =
       output = c.finish-image.ensures.sink.0 ∙ ran_held _ _ _ _ _ opens _ goes driven sent _ is;
       bytes = c.finish-image.ensures.bytes ∙ ap length (ran_sent _ _ _ _ _ opens _ goes driven sent _ is);
       calm = λ other. c.finish-image.ensures.sink.1 ∙ ran_calm _ _ _ _ _ opens _ goes driven sent _ is c.drive-core.ensures.ended c.finish-image.ensures.open other;
-      end = ran_cause _ _ _ _ _ opens _ goes driven sent _ is _ (λ split. subst (ShowsLast c.drive-core.result.job c.drive-core.result.journal) (sym (c.finish-image.ensures.kept split)) (c.drive-core.ensures.last split)) _ c.finish-image.ensures.sink.1
+      end = ran_cause _ _ _ _ _ opens _ goes driven sent _ is _ (λ split. subst (λ (vs : List View). ShowsLast c.drive-core.result.job c.drive-core.result.journal vs ⊎ ScrubsLast c.drive-core.result.job c.drive-core.result.journal vs) (sym (c.finish-image.ensures.kept split)) (c.drive-core.ensures.last split)) _ c.finish-image.ensures.sink.1
           c.answer_of.result outcome c.answer_of.ensures.program;
     })
 

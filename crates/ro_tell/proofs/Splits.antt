@@ -42,7 +42,9 @@ module _ (job : Job) (entries : List Entry) (legal : IsLegal job entries) where
   some_differ : ShowsViews job entries [] → outcome_of entries ≡ Some how.Differ → ⊥
   some_differ shows e =
       let ends = subst (EndsVote job (replay job shows.before) shows.thread) (how_is [] shows how.Differ e) shows.in_place in
-      let none : length [] ≡ 2 = as_many [] shows ∙ ends.1 in cc
+      let none : 0 ≡ length (replay job shows.before).replicas = as_many [] shows in
+      let two : length (replay job shows.before).replicas ≡ 2 = ends.1 in
+      omega (arith, none, two)
 
   some_unlike : ShowsViews job entries [] → outcome_of entries ≡ Some how.NoMajority → ⊥
   some_unlike shows e =

@@ -89,11 +89,11 @@ none-first : (job : Job) (core : Core) → is_none (first_action job core) ≡ n
 none-first job core =
     by (lowest_below (threads_made core) (may_free job core)) (lowest_below (threads_made core) (may_vote core))
     ∙ sym (ap not (
-        any-either (threads_made core) (λ thread. may_vote core thread || may_free job core thread) lends
-        ∙ ap (λ (b : Bool). b || any_below (threads_made core) lends) (
-            any-either (threads_made core) (may_vote core) (may_free job core)
-            ∙ ap (λ (b : Bool). b || any_below (threads_made core) (may_free job core)) (any-lowest (may_vote core) (threads_made core))
-            ∙ ap (λ (b : Bool). is_some (lowest_below (threads_made core) (may_vote core)) || b) (any-lowest (may_free job core) (threads_made core)))))
+    any-either (threads_made core) (λ thread. may_vote core thread || may_free job core thread) lends
+    ∙ ap (λ (b : Bool). b || any_below (threads_made core) lends) (
+    any-either (threads_made core) (may_vote core) (may_free job core)
+    ∙ ap (λ (b : Bool). b || any_below (threads_made core) (may_free job core)) (any-lowest (may_vote core) (threads_made core))
+    ∙ ap (λ (b : Bool). is_some (lowest_below (threads_made core) (may_vote core)) || b) (any-lowest (may_free job core) (threads_made core)))))
   where
     lends : ℕ → Bool
     lends thread = any_below (length core.replicas) (λ replica. is_lendable core replica thread)

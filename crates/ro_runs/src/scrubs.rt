@@ -38,15 +38,21 @@ pub(crate) const SCRUBS: &[Row] = &[
         }),
         status: 243,
         written: Text { part: "", times: 1 },
-        summary: Some(
-            "votes 2 copies 0 struck 2 steps 5 bytes 0\n",
-        ),
+        summary: Some("votes 2 copies 0 struck 2 steps 5 bytes 0\n"),
         answer: "answer no-majority\n",
     },
     Row {
         title: "a hidden bit in one of two",
         guest: "writes_late",
-        options: &["--drivers", "1", "--journal", "--replicas", "2", "--scrub", "1"],
+        options: &[
+            "--drivers",
+            "1",
+            "--journal",
+            "--replicas",
+            "2",
+            "--scrub",
+            "1",
+        ],
         input: None,
         faults: Some(Text {
             part: "0 0 1 mem 65676 0\n",
@@ -82,7 +88,15 @@ pub(crate) const SCRUBS: &[Row] = &[
     Row {
         title: "the same of five",
         guest: "writes_late",
-        options: &["--drivers", "1", "--journal", "--replicas", "5", "--scrub", "1"],
+        options: &[
+            "--drivers",
+            "1",
+            "--journal",
+            "--replicas",
+            "5",
+            "--scrub",
+            "1",
+        ],
         input: None,
         faults: Some(Text {
             part: "0 0 1 mem 65676 0\n1 0 1 mem 65676 1\n",
@@ -165,7 +179,15 @@ pub(crate) const SCRUBS: &[Row] = &[
     Row {
         title: "a limit behind a scrub",
         guest: "writes_late",
-        options: &["--drivers", "1", "--journal", "--scrub", "1", "--limit", "5"],
+        options: &[
+            "--drivers",
+            "1",
+            "--journal",
+            "--scrub",
+            "1",
+            "--limit",
+            "5",
+        ],
         input: None,
         faults: None,
         status: 244,
@@ -217,7 +239,15 @@ pub(crate) const SCRUBS: &[Row] = &[
     Row {
         title: "a scrub that waits for quanta",
         guest: "goes_round",
-        options: &["--drivers", "1", "--journal", "--scrub", "1", "--quantum", "4"],
+        options: &[
+            "--drivers",
+            "1",
+            "--journal",
+            "--scrub",
+            "1",
+            "--quantum",
+            "4",
+        ],
         input: None,
         faults: None,
         status: 7,

@@ -261,4 +261,25 @@ pub(crate) const SCRUBS: &[Row] = &[
         ),
         answer: "answer exit 7\n",
     },
+    Row {
+        title: "scrubs while a thread waits for a mutex",
+        guest: "deadlock",
+        options: &["--drivers", "1", "--journal", "--scrub", "1"],
+        input: None,
+        faults: Some(Text {
+            part: "2 1 2 mem 65600 1\n",
+            times: 1,
+        }),
+        status: 240,
+        written: Text { part: "", times: 1 },
+        summary: Some(
+            "romain 2\ntake 0 0 0\nput 0 0 0 3 0\ntake 0 1 0\nput 0 1 0 3 0\ntake 0 2 0\nput 0 2 0 3 0\n\
+            vote 0 3 0 - served\ntake 0 0 0\nput 0 0 0 5 0\ntake 0 1 0\nput 0 1 0 5 0\ntake 0 2 0\n\
+            put 0 2 0 5 0\nscrub 0 -\nvote 0 5 0 - served\ntake 0 0 0\nput 0 0 0 3 0\ntake 0 0 1\n\
+            put 0 0 1 3 0\ntake 0 1 0\nput 0 1 0 3 0\ntake 0 1 1\nput 0 1 1 3 0\ntake 0 2 0\nput 0 2 0 3 0\n\
+            take 0 2 1\nput 0 2 1 3 1\nscrub 0 2\nvote 0 3 0 - blocked\nscrub 0 -\nvote 1 3 0 - blocked\n\
+            scrub 0 -\nend deadlock\nvotes 4 copies 1 struck 1 steps 16 bytes 0\n",
+        ),
+        answer: "answer deadlock\n",
+    },
 ];

@@ -36,6 +36,35 @@ turn:
     finish
     .endm
 
+    # Stores a word to each of s2 pages from t1 on.
+    .macro store_to_pages
+    li t0, PAGE
+page:
+    sw s1, 0(t1)
+    add t1, t1, t0
+    addi s2, s2, -1
+    bnez s2, page
+    .endm
+
+    # Makes a call without payload in each of s1 turns, brk(0), and ends.
+    .macro call_turns
+    li a7, BRK
+turn:
+    li a0, 0
+    ecall
+    addi s1, s1, -1
+    bnez s1, turn
+    finish
+    .endm
+
+    # Data of 1,023 pages, behind which comes the heap: 1,279 pages in all.
+    .macro room_for_pages
+    .bss
+    .balign PAGE
+room:
+    .zero 1023 * PAGE
+    .endm
+
     # The exit with 0.
     .macro finish
     li a0, 0

@@ -1,5 +1,5 @@
 # Input: how many turns; how many bytes lie between one store and the next. Stores a word in each turn, from the start of
-# its data on, behind which comes the heap: 1,279 pages in all.
+# its data on.
 #include "begin.h"
 
     begin
@@ -11,7 +11,4 @@ turn:
     bnez s1, turn
     finish
 
-    .bss
-    .balign PAGE
-room:
-    .zero 1023 * PAGE
+    room_for_pages

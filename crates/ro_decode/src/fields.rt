@@ -69,15 +69,13 @@ pub fn s_form(word: u32) -> u32
     i_form(word) / 32 * 32 + (word >> 7 & 31)
 }
 
-/// The immediate of branches.
+/// The immediate of branches: that of loads, of which bits 11 and 4 to 0 are others.
 #[inline(always)]
 pub fn b_form(word: u32) -> u32
     ensures { result ≡ b_immediate word }
 {
-    (word >> 25 & 63) * 32
-        + (word >> 8 & 15) * 2
-        + (word >> 7 & 1) * 2048
-        + (word >> 31) * 0xFFFF_F000
+    let spread = i_form(word);
+    spread / 4096 * 4096 + spread / 32 % 64 * 32 + (word >> 7 & 1) * 2048 + (word >> 8 & 15) * 2
 }
 
 /// The immediate of LUI and AUIPC, with its twelve zeros.
@@ -88,13 +86,14 @@ pub fn u_form(word: u32) -> u32
     word & 0xFFFF_F000
 }
 
-/// The immediate of JAL.
+/// The immediate of JAL: that of loads, of which bits 19 to 11 and 0 are others.
 #[inline(always)]
 pub fn j_form(word: u32) -> u32
     ensures { result ≡ j_immediate word }
 {
-    (word >> 20 & 1) * 2048
-        + (word >> 21 & 0x3FF) * 2
+    let spread = i_form(word);
+    spread / 0x10_0000 * 0x10_0000
+        + spread / 2 % 1024 * 2
         + (word >> 12 & 0xFF) * 4096
-        + (word >> 31) * 0xFFF0_0000
+        + (word >> 20 & 1) * 2048
 }

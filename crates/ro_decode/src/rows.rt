@@ -1,5 +1,5 @@
 //! The instructions of words whose opcode and funct3 are known, for a reader that finds both by one jump.
-ghost use Rattle.std.specs.Prelude.{◌≡◌, ◌+◌, ◌*◌, ◌/◌, ◌%◌, ◌<◌, Some, true, false, ◌==◌};
+ghost use Rattle.std.specs.Prelude.{◌≡◌, ◌↔◌, ◌+◌, ◌*◌, ◌/◌, ◌%◌, ◌<◌, Some, true, false, ◌==◌};
 ghost use Rattle.ro_decode.specs.Fields.{opcode_in, funct3_in, funct7_in};
 ghost use Rattle.ro_decode.specs.Table.{InRange, instruction_of, load_with, store_with, branch_with, alu_with, other_alu_with, muldiv_with};
 
@@ -248,4 +248,12 @@ pub fn muldiv(word: u32, op: MulDivOp) -> Instr
         rs1: rs1(word),
         rs2: rs2(word),
     }
+}
+
+/// Whether a word is ECALL.
+#[inline(always)]
+pub fn is_ecall(word: u32) -> bool
+    ensures { (result ≡ true) ↔ (instruction_of word ≡ Some Instr.Ecall) }
+{
+    word == 0x0000_0073
 }

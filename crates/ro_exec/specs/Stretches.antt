@@ -6,7 +6,9 @@ use Rattle.ro_region.specs.declared.Kind.{Kind}
 use Rattle.ro_region.specs.Permission.{permits_of}
 use Rattle.ro_pages.specs.Bytes.{page_of}
 use Rattle.ro_exec.specs.declared.Cpu.{Cpu}
+use Rattle.ro_region.specs.declared.Kind.TheVariants.{Read, Write}
 use Rattle.ro_exec.specs.declared.stretch.Stretch.{Stretch}
+use Rattle.ro_exec.specs.declared.learnt.Learnt.{Learnt}
 use Rattle.ro_exec.specs.Next.{Layout, Backed, fetch_stop}
 
 -- the place of an instruction in it
@@ -40,3 +42,12 @@ pub record IsOpenTo (ranges : List Range) (pages : Backed) (places : ℕ → Opt
 -- each of them is so
 abbrev pub AreOpenTo : List Range → Backed → (ℕ → Option ℕ) → Kind → List Stretch → Type 0
 AreOpenTo ranges pages places kind stretches = (i : ℕ) (stretch : Stretch) → slice_get stretches i ≡ Some stretch → IsOpenTo ranges pages places kind stretch
+
+-- what was learnt of a memory is true of it
+pub record IsLearnt (layout : Layout) (pages : Backed) (places : ℕ → Option ℕ) (learnt : Learnt) : Type 0 where
+  pub aligned : learnt.code.from % 4 ≡ 0
+  pub bounded : learnt.code.from + 4 * learnt.code.words ≤ 2 ^ 32
+  pub clear : IsClear layout pages learnt.code
+  pub page : IsKept places learnt.code
+  pub reads : AreOpenTo layout.ranges pages places Read learnt.reads.stretches
+  pub writes : AreOpenTo layout.ranges pages places Write learnt.writes.stretches

@@ -42,28 +42,27 @@ impl Bank {
         self.values[0] = 0;
     }
 
-    /// The registers x1 to x31.
+    /// The registers x1 to x31, copied one by one, which is compiled to a few wide moves.
+    #[inline(always)]
     pub fn registers(&self) -> [u32; 31]
         ensures { result ≡ self.now }
     {
         let mut registers = [0; 31];
-        registers.copy_from_slice(&self.values[1..]);
+        for i in 0..registers.len() {
+            registers[i] = self.values[i + 1];
+        }
         registers
     }
 
-    /// Writes the registers x1 to x31 to a place.
-    pub fn write_to(&self, registers: &mut [u32; 31])
-        ensures { registers.new ≡ self.now }
-    {
-        registers.copy_from_slice(&self.values[1..]);
-    }
-
     /// The registers with these as x1 to x31.
+    #[inline(always)]
     pub fn new(registers: &[u32; 31]) -> Bank
         ensures { result ≡ registers.now }
     {
         let mut values = [0; 32];
-        values[1..].copy_from_slice(registers);
+        for i in 0..registers.len() {
+            values[i + 1] = registers[i];
+        }
         Bank { values }
     }
 }

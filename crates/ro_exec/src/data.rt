@@ -14,7 +14,7 @@ use ro_pages::Memory;
 use ro_region::{Kind, Regions};
 
 /// How many pages are kept for each kind of access.
-const PLACES: usize = 16;
+const PLACES: usize = 128;
 
 /// The last page that is never kept, since the addresses end at its end.
 const LAST_PAGE: u32 = 0xF_FFFF;
@@ -38,7 +38,7 @@ impl Open {
     /// The stretch in whose place that of an address' page is kept.
     #[inline(always)]
     pub fn at(&self, address: u32) -> Stretch
-        ensures { slice_get self.now.stretches (address / 4096 % 16) ≡ Some result }
+        ensures { slice_get self.now.stretches (address / 4096 % 128) ≡ Some result }
     {
         self.stretches[(address / PAGE_SIZE) as usize % PLACES]
     }
@@ -54,7 +54,8 @@ impl Open {
         self.stretches[page as usize % PLACES] = open_in_page(page, memory, regions, kind);
     }
 
-    /// Whether an access is seen to be let through; where its page is not kept, it is from then on.
+    /// Whether an access is seen to be let through. Where its page is not kept, it is from then on, and the access is seen when
+    /// it is tried again: so nothing of an instruction has to be kept across the call.
     #[inline(always)]
     pub fn shows<M: Memory>(
         &mut self,
@@ -70,13 +71,13 @@ impl Open {
         ensures aligned { result ≡ true → address % size ≡ 0 }
         ensures permitted { result ≡ true → permits_of regions.now kind address size ≡ true }
         ensures backed { result ≡ true → M.backing memory.now (address / 4096) ≡ true }
-        ensures kept { result ≡ true → (stretch : StretchOf) → slice_get self.new.stretches (address / 4096 % 16) ≡ Some stretch → M.kept memory.now stretch.place ≡ Some (address / 4096) }
+        ensures kept { result ≡ true → (stretch : StretchOf) → slice_get self.new.stretches (address / 4096 % 128) ≡ Some stretch → M.kept memory.now stretch.place ≡ Some (address / 4096) }
     {
         if self.at(address).fits(address, size) {
             return true;
         }
         self.learn(address, memory, regions, kind);
-        self.at(address).fits(address, size)
+        false
     }
 }
 

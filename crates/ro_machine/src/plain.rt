@@ -18,7 +18,7 @@ use crate::lane::{Lane, look_quickly};
 use crate::looking::{Look, NOTHING_SEEN, look_ahead};
 use crate::watching::{Relation, Watched, Went, told_of};
 use ro_event::Stop;
-use ro_exec::{Bank, Cpu, NONE, Open, Step, quick_step};
+use ro_exec::{Bank, Cpu, Learnt, NONE, Open, Step, quick_step};
 use ro_image::Executable;
 use ro_journal::How;
 use ro_kernel::Kernel;
@@ -289,9 +289,11 @@ impl Plain {
             done: 0,
             stop: None,
         };
+        let mut learnt = Learnt::nothing();
         let ran = run(
             &mut running,
             &mut self.pages,
+            &mut learnt,
             &self.regions,
             self.image.calls(),
             most,

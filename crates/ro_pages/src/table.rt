@@ -63,8 +63,12 @@ impl Pages {
         ensures pages { self.new.pages ≡ self.old.pages }
         ensures room { OnOk result (count ≤ self.new.spare) }
         ensures kept { OnOk result (self.old.spare ≤ self.new.spare) }
+        ensures numbers { self.new.numbers ≡ self.old.numbers }
         ensures err { OnErr result (self.new ≡ self.old) }
     {
+        if self.spare.len() >= count as usize {
+            return Ok(());
+        }
         self.backed.reserve(count as usize)?;
         self.directory.reserve(count)?;
         let before = self.spare.len();
@@ -90,6 +94,7 @@ impl Pages {
         ensures bytes { memory_of self.new.pages ≡ memory_of self.old.pages }
         ensures backed { (other : ℕ) → has_page self.new.pages other ≡ ((other == page) || has_page self.old.pages other) }
         ensures spare { self.new.spare + 1 ≡ self.old.spare }
+        ensures stay { (place other : ℕ) → slice_get self.old.numbers place ≡ Some other → slice_get self.new.numbers place ≡ Some other }
     {
         if let Some(fresh) = self.spare.pop() {
             self.directory.add(page);
@@ -110,6 +115,7 @@ impl Pages {
         requires { (page : ℕ) → has_page self.old.pages page ≡ has_page other.now.pages page }
         ensures pages { self.new.pages ≡ other.now.pages }
         ensures spare { self.new.spare ≡ self.old.spare }
+        ensures numbers { self.new.numbers ≡ self.old.numbers }
         ensures written { CountsUnequal self.old.pages other.now.pages result }
     {
         let mut written = 0;
@@ -183,6 +189,7 @@ impl Pages {
         ensures bytes { memory_of self.new.pages ≡ stored (memory_of self.old.pages) address bytes.now }
         ensures pages { has_page self.new.pages ≡ has_page self.old.pages }
         ensures spare { self.new.spare ≡ self.old.spare }
+        ensures numbers { self.new.numbers ≡ self.old.numbers }
     {
         let size = PAGE_SIZE as usize;
         let mut done = 0;
@@ -202,6 +209,7 @@ impl Pages {
         ensures bytes { memory_of self.new.pages ≡ stored (memory_of self.old.pages) (4096 * page + offset) bytes.now }
         ensures pages { has_page self.new.pages ≡ has_page self.old.pages }
         ensures spare { self.new.spare ≡ self.old.spare }
+        ensures numbers { self.new.numbers ≡ self.old.numbers }
     {
         let place = self.directory.entry(page);
         let words: &mut [u32; PAGE_WORDS] = &mut self.backed[place];

@@ -11,5 +11,6 @@ pub mod SoFar
 pub mod Spans
 pub mod Starts
 pub mod Strikes
+pub mod Remains
 pub mod Targets
 pub mod UnderWay

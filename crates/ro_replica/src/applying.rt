@@ -1,5 +1,5 @@
 //! What an event does to a replica.
-ghost use Rattle.std.specs.Prelude.{◌≡◌, ◌<◌, ◌≤◌, ◌+◌, ◌^◌, ◌||◌, ℕ, true, IfSome, Some, length, map, vec_len, vec_capacity};
+ghost use Rattle.std.specs.Prelude.{◌≡◌, ◌<◌, ◌≤◌, ◌+◌, ◌^◌, ◌||◌, ℕ, true, IfSome, Some, length, map, slice_get, vec_len, vec_capacity};
 ghost use Rattle.ro_pages.specs.Bytes.{covers_page, stored};
 ghost use Rattle.ro_pages.specs.Held.{memory_of, has_page};
 ghost use Rattle.ro_replica.specs.Replica.{is_page, applied, cancelled, thread_after, with_made, without_cancelled};
@@ -35,6 +35,7 @@ pub fn store(pages: &mut Pages, effect: &Effect)
     requires spare { 3 ≤ pages.old.spare }
     ensures bytes { memory_of pages.new.pages ≡ stored (memory_of pages.old.pages) effect.now.place effect.now.bytes }
     ensures backed { has_page pages.new.pages ≡ (λ page. has_page pages.old.pages page || is_page effect.now.page page || covers_page (record { place = effect.now.place; count = length effect.now.bytes }) page) }
+    ensures stay { (place page : ℕ) → slice_get pages.old.numbers place ≡ Some page → slice_get pages.new.numbers place ≡ Some page }
 {
     back_page(pages, effect.page);
     back_stretch(pages, effect.place, effect.bytes.len() as u32);
@@ -48,6 +49,7 @@ fn back_page(pages: &mut Pages, page: Option<u32>)
     ensures bytes { memory_of pages.new.pages ≡ memory_of pages.old.pages }
     ensures backed { has_page pages.new.pages ≡ (λ other. has_page pages.old.pages other || is_page page other) }
     ensures spare { pages.old.spare ≤ pages.new.spare + 1 }
+    ensures stay { (place other : ℕ) → slice_get pages.old.numbers place ≡ Some other → slice_get pages.new.numbers place ≡ Some other }
 {
     if let Some(page) = page {
         back(pages, page);

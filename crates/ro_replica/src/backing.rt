@@ -1,5 +1,5 @@
 //! Backing the pages of a stretch of bytes.
-ghost use Rattle.std.specs.Prelude.{◌≡◌, ◌+◌, ◌-◌, ◌/◌, ◌^◌, ◌<◌, ◌≤◌, ◌==◌, ◌||◌};
+ghost use Rattle.std.specs.Prelude.{ℕ, ◌≡◌, ◌+◌, ◌-◌, ◌/◌, ◌^◌, ◌<◌, ◌≤◌, ◌==◌, ◌||◌, Some, slice_get};
 ghost use Rattle.ro_pages.specs.Bytes.{covers_page};
 ghost use Rattle.ro_pages.specs.Held.{memory_of, has_page};
 
@@ -13,6 +13,7 @@ pub(crate) fn back(pages: &mut Pages, page: u32)
     ensures bytes { memory_of pages.new.pages ≡ memory_of pages.old.pages }
     ensures backed { has_page pages.new.pages ≡ (λ other. has_page pages.old.pages other || (other == page)) }
     ensures spare { pages.old.spare ≤ pages.new.spare + 1 }
+    ensures stay { (place other : ℕ) → slice_get pages.old.numbers place ≡ Some other → slice_get pages.new.numbers place ≡ Some other }
 {
     if !pages.has_page(page) {
         pages.back(page);
@@ -43,6 +44,7 @@ pub(crate) fn back_stretch(pages: &mut Pages, place: u32, len: u32)
     ensures bytes { memory_of pages.new.pages ≡ memory_of pages.old.pages }
     ensures backed { has_page pages.new.pages ≡ (λ page. has_page pages.old.pages page || covers_page (record { place = place; count = len }) page) }
     ensures spare { pages.old.spare ≤ pages.new.spare + ((place + len + 4095) / 4096 - place / 4096) }
+    ensures stay { (at page : ℕ) → slice_get pages.old.numbers at ≡ Some page → slice_get pages.new.numbers at ≡ Some page }
 {
     if len == 0 {
         return;

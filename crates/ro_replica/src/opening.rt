@@ -15,7 +15,7 @@ use crate::cpus::first_cpu;
 use crate::replicas::Replica;
 use crate::waiting::Waiting;
 use ro_event::CallTable;
-use ro_exec::Cpu;
+use ro_exec::{Cpu, Learnt};
 use ro_faults::Fault;
 use ro_image::{Executable, FilePiece};
 use ro_pages::Pages;
@@ -52,6 +52,7 @@ impl Replica {
             calls: CallTable::new(*image.calls().addresses()),
             watchdog,
             pages,
+            learnt: Learnt::nothing(),
             threads,
             waiting: Waiting::new(waiting),
         })

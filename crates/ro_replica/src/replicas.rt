@@ -6,6 +6,7 @@ ghost use Rattle.ro_replica.specs.Seen.{replica_of, Keeps};
 
 use crate::waiting::Waiting;
 use ro_event::{CallTable, Stop};
+use ro_exec::Learnt;
 use ro_limits::PAGE_SIZE;
 use ro_pages::{Memory, Pages};
 use ro_region::Regions;
@@ -21,6 +22,8 @@ pub struct Replica {
     pub(crate) calls: CallTable,
     pub(crate) watchdog: u32,
     pub(crate) pages: Pages,
+    /// What the threads' runs have learnt of the pages.
+    pub(crate) learnt: Learnt,
     pub(crate) threads: Vec<Thread>,
     pub(crate) waiting: Waiting,
 }
@@ -28,7 +31,10 @@ pub struct Replica {
 impl Model for Replica {
     ghost use Rattle.std.specs.Arc.{arc_value};
     ghost use Rattle.std.specs.Prelude.{vec_capacity};
+    ghost use Rattle.std.specs.List.{slice_get};
     ghost use Rattle.ro_replica.specs.Seen.{ReplicaOf, IsReplica};
+    ghost use Rattle.ro_exec.specs.Stretches.{IsLearnt};
+    ghost use Rattle.ro_pages.specs.Held.{has_page};
     ghost use Rattle.std.specs.Coded.{codes};
     ghost use Rattle.ro_pages.specs.Held.{coded_held};
 
@@ -38,7 +44,7 @@ impl Model for Replica {
 
     ghost view = { λ r. record { layout = record { ranges = arc_value r.regions; calls = r.calls }; watchdog = r.watchdog; held = r.pages; threads = r.threads.items; waiting = r.waiting } };
 
-    ghost invariant = { λ r. IsReplica r.watchdog r.threads.items (vec_capacity r.threads) r.waiting };
+    ghost invariant = { λ r. IsReplica r.watchdog r.threads.items (vec_capacity r.threads) r.waiting × IsLearnt (record { ranges = arc_value r.regions; calls = r.calls }) (has_page r.pages.pages) (slice_get r.pages.numbers) r.learnt };
 }
 
 impl Replica {

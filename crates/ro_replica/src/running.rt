@@ -83,18 +83,17 @@ impl Replica {
         ensures countable { CanCount (most - result.count) self.new thread }
         ensures leads { Leads self.old.layout self.old.watchdog thread most (replica_of self.old) (replica_of self.new) result.count 0 result.stop }
     {
-        let mut state = self.threads[thread as usize];
+        let state = &mut self.threads[thread as usize];
         let until = until_due(&self.waiting, thread, state.done, most);
-        let ran = ro_thread::run(
-            &mut state,
+        ro_thread::run(
+            state,
             &mut self.pages,
+            &mut self.learnt,
             &self.regions,
             &self.calls,
             until,
             self.watchdog,
-        );
-        self.threads[thread as usize] = state;
-        ran
+        )
     }
 
     // Writes where a thread stands still.

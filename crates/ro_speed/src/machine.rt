@@ -3,7 +3,7 @@ ghost use Rattle.std.specs.Prelude.{◌≡◌, ◌<◌, ◌^◌};
 ghost use Rattle.ro_exec.specs.Registers.{register};
 
 use ro_event::CallTable;
-use ro_exec::Cpu;
+use ro_exec::{Cpu, Learnt};
 use ro_pages::{Memory, Pages};
 use ro_region::{Range, Regions};
 use ro_thread::{Thread, run};
@@ -70,6 +70,7 @@ impl Machine {
     /// Runs to the first stop by quanta of instructions, each after a release, and counts the instructions before it.
     pub fn run(&mut self, quantum: u32) -> u64 {
         let mut count: u64 = 0;
+        let mut learnt = Learnt::nothing();
         for _ in 0..u64::MAX {
             self.thread.since = 0;
             if self.thread.done > u128::from(u64::MAX) {
@@ -78,6 +79,7 @@ impl Machine {
             let ran = run(
                 &mut self.thread,
                 &mut self.pages,
+                &mut learnt,
                 &self.regions,
                 &self.calls,
                 quantum,

@@ -119,7 +119,7 @@ fn looks_where_code_was_left(rt: HostRuntime) -> Result<(), Fail> {
     Ok(())
 }
 
-// an address and a size; whether a store there is shown
+// an address and a size; whether a store there is shown, once its page was learnt
 #[test]
 fn shows_data(rt: HostRuntime) -> Result<(), Fail> {
     let list = [
@@ -146,13 +146,15 @@ fn shows_data(rt: HostRuntime) -> Result<(), Fail> {
     ] {
         assert!(rt; size == 1 || size == 2 || size == 4);
         let mut open = Open::new();
+        let before = open.shows(address, size, &pages, &regions, Kind::Write);
+        assert!(rt; !before, "{size} at {address:x}");
         let shown = open.shows(address, size, &pages, &regions, Kind::Write);
         assert_eq!(rt; shown, want, "{size} at {address:x}");
     }
     Ok(())
 }
 
-// Whether a quick step does a word, with DATA in x5 and 2 in x6.
+// Whether a quick step does a word, with DATA in x5, whose page was learnt, and 2 in x6.
 fn does(
     rt: &impl Abort,
     pages: &mut Pages,
@@ -165,6 +167,8 @@ fn does(
     let mut stretch = NONE;
     let mut reads = Open::new();
     let mut writes = Open::new();
+    reads.shows(DATA, 4, pages, regions, Kind::Read);
+    writes.shows(DATA, 4, pages, regions, Kind::Write);
     let mut bank = Bank::new(&[0; 31]);
     bank.set(5, DATA);
     bank.set(6, 2);

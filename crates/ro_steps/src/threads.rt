@@ -1,6 +1,6 @@
 //! Runs of a thread over a small loop: three turns of a store, a count down and a branch, and then a word that stops.
 use ro_event::{Call, CallTable, Stop, Which};
-use ro_exec::Cpu;
+use ro_exec::{Cpu, Learnt};
 use ro_pages::{Memory, Pages};
 use ro_region::{Range, Regions};
 use ro_thread::{RunEnd, Thread, run};
@@ -119,7 +119,16 @@ fn ran(
 ) -> RunEnd {
     assert!(rt; thread.since <= watchdog);
     assert!(rt; thread.done < 1000);
-    run(thread, pages, &guest.regions, &guest.calls, most, watchdog)
+    let mut learnt = Learnt::nothing();
+    run(
+        thread,
+        pages,
+        &mut learnt,
+        &guest.regions,
+        &guest.calls,
+        most,
+        watchdog,
+    )
 }
 
 // What a thread is after a run: its count, where it stands, x6, pc, its counts, and the word that it stored last.

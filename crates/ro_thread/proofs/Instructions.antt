@@ -8,9 +8,8 @@ use Rattle.ro_exec.specs.declared.outcome.Step.{Step}
 use Rattle.ro_exec.specs.declared.outcome.Step.TheVariants.{Did}
 use Rattle.ro_exec.specs.Next.{Layout, Backed, Next, Stands, Executes, next}
 use Rattle.ro_exec.specs.Steps.{IsStep, IsQuick}
-use Rattle.ro_region.specs.declared.Range.{Range}
-use Rattle.ro_region.specs.declared.Kind.{Kind}
-use Rattle.ro_exec.specs.Stretches.{IsAlong, IsClear, IsKept, AreOpenTo}
+use Rattle.ro_exec.specs.Stretches.{IsAlong, IsLearnt}
+use Rattle.ro_exec.specs.declared.learnt.Learnt.{Learnt}
 use Rattle.ro_exec.specs.declared.stretch.Stretch.{Stretch}
 use Rattle.ro_thread.specs.declared.Thread.{Thread}
 use Rattle.ro_thread.specs.Runs.{Running, after_next, one_instruction, instructions}
@@ -77,16 +76,11 @@ renamed from thread count registers pc after memory stored a p b e =
     let same : record { registers = registers; pc = pc } ≡ after = ap₂ (λ (r : List ℕ) (k : ℕ). record { registers = r; pc = k }) a p in
     e ∙ ap (λ (c : Cpu). Some (ran_on thread count c stored)) (sym same) ∙ ap (λ (m : Memory). Some (ran_on thread count (record { registers = registers; pc = pc }) m)) (sym b)
 
--- what holds of a stretch, by other names of the backed pages and of the places
-pub kept : (layout : Layout) (now before : Backed) (stretch : Stretch) → now ≡ before → IsClear layout before stretch → IsClear layout now stretch
-kept layout now before stretch e h = subst (λ (k : Backed). IsClear layout k stretch) (sym e) h
-
-pub kept_page : (now before : ℕ → Option ℕ) (stretch : Stretch) → now ≡ before → IsKept before stretch → IsKept now stretch
-kept_page now before stretch e h = subst (λ (k : ℕ → Option ℕ). IsKept k stretch) (sym e) h
-
-pub kept_open : (ranges : List Range) (now before : Backed) (places at : ℕ → Option ℕ) (kind : Kind) (stretches : List Stretch) → now ≡ before → places ≡ at → AreOpenTo ranges before at kind stretches → AreOpenTo ranges now places kind stretches
-kept_open ranges now before places at kind stretches e f h =
-    subst (λ (k : Backed). AreOpenTo ranges k places kind stretches) (sym e) (subst (λ (k : ℕ → Option ℕ). AreOpenTo ranges before k kind stretches) (sym f) h)
+-- what was learnt, by other names of the backed pages, of the places and of itself
+pub learnt_as : (layout : Layout) (now before : Backed) (places at : ℕ → Option ℕ) (learnt other : Learnt) → now ≡ before → places ≡ at → learnt ≡ other → IsLearnt layout before at other → IsLearnt layout now places learnt
+learnt_as layout now before places at learnt other e f g h =
+    subst (λ (k : Backed). IsLearnt layout k places learnt) (sym e)
+    (subst (λ (k : ℕ → Option ℕ). IsLearnt layout before k learnt) (sym f) (subst (λ (k : Learnt). IsLearnt layout before at k) (sym g) h))
 
 -- a thread whose code is looked up anew
 pub along_anew : (stretch : Stretch) (until pc at : ℕ) → until ≡ at → pc ≡ at → IsAlong stretch until pc

@@ -2,11 +2,12 @@
 ghost use Rattle.std.specs.Prelude.{◌≡◌, ◌≤◌, ◌<◌, ◌+◌, ◌-◌, ◌^◌};
 ghost use Rattle.ro_exec.specs.Next.{next};
 ghost use Rattle.ro_exec.specs.Steps.{IsStep};
+ghost use Rattle.ro_exec.specs.Stretches.{IsLearnt};
 ghost use Rattle.ro_thread.specs.Runs.{IsRun};
 
 use crate::Thread;
 use ro_event::{CallTable, Stop};
-use ro_exec::{Bank, Cpu, NONE, Open, Step, quick_step, step};
+use ro_exec::{Bank, Cpu, Learnt, Step, quick_step, step, system_call};
 use ro_pages::Memory;
 use ro_region::Regions;
 
@@ -20,7 +21,8 @@ pub struct RunEnd {
 }
 
 /// Runs a thread until it stands at a stop, or for `most` instructions. It stands at the watchdog's stop once it has run for
-/// `watchdog` instructions since its last release.
+/// `watchdog` instructions since its last release. What earlier runs in the memory have learnt of it spares this one looks at
+/// its code and its data, and it learns more.
 ///
 /// It is a function of its own, so that `step` has one caller, and becomes a part of its loop: where a memory's `step` has
 /// two callers, LLVM inlines it into neither, and an instruction takes half as long again.
@@ -28,39 +30,44 @@ pub struct RunEnd {
 pub fn run<M: Memory>(
     thread: &mut Thread,
     memory: &mut M,
+    learnt: &mut Learnt,
     regions: &Regions,
     calls: &CallTable,
     most: u32,
     watchdog: u32,
 ) -> RunEnd
+    requires learnt { IsLearnt (record { ranges = regions.now; calls = calls.now }) (M.backing memory.old) (M.kept memory.old) learnt.old }
     requires watched { thread.old.since ≤ watchdog }
     requires countable { thread.old.done + most < 2 ^ 128 }
     ensures run { IsRun (record { ranges = regions.now; calls = calls.now }) watchdog (M.backing memory.old) most result.count result.stop (record { thread = thread.old; memory = M.memory memory.old }) (record { thread = thread.new; memory = M.memory memory.new }) }
     ensures pages { M.backing memory.new ≡ M.backing memory.old }
+    ensures kept { M.kept memory.new ≡ M.kept memory.old }
+    ensures learnt { IsLearnt (record { ranges = regions.now; calls = calls.now }) (M.backing memory.old) (M.kept memory.old) learnt.new }
 {
     let bound = most.min(watchdog - thread.since);
     let mut registers = Bank::new(&thread.cpu.registers);
     let mut pc = thread.cpu.pc;
-    let mut stretch = NONE;
+    // a copy, so that it can stay in registers
+    let mut stretch = learnt.code;
     let mut until = pc;
-    let mut reads = Open::new();
-    let mut writes = Open::new();
     let mut left = bound;
     while left > 0 {
         if !quick_step::<M, Thread>(
             &mut registers,
             &mut pc,
             memory,
-            &mut reads,
-            &mut writes,
+            &mut learnt.reads,
+            &mut learnt.writes,
             regions,
             calls,
             &mut stretch,
             &mut until,
         ) {
-            // a variable of its own, so that the pc can stay in a register
+            // variables of their own, so that the pc and the code can stay in registers
             let mut place = pc;
-            let step = slow_step(&mut registers, &mut place, memory, regions, calls);
+            learnt.code = stretch;
+            let step = slow_step(&mut registers, &mut place, memory, learnt, regions, calls);
+            stretch = learnt.code;
             pc = place;
             until = place;
             if let Step::Stopped(stop) = step {
@@ -69,6 +76,7 @@ pub fn run<M: Memory>(
         }
         left -= 1;
     }
+    learnt.code = stretch;
     let stop = if bound < most {
         Some(Stop::Watchdog)
     } else {
@@ -96,27 +104,48 @@ fn ended(
     ensures thread { thread.new ≡ record thread.old { cpu = record { registers = registers.now; pc = pc }; since = thread.old.since + (bound - left); done = thread.old.done + (bound - left) } }
 {
     let count = bound - left;
-    registers.write_to(&mut thread.cpu.registers);
+    thread.cpu.registers = registers.registers();
     thread.cpu.pc = pc;
     thread.since += count;
     thread.done += u128::from(count);
     RunEnd { count, stop }
 }
 
-// A step that `quick_step` left: a stop, or a rare instruction or access.
+// A step that `quick_step` left: a stop, a rare instruction or access, or an access whose page is learnt now. A system call,
+// which most stops are, is found in the stretch of code.
 #[cold]
 #[inline(never)]
 fn slow_step<M: Memory>(
     registers: &mut Bank,
     pc: &mut u32,
     memory: &mut M,
+    learnt: &mut Learnt,
     regions: &Regions,
     calls: &CallTable,
 ) -> Step
+    requires learnt { IsLearnt (record { ranges = regions.now; calls = calls.now }) (M.backing memory.old) (M.kept memory.old) learnt.old }
     ensures step { IsStep (next (record { ranges = regions.now; calls = calls.now }) (M.backing memory.old) (M.memory memory.old) (record { registers = registers.old; pc = pc.old })) result (record { registers = registers.old; pc = pc.old }) (record { registers = registers.new; pc = pc.new }) (M.memory memory.old) (M.memory memory.new) }
     ensures pages { M.backing memory.new ≡ M.backing memory.old }
     ensures kept { M.kept memory.new ≡ M.kept memory.old }
+    ensures learnt { IsLearnt (record { ranges = regions.now; calls = calls.now }) (M.backing memory.old) (M.kept memory.old) learnt.new }
 {
+    if let Some(stop) = system_call(registers, *pc, learnt.code, memory) {
+        return Step::Stopped(stop);
+    }
+    let mut until = *pc;
+    if quick_step::<M, Step>(
+        registers,
+        pc,
+        memory,
+        &mut learnt.reads,
+        &mut learnt.writes,
+        regions,
+        calls,
+        &mut learnt.code,
+        &mut until,
+    ) {
+        return Step::Did;
+    }
     let mut cpu = Cpu {
         registers: registers.registers(),
         pc: *pc,

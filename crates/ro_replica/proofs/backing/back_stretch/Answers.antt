@@ -7,6 +7,7 @@ pub loop-page-preserved : goal.loop-page-preserved
 loop-page-preserved c = record {
   bytes = c.back.ensures.bytes ∙ c.loop-page.invariant.bytes;
   backed = more_between (has_page c.args.pages.now.pages) _ _ (c.args.place / 4096) c.loop-page.page (omega arith) c.loop-page.invariant.backed c.back.ensures.backed;
+  stay = λ place page there. c.back.ensures.stay place page (c.loop-page.invariant.stay place page there);
   spare = omega arith;
 }
 

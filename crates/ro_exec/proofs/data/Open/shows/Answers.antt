@@ -15,21 +15,5 @@ returns-then-fits-clause-backed g c _ =
 
 pub returns-then-fits-clause-kept : goal.returns-then-fits-clause-kept
 returns-then-fits-clause-kept g c _ stretch e =
-    same_place (g.M.Memory.kept c.args.memory.now) (c.args.address / 4096) c.args.self.now.stretches (c.args.address / 4096 % 16) c.at.result stretch c.at.ensures e
+    same_place (g.M.Memory.kept c.args.memory.now) (c.args.address / 4096) c.args.self.now.stretches (c.args.address / 4096 % 128) c.at.result stretch c.at.ensures e
     (within _ _ _ _ c.at.result _ _ (c.requires.open _ c.at.result c.at.ensures) c.requires.size (c.fits.ensures.begins c.if-fits.true) (c.fits.ensures.ends c.if-fits.true)).kept
-
-pub fits-requires-2-clause-bounded : goal.fits-requires-2-clause-bounded
-fits-requires-2-clause-bounded g c = (c.learn.ensures _ c.at-2.result c.at-2.ensures).bounded
-
-pub returns-clause-permitted : goal.returns-clause-permitted
-returns-clause-permitted g c held =
-    (c.learn.ensures _ c.at-2.result c.at-2.ensures).permitted _ _ (c.fits-2.ensures.begins held) (c.fits-2.ensures.ends held)
-
-pub returns-clause-backed : goal.returns-clause-backed
-returns-clause-backed g c held =
-    (within _ _ _ _ c.at-2.result _ _ (c.learn.ensures _ c.at-2.result c.at-2.ensures) c.requires.size (c.fits-2.ensures.begins held) (c.fits-2.ensures.ends held)).backed
-
-pub returns-clause-kept : goal.returns-clause-kept
-returns-clause-kept g c held stretch e =
-    same_place (g.M.Memory.kept c.args.memory.now) (c.args.address / 4096) c.learn.new.self.stretches (c.args.address / 4096 % 16) c.at-2.result stretch c.at-2.ensures e
-    (within _ _ _ _ c.at-2.result _ _ (c.learn.ensures _ c.at-2.result c.at-2.ensures) c.requires.size (c.fits-2.ensures.begins held) (c.fits-2.ensures.ends held)).kept

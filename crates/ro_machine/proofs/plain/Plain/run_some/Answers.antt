@@ -20,3 +20,12 @@ returns-clause-plays c =
     (plays-on (record { image = (arc_value c.self.inside.image); input = c.self.inside.kernel.setup.input }) c.self.inside.pages c.run-ran.new.memory c.self.inside.cpus.items c.self.inside.kernel.kernel c.self.inside.written.items c.self.inside.written.items c.deref.result.now c.calls.result.now c.self.inside.ended 4294967295 _ c.args.thread c.run-ran.result.count
     (record { cpu = c.index.result.now; since = 0; done = 0; stop = None }) c.run-ran.new.thread
     (ap (λ v. v.ended) c.self.view_is ∙ c.requires.going) (ap (λ v. lives_on v.kernel c.args.thread) c.self.view_is ∙ c.requires.live) there (c.deref.ensures ∙ c.self.invariant.regions_are) (c.calls.ensures ∙ ap (λ (i : Image). i.calls) c.deref-2.ensures) c.run-ran.ensures.run.runs)
+
+pub run-ran-requires-clause-learnt : goal.run-ran-requires-clause-learnt
+run-ran-requires-clause-learnt c = c.nothing-learnt.ensures _ _ _
+
+pub index_mut-requires : goal.index_mut-requires
+index_mut-requires c =
+    let made = lives-made c.args.self.now.kernel.lives c.args.thread c.requires.live in
+    let count = ap (λ v. length v.kernel.lives) c.self.view_is in
+    omega (arith, made, count, c.self.invariant.all_made)

@@ -1,11 +1,13 @@
-use Rattle.std.proofs.Common.{ap, ap₂, sym, subst, ◌∙◌, ◌≡◌, false}
+use Rattle.std.proofs.Common.{ap, ap₂, sym, subst, ◌∙◌, ◌≡◌, Some, false}
 use Rattle.std.specs.FinMap as map
+use Rattle.std.specs.List.{slice_get}
 use Rattle.std.specs.Option.{IfSome}
 use Rattle.std.proofs.lemmas.List.Elements.{All-pop}
 use Rattle.ro_pages.specs.Directories.{is_listed}
 use Rattle.ro_pages.specs.Held.{memory_of, has_page, pages_of, zeros}
 use Rattle.ro_pages.specs.Words.{bytes_in}
 use Rattle.ro_pages.proofs.Backed.{same_memory, one_more}
+use Rattle.ro_pages.proofs.Entries.{got_before}
 use Rattle.ro_pages.proofs.Places.{has_listed, pages_of_push}
 use Rattle.ro_pages.proofs.table.Pages.back.Goals as goal
 
@@ -30,3 +32,8 @@ returns-in-Some-clause-bytes c = ap memory_of (returns-in-Some-clause-pages c) �
 
 pub returns-in-Some-clause-backed : goal.returns-in-Some-clause-backed
 returns-in-Some-clause-backed c other = ap (λ m. has_page m other) (returns-in-Some-clause-pages c) ∙ one_more c.args.self.now.pages c.args.page other
+
+pub returns-in-Some-clause-stay : goal.returns-in-Some-clause-stay
+returns-in-Some-clause-stay c place other there =
+    let before : slice_get c.self.inside.directory.numbers place ≡ Some other = ap (λ h. slice_get h.numbers place) c.self.view_is ∙ there in
+    ap (λ ns. slice_get ns place) c.add.ensures.numbers ∙ got_before c.self.inside.directory.numbers c.args.page place other before

@@ -18,4 +18,5 @@ loop-done-preserved c =
       written = stored_more _ _ _ _ _ c.loop-done.done c.min-end.result c.loop-done.invariant.within (omega arith) c.loop-done.invariant.written (c.write_in_page.ensures.bytes ∙ ap (λ b. stored (memory_of c.loop-done.self.pages) b (take (c.min-end.result - c.loop-done.done) (drop c.loop-done.done c.args.bytes.now))) at);
       pages = c.write_in_page.ensures.pages ∙ c.loop-done.invariant.pages;
       spare = c.write_in_page.ensures.spare ∙ c.loop-done.invariant.spare;
+      numbers = c.write_in_page.ensures.numbers ∙ c.loop-done.invariant.numbers;
     }

@@ -9,6 +9,7 @@ invariant-loop-done l = record {
   written : memory_of l.self.pages ≡ stored (memory_of l.fn.self.pages) l.address (take l.done l.bytes);
   pages : has_page l.self.pages ≡ has_page l.fn.self.pages;
   spare : l.self.spare ≡ l.fn.self.spare;
+  numbers : l.self.numbers ≡ l.fn.self.numbers;
 }
 
 abbrev pub decreases-loop-done : goal.decreases-loop-done

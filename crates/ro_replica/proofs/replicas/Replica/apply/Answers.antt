@@ -7,15 +7,18 @@ use Rattle.ro_pages.specs.Held.{memory_of, has_page}
 use Rattle.ro_replica.specs.Replica.{is_page}
 use Rattle.ro_replica.specs.Seen.{replica_of}
 use Rattle.ro_replica.proofs.Changes.{threads_left, threads_after, holds_after, applies}
+use Rattle.ro_replica.proofs.Remains.{more_pages}
 use Rattle.ro_replica.proofs.replicas.Replica.apply.Goals as goal
 
 pub invariant_of-self : goal.invariant_of-self
 invariant_of-self c =
     let made : IfSome c.args.effect.now.made (λ m. (m.creator < length c.self.inside.threads.items) × (length c.self.inside.threads.items < 16)) =
-    subst (λ (n : ℕ). IfSome c.args.effect.now.made (λ m. (m.creator < n) × (n < 16))) (sym (ap (λ v. length v.threads) c.self.view_is)) c.requires.creator in
-    holds_after c.self.inside.watchdog c.self.inside.threads.cap c.make.new.threads.cap _ c.args.effect.now (has_page c.store.new.pages.pages) c.self.inside.threads.items _ (threads_left c.args.effect.now (has_page c.store.new.pages.pages) c.self.inside.threads.items c.make.new.threads.items c.as_mut_slice.result.now c.forget_faults.new.threads _ c.effect.inside.thread c.index_mut.result.now c.change_thread.new.thread c.effect.inside.made
-    (omega (arith, ap (λ e. e.thread) c.effect.view_is, ap (λ v. length v.threads) c.self.view_is, c.requires.made)) c.index_mut.ensures.value c.change_thread.ensures (ap (λ e. e.thread) c.effect.view_is) (ap (λ e. e.made) c.effect.view_is)
-    c.make.ensures.items c.as_mut_slice.ensures.value c.forget_faults.ensures (with_items_is c.make.new.threads c.forget_faults.new.threads (omega arith))) (omega arith) made c.self.invariant
+    subst (λ (n : ℕ). IfSome c.args.effect.now.made (λ m. (m.creator < n) × (n < 16))) (sym (ap (λ v. length v.threads) c.self.view_is)) c.requires.creator in (
+      holds_after c.self.inside.watchdog c.self.inside.threads.cap c.make.new.threads.cap _ c.args.effect.now (has_page c.store.new.pages.pages) c.self.inside.threads.items _ (threads_left c.args.effect.now (has_page c.store.new.pages.pages) c.self.inside.threads.items c.make.new.threads.items c.as_mut_slice.result.now c.forget_faults.new.threads _ c.effect.inside.thread c.index_mut.result.now c.change_thread.new.thread c.effect.inside.made
+          (omega (arith, ap (λ e. e.thread) c.effect.view_is, ap (λ v. length v.threads) c.self.view_is, c.requires.made)) c.index_mut.ensures.value c.change_thread.ensures (ap (λ e. e.thread) c.effect.view_is) (ap (λ e. e.made) c.effect.view_is)
+          c.make.ensures.items c.as_mut_slice.ensures.value c.forget_faults.ensures (with_items_is c.make.new.threads c.forget_faults.new.threads (omega arith))) (omega arith) made c.self.invariant.0,
+      more_pages _ _ c.self.inside.pages c.store.new.pages _ _ _ c.store.ensures.backed c.store.ensures.stay c.self.invariant.1,
+    )
 
 pub returns-clause-applied : goal.returns-clause-applied
 returns-clause-applied c = applies c.args.effect.now (replica_of c.args.self.now) _

@@ -9,7 +9,7 @@ use Rattle.ro_replica.proofs.Starts.{own_faults, first_holds, opens}
 use Rattle.ro_replica.proofs.replicas.Replica.new.Goals as goal
 
 pub invariant_of-result : goal.invariant_of-result
-invariant_of-result c = first_holds c.args.watchdog _ _ _ _ refl c.in_ok-threads.ensures.first c.in_ok-threads.ensures.places (own_faults c.args.faults.now _ _ (c.new-2.ensures ∙ c.in_ok-waiting.ensures) c.requires.faults)
+invariant_of-result c = (first_holds c.args.watchdog _ _ _ _ refl c.in_ok-threads.ensures.first c.in_ok-threads.ensures.places (own_faults c.args.faults.now _ _ (c.new-2.ensures ∙ c.in_ok-waiting.ensures) c.requires.faults), c.nothing.ensures _ _ _)
 
 pub returns : goal.returns
 returns c =

@@ -86,6 +86,7 @@ def expected():
         "matrix": (row_sums(), 0),
         "ledger": (b"".join(digests()), 0),
         "parallel_sum": (totals(), 0),
+        "polling": (b"The count is there.\n", 0),
         "lines": (b"%d\n" % count, count % 256),
     }
 

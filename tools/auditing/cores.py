@@ -83,6 +83,13 @@ def verdict(views: list) -> tuple[int, tuple[int, ...]] | None:
     return None
 
 
+@dataclasses.dataclass
+class Streak:
+    """Whose votes came last, and how many since the last vote or free of another thread."""
+    thread: int
+    votes: int
+
+
 class Core:
     def __init__(self, job: Job):
         self.job = job
@@ -92,6 +99,7 @@ class Core:
         self.blocked: dict[int, Call] = {}  # by thread, the voted call on which it is blocked
         self.steps = 0
         self.scrubbed = 0  # the steps at the last scrub
+        self.streak = Streak(0, 0)
         self.output = b""
         self.wrote = 0  # how many bytes the last entry's event wrote
         self.due: str | None = None  # an end that must come next
@@ -225,6 +233,9 @@ class Core:
         self.copies += [self.copy(entry.thread, won.winner, loser) for loser in won.losers]
         for loser in won.losers:
             self.replicas[loser].become(self.replicas[won.winner])
+        if self.streak.thread != entry.thread:
+            self.streak = Streak(entry.thread, 0)
+        self.streak.votes += 1
         self.occur(entry.thread, won.count, won.event)
 
     def copy(self, thread: int | None, winner: int, loser: int) -> Copy:
@@ -238,6 +249,8 @@ class Core:
     def free(self, thread: int):
         needs(self.may_free(thread), "the thread can't be freed")
         needs(self.steps + 1 <= self.job.limit, "it passes the limit")
+        if self.streak.thread != thread:
+            self.streak = Streak(thread, 0)
         call = self.blocked[thread]
         self.occur(thread, 0, self.call_event(thread, call, b"", self.kernel.serve(thread, call)))
 

@@ -7,23 +7,33 @@ from journals import End, Free, Put, Scrub, Take, Vote
 # What is done next is a word and the numbers that go with it: `lend` a replica and a thread, `vote` and `free` a thread, `scrub`,
 # `end` how, `wait`, `over`.
 Action = tuple
+VOTES_IN_A_ROW = 64  # that a thread may have while another one could go on
 
 
 def is_scrub_due(core: Core) -> bool:
     return core.job.scrub != 0 and core.scrubbed + core.job.scrub <= core.steps
 
 
+def turns(core: Core) -> tuple[list[int], list[int]]:
+    """All threads but the one that had its votes in a row, and then that one."""
+    last = core.streak.thread if core.streak.votes >= VOTES_IN_A_ROW else None
+    threads = range(len(core.kernel.lives))
+    return [thread for thread in threads if thread != last], [thread for thread in threads if thread == last]
+
+
 def next_action(core: Core) -> Action:
-    """A free comes before a vote, and both before a lease; no vote and no free comes before a scrub that is due."""
+    """A free comes first, and a thread that had its votes in a row last; of the others, and of that one, a vote comes before a
+    lease. No vote and no free comes before a scrub that is due."""
     if core.ended is not None:
         return ("over",)
     if core.due is not None:
         return "end", core.due
-    threads, is_due = range(len(core.kernel.lives)), is_scrub_due(core)
-    found = [] if is_due else [("free", thread) for thread in threads if core.may_free(thread)]
-    found += [] if is_due or found else [("vote", thread) for thread in threads if core.may_vote(thread)]
-    found += [("lend", number, thread) for number in range(len(core.replicas)) for thread in threads
-              if not found and core.is_lendable(number, thread)][:1]
+    is_due = is_scrub_due(core)
+    found = [] if is_due else [("free", thread) for thread in range(len(core.kernel.lives)) if core.may_free(thread)]
+    for threads in turns(core):
+        found += [] if is_due or found else [("vote", thread) for thread in threads if core.may_vote(thread)]
+        found += [("lend", number, thread) for number in range(len(core.replicas)) for thread in threads
+                  if not found and core.is_lendable(number, thread)][:1]
     if found:
         return found[0]
     return ("wait",) if core.leases else ("scrub",) if is_due else ("end", "deadlock")

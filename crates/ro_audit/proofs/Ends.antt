@@ -10,7 +10,7 @@ use Rattle.ro_legal.specs.Sound.{IsOrdered, IsOver}
 use Rattle.ro_legal.proofs.Nexts.{next_due}
 use Rattle.ro_legal.proofs.Ordered.{vote-parts, free-parts}
 use Rattle.ro_core.specs.Seen.{EndsNow}
-use Rattle.ro_core.proofs.Votes.{lives-within}
+use Rattle.ro_core.proofs.Tests.{lives-within}
 use Rattle.ro_audit.specs.Following.{NotInPlace}
 
 pub none-of : {X : Type 0} (o : Option X) → is_some o ≡ false → o ≡ None

@@ -312,18 +312,6 @@ module _ (old new : CoreOf) (job : new.job ≡ old.job) (journal : new.journal �
 
 -- ---- in whose place a run ends
 
-pub same-same : (old mid new : CoreOf) → Same old mid → Same mid new → Same old new
-same-same old mid new s t = record { job = t.job ∙ s.job; journal = t.journal ∙ s.journal }
-
-pub not-by-thread : (old new : CoreOf) (how : How) (thread : ℕ) → Same old new → NotByThread new.job (core_at new) how thread → NotByThread old.job (core_at old) how thread
-not-by-thread old new how thread s n = to-old old new s.job s.journal (λ j c. NotByThread j c how thread) n
-
-pub not-by-scrub : (old new : CoreOf) (how : How) → Same old new → (may_scrub (core_at new) ≡ true → EndsScrub (core_at new) how → ⊥) → may_scrub (core_at old) ≡ true → EndsScrub (core_at old) how → ⊥
-not-by-scrub old new how s n = to-old old new s.job s.journal (λ j c. may_scrub c ≡ true → EndsScrub c how → ⊥) n
-
-pub is-in-place : (old new : CoreOf) (how : How) (place : InPlace) → Same old new → IsInPlace new.job (core_at new) how place → IsInPlace old.job (core_at old) how place
-is-in-place old new how place s n = to-old old new s.job s.journal (λ j c. IsInPlace j c how place) n
-
 -- ---- what a vote, a free or a scrub came to, and the entry
 
 module _ (old new : CoreOf) (entry came : Entry) (answer : Option Why) (lent : List (Option LentOf)) (wrote : ℕ) (f : Follows old lent wrote) (same : IsUnless came entry answer) where

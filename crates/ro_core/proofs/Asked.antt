@@ -9,10 +9,12 @@ use Rattle.ro_journal.specs.declared.losers.Lost.{Lost}
 use Rattle.ro_kernel.specs.Kernel.{lives_on}
 use Rattle.ro_replica.specs.Replica.{Replica}
 use Rattle.ro_replica.specs.Views.{is_unstopped}
+use Rattle.ro_legal.specs.declared.actions.Action.{Action}
 use Rattle.ro_legal.specs.declared.actions.Action.TheVariants.{Vote, Free, Lend}
+use Rattle.ro_legal.specs.Streaks.{comes_last}
 use Rattle.ro_legal.specs.Core.{Job, Core, is_going, nothing_lent, is_home, is_lendable, may_vote, may_free}
 use Rattle.ro_legal.specs.Legal.{any_below, is_stuck, MayVote, EndsVote, may_scrub, MayScrub, EndsScrub}
-use Rattle.ro_legal.specs.Action.{or_else, lowest_below, map_action, threads_made, lend_in, lend_next, first_action}
+use Rattle.ro_legal.specs.Action.{or_else, lowest_below, map_action, threads_made, is_turn, may_vote_in, may_lend_in, lend_in, lend_turn, lend_next, first_action}
 use Rattle.ro_core.specs.Fields.{Fields, state_in, Holds}
 use Rattle.ro_core.proofs.Tests.{any-lowest, count-is, lend-test, lends-none}
 use Rattle.ro_legal.proofs.Nexts.{found_below}
@@ -68,44 +70,86 @@ any-turned : (n m : ℕ) (test : ℕ → ℕ → Bool) → any_below m (λ k. an
 any-turned zero m test = any-never m
 any-turned (suc n) m test = any-either m (λ k. any_below n (λ j. test j k)) (test n) ∙ ap (λ (b : Bool). b || any_below m (test n)) (any-turned n m test)
 
--- nothing can be lent where no thread of any replica can
-none-lent : (core : Core) → is_none (lend_next core) ≡ not (any_below (threads_made core) (λ thread. any_below (length core.replicas) (λ replica. is_lendable core replica thread)))
-none-lent core = sym (ap not (any-turned (length core.replicas) (threads_made core) (is_lendable core)) ∙ ap not (any-lowest (lend-test core) (length core.replicas)) ∙ by (lowest_below (length core.replicas) (lend-test core)) refl)
+any-same : (n : ℕ) (one other : ℕ → Bool) → ((k : ℕ) → one k ≡ other k) → any_below n one ≡ any_below n other
+any-same zero one other same = refl
+any-same (suc n) one other same = ap (λ (b : Bool). b || one n) (any-same n one other same) ∙ ap (λ (b : Bool). any_below n other || b) (same n)
+
+-- a test of the thread that comes last, and of all others
+any-turn : (core : Core) (n : ℕ) (test : ℕ → Bool) → (any_below n (λ thread. is_turn core false thread && test thread) || any_below n (λ thread. is_turn core true thread && test thread)) ≡ any_below n test
+any-turn core n test =
+    sym (any-either n (λ thread. is_turn core false thread && test thread) (λ thread. is_turn core true thread && test thread))
+    ∙ any-same n (λ thread. (is_turn core false thread && test thread) || (is_turn core true thread && test thread)) test (λ t. either (comes_last core.streak t) (test t))
   where
-    threads : (replica : ℕ) (o : Option ℕ) → lowest_below (threads_made core) (is_lendable core replica) ≡ o → lend-test core replica ≡ true → false ≡ is_none (map_action (λ thread. Lend replica thread) o)
-    threads replica None e some = absurd (true≢false (sym some ∙ lends-none core replica e))
+    either : (last b : Bool) → ((not last && b) || (last && b)) ≡ b
+    either true b = refl
+    either false true = refl
+    either false false = refl
+
+-- nothing of these threads can be lent where none of any replica can
+none-in-turn : (core : Core) (last : Bool) → is_some (lend_turn core last) ≡ any_below (length core.replicas) (lend-test core last)
+none-in-turn core last = sym (any-lowest (lend-test core last) (length core.replicas) ∙ by (lowest_below (length core.replicas) (lend-test core last)) refl)
+  where
+    threads : (replica : ℕ) (o : Option ℕ) → lowest_below (threads_made core) (may_lend_in core last replica) ≡ o → lend-test core last replica ≡ true → true ≡ is_some (map_action (λ thread. Lend replica thread) o)
+    threads replica None e some = absurd (true≢false (sym some ∙ lends-none core last replica e))
     threads replica (Some thread) e some = refl
 
-    by : (o : Option ℕ) → lowest_below (length core.replicas) (lend-test core) ≡ o → not (is_some o) ≡ is_none (lend_in core o)
+    by : (o : Option ℕ) → lowest_below (length core.replicas) (lend-test core last) ≡ o → is_some o ≡ is_some (lend_in core last o)
     by None e = refl
-    by (Some replica) e = threads replica (lowest_below (threads_made core) (is_lendable core replica)) refl (found_below (length core.replicas) (lend-test core) replica e)
+    by (Some replica) e = threads replica (lowest_below (threads_made core) (may_lend_in core last replica)) refl (found_below (length core.replicas) (lend-test core last) replica e)
+
+-- nothing can be lent where no thread of any replica can
+none-lent : (core : Core) → is_some (lend_next core) ≡ any_below (threads_made core) (λ thread. any_below (length core.replicas) (λ replica. is_lendable core replica thread))
+none-lent core =
+    either (lend_turn core false) (lend_turn core true)
+    ∙ ap (λ (b : Bool). b || is_some (lend_turn core true)) (none-in-turn core false)
+    ∙ ap (λ (b : Bool). any_below (length core.replicas) (lend-test core false) || b) (none-in-turn core true)
+    ∙ sym (any-either (length core.replicas) (lend-test core false) (lend-test core true))
+    ∙ any-same (length core.replicas) (λ replica. lend-test core false replica || lend-test core true replica) (λ replica. any_below (threads_made core) (is_lendable core replica)) (λ r. any-turn core (threads_made core) (is_lendable core r))
+    ∙ sym (any-turned (length core.replicas) (threads_made core) (is_lendable core))
+  where
+    either : (a b : Option Action) → is_some (or_else a b) ≡ (is_some a || is_some b)
+    either None b = refl
+    either (Some x) b = refl
+
+some-none : {X : Type 0} (o : Option X) → is_none o ≡ not (is_some o)
+some-none None = refl
+some-none (Some x) = refl
 
 -- so the replicas may be scrubbed where nothing is lent and nothing can be
 pub scrub-by-lending : (core : Core) (idle none : Bool) → idle ≡ (is_going core && nothing_lent core) → none ≡ is_none (lend_next core) → (idle && none) ≡ may_scrub core
-scrub-by-lending core idle none e f = ap (λ (b : Bool). b && none) e ∙ ap (λ (b : Bool). is_going core && nothing_lent core && b) (f ∙ none-lent core)
+scrub-by-lending core idle none e f = ap (λ (b : Bool). b && none) e ∙ ap (λ (b : Bool). is_going core && nothing_lent core && b) (f ∙ some-none (lend_next core) ∙ ap not (none-lent core))
 
 -- nothing can be done where nothing can be freed, voted on or lent
-none-first : (job : Job) (core : Core) → is_none (first_action job core) ≡ not (any_below (threads_made core) (λ thread. may_vote core thread || may_free job core thread || any_below (length core.replicas) (λ replica. is_lendable core replica thread)))
+none-first : (job : Job) (core : Core) → is_some (first_action job core) ≡ any_below (threads_made core) (λ thread. may_vote core thread || may_free job core thread || any_below (length core.replicas) (λ replica. is_lendable core replica thread))
 none-first job core =
-    by (lowest_below (threads_made core) (may_free job core)) (lowest_below (threads_made core) (may_vote core))
-    ∙ sym (ap not (
-    any-either (threads_made core) (λ thread. may_vote core thread || may_free job core thread) lends
-    ∙ ap (λ (b : Bool). b || any_below (threads_made core) lends) (
-    any-either (threads_made core) (may_vote core) (may_free job core)
-    ∙ ap (λ (b : Bool). b || any_below (threads_made core) (may_free job core)) (any-lowest (may_vote core) (threads_made core))
-    ∙ ap (λ (b : Bool). is_some (lowest_below (threads_made core) (may_vote core)) || b) (any-lowest (may_free job core) (threads_made core)))))
+    by (lowest_below made (may_free job core)) (lowest_below made (may_vote_in core false)) (lowest_below made (may_vote_in core true)) (lend_turn core false) (lend_turn core true)
+    ∙ ap (λ (b : Bool). ((is_some (lowest_below made (may_vote_in core false)) || is_some (lowest_below made (may_vote_in core true))) || is_some (lowest_below made (may_free job core))) || b) (none-lent core)
+    ∙ ap (λ (b : Bool). ((b || is_some (lowest_below made (may_vote_in core true))) || is_some (lowest_below made (may_free job core))) || any_below made lends) (sym (any-lowest (may_vote_in core false) made))
+    ∙ ap (λ (b : Bool). ((any_below made (may_vote_in core false) || b) || is_some (lowest_below made (may_free job core))) || any_below made lends) (sym (any-lowest (may_vote_in core true) made))
+    ∙ ap (λ (b : Bool). (b || is_some (lowest_below made (may_free job core))) || any_below made lends) (any-turn core made (may_vote core))
+    ∙ ap (λ (b : Bool). (any_below made (may_vote core) || b) || any_below made lends) (sym (any-lowest (may_free job core) made))
+    ∙ sym (
+    any-either made (λ thread. may_vote core thread || may_free job core thread) lends
+    ∙ ap (λ (b : Bool). b || any_below made lends) (any-either made (may_vote core) (may_free job core)))
   where
+    made : ℕ
+    made = threads_made core
+
     lends : ℕ → Bool
     lends thread = any_below (length core.replicas) (λ replica. is_lendable core replica thread)
 
-    by : (free vote : Option ℕ) → is_none (or_else (map_action Free free) (or_else (map_action Vote vote) (lend_next core))) ≡ not ((is_some vote || is_some free) || any_below (threads_made core) lends)
-    by (Some f) None = refl
-    by (Some f) (Some v) = refl
-    by None (Some v) = refl
-    by None None = none-lent core
+    by : (free vote own : Option ℕ) (lend last : Option Action) → is_some (or_else (map_action Free free) (or_else (or_else (map_action Vote vote) lend) (or_else (map_action Vote own) last))) ≡ (((is_some vote || is_some own) || is_some free) || is_some (or_else lend last))
+    by (Some f) (Some v) own lend last = refl
+    by (Some f) None (Some o) lend last = refl
+    by (Some f) None None lend last = refl
+    by None (Some v) own lend last = refl
+    by None None (Some o) (Some l) last = refl
+    by None None (Some o) None last = refl
+    by None None None (Some l) last = refl
+    by None None None None last = refl
 
 pub stuck-by-first : (job : Job) (core : Core) (idle none : Bool) → idle ≡ (is_going core && nothing_lent core) → none ≡ is_none (first_action job core) → (idle && none) ≡ is_stuck job core
-stuck-by-first job core idle none e f = ap (λ (b : Bool). b && none) e ∙ ap (λ (b : Bool). is_going core && nothing_lent core && b) (f ∙ none-first job core)
+stuck-by-first job core idle none e f = ap (λ (b : Bool). b && none) e ∙ ap (λ (b : Bool). is_going core && nothing_lent core && b) (f ∙ some-none (first_action job core) ∙ ap not (none-first job core))
 
 -- what is not something is nothing
 pub none-by-some : {X : Type 0} (o : Option X) (none : Bool) → is_some o ≡ not none → none ≡ is_none o

@@ -12,6 +12,7 @@ use Rattle.ro_plain.specs.Machine.{setup_of}
 use Rattle.ro_replica.specs.Replica.{Replica, opening_replica}
 use Rattle.ro_replica.specs.Seen.{ReplicaOf, IsOpening}
 use Rattle.ro_settings.specs.Ranges.{InRange}
+use Rattle.ro_legal.specs.Streaks.{no_streak}
 use Rattle.ro_legal.specs.Core.{Job, Core, opening_replicas, opening_core}
 use Rattle.ro_legal.specs.Legal.{Legal, replay}
 use Rattle.ro_core.specs.Seen.{sent_of}
@@ -55,10 +56,10 @@ nothing-blocked (suc n) (suc thread) = nothing-blocked n thread
 
 pub opening-holds : (f : Fields) → InRange f.job.settings → f.journal ≡ [] → AreFirst f.job.program.image f.job.faults f.job.settings.watchdog f.seats → length f.seats ≡ f.job.settings.replicas
     → f.leases ≡ [] → f.kernel.setup ≡ setup_of f.job.program → f.kernel.kernel ≡ opening_kernel f.job.program.image.heap
-    → f.blocked ≡ replicate 16 None → f.steps ≡ 0 → f.scrubbed ≡ 0 → f.due ≡ None → f.ended ≡ None → f.sent ≡ 0
+    → f.blocked ≡ replicate 16 None → f.steps ≡ 0 → f.scrubbed ≡ 0 → f.streak ≡ no_streak → f.due ≡ None → f.ended ≡ None → f.sent ≡ 0
     → length f.views ≡ f.job.settings.replicas → NoneStands f.job.settings.replicas f.groups → 1 ≤ f.places → Holds f
 unfolding opening_core
-opening-holds f in_range journal first count leases setup kernel blocked steps scrubbed due ended sent views none room =
+opening-holds f in_range journal first count leases setup kernel blocked steps scrubbed streak due ended sent views none room =
     let core : replay f.job f.journal ≡ opening_core f.job = ap (replay f.job) journal in
     record {
       in_range = in_range;
@@ -70,6 +71,7 @@ opening-holds f in_range journal first count leases setup kernel blocked steps s
       blocked_are = λ t. ap (λ (bs : List (Option Call)). blocked_at bs t) blocked ∙ nothing-blocked 16 t ∙ sym (ap (λ (x : Core). x.blocked t) core);
       steps_are = steps ∙ sym (ap (λ (x : Core). x.steps) core);
       scrubbed_are = scrubbed ∙ sym (ap (λ (x : Core). x.scrubbed) core);
+      streak_is = streak ∙ sym (ap (λ (x : Core). x.streak) core);
       counts = record {
         sent_are = sent ∙ ap (λ (x : Core). length x.output) (sym core) ∙ ap (λ (o : Option ℕ). length (sent_of f.job f.journal o)) (sym (ap failed_of due));
         few = omega arith;

@@ -32,10 +32,10 @@ module _ (f : Fields) (h : Holds f) (how : How) (going : is_going (state_in f) �
     pub conclude-sent : sent_of f.job (f.journal ++ End how ∷ []) (failed_of f.due) ≡ sent_of f.job f.journal (failed_of f.due)
     conclude-sent = ap (sent_of f.job (f.journal ++ End how ∷ [])) concluding.not_failed ∙ conclude-output
 
-    pub conclude-holds : (f' : Fields) → f'.job ≡ f.job → f'.kernel ≡ f.kernel → f'.blocked ≡ f.blocked → f'.steps ≡ f.steps → f'.scrubbed ≡ f.scrubbed → f'.seats ≡ f.seats → f'.groups ≡ f.groups → f'.leases ≡ f.leases → f'.due ≡ f.due → f'.ended ≡ Some how → f'.sent ≡ f.sent
+    pub conclude-holds : (f' : Fields) → f'.job ≡ f.job → f'.kernel ≡ f.kernel → f'.blocked ≡ f.blocked → f'.steps ≡ f.steps → f'.scrubbed ≡ f.scrubbed → f'.streak ≡ f.streak → f'.seats ≡ f.seats → f'.groups ≡ f.groups → f'.leases ≡ f.leases → f'.due ≡ f.due → f'.ended ≡ Some how → f'.sent ≡ f.sent
         → f'.journal ≡ f.journal ++ End how ∷ [] → f.places ≡ f'.places + 1 → KeepsViews f.job (f.journal ++ End how ∷ []) f'.views → Holds f'
-    conclude-holds f' job kernel blocked steps scrubbed seats groups leases due ended sent journal less kept =
-        ended-holds f f' h how concluding.not_ended conclude-allowed conclude-output kept job kernel blocked steps scrubbed seats groups leases (due ∙ concluding.not_due) ended sent journal less
+    conclude-holds f' job kernel blocked steps scrubbed streak seats groups leases due ended sent journal less kept =
+        ended-holds f f' h how concluding.not_ended conclude-allowed conclude-output kept job kernel blocked steps scrubbed streak seats groups leases (due ∙ concluding.not_due) ended sent journal less
 
 -- an end writes nothing
 pub ended-wrote : (old new : Run) (how : How) → WithAnySink (λ o n. Appends o n (End how)) old new → WithAnySink Quiet old new → LastWrote (fields_of new) (sent_in (fields_of old)) []

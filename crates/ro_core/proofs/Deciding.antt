@@ -8,20 +8,17 @@ use Rattle.ro_journal.specs.declared.How.TheVariants.{Deadlock, Sink}
 use Rattle.ro_journal.specs.declared.Entry.{Entry}
 use Rattle.ro_journal.specs.declared.Entry.TheVariants.{Vote, Free, Scrub, End}
 use Rattle.ro_journal.specs.Plan.{outcome_of}
-use Rattle.ro_legal.specs.declared.actions.Action.TheVariants.{Vote as DoVote, Free as DoFree, Scrub as DoScrub, End as DoEnd, Over}
+use Rattle.ro_legal.specs.declared.actions.Action.TheVariants.{Vote as DoVote, Free as DoFree, Scrub as DoScrub, End as DoEnd}
 use Rattle.ro_legal.specs.Core.{Job, Core, is_going}
 use Rattle.ro_legal.specs.Event.{with_recovered}
 use Rattle.ro_legal.specs.Legal.{IsAllowed, EndsVote, EndsFree, event_in, freed_event, after, replay, replay_with, output_of, EndsScrub}
 use Rattle.ro_legal.specs.Action.{next_action, IsNext}
 use Rattle.ro_core.specs.Seen.{CoreOf, state, sent, sent_of, Appends, Quiet, Sends}
 use Rattle.ro_legal.specs.Decides.{DecidesVote, DecidesFree, DecidesScrub}
-use Rattle.ro_core.proofs.Held.{with-ended}
 use Rattle.ro_legal.proofs.Leases.{event_leases}
-use Rattle.ro_legal.proofs.Outcomes.{ended_is_outcome}
-use Rattle.ro_legal.proofs.Nexts.{vote_next, free_next, scrub_next, end_is, over_is_next}
+use Rattle.ro_legal.proofs.Nexts.{vote_next, free_next, scrub_next, end_is}
 use Rattle.ro_legal.specs.Sound.{IsOver}
 use Rattle.ro_core.specs.Driven.{IsDriven, IsHome, HasFailed, Goes}
-use Rattle.ro_legal.proofs.Lasts.{ended_cut}
 use Rattle.ro_legal.proofs.Ordered.{ordered, scrub-parts}
 use Rattle.ro_legal.proofs.Journals.{outcome_of-append}
 use Rattle.ro_core.proofs.LastViews.{going_open, end_open}
@@ -200,17 +197,3 @@ module _ (old new : CoreOf) (how : How) (driven : IsDriven old) (next : next_act
 
 pub calm_sent : (core : CoreOf) → core.failed ≡ None → sent core ≡ output_of core.job core.journal
 calm_sent core calm = ap (sent_of core.job core.journal) calm
-
--- behind the end
-pub over_sent : (core : CoreOf) → IsDriven core → next_action core.job (state core) ≡ Over → sent core ≡ output_of core.job core.journal
-over_sent core driven next = by core.failed refl
-  where
-    by : (o : Option ℕ) → core.failed ≡ o → sent core ≡ output_of core.job core.journal
-    by None e = calm_sent core e
-    by (Some bytes) e =
-        let over = over_is_next core.job (state core) next in
-        ap (sent_of core.job core.journal) e ∙ ended_cut core.job core.journal bytes driven.legal (subst (λ (o : Option How). IsSome o) (with-ended core.job core.journal core.failed) over)
-
--- all is over behind an end alone
-pub over_outcome : (core : CoreOf) → IsDriven core → next_action core.job (state core) ≡ Over → IsSome (outcome_of core.journal)
-over_outcome core driven next = subst (λ (o : Option How). IsSome o) (with-ended core.job core.journal core.failed ∙ ended_is_outcome core.job core.journal driven.legal) (over_is_next core.job (state core) next)

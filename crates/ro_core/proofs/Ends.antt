@@ -32,10 +32,10 @@ end-seated job core seats how h = record { count = h.count; each = λ number. by
 
 -- the fields behind an end that sends nothing more
 pub ended-holds : (f f' : Fields) → Holds f → (how : How) → f.ended ≡ None → MayEnd f.job (core_in f) how → output_of f.job (f.journal ++ End how ∷ []) ≡ sent_of f.job f.journal (failed_of f.due) → KeepsViews f.job (f.journal ++ End how ∷ []) f'.views
-    → f'.job ≡ f.job → f'.kernel ≡ f.kernel → f'.blocked ≡ f.blocked → f'.steps ≡ f.steps → f'.scrubbed ≡ f.scrubbed → f'.seats ≡ f.seats → f'.groups ≡ f.groups → f'.leases ≡ f.leases → f'.due ≡ None → f'.ended ≡ Some how → f'.sent ≡ f.sent
+    → f'.job ≡ f.job → f'.kernel ≡ f.kernel → f'.blocked ≡ f.blocked → f'.steps ≡ f.steps → f'.scrubbed ≡ f.scrubbed → f'.streak ≡ f.streak → f'.seats ≡ f.seats → f'.groups ≡ f.groups → f'.leases ≡ f.leases → f'.due ≡ None → f'.ended ≡ Some how → f'.sent ≡ f.sent
     → f'.journal ≡ f.journal ++ End how ∷ [] → f.places ≡ f'.places + 1 → Holds f'
 unfolding after
-ended-holds f f' h how none allowed output kept job kernel blocked steps scrubbed seats groups leases due ended sent journal less = holds-step f f' (End how) h (sym h.ended_is ∙ none, allowed) (record {
+ended-holds f f' h how none allowed output kept job kernel blocked steps scrubbed streak seats groups leases due ended sent journal less = holds-step f f' (End how) h (sym h.ended_is ∙ none, allowed) (record {
   job = job;
   journal = journal;
   leases = leases ∙ h.leases_are;
@@ -45,6 +45,7 @@ ended-holds f f' h how none allowed output kept job kernel blocked steps scrubbe
   blocked = λ t. ap (λ (bs : List (Option Call)). blocked_at bs t) blocked ∙ h.blocked_are t;
   steps = steps ∙ h.steps_are;
   scrubbed = scrubbed ∙ h.scrubbed_are;
+  streak = streak ∙ h.streak_is;
   counts = same-counts f f' h sent steps (ap (λ (js : List Entry). sent_of f.job js (failed_of f'.due)) journal ∙ ap (λ (o : Option How). sent_of f.job (f.journal ++ End how ∷ []) (failed_of o)) due ∙ output);
   due = inl due;
   not_sink = λ bytes e. absurd (let g : None ≡ Some (Sink bytes) = sym due ∙ e in cc);
@@ -155,8 +156,8 @@ module _ (f : Fields) (h : Holds f) (how : How) (now : EndsNow f.job (state_in f
   pub end-room : 0 < f.places
   end-room = let e : one_end f.ended ≡ 1 = ap one_end ended-none in let k = h.room in omega arith
 
-  pub end-holds : (f' : Fields) → f'.job ≡ f.job → f'.kernel ≡ f.kernel → f'.blocked ≡ f.blocked → f'.steps ≡ f.steps → f'.scrubbed ≡ f.scrubbed → f'.seats ≡ f.seats → f'.groups ≡ f.groups → f'.leases ≡ f.leases → f'.due ≡ None → f'.ended ≡ Some how → f'.sent ≡ f.sent
+  pub end-holds : (f' : Fields) → f'.job ≡ f.job → f'.kernel ≡ f.kernel → f'.blocked ≡ f.blocked → f'.steps ≡ f.steps → f'.scrubbed ≡ f.scrubbed → f'.streak ≡ f.streak → f'.seats ≡ f.seats → f'.groups ≡ f.groups → f'.leases ≡ f.leases → f'.due ≡ None → f'.ended ≡ Some how → f'.sent ≡ f.sent
       → f'.journal ≡ f.journal ++ End how ∷ [] → f.places ≡ f'.places + 1 → Holds f'
-  end-holds f' job kernel blocked steps scrubbed seats groups leases due ended sent journal less =
+  end-holds f' job kernel blocked steps scrubbed streak seats groups leases due ended sent journal less =
       ended-holds f f' h how ended-none end-allowed.0 end-sent (not-split f.job _ f'.views how (outcome_of-append f.journal (End how ∷ []) (no-outcome f h ended-none)) not-by-views.0 not-by-views.1)
-      job kernel blocked steps scrubbed seats groups leases due ended sent journal less
+      job kernel blocked steps scrubbed streak seats groups leases due ended sent journal less

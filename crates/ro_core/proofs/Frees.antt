@@ -25,7 +25,8 @@ use Rattle.ro_legal.proofs.FaultStops.{fault-stops}
 use Rattle.ro_core.proofs.Held.{Goes, goes}
 use Rattle.ro_legal.proofs.Happens.{Happens, call-happens}
 use Rattle.ro_legal.proofs.Ordered.{FreeParts, free-parts, freed-is, freed-steps, ordered}
-use Rattle.ro_core.proofs.Votes.{lives-within, no-page, same-state}
+use Rattle.ro_core.proofs.Tests.{lives-within}
+use Rattle.ro_core.proofs.Votes.{no-page, same-state}
 use Rattle.ro_legal.proofs.Served.{serve-tidy}
 
 module _ (f : Fields) (h : Holds f) (thread : ℕ) (may : may_free f.job (state_in f) thread ≡ true) where
@@ -53,9 +54,6 @@ module _ (f : Fields) (h : Holds f) (thread : ℕ) (may : may_free f.job (state_
   -- the call that the code has for it
   pub free-call : (call : Call) → blocked_at f.blocked thread ≡ Some call → (core_in f).blocked thread ≡ Some call
   free-call call e = sym (h.blocked_are thread) ∙ e
-
-  pub free-there : blocked_at f.blocked thread ≡ Some parts.call
-  free-there = h.blocked_are thread ∙ parts.blocked_on
 
   pub free-live : lives_on f.kernel.kernel thread ≡ true
   free-live = ap (λ (k : Kernel). lives_on k thread) h.kernel_is ∙ (ordered f.job f.journal h.legal).blocked_live parts.not_due parts.not_ended thread parts.call parts.blocked_on

@@ -38,6 +38,10 @@ module _ (job : Job) (journal : List Entry) where
   with-replicas None = refl
   with-replicas (Some n) = refl
 
+  pub with-streak : (o : Option ℕ) → (replay_with job journal o).streak ≡ (replay job journal).streak
+  with-streak None = refl
+  with-streak (Some n) = refl
+
   pub with-ended : (o : Option ℕ) → (replay_with job journal o).ended ≡ (replay job journal).ended
   with-ended None = refl
   with-ended (Some n) = refl
@@ -98,6 +102,7 @@ pub record Becomes (f f' : Fields) (entry : Entry) : Type 0 where
   pub blocked : (thread : ℕ) → blocked_at f'.blocked thread ≡ (after f.job (core_in f) entry).blocked thread
   pub steps : f'.steps ≡ (after f.job (core_in f) entry).steps
   pub scrubbed : f'.scrubbed ≡ (after f.job (core_in f) entry).scrubbed
+  pub streak : f'.streak ≡ (after f.job (core_in f) entry).streak
   pub counts : CountsBytes f'.sent f'.steps (sent_of f.job f'.journal (failed_of f'.due))
   pub due : (f'.due ≡ (after f.job (core_in f) entry).due) ⊎ ((bytes : ℕ) × (f'.due ≡ Some (Sink bytes)))
   pub not_sink : (bytes : ℕ) → f'.due ≡ Some (Sink bytes) → (bytes < (after f.job (core_in f) entry).wrote) × (is_going (after f.job (core_in f) entry) ≡ true)
@@ -133,6 +138,7 @@ module _ (f f' : Fields) (entry : Entry) (h : Holds f) (allowed : IsAllowed f.jo
     blocked_are = λ t. b.blocked t ∙ sym (ap (λ (c : Core). c.blocked t) core_is);
     steps_are = b.steps ∙ sym (ap (λ (c : Core). c.steps) core_is);
     scrubbed_are = b.scrubbed ∙ sym (ap (λ (c : Core). c.scrubbed) core_is);
+    streak_is = b.streak ∙ sym (ap (λ (c : Core). c.streak) core_is);
     counts = subst (λ (j : Job). CountsBytes f'.sent f'.steps (sent_of j f'.journal (failed_of f'.due))) (sym b.job) b.counts;
     due_is = due_is (failed_of f'.due) refl b.due;
     ended_is = b.ended ∙ sym (ap (λ (c : Core). c.ended) core_is);

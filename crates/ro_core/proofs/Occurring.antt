@@ -8,12 +8,13 @@ use Rattle.ro_kernel.specs.State.{State}
 use Rattle.ro_settings.proofs.Counts.{few-replicas}
 use Rattle.ro_core.specs.declared.runs.Run.{Run}
 use Rattle.ro_core.specs.declared.voting.Occurrence.{Occurrence}
+use Rattle.ro_legal.specs.Streaks.{after_event}
 use Rattle.ro_legal.specs.Core.{Job, Core, is_going}
 use Rattle.ro_legal.specs.Event.{Event, event_of, all_applied, core_after}
 use Rattle.ro_legal.specs.Legal.{replay, output_of}
 use Rattle.ro_core.specs.Seen.{sent_of}
 use Rattle.ro_legal.specs.Sound.{IsOrdered}
-use Rattle.ro_core.specs.Fields.{Fields, core_in, AreHome, CanTake, Holds}
+use Rattle.ro_core.specs.Fields.{Fields, core_in, blocked_at, AreHome, CanTake, Holds}
 use Rattle.ro_core.specs.Grouped.{AreGrouped}
 use Rattle.ro_core.specs.Happening.{event_by}
 use Rattle.ro_core.specs.Runs.{job_of, sent_in, payload_by, LastWrote, CanOccur}
@@ -23,7 +24,8 @@ use Rattle.ro_legal.proofs.Happens.{Happens, event-happens}
 use Rattle.ro_legal.proofs.Ordered.{ordered}
 use Rattle.ro_core.proofs.Sitting.{home-count}
 use Rattle.ro_core.proofs.Behind.{happened-unfailed, happened-sent, happened-holds, all-can-take}
-use Rattle.ro_core.proofs.Votes.{lives-within, live-few, payload-due, payload-few, writes-step, length-applied}
+use Rattle.ro_core.proofs.Tests.{lives-within}
+use Rattle.ro_core.proofs.Votes.{live-few, payload-due, payload-few, writes-step, length-applied}
 
 module _ (r : Run) (o : Occurrence) (can : CanOccur r o) where
   abbrev pub f : Fields
@@ -109,12 +111,13 @@ module _ (r : Run) (o : Occurrence) (can : CanOccur r o) where
 
   module _ (f' : Fields) (job : f'.job ≡ f.job) (journal : f'.journal ≡ f.journal ++ o.entry ∷ []) (due : f'.due ≡ o.event.due) where
     pub occurs-holds : AreHome f.job f'.seats (all_applied o.event.effect can.replicas) → AreGrouped (all_applied o.event.effect can.replicas) f'.groups → f'.leases ≡ f.leases → f'.kernel ≡ r.kernel → f'.blocked ≡ slice_set r.blocked o.thread o.event.blocked
-        → f'.steps ≡ r.steps + o.steps → f'.scrubbed ≡ r.scrubbed → f'.ended ≡ f.ended → f'.views ≡ f.views → f'.sent ≡ r.sent + length payload → 1 ≤ f'.places → Holds f'
-    occurs-holds home groups leases kernel blocked counted scrubbed ended views sent room =
+        → f'.steps ≡ r.steps + o.steps → f'.scrubbed ≡ r.scrubbed → f'.streak ≡ after_event r.streak o.thread (blocked_at r.blocked o.thread) → f'.ended ≡ f.ended → f'.views ≡ f.views → f'.sent ≡ r.sent + length payload → 1 ≤ f'.places → Holds f'
+    occurs-holds home groups leases kernel blocked counted scrubbed streak ended views sent room =
         happened-holds f f' h o.entry can.allowed o.thread can.count can.replicas event can.came goes-on can.alone happens occurs-few journal
         job home groups leases (ap (λ (k : State). k.setup) kernel ∙ can.amid.setup) (ap (λ (k : State). k.kernel) kernel)
         (blocked ∙ ap (λ bs. slice_set bs o.thread o.event.blocked) can.amid.blocked)
-        (let a = can.counted in let b = can.amid.steps in omega arith) (scrubbed ∙ can.amid.scrubbed) due ended
+        (let a = can.counted in let b = can.amid.steps in omega arith) (scrubbed ∙ can.amid.scrubbed)
+        (streak ∙ ap (λ s. after_event s o.thread (blocked_at r.blocked o.thread)) can.amid.streak ∙ ap (λ bs. after_event f.streak o.thread (blocked_at bs o.thread)) can.amid.blocked) due ended
         (ap length views ∙ h.views_count goes-on.not_ended ∙ h.seats_are.count ∙ (ordered f.job f.journal h.legal).replica_count ∙ sym many ∙ sym (length-applied o.event.effect can.replicas) ∙ sym (home-count f.job f'.seats (all_applied o.event.effect can.replicas) home))
         fits (let b = can.amid.sent in omega arith) can.no_end room
 

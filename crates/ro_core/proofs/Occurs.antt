@@ -13,11 +13,6 @@ brings-outcome outcome old new (Done effect) h = h.0
 brings-outcome outcome old new Blocked h = h.0
 brings-outcome outcome old new (Ends how) h = h.0
 
-pub brings-setup : (outcome : Outcome) (old new : State) (served : Served) → Brings outcome old new served → new.setup ≡ old.setup
-brings-setup outcome old new (Done effect) h = h.1
-brings-setup outcome old new Blocked h = ap (λ (s : State). s.setup) h.1
-brings-setup outcome old new (Ends how) h = h.1
-
 pub brings-blocked : (outcome : Outcome) (old new : State) (served : Served) → Brings outcome old new served → served ≡ Blocked → new.kernel ≡ old.kernel
 brings-blocked outcome old new (Done effect) h e = absurd (let f : Done effect ≡ Blocked = e in cc)
 brings-blocked outcome old new Blocked h e = ap (λ (s : State). s.kernel) h.1

@@ -1,5 +1,5 @@
 -- How many bytes the writes of a run have in all.
-use Rattle.std.proofs.Common.{◌≡◌, ◌≢◌, ◌⊎◌, inl, inr, ℕ, ◌+◌, ◌<◌, ◌≤◌, true, List, [], ◌∷◌, ◌++◌, length, Option, Some, None, refl, sym, ap, ◌∙◌, subst, arith, length-append}
+use Rattle.std.proofs.Common.{◌≡◌, ◌≢◌, ◌⊎◌, inl, inr, ℕ, ◌+◌, ◌<◌, ◌≤◌, List, [], ◌∷◌, ◌++◌, length, Option, Some, None, refl, sym, ap, ◌∙◌, arith, length-append}
 use Rattle.ro_journal.specs.declared.How.{How}
 use Rattle.ro_journal.specs.declared.Entry.{Entry}
 use Rattle.ro_journal.specs.declared.Entry.TheVariants.{Take, Put, Vote, Free, Scrub, End}
@@ -7,14 +7,14 @@ use Rattle.ro_journal.specs.Plan.{outcome_of}
 use Rattle.ro_journal.specs.Losers.{numbers}
 use Rattle.ro_replica.specs.Replica.{Replica}
 use Rattle.ro_replica.specs.Runs.{RanTo}
-use Rattle.ro_legal.specs.Core.{Job, Core, is_going}
+use Rattle.ro_legal.specs.Core.{Job, Core}
 use Rattle.ro_legal.specs.Event.{Event, with_recovered}
 use Rattle.ro_legal.specs.Legal.{lease_run, core_after_put, core_after_event, event_in, freed_event, after, replay, output_of}
 use Rattle.ro_legal.proofs.Journals.{replay_more}
 use Rattle.ro_legal.proofs.Ordered.{going-parts}
 use Rattle.ro_core.specs.Seen.{before_end, offered_by, sent_of}
-use Rattle.ro_core.specs.Fields.{failed_of, Fields, core_in, Holds}
-use Rattle.ro_core.specs.Runs.{sent_in, LastWrote}
+use Rattle.ro_core.specs.Fields.{Fields, core_in, Holds}
+use Rattle.ro_core.specs.Runs.{LastWrote}
 use Rattle.ro_core.proofs.Held.{fields-outcome}
 
 -- ---- an entry that is no end takes nothing back

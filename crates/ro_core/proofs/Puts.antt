@@ -140,6 +140,7 @@ module _ (f : Fields) (h : Holds f) (driver replica thread count hit : ℕ) (all
         blocked = λ t. ap (λ (bs : List (Option Call)). blocked_at bs t) r.blocked ∙ h.blocked_are t ∙ sym (ap (λ (c : Core). c.blocked t) is);
         steps = r.steps ∙ h.steps_are ∙ sym (ap (λ (c : Core). c.steps) is);
         scrubbed = r.scrubbed ∙ h.scrubbed_are ∙ sym (ap (λ (c : Core). c.scrubbed) is);
+        streak = r.streak ∙ h.streak_is ∙ sym (ap (λ (c : Core). c.streak) is);
         counts = same-counts f f' h r.sent r.steps (by-put f' journal r.due);
         due = inl (r.due ∙ h.due_is ∙ ap (λ (c : Core). c.due) put-same ∙ sym (ap (λ (c : Core). c.due) is));
         not_sink = λ bytes e. absurd (let g : None ≡ Some (Sink bytes) = sym put-not-due ∙ sym r.due ∙ e in cc);

@@ -43,10 +43,6 @@ module _ (bytes : List ℕ) (held held' : Option (List ℕ)) (failures failures'
   took-rose None t = tt
   took-rose (Some n) t = t.part.2
 
-  pub took-within : (failed : Option ℕ) → Takes failed → IfSome failed (λ n. n < length bytes)
-  took-within None t = tt
-  took-within (Some n) t = t.part.0
-
   took-left : (failed : Option ℕ) → Takes failed → failed ≡ None → sure ≤ sure' + length (bytes_by failed bytes)
   took-left None t e = t.left refl
   took-left (Some n) t e = absurd (let f : Some n ≡ None = e in cc)

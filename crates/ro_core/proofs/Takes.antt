@@ -44,6 +44,7 @@ pub record Rest (f f' : Fields) : Type 0 where
   pub blocked : f'.blocked ≡ f.blocked
   pub steps : f'.steps ≡ f.steps
   pub scrubbed : f'.scrubbed ≡ f.scrubbed
+  pub streak : f'.streak ≡ f.streak
   pub sent : f'.sent ≡ f.sent
   pub due : f'.due ≡ f.due
   pub ended : f'.ended ≡ f.ended
@@ -90,6 +91,7 @@ module _ (f : Fields) (h : Holds f) (driver replica thread : ℕ) (allowed : May
     blocked = λ t. ap (λ (bs : List (Option Call)). blocked_at bs t) r.blocked ∙ h.blocked_are t;
     steps = r.steps ∙ h.steps_are;
     scrubbed = r.scrubbed ∙ h.scrubbed_are;
+    streak = r.streak ∙ h.streak_is;
     counts = same-counts f f' h r.sent r.steps (by-take f' journal r.due);
     due = inl (r.due ∙ take-goes.not_due ∙ sym (going-parts (core_in f) take-allowed.going).0);
     not_sink = λ bytes e. absurd (let g : None ≡ Some (Sink bytes) = sym take-goes.not_due ∙ sym r.due ∙ e in cc);

@@ -1,30 +1,39 @@
 -- What the core's tests say, from its fields.
 use Rattle.std.proofs.Common.{◌≡◌, ℕ, zero, suc, ◌+◌, ◌-◌, ◌<◌, Bool, true, false, true≢false, not, cond, ◌&&◌, ◌||◌, List, [], ◌∷◌, length, Option, Some, None, refl, sym, ap, ◌∙◌, subst, arith}
 use Rattle.std.specs.Prelude.{◌==◌, is_none, is_some, slice_get, slice_index_or}
-use Rattle.std.proofs.lemmas.Option.{slice_get-get_or}
+use Rattle.std.proofs.lemmas.Bool.{and_from, and_parts, and_left, and_right, eqb-true, eq-eqb, ne_eqb}
+use Rattle.std.proofs.lemmas.Option.{slice_get-get_or, slice_get_within}
 use Rattle.std.specs.List.{list_all, list_any}
-use Rattle.std.specs.Option.{option_map_or}
+use Rattle.std.specs.Option.{option_and_then, option_map_or}
 use Rattle.ro_event.specs.declared.calls.Call.{Call}
-use Rattle.ro_journal.specs.declared.How.{How}
-use Rattle.ro_kernel.specs.Kernel.{Kernel, lives_on}
+use Rattle.ro_event.specs.declared.stops.Stop.{Stop}
+use Rattle.ro_thread.specs.declared.Thread.{Thread}
+use Rattle.ro_kernel.specs.declared.Life.{Life}
+use Rattle.ro_kernel.specs.Kernel.{Kernel, live_option, lives_on}
 use Rattle.ro_kernel.specs.Serve.{blocks}
 use Rattle.ro_plain.specs.Machine.{setup_of}
 use Rattle.ro_replica.specs.Replica.{Replica, stop_of}
 use Rattle.ro_replica.specs.Views.{is_unstopped}
 use Rattle.ro_replica.specs.Seen.{ReplicaOf, replica_of}
-use Rattle.ro_legal.specs.declared.actions.Action.TheVariants.{Lend}
+use Rattle.ro_legal.specs.declared.actions.Action.TheVariants.{Lend, Vote as DoVote}
 use Rattle.ro_legal.specs.declared.actions.Lease.{Lease}
 use Rattle.ro_legal.specs.Core.{Job, Core, is_going, nothing_lent, is_home, is_lendable, may_vote, may_free}
 use Rattle.ro_legal.specs.Legal.{any_below, replay, replay_with}
-use Rattle.ro_legal.specs.Action.{or_else, lowest_below, map_action, threads_made, lend_in, lend_next}
+use Rattle.ro_legal.specs.declared.actions.Streak.{Streak}
+use Rattle.ro_legal.specs.Streaks.{is_long, comes_last}
+use Rattle.ro_legal.specs.Action.{or_else, lowest_below, map_action, threads_made, is_turn, may_vote_in, may_lend_in, lend_in, lend_turn, turn_next}
 use Rattle.ro_core.specs.Seen.{IsOfJob}
 use Rattle.ro_core.specs.Fields.{failed_of, Seated, AreSeated, AreHome, seat_unstopped, Fields, core_in, state_in, blocked_at, Holds}
 use Rattle.ro_core.specs.Grouped.{seat_stopped}
 use Rattle.ro_group.specs.Groups.{is_ready}
 use Rattle.ro_core.proofs.Grouped.{ready-all}
-use Rattle.ro_legal.proofs.Ordered.{ordered}
+use Rattle.ro_legal.proofs.Ordered.{ordered, vote-parts}
 use Rattle.ro_core.proofs.Sitting.{home-count}
-use Rattle.ro_core.proofs.Held.{with-leases, with-kernel, with-replicas, with-ended}
+use Rattle.ro_core.proofs.Held.{with-leases, with-kernel, with-replicas, with-ended, with-streak}
+
+told : (b : Bool) → not b ≡ false → b ≡ true
+told true e = refl
+told false e = absurd (true≢false e)
 
 -- ---- the lowest number that passes
 
@@ -45,6 +54,12 @@ lowest-found test n most less none passes =
     let far = stays-found test (suc n) (most - suc n) n here in
     ap (λ (j : ℕ). lowest_below j test) (let e : most ≡ suc n + (most - suc n) = omega arith in e) ∙ far
 
+-- none of the numbers below n passes
+lowest-none : (test : ℕ → Bool) (n : ℕ) → ((k : ℕ) → k < n → test k ≡ false) → lowest_below n test ≡ None
+lowest-none test zero fails = refl
+lowest-none test (suc n) fails =
+    ap (λ (o : Option ℕ). or_else o (cond (test n) (Some n) None)) (lowest-none test n (λ k less. fails k (omega arith))) ∙ ap (λ (b : Bool). cond b (Some n) None) (fails n (omega arith))
+
 lowest-never : (test : ℕ → Bool) (n : ℕ) → ((k : ℕ) → test k ≡ false) → lowest_below n test ≡ None
 lowest-never test zero never = refl
 lowest-never test (suc n) never =
@@ -55,9 +70,9 @@ pub none-freed : (job : Job) (core : Core) (n : ℕ) → (is_going core && nothi
 none-freed job core n busy =
     lowest-never (may_free job core) n (λ k. ap (λ (b : Bool). b && option_map_or (λ call. not (blocks (setup_of job.program) core.kernel k call)) (core.blocked k) false) busy)
 
-pub none-voted : (core : Core) (n : ℕ) → (is_going core && nothing_lent core) ≡ false → lowest_below n (may_vote core) ≡ None
-none-voted core n busy =
-    lowest-never (may_vote core) n (λ k. ap (λ (b : Bool). b && lives_on core.kernel k && is_none (core.blocked k) && list_all (λ replica. is_some (stop_of replica k)) core.replicas) busy)
+pub none-voted : (core : Core) (last : Bool) (n : ℕ) → (is_going core && nothing_lent core) ≡ false → lowest_below n (may_vote_in core last) ≡ None
+none-voted core last n busy =
+    lowest-never (may_vote_in core last) n (λ k. and_right (is_turn core last k) (may_vote core k) (ap (λ (b : Bool). b && lives_on core.kernel k && is_none (core.blocked k) && list_all (λ replica. is_some (stop_of replica k)) core.replicas) busy))
 
 -- a number that any passes
 pub any-lowest : (test : ℕ → Bool) (n : ℕ) → any_below n test ≡ is_some (lowest_below n test)
@@ -119,9 +134,6 @@ stopped-home job thread seats replicas h = absurd h
 -- ---- the tests
 
 module _ (f : Fields) (h : Holds f) where
-  pub going-is : (is_none f.due && is_none f.ended) ≡ is_going (state_in f)
-  going-is = ap (λ (o : Option How). is_none o && is_none f.ended) h.due_is ∙ ap (λ (o : Option How). is_none (state_in f).due && is_none o) (h.ended_is ∙ sym (with-ended f.job f.journal (failed_of f.due)))
-
   pub leases-are : (state_in f).leases ≡ f.leases
   leases-are = with-leases f.job f.journal (failed_of f.due) ∙ sym h.leases_are
 
@@ -134,6 +146,9 @@ module _ (f : Fields) (h : Holds f) where
 
   pub blocked-is : (thread : ℕ) → (state_in f).blocked thread ≡ blocked_at f.blocked thread
   blocked-is thread = with-blocked (failed_of f.due) thread ∙ sym (h.blocked_are thread)
+
+  pub streak-is : (state_in f).streak ≡ f.streak
+  streak-is = with-streak f.job f.journal (failed_of f.due) ∙ sym h.streak_is
 
   pub replicas-are : (state_in f).replicas ≡ (core_in f).replicas
   replicas-are = with-replicas f.job f.journal (failed_of f.due)
@@ -151,12 +166,6 @@ module _ (f : Fields) (h : Holds f) where
   -- and that of a free
   abbrev free-test : (thread : ℕ) → Bool → ℕ → Kernel → Option Call → Bool
   free-test thread going lent kernel call = going && (lent == 0) && option_map_or (λ c. not (blocks (setup_of f.job.program) kernel thread c)) call false
-
-  pub may-free-is : (thread : ℕ) → free-test thread (is_going (state_in f)) (length f.leases) f.kernel.kernel (blocked_at f.blocked thread) ≡ may_free f.job (state_in f) thread
-  may-free-is thread =
-      ap (λ (ls : List Lease). free-test thread (is_going (state_in f)) (length ls) f.kernel.kernel (blocked_at f.blocked thread)) (sym leases-are)
-      ∙ ap (λ (k : Kernel). free-test thread (is_going (state_in f)) (length (state_in f).leases) k (blocked_at f.blocked thread)) (sym kernel-is)
-      ∙ ap (λ (o : Option Call). free-test thread (is_going (state_in f)) (length (state_in f).leases) (state_in f).kernel o) (sym (blocked-is thread))
 
   -- and that of a lease
   pub is-lendable-is : (replica thread : ℕ) (seat : Option ReplicaOf) → slice_get f.seats replica ≡ Some seat → (seat_unstopped thread seat && lives_on f.kernel.kernel thread) ≡ is_lendable (state_in f) replica thread
@@ -194,22 +203,126 @@ module _ (f : Fields) (h : Holds f) where
   pub lendable-at : (replica thread : ℕ) → replica < length (state_in f).replicas → (seat_unstopped thread (slice_index_or f.seats replica None) && lives_on f.kernel.kernel thread) ≡ is_lendable (state_in f) replica thread
   lendable-at replica thread less = is-lendable-is replica thread (slice_index_or f.seats replica None) (slice_get-get_or f.seats replica None (seat-within replica less))
 
+  -- a thread that doesn't come last
+  pub turn-of : (thread : ℕ) → false ≡ comes_last f.streak thread → is_turn (state_in f) false thread ≡ true
+  turn-of thread e = ap not (ap (λ (s : Streak). comes_last s thread) streak-is ∙ sym e)
+
+  -- a thread that has exited, or stands still in every replica, can be lent in none
+  pub gone : (thread : ℕ) → lives_on f.kernel.kernel thread ≡ false → (replica : ℕ) → is_lendable (state_in f) replica thread ≡ false
+  gone thread dead replica =
+      and_left (is_home (state_in f) replica && lives_on (state_in f).kernel thread) (option_map_or (is_unstopped thread) (slice_get (state_in f).replicas replica) false)
+      (and_right (is_home (state_in f) replica) (lives_on (state_in f).kernel thread) (ap (λ (k : Kernel). lives_on k thread) kernel-is ∙ dead))
+
+  pub standing : (thread : ℕ) → not (is_ready f.groups thread) ≡ false → (replica : ℕ) → is_lendable (state_in f) replica thread ≡ false
+  standing thread ready replica =
+      and_right (is_home (state_in f) replica && lives_on (state_in f).kernel thread) (option_map_or (is_unstopped thread) (slice_get (state_in f).replicas replica) false)
+      (ap (λ (rs : List Replica). option_map_or (is_unstopped thread) (slice_get rs replica) false) replicas-are ∙ unstopped (core_in f).replicas replica (sym (ready-all (core_in f).replicas f.groups thread h.groups_are) ∙ told (is_ready f.groups thread) ready))
+    where
+      one : (r : Replica) → is_some (stop_of r thread) ≡ true → is_unstopped thread r ≡ false
+      one r e = by (slice_get r.threads thread) e
+        where
+          stop : (s : Option Stop) → is_some s ≡ true → is_none s ≡ false
+          stop None e = absurd (true≢false (sym e))
+          stop (Some x) e = refl
+
+          by : (o : Option Thread) → is_some (option_and_then (λ (t : Thread). t.stop) o) ≡ true → option_map_or (λ (t : Thread). is_none t.stop) o false ≡ false
+          by None e = refl
+          by (Some t) e = stop t.stop e
+
+      unstopped : (rs : List Replica) (n : ℕ) → list_all (λ (r : Replica). is_some (stop_of r thread)) rs ≡ true → option_map_or (is_unstopped thread) (slice_get rs n) false ≡ false
+      unstopped [] n all = refl
+      unstopped (r ∷ rs) zero all = one r (and_parts (is_some (stop_of r thread)) (list_all (λ (x : Replica). is_some (stop_of x thread)) rs) all).0
+      unstopped (r ∷ rs) (suc n) all = unstopped rs n (and_parts (is_some (stop_of r thread)) (list_all (λ (x : Replica). is_some (stop_of x thread)) rs) all).1
+
   -- there are as many replicas as settings say
   pub count-is : length (state_in f).replicas ≡ f.job.settings.replicas
   count-is = ap length replicas-are ∙ (ordered f.job f.journal h.legal).replica_count
 
 -- ---- what is lent next
 
-abbrev pub lend-test : Core → (replica : ℕ) → Bool
-lend-test core replica = any_below (threads_made core) (is_lendable core replica)
+abbrev pub lend-test : Core → (last : Bool) → (replica : ℕ) → Bool
+lend-test core last replica = any_below (threads_made core) (may_lend_in core last replica)
 
-pub lends-none : (core : Core) (replica : ℕ) → lowest_below (threads_made core) (is_lendable core replica) ≡ None → lend-test core replica ≡ false
-lends-none core replica e = any-lowest (is_lendable core replica) (threads_made core) ∙ ap is_some e
+pub lends-none : (core : Core) (last : Bool) (replica : ℕ) → lowest_below (threads_made core) (may_lend_in core last replica) ≡ None → lend-test core last replica ≡ false
+lends-none core last replica e = any-lowest (may_lend_in core last replica) (threads_made core) ∙ ap is_some e
 
-pub lends-found : (core : Core) (replica thread : ℕ) → replica < length core.replicas → lowest_below replica (lend-test core) ≡ None → lowest_below (threads_made core) (is_lendable core replica) ≡ Some thread → lend_next core ≡ Some (Lend replica thread)
-lends-found core replica thread less none found =
-    ap (lend_in core) (lowest-found (lend-test core) replica (length core.replicas) less none (any-lowest (is_lendable core replica) (threads_made core) ∙ ap is_some found))
+pub lends-found : (core : Core) (last : Bool) (replica thread : ℕ) → replica < length core.replicas → lowest_below replica (lend-test core last) ≡ None → lowest_below (threads_made core) (may_lend_in core last replica) ≡ Some thread → lend_turn core last ≡ Some (Lend replica thread)
+lends-found core last replica thread less none found =
+    ap (lend_in core last) (lowest-found (lend-test core last) replica (length core.replicas) less none (any-lowest (may_lend_in core last replica) (threads_made core) ∙ ap is_some found))
     ∙ ap (map_action (λ (t : ℕ). Lend replica t)) found
 
-pub lends-nothing : (core : Core) (count : ℕ) → count ≡ length core.replicas → lowest_below count (lend-test core) ≡ None → lend_next core ≡ None
-lends-nothing core count same none = ap (lend_in core) (ap (λ (n : ℕ). lowest_below n (lend-test core)) (sym same) ∙ none)
+pub lends-nothing : (core : Core) (last : Bool) (count : ℕ) → count ≡ length core.replicas → lowest_below count (lend-test core last) ≡ None → lend_turn core last ≡ None
+lends-nothing core last count same none = ap (lend_in core last) (ap (λ (n : ℕ). lowest_below n (lend-test core last)) (sym same) ∙ none)
+
+-- ---- the thread that comes last
+
+-- where there is none
+none-last : (core : Core) → is_long core.streak ≡ false → (thread : ℕ) → comes_last core.streak thread ≡ false
+none-last core short thread = ap (λ (b : Bool). b && core.streak.thread == thread) short
+
+pub no-lease : (core : Core) → is_long core.streak ≡ false → lend_turn core true ≡ None
+no-lease core short =
+    ap (lend_in core true) (lowest-never (lend-test core true) (length core.replicas) (λ r.
+    lends-none core true r (lowest-never (may_lend_in core true r) (threads_made core) (λ t. ap (λ (b : Bool). b && is_lendable core r t) (none-last core short t)))))
+
+pub no-turn : (core : Core) → is_long core.streak ≡ false → turn_next core true ≡ None
+no-turn core short =
+    ap (λ (o : Option ℕ). or_else (map_action DoVote o) (lend_turn core true)) (lowest-never (may_vote_in core true) (threads_made core) (λ t. ap (λ (b : Bool). b && may_vote core t) (none-last core short t)))
+    ∙ no-lease core short
+
+-- what does not hold of it holds of no thread that comes last
+only-last : (core : Core) (test : ℕ → Bool) → test core.streak.thread ≡ false → (k : ℕ) → (comes_last core.streak k && test k) ≡ false
+only-last core test fails k = by (core.streak.thread == k) refl
+  where
+    by : (b : Bool) → (core.streak.thread == k) ≡ b → (comes_last core.streak k && test k) ≡ false
+    by true e = and_right (comes_last core.streak k) (test k) (ap test (sym (eqb-true core.streak.thread k e)) ∙ fails)
+    by false e = and_left (comes_last core.streak k) (test k) (and_right (is_long core.streak) (core.streak.thread == k) e)
+
+-- and what holds of it is found there first
+first-last : (core : Core) (test : ℕ → Bool) → is_long core.streak ≡ true → core.streak.thread < threads_made core → test core.streak.thread ≡ true → lowest_below (threads_made core) (λ k. comes_last core.streak k && test k) ≡ Some core.streak.thread
+first-last core test long made passes =
+    lowest-found (λ k. comes_last core.streak k && test k) core.streak.thread (threads_made core) made (lowest-none (λ k. comes_last core.streak k && test k) core.streak.thread (λ k less. others k less))
+    (and_from (comes_last core.streak core.streak.thread) (test core.streak.thread) (and_from (is_long core.streak) (core.streak.thread == core.streak.thread) long (eq-eqb core.streak.thread core.streak.thread refl)) passes)
+  where
+    others : (k : ℕ) → k < core.streak.thread → (comes_last core.streak k && test k) ≡ false
+    others k less = and_left (comes_last core.streak k) (test k) (and_right (is_long core.streak) (core.streak.thread == k) (ne_eqb core.streak.thread k (λ (e : core.streak.thread ≡ k). omega arith)))
+
+-- its vote, and else its lease
+pub last-votes : (core : Core) → is_long core.streak ≡ true → core.streak.thread < threads_made core → may_vote core core.streak.thread ≡ true → turn_next core true ≡ Some (DoVote core.streak.thread)
+last-votes core long made may = ap (λ (o : Option ℕ). or_else (map_action DoVote o) (lend_turn core true)) (first-last core (may_vote core) long made may)
+
+pub last-lends : (core : Core) → may_vote core core.streak.thread ≡ false → turn_next core true ≡ lend_turn core true
+last-lends core may = ap (λ (o : Option ℕ). or_else (map_action DoVote o) (lend_turn core true)) (lowest-never (may_vote_in core true) (threads_made core) (only-last core (may_vote core) may))
+
+pub last-lent : (core : Core) (replica : ℕ) → is_long core.streak ≡ true → core.streak.thread < threads_made core → is_lendable core replica core.streak.thread ≡ true → lowest_below (threads_made core) (may_lend_in core true replica) ≡ Some core.streak.thread
+last-lent core replica long made lends = first-last core (is_lendable core replica) long made lends
+
+pub last-unlent : (core : Core) (replica : ℕ) → is_lendable core replica core.streak.thread ≡ false → lend-test core true replica ≡ false
+last-unlent core replica lends = lends-none core true replica (lowest-never (may_lend_in core true replica) (threads_made core) (only-last core (is_lendable core replica) lends))
+
+-- a live thread was made
+pub lives-within : (kernel : Kernel) (thread : ℕ) → lives_on kernel thread ≡ true → thread < length kernel.lives
+lives-within kernel thread e = by (slice_get kernel.lives thread) refl e
+  where
+    by : (o : Option Life) → slice_get kernel.lives thread ≡ o → live_option o ≡ true → thread < length kernel.lives
+    by None f g = absurd (true≢false (sym g))
+    by (Some life) f g = slice_get_within kernel.lives thread life f
+
+-- so was one that can be voted on or lent
+pub voted-made : (core : Core) (thread : ℕ) → may_vote core thread ≡ true → thread < threads_made core
+voted-made core thread e = lives-within core.kernel thread (vote-parts core thread e).live
+
+pub lent-made : (core : Core) (replica thread : ℕ) → is_lendable core replica thread ≡ true → thread < threads_made core
+lent-made core replica thread e =
+    let parts = and_parts (is_home core replica && lives_on core.kernel thread) (option_map_or (is_unstopped thread) (slice_get core.replicas replica) false) e in
+    lives-within core.kernel thread (and_parts (is_home core replica) (lives_on core.kernel thread) parts.0).1
+
+-- where each other thread can be lent nowhere
+pub others-unlent : (core : Core) → ((t : ℕ) → t < threads_made core → comes_last core.streak t ≡ false → (r : ℕ) → is_lendable core r t ≡ false) → lend_turn core false ≡ None
+others-unlent core stand =
+    ap (lend_in core false) (lowest-never (lend-test core false) (length core.replicas) (λ r.
+    lends-none core false r (lowest-none (may_lend_in core false r) (threads_made core) (λ t less. by r t less (comes_last core.streak t) refl))))
+  where
+    by : (r t : ℕ) → t < threads_made core → (b : Bool) → comes_last core.streak t ≡ b → (not (comes_last core.streak t) && is_lendable core r t) ≡ false
+    by r t less true e = and_left (not (comes_last core.streak t)) (is_lendable core r t) (ap not e)
+    by r t less false e = and_right (not (comes_last core.streak t)) (is_lendable core r t) (stand t less e r)

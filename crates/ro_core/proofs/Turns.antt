@@ -50,9 +50,6 @@ driven_more old new entry h a m n = subst (λ (j : Job). HasRun j new.journal) (
 pub replay_new : (old new : CoreOf) (entry : Entry) → Appends old new entry → replay new.job new.journal ≡ after old.job (replay old.job old.journal) entry
 replay_new old new entry a = ap (λ (j : Job). replay j new.journal) a.job ∙ ap (replay old.job) a.journal ∙ replay_more old.job old.journal entry
 
-pub state_new : (old new : CoreOf) (entry : Entry) → Appends old new entry → new.failed ≡ None → state new ≡ after old.job (replay old.job old.journal) entry
-state_new old new entry a calm = calm_state new calm ∙ replay_new old new entry a
-
 -- whether the sink failed, leases are as the journal leaves them
 pub leases_with : (job : Job) (journal : List Entry) (failed : Option ℕ) → (replay_with job journal failed).leases ≡ (replay job journal).leases
 leases_with = with-leases
@@ -267,9 +264,6 @@ stays_goes old new s = record {
 
 pub stays_driven : (old new : CoreOf) → Stays old new → IsDriven old → IsDriven new
 stays_driven old new s h = subst (λ (j : Job). HasRun j new.journal) (sym s.job) (subst (λ (js : List Entry). HasRun old.job js) (sym s.journal) h)
-
-pub stays_home : (old new : CoreOf) → Stays old new → IsHome old → IsHome new
-stays_home old new s h = ap (λ (c : Core). c.leases) (stays_state old new s) ∙ h
 
 -- the same after room was made
 pub stays_next : (old new : CoreOf) (replica thread : ℕ) → Stays old new → next_action old.job (state old) ≡ Lend replica thread → next_action new.job (state new) ≡ Lend replica thread

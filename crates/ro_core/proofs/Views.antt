@@ -24,6 +24,7 @@ viewed-holds f views h still same = record {
   blocked_are = h.blocked_are;
   steps_are = h.steps_are;
   scrubbed_are = h.scrubbed_are;
+  streak_is = h.streak_is;
   counts = h.counts;
   due_is = h.due_is;
   ended_is = h.ended_is;

@@ -1,5 +1,5 @@
 -- A vote that was won, in the fields of a run.
-use Rattle.std.proofs.Common.{◌≡◌, ◌⊎◌, inl, inr, ℕ, ◌+◌, ◌*◌, ◌<◌, ◌≤◌, Bool, true, false, true≢false, List, [], length, Option, Some, None, get_or, refl, sym, ap, ◌∙◌, subst, arith, append-nil}
+use Rattle.std.proofs.Common.{◌≡◌, ◌⊎◌, inl, inr, ℕ, ◌+◌, ◌*◌, ◌<◌, ◌≤◌, Bool, true, false, List, [], length, Option, Some, None, get_or, refl, sym, ap, ◌∙◌, subst, arith, append-nil}
 use Rattle.std.specs.Prelude.{◌^◌, if◌then◌else◌, IfSome, is_some, slice_get}
 use Rattle.std.specs.Bool.{then_some}
 use Rattle.std.specs.List.{list_all}
@@ -19,8 +19,7 @@ use Rattle.ro_event.specs.declared.stops.Stop.{Stop}
 use Rattle.ro_event.specs.declared.stops.Stop.TheVariants.{Calls, Trap as TrapStop, PageFault, Watchdog}
 use Rattle.ro_event.specs.Effects.{Effect}
 use Rattle.ro_event.specs.Views.{View}
-use Rattle.ro_kernel.specs.declared.Life.{Life}
-use Rattle.ro_kernel.specs.Kernel.{Setup, Kernel, live_option, lives_on}
+use Rattle.ro_kernel.specs.Kernel.{Setup, Kernel, lives_on}
 use Rattle.ro_kernel.specs.Serve.{Served, Done, Blocked, Ends, serve}
 use Rattle.ro_kernel.specs.State.{State}
 use Rattle.ro_exec.specs.Next.{Backed}
@@ -49,7 +48,7 @@ use Rattle.ro_legal.proofs.Ordered.{VoteParts, vote-parts, copied-sound, ordered
 use Rattle.ro_legal.proofs.FaultStops.{each-copied, fault-stops}
 use Rattle.ro_core.proofs.Sitting.{home-count, home-get}
 use Rattle.ro_legal.proofs.Winners.{WonIn, won-in, won-view, Showing, showing, showing-event, showing-since, showing-short, views-count}
-use Rattle.ro_core.proofs.Tests.{all-home, seated-home}
+use Rattle.ro_core.proofs.Tests.{all-home, seated-home, lives-within}
 use Rattle.ro_core.proofs.Grouped.{home-seat}
 use Rattle.ro_legal.proofs.Lists.{get-within, length-mapped}
 
@@ -57,14 +56,6 @@ use Rattle.ro_legal.proofs.Lists.{get-within, length-mapped}
 pub then-some : (b : Bool) (n : ℕ) → then_some b n ≡ (if b then Some n else None)
 then-some true n = refl
 then-some false n = refl
-
--- a live thread was made
-pub lives-within : (kernel : Kernel) (thread : ℕ) → lives_on kernel thread ≡ true → thread < length kernel.lives
-lives-within kernel thread e = by (slice_get kernel.lives thread) refl e
-  where
-    by : (o : Option Life) → slice_get kernel.lives thread ≡ o → live_option o ≡ true → thread < length kernel.lives
-    by None f g = absurd (true≢false (sym g))
-    by (Some life) f g = slice_get_within kernel.lives thread life f
 
 pub live-few : (f : Fields) → Holds f → (thread : ℕ) → lives_on f.kernel.kernel thread ≡ true → thread < 16
 live-few f h thread e =
@@ -143,9 +134,6 @@ module _ (f : Fields) (thread won : ℕ) (lost : Lost) (v : IsHeld f thread won 
 
   made : thread < length (core_in f).kernel.lives
   made = lives-within (core_in f).kernel thread (vote-parts (core_in f) thread hold-may).live
-
-  pub hold-few : thread < 16
-  hold-few = let few = (ordered f.job f.journal h.legal).few_lives in let m = made in omega arith
 
   pub hold-threads : (number : ℕ) (replica : Replica) → slice_get (core_in f).replicas number ≡ Some replica → length replica.threads ≡ length (core_in f).kernel.lives
   hold-threads number replica e = ((ordered f.job f.journal h.legal).sound number replica e).all_made
@@ -364,9 +352,9 @@ length-applied effect replicas = length-mapped (λ replica. cancelled (applied e
 
 -- ---- fields that only made room
 
-kept-holds : (f f' : Fields) → Holds f → f.leases ≡ [] → f'.job ≡ f.job → f'.journal ≡ f.journal → AreHome f.job f'.seats (core_in f).replicas → f'.leases ≡ f.leases → f'.kernel ≡ f.kernel → f'.blocked ≡ f.blocked → f'.steps ≡ f.steps → f'.scrubbed ≡ f.scrubbed → f'.due ≡ f.due → f'.ended ≡ f.ended → f'.views ≡ f.views → f'.sent ≡ f.sent
+kept-holds : (f f' : Fields) → Holds f → f.leases ≡ [] → f'.job ≡ f.job → f'.journal ≡ f.journal → AreHome f.job f'.seats (core_in f).replicas → f'.leases ≡ f.leases → f'.kernel ≡ f.kernel → f'.blocked ≡ f.blocked → f'.steps ≡ f.steps → f'.scrubbed ≡ f.scrubbed → f'.streak ≡ f.streak → f'.due ≡ f.due → f'.ended ≡ f.ended → f'.views ≡ f.views → f'.sent ≡ f.sent
     → f'.groups ≡ f.groups → f.places ≤ f'.places → Holds f'
-kept-holds f f' h alone job journal home leases kernel blocked steps scrubbed due ended views count groups room =
+kept-holds f f' h alone job journal home leases kernel blocked steps scrubbed streak due ended views count groups room =
     let core : core_in f' ≡ core_in f = ap (λ (j : Job). replay j f'.journal) job ∙ ap (replay f.job) journal in
     let state : state_in f' ≡ state_in f = ap (λ (j : Job). replay_with j f'.journal (failed_of f'.due)) job ∙ ap (λ (js : List Entry). replay_with f.job js (failed_of f'.due)) journal ∙ ap (λ (o : Option How). replay_with f.job f.journal (failed_of o)) due in
     record {
@@ -379,6 +367,7 @@ kept-holds f f' h alone job journal home leases kernel blocked steps scrubbed du
       blocked_are = λ t. ap (λ (bs : List (Option Call)). blocked_at bs t) blocked ∙ h.blocked_are t ∙ sym (ap (λ (c : Core). c.blocked t) core);
       steps_are = steps ∙ h.steps_are ∙ sym (ap (λ (c : Core). c.steps) core);
       scrubbed_are = scrubbed ∙ h.scrubbed_are ∙ sym (ap (λ (c : Core). c.scrubbed) core);
+      streak_is = streak ∙ h.streak_is ∙ sym (ap (λ (c : Core). c.streak) core);
       counts = subst (λ (j : Job). CountsBytes f'.sent f'.steps (sent_of j f'.journal (failed_of f'.due))) (sym job)
           (same-counts f f' h count steps (ap (λ (js : List Entry). sent_of f.job js (failed_of f'.due)) journal ∙ ap (λ (o : Option How). sent_of f.job f.journal (failed_of o)) due));
       due_is = due ∙ h.due_is ∙ sym (ap (λ (c : Core). c.due) state);
@@ -396,10 +385,10 @@ kept-holds f f' h alone job journal home leases kernel blocked steps scrubbed du
 pub ready-home : (f : Fields) → Holds f → f.leases ≡ [] → AreHome f.job f.seats (core_in f).replicas
 ready-home f h alone = all-home f.job (core_in f) f.seats h.seats_are (sym h.leases_are ∙ alone)
 
-pub made-room : (f f' : Fields) → Holds f → f.leases ≡ [] → f'.job ≡ f.job → f'.journal ≡ f.journal → AreHome f.job f'.seats (core_in f).replicas → f'.leases ≡ f.leases → f'.kernel ≡ f.kernel → f'.blocked ≡ f.blocked → f'.steps ≡ f.steps → f'.scrubbed ≡ f.scrubbed → f'.due ≡ f.due → f'.ended ≡ f.ended → f'.views ≡ f.views → f'.sent ≡ f.sent
+pub made-room : (f f' : Fields) → Holds f → f.leases ≡ [] → f'.job ≡ f.job → f'.journal ≡ f.journal → AreHome f.job f'.seats (core_in f).replicas → f'.leases ≡ f.leases → f'.kernel ≡ f.kernel → f'.blocked ≡ f.blocked → f'.steps ≡ f.steps → f'.scrubbed ≡ f.scrubbed → f'.streak ≡ f.streak → f'.due ≡ f.due → f'.ended ≡ f.ended → f'.views ≡ f.views → f'.sent ≡ f.sent
     → f'.groups ≡ f.groups → f.places ≤ f'.places → MakesRoom f f'
-made-room f f' h alone job journal home leases kernel blocked steps scrubbed due ended views count groups room = record {
-  holds = kept-holds f f' h alone job journal home leases kernel blocked steps scrubbed due ended views count groups room;
+made-room f f' h alone job journal home leases kernel blocked steps scrubbed streak due ended views count groups room = record {
+  holds = kept-holds f f' h alone job journal home leases kernel blocked steps scrubbed streak due ended views count groups room;
   job = job;
   journal = journal;
   leases = leases;

@@ -1,8 +1,9 @@
 //! What the core does next.
-ghost use Rattle.std.specs.Prelude.{◌≡◌, ◌<◌, ◌&&◌, length, true};
+ghost use Rattle.std.specs.Prelude.{◌≡◌, ◌<◌, ◌&&◌, ℕ, None, length, true, false};
 ghost use Rattle.ro_legal.specs.Core.{is_going, nothing_lent, is_lendable, may_vote, may_free};
 ghost use Rattle.ro_legal.specs.Legal.{is_stuck, may_scrub};
-ghost use Rattle.ro_legal.specs.Action.{lowest_below, threads_made, lend_next, first_action, is_scrub_due, scrub_action, next_action as next};
+ghost use Rattle.ro_legal.specs.Streaks.{is_long};
+ghost use Rattle.ro_legal.specs.Action.{lowest_below, threads_made, may_vote_in, may_lend_in, lend_turn, turn_next, lend_next, first_action, is_scrub_due, scrub_action, next_action as next};
 ghost use Rattle.ro_core.specs.Fields.{Holds};
 ghost use Rattle.ro_core.specs.Runs.{fields_of, job_of, state_of};
 
@@ -13,7 +14,7 @@ use ro_legal::Action;
 
 impl Run {
     /// What comes next: an end that is due; else, where nothing is lent, the lowest thread is freed or voted on; else the
-    /// lowest thread of the lowest replica is lent.
+    /// lowest thread of the lowest replica is lent. A thread that had its votes in a row is voted on and lent last.
     pub fn next_action(&self) -> Action
         requires holds { Holds (fields_of self.now) }
         ensures next { result ≡ next (job_of self.now) (state_of self.now) }
@@ -68,10 +69,61 @@ impl Run {
         if let Some(thread) = self.lowest_to_free() {
             return Some(Action::Free(thread));
         }
-        if let Some(thread) = self.lowest_to_vote() {
-            return Some(Action::Vote(thread));
+        match self.next_of_others() {
+            Some(action) => Some(action),
+            None if self.streak.is_long() => self.next_of_last(),
+            None => None,
         }
-        self.lowest_to_lend()
+    }
+
+    // The first vote or lease of a thread that doesn't come last.
+    fn next_of_others(&self) -> Option<Action>
+        requires holds { Holds (fields_of self.now) }
+        ensures { result ≡ turn_next (state_of self.now) false }
+    {
+        match self.lowest_to_vote() {
+            Some(thread) => Some(Action::Vote(thread)),
+            None if self.do_others_stand() => None,
+            None => self.lease_of_others(),
+        }
+    }
+
+    // Whether a thread comes last, and all others stand still in every replica, so that none of these can be lent.
+    fn do_others_stand(&self) -> bool
+        requires holds { Holds (fields_of self.now) }
+        ensures { result ≡ true → lend_turn (state_of self.now) false ≡ None }
+    {
+        if !self.streak.is_long() {
+            return false;
+        }
+        for thread in 0..self.kernel.made() {
+            if !self.streak.comes_last(thread) && self.may_run(thread) {
+                return false;
+            }
+        }
+        true
+    }
+
+    // Whether a thread lives, and doesn't stand still in every replica.
+    fn may_run(&self, thread: u32) -> bool
+        requires holds { Holds (fields_of self.now) }
+        ensures { result ≡ false → (replica : ℕ) → is_lendable (state_of self.now) replica thread ≡ false }
+    {
+        self.kernel.lives_on(thread) && !self.seats.ready(thread)
+    }
+
+    // The vote or the first lease of the thread that comes last.
+    fn next_of_last(&self) -> Option<Action>
+        requires holds { Holds (fields_of self.now) }
+        requires long { is_long (state_of self.now).streak ≡ true }
+        ensures { result ≡ turn_next (state_of self.now) true }
+    {
+        let thread = self.streak.thread;
+        if self.may_vote(thread) {
+            Some(Action::Vote(thread))
+        } else {
+            self.lease_of_last()
+        }
     }
 
     fn lowest_to_free(&self) -> Option<u32>
@@ -89,24 +141,38 @@ impl Run {
         None
     }
 
+    // The lowest thread that can be voted on and doesn't come last.
     fn lowest_to_vote(&self) -> Option<u32>
         requires holds { Holds (fields_of self.now) }
-        ensures { result ≡ lowest_below (threads_made (state_of self.now)) (may_vote (state_of self.now)) }
+        ensures { result ≡ lowest_below (threads_made (state_of self.now)) (may_vote_in (state_of self.now) false) }
     {
         if !self.is_idle() {
             return None;
         }
         for thread in 0..self.kernel.made() {
-            if self.can_vote(thread) {
+            if !self.streak.comes_last(thread) && self.can_vote(thread) {
                 return Some(thread);
             }
         }
         None
     }
 
+    // The first lease of any thread.
     fn lowest_to_lend(&self) -> Option<Action>
         requires holds { Holds (fields_of self.now) }
         ensures { result ≡ lend_next (state_of self.now) }
+    {
+        match self.lease_of_others() {
+            Some(action) => Some(action),
+            None if self.streak.is_long() => self.lease_of_last(),
+            None => None,
+        }
+    }
+
+    // The first lease of a thread that doesn't come last.
+    fn lease_of_others(&self) -> Option<Action>
+        requires holds { Holds (fields_of self.now) }
+        ensures { result ≡ lend_turn (state_of self.now) false }
     {
         for replica in 0..self.settings.replicas {
             if let Some(thread) = self.lowest_lendable(replica) {
@@ -116,15 +182,30 @@ impl Run {
         None
     }
 
-    // The lowest thread that can be lent in a replica.
+    // The lowest such thread that can be lent in a replica.
     fn lowest_lendable(&self, replica: u32) -> Option<u32>
         requires holds { Holds (fields_of self.now) }
         requires replica { replica < length (state_of self.now).replicas }
-        ensures { result ≡ lowest_below (threads_made (state_of self.now)) (is_lendable (state_of self.now) replica) }
+        ensures { result ≡ lowest_below (threads_made (state_of self.now)) (may_lend_in (state_of self.now) false replica) }
     {
         for thread in 0..self.kernel.made() {
-            if self.is_lendable(replica, thread) {
+            if !self.streak.comes_last(thread) && self.is_lendable(replica, thread) {
                 return Some(thread);
+            }
+        }
+        None
+    }
+
+    // The first lease of the thread that comes last.
+    fn lease_of_last(&self) -> Option<Action>
+        requires holds { Holds (fields_of self.now) }
+        requires long { is_long (state_of self.now).streak ≡ true }
+        ensures { result ≡ lend_turn (state_of self.now) true }
+    {
+        let thread = self.streak.thread;
+        for replica in 0..self.settings.replicas {
+            if self.is_lendable(replica, thread) {
+                return Some(Action::Lend { replica, thread });
             }
         }
         None

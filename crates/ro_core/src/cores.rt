@@ -209,6 +209,7 @@ impl<K: Sink> Core<K> {
             blocked: _,
             steps: _,
             scrubbed: _,
+            streak: _,
             sent,
             due: _,
             ended,

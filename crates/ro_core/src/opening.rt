@@ -16,6 +16,7 @@ use ro_group::Groups;
 use ro_image::Executable;
 use ro_journal::Entry;
 use ro_kernel::Kernel;
+use ro_legal::Streak;
 use ro_region::Regions;
 use ro_replica::{Replica, ReplicaBox};
 use ro_settings::Settings;
@@ -62,6 +63,7 @@ impl Run {
                 blocked: [None; THREADS],
                 steps: 0,
                 scrubbed: 0,
+                streak: Streak::new(),
                 sent: 0,
                 due: None,
                 ended: None,

@@ -15,7 +15,7 @@ use ro_faults::Fault;
 use ro_image::Executable;
 use ro_journal::{Entry, How};
 use ro_kernel::Kernel;
-use ro_legal::Lease;
+use ro_legal::{Lease, Streak};
 use ro_settings::Settings;
 use std::alloc::Global;
 
@@ -37,6 +37,8 @@ pub(crate) struct Run {
     pub steps: u64,
     /// How long it was at the last scrub.
     pub scrubbed: u64,
+    /// Whose votes came last, and how many in a row.
+    pub streak: Streak,
     /// How many bytes left.
     pub sent: u64,
     pub due: Option<How>,

@@ -216,8 +216,12 @@ impl Run {
             threads,
         } = occurrence;
         let written = self.payload(writer).len();
+        let streak = self
+            .streak
+            .after_event(thread, self.blocked[thread as usize]);
         self.seats.apply(&event.effect, threads);
         self.journal.push_reserved(entry);
+        self.streak = streak;
         self.blocked[thread as usize] = event.blocked;
         self.steps += steps;
         self.sent += written as u64;

@@ -51,5 +51,7 @@ pub mod FaultStops
 pub mod Lasting
 -- with one driver each lease comes back in the next entry
 pub mod OneDriver
+-- whose votes came last, and that such a thread comes behind all others
+pub mod Streaks
 -- scrubs come in time
 pub mod InTime

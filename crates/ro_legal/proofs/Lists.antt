@@ -12,11 +12,6 @@ pub use Rattle.ro_plain.proofs.Places.{get-within, get-set-same, get-set-cases, 
 use Rattle.ro_replica.specs.Replica.{changed_at}
 use Rattle.ro_legal.specs.Sound.{Listed}
 
--- what is tested to be something is something
-pub is-some-get : {X : Type 0} (o : Option X) → is_some o ≡ true → (x : X) × (o ≡ Some x)
-is-some-get None h = absurd (true≢false (sym h))
-is-some-get (Some x) h = (x, refl)
-
 -- setting an element to itself changes nothing
 pub set-same : {X : Type 0} (xs : List X) (i : ℕ) (x : X) → slice_get xs i ≡ Some x → slice_set xs i x ≡ xs
 set-same [] i x h = refl

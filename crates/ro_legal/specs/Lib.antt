@@ -1,3 +1,4 @@
+pub mod Streaks
 pub mod Core
 pub mod Event
 pub mod Legal

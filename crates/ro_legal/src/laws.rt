@@ -14,8 +14,9 @@ ghost use Rattle.ro_legal.specs.declared.actions.Action.TheVariants as act;
 ghost use Rattle.ro_legal.specs.declared.actions.Lease.{Lease};
 ghost use Rattle.ro_legal.specs.Core.{Job, Core, opening_core, is_going, is_idle, is_lendable, may_vote, may_free, nothing_lent};
 ghost use Rattle.ro_legal.specs.Legal.{Legal, MayEnd, may_scrub, replay};
-ghost use Rattle.ro_legal.specs.Action.{next_action, EachIsNext};
-ghost use Rattle.ro_legal.specs.Laws.{Names, HasLease, thread_in, Answers, LeavesBlocked, LetsGoOn, hits, has_come};
+ghost use Rattle.ro_legal.specs.Streaks.{AreOfThread, votes_in, streak_of};
+ghost use Rattle.ro_legal.specs.Action.{threads_made, next_action, EachIsNext};
+ghost use Rattle.ro_legal.specs.Laws.{NothingFor, NotLendable, Names, HasLease, thread_in, Answers, LeavesBlocked, LetsGoOn, hits, has_come};
 ghost use Rattle.ro_legal.specs.Turns.{TakesTurns};
 
 /// Nothing follows an end.
@@ -94,4 +95,16 @@ pub fn one_driver_takes_turns()
 /// scrub's number and the watchdog's together from one scrub to the next.
 pub fn scrubs_come_in_time()
     ensures { (job : Job) → 0 < job.settings.scrub → (journal : List Entry) → Legal job journal → EachIsNext job (opening_core job) journal → (replay job journal).steps ≤ (replay job journal).scrubbed + job.settings.scrub + job.settings.watchdog }
+{}
+
+/// Whose votes came last, and how many in a row: the core keeps what its journal says.
+pub fn streaks_are_counted()
+    ensures { (job : Job) (journal : List Entry) → Legal job journal → (replay job journal).streak ≡ streak_of journal }
+{}
+
+/// A thread of which 64 votes came, with no vote and no free of another between, comes behind all others: it is voted on next
+/// only where no other thread can be freed, voted on or lent, and lent next only where no other can be lent.
+pub fn others_come_first()
+    ensures vote { (job : Job) (before row : List Entry) (thread : ℕ) → Legal job (before ++ row) → AreOfThread thread row → 64 ≤ votes_in row → next_action job (replay job (before ++ row)) ≡ act.Vote thread → (other : ℕ) → other ≢ thread → other < threads_made (replay job (before ++ row)) → NothingFor job (replay job (before ++ row)) other }
+    ensures lend { (job : Job) (before row : List Entry) (thread : ℕ) → Legal job (before ++ row) → AreOfThread thread row → 64 ≤ votes_in row → (replica : ℕ) → next_action job (replay job (before ++ row)) ≡ act.Lend replica thread → (other : ℕ) → other ≢ thread → other < threads_made (replay job (before ++ row)) → NotLendable (replay job (before ++ row)) other }
 {}

@@ -5,9 +5,9 @@
 mod actions;
 mod laws;
 
-pub use actions::{Action, Lease};
+pub use actions::{Action, Lease, Streak};
 pub use laws::{
     end_is_last, granted_everywhere, idle_drivers_hold_nothing, leases_come_back, leases_last,
-    next_may_be_done, no_other_flip, one_driver_takes_turns, one_grant_order, page_faults_wait,
-    same_pages, scrubs_come_in_time, struck_once,
+    next_may_be_done, no_other_flip, one_driver_takes_turns, one_grant_order, others_come_first,
+    page_faults_wait, same_pages, scrubs_come_in_time, streaks_are_counted, struck_once,
 };

@@ -25,6 +25,9 @@ pub const STACK_STEP: u32 = 0x2_0000;
 /// How many bytes a stack has.
 pub const STACK_SIZE: u32 = 0x1_0000;
 
+/// How many votes in a row a thread may have while another one could go on.
+pub const VOTES_IN_A_ROW: u32 = 64;
+
 /// How many bytes one call reads or writes at most.
 pub const MOST_BYTES: u32 = 4096;
 

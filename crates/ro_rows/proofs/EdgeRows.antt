@@ -27,6 +27,7 @@ use Rattle.ro_thread.specs.declared.Thread.{Thread}
 use Rattle.ro_plain.specs.Machine.{Machine, opening, steppable, step, AllEnd}
 use Rattle.ro_plain.proofs.Calls.{some-injective}
 use Rattle.ro_legal.specs.declared.actions.Action.TheVariants as act
+use Rattle.ro_legal.specs.Streaks.{streak_of}
 use Rattle.ro_legal.specs.Core.{Job, Core, opening_core, may_free}
 use Rattle.ro_legal.specs.Event.{event_of}
 use Rattle.ro_legal.specs.Legal.{Legal, IsAllowed, may_scrub, HasArrived, arrival, EndsAlone, EndsVote, EndsFree, EndsScrub, MayEnd, after, replay, output_of, due, alone, for_vote, for_free, for_scrub}
@@ -38,7 +39,7 @@ use Rattle.ro_simulation.specs.Drives.{driven}
 use Rattle.ro_simulation.proofs.Checks.{test_legal, legal-by-test}
 use Rattle.ro_rows.specs.Exit.{exit_job}
 use Rattle.ro_rows.specs.Rows.{decisions, deadlock_job, deadlock_before, hello_job}
-use Rattle.ro_rows.specs.Edges.{small_job, waiters_job, two_wait, unlocked, letter_job, all_hits, is_vote, page_limit_job, before_free, exit_runs, until_free, scrubbing, one_runs, one_lent, both_stand, last_lent, parted_job, parted_runs, parted_pair, hello_written, watch_job, watch_journal}
+use Rattle.ro_rows.specs.Edges.{small_job, waiters_job, two_wait, unlocked, letter_job, all_hits, is_vote, page_limit_job, before_free, exit_runs, until_free, scrubbing, one_runs, one_lent, both_stand, last_lent, parted_job, parted_runs, parted_pair, hello_written, watch_job, watch_journal, with_streak, votes_of}
 
 -- a run that does not exist
 no-machine : {P : Type 0} (machine : Machine) (o : Option Machine) → o ≡ Some machine → o ≡ None → P
@@ -396,6 +397,51 @@ due-waits = refl
 pub due-not-freed : next_action (scrubbing 1 letter_job) (replay letter_job (until_free (driven 200 letter_job))) ≡ act.Scrub
 unfolding opening_core opening_replica struck execute applied cancelled recovered verdict_of event_of after next_action first_cpu made_cpu next fetch_stop instruction_stop instruction_of call_at permits_of alu_of taken_by meaning serve payload_of
 due-not-freed = refl
+
+-- ---- late_row
+
+pub late-vote : next_action deadlock_job (with_streak 0 64 (replay deadlock_job both_stand)) ≡ act.Vote 1
+unfolding opening_core opening_replica struck execute applied cancelled recovered verdict_of event_of after next_action first_cpu made_cpu next fetch_stop instruction_stop instruction_of call_at permits_of alu_of taken_by meaning serve payload_of
+late-vote = refl
+
+pub late-early : next_action deadlock_job (with_streak 0 63 (replay deadlock_job both_stand)) ≡ act.Vote 0
+unfolding opening_core opening_replica struck execute applied cancelled recovered verdict_of event_of after next_action first_cpu made_cpu next fetch_stop instruction_stop instruction_of call_at permits_of alu_of taken_by meaning serve payload_of
+late-early = refl
+
+pub late-other : next_action deadlock_job (with_streak 1 64 (replay deadlock_job both_stand)) ≡ act.Vote 0
+unfolding opening_core opening_replica struck execute applied cancelled recovered verdict_of event_of after next_action first_cpu made_cpu next fetch_stop instruction_stop instruction_of call_at permits_of alu_of taken_by meaning serve payload_of
+late-other = refl
+
+pub late-lend : next_action deadlock_job (with_streak 0 64 (replay deadlock_job one_runs)) ≡ act.Lend 2 1
+unfolding opening_core opening_replica struck execute applied cancelled recovered verdict_of event_of after next_action first_cpu made_cpu next fetch_stop instruction_stop instruction_of call_at permits_of alu_of taken_by meaning serve payload_of
+late-lend = refl
+
+pub late-vote-first : next_action deadlock_job (with_streak 1 64 (replay deadlock_job one_runs)) ≡ act.Vote 0
+unfolding opening_core opening_replica struck execute applied cancelled recovered verdict_of event_of after next_action first_cpu made_cpu next fetch_stop instruction_stop instruction_of call_at permits_of alu_of taken_by meaning serve payload_of
+late-vote-first = refl
+
+pub late-alone : next_action exit_job (with_streak 0 64 (replay exit_job exit_runs)) ≡ act.Vote 0
+unfolding opening_core opening_replica struck execute applied cancelled recovered verdict_of event_of after next_action first_cpu made_cpu next fetch_stop instruction_stop instruction_of call_at permits_of alu_of taken_by meaning serve payload_of
+late-alone = refl
+
+pub late-alone-lent : next_action exit_job (with_streak 0 64 (opening_core exit_job)) ≡ act.Lend 0 0
+unfolding opening_core opening_replica struck execute applied cancelled recovered verdict_of event_of after next_action first_cpu made_cpu next fetch_stop instruction_stop instruction_of call_at permits_of alu_of taken_by meaning serve payload_of
+late-alone-lent = refl
+
+pub late-counted : streak_of (votes_of 0 63) ≡ record { thread = 0; votes = 63 }
+late-counted = refl
+
+pub late-no-more : streak_of (votes_of 0 65) ≡ record { thread = 0; votes = 64 }
+late-no-more = refl
+
+pub late-anew : streak_of (votes_of 0 64 ++ votes_of 1 2) ≡ record { thread = 1; votes = 2 }
+late-anew = refl
+
+pub late-freed : streak_of (votes_of 0 64 ++ Free 1 ∷ []) ≡ record { thread = 1; votes = 0 }
+late-freed = refl
+
+pub late-own : streak_of (votes_of 0 3 ++ Free 0 ∷ []) ≡ record { thread = 0; votes = 3 }
+late-own = refl
 
 -- ---- snapshot_row
 

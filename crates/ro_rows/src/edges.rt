@@ -10,6 +10,7 @@ ghost use Rattle.ro_thread.specs.declared.Thread.{Thread};
 ghost use Rattle.ro_replica.specs.Snapshots.{thread_snapshot};
 ghost use Rattle.ro_plain.specs.Machine.{AllEnd};
 ghost use Rattle.ro_legal.specs.declared.actions.Action.TheVariants as act;
+ghost use Rattle.ro_legal.specs.Streaks.{streak_of};
 ghost use Rattle.ro_legal.specs.Core.{opening_core, may_free};
 ghost use Rattle.ro_legal.specs.Legal.{Legal, IsAllowed, may_scrub, replay, output_of};
 ghost use Rattle.ro_legal.specs.Action.{next_action, IsNext};
@@ -19,7 +20,7 @@ ghost use Rattle.ro_simulation.specs.Rows.{flip_a0};
 ghost use Rattle.ro_simulation.specs.Drives.{driven};
 ghost use Rattle.ro_rows.specs.Exit.{exit_job};
 ghost use Rattle.ro_rows.specs.Rows.{decisions, deadlock_job, deadlock_before, hello_job};
-ghost use Rattle.ro_rows.specs.Edges.{small_job, waiters_job, two_wait, unlocked, letter_job, all_hits, is_vote, page_limit_job, before_free, exit_runs, until_free, scrubbing, one_runs, one_lent, both_stand, last_lent, parted_job, parted_runs, parted_pair, hello_written, watch_job, watch_journal};
+ghost use Rattle.ro_rows.specs.Edges.{small_job, waiters_job, two_wait, unlocked, letter_job, all_hits, is_vote, page_limit_job, before_free, exit_runs, until_free, scrubbing, one_runs, one_lent, both_stand, last_lent, parted_job, parted_runs, parted_pair, hello_written, watch_job, watch_journal, with_streak, votes_of};
 
 /// A row: no execution of the guest that exits with 7 has more than three steps, and one has more than two.
 pub fn length_row()
@@ -153,6 +154,23 @@ pub fn due_row()
     ensures lends { next_action (scrubbing 1 deadlock_job) (replay deadlock_job one_runs) ≡ act.Lend 2 1 }
     ensures waits { next_action (scrubbing 1 deadlock_job) (replay deadlock_job one_lent) ≡ act.Wait }
     ensures not_freed { next_action (scrubbing 1 letter_job) (replay letter_job (until_free (driven 200 letter_job))) ≡ act.Scrub }
+{}
+
+/// A row: a thread that had 64 votes in a row comes behind all others, with its votes and its leases, and not one vote sooner; where
+/// it is alone nothing changes. Another thread's vote begins anew at 1, its free at 0; a free of its own changes nothing.
+pub fn late_row()
+    ensures vote { next_action deadlock_job (with_streak 0 64 (replay deadlock_job both_stand)) ≡ act.Vote 1 }
+    ensures early { next_action deadlock_job (with_streak 0 63 (replay deadlock_job both_stand)) ≡ act.Vote 0 }
+    ensures other { next_action deadlock_job (with_streak 1 64 (replay deadlock_job both_stand)) ≡ act.Vote 0 }
+    ensures lend { next_action deadlock_job (with_streak 0 64 (replay deadlock_job one_runs)) ≡ act.Lend 2 1 }
+    ensures vote_first { next_action deadlock_job (with_streak 1 64 (replay deadlock_job one_runs)) ≡ act.Vote 0 }
+    ensures alone { next_action exit_job (with_streak 0 64 (replay exit_job exit_runs)) ≡ act.Vote 0 }
+    ensures alone_lent { next_action exit_job (with_streak 0 64 (opening_core exit_job)) ≡ act.Lend 0 0 }
+    ensures counted { streak_of (votes_of 0 63) ≡ record { thread = 0; votes = 63 } }
+    ensures no_more { streak_of (votes_of 0 65) ≡ record { thread = 0; votes = 64 } }
+    ensures anew { streak_of (votes_of 0 64 ++ votes_of 1 2) ≡ record { thread = 1; votes = 2 } }
+    ensures freed { streak_of (votes_of 0 64 ++ Free 1 ∷ []) ≡ record { thread = 1; votes = 0 } }
+    ensures own { streak_of (votes_of 0 3 ++ Free 0 ∷ []) ≡ record { thread = 0; votes = 3 } }
 {}
 
 /// A row: of a thread that has exited a scrub compares its count alone, of a live one registers, pc and stop too.

@@ -16,6 +16,7 @@ use Rattle.ro_replica.specs.Replica.{Replica}
 use Rattle.ro_replica.specs.Runs.{RanTo}
 use Rattle.ro_plain.specs.Machine.{Machine, setup_of}
 use Rattle.ro_plain.specs.Order.{RaceFree}
+use Rattle.ro_legal.proofs.Journals.{LegalFrom-parts, replay_from-append}
 use Rattle.ro_legal.specs.Core.{Job, Core, opening_core}
 use Rattle.ro_legal.specs.Event.{Event, call_event, with_recovered}
 use Rattle.ro_legal.specs.Legal.{lease_run, core_after_put, event_in, freed_event, core_after_event, after, MayPut, MayEnd, IsAllowed, LegalFrom, Legal, replay_from, replay}
@@ -31,16 +32,6 @@ use Rattle.ro_simulation.proofs.Scrubs.{after-scrub}
 use Rattle.ro_simulation.proofs.Opening.{opening-holds}
 
 -- ---- journals in parts
-
--- the core after two parts of a journal
-pub replay-append : (job : Job) (core : Core) (xs ys : List Entry) → replay_from job core (xs ++ ys) ≡ replay_from job (replay_from job core xs) ys
-replay-append job core [] ys = refl
-replay-append job core (x ∷ xs) ys = replay-append job (after job core x) xs ys
-
--- both parts of a legal journal are legal
-pub legal-split : (job : Job) (core : Core) (xs ys : List Entry) → LegalFrom job core (xs ++ ys) → LegalFrom job core xs × LegalFrom job (replay_from job core xs) ys
-legal-split job core [] ys h = (tt, h)
-legal-split job core (x ∷ xs) ys h = let r = legal-split job (after job core x) xs ys h.1 in ((h.0, r.0), r.1)
 
 -- the payloads of two parts
 pub payloads-append : (job : Job) (core : Core) (xs ys : List Entry) → payloads_from job core (xs ++ ys) ≡ payloads_from job core xs ++ payloads_from job (replay_from job core xs) ys
@@ -161,7 +152,7 @@ opening-reached job odds few = record { holds = opening-holds job odds few; is_r
 reached-next : (job : Job) (odds odds' : List ℕ) (journal : List Entry) (core : Core) (entry : Entry) → IsStep entry → Reached job odds journal core → TracksIdeal job odds' (journal ++ entry ∷ []) (after job core entry) → Reached job odds' (journal ++ entry ∷ []) (after job core entry)
 reached-next job odds odds' journal core entry kind r h = record {
   holds = h;
-  is_replay = replay-append job (opening_core job) journal (entry ∷ []) ∙ ap (λ (c : Core). after job c entry) r.is_replay;
+  is_replay = replay_from-append job (opening_core job) journal (entry ∷ []) ∙ ap (λ (c : Core). after job c entry) r.is_replay;
   written = (step-leaves job core entry kind).output
       ∙ (ap (λ (o : List ℕ). o ++ payload_by job core entry) r.written
       ∙ (ap (λ (c : Core). payloads_of job journal ++ payload_by job c entry) (sym r.is_replay)
@@ -261,7 +252,7 @@ module _ (job : Job) (free : RaceFree job.program) (Q : List Entry → List ℕ 
   -- the invariant before an entry
   pub reach-before : (odds : List ℕ) → AtMostHalf job.settings.replicas odds → Q [] odds → Legal job whole → (journal rest : List Entry) (entry : Entry) → whole ≡ journal ++ entry ∷ rest → Before journal entry
   reach-before odds few q legal journal rest entry whole_is =
-      let parts = legal-split job (opening_core job) journal (entry ∷ rest) (subst (Legal job) whole_is legal) in
+      let parts = LegalFrom-parts job (opening_core job) journal (entry ∷ rest) (subst (Legal job) whole_is legal) in
       by parts.1.0 (reach odds [] journal (entry ∷ rest) q (opening_core job) whole_is (opening-reached job odds few) parts.0)
     where
       by : IsAllowed job (replay job journal) entry → Stage job Q journal (replay job journal) → Before journal entry

@@ -18,6 +18,7 @@ use Rattle.ro_plain.specs.Machine.{Program, Machine, opening, step_by, next_of, 
 use Rattle.ro_plain.specs.Order.{RaceFree}
 use Rattle.ro_plain.proofs.Calls.{some-injective, steppable-parts, step-opens}
 use Rattle.ro_plain.proofs.Swap.{run-append}
+use Rattle.ro_legal.proofs.Journals.{LegalFrom-parts}
 use Rattle.ro_legal.specs.Core.{Job, Core, opening_core}
 use Rattle.ro_legal.specs.Legal.{MayEnd, due, alone, for_vote, for_free, for_scrub, after, Legal, MayPut, replay}
 use Rattle.ro_legal.specs.Ideal.{IsAlike, AllAlikeBut, StaysApart}
@@ -35,7 +36,7 @@ use Rattle.ro_simulation.proofs.Entries.{put-fault, put-going}
 use Rattle.ro_simulation.proofs.Ends.{never-differ, never-differ-still}
 use Rattle.ro_simulation.proofs.Scrubs.{going as going-still, after-scrub}
 use Rattle.ro_simulation.proofs.Votes.{after-vote}
-use Rattle.ro_simulation.proofs.Journals.{outcome-ended, after-end-ended, Reached, Policy, Stage, goes_on, has_ended, Before, legal-split, reach-before}
+use Rattle.ro_simulation.proofs.Journals.{outcome-ended, after-end-ended, Reached, Policy, Stage, goes_on, has_ended, Before, reach-before}
 use Rattle.ro_simulation.proofs.Simulates.{stage}
 
 -- ---- the headline
@@ -136,7 +137,7 @@ one-struck-apart job journal two free one legal = few-struck-apart job journal (
 struck-there : (job : Job) (journal : List Entry) → Legal job journal → (before rest : List Entry) (driver replica thread count hit : ℕ) →
     journal ≡ before ++ Put driver replica thread count hit ∷ rest → replica < length (replay job before).replicas
 struck-there job journal legal before rest driver replica thread count hit whole =
-    let parts = legal-split job (opening_core job) before (Put driver replica thread count hit ∷ rest) (subst (Legal job) whole legal) in
+    let parts = LegalFrom-parts job (opening_core job) before (Put driver replica thread count hit ∷ rest) (subst (Legal job) whole legal) in
     let may : MayPut job (replay job before) driver replica thread count hit = parts.1.0 in
     let p = put-parts job (replay job before) replica thread count may.ran may.runs in
     slice_get_within (replay job before).replicas replica p.lent p.there
@@ -152,7 +153,7 @@ one-struck-alone job journal free one legal before rest driver replica thread co
         let same = is-only (named job.faults) replica s.0 in
         s.1 other r (not-only (named job.faults) other (λ e. d (sym e ∙ same))) there
     by (inl few) =
-        let parts = legal-split job (opening_core job) before (Put driver replica thread count hit ∷ rest) (subst (Legal job) whole legal) in
+        let parts = LegalFrom-parts job (opening_core job) before (Put driver replica thread count hit ∷ rest) (subst (Legal job) whole legal) in
         let many = (ordered job before parts.0).replica_count in
         let struck = struck-there job journal legal before rest driver replica thread count hit whole in
         let within = slice_get_within (replay job before).replicas other r there in

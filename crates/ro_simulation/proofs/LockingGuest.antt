@@ -469,9 +469,6 @@ take-runs (t ∷ threads) (suc place) machine end e =
 no-conflict : (t u : ℕ) → t ≢ u → (a b : Accesses) → Apart t a → Apart u b → (x : ℕ) → conflict_at a b x ≡ true → ⊥
 no-conflict t u different a b p q x e = ⊎_elim first second (or-cases _ _ e)
   where
-    zero-is : (n : ℕ) → (n == 0) ≡ true → n ≡ 0
-    zero-is n f = eqb-true n 0 f
-
     other-not : (m n : ℕ) → m ≢ n → (m == 0) ≡ true → (n == 0) ≡ false
     other-not m n d f = ⊎_elim (λ (g : (n == 0) ≡ true). absurd (d (eqb-true m 0 f ∙ sym (eqb-true n 0 g)))) (λ (g : (n == 0) ≡ false). g) (cases_Bool (n == 0))
 

@@ -12,6 +12,7 @@ use Rattle.ro_replica.specs.Replica.{Replica}
 use Rattle.ro_plain.specs.Machine.{Machine}
 use Rattle.ro_plain.specs.Order.{RaceFree}
 use Rattle.ro_plain.proofs.Calls.{some-injective}
+use Rattle.ro_legal.proofs.Journals.{replay_from-append}
 use Rattle.ro_legal.specs.Core.{Job, Core, opening_core}
 use Rattle.ro_legal.specs.Legal.{cut_output, after, MayVote, MayScrub, MayEnd, Legal, replay, output_of}
 use Rattle.ro_legal.specs.Ideal.{ideal, IsAlike, StaysApart}
@@ -27,7 +28,7 @@ use Rattle.ro_simulation.proofs.Kept.{ideal-same}
 use Rattle.ro_simulation.proofs.Votes.{stopped-in, vote-parts, AfterVote, after-vote}
 use Rattle.ro_simulation.proofs.Scrubs.{going as going-still, scrub-replicas, AfterScrub, after-scrub}
 use Rattle.ro_simulation.proofs.Ends.{end-as}
-use Rattle.ro_simulation.proofs.Journals.{replay-append, payloads-append, outcome-ended, ended-outcome, after-end-ended, Reached, opening-reached, Policy, Stage, goes_on, has_ended, reach, reach-before}
+use Rattle.ro_simulation.proofs.Journals.{payloads-append, outcome-ended, ended-outcome, after-end-ended, Reached, opening-reached, Policy, Stage, goes_on, has_ended, reach, reach-before}
 
 -- ---- what the invariant says of a journal with the same machine, replicas and kernel
 
@@ -128,7 +129,7 @@ module _ (job : Job) (free : RaceFree job.program) (Q : List Entry → List ℕ 
               let on_all : all.machine.ended ≡ None = ap (λ (m : Machine). m.ended) (sym same) ∙ on.2 in
               agrees-is-alike job (before ++ Vote thread count won lost did ∷ []) all.machine r all.ideal_is on_all
               (all.others_agree on_all number r d
-              (ap (λ (c : Core). slice_get c.replicas number) (sym (replay-append job (opening_core job) before (Vote thread count won lost did ∷ []))) ∙ there))
+              (ap (λ (c : Core). slice_get c.replicas number) (sym (replay_from-append job (opening_core job) before (Vote thread count won lost did ∷ []))) ∙ there))
 
   -- each scrub is good
   pub scrubs-well : EachScrubsWell job journal
@@ -144,7 +145,7 @@ module _ (job : Job) (free : RaceFree job.program) (Q : List Entry → List ℕ 
             agrees-is-alike job (before ++ Scrub won lost ∷ []) reached.holds.machine r (ideal-same job before (Scrub won lost) refl ∙ reached.holds.ideal_is) on
             (scrubbed.all_agree number r
             (ap (λ (rs : List Replica). slice_get rs number)
-            (sym (ap (λ (c : Core). c.replicas) (replay-append job (opening_core job) before (Scrub won lost ∷ [])) ∙ scrub-replicas job (replay job before) won lost)) ∙ there));
+            (sym (ap (λ (c : Core). c.replicas) (replay_from-append job (opening_core job) before (Scrub won lost ∷ [])) ∙ scrub-replicas job (replay job before) won lost)) ∙ there));
       }
         where
           on : reached.holds.machine.ended ≡ None

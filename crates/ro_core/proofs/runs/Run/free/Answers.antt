@@ -60,6 +60,7 @@ occur-requires c =
             blocked = refl;
             steps = refl;
             scrubbed = refl;
+            streak = refl;
             sent = refl;
             ended = refl;
             views = refl;

@@ -1,21 +1,99 @@
-// For a program with picolibc: its thread-local data, its streams and its end. The library keeps errno and what some of its
-// functions remember in thread-local data. Thread 0 finds its own at tp, which is set before anything else is run; a made thread
-// has none, so it may call no function that looks at them.
+// For a program with picolibc: its thread-local data, its locks, its streams and its end. The library keeps errno and what some
+// of its functions remember in thread-local data, at tp: thread 0 has a block of its own among the data, a made thread one at
+// the upper end of its stack. Linked with --wrap=pthread_create, by which the program's calls of that come to the one here.
 #include "call.h"
+#include <errno.h>
+#include <picotls.h>
+#include <pthread.h>
+#include <stdbool.h>
 #include <stdint.h>
 #include <stdio.h>
 #include <stdlib.h>
 
 typedef void constructor(void);
 
-extern char __thread_data[];
+extern char __thread_zero[];
 
-static void set_thread_pointer(void)
+// A thread goes on with a block that begins as the program's thread-local data does.
+static void begin_block(void *block)
 {
-    __asm__ volatile("mv tp, %0" : : "r"(__thread_data));
+    _init_tls(block);
+    _set_tls(block);
 }
 
-__attribute__((used, section(".preinit_array"))) static constructor *const first = set_thread_pointer;
+static void begin_thread_zero(void)
+{
+    begin_block(__thread_zero);
+}
+
+__attribute__((used, section(".preinit_array"))) static constructor *const first = begin_thread_zero;
+
+typedef void *thread_start(void *argument);
+
+// What made threads begin with. The kernel makes 15 beside the first, so the last entry is that of a call which it refuses.
+enum { THREADS = 16 };
+static struct made {
+    thread_start *start;
+    void *argument;
+} made[THREADS];
+
+static pthread_mutex_t making = PTHREAD_MUTEX_INITIALIZER;
+static unsigned count; // of made threads, under `making`
+static bool has_threads; // written before the first is made, and never again
+
+static void *begin_thread(void *begun)
+{
+    const struct made *own = begun;
+    begin_block(__builtin_alloca(_tls_size()));
+    return own->start(own->argument);
+}
+
+int __real_pthread_create(pthread_t *number, const pthread_attr_t *attributes, thread_start *start, void *argument);
+
+int __wrap_pthread_create(pthread_t *number, const pthread_attr_t *attributes, thread_start *start, void *argument)
+{
+    if ((uintptr_t)start % 4 != 0)
+        return EINVAL;
+    if (!has_threads)
+        has_threads = true;
+    int error = pthread_mutex_lock(&making);
+    if (error != 0)
+        return error;
+    made[count] = (struct made) { start, argument };
+    error = __real_pthread_create(number, attributes, begin_thread, &made[count]);
+    if (error == 0)
+        count++;
+    pthread_mutex_unlock(&making);
+    return error;
+}
+
+// The library's lock, which malloc and some others take. The thread that holds it may lock it again. It costs nothing as long as
+// no thread was made.
+struct __lock {
+    pthread_mutex_t mutex;
+    unsigned again; // under the mutex
+};
+
+struct __lock __lock___libc_recursive_mutex;
+
+void __retarget_lock_acquire_recursive(struct __lock *lock)
+{
+    int error = has_threads ? pthread_mutex_lock(&lock->mutex) : 0;
+    if (error == EDEADLK)
+        lock->again++;
+    else if (error != 0)
+        abort();
+}
+
+void __retarget_lock_release_recursive(struct __lock *lock)
+{
+    if (!has_threads)
+        return;
+    if (lock->again > 0)
+        lock->again--;
+    else
+        pthread_mutex_unlock(&lock->mutex);
+}
 
 // Bytes of a stream that are held between two calls of the kernel.
 enum { PIECE = 256 };

@@ -5,29 +5,34 @@
     tools/campaign.py --exe mine --input data --runs 1000 --rows rows.sqlite
     tools/campaign.py --exe mine --runs 1000 --rows rows.sqlite --unreplicated
     tools/campaign.py --guests ledger --pattern scattered --faults-per-run 1,2,4,8 --scrub 0,100000,10000 --kinds reg,mem \
-        --runs 10000 --rows scrubs.sqlite --points scrubs
+        --runs 10000 --rows scrubs.sqlite --points scrubs --points-plot scrubs.svg
     tools/campaign.py --check 20
 
 Of each run the output's bytes and the status are compared with those of the run without faults, and no vote may have a
-loser that wasn't struck. This is sound for programs whose output and status don't depend on the order of their threads;
-where two runs without faults show that they do, there is no campaign. Where faults in two replicas met, nothing is promised
-and nothing is wrong; what is promised holds too where strikes hit at most half of the replicas from each scrub to the next.
-Status 1 where anything differs; the faults are printed then. docs/FAULTS.md has the rest.
+loser that wasn't struck. This is sound for programs whose output and status don't depend on the order of their threads,
+and that have no data races; where runs without faults show that they do or have, there is no campaign. Where faults in two
+replicas met, nothing is promised and nothing is wrong; what is promised holds too where strikes hit at most half of the
+replicas from each scrub to the next. Status 1 where anything differs; the faults are printed then. Status 130 after an
+interrupt (Ctrl-C): what was done so far is told, and stays in the rows. docs/FAULTS.md has the rest.
 """
 import argparse
 import collections
+import contextlib
 import dataclasses
+import importlib.util
 import itertools
 import os
 import pathlib
+import sqlite3
 import subprocess
 import sys
 
-from campaigns import drawing, judging, points, programs, rows, running
+from campaigns import drawing, judging, points, programs, rows, running, telling
 
 ROOT = programs.ROOT
 REPLICAS = [2, 3, 5]
 MAX_DRIVERS = 8
+INTERRUPTED = 130  # the status of a shell's command that SIGINT ended
 
 
 class Input(argparse.Action):
@@ -35,7 +40,7 @@ class Input(argparse.Action):
 
     def __call__(self, parser, arguments, value, option=None):
         if not arguments.exe:
-            parser.error("--input stands behind its --exe")
+            parser.error("--input stands after its --exe")
         arguments.exe[-1].input = value
 
 
@@ -65,6 +70,7 @@ def read_arguments():
                       help="examples of guests/, parted by commas (all, where no program is given)")
     what.add_argument("--romain", help="the program (./romain)")
     what.add_argument("--limit", type=int, default=10**9, help="steps of the run without faults (10^9)")
+    what.add_argument("--racy", action="store_true", help="a program with threads isn't looked at for data races before")
     faults = parser.add_argument_group("what strikes it")
     faults.add_argument("--runs", type=int, default=200, help="of each program (200)")
     faults.add_argument("--check", type=int, metavar="N", help="N runs of each program, no table, one line at the end")
@@ -89,23 +95,38 @@ def read_arguments():
     told.add_argument("--rows", metavar="FILE", help="rows of SQLite, a run each; what is there isn't run again")
     told.add_argument("--csv", metavar="FILE", help="all rows as CSV")
     told.add_argument("--table", type=pathlib.Path, metavar="FILE", help="tables of all rows (standard output)")
-    told.add_argument("--plot", metavar="FILE", help="picture of the fates")
+    told.add_argument("--plot", metavar="FILE", help="picture of the fates; this and the next by matplotlib")
     told.add_argument("--latencies", metavar="FILE", help="picture of the latencies")
     told.add_argument("--points", metavar="NAME", help="the share of runs that end wrong by faults a run and by scrubs, of "
-                      f"{' and '.join(drawing.MANY)}: NAME.md, NAME.csv, and NAME.svg and NAME.png by matplotlib")
+                      f"{' and '.join(drawing.MANY)}: NAME.md and NAME.csv")
+    told.add_argument("--points-plot", metavar="FILE", help="picture of these shares, by matplotlib")
     arguments = parser.parse_args()
     if arguments.check is not None:
         arguments.runs = arguments.check
     return arguments
 
 
+def look_for_folders(arguments):
+    """Where a file is to be written and there is no such folder, that is said before anything is run."""
+    for path in arguments.rows, arguments.csv, arguments.table, arguments.plot, arguments.latencies, arguments.points, \
+            arguments.points_plot:
+        if path and not pathlib.Path(path).absolute().parent.is_dir():
+            sys.exit(f"campaign: failed, nothing was run: {path}: there is no such folder")
+
+
+def look_for_libraries(arguments):
+    """So it is where a library is missing for what is asked."""
+    pictures = arguments.plot or arguments.latencies or arguments.points_plot
+    for is_asked, library, what in [(pictures, "matplotlib", "pictures"), (arguments.scheduler, "distributed", "a cluster")]:
+        if is_asked and importlib.util.find_spec(library) is None:
+            sys.exit(f"campaign: failed, nothing was run: Python's library {library} isn't here, which is needed for {what}; "
+                     "docs/FAULTS.md says how to install it")
+
+
 def build(arguments):
     """Words that are no command are answered at once, and the program is built then if it wasn't."""
     script = arguments.romain or str(ROOT / "romain")
-    try:
-        done = subprocess.run([script, "run"], stdin=subprocess.DEVNULL, capture_output=True)
-    except OSError as error:
-        sys.exit(f"campaign: failed, nothing was run: {error}")
+    done = subprocess.run([script, "run"], stdin=subprocess.DEVNULL, capture_output=True)
     if done.returncode != 249:
         print(done.stderr.decode(errors="replace"), end="", file=sys.stderr)
         sys.exit(f"campaign: failed, nothing was run: {script} run ends with status {done.returncode}, not 249")
@@ -185,7 +206,7 @@ def results_of(arguments, jobs):
         return
     try:
         yield from running.on_cluster(jobs, arguments.scheduler)
-    except (ImportError, OSError) as error:
+    except OSError as error:
         sys.exit(f"campaign: failed, the rows so far are kept: no cluster at {arguments.scheduler}: {error}")
 
 
@@ -205,12 +226,13 @@ def run_all(arguments, campaigns, kept):
     drawn_parts = {}
     jobs = jobs_of(arguments, campaigns, kept, drawn_parts)
     total = sum(len(set(range(arguments.runs)) - kept.numbers(campaign.key)) for campaign in campaigns)
-    for key, judged in bar(results_of(arguments, jobs), total):
-        drawn, words = drawn_parts.pop(tuple(key))
-        kept.add(dict(zip(rows.KEY + rows.DRAWN, [*key, *drawn])) | judged)
-        if judged.get("trouble"):
-            print(f"{key[0]}: {judged['trouble']}, by the faults", *drawn[0].splitlines(), sep="\n    ")
-            print(f"of romain {' '.join(words)} --faults FILE", flush=True)
+    with contextlib.closing(results_of(arguments, jobs)) as results:
+        for key, judged in bar(results, total):
+            drawn, words = drawn_parts.pop(tuple(key))
+            kept.add(dict(zip(rows.KEY + rows.DRAWN, [*key, *drawn])) | judged)
+            if judged.get("trouble"):
+                print(f"{key[0]}: {judged['trouble']}, by the faults", *drawn[0].splitlines(), sep="\n    ")
+                print(f"of romain {' '.join(words)} --faults FILE", flush=True)
 
 
 def tell(arguments, kept):
@@ -218,50 +240,68 @@ def tell(arguments, kept):
     if arguments.csv:
         kept.write_csv(arguments.csv)
     if arguments.points:
-        trouble = points.tell(kept, arguments.points)
-        if trouble:
-            print(f"campaign: {trouble}", file=sys.stderr)
-    is_asked = arguments.table or arguments.plot or arguments.latencies
-    if not is_asked and (arguments.check is not None or arguments.points):
-        return
-    try:
-        import pandas
-        from campaigns import telling
-    except ImportError as error:
-        print(f"campaign: no tables and pictures: {error}", file=sys.stderr)
-        return
-    frame = pandas.DataFrame(kept.every(), columns=rows.COLUMNS)
-    text = telling.table(frame)
+        points.tell(kept, arguments.points)
+    shares = list(points.points_of(kept))
+    if arguments.points_plot and shares:
+        points.plot(shares, arguments.points_plot)
+    every = list(kept.every())
     if arguments.table:
-        arguments.table.write_text(text)
-    elif arguments.check is None and not arguments.points:
-        print(text)
+        arguments.table.write_text(telling.table(every))
+    elif arguments.check is None and not arguments.points and not arguments.points_plot:
+        print(telling.table(every))
     if arguments.plot:
-        telling.plot_fates(frame, arguments.plot)
+        telling.plot_fates(every, arguments.plot)
     if arguments.latencies:
-        telling.plot_latencies(frame, arguments.latencies)
+        telling.plot_latencies(every, arguments.latencies)
+
+
+def summary(arguments, campaigns, kept, was_interrupted):
+    """Prints the last line, and gives the status."""
+    counts, is_troubled = collections.Counter(), False
+    for campaign in campaigns:
+        for fate, trouble, runs in kept.fates(campaign.key):
+            counts[fate] += runs
+            is_troubled = is_troubled or bool(trouble)
+    fates = judging.FATES_ALONE if arguments.unreplicated else judging.FATES
+    told = ", ".join(f"{counts[fate]} {fate}" for fate in fates if counts[fate] or fate == "differs")
+    verdict = "failed" if is_troubled else "interrupted" if was_interrupted else "passed"
+    runs = f"{counts.total()} of {arguments.runs * len(campaigns)}" if was_interrupted else f"{counts.total()}"
+    print(f"campaign: {verdict}, {runs} runs: {told}")
+    return 1 if is_troubled else INTERRUPTED if was_interrupted else 0
+
+
+def opened(arguments):
+    """The programs that are asked for, run without faults, and the rows."""
+    asked = requests(arguments)
+    build(arguments)
+    every = [programs.open_program(arguments, request) for request in asked]
+    kept = rows.Rows(arguments.rows)
+    if not kept.has_columns():
+        sys.exit(f"campaign: failed, nothing was run: the rows of {arguments.rows} have other columns")
+    return every, kept
 
 
 def main():
     arguments = read_arguments()
-    asked = requests(arguments)
-    build(arguments)
-    opened = [programs.open_program(arguments, request) for request in asked]
-    kept = rows.Rows(arguments.rows)
-    if not kept.has_columns():
-        sys.exit(f"campaign: failed, nothing was run: the rows of {arguments.rows} have other columns")
-    campaigns = [campaign for program in opened for campaign in campaigns_of(arguments, program)]
-    run_all(arguments, campaigns, kept)
+    look_for_folders(arguments)
+    look_for_libraries(arguments)
+    try:
+        every, kept = opened(arguments)
+    except KeyboardInterrupt:
+        print("campaign: interrupted, nothing was run")
+        sys.exit(INTERRUPTED)
+    except OSError as error:
+        sys.exit(f"campaign: failed, nothing was run: {error.filename}: {error.strerror}")
+    except sqlite3.Error as error:
+        sys.exit(f"campaign: failed, nothing was run: {arguments.rows}: {error}")
+    campaigns = [campaign for program in every for campaign in campaigns_of(arguments, program)]
+    was_interrupted = False
+    try:
+        run_all(arguments, campaigns, kept)
+    except KeyboardInterrupt:
+        was_interrupted = True
     tell(arguments, kept)
-    counts, troubled = collections.Counter(), False
-    for campaign in campaigns:
-        for fate, trouble, runs in kept.fates(campaign.key):
-            counts[fate] += runs
-            troubled = troubled or bool(trouble)
-    fates = judging.FATES_ALONE if arguments.unreplicated else judging.FATES
-    told = ", ".join(f"{counts[fate]} {fate}" for fate in fates if counts[fate] or fate == "differs")
-    print(f"campaign: {'failed' if troubled else 'passed'}, {counts.total()} runs: {told}")
-    sys.exit(1 if troubled else 0)
+    sys.exit(summary(arguments, campaigns, kept, was_interrupted))
 
 
 if __name__ == "__main__":

@@ -1,5 +1,5 @@
 """The share of runs that end wrong against the number of faults a run, for each number of steps from scrub to scrub: a table,
-and a picture where matplotlib is here."""
+and by matplotlib a picture."""
 import csv
 import dataclasses
 import pathlib
@@ -9,6 +9,7 @@ from campaigns.forms import figure, markdown, save, wilson
 
 WRONG = "no majority", "outvoted", "differs"  # fates
 COLOURS = ["#252525", "#d94801", "#2171b5", "#238b45", "#6a51a3", "#d6278a"]
+LEGEND = 0.08  # the share of the picture's height below the parts
 
 
 @dataclasses.dataclass
@@ -38,8 +39,8 @@ def points_of(kept):
 
 
 # What of runs is counted in each part of the picture.
-PANELS = {"that end wrong or by no-majority": Point.wrong, "that end wrong": lambda point: point.wrong() - point.no_majority,
-          "in which strikes stay few": lambda point: point.few}
+PANELS = {"wrong output, or ended by no-majority": Point.wrong, "wrong output": lambda point: point.wrong() - point.no_majority,
+          "covered by the promise": lambda point: point.few}
 
 
 def scrub_words(scrub):
@@ -78,19 +79,27 @@ def plot(points, path):
     first = points[0]
     points = [point for point in points
               if (point.program, point.replicas, point.pattern) == (first.program, first.replicas, first.pattern)]
-    drawn, every = figure(3.4, 10, ncols=3)
+    drawn, every = figure(3.8, 10, ncols=3)
     for colour, scrub in zip(COLOURS, sorted({point.scrub for point in points}, key=lambda scrub: -(scrub or 10**13))):
         some = sorted((point for point in points if point.scrub == scrub), key=lambda point: point.faults)
         label = "no scrub" if scrub == 0 else f"a scrub every {scrub:,} steps"
         for axes, count in zip(every, PANELS.values()):
             draw(axes, some, [(count(point), point.runs) for point in some], colour, label)
     for axes, name in zip(every, PANELS):
-        axes.set_title(f"% of runs {name}", fontsize=9)
-        axes.set_xlabel("faults a run")
+        axes.set_title(name, fontsize=9)
+        axes.set_xlabel("faults injected in one run")
+        axes.set_ylabel("share of the runs, in %")
         axes.set_xticks(sorted({point.faults for point in points}))
         axes.set_ylim(0, 105 if axes is every[-1] else None)
-    every[0].legend(frameon=False)
+    drawn.suptitle(f"{first.program}, {first.replicas} replicas, n = {runs_words(points)} runs at each point", fontsize=9)
+    drawn.get_layout_engine().set(rect=(0, LEGEND, 1, 1 - LEGEND))
+    drawn.legend(*every[0].get_legend_handles_labels(), loc="lower center", ncol=len(COLOURS), frameon=False)
     save(drawn, path)
+
+
+def runs_words(points):
+    least, most = min(point.runs for point in points), max(point.runs for point in points)
+    return f"{least:,}" if least == most else f"{least:,} to {most:,}"
 
 
 def draw(axes, points, counts, colour, label):
@@ -103,15 +112,7 @@ def draw(axes, points, counts, colour, label):
 
 
 def tell(kept, stem):
-    """Writes the table, the same as CSV, and the picture, in files of this name; what isn't drawn and why, or nothing."""
+    """Writes the table, and the same as CSV, in files of this name."""
     points = list(points_of(kept))
     pathlib.Path(f"{stem}.md").write_text(table(points))
     write_csv(points, f"{stem}.csv")
-    if not points:
-        return ""
-    try:
-        plot(points, f"{stem}.svg")
-        plot(points, f"{stem}.png")
-    except ImportError as error:
-        return f"no picture: {error}"
-    return ""

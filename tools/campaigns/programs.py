@@ -5,18 +5,17 @@ import dataclasses
 import hashlib
 import pathlib
 import struct
+import subprocess
 import sys
+import tempfile
 
 from campaigns.running import call
 from journals import read_report
 
-try:
-    from elftools.elf.elffile import ELFFile
-except ImportError:  # places are then code, data, heap and stack alone
-    ELFFile = None
-
 ROOT = pathlib.Path(__file__).resolve().parent.parent.parent
 PAGE = 4096
+SYMBOL_TABLE, ALLOCATED = 2, 2  # the kind of a section; the flag of one that is in memory
+OBJECT, FUNCTION = 1, 2  # kinds of symbols
 # of the heap only the part that small programs use is struck
 HEAP_PART = 16 * 1024
 
@@ -64,25 +63,53 @@ def areas_of(data):
     return areas
 
 
-def names_of(exe):
-    """Section and symbol by ranges of addresses."""
-    if ELFFile is None:
+@dataclasses.dataclass
+class Section:
+    name: str
+    kind: int
+    flags: int
+    address: int
+    offset: int
+    size: int
+    link: int  # the number of another section: of a symbol table its strings
+
+
+def text_at(data, place):
+    return data[place:data.index(b"\0", place)].decode(errors="replace")
+
+
+def sections_of(data):
+    """The sections of an executable, in the order of their numbers."""
+    start, count, names = struct.unpack_from("<I", data, 32)[0], *struct.unpack_from("<HH", data, 48)
+    if start == 0:
         return []
-    with open(exe, "rb") as file:
-        elf = ELFFile(file)
-        table = elf.get_section_by_name(".symtab")
-        symbols = sorted({(symbol["st_value"], symbol["st_size"], symbol.name) for symbol in table.iter_symbols()
-                          if symbol["st_info"]["type"] in ("STT_FUNC", "STT_OBJECT")}) if table else []
-        names = []
-        for section in elf.iter_sections():
-            if section["sh_flags"] & 2 and section["sh_size"]:
-                names += ranges_of(section, symbols)
-    return sorted(names)
+    heads = [struct.unpack_from("<7I", data, start + 40 * i) for i in range(count)]
+    return [Section(text_at(data, heads[names][4] + name), *rest) for name, *rest in heads]
+
+
+def symbols_of(data, sections):
+    """Address, size and name of the functions and objects, in order."""
+    tables = [section for section in sections if section.kind == SYMBOL_TABLE]
+    found = set()
+    for table in tables:
+        strings = sections[table.link].offset
+        for name, value, size, info, _, _ in struct.iter_unpack("<IIIBBH", data[table.offset:table.offset + table.size]):
+            if info & 15 in (OBJECT, FUNCTION):
+                found.add((value, size, text_at(data, strings + name)))
+    return sorted(found)
+
+
+def names_of(data):
+    """Section and symbol by ranges of addresses."""
+    sections = sections_of(data)
+    symbols = symbols_of(data, sections)
+    return sorted(name for section in sections if section.flags & ALLOCATED and section.size
+                  for name in ranges_of(section, symbols))
 
 
 def ranges_of(section, symbols):
     """A section cut at its functions and objects; one without a size reaches to the next. What is between has no name."""
-    start, end = section["sh_addr"], section["sh_addr"] + section["sh_size"]
+    start, end = section.address, section.address + section.size
     at, cuts = start, [cut for cut in symbols if start <= cut[0] < end]
     for (value, size, name), after in zip(cuts, [*(value for value, _, _ in cuts[1:]), end]):
         if at < value:
@@ -119,7 +146,10 @@ def examples(names):
 def read_table(path):
     """A table of programs in CSV: a line of heads, name,exe,input; paths are from the table's folder."""
     with open(path, newline="") as file:
-        for line in csv.DictReader(file):
+        table = csv.DictReader(file)
+        if "exe" not in (table.fieldnames or []):
+            sys.exit(f"campaign: failed, nothing was run: {path} has no column exe; its heads are name,exe,input")
+        for line in table:
             given = line.get("input") or ""
             exe = path.parent / line["exe"]
             yield Request(line.get("name") or exe.name, exe, path.parent / given if given else None)
@@ -144,20 +174,45 @@ def open_program(arguments, request):
     status, output, text = plain_run(arguments, without + ["--drivers", "1"])
     report = read_report(text)
     if not report.answer.startswith("exit ") or (request.wanted and (status, output) != request.wanted):
-        sys.exit(f"{request.name}: without faults it doesn't run as it should, answer {report.answer}")
+        refuse(request, f"without faults it doesn't run as it should, answer {report.answer}")
+    retired = report.retired()
+    has_to_be_free_of_races = len(retired) > 1 and not arguments.racy
+    if has_to_be_free_of_races:
+        look_for_race(arguments, request, words, text)
     # Judging compares with one run; where another order of threads shows, that says nothing.
     for other in OTHER_ORDERS:
-        if plain_run(arguments, without + other)[:2] != (status, output):
-            sys.exit(f"{request.name}: without faults it writes otherwise in another order of its threads: no campaign")
+        *same, text = plain_run(arguments, without + other)
+        if has_to_be_free_of_races:
+            look_for_race(arguments, request, words, text)
+        if same != [status, output]:
+            refuse(request, "without faults it writes otherwise in another order of its threads")
     data = request.exe.read_bytes()
     given = request.input.read_bytes() if request.input else b""
     image = hashlib.sha256(hashlib.sha256(data).digest() + given).hexdigest()[:16]
-    return Program(request.name, words, image, output, status, report.summary["steps"], report.retired(), areas_of(data),
-                   names_of(request.exe))
+    return Program(request.name, words, image, output, status, report.summary["steps"], retired, areas_of(data), names_of(data))
+
+
+def refuse(request, why):
+    sys.exit(f"campaign: failed, nothing was run: {request.name}: {why}")
 
 
 def plain_run(arguments, words):
     done = call(arguments.romain, words, "", arguments.seconds)
     if done is None:
-        sys.exit(f"campaign: failed: romain {' '.join(words)} doesn't come to its end")
+        sys.exit(f"campaign: failed, nothing was run: romain {' '.join(words)} doesn't come to its end")
     return done
+
+
+def look_for_race(arguments, request, words, text):
+    """Refuses a program whose threads raced in a run without faults: its replicas may differ though nothing struck them."""
+    with tempfile.NamedTemporaryFile("w", suffix=".journal") as plan:
+        plan.write(text)
+        plan.flush()
+        command = [arguments.romain, "races", *words[1:], "--plan", plan.name]
+        told = subprocess.run(command, stdin=subprocess.DEVNULL, capture_output=True, text=True).stderr
+    answer, *places = read_report(told).answer.split(" ")
+    if answer == "race":
+        refuse(request, "steps {} and {} of a run without faults race for the byte at {}, so replicas may differ that nothing "
+                        "struck; tools/races.py says where, and --racy goes on all the same".format(*places))
+    if answer != "no-race":
+        refuse(request, f"whether its threads race can't be told, romain races answers {answer}; --racy goes on all the same")

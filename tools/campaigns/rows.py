@@ -1,4 +1,5 @@
 """The rows of a campaign: one a run, in a file of SQLite, written as each run ends. A later call goes on from them."""
+import collections
 import csv
 import sqlite3
 
@@ -6,6 +7,7 @@ KEY = ["program", "image", "machine", "replicas", "drivers", "scrub", "pattern",
 DRAWN = ["faults", "kind", "place", "register", "bit", "address", "section", "symbol", "moment"]
 JUDGED = ["fate", "vote", "latency", "struck", "few", "status", "answer", "trouble"]
 COLUMNS = KEY + DRAWN + JUDGED
+Row = collections.namedtuple("Row", COLUMNS)
 
 
 class Rows:
@@ -27,14 +29,13 @@ class Rows:
 
     def add(self, row):
         """A run that ended. It is in the file when this returns."""
-        self.base.execute(f"insert or replace into runs values ({', '.join('?' * len(COLUMNS))})",
-                          [row.get(name) for name in COLUMNS])
-        self.base.commit()
+        with self.base:  # which is rolled back at an interrupt
+            self.base.execute(f"insert or replace into runs values ({', '.join('?' * len(COLUMNS))})",
+                              [row.get(name) for name in COLUMNS])
 
     def every(self):
-        """All rows as dictionaries, in the order of their keys."""
-        for row in self.base.execute(f"select * from runs order by {', '.join(KEY)}"):
-            yield dict(zip(COLUMNS, row))
+        """All rows, in the order of their keys."""
+        yield from map(Row._make, self.base.execute(f"select * from runs order by {', '.join(KEY)}"))
 
     def fates(self, campaign):
         """The fates and troubles of a campaign's runs, each with how many there are."""
@@ -55,6 +56,6 @@ class Rows:
 
     def write_csv(self, path):
         with open(path, "w", newline="") as file:
-            writer = csv.DictWriter(file, COLUMNS, lineterminator="\n")
-            writer.writeheader()
+            writer = csv.writer(file, lineterminator="\n")
+            writer.writerow(COLUMNS)
             writer.writerows(self.every())

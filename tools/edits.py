@@ -28,7 +28,9 @@ def main(names):
     known = sorted(it.name for it in EDITS.iterdir())
     unknown = [name for name in names if name not in known]
     if unknown:
-        sys.exit(f"tests/edits has none of {' '.join(unknown)}")
+        sys.exit(f"edits: tests/edits has none of {' '.join(unknown)}")
+    if not shutil.which("rt"):
+        sys.exit("edits: the command rt of the Rattle kit isn't on the PATH")
     names = names or known
     with tempfile.TemporaryDirectory() as room:
         copy_with_edits(names, pathlib.Path(room))

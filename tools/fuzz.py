@@ -24,6 +24,7 @@ import sys
 import tempfile
 import time
 
+import sentences
 from fuzzing import kinds
 
 ROOT = kinds.ROOT
@@ -34,15 +35,22 @@ PROGRAM = ROMAIN if "ROMAIN" in os.environ else str(ROOT / "crates/romain/out/ro
 PART = 100  # cases that are drawn, run and judged in a row by one process
 
 
+def positive(text):
+    number = int(text)
+    if number < 1:
+        raise argparse.ArgumentTypeError(f"{text} is less than 1")
+    return number
+
+
 def read_arguments():
     parser = argparse.ArgumentParser(description=__doc__, formatter_class=argparse.RawDescriptionHelpFormatter)
     parser.add_argument("--kinds", default=",".join(kinds.KINDS), help="parted by commas (all)")
-    parser.add_argument("--count", type=int, default=400, help="cases of each kind (400)")
+    parser.add_argument("--count", type=positive, default=400, help="cases of each kind (400)")
     parser.add_argument("--seed", type=int, default=1, help="of the draws (1)")
     parser.add_argument("--first", type=int, default=0, metavar="N", help="the number of the first case (0)")
     parser.add_argument("--only", type=int, metavar="N", help="case N alone, which is kept")
     parser.add_argument("--seconds", type=float, default=20, help="that one run may take (20)")
-    parser.add_argument("--jobs", type=int, default=len(os.sched_getaffinity(0)), help="runs at once (one a processor)")
+    parser.add_argument("--jobs", type=positive, default=len(os.sched_getaffinity(0)), help="runs at once (one a processor)")
     parser.add_argument("--keep", type=pathlib.Path, default=ROOT / "out/fuzz", metavar="FOLDER",
                         help="where cases that fail are kept (out/fuzz)")
     arguments = parser.parse_args()
@@ -58,7 +66,7 @@ def build():
     try:
         done = subprocess.run([ROMAIN, "run"], stdin=subprocess.DEVNULL, capture_output=True)
     except OSError as error:
-        sys.exit(f"fuzz: failed, nothing was run: {error}")
+        sys.exit(f"fuzz: failed, nothing was run: {sentences.of_system(error)}")
     if done.returncode != 249:
         print(done.stderr.decode(errors="replace"), end="", file=sys.stderr)
         sys.exit(f"fuzz: failed, nothing was run: {ROMAIN} run ends with status {done.returncode}, not 249")
@@ -124,8 +132,12 @@ def tell(arguments, name, number, found):
     """Keeps a case, and says what is wrong with it."""
     folder = arguments.keep / f"{name}-{arguments.seed}-{number}"
     again = f"tools/fuzz.py --kinds {name} --seed {arguments.seed} --only {number}"
-    keep(draw(kinds.KINDS[name](), name, arguments.seed, number), folder, found, again)
-    print(f"{name} {number}, kept in {folder}:", *found, again, sep="\n    ", flush=True)
+    kept = f"kept in {folder}"
+    try:
+        keep(draw(kinds.KINDS[name](), name, arguments.seed, number), folder, found, again)
+    except OSError as error:
+        kept = f"not kept, {sentences.of_system(error)}"
+    print(f"{name} {number}, {kept}:", *found, again, sep="\n    ", flush=True)
 
 
 def fuzz(arguments, name, pool):

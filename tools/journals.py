@@ -65,11 +65,6 @@ class Report:
                 counts[entry.thread] = counts.get(entry.thread, 0) + entry.retired
         return counts
 
-    def losses(self):
-        """The votes and scrubs that had losers, each with its place in the journal."""
-        return [(place, entry) for place, entry in enumerate(self.entries)
-                if isinstance(entry, Vote | Scrub) and entry.losers]
-
 
 def losers_of(word):
     return () if word == "-" else tuple(map(int, word.split(",")))

@@ -17,6 +17,7 @@ import pathlib
 import subprocess
 import sys
 
+import sentences
 from racing.machine import NoStep, Refused, Replay, plan_of, steps_of
 from racing.symbols import Executable
 from racing.telling import NoRace, Teller, race_at
@@ -64,8 +65,10 @@ def main():
                 sys.exit(status)
             race = [int(number) for number in answer.split(" ")[1:]]
         print(explain(arguments, race), end="")
-    except (OSError, Refused) as error:
-        sys.exit(f"races: {error}")
+    except OSError as error:
+        sys.exit(f"races: {sentences.of_system(error)}")
+    except Refused as answer:
+        sys.exit(f"races: refused, as by `answer {answer}`")
     except NoStep:
         sys.exit("races: the plan has a step that does not exist before that one")
     except NoRace as reason:

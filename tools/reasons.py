@@ -19,6 +19,8 @@ import shutil
 import sys
 import tempfile
 
+import sentences
+
 ROOT = pathlib.Path(__file__).resolve().parent.parent
 EDITS = ROOT / "tests/edits"
 TOLD = re.compile(r"(?:rt: )?must-fail (\S+\.edit): (.*)")
@@ -85,7 +87,8 @@ def told_in(text):
 
 def kit():
     """The kit's own program as a module: how it reads and tries an edit."""
-    loader = importlib.machinery.SourceFileLoader("rt", os.path.realpath(shutil.which("rt")))
+    program = shutil.which("rt") or sys.exit("reasons: the command rt of the Rattle kit isn't on the PATH")
+    loader = importlib.machinery.SourceFileLoader("rt", os.path.realpath(program))
     module = importlib.util.module_from_spec(importlib.util.spec_from_loader("rt", loader))
     loader.exec_module(module)
     return module
@@ -163,7 +166,10 @@ def main(words):
     elif words == ["--names"]:
         reasons = named()
     elif len(words) == 1 and words[0] not in ("-h", "--help"):
-        text = sys.stdin.read() if words[0] == "-" else pathlib.Path(words[0]).read_text(errors="replace")
+        try:
+            text = sys.stdin.read() if words[0] == "-" else pathlib.Path(words[0]).read_text(errors="replace")
+        except OSError as error:
+            sys.exit(f"reasons: {sentences.of_system(error)}")
         reasons = told_in(text)
     else:
         sys.exit(__doc__)

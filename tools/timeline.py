@@ -18,6 +18,7 @@ import pathlib
 import statistics
 import sys
 
+import sentences
 from journals import End, Free, Put, Scrub, Vote, read_report
 
 LEFT, RIGHT, WIDTH = 96, 24, 1100  # margins and the whole width, in pixels
@@ -69,12 +70,33 @@ class Drawing:
     length: int
 
 
+def read_text(path):
+    """Bytes that are no text are no journal either, and are told as what stands there."""
+    return path.read_text(errors="backslashreplace")
+
+
+def read_journal(text, name):
+    """The report, or an end that names the first line that has no meaning."""
+    try:
+        return read_report(text)
+    except (ValueError, IndexError, TypeError):
+        for number, line in enumerate(text.splitlines(), 1):
+            try:
+                read_report(line)
+            except (ValueError, IndexError, TypeError):
+                sys.exit(f"timeline: {name} is no journal: line {number} is {line!r}")
+        raise
+
+
 def read_faults(path):
     """Moments of the fault list's lines by replica and thread, and the lines."""
     faults = {}
-    for line in path.read_text().splitlines() if path else []:
-        replica, thread, moment, *_ = line.split(" ")
-        faults.setdefault((int(replica), int(thread)), []).append((int(moment), line))
+    for number, line in enumerate(read_text(path).splitlines() if path else [], 1):
+        try:
+            replica, thread, moment, *_ = line.split(" ")
+            faults.setdefault((int(replica), int(thread)), []).append((int(moment), line))
+        except ValueError:
+            sys.exit(f"timeline: {path} is no fault list: line {number} is {line!r}")
     return {lane: sorted(some, key=lambda fault: fault[0]) for lane, some in faults.items()}
 
 
@@ -163,6 +185,10 @@ def layout(report, faults):
         elif isinstance(entry, End):
             end = entry.how
     lanes = sorted({bar.lane for bar in clock.bars}, key=lambda lane: (lane[1], lane[0]))
+    for mark in clock.marks:
+        ran = {replica for replica, thread in lanes if mark.is_on((replica, thread))}
+        if not ran or not ran.issuperset(replica for copy in mark.copies for replica in copy):
+            sys.exit(f"timeline: this is no whole journal: nothing ran before: {mark.title}")
     length = max([clock.now, *clock.at.values()])
     return Drawing(clock.bars, clock.marks, clock.strikes, lanes, end, length)
 
@@ -374,12 +400,11 @@ def read_arguments():
     return parser.parse_args()
 
 
-def main():
-    arguments = read_arguments()
-    text = sys.stdin.read() if arguments.journal == "-" else pathlib.Path(arguments.journal).read_text()
-    report = read_report(text)
+def draw(arguments):
+    text = sys.stdin.read() if arguments.journal == "-" else read_text(pathlib.Path(arguments.journal))
+    report = read_journal(text, arguments.journal)
     if not report.entries:
-        sys.exit("timeline: there is no journal; run with --journal")
+        sys.exit(f"timeline: {arguments.journal} has no journal; run with --journal")
     drawing = layout(report, read_faults(arguments.faults))
     picture = Picture(drawing, Scale(drawing), report.summary).draw()
     if arguments.out and arguments.out.suffix == ".html":
@@ -388,6 +413,14 @@ def main():
         arguments.out.write_text(picture)
     else:
         print(picture, end="")
+
+
+def main():
+    arguments = read_arguments()
+    try:
+        draw(arguments)
+    except OSError as error:
+        sys.exit(f"timeline: {sentences.of_system(error)}")
 
 
 if __name__ == "__main__":

@@ -60,6 +60,13 @@ class Function:
         return self.words + [EBREAK] * (ROOM // 4 - len(self.words))
 
 
+def linked(functions: list[Function]) -> bytes:
+    """The executable of a program's functions, which begins with the first."""
+    words = [form_j(FIRST - CODE, 0)] + [EBREAK] * len(NAMES) + [0] * 4
+    words += [word for function in functions for word in function.whole()]
+    return executable(words, [Symbol(address, address + 4, FUNCTION, name) for name, address in STUBS.items()])
+
+
 def draw_access(draw: random.Random, function: Function):
     """A load or a store, or seldom a call that reads or writes bytes, or a store to the first word of a function."""
     size = draw.choice((0, 0, 1, 2))
@@ -116,9 +123,7 @@ def draw_program(draw: random.Random) -> bytes:
             else:
                 function.call("pthread_join", other, draw.choice((0, 0, SHARED, SHARED + 4)))
         draw_end(draw, function, number == 0)
-    words = [form_j(FIRST - CODE, 0)] + [EBREAK] * len(NAMES) + [0] * 4
-    words += [word for function in functions for word in function.whole()]
-    return executable(words, [Symbol(address, address + 4, FUNCTION, name) for name, address in STUBS.items()])
+    return linked(functions)
 
 
 # ---- Drawn orders

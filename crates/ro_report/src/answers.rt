@@ -32,7 +32,7 @@ pub enum Answer {
     Unended,
     /// Two replicas differed.
     Differ,
-    /// No more than half of the views were alike.
+    /// No more than half of the replicas agreed, at a vote or at a scrub.
     NoMajority,
     /// The run had so many steps, and those that would have come next would have passed the limit; or a plan has too many,
     /// so many before an entry, and so many more by that entry.

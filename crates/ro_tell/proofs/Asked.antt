@@ -32,14 +32,3 @@ module _ (files : Option Files) (run : AskedRun) (job : Job) (old mid : Calls) (
     job = has_job;
     refused = subst (λ (count : ℕ). RefusesJournal files name count after mid new answer) calm (subst (λ (t : Option Files). RefusesJournal t name middle after mid new answer) told refused);
   }
-
-  pub lacks_behind : (now : Option Files) (name : List ℕ) (entries : List Entry) (new : Calls) → now ≡ files → IsJournalOf now name entries
-      → Asks mid new (unfailed (name ∷ [])) → LacksMemory files run name old new NoMemory
-  lacks_behind now name entries new told journal asks = record {
-    job = job;
-    is_job = is;
-    entries = entries;
-    are_entries = subst (λ (t : Option Files). IsJournalOf t name entries) told journal;
-    asks = all_asks name new asks;
-    wanting = refl;
-  }

@@ -75,10 +75,3 @@ pub shown_journal : (shown : Bool) (journal : List Entry) → shown ≡ true →
 shown_journal false journal is some = absurd (true≢false (sym is))
 shown_journal true [] is some = absurd (some refl)
 shown_journal true (entry ∷ journal) is some = refl
-
--- the front that was sent, with a piece more
-pub sent_more : (bytes : List ℕ) (sent taken left : ℕ) → taken ≤ length (take left (drop sent bytes)) → take (sent + taken) bytes ≡ take sent bytes ++ take taken (take left (drop sent bytes))
-sent_more bytes sent taken left few =
-    take-add sent taken bytes
-    ∙ ap (λ (xs : List ℕ). take sent bytes ++ xs)
-    (ap (take taken) (sym (take-append-drop left (drop sent bytes))) ∙ take-append-le taken (take left (drop sent bytes)) (drop left (drop sent bytes)) few)

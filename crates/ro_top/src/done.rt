@@ -32,7 +32,7 @@ pub struct Done<K> {
     pub told: Told,
     /// The journal of the run, or nothing where there was none.
     pub journal: Vec<Entry>,
-    /// Where it ended by a vote of views that had no majority, those views in the order of the replicas.
+    /// Where it ended by a vote of views that had no majority, those views in the order of the replicas; else none.
     pub views: Vec<View>,
     /// The sink of the output.
     pub out: K,

@@ -26,7 +26,7 @@ pub struct JobRun<K> {
     pub answer: Answer,
     /// All that happened; nothing, where there was no memory to begin.
     pub journal: Vec<Entry>,
-    /// Where it ended by a vote of views that had no majority, those views in the order of the replicas.
+    /// Where it ended by a vote of views that had no majority, those views in the order of the replicas; else none.
     pub views: Vec<View>,
     /// How many bytes were written.
     pub bytes: u64,

@@ -1,0 +1,120 @@
+# A line after the report of a run that was refused or ended badly, which says what helps. The script romain sources this file;
+# it has set root, program, unproved and self, the script's own name.
+
+tab=$(printf '\t')
+
+run() {
+    status=0
+    "$program" "$@" || status=$?
+}
+
+# The program's standard output stays what it is; its report passes through awk, which keeps the lines that hints are made of.
+run_with_hint() {
+    folder=$(mktemp -d)
+    trap 'rm -rf "$folder"' EXIT
+    trap 'exit 130' INT
+    trap 'exit 143' TERM
+    report=$(readlink /proc/self/fd/2 || true)
+    {
+        {
+            run "$@" 2>&1 >&3 3>&-
+            echo "$status" >"$folder/status"
+        } | awk -v ends="$folder/ends" '{ print } /^(votes|answer) / { print >ends }' >&2
+    } 3>&1
+    status=$(cat "$folder/status")
+    line=$(hint "$@" 2>/dev/null || true)
+    [ -z "$line" ] || say "$line"
+}
+
+# hint WORD..: the line for the run of these words, if there is one
+hint() {
+    answer=$(sed -n 's/^answer //p' "$folder/ends")
+    case $answer in
+    words) of_words wrong "$@" ;;
+    store) unread "$@" ;;
+    exe\ *) row "${answer#exe }" ;;
+    trap\ * | deadlock | differ | no-majority) [ "$1" != run ] || audit_of "$@" ;;
+    *) [ "$1" != run ] || ! grep -q '^votes .* copies [1-9].* struck 0 ' "$folder/ends" || races_of "$@" ;;
+    esac
+}
+
+# of_words WHAT [WORD..]: what the help says of them
+of_words() {
+    help | awk -f "$root/tools/launcher/words.awk" -- "$@"
+}
+
+# Which file can't be read, and the system's reason. A pipe or a terminal isn't opened again.
+unread() {
+    of_words files "$@" | while IFS=$tab read -r _ file; do
+        if [ -p "$file" ] || [ -c "$file" ]; then
+            continue
+        fi
+        if ! reason=$(LC_ALL=C cat -- "$file" 2>&1 >/dev/null </dev/null); then
+            echo "$file can't be read: ${reason##*: }"
+            break
+        fi
+    done
+}
+
+# row CODE: of an executable that isn't accepted, what docs/GUESTS.md says of the code
+row() {
+    awk -F ' *[|] *' -v code="$1" '
+        /^## / { is_there = $0 == "## Why a file is refused" }
+        is_there && $2 == code { gsub(/[*][*]/, ""); print "the file " $3 ": " $4; exit }' "$root/docs/GUESTS.md"
+}
+
+# What audits a run: its own journal where that went to a file, else that of the same run once more.
+audit_of() {
+    shift
+    echo "what happened is told by$(with_journal "$@")$(command_of audit "$@") --journal$(journal_of "$@")"
+}
+
+races_of() {
+    shift
+    echo "copies without a struck fault: a fault of the hardware, or a race:$(with_journal "$@")$(
+        of_words files run "$@" | {
+            while IFS=$tab read -r name file; do
+                case $name in
+                EXE) set -- "$file" ;;
+                --input) set -- "$@" --input "$file" ;;
+                esac
+            done
+            command_of races "$@"
+        }
+    ) --plan$(journal_of "$@")"
+}
+
+# The run once more with its journal, where that isn't in a file.
+with_journal() {
+    is_kept "$@" || echo "$(command_of run "$@") --journal 2>journal;"
+}
+
+journal_of() {
+    if is_kept "$@"; then
+        as_typed "$report"
+    else
+        as_typed journal
+    fi
+}
+
+is_kept() {
+    case " $* " in
+    *' --journal '*) [ -f "$report" ] ;;
+    *) false ;;
+    esac
+}
+
+command_of() {
+    as_typed "$self" ${unproved:+--unproved} "$@"
+}
+
+# The words as a shell reads them, each after a space; of --journal it is said elsewhere whether it stands there.
+as_typed() {
+    for word; do
+        case $word in
+        --journal) ;;
+        '' | *[!A-Za-z0-9_./:=,+@%-]*) printf " '%s'" "$(printf %s "$word" | sed "s/'/'\\\\''/g")" ;;
+        *) printf ' %s' "$word" ;;
+        esac
+    done
+}

@@ -2,7 +2,6 @@
 use Rattle.std.proofs.Common.{◌≡◌, ◌⊎◌, inl, inr, ℕ, zero, suc, ◌<◌, ◌≤◌, List, [], ◌∷◌, ◌++◌, length, Option, Some, None, refl, sym, ap, ◌∙◌, subst, arith}
 use Rattle.std.specs.Prelude.{replicate, slice_get}
 use Rattle.std.proofs.lemmas.Option.{slice_get_within}
-use Rattle.ro_journal.specs.declared.How.TheVariants.{Sink}
 use Rattle.ro_journal.specs.Plan.{outcome_of}
 use Rattle.ro_event.specs.declared.calls.Call.{Call}
 use Rattle.ro_faults.specs.declared.Fault.{Fault}
@@ -15,14 +14,13 @@ use Rattle.ro_settings.specs.Ranges.{InRange}
 use Rattle.ro_legal.specs.Streaks.{no_streak}
 use Rattle.ro_legal.specs.Core.{Job, Core, opening_replicas, opening_core}
 use Rattle.ro_legal.specs.Legal.{Legal, replay}
-use Rattle.ro_core.specs.Seen.{sent_of}
-use Rattle.ro_core.specs.Fields.{failed_of, Seated, AreSeated, one_end, Fields, blocked_at, Holds}
+use Rattle.ro_core.specs.Fields.{Seated, AreSeated, one_end, Fields, blocked_at, Holds}
 use Rattle.ro_core.specs.Grouped.{AreGrouped}
 use Rattle.ro_core.specs.Opening.{IsFirst, AreFirst, NoneStands}
 use Rattle.ro_legal.proofs.Lists.{get-within, get-append-cases}
 use Rattle.ro_legal.proofs.Ordered.{length-opening, get-opening}
 use Rattle.ro_core.proofs.Grouped.{opening-grouped}
-use Rattle.ro_core.proofs.Held.{due-same, no-views}
+use Rattle.ro_core.proofs.Held.{no-views}
 
 pub first-push : (image : Image) (faults : List Fault) (watchdog : ℕ) (seats : List (Option ReplicaOf)) (seat : Option ReplicaOf) → AreFirst image faults watchdog seats → IsFirst image faults watchdog (length seats) seat → AreFirst image faults watchdog (seats ++ seat ∷ [])
 first-push image faults watchdog seats seat h first number other e = by (get-append-cases seats seat number other e)
@@ -56,10 +54,10 @@ nothing-blocked (suc n) (suc thread) = nothing-blocked n thread
 
 pub opening-holds : (f : Fields) → InRange f.job.settings → f.journal ≡ [] → AreFirst f.job.program.image f.job.faults f.job.settings.watchdog f.seats → length f.seats ≡ f.job.settings.replicas
     → f.leases ≡ [] → f.kernel.setup ≡ setup_of f.job.program → f.kernel.kernel ≡ opening_kernel f.job.program.image.heap
-    → f.blocked ≡ replicate 16 None → f.steps ≡ 0 → f.scrubbed ≡ 0 → f.streak ≡ no_streak → f.due ≡ None → f.ended ≡ None → f.sent ≡ 0
+    → f.blocked ≡ replicate 16 None → f.steps ≡ 0 → f.scrubbed ≡ 0 → f.streak ≡ no_streak → f.due ≡ None → f.ended ≡ None → f.sent ≡ 0 → f.wrote ≡ 0
     → length f.views ≡ f.job.settings.replicas → NoneStands f.job.settings.replicas f.groups → 1 ≤ f.places → Holds f
 unfolding opening_core
-opening-holds f in_range journal first count leases setup kernel blocked steps scrubbed streak due ended sent views none room =
+opening-holds f in_range journal first count leases setup kernel blocked steps scrubbed streak due ended sent wrote views none room =
     let core : replay f.job f.journal ≡ opening_core f.job = ap (replay f.job) journal in
     record {
       in_range = in_range;
@@ -73,15 +71,16 @@ opening-holds f in_range journal first count leases setup kernel blocked steps s
       scrubbed_are = scrubbed ∙ sym (ap (λ (x : Core). x.scrubbed) core);
       streak_is = streak ∙ sym (ap (λ (x : Core). x.streak) core);
       counts = record {
-        sent_are = sent ∙ ap (λ (x : Core). length x.output) (sym core) ∙ ap (λ (o : Option ℕ). length (sent_of f.job f.journal o)) (sym (ap failed_of due));
+        sent_are = sent ∙ ap (λ (x : Core). length x.output) (sym core);
+        wrote_is = wrote ∙ ap (λ (x : Core). x.wrote) (sym core);
+        within = omega arith;
         few = omega arith;
       };
-      due_is = due-same f.job f.journal f.due (ap failed_of due) (due ∙ sym (ap (λ (x : Core). x.due) core));
+      due_is = due ∙ sym (ap (λ (x : Core). x.due) core);
       ended_is = ended ∙ sym (ap (λ (x : Core). x.ended) core);
       seats_are = subst (λ (x : Core). AreSeated f.job x f.seats) (sym core) (first-seated f.job f.seats first count);
       groups_are = subst (λ (x : Core). AreGrouped x.replicas f.groups) (sym core) (opening-grouped f.job f.groups none);
       views_count = λ unended. views ∙ sym count;
       views_kept = no-views f.job f.journal f.views (ap outcome_of journal);
-      failed_well = λ bytes g. absurd (let z : None ≡ Some (Sink bytes) = sym due ∙ g in cc);
       room = let one : one_end f.ended ≡ 1 = ap one_end ended in let none : length f.leases ≡ 0 = ap length leases in omega arith;
     }

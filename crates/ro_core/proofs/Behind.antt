@@ -3,8 +3,6 @@ use Rattle.std.proofs.Common.{◌≡◌, ◌≢◌, inl, ℕ, zero, suc, ◌+◌
 use Rattle.std.specs.Prelude.{◌==◌, ◌^◌, if◌then◌else◌, IfSome, slice_get, slice_set}
 use Rattle.std.proofs.lemmas.Bool.{eq-eqb}
 use Rattle.std.proofs.lemmas.List.{length-set}
-use Rattle.ro_journal.specs.declared.How.{How}
-use Rattle.ro_journal.specs.declared.How.TheVariants.{Sink}
 use Rattle.ro_journal.specs.declared.Entry.{Entry}
 use Rattle.ro_journal.specs.Plan.{event_steps, outcome_of}
 use Rattle.ro_event.specs.declared.calls.Call.{Call}
@@ -17,10 +15,8 @@ use Rattle.ro_legal.specs.Streaks.{after_event}
 use Rattle.ro_legal.specs.Core.{Job, Core}
 use Rattle.ro_legal.specs.Event.{Event, all_applied, core_after}
 use Rattle.ro_legal.specs.Legal.{after, IsAllowed, replay}
-use Rattle.ro_legal.specs.Sound.{IsOver}
-use Rattle.ro_core.specs.Seen.{sent_of}
 use Rattle.ro_core.specs.Grouped.{AreGrouped}
-use Rattle.ro_core.specs.Fields.{failed_of, AreSeated, AreHome, AreSpared, CanTake, one_end, Fields, core_in, blocked_at, CountsBytes, Holds}
+use Rattle.ro_core.specs.Fields.{AreSeated, AreHome, AreSpared, CanTake, one_end, Fields, core_in, blocked_at, CountsBytes, Holds}
 use Rattle.ro_legal.proofs.Happens.{Happens}
 use Rattle.ro_legal.proofs.Journals.{outcome_of-append, replay_more}
 use Rattle.ro_core.proofs.Tests.{seated-home}
@@ -48,12 +44,6 @@ blocked-set (b ∷ blocked) (suc thread) (suc t) call less = blocked-set blocked
         by true e = sym (eq-eqb (suc m) (suc n) (ap suc (eqb-true m n e)))
         by false e = sym (different (suc m) (suc n) (λ g. true≢false (sym (eq-eqb m n (let k : suc m ≡ suc n = g in omega arith)) ∙ e)))
 
--- the end of an event is none by a sink
-pub over-unfailed : (o : Option How) → ((how : How) → o ≡ Some how → IsOver how) → failed_of o ≡ None
-over-unfailed None h = refl
-over-unfailed (Some (Sink bytes)) h = elim (h (Sink bytes) refl) [ ]
-over-unfailed (Some how) h = refl
-
 module _ (f f' : Fields) (h : Holds f) (entry : Entry) (allowed : IsAllowed f.job (core_in f) entry) (thread count : ℕ) (replicas : List Replica) (event : Event) (came : after f.job (core_in f) entry ≡ core_after (core_in f) thread count replicas event)
     (goes : Goes f) (alone : f.leases ≡ []) (happens : Happens (core_in f).kernel thread event) (few : thread < 16) (journal : f'.journal ≡ f.journal ++ entry ∷ []) where
   core_alone : (core_in f).leases ≡ []
@@ -62,26 +52,19 @@ module _ (f f' : Fields) (h : Holds f) (entry : Entry) (allowed : IsAllowed f.jo
   new-core : replay f.job f'.journal ≡ core_after (core_in f) thread count replicas event
   new-core = ap (replay f.job) journal ∙ replay_more f.job f.journal entry ∙ came
 
-  pub happened-unfailed : f'.due ≡ event.due → failed_of f'.due ≡ None
-  happened-unfailed due = ap failed_of due ∙ over-unfailed event.due happens.ends_well
-
-  -- all that it writes counts as sent
-  pub happened-sent : f'.due ≡ event.due → sent_of f.job f'.journal (failed_of f'.due) ≡ sent_of f.job f.journal (failed_of f.due) ++ event.payload
-  happened-sent due =
-      ap (sent_of f.job f'.journal) (happened-unfailed due) ∙ ap (λ (c : Core). c.output) new-core
-      ∙ ap (λ (xs : List ℕ). xs ++ event.payload) (sym (ap (sent_of f.job f.journal) goes.not_failed))
-
-  counts : length event.payload ≤ 4096 * event_steps event.did → f'.sent ≡ f.sent + length event.payload → f'.due ≡ event.due → f'.steps ≡ f.steps + count + event_steps event.did → CountsBytes f'.sent f'.steps (sent_of f.job f'.journal (failed_of f'.due))
-  counts written sent due steps = record {
-    sent_are = sent ∙ ap (λ (n : ℕ). n + length event.payload) h.counts.sent_are ∙ sym (length-append (sent_of f.job f.journal (failed_of f.due)) event.payload) ∙ ap length (sym (happened-sent due));
+  counts : length event.payload ≤ 4096 * event_steps event.did → f'.sent ≡ f.sent + length event.payload → f'.wrote ≡ length event.payload → f'.steps ≡ f.steps + count + event_steps event.did → CountsBytes f'.sent f'.wrote f'.steps (core_after (core_in f) thread count replicas event)
+  counts written sent wrote steps = record {
+    sent_are = sent ∙ ap (λ (n : ℕ). n + length event.payload) h.counts.sent_are ∙ sym (length-append (core_in f).output event.payload);
+    wrote_is = wrote;
+    within = omega arith;
     few = let d = h.counts.few in omega arith;
   }
 
   -- the fields behind the event
   pub happened-holds : f'.job ≡ f.job → AreHome f.job f'.seats (all_applied event.effect replicas) → AreGrouped (all_applied event.effect replicas) f'.groups → f'.leases ≡ f.leases → f'.kernel.setup ≡ f.kernel.setup → f'.kernel.kernel ≡ event.kernel
       → f'.blocked ≡ slice_set f.blocked thread event.blocked → f'.steps ≡ f.steps + count + event_steps event.did → f'.scrubbed ≡ f.scrubbed → f'.streak ≡ after_event f.streak thread (blocked_at f.blocked thread) → f'.due ≡ event.due → f'.ended ≡ f.ended → length f'.views ≡ length f'.seats
-      → length event.payload ≤ 4096 * event_steps event.did → f'.sent ≡ f.sent + length event.payload → outcome_of (entry ∷ []) ≡ None → 1 ≤ f'.places → Holds f'
-  happened-holds job home groups leases setup kernel blocked steps scrubbed streak due ended views written sent no_end room = holds-step f f' entry h allowed (record {
+      → length event.payload ≤ 4096 * event_steps event.did → f'.sent ≡ f.sent + length event.payload → f'.wrote ≡ length event.payload → outcome_of (entry ∷ []) ≡ None → 1 ≤ f'.places → Holds f'
+  happened-holds job home groups leases setup kernel blocked steps scrubbed streak due ended views written sent wrote no_end room = holds-step f f' entry h allowed (record {
     job = job;
     journal = journal;
     leases = leases ∙ h.leases_are ∙ sym (ap (λ (c : Core). c.leases) came);
@@ -93,9 +76,8 @@ module _ (f f' : Fields) (h : Holds f) (entry : Entry) (allowed : IsAllowed f.jo
     steps = steps ∙ ap (λ (n : ℕ). n + count + event_steps event.did) h.steps_are ∙ sym (ap (λ (c : Core). c.steps) came);
     scrubbed = scrubbed ∙ h.scrubbed_are ∙ sym (ap (λ (c : Core). c.scrubbed) came);
     streak = streak ∙ ap (λ (s : Streak). after_event s thread (blocked_at f.blocked thread)) h.streak_is ∙ ap (after_event (core_in f).streak thread) (h.blocked_are thread) ∙ sym (ap (λ (c : Core). c.streak) came);
-    counts = counts written sent due steps;
-    due = inl (due ∙ sym (ap (λ (c : Core). c.due) came));
-    not_sink = λ bytes e. elim (happens.ends_well (Sink bytes) (sym due ∙ e)) [ ];
+    counts = subst (CountsBytes f'.sent f'.wrote f'.steps) (sym came) (counts written sent wrote steps);
+    due = due ∙ sym (ap (λ (c : Core). c.due) came);
     ended = ended ∙ h.ended_is ∙ sym (ap (λ (c : Core). c.ended) came);
     seats = subst (λ (c : Core). AreSeated f.job c f'.seats) (sym came) (seated-home f.job (core_after (core_in f) thread count replicas event) f'.seats home core_alone);
     groups = subst (λ (c : Core). AreGrouped c.replicas f'.groups) (sym came) groups;

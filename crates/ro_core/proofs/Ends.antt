@@ -1,7 +1,8 @@
 -- An end that is due, or comes alone, in the fields of a run.
-use Rattle.std.proofs.Common.{◌≡◌, ◌⊎◌, inl, inr, ℕ, ◌+◌, ◌<◌, true, List, [], ◌∷◌, ◌++◌, length, Option, Some, None, refl, sym, ap, ◌∙◌, subst, arith}
+use Rattle.std.proofs.Common.{◌≡◌, ◌⊎◌, inl, inr, ℕ, ◌+◌, ◌-◌, ◌<◌, ◌≤◌, take, true, List, [], ◌∷◌, ◌++◌, length, Option, Some, None, refl, sym, ap, ◌∙◌, subst, arith}
 use Rattle.std.specs.Prelude.{slice_get, unwrap_or}
 use Rattle.std.proofs.lemmas.Bool.{and_parts}
+use Rattle.std.proofs.lemmas.List.{length-take-le}
 use Rattle.ro_journal.specs.declared.How.{How}
 use Rattle.ro_journal.specs.declared.How.TheVariants.{Deadlock, Differ, NoMajority, Sink}
 use Rattle.ro_journal.specs.declared.Entry.{Entry}
@@ -10,16 +11,17 @@ use Rattle.ro_event.specs.declared.calls.Call.{Call}
 use Rattle.ro_kernel.specs.State.{State}
 use Rattle.ro_replica.specs.Seen.{ReplicaOf}
 use Rattle.ro_legal.specs.Core.{Job, Core}
-use Rattle.ro_legal.specs.Legal.{after, is_stuck, MayEnd, alone, EndsAlone, replay_with, cut_output, output_of}
-use Rattle.ro_legal.specs.Action.{IsNext}
-use Rattle.ro_core.specs.Seen.{EndsNow, KeepsViews, sent_of}
+use Rattle.ro_legal.specs.declared.actions.Action.TheVariants.{End as DoEnd}
+use Rattle.ro_legal.specs.Legal.{after, MayEnd, alone, EndsAlone, cut_output}
+use Rattle.ro_legal.specs.Action.{next_action, IsNext}
+use Rattle.ro_core.specs.Seen.{EndsNow, KeepsViews}
 use Rattle.ro_legal.specs.Sound.{IsOver}
-use Rattle.ro_core.specs.Fields.{failed_of, Seated, AreSeated, one_end, Fields, core_in, state_in, blocked_at, Holds}
+use Rattle.ro_core.specs.Fields.{Seated, AreSeated, one_end, Fields, core_in, blocked_at, CountsBytes, Holds}
 use Rattle.ro_legal.proofs.Journals.{replay_more, outcome_of-append}
 use Rattle.ro_core.specs.Grouped.{AreGrouped}
 use Rattle.ro_legal.proofs.Ordered.{ordered, going-parts}
 use Rattle.ro_legal.proofs.Nexts.{end_next, end_is}
-use Rattle.ro_core.proofs.Held.{failed-cases, with-ended, not-split, no-outcome, same-counts, holds-step}
+use Rattle.ro_core.proofs.Held.{not-split, no-outcome, holds-step}
 
 end-seated : (job : Job) (core : Core) (seats : List (Option ReplicaOf)) (how : How) → AreSeated job core seats → AreSeated job (after job core (End how)) seats
 unfolding after
@@ -30,12 +32,12 @@ end-seated job core seats how h = record { count = h.count; each = λ number. by
     by number (Some None) e = e
     by number (Some (Some value)) e = e
 
--- the fields behind an end that sends nothing more
-pub ended-holds : (f f' : Fields) → Holds f → (how : How) → f.ended ≡ None → MayEnd f.job (core_in f) how → output_of f.job (f.journal ++ End how ∷ []) ≡ sent_of f.job f.journal (failed_of f.due) → KeepsViews f.job (f.journal ++ End how ∷ []) f'.views
-    → f'.job ≡ f.job → f'.kernel ≡ f.kernel → f'.blocked ≡ f.blocked → f'.steps ≡ f.steps → f'.scrubbed ≡ f.scrubbed → f'.streak ≡ f.streak → f'.seats ≡ f.seats → f'.groups ≡ f.groups → f'.leases ≡ f.leases → f'.due ≡ None → f'.ended ≡ Some how → f'.sent ≡ f.sent
+-- the fields behind an end
+pub ended-holds : (f f' : Fields) → Holds f → (how : How) → f.ended ≡ None → MayEnd f.job (core_in f) how → CountsBytes f'.sent f'.wrote f'.steps (after f.job (core_in f) (End how)) → KeepsViews f.job (f.journal ++ End how ∷ []) f'.views
+    → f'.job ≡ f.job → f'.kernel ≡ f.kernel → f'.blocked ≡ f.blocked → f'.steps ≡ f.steps → f'.scrubbed ≡ f.scrubbed → f'.streak ≡ f.streak → f'.seats ≡ f.seats → f'.groups ≡ f.groups → f'.leases ≡ f.leases → f'.due ≡ None → f'.ended ≡ Some how
     → f'.journal ≡ f.journal ++ End how ∷ [] → f.places ≡ f'.places + 1 → Holds f'
 unfolding after
-ended-holds f f' h how none allowed output kept job kernel blocked steps scrubbed streak seats groups leases due ended sent journal less = holds-step f f' (End how) h (sym h.ended_is ∙ none, allowed) (record {
+ended-holds f f' h how none allowed counts kept job kernel blocked steps scrubbed streak seats groups leases due ended journal less = holds-step f f' (End how) h (sym h.ended_is ∙ none, allowed) (record {
   job = job;
   journal = journal;
   leases = leases ∙ h.leases_are;
@@ -46,9 +48,8 @@ ended-holds f f' h how none allowed output kept job kernel blocked steps scrubbe
   steps = steps ∙ h.steps_are;
   scrubbed = scrubbed ∙ h.scrubbed_are;
   streak = streak ∙ h.streak_is;
-  counts = same-counts f f' h sent steps (ap (λ (js : List Entry). sent_of f.job js (failed_of f'.due)) journal ∙ ap (λ (o : Option How). sent_of f.job (f.journal ++ End how ∷ []) (failed_of o)) due ∙ output);
-  due = inl due;
-  not_sink = λ bytes e. absurd (let g : None ≡ Some (Sink bytes) = sym due ∙ e in cc);
+  counts = counts;
+  due = due;
   ended = ended;
   seats = subst (AreSeated f.job (after f.job (core_in f) (End how))) (sym seats) (end-seated f.job (core_in f) f.seats how h.seats_are);
   groups = subst (AreGrouped (core_in f).replicas) (sym groups) h.groups_are;
@@ -62,102 +63,133 @@ pub cut-none : (core : Core) (how : How) → ((bytes : ℕ) → how ≡ Sink byt
 cut-none core (Sink bytes) not_sink = absurd (not_sink bytes refl)
 cut-none core how not_sink = refl
 
--- the end that comes where no sink failed is none of one
-unfailed-not : (o : Option How) (bytes : ℕ) → failed_of o ≡ None → unwrap_or o Deadlock ≡ Sink bytes → ⊥
-unfailed-not None bytes none e = let f : Deadlock ≡ Sink bytes = e in cc
-unfailed-not (Some how) bytes none e = let f : Some bytes ≡ None = ap (λ (h : How). failed_of (Some h)) (sym e) ∙ none in cc
+-- how many bytes are left of so many, of which the last entry wrote these, where a failing sink took so many of them
+pub cut-length : (core : Core) (taken : ℕ) → taken ≤ core.wrote → core.wrote ≤ length core.output → length (cut_output core (Sink taken)) ≡ length core.output - (core.wrote - taken)
+cut-length core taken less within =
+    let e : length (take (length core.output - core.wrote + taken) core.output) ≡ length core.output - core.wrote + taken = length-take-le (length core.output - core.wrote + taken) core.output (omega arith) in
+    omega (arith, e)
 
--- an end that may be appended by itself
-module _ (job : Job) (core : Core) (how : How) where
-  -- where nothing can be done nothing is due, and no end has come
-  stuck-open : is_stuck job core ≡ true → (core.due ≡ None) × (core.ended ≡ None)
-  stuck-open stuck = going-parts core (and_parts _ _ (and_parts _ _ stuck).0).0
+-- ---- an end that is due, or comes alone
 
-  now-open : EndsNow job core how → core.ended ≡ None
-  now-open (inl next) = (end_next job core how next).0
-  now-open (inr stuck) = (stuck-open stuck.1).1
+-- an end that comes next, or alone
+abbrev Comes : Job → Core → How → Type 0
+Comes job core how = (next_action job core ≡ DoEnd how) ⊎ EndsAlone job core how
 
-  now-may : EndsNow job core how → MayEnd job core how
-  now-may (inl next) = (end_next job core how next).1
-  now-may (inr stuck) = subst (MayEnd job core) (sym stuck.0) (alone stuck.1)
+module _ (f : Fields) (h : Holds f) (how : How) (now : Comes f.job (core_in f) how) where
+  -- no end has come
+  alone-open : (so : How) → EndsAlone f.job (core_in f) so → (core_in f).ended ≡ None
+  alone-open Deadlock stuck = (going-parts (core_in f) (and_parts _ _ (and_parts _ _ stuck).0).0).1
+  alone-open (Sink bytes) e = (going-parts (core_in f) e.0).1
+  alone-open so e = absurd e
 
-  now-is : EndsNow job core how → unwrap_or core.due Deadlock ≡ how
-  now-is (inl next) = end_is job core how next
-  now-is (inr stuck) = ap (λ (o : Option How). unwrap_or o Deadlock) (stuck-open stuck.1).0 ∙ sym stuck.0
-
-  now-next : EndsNow job core how → IsNext job core (End how)
-  now-next (inl next) = inl next
-  now-next (inr stuck) = inr (inl (subst (EndsAlone job core) (sym stuck.0) stuck.1))
-
--- the same over a core in which a failing sink's end may be due
-module _ (f : Fields) (h : Holds f) (how : How) (now : EndsNow f.job (state_in f) how) where
-  ended-none : f.ended ≡ None
-  ended-none = h.ended_is ∙ sym (with-ended f.job f.journal (failed_of f.due)) ∙ now-open f.job (state_in f) how now
-
-  -- what the code takes for the end
-  pub end-how : unwrap_or f.due Deadlock ≡ how
-  end-how = ap (λ (o : Option How). unwrap_or o Deadlock) h.due_is ∙ now-is f.job (state_in f) how now
+  now-open : Comes f.job (core_in f) how → (core_in f).ended ≡ None
+  now-open (inl next) = (end_next f.job (core_in f) how next).0
+  now-open (inr e) = alone-open how e
 
   pub end-not-over : (core_in f).ended ≡ None
-  end-not-over = sym h.ended_is ∙ ended-none
+  end-not-over = now-open now
 
-  -- a failing sink's end
-  by-sink : (bytes : ℕ) → f.due ≡ Some (Sink bytes) → how ≡ Sink bytes
-  by-sink bytes e = sym end-how ∙ ap (λ (o : Option How). unwrap_or o Deadlock) e
+  ended-none : f.ended ≡ None
+  ended-none = h.ended_is ∙ end-not-over
 
-  sink-alone : (bytes : ℕ) → f.due ≡ Some (Sink bytes) → EndsAlone f.job (core_in f) how
-  sink-alone bytes e = let w = h.failed_well bytes e in subst (EndsAlone f.job (core_in f)) (sym (by-sink bytes e)) (w.1, w.0)
-
-  -- the core without a failing sink's end
-  unfailed : failed_of f.due ≡ None → state_in f ≡ core_in f
-  unfailed none = ap (replay_with f.job f.journal) none
-
-  -- it is allowed, and next, in the core that the journal leaves
+  -- it is allowed, and next
   pub end-allowed : MayEnd f.job (core_in f) how × IsNext f.job (core_in f) (End how)
-  end-allowed = by (failed-cases f.due)
+  end-allowed = by now
     where
-      plain : failed_of f.due ≡ None → MayEnd f.job (core_in f) how × IsNext f.job (core_in f) (End how)
-      plain none =
-          (subst (λ (c : Core). MayEnd f.job c how) (unfailed none) (now-may f.job (state_in f) how now), subst (λ (c : Core). IsNext f.job c (End how)) (unfailed none) (now-next f.job (state_in f) how now))
+      by : Comes f.job (core_in f) how → MayEnd f.job (core_in f) how × IsNext f.job (core_in f) (End how)
+      by (inl next) = ((end_next f.job (core_in f) how next).1, inl next)
+      by (inr e) = (alone e, inr (inl e))
 
-      by : (failed_of f.due ≡ None) ⊎ ((bytes : ℕ) × (f.due ≡ Some (Sink bytes))) → MayEnd f.job (core_in f) how × IsNext f.job (core_in f) (End how)
-      by (inl none) = plain none
-      by (inr sink) = (alone (sink-alone sink.0 sink.1), inr (inl (sink-alone sink.0 sink.1)))
-
-  -- an end that is due, and none of a failing sink, is an exit or a trap
-  due-over : (other : How) → f.due ≡ Some other → failed_of f.due ≡ None → IsOver other
-  due-over other e none = (ordered f.job f.journal h.legal).due_over other (sym (h.due_is ∙ ap (λ (x : Option ℕ). (replay_with f.job f.journal x).due) none) ∙ e)
-
-  -- what the end is not, where no exit and no trap is so, no deadlock, and no end by a sink
-  not-so : (so : How) → (IsOver so → ⊥) → (Deadlock ≡ so → ⊥) → ((bytes : ℕ) → Sink bytes ≡ so → ⊥) → how ≡ so → ⊥
-  not-so so over stuck sink is = by f.due refl (failed-cases f.due)
+  -- an end that comes next is an exit, a trap or a deadlock; one that comes alone a deadlock or a failing sink's
+  next-over : next_action f.job (core_in f) ≡ DoEnd how → IsOver how ⊎ (how ≡ Deadlock)
+  next-over next = by (core_in f).due refl
     where
-      by : (o : Option How) → f.due ≡ o → (failed_of f.due ≡ None) ⊎ ((bytes : ℕ) × (f.due ≡ Some (Sink bytes))) → ⊥
-      by o e (inr failed) = sink failed.0 (sym (by-sink failed.0 failed.1) ∙ is)
-      by None e (inl none) = stuck (sym (ap (λ (o : Option How). unwrap_or o Deadlock) e) ∙ end-how ∙ is)
-      by (Some other) e (inl none) = over (subst IsOver (sym (ap (λ (o : Option How). unwrap_or o Deadlock) e) ∙ end-how ∙ is) (due-over other e none))
+      by : (o : Option How) → (core_in f).due ≡ o → IsOver how ⊎ (how ≡ Deadlock)
+      by None e = inr (sym (sym (ap (λ (o : Option How). unwrap_or o Deadlock) e) ∙ end_is f.job (core_in f) how next))
+      by (Some other) e = inl (subst IsOver (sym (ap (λ (o : Option How). unwrap_or o Deadlock) e) ∙ end_is f.job (core_in f) how next) ((ordered f.job f.journal h.legal).due_over other e))
 
-  -- an end that is due or alone is not by views that differ
+  -- so it is not by views that differ
+  no-views-end : (so : How) → (IsOver so → ⊥) → (so ≡ Deadlock → ⊥) → (EndsAlone f.job (core_in f) so → ⊥) → how ≡ so → ⊥
+  no-views-end so over stuck by_itself is = by now
+    where
+      next : IsOver how ⊎ (how ≡ Deadlock) → ⊥
+      next (inl o) = over (subst IsOver is o)
+      next (inr e) = stuck (sym is ∙ e)
+
+      by : Comes f.job (core_in f) how → ⊥
+      by (inl n) = next (next-over n)
+      by (inr e) = by_itself (subst (EndsAlone f.job (core_in f)) is e)
+
   pub not-by-views : ((how ≡ Differ → ⊥) × (how ≡ NoMajority → ⊥))
   not-by-views = (
-    not-so Differ (λ h. elim h [ ]) (λ (e : Deadlock ≡ Differ). cc) (λ bytes (e : Sink bytes ≡ Differ). cc),
-    not-so NoMajority (λ h. elim h [ ]) (λ (e : Deadlock ≡ NoMajority). cc) (λ bytes (e : Sink bytes ≡ NoMajority). cc),
+    no-views-end Differ (λ h. elim h [ ]) (λ (e : Differ ≡ Deadlock). cc) (λ e. e),
+    no-views-end NoMajority (λ h. elim h [ ]) (λ (e : NoMajority ≡ Deadlock). cc) (λ e. e),
   )
 
-  -- the end sends nothing more
-  pub end-sent : output_of f.job (f.journal ++ End how ∷ []) ≡ sent_of f.job f.journal (failed_of f.due)
-  unfolding after
-  end-sent = ap (λ (c : Core). c.output) (replay_more f.job f.journal (End how)) ∙ by (failed-cases f.due)
+  -- a failing sink's end comes alone, and did not take all of the last write
+  end-cuts : (taken : ℕ) → how ≡ Sink taken → taken < f.wrote
+  end-cuts taken is = by now
     where
-      by : (failed_of f.due ≡ None) ⊎ ((bytes : ℕ) × (f.due ≡ Some (Sink bytes))) → cut_output (core_in f) how ≡ sent_of f.job f.journal (failed_of f.due)
-      by (inl none) = cut-none (core_in f) how (λ bytes e. unfailed-not f.due bytes none (end-how ∙ e)) ∙ sym (ap (sent_of f.job f.journal) none)
-      by (inr sink) = ap (cut_output (core_in f)) (by-sink sink.0 sink.1) ∙ sym (ap (λ (o : Option How). sent_of f.job f.journal (failed_of o)) sink.1)
+      next : IsOver how ⊎ (how ≡ Deadlock) → taken < f.wrote
+      next (inl o) = elim (subst IsOver is o) [ ]
+      next (inr e) = absurd (let g : Sink taken ≡ Deadlock = sym is ∙ e in cc)
+
+      by : Comes f.job (core_in f) how → taken < f.wrote
+      by (inl n) = next (next-over n)
+      by (inr e) = (let less : taken < (core_in f).wrote = (subst (EndsAlone f.job (core_in f)) is e).1 in let w = h.counts.wrote_is in omega arith)
+
+  -- what the sink took
+  pub end-took : (taken : ℕ) → how ≡ Sink taken → (taken ≤ f.wrote) × (f.wrote ≤ f.sent)
+  end-took taken is = (let less = end-cuts taken is in omega (arith, less), h.counts.within)
 
   pub end-room : 0 < f.places
   end-room = let e : one_end f.ended ≡ 1 = ap one_end ended-none in let k = h.room in omega arith
 
-  pub end-holds : (f' : Fields) → f'.job ≡ f.job → f'.kernel ≡ f.kernel → f'.blocked ≡ f.blocked → f'.steps ≡ f.steps → f'.scrubbed ≡ f.scrubbed → f'.streak ≡ f.streak → f'.seats ≡ f.seats → f'.groups ≡ f.groups → f'.leases ≡ f.leases → f'.due ≡ None → f'.ended ≡ Some how → f'.sent ≡ f.sent
+  -- what was written, less what the sink did not take
+  end-counts-sink : (taken sent : ℕ) → how ≡ Sink taken → sent ≡ f.sent - (f.wrote - taken) → CountsBytes sent 0 f.steps (after f.job (core_in f) (End how))
+  unfolding after
+  end-counts-sink taken sent is count =
+      let less = end-cuts taken is in
+      let w = h.counts.wrote_is in
+      let s = h.counts.sent_are in
+      let within = h.counts.within in
+      let cut : length (cut_output (core_in f) how) ≡ length (core_in f).output - ((core_in f).wrote - taken) =
+      ap (λ (x : How). length (cut_output (core_in f) x)) is ∙ cut-length (core_in f) taken (omega arith) (omega arith) in
+      record {
+        sent_are = omega (arith, cut);
+        wrote_is = refl;
+        within = omega arith;
+        few = let few = h.counts.few in omega arith;
+      }
+
+  end-counts-other : ((taken : ℕ) → how ≡ Sink taken → ⊥) → CountsBytes f.sent 0 f.steps (after f.job (core_in f) (End how))
+  unfolding after
+  end-counts-other other = record {
+    sent_are = h.counts.sent_are ∙ ap length (sym (cut-none (core_in f) how other));
+    wrote_is = refl;
+    within = omega arith;
+    few = h.counts.few;
+  }
+
+  pub end-counts : (sent : ℕ) → ((taken : ℕ) → how ≡ Sink taken → sent ≡ f.sent - (f.wrote - taken)) → (((taken : ℕ) → how ≡ Sink taken → ⊥) → sent ≡ f.sent) → CountsBytes sent 0 f.steps (after f.job (core_in f) (End how))
+  end-counts sent cut whole = by how refl
+    where
+      kept : ((taken : ℕ) → how ≡ Sink taken → ⊥) → CountsBytes sent 0 f.steps (after f.job (core_in f) (End how))
+      kept other = subst (λ (n : ℕ). CountsBytes n 0 f.steps (after f.job (core_in f) (End how))) (sym (whole other)) (end-counts-other other)
+
+      by : (so : How) → how ≡ so → CountsBytes sent 0 f.steps (after f.job (core_in f) (End how))
+      by (Sink taken) e = end-counts-sink taken sent e (cut taken e)
+      by so e = kept (λ taken g. let k : so ≡ Sink taken = sym e ∙ g in cc)
+
+  pub end-holds : (f' : Fields) → CountsBytes f'.sent f'.wrote f'.steps (after f.job (core_in f) (End how)) → f'.job ≡ f.job → f'.kernel ≡ f.kernel → f'.blocked ≡ f.blocked → f'.steps ≡ f.steps → f'.scrubbed ≡ f.scrubbed → f'.streak ≡ f.streak → f'.seats ≡ f.seats → f'.groups ≡ f.groups → f'.leases ≡ f.leases → f'.due ≡ None → f'.ended ≡ Some how
       → f'.journal ≡ f.journal ++ End how ∷ [] → f.places ≡ f'.places + 1 → Holds f'
-  end-holds f' job kernel blocked steps scrubbed streak seats groups leases due ended sent journal less =
-      ended-holds f f' h how ended-none end-allowed.0 end-sent (not-split f.job _ f'.views how (outcome_of-append f.journal (End how ∷ []) (no-outcome f h ended-none)) not-by-views.0 not-by-views.1)
-      job kernel blocked steps scrubbed streak seats groups leases due ended sent journal less
+  end-holds f' counts = ended-holds f f' h how ended-none end-allowed.0 counts (not-split f.job _ f'.views how (outcome_of-append f.journal (End how ∷ []) (no-outcome f h ended-none)) not-by-views.0 not-by-views.1)
+
+-- an end that is due, or a deadlock, is none of a failing sink
+pub plain-end : (f : Fields) → Holds f → (how : How) → EndsNow f.job (core_in f) how → (bytes : ℕ) → how ≡ Sink bytes → ⊥
+plain-end f h how (inr stuck) bytes is = let e : Deadlock ≡ Sink bytes = sym stuck.0 ∙ is in cc
+plain-end f h how (inl next) bytes is = by (next-over f h how (inl next) next)
+  where
+    by : IsOver how ⊎ (how ≡ Deadlock) → ⊥
+    by (inl o) = elim (subst IsOver is o) [ ]
+    by (inr e) = let g : Deadlock ≡ Sink bytes = sym e ∙ is in cc

@@ -16,7 +16,7 @@ use Rattle.ro_core.specs.declared.events.Event.{Event as Happening}
 use Rattle.ro_legal.specs.Core.{Job, Core, is_going, may_free}
 use Rattle.ro_legal.specs.Event.{Event, call_event, event_of, core_after}
 use Rattle.ro_legal.specs.Legal.{core_after_event, after, MayFree, MayEnd, for_free, EndsFree}
-use Rattle.ro_core.specs.Fields.{AreSpared, Fields, blocked_at, core_in, state_in, Holds}
+use Rattle.ro_core.specs.Fields.{AreSpared, Fields, blocked_at, core_in, Holds}
 use Rattle.ro_core.specs.Grouped.{AreMade}
 use Rattle.ro_core.specs.Seated.{Stands}
 use Rattle.ro_core.specs.Happening.{event_by}
@@ -29,24 +29,18 @@ use Rattle.ro_core.proofs.Tests.{lives-within}
 use Rattle.ro_core.proofs.Votes.{no-page, same-state}
 use Rattle.ro_legal.proofs.Served.{serve-tidy}
 
-module _ (f : Fields) (h : Holds f) (thread : ℕ) (may : may_free f.job (state_in f) thread ≡ true) where
-  state-parts : FreeParts f.job (state_in f) thread
-  state-parts = free-parts f.job (state_in f) thread may
+module _ (f : Fields) (h : Holds f) (thread : ℕ) (may : may_free f.job (core_in f) thread ≡ true) where
+  pub parts : FreeParts f.job (core_in f) thread
+  parts = free-parts f.job (core_in f) thread may
 
-  pub free-going : is_going (state_in f) ≡ true
-  free-going = state-parts.going
+  pub free-going : is_going (core_in f) ≡ true
+  free-going = parts.going
 
-  pub free-not-over : (state_in f).ended ≡ None
-  free-not-over = state-parts.not_ended
+  pub free-not-over : (core_in f).ended ≡ None
+  free-not-over = parts.not_ended
 
   pub free-goes : Goes f
-  free-goes = goes f h state-parts.going
-
-  pub free-may : may_free f.job (core_in f) thread ≡ true
-  free-may = ap (λ (c : Core). may_free f.job c thread) (sym free-goes.same) ∙ may
-
-  pub parts : FreeParts f.job (core_in f) thread
-  parts = free-parts f.job (core_in f) thread free-may
+  free-goes = goes f h parts.going
 
   pub free-alone : f.leases ≡ []
   free-alone = h.leases_are ∙ parts.alone
@@ -74,10 +68,10 @@ module _ (f : Fields) (h : Holds f) (thread : ℕ) (may : may_free f.job (state_
   free-made-all number replica e = free-threads number replica e ∙ ap (λ (k : Kernel). length k.lives) (sym h.kernel_is)
 
   -- the end in its place
-  pub free-ends : f.steps ≡ f.job.settings.limit → EndsFree f.job (state_in f) (Limit f.steps 1)
-  free-ends e = (h.steps_are ∙ ap (λ (c : Core). c.steps) (sym free-goes.same), refl, omega arith)
+  pub free-ends : f.steps ≡ f.job.settings.limit → EndsFree f.job (core_in f) (Limit f.steps 1)
+  free-ends e = (h.steps_are, refl, omega arith)
 
-  pub free-may-end : f.steps ≡ f.job.settings.limit → MayEnd f.job (state_in f) (Limit f.steps 1)
+  pub free-may-end : f.steps ≡ f.job.settings.limit → MayEnd f.job (core_in f) (Limit f.steps 1)
   free-may-end e = for_free thread may (free-ends e)
 
   module _ (call : Call) (there : blocked_at f.blocked thread ≡ Some call) where
@@ -108,7 +102,7 @@ module _ (f : Fields) (h : Holds f) (thread : ℕ) (may : may_free f.job (state_
         ∙ freed-steps f.job (core_in f).kernel thread parts.call parts.goes_on
 
     pub free-allowed : f.steps + 1 ≤ f.job.settings.limit → MayFree f.job (core_in f) thread
-    free-allowed fits = record { may = free-may; fits = let e = h.steps_are in omega arith }
+    free-allowed fits = record { may = may; fits = let e = h.steps_are in omega arith }
 
     -- the event that the code has for it can be done
     pub free-can : (r : Run) (e : Happening) (threads : ℕ) → the-event ≡ event_by e r.kernel.kernel (if e.writes then [] else []) → f.steps + 1 ≤ f.job.settings.limit → IsAmid f r → Stands f.job r.seats (core_in f).replicas → AreSpared r.seats.homes.items → threads ≡ length f.kernel.kernel.lives
@@ -152,5 +146,5 @@ module _ (f : Fields) (h : Holds f) (thread : ℕ) (may : may_free f.job (state_
         is-by = is ∙ ap (event_by e r.kernel.kernel) (none e.writes)
 
 -- a call that can be served stays so where room is made
-pub free-room : (f f' : Fields) (thread : ℕ) → may_free f.job (state_in f) thread ≡ true → MakesRoom f f' → may_free f'.job (state_in f') thread ≡ true
-free-room f f' thread may m = ap (λ (j : Job). may_free j (state_in f') thread) m.job ∙ ap (λ (c : Core). may_free f.job c thread) (same-state f f' m) ∙ may
+pub free-room : (f f' : Fields) (thread : ℕ) → may_free f.job (core_in f) thread ≡ true → MakesRoom f f' → may_free f'.job (core_in f') thread ≡ true
+free-room f f' thread may m = ap (λ (j : Job). may_free j (core_in f') thread) m.job ∙ ap (λ (c : Core). may_free f.job c thread) (same-state f f' m) ∙ may

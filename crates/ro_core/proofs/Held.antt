@@ -1,7 +1,7 @@
 -- The fields of a run behind one entry more.
 use Rattle.std.proofs.Common.{◌≡◌, ◌⊎◌, inl, inr, ℕ, ◌+◌, ◌<◌, ◌≤◌, true, List, [], ◌∷◌, ◌++◌, length, Option, Some, None, refl, sym, ap, ◌∙◌, subst, arith}
 use Rattle.ro_journal.specs.declared.How.{How}
-use Rattle.ro_journal.specs.declared.How.TheVariants.{Limit, Differ, NoMajority, Sink}
+use Rattle.ro_journal.specs.declared.How.TheVariants.{Limit, Differ, NoMajority}
 use Rattle.ro_journal.specs.declared.Entry.{Entry}
 use Rattle.ro_journal.specs.declared.Entry.TheVariants.{End}
 use Rattle.ro_journal.specs.Plan.{outcome_of}
@@ -9,68 +9,21 @@ use Rattle.ro_event.specs.Views.{View}
 use Rattle.ro_settings.specs.Ranges.{InRange}
 use Rattle.ro_plain.specs.Machine.{setup_of}
 use Rattle.ro_legal.specs.Core.{Job, Core, is_going}
-use Rattle.ro_legal.specs.Legal.{after, IsAllowed, Legal, replay, replay_with}
-use Rattle.ro_core.specs.Seen.{CoreOf, KeepsViews, sent_of}
-use Rattle.ro_core.specs.Fields.{failed_of, AreSeated, one_end, Fields, core_in, state_in, blocked_at, CountsBytes, Holds}
+use Rattle.ro_legal.specs.Legal.{after, IsAllowed, Legal, replay}
+use Rattle.ro_core.specs.Seen.{CoreOf, KeepsViews}
+use Rattle.ro_core.specs.Fields.{AreSeated, one_end, Fields, core_in, blocked_at, CountsBytes, Holds}
 use Rattle.ro_core.specs.Grouped.{AreGrouped}
 use Rattle.ro_legal.proofs.Journals.{outcome_of-append, replay_more, legal_more}
 use Rattle.ro_legal.proofs.Ordered.{going-parts}
 use Rattle.ro_legal.proofs.Outcomes.{ended_is_outcome}
 
--- ---- a failing sink makes an end due and changes nothing else
-
--- an end that is due is that of a failing sink, or is none of one
-pub failed-cases : (o : Option How) → (failed_of o ≡ None) ⊎ ((bytes : ℕ) × (o ≡ Some (Sink bytes)))
-failed-cases (Some (Sink bytes)) = inr (bytes, refl)
-failed-cases (Some how) = inl refl
-failed-cases None = inl refl
-
-module _ (job : Job) (journal : List Entry) where
-  pub with-leases : (o : Option ℕ) → (replay_with job journal o).leases ≡ (replay job journal).leases
-  with-leases None = refl
-  with-leases (Some n) = refl
-
-  pub with-kernel : (o : Option ℕ) → (replay_with job journal o).kernel ≡ (replay job journal).kernel
-  with-kernel None = refl
-  with-kernel (Some n) = refl
-
-  pub with-replicas : (o : Option ℕ) → (replay_with job journal o).replicas ≡ (replay job journal).replicas
-  with-replicas None = refl
-  with-replicas (Some n) = refl
-
-  pub with-streak : (o : Option ℕ) → (replay_with job journal o).streak ≡ (replay job journal).streak
-  with-streak None = refl
-  with-streak (Some n) = refl
-
-  pub with-ended : (o : Option ℕ) → (replay_with job journal o).ended ≡ (replay job journal).ended
-  with-ended None = refl
-  with-ended (Some n) = refl
-
-  -- the end that is due by a failing sink
-  pub due-failed : (o : Option How) (bytes : ℕ) → o ≡ Some (Sink bytes) → o ≡ (replay_with job journal (failed_of o)).due
-  due-failed o bytes e = e ∙ sym (ap (λ (x : Option How). (replay_with job journal (failed_of x)).due) e)
-
-  -- and where the sink did not fail
-  pub due-same : (o : Option How) → failed_of o ≡ None → o ≡ (replay job journal).due → o ≡ (replay_with job journal (failed_of o)).due
-  due-same o none e = e ∙ sym (ap (λ (x : Option ℕ). (replay_with job journal x).due) none)
-
 -- no end is due where the core goes on
 pub record Goes (f : Fields) : Type 0 where
   pub not_due : f.due ≡ None
   pub not_ended : f.ended ≡ None
-  pub same : state_in f ≡ core_in f
-  pub not_failed : failed_of f.due ≡ None
 
-pub goes : (f : Fields) → Holds f → is_going (state_in f) ≡ true → Goes f
-goes f h e =
-    let p = going-parts (state_in f) e in
-    let not_due : f.due ≡ None = h.due_is ∙ p.0 in
-    record {
-      not_due = not_due;
-      not_ended = h.ended_is ∙ sym (with-ended f.job f.journal (failed_of f.due)) ∙ p.1;
-      same = ap (λ (o : Option How). replay_with f.job f.journal (failed_of o)) not_due;
-      not_failed = ap failed_of not_due;
-    }
+pub goes : (f : Fields) → Holds f → is_going (core_in f) ≡ true → Goes f
+goes f h e = let p = going-parts (core_in f) e in record { not_due = h.due_is ∙ p.0; not_ended = h.ended_is ∙ p.1 }
 
 -- ---- the views that are kept
 
@@ -103,9 +56,8 @@ pub record Becomes (f f' : Fields) (entry : Entry) : Type 0 where
   pub steps : f'.steps ≡ (after f.job (core_in f) entry).steps
   pub scrubbed : f'.scrubbed ≡ (after f.job (core_in f) entry).scrubbed
   pub streak : f'.streak ≡ (after f.job (core_in f) entry).streak
-  pub counts : CountsBytes f'.sent f'.steps (sent_of f.job f'.journal (failed_of f'.due))
-  pub due : (f'.due ≡ (after f.job (core_in f) entry).due) ⊎ ((bytes : ℕ) × (f'.due ≡ Some (Sink bytes)))
-  pub not_sink : (bytes : ℕ) → f'.due ≡ Some (Sink bytes) → (bytes < (after f.job (core_in f) entry).wrote) × (is_going (after f.job (core_in f) entry) ≡ true)
+  pub counts : CountsBytes f'.sent f'.wrote f'.steps (after f.job (core_in f) entry)
+  pub due : f'.due ≡ (after f.job (core_in f) entry).due
   pub ended : f'.ended ≡ (after f.job (core_in f) entry).ended
   pub seats : AreSeated f.job (after f.job (core_in f) entry) f'.seats
   pub groups : AreGrouped (after f.job (core_in f) entry).replicas f'.groups
@@ -116,16 +68,6 @@ pub record Becomes (f f' : Fields) (entry : Entry) : Type 0 where
 module _ (f f' : Fields) (entry : Entry) (h : Holds f) (allowed : IsAllowed f.job (core_in f) entry) (b : Becomes f f' entry) where
   core_is : core_in f' ≡ after f.job (core_in f) entry
   core_is = ap (λ (j : Job). replay j f'.journal) b.job ∙ ap (replay f.job) b.journal ∙ replay_more f.job f.journal entry
-
-  -- where the due end is that of a failing sink, or of the entry
-  due_is : (o : Option ℕ) → failed_of f'.due ≡ o → (f'.due ≡ (after f.job (core_in f) entry).due) ⊎ ((bytes : ℕ) × (f'.due ≡ Some (Sink bytes))) → f'.due ≡ (state_in f').due
-  due_is None e (inl d) = due-same f'.job f'.journal f'.due e (d ∙ sym (ap (λ (c : Core). c.due) core_is))
-  due_is None e (inr d) = due-failed f'.job f'.journal f'.due d.0 d.1
-  due_is (Some bytes) e d = by (failed-cases f'.due)
-    where
-      by : (failed_of f'.due ≡ None) ⊎ ((n : ℕ) × (f'.due ≡ Some (Sink n))) → f'.due ≡ (state_in f').due
-      by (inl none) = absurd (let k : None ≡ Some bytes = sym none ∙ e in cc)
-      by (inr sink) = due-failed f'.job f'.journal f'.due sink.0 sink.1
 
   pub holds-step : Holds f'
   holds-step = record {
@@ -139,22 +81,22 @@ module _ (f f' : Fields) (entry : Entry) (h : Holds f) (allowed : IsAllowed f.jo
     steps_are = b.steps ∙ sym (ap (λ (c : Core). c.steps) core_is);
     scrubbed_are = b.scrubbed ∙ sym (ap (λ (c : Core). c.scrubbed) core_is);
     streak_is = b.streak ∙ sym (ap (λ (c : Core). c.streak) core_is);
-    counts = subst (λ (j : Job). CountsBytes f'.sent f'.steps (sent_of j f'.journal (failed_of f'.due))) (sym b.job) b.counts;
-    due_is = due_is (failed_of f'.due) refl b.due;
+    counts = subst (CountsBytes f'.sent f'.wrote f'.steps) (sym core_is) b.counts;
+    due_is = b.due ∙ sym (ap (λ (c : Core). c.due) core_is);
     ended_is = b.ended ∙ sym (ap (λ (c : Core). c.ended) core_is);
     seats_are = subst (λ (j : Job). AreSeated j (core_in f') f'.seats) (sym b.job) (subst (λ (c : Core). AreSeated f.job c f'.seats) (sym core_is) b.seats);
     groups_are = subst (λ (c : Core). AreGrouped c.replicas f'.groups) (sym core_is) b.groups;
     views_count = b.views_count;
     views_kept = subst (λ (j : Job). KeepsViews j f'.journal f'.views) (sym b.job) (subst (λ (js : List Entry). KeepsViews f.job js f'.views) (sym b.journal) b.views_kept);
-    failed_well = λ bytes e. let n = b.not_sink bytes e in
-        (subst (λ (c : Core). bytes < c.wrote) (sym core_is) n.0, ap is_going core_is ∙ n.1);
     room = b.room;
   }
 
--- no byte leaves
-pub same-counts : (f f' : Fields) → Holds f → f'.sent ≡ f.sent → f'.steps ≡ f.steps → sent_of f.job f'.journal (failed_of f'.due) ≡ sent_of f.job f.journal (failed_of f.due) → CountsBytes f'.sent f'.steps (sent_of f.job f'.journal (failed_of f'.due))
-same-counts f f' h sent steps bytes = record {
-  sent_are = sent ∙ h.counts.sent_are ∙ ap length (sym bytes);
+-- no byte is written
+pub same-counts : (f f' : Fields) → Holds f → (core : Core) → core.output ≡ (core_in f).output → core.wrote ≡ 0 → f'.sent ≡ f.sent → f'.wrote ≡ 0 → f'.steps ≡ f.steps → CountsBytes f'.sent f'.wrote f'.steps core
+same-counts f f' h core output none sent wrote steps = record {
+  sent_are = sent ∙ h.counts.sent_are ∙ ap length (sym output);
+  wrote_is = wrote ∙ sym none;
+  within = omega arith;
   few = let k = h.counts.few in omega arith;
 }
 

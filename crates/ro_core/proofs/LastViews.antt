@@ -15,7 +15,7 @@ use Rattle.ro_core.specs.Seen.{CoreOf, state, Appends, Stays}
 use Rattle.ro_legal.specs.Decides.{DecidesVote, DecidesFree, DecidesScrub, IsSplit}
 use Rattle.ro_legal.specs.Sound.{IsOver}
 use Rattle.ro_legal.proofs.Journals.{outcome_of-append}
-use Rattle.ro_core.proofs.Held.{with-ended}
+use Rattle.ro_core.proofs.Failing.{with-ended}
 use Rattle.ro_legal.proofs.Nexts.{end_next, end_is}
 use Rattle.ro_legal.proofs.Ordered.{going-parts, ordered}
 use Rattle.ro_legal.proofs.Outcomes.{ended_is_outcome}

@@ -12,18 +12,17 @@ use Rattle.ro_legal.specs.Streaks.{after_event}
 use Rattle.ro_legal.specs.Core.{Job, Core, is_going}
 use Rattle.ro_legal.specs.Event.{Event, event_of, all_applied, core_after}
 use Rattle.ro_legal.specs.Legal.{replay, output_of}
-use Rattle.ro_core.specs.Seen.{sent_of}
 use Rattle.ro_legal.specs.Sound.{IsOrdered}
 use Rattle.ro_core.specs.Fields.{Fields, core_in, blocked_at, AreHome, CanTake, Holds}
 use Rattle.ro_core.specs.Grouped.{AreGrouped}
 use Rattle.ro_core.specs.Happening.{event_by}
-use Rattle.ro_core.specs.Runs.{job_of, sent_in, payload_by, LastWrote, CanOccur}
+use Rattle.ro_core.specs.Runs.{job_of, payload_by, LastWrote, CanOccur}
 use Rattle.ro_legal.proofs.Journals.{replay_more, legal_more}
 use Rattle.ro_core.proofs.Held.{Goes, goes}
 use Rattle.ro_legal.proofs.Happens.{Happens, event-happens}
 use Rattle.ro_legal.proofs.Ordered.{ordered}
 use Rattle.ro_core.proofs.Sitting.{home-count}
-use Rattle.ro_core.proofs.Behind.{happened-unfailed, happened-sent, happened-holds, all-can-take}
+use Rattle.ro_core.proofs.Behind.{happened-holds, all-can-take}
 use Rattle.ro_core.proofs.Tests.{lives-within}
 use Rattle.ro_core.proofs.Votes.{live-few, payload-due, payload-few, writes-step, length-applied}
 
@@ -91,8 +90,8 @@ module _ (r : Run) (o : Occurrence) (can : CanOccur r o) where
       let counted = can.counted in
       omega arith
 
-  short : length payload ≤ 4096
-  short = subst (λ (x : Event). length x.payload ≤ 4096) can.event_is (payload-few f.kernel.setup f.kernel.kernel o.thread can.stop can.shown can.few)
+  pub occurs-short : length payload ≤ 4096
+  occurs-short = subst (λ (x : Event). length x.payload ≤ 4096) can.event_is (payload-few f.kernel.setup f.kernel.kernel o.thread can.stop can.shown can.few)
 
   fits : length payload ≤ 4096 * event_steps o.event.did
   fits = subst (λ (x : Event). length x.payload ≤ 4096 * event_steps x.did) can.event_is (writes-step f.kernel.setup f.kernel.kernel o.thread can.stop can.shown can.few)
@@ -102,7 +101,7 @@ module _ (r : Run) (o : Occurrence) (can : CanOccur r o) where
       let counts = h.counts.few in
       let limit = occurs-steps in
       let range = h.in_range.limit in
-      let most = short in
+      let most = occurs-short in
       let same = can.amid.steps in
       let sent = can.amid.sent in
       omega arith
@@ -111,27 +110,24 @@ module _ (r : Run) (o : Occurrence) (can : CanOccur r o) where
 
   module _ (f' : Fields) (job : f'.job ≡ f.job) (journal : f'.journal ≡ f.journal ++ o.entry ∷ []) (due : f'.due ≡ o.event.due) where
     pub occurs-holds : AreHome f.job f'.seats (all_applied o.event.effect can.replicas) → AreGrouped (all_applied o.event.effect can.replicas) f'.groups → f'.leases ≡ f.leases → f'.kernel ≡ r.kernel → f'.blocked ≡ slice_set r.blocked o.thread o.event.blocked
-        → f'.steps ≡ r.steps + o.steps → f'.scrubbed ≡ r.scrubbed → f'.streak ≡ after_event r.streak o.thread (blocked_at r.blocked o.thread) → f'.ended ≡ f.ended → f'.views ≡ f.views → f'.sent ≡ r.sent + length payload → 1 ≤ f'.places → Holds f'
-    occurs-holds home groups leases kernel blocked counted scrubbed streak ended views sent room =
+        → f'.steps ≡ r.steps + o.steps → f'.scrubbed ≡ r.scrubbed → f'.streak ≡ after_event r.streak o.thread (blocked_at r.blocked o.thread) → f'.ended ≡ f.ended → f'.views ≡ f.views → f'.sent ≡ r.sent + length payload → f'.wrote ≡ length payload → 1 ≤ f'.places → Holds f'
+    occurs-holds home groups leases kernel blocked counted scrubbed streak ended views sent wrote room =
         happened-holds f f' h o.entry can.allowed o.thread can.count can.replicas event can.came goes-on can.alone happens occurs-few journal
         job home groups leases (ap (λ (k : State). k.setup) kernel ∙ can.amid.setup) (ap (λ (k : State). k.kernel) kernel)
         (blocked ∙ ap (λ bs. slice_set bs o.thread o.event.blocked) can.amid.blocked)
         (let a = can.counted in let b = can.amid.steps in omega arith) (scrubbed ∙ can.amid.scrubbed)
         (streak ∙ ap (λ s. after_event s o.thread (blocked_at r.blocked o.thread)) can.amid.streak ∙ ap (λ bs. after_event f.streak o.thread (blocked_at bs o.thread)) can.amid.blocked) due ended
         (ap length views ∙ h.views_count goes-on.not_ended ∙ h.seats_are.count ∙ (ordered f.job f.journal h.legal).replica_count ∙ sym many ∙ sym (length-applied o.event.effect can.replicas) ∙ sym (home-count f.job f'.seats (all_applied o.event.effect can.replicas) home))
-        fits (let b = can.amid.sent in omega arith) can.no_end room
-
-    before-is : sent_in f ≡ output_of (job_of r) r.journal.items
-    before-is = ap (sent_of f.job f.journal) goes-on.not_failed ∙ ap (output_of f.job) (sym can.amid.journal) ∙ ap (λ (j : Job). output_of j r.journal.items) (sym can.amid.job)
+        fits (let b = can.amid.sent in omega arith) wrote can.no_end room
 
     pub occurs-wrote : LastWrote f' (output_of (job_of r) r.journal.items) payload
     occurs-wrote =
         let core : core_in f' ≡ core_after (core_in f) o.thread can.count can.replicas event = ap (λ (j : Job). replay j f'.journal) job ∙ ap (replay f.job) journal ∙ new in
+        let before : (core_in f).output ≡ output_of (job_of r) r.journal.items = ap (output_of f.job) (sym can.amid.journal) ∙ ap (λ (j : Job). output_of j r.journal.items) (sym can.amid.job) in
         record {
-          few = short;
-          sent = ap (λ (j : Job). sent_in (record f' { job = j })) job ∙ happened-sent f f' h o.entry can.allowed o.thread can.count can.replicas event can.came goes-on can.alone happens occurs-few journal due ∙ ap (λ (xs : List ℕ). xs ++ payload) before-is;
+          few = occurs-short;
+          output = ap (λ (c : Core). c.output) core ∙ ap (λ (xs : List ℕ). xs ++ payload) before;
           wrote = ap (λ (c : Core). c.wrote) core;
-          not_failed = happened-unfailed f f' h o.entry can.allowed o.thread can.count can.replicas event can.came goes-on can.alone happens occurs-few journal due;
           goes_on = λ some. ap is_going core ∙ and_from _ _ (ap is_none (none some)) (ap is_none (sym h.ended_is ∙ goes-on.not_ended));
         }
       where

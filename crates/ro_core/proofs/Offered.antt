@@ -12,7 +12,7 @@ use Rattle.ro_legal.specs.Event.{Event, with_recovered}
 use Rattle.ro_legal.specs.Legal.{lease_run, core_after_put, core_after_event, event_in, freed_event, after, replay, output_of}
 use Rattle.ro_legal.proofs.Journals.{replay_more}
 use Rattle.ro_legal.proofs.Ordered.{going-parts}
-use Rattle.ro_core.specs.Seen.{before_end, offered_by, sent_of}
+use Rattle.ro_core.specs.Seen.{before_end, offered_by}
 use Rattle.ro_core.specs.Fields.{Fields, core_in, Holds}
 use Rattle.ro_core.specs.Runs.{LastWrote}
 use Rattle.ro_core.proofs.Held.{fields-outcome}
@@ -86,6 +86,5 @@ offers_more job journal entry = by (comes journal entry)
 pub offers_written : (f : Fields) → Holds f → (before bytes : List ℕ) → LastWrote f before bytes → 0 < length bytes → length (offered_by f.job f.journal) ≡ length before + length bytes
 offers_written f h before bytes wrote some =
     ap (λ (js : List Entry). length (output_of f.job js)) (before_all f.journal (sym (fields-outcome f h) ∙ h.ended_is ∙ (going-parts (core_in f) (wrote.goes_on some)).1))
-    ∙ sym (ap (λ (o : Option ℕ). length (sent_of f.job f.journal o)) wrote.not_failed)
-    ∙ ap (λ (xs : List ℕ). length xs) wrote.sent
+    ∙ ap (λ (xs : List ℕ). length xs) wrote.output
     ∙ length-append before bytes

@@ -4,7 +4,6 @@ use Rattle.std.specs.Prelude.{◌==◌, is_some, slice_get, slice_set}
 use Rattle.std.specs.List.{filter, find, list_any}
 use Rattle.std.proofs.lemmas.List.{length-set}
 use Rattle.ro_journal.specs.declared.How.{How}
-use Rattle.ro_journal.specs.declared.How.TheVariants.{Sink}
 use Rattle.ro_journal.specs.declared.Entry.{Entry}
 use Rattle.ro_journal.specs.declared.Entry.TheVariants.{Put}
 use Rattle.ro_journal.specs.Plan.{outcome_of}
@@ -15,10 +14,9 @@ use Rattle.ro_replica.specs.Runs.{RanTo}
 use Rattle.ro_replica.specs.Seen.{ReplicaOf, replica_of}
 use Rattle.ro_legal.specs.declared.actions.Lease.{Lease}
 use Rattle.ro_legal.specs.Core.{Job, Core, is_out, lease_of}
-use Rattle.ro_legal.specs.Legal.{is_lease, lease_run, core_after_put, after, MayPut, replay, replay_with, output_of}
-use Rattle.ro_core.specs.Seen.{sent_of, IsOfJob}
-use Rattle.ro_legal.specs.Sound.{IsOrdered}
-use Rattle.ro_core.specs.Fields.{failed_of, AreSeated, one_end, Fields, core_in, state_in, blocked_at, Holds}
+use Rattle.ro_legal.specs.Legal.{is_lease, lease_run, core_after_put, after, MayPut, replay, output_of}
+use Rattle.ro_core.specs.Seen.{IsOfJob}
+use Rattle.ro_core.specs.Fields.{AreSeated, one_end, Fields, core_in, blocked_at, Holds}
 use Rattle.ro_legal.proofs.Journals.{replay_more, outcome_of-append}
 use Rattle.ro_core.proofs.Homes.{put_seated, seat_within}
 use Rattle.ro_legal.proofs.Leases.{fewer, leases_apart}
@@ -27,7 +25,7 @@ use Rattle.std.proofs.lemmas.Option.{slice_get_within}
 use Rattle.ro_legal.proofs.Grants.{lent-go, lent-thread}
 use Rattle.ro_core.proofs.Grouped.{put-grouped}
 use Rattle.ro_legal.proofs.Ordered.{ordered}
-use Rattle.ro_core.proofs.Held.{failed-cases, with-leases, with-ended, no-views, no-outcome, same-counts, holds-step}
+use Rattle.ro_core.proofs.Held.{no-views, no-outcome, same-counts, holds-step}
 use Rattle.ro_core.proofs.Takes.{Rest}
 
 pub found_driver : (driver : ℕ) (leases : List Lease) (lease : Lease) → find (λ l. l.driver == driver) leases ≡ Some lease → lease.driver ≡ driver
@@ -39,10 +37,10 @@ found_driver driver (l ∷ leases) lease e = by (l.driver == driver) refl e (λ 
     by false f g rest = rest g
 
 -- the lease that a driver holds stands among those that the fields have, and no other
-pub held-lease : (f : Fields) → Holds f → (driver : ℕ) (lease : Lease) → lease_of (state_in f) driver ≡ Some lease → find (λ l. l.driver == driver) f.leases ≡ Some lease
-held-lease f h driver lease e = ap (find (λ (l : Lease). l.driver == driver)) (h.leases_are ∙ sym (with-leases f.job f.journal (failed_of f.due))) ∙ e
+pub held-lease : (f : Fields) → Holds f → (driver : ℕ) (lease : Lease) → lease_of (core_in f) driver ≡ Some lease → find (λ l. l.driver == driver) f.leases ≡ Some lease
+held-lease f h driver lease e = ap (find (λ (l : Lease). l.driver == driver)) h.leases_are ∙ e
 
-pub same-lease : (f : Fields) → Holds f → (driver : ℕ) (held found : Lease) → lease_of (state_in f) driver ≡ Some held → find (λ l. l.driver == driver) f.leases ≡ Some found → held ≡ found
+pub same-lease : (f : Fields) → Holds f → (driver : ℕ) (held found : Lease) → lease_of (core_in f) driver ≡ Some held → find (λ l. l.driver == driver) f.leases ≡ Some found → held ≡ found
 same-lease f h driver held found e g = let k : Some held ≡ Some found = sym (held-lease f h driver held e) ∙ g in cc
 
 put-sends : (job : Job) (core : Core) (driver replica thread count : ℕ) (ran : Option RanTo) → (core_after_put job core driver replica thread count ran).output ≡ core.output
@@ -56,44 +54,24 @@ put-output job journal driver replica thread count hit =
     ap (λ (c : Core). c.output) (replay_more job journal (Put driver replica thread count hit)) ∙ put-sends job (replay job journal) driver replica thread count (lease_run job (replay job journal) replica thread count)
 
 -- no end is due while a lease is out
-out-going : (f : Fields) → Holds f → (driver replica thread : ℕ) → f.ended ≡ None → is_out (core_in f) driver replica thread ≡ true → f.due ≡ None
-out-going f h driver replica thread still out = by f.due refl (failed-cases f.due)
+out-going : (f : Fields) → Holds f → (driver replica thread : ℕ) → is_out (core_in f) driver replica thread ≡ true → f.due ≡ None
+out-going f h driver replica thread out = by f.due refl
   where
-    out-of-none : (leases : List Lease) → (core_in f).leases ≡ leases → leases ≡ [] → ⊥
-    out-of-none leases e none = true≢false (sym out ∙ ap (list_any (is_lease driver replica thread)) (e ∙ none))
+    by : (d : Option How) → f.due ≡ d → f.due ≡ None
+    by None e = e
+    by (Some how) e =
+        let none : (core_in f).leases ≡ [] = (ordered f.job f.journal h.legal).due_alone how (sym h.due_is ∙ e) in
+        absurd (true≢false (sym out ∙ ap (list_any (is_lease driver replica thread)) none))
 
-    o : IsOrdered f.job (core_in f)
-    o = ordered f.job f.journal h.legal
-
-    from-core : (how : How) → f.due ≡ Some how → failed_of f.due ≡ None → ⊥
-    from-core how e none = out-of-none (core_in f).leases refl (o.due_alone how (sym (h.due_is ∙ ap (λ (x : Option ℕ). (replay_with f.job f.journal x).due) none) ∙ e))
-
-    from-sink : (bytes : ℕ) → f.due ≡ Some (Sink bytes) → ⊥
-    from-sink bytes e = out-of-none (core_in f).leases refl (o.wrote_alone (let less = (h.failed_well bytes e).0 in omega arith))
-
-    by : (d : Option How) → f.due ≡ d → (failed_of f.due ≡ None) ⊎ ((bytes : ℕ) × (f.due ≡ Some (Sink bytes))) → f.due ≡ None
-    by None e cases = e
-    by (Some how) e (inl none) = absurd (from-core how e none)
-    by (Some how) e (inr sink) = absurd (from-sink sink.0 sink.1)
-
-module _ (f : Fields) (h : Holds f) (driver replica thread count hit : ℕ) (allowed : MayPut f.job (state_in f) driver replica thread count hit) where
+module _ (f : Fields) (h : Holds f) (driver replica thread count hit : ℕ) (allowed : MayPut f.job (core_in f) driver replica thread count hit) where
   still : f.ended ≡ None
-  still = h.ended_is ∙ sym (with-ended f.job f.journal (failed_of f.due)) ∙ allowed.not_ended
+  still = h.ended_is ∙ allowed.not_ended
 
-  out : is_out (core_in f) driver replica thread ≡ true
-  out = ap (list_any (is_lease driver replica thread)) (sym (with-leases f.job f.journal (failed_of f.due))) ∙ allowed.out
-
-  pub put-not-due : f.due ≡ None
-  put-not-due = out-going f h driver replica thread still out
-
-  pub put-same : state_in f ≡ core_in f
-  put-same = ap (λ (o : Option How). replay_with f.job f.journal (failed_of o)) put-not-due
-
-  pub put-allowed : MayPut f.job (core_in f) driver replica thread count hit
-  put-allowed = subst (λ (c : Core). MayPut f.job c driver replica thread count hit) put-same allowed
+  put-not-due : f.due ≡ None
+  put-not-due = out-going f h driver replica thread allowed.out
 
   pub put-within : replica < length f.seats
-  put-within = seat_within f.job (core_in f) f.seats replica thread count put-allowed.ran h.seats_are put-allowed.runs
+  put-within = seat_within f.job (core_in f) f.seats replica thread count allowed.ran h.seats_are allowed.runs
 
   -- its group, and the thread, are there
   pub put-group : replica < length f.groups
@@ -101,7 +79,7 @@ module _ (f : Fields) (h : Holds f) (driver replica thread count hit : ℕ) (all
 
   pub put-few : thread < 16
   put-few =
-      let lent = lent-thread (core_in f) replica thread (lent-go f.job f.journal h.legal driver replica thread put-allowed.out) in
+      let lent = lent-thread (core_in f) replica thread (lent-go f.job f.journal h.legal driver replica thread allowed.out) in
       let order = ordered f.job f.journal h.legal in
       let made = (order.sound replica lent.lent lent.in_core).all_made in
       let within = slice_get_within lent.lent.threads thread lent.went lent.in_lent in
@@ -109,7 +87,7 @@ module _ (f : Fields) (h : Holds f) (driver replica thread count hit : ℕ) (all
       omega arith
 
   pub put-fewer : length (filter (λ l. not (is_lease driver replica thread l)) f.leases) + 1 ≤ length f.leases
-  put-fewer = fewer (is_lease driver replica thread) f.leases (ap (list_any (is_lease driver replica thread)) h.leases_are ∙ out)
+  put-fewer = fewer (is_lease driver replica thread) f.leases (ap (list_any (is_lease driver replica thread)) h.leases_are ∙ allowed.out)
 
   pub put-room : 0 < f.places
   put-room = let k = h.room in omega (arith, put-fewer)
@@ -117,20 +95,14 @@ module _ (f : Fields) (h : Holds f) (driver replica thread count hit : ℕ) (all
   pub put-outcome : outcome_of f.journal ≡ None
   put-outcome = no-outcome f h still
 
-  by-put : (f' : Fields) → f'.journal ≡ f.journal ++ Put driver replica thread count hit ∷ [] → f'.due ≡ f.due → sent_of f.job f'.journal (failed_of f'.due) ≡ sent_of f.job f.journal (failed_of f.due)
-  by-put f' journal due =
-      let none : failed_of f.due ≡ None = ap failed_of put-not-due in
-      ap (λ (js : List Entry). sent_of f.job js (failed_of f'.due)) journal ∙ ap (sent_of f.job (f.journal ++ Put driver replica thread count hit ∷ [])) (ap failed_of due ∙ none)
-      ∙ put-output f.job f.journal driver replica thread count hit ∙ sym (ap (sent_of f.job f.journal) none)
-
   pub put-holds : (f' : Fields) (value : ReplicaOf) → IsOfJob f.job value → slice_get (after f.job (core_in f) (Put driver replica thread count hit)).replicas replica ≡ Some (replica_of value)
-      → Rest f f' → f'.journal ≡ f.journal ++ Put driver replica thread count hit ∷ [] → f'.leases ≡ filter (λ l. not (is_lease driver replica thread l)) f.leases
+      → Rest f f' → f'.wrote ≡ 0 → f'.journal ≡ f.journal ++ Put driver replica thread count hit ∷ [] → f'.leases ≡ filter (λ l. not (is_lease driver replica thread l)) f.leases
       → f'.seats ≡ slice_set f.seats replica (Some value) → Returns replica thread (is_some (stop_of (replica_of value) thread)) f.groups f'.groups → f.places ≡ f'.places + 1 → Holds f'
   unfolding after
-  put-holds f' value program became r journal leases seats back less =
+  put-holds f' value program became r wrote journal leases seats back less =
       let core : Core = core_in f in
-      let is : core_after_put f.job core driver replica thread count (lease_run f.job core replica thread count) ≡ core_after_put f.job core driver replica thread count (Some put-allowed.ran) = ap (core_after_put f.job core driver replica thread count) put-allowed.runs in
-      holds-step f f' (Put driver replica thread count hit) h put-allowed (record {
+      let is : core_after_put f.job core driver replica thread count (lease_run f.job core replica thread count) ≡ core_after_put f.job core driver replica thread count (Some allowed.ran) = ap (core_after_put f.job core driver replica thread count) allowed.runs in
+      holds-step f f' (Put driver replica thread count hit) h allowed (record {
         job = r.job;
         journal = journal;
         leases = leases ∙ ap (filter (λ l. not (is_lease driver replica thread l))) h.leases_are ∙ sym (ap (λ (c : Core). c.leases) is);
@@ -141,12 +113,11 @@ module _ (f : Fields) (h : Holds f) (driver replica thread count hit : ℕ) (all
         steps = r.steps ∙ h.steps_are ∙ sym (ap (λ (c : Core). c.steps) is);
         scrubbed = r.scrubbed ∙ h.scrubbed_are ∙ sym (ap (λ (c : Core). c.scrubbed) is);
         streak = r.streak ∙ h.streak_is ∙ sym (ap (λ (c : Core). c.streak) is);
-        counts = same-counts f f' h r.sent r.steps (by-put f' journal r.due);
-        due = inl (r.due ∙ h.due_is ∙ ap (λ (c : Core). c.due) put-same ∙ sym (ap (λ (c : Core). c.due) is));
-        not_sink = λ bytes e. absurd (let g : None ≡ Some (Sink bytes) = sym put-not-due ∙ sym r.due ∙ e in cc);
+        counts = same-counts f f' h _ (ap (λ (c : Core). c.output) is) (ap (λ (c : Core). c.wrote) is) r.sent wrote r.steps;
+        due = r.due ∙ h.due_is ∙ sym (ap (λ (c : Core). c.due) is);
         ended = r.ended ∙ h.ended_is ∙ sym (ap (λ (c : Core). c.ended) is);
-        seats = subst (AreSeated f.job (after f.job core (Put driver replica thread count hit))) (sym seats) (put_seated f.job core f.seats driver replica thread count hit value (leases_apart f.job f.journal h.legal) h.seats_are put-allowed program became);
-        groups = put-grouped f.job core driver replica thread count hit put-allowed (lent-go f.job f.journal h.legal) f.groups f'.groups (replica_of value) became h.groups_are back;
+        seats = subst (AreSeated f.job (after f.job core (Put driver replica thread count hit))) (sym seats) (put_seated f.job core f.seats driver replica thread count hit value (leases_apart f.job f.journal h.legal) h.seats_are allowed program became);
+        groups = put-grouped f.job core driver replica thread count hit allowed (lent-go f.job f.journal h.legal) f.groups f'.groups (replica_of value) became h.groups_are back;
         views_count = λ unended. ap length r.views ∙ h.views_count (sym r.ended ∙ unended) ∙ sym (length-set f.seats replica (Some value)) ∙ sym (ap length seats);
         views_kept = no-views f.job _ f'.views (outcome_of-append f.journal (Put driver replica thread count hit ∷ []) put-outcome);
         room = let k = h.room in let one : one_end f'.ended ≡ one_end f.ended = ap one_end r.ended in let n : length f'.leases ≡ length (filter (λ l. not (is_lease driver replica thread l)) f.leases) = ap length leases in omega (arith, put-fewer);

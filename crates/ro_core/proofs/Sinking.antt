@@ -1,14 +1,17 @@
 -- What a sink took of a vote.
-use Rattle.std.proofs.Common.{◌≡◌, ◌⊎◌, inl, inr, ℕ, zero, suc, ◌<◌, ◌≤◌, ◌+◌, List, [], ◌++◌, length, take, drop, Option, Some, None, refl, sym, ap, ◌∙◌, subst, append_assoc, arith}
+use Rattle.std.proofs.Common.{◌≡◌, ◌⊎◌, inl, inr, ℕ, zero, suc, ◌<◌, ◌≤◌, ◌+◌, ◌-◌, List, [], ◌++◌, length, take, drop, Option, Some, None, refl, sym, ap, ◌∙◌, subst, append_assoc, length-append, arith}
 use Rattle.std.specs.Prelude.{IfSome}
 use Rattle.std.proofs.lemmas.List.{take-append-drop}
+use Rattle.std.proofs.Math.Seq.{take-append-add}
 use Rattle.ro_event.specs.Views.{View}
 use Rattle.ro_io.specs.Outside.{Rose, more}
 use Rattle.ro_core.specs.declared.runs.Run.{Run}
-use Rattle.ro_journal.specs.declared.Entry.{Entry}
-use Rattle.ro_legal.specs.Core.{Job}
-use Rattle.ro_core.specs.Seen.{Sends, IsOfMajority, offered_by}
-use Rattle.ro_core.specs.Runs.{fields_of, job_of, core_of, sent_in, bytes_by, Notes}
+use Rattle.ro_journal.specs.declared.How.TheVariants.{Sink}
+use Rattle.ro_legal.specs.Core.{Core}
+use Rattle.ro_legal.specs.Legal.{cut_output, output_of}
+use Rattle.ro_core.specs.Seen.{Sends, IsOfMajority, offered_by, sent_of}
+use Rattle.ro_core.specs.Fields.{core_in}
+use Rattle.ro_core.specs.Runs.{fields_of, job_of, core_of, bytes_by, LastWrote}
 
 -- a front of what the majority writes
 pub front-majority : (views : List View) (failed : Option ℕ) (bytes : List ℕ) → (bytes ≡ []) ⊎ IsOfMajority views bytes → (bytes_by failed bytes ≡ []) ⊎ IsOfMajority views (bytes_by failed bytes)
@@ -21,6 +24,13 @@ front-majority views failed bytes (inl e) = inl (ap (bytes_by failed) e ∙ noth
 front-majority views None bytes (inr m) = inr m
 front-majority views (Some n) bytes (inr m) =
     inr (record { view = m.view; most = m.most; rest = drop n bytes ++ m.rest; front = m.front ∙ ap (λ (xs : List ℕ). xs ++ m.rest) (sym (take-append-drop n bytes)) ∙ append_assoc (take n bytes) (drop n bytes) m.rest })
+
+-- of what was written behind other bytes a failing sink took a front
+pub cut-written : (core : Core) (before bytes : List ℕ) (taken : ℕ) → taken ≤ length bytes → core.output ≡ before ++ bytes → core.wrote ≡ length bytes → cut_output core (Sink taken) ≡ before ++ take taken bytes
+cut-written core before bytes taken less output wrote =
+    let all : length core.output ≡ length before + length bytes = ap (λ (xs : List ℕ). length xs) output ∙ length-append before bytes in
+    ap (λ (n : ℕ). take n core.output) (let e : length core.output - core.wrote + taken ≡ length before + taken = omega (arith, all) in e)
+    ∙ ap (take (length before + taken)) output ∙ take-append-add before bytes taken
 
 -- what the sink holds and counts behind a write of which it took all, or a part, and how many bytes it surely takes then
 pub record Took (bytes : List ℕ) (failed : Option ℕ) (held held' : Option (List ℕ)) (failures failures' sure sure' : ℕ) : Type 0 where
@@ -52,20 +62,21 @@ module _ (bytes : List ℕ) (held held' : Option (List ℕ)) (failures failures'
   took-full None t left offers is = tt
   took-full (Some n) t left offers is = (let few : n < length bytes = t.part.0 in let less : sure < length bytes = t.full in let all : offers ≡ left + length bytes = is (omega (arith, few)) in omega (arith, less, all))
 
--- the core of the run that noted it, with that sink
-pub took-sends : (old mid new : Run) (bytes : List ℕ) (failed : Option ℕ) (held held' : Option (List ℕ)) (failures failures' sure sure' : ℕ) → sent_in (fields_of new) ≡ sent_in (fields_of old) ++ bytes_by failed bytes
-    → Notes (fields_of mid) (fields_of new) failed → (0 < length bytes → length (offered_by (job_of mid) mid.journal.items) ≡ length (sent_in (fields_of old)) + length bytes)
-    → Took bytes failed held held' failures failures' sure sure' → Sends (core_of (fields_of old) held failures sure) (core_of (fields_of new) held' failures' sure') (bytes_by failed bytes)
-took-sends old mid new bytes failed held held' failures failures' sure sure' sent noted offers t = record {
-  sent = sent;
+-- the core of the run that wrote them, with that sink
+pub took-sends : (old new : Run) (bytes : List ℕ) (before failed : Option ℕ) (held held' : Option (List ℕ)) (failures failures' sure sure' : ℕ) → before ≡ None → LastWrote (fields_of new) (output_of (job_of old) old.journal.items) bytes
+    → (0 < length bytes → length (offered_by (job_of new) new.journal.items) ≡ length (output_of (job_of old) old.journal.items) + length bytes)
+    → Took bytes failed held held' failures failures' sure sure' → Sends (core_of (fields_of old) before held failures sure) (core_of (fields_of new) failed held' failures' sure') (bytes_by failed bytes)
+took-sends old new bytes before failed held held' failures failures' sure sure' none wrote offers t = record {
+  sent = cut-sent failed t.part ∙ ap (λ (xs : List ℕ). xs ++ bytes_by failed bytes) (sym (ap (sent_of (job_of old) old.journal.items) none));
   held = took-held bytes held held' failures failures' sure sure' failed t;
   failures = t.grow;
-  failed = subst (λ (o : Option ℕ). IfSome o (λ taken. Rose failures failures')) (sym noted.failed_is) (took-rose bytes held held' failures failures' sure sure' failed t);
-  calm = λ e. t.calm (sym noted.failed_is ∙ e);
-  sure = λ e. took-left bytes held held' failures failures' sure sure' failed t (sym noted.failed_is ∙ e);
-  full =
-      let same : length (offered_by (job_of new) new.journal.items) ≡ length (offered_by (job_of mid) mid.journal.items) =
-      ap (λ (j : Job). length (offered_by j new.journal.items)) noted.job ∙ ap (λ (js : List Entry). length (offered_by (job_of mid) js)) noted.journal in
-      subst (λ (o : Option ℕ). IfSome o (λ taken. sure + length (sent_in (fields_of old)) < length (offered_by (job_of new) new.journal.items))) (sym noted.failed_is)
-      (took-full bytes held held' failures failures' sure sure' failed t (length (sent_in (fields_of old))) (length (offered_by (job_of new) new.journal.items)) (λ some. same ∙ offers some));
+  failed = took-rose bytes held held' failures failures' sure sure' failed t;
+  calm = t.calm;
+  sure = took-left bytes held held' failures failures' sure sure' failed t;
+  full = subst (λ (o : Option ℕ). IfSome failed (λ taken. sure + length (sent_of (job_of old) old.journal.items o) < length (offered_by (job_of new) new.journal.items))) (sym none)
+      (took-full bytes held held' failures failures' sure sure' failed t (length (output_of (job_of old) old.journal.items)) (length (offered_by (job_of new) new.journal.items)) offers);
 }
+  where
+    cut-sent : (failed : Option ℕ) → IfSome failed (λ n. (n < length bytes) × (held' ≡ more held (take n bytes)) × Rose failures failures') → sent_of (job_of new) new.journal.items failed ≡ output_of (job_of old) old.journal.items ++ bytes_by failed bytes
+    cut-sent None part = wrote.output
+    cut-sent (Some n) part = cut-written (core_in (fields_of new)) (output_of (job_of old) old.journal.items) bytes n (let less : n < length bytes = part.0 in omega arith) wrote.output wrote.wrote

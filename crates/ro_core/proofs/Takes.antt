@@ -5,7 +5,6 @@ use Rattle.std.specs.Option.{option_map_or}
 use Rattle.std.proofs.lemmas.Bool.{and_parts}
 use Rattle.std.proofs.lemmas.List.{length-set}
 use Rattle.ro_journal.specs.declared.How.{How}
-use Rattle.ro_journal.specs.declared.How.TheVariants.{Sink}
 use Rattle.ro_journal.specs.declared.Entry.{Entry}
 use Rattle.ro_journal.specs.declared.Entry.TheVariants.{Take}
 use Rattle.ro_event.specs.declared.calls.Call.{Call}
@@ -17,9 +16,9 @@ use Rattle.ro_replica.specs.Seen.{ReplicaOf, replica_of, CanCount}
 use Rattle.ro_legal.specs.declared.actions.Lease.{Lease}
 use Rattle.ro_legal.specs.Core.{Job, Core}
 use Rattle.ro_legal.specs.Legal.{after, IsAllowed, MayTake, output_of}
-use Rattle.ro_core.specs.Seen.{sent_of, IsOfJob}
+use Rattle.ro_core.specs.Seen.{IsOfJob}
 use Rattle.ro_legal.specs.Sound.{Counts}
-use Rattle.ro_core.specs.Fields.{failed_of, spare_of, Seated, AreSeated, IsSeat, one_end, Fields, core_in, state_in, blocked_at, Holds}
+use Rattle.ro_core.specs.Fields.{spare_of, Seated, AreSeated, IsSeat, one_end, Fields, core_in, blocked_at, Holds}
 use Rattle.ro_legal.proofs.Journals.{replay_more, outcome_of-append}
 use Rattle.ro_legal.proofs.Leases.{AtHome, lendable_there}
 use Rattle.ro_core.proofs.Homes.{seat_there, take_seated}
@@ -53,35 +52,26 @@ pub record Rest (f f' : Fields) : Type 0 where
 times-le : (a b n : ℕ) → a ≤ b → a * n ≤ b * n
 times-le a b n h = grind arith
 
--- a take sends nothing
+-- a take writes nothing
 pub take-output : (job : Job) (journal : List Entry) (driver replica thread : ℕ) → output_of job (journal ++ Take driver replica thread ∷ []) ≡ output_of job journal
 unfolding after
 take-output job journal driver replica thread = ap (λ (c : Core). c.output) (replay_more job journal (Take driver replica thread))
 
-module _ (f : Fields) (h : Holds f) (driver replica thread : ℕ) (allowed : MayTake f.job (state_in f) driver replica thread) where
+module _ (f : Fields) (h : Holds f) (driver replica thread : ℕ) (allowed : MayTake f.job (core_in f) driver replica thread) where
   pub take-goes : Goes f
   take-goes = goes f h allowed.going
 
-  pub take-allowed : IsAllowed f.job (core_in f) (Take driver replica thread)
-  take-allowed = subst (λ (c : Core). MayTake f.job c driver replica thread) take-goes.same allowed
-
   at-home : AtHome (core_in f) replica
-  at-home = lendable_there (core_in f) replica thread take-allowed.lendable
+  at-home = lendable_there (core_in f) replica thread allowed.lendable
 
   pub take-seat : IsSeat f.seats replica
   take-seat = seat_there f.job (core_in f) f.seats replica at-home.value h.seats_are at-home.home at-home.there
 
   -- the fields after the take
-  by-take : (f' : Fields) → f'.journal ≡ f.journal ++ Take driver replica thread ∷ [] → f'.due ≡ f.due → sent_of f.job f'.journal (failed_of f'.due) ≡ sent_of f.job f.journal (failed_of f.due)
-  by-take f' journal due =
-      let none : failed_of f.due ≡ None = ap failed_of take-goes.not_due in
-      ap (λ (js : List Entry). sent_of f.job js (failed_of f'.due)) journal ∙ ap (sent_of f.job (f.journal ++ Take driver replica thread ∷ [])) (ap failed_of due ∙ none)
-      ∙ take-output f.job f.journal driver replica thread ∙ sym (ap (sent_of f.job f.journal) none)
-
-  pub take-holds : (f' : Fields) → Rest f f' → f'.journal ≡ f.journal ++ Take driver replica thread ∷ [] → f'.leases ≡ record { driver = driver; replica = replica; thread = thread } ∷ f.leases
+  pub take-holds : (f' : Fields) → Rest f f' → f'.wrote ≡ 0 → f'.journal ≡ f.journal ++ Take driver replica thread ∷ [] → f'.leases ≡ record { driver = driver; replica = replica; thread = thread } ∷ f.leases
       → f'.seats ≡ slice_set f.seats replica None → f'.groups ≡ f.groups → length f.leases + 3 ≤ f'.places + 1 → Holds f'
   unfolding after
-  take-holds f' r journal leases seats groups room = holds-step f f' (Take driver replica thread) h take-allowed (record {
+  take-holds f' r wrote journal leases seats groups room = holds-step f f' (Take driver replica thread) h allowed (record {
     job = r.job;
     journal = journal;
     leases = leases ∙ ap (λ (ls : List Lease). record { driver = driver; replica = replica; thread = thread } ∷ ls) h.leases_are;
@@ -92,9 +82,8 @@ module _ (f : Fields) (h : Holds f) (driver replica thread : ℕ) (allowed : May
     steps = r.steps ∙ h.steps_are;
     scrubbed = r.scrubbed ∙ h.scrubbed_are;
     streak = r.streak ∙ h.streak_is;
-    counts = same-counts f f' h r.sent r.steps (by-take f' journal r.due);
-    due = inl (r.due ∙ take-goes.not_due ∙ sym (going-parts (core_in f) take-allowed.going).0);
-    not_sink = λ bytes e. absurd (let g : None ≡ Some (Sink bytes) = sym take-goes.not_due ∙ sym r.due ∙ e in cc);
+    counts = same-counts f f' h _ refl refl r.sent wrote r.steps;
+    due = r.due ∙ h.due_is;
     ended = r.ended ∙ h.ended_is;
     seats = subst (AreSeated f.job (after f.job (core_in f) (Take driver replica thread))) (sym seats) (take_seated f.job (core_in f) f.seats driver replica thread take-seat.0 h.seats_are take-seat.1);
     groups = subst (AreGrouped (core_in f).replicas) (sym groups) h.groups_are;
@@ -111,7 +100,7 @@ module _ (f : Fields) (h : Holds f) (driver replica thread : ℕ) (allowed : May
 
   pub take-going : (value : ReplicaOf) → slice_get f.seats replica ≡ Some (Some value) → is_unstopped thread (replica_of value) ≡ true
   take-going value there =
-      let lendable = (and_parts _ _ take-allowed.lendable).1 in
+      let lendable = (and_parts _ _ allowed.lendable).1 in
       ap (λ (o : Option Replica). option_map_or (is_unstopped thread) o false) (sym (take-lent value there).1) ∙ lendable
 
   -- a thread's count leaves room for a quantum in 128 bits

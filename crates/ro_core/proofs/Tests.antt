@@ -18,18 +18,17 @@ use Rattle.ro_replica.specs.Seen.{ReplicaOf, replica_of}
 use Rattle.ro_legal.specs.declared.actions.Action.TheVariants.{Lend, Vote as DoVote}
 use Rattle.ro_legal.specs.declared.actions.Lease.{Lease}
 use Rattle.ro_legal.specs.Core.{Job, Core, is_going, nothing_lent, is_home, is_lendable, may_vote, may_free}
-use Rattle.ro_legal.specs.Legal.{any_below, replay, replay_with}
+use Rattle.ro_legal.specs.Legal.{any_below, replay}
 use Rattle.ro_legal.specs.declared.actions.Streak.{Streak}
 use Rattle.ro_legal.specs.Streaks.{is_long, comes_last}
 use Rattle.ro_legal.specs.Action.{or_else, lowest_below, map_action, threads_made, is_turn, may_vote_in, may_lend_in, lend_in, lend_turn, turn_next}
 use Rattle.ro_core.specs.Seen.{IsOfJob}
-use Rattle.ro_core.specs.Fields.{failed_of, Seated, AreSeated, AreHome, seat_unstopped, Fields, core_in, state_in, blocked_at, Holds}
+use Rattle.ro_core.specs.Fields.{Seated, AreSeated, AreHome, seat_unstopped, Fields, core_in, blocked_at, Holds}
 use Rattle.ro_core.specs.Grouped.{seat_stopped}
 use Rattle.ro_group.specs.Groups.{is_ready}
 use Rattle.ro_core.proofs.Grouped.{ready-all}
 use Rattle.ro_legal.proofs.Ordered.{ordered, vote-parts}
 use Rattle.ro_core.proofs.Sitting.{home-count}
-use Rattle.ro_core.proofs.Held.{with-leases, with-kernel, with-replicas, with-ended, with-streak}
 
 told : (b : Bool) → not b ≡ false → b ≡ true
 told true e = refl
@@ -134,33 +133,26 @@ stopped-home job thread seats replicas h = absurd h
 -- ---- the tests
 
 module _ (f : Fields) (h : Holds f) where
-  pub leases-are : (state_in f).leases ≡ f.leases
-  leases-are = with-leases f.job f.journal (failed_of f.due) ∙ sym h.leases_are
+  pub leases-are : (core_in f).leases ≡ f.leases
+  leases-are = sym h.leases_are
 
-  pub kernel-is : (state_in f).kernel ≡ f.kernel.kernel
-  kernel-is = with-kernel f.job f.journal (failed_of f.due) ∙ sym h.kernel_is
+  pub kernel-is : (core_in f).kernel ≡ f.kernel.kernel
+  kernel-is = sym h.kernel_is
 
-  with-blocked : (o : Option ℕ) (thread : ℕ) → (replay_with f.job f.journal o).blocked thread ≡ (replay f.job f.journal).blocked thread
-  with-blocked None thread = refl
-  with-blocked (Some n) thread = refl
+  pub blocked-is : (thread : ℕ) → (core_in f).blocked thread ≡ blocked_at f.blocked thread
+  blocked-is thread = sym (h.blocked_are thread)
 
-  pub blocked-is : (thread : ℕ) → (state_in f).blocked thread ≡ blocked_at f.blocked thread
-  blocked-is thread = with-blocked (failed_of f.due) thread ∙ sym (h.blocked_are thread)
-
-  pub streak-is : (state_in f).streak ≡ f.streak
-  streak-is = with-streak f.job f.journal (failed_of f.due) ∙ sym h.streak_is
-
-  pub replicas-are : (state_in f).replicas ≡ (core_in f).replicas
-  replicas-are = with-replicas f.job f.journal (failed_of f.due)
+  pub streak-is : (core_in f).streak ≡ f.streak
+  streak-is = sym h.streak_is
 
   -- what is left of the test of a vote where the rest holds
-  pub vote-test : (thread : ℕ) → (is_going (state_in f) && nothing_lent (state_in f)) ≡ true → lives_on f.kernel.kernel thread ≡ true → (state_in f).blocked thread ≡ None → is_ready f.groups thread ≡ may_vote (state_in f) thread
+  pub vote-test : (thread : ℕ) → (is_going (core_in f) && nothing_lent (core_in f)) ≡ true → lives_on f.kernel.kernel thread ≡ true → (core_in f).blocked thread ≡ None → is_ready f.groups thread ≡ may_vote (core_in f) thread
   vote-test thread idle lives unblocked =
-      let stopped : Bool = list_all (λ replica. is_some (stop_of replica thread)) (state_in f).replicas in
-      let same : is_ready f.groups thread ≡ stopped = ready-all (core_in f).replicas f.groups thread h.groups_are ∙ ap (list_all (λ (replica : Replica). is_some (stop_of replica thread))) (sym replicas-are) in
+      let stopped : Bool = list_all (λ replica. is_some (stop_of replica thread)) (core_in f).replicas in
+      let same : is_ready f.groups thread ≡ stopped = ready-all (core_in f).replicas f.groups thread h.groups_are in
       same
-      ∙ sym (ap (λ (b : Bool). b && lives_on (state_in f).kernel thread && is_none ((state_in f).blocked thread) && stopped) idle
-      ∙ ap (λ (b : Bool). true && b && is_none ((state_in f).blocked thread) && stopped) (ap (λ (k : Kernel). lives_on k thread) kernel-is ∙ lives)
+      ∙ sym (ap (λ (b : Bool). b && lives_on (core_in f).kernel thread && is_none ((core_in f).blocked thread) && stopped) idle
+      ∙ ap (λ (b : Bool). true && b && is_none ((core_in f).blocked thread) && stopped) (ap (λ (k : Kernel). lives_on k thread) kernel-is ∙ lives)
       ∙ ap (λ (o : Option Call). true && true && is_none o && stopped) unblocked)
 
   -- and that of a free
@@ -168,55 +160,52 @@ module _ (f : Fields) (h : Holds f) where
   free-test thread going lent kernel call = going && (lent == 0) && option_map_or (λ c. not (blocks (setup_of f.job.program) kernel thread c)) call false
 
   -- and that of a lease
-  pub is-lendable-is : (replica thread : ℕ) (seat : Option ReplicaOf) → slice_get f.seats replica ≡ Some seat → (seat_unstopped thread seat && lives_on f.kernel.kernel thread) ≡ is_lendable (state_in f) replica thread
+  pub is-lendable-is : (replica thread : ℕ) (seat : Option ReplicaOf) → slice_get f.seats replica ≡ Some seat → (seat_unstopped thread seat && lives_on f.kernel.kernel thread) ≡ is_lendable (core_in f) replica thread
   is-lendable-is replica thread seat there = by seat (subst (λ (o : Option (Option ReplicaOf)). Seated f.job (core_in f) replica o) there (h.seats_are.each replica))
     where
-      home : is_home (state_in f) replica ≡ is_home (core_in f) replica
-      home = ap (λ (ls : List Lease). not (list_any (λ lease. lease.replica == replica) ls)) (with-leases f.job f.journal (failed_of f.due))
-
       swap : (a b : Bool) → (a && b) ≡ (true && b && a)
       swap true true = refl
       swap true false = refl
       swap false true = refl
       swap false false = refl
 
-      by : (seat : Option ReplicaOf) → Seated f.job (core_in f) replica (Some seat) → (seat_unstopped thread seat && lives_on f.kernel.kernel thread) ≡ is_lendable (state_in f) replica thread
-      by None away = sym (ap (λ (b : Bool). b && lives_on (state_in f).kernel thread && option_map_or (is_unstopped thread) (slice_get (state_in f).replicas replica) false) (home ∙ away))
+      by : (seat : Option ReplicaOf) → Seated f.job (core_in f) replica (Some seat) → (seat_unstopped thread seat && lives_on f.kernel.kernel thread) ≡ is_lendable (core_in f) replica thread
+      by None away = sym (ap (λ (b : Bool). b && lives_on (core_in f).kernel thread && option_map_or (is_unstopped thread) (slice_get (core_in f).replicas replica) false) away)
       by (Some value) s =
           swap (is_unstopped thread (replica_of value)) (lives_on f.kernel.kernel thread)
-          ∙ ap (λ (b : Bool). b && lives_on f.kernel.kernel thread && is_unstopped thread (replica_of value)) (sym (home ∙ s.0))
-          ∙ ap (λ (k : Kernel). is_home (state_in f) replica && lives_on k thread && is_unstopped thread (replica_of value)) (sym kernel-is)
-          ∙ ap (λ (o : Option Replica). is_home (state_in f) replica && lives_on (state_in f).kernel thread && option_map_or (is_unstopped thread) o false) (sym (ap (λ (rs : List Replica). slice_get rs replica) replicas-are ∙ s.2))
+          ∙ ap (λ (b : Bool). b && lives_on f.kernel.kernel thread && is_unstopped thread (replica_of value)) (sym s.0)
+          ∙ ap (λ (k : Kernel). is_home (core_in f) replica && lives_on k thread && is_unstopped thread (replica_of value)) (sym kernel-is)
+          ∙ ap (λ (o : Option Replica). is_home (core_in f) replica && lives_on (core_in f).kernel thread && option_map_or (is_unstopped thread) o false) (sym s.2)
 
   -- the run is over where its fields say so
-  pub over-is : (b : Bool) → b ≡ is_some f.ended → is_some (state_in f).ended ≡ b
-  over-is b e = ap is_some (with-ended f.job f.journal (failed_of f.due) ∙ sym h.ended_is) ∙ sym e
+  pub over-is : (b : Bool) → b ≡ is_some f.ended → is_some (core_in f).ended ≡ b
+  over-is b e = ap is_some (sym h.ended_is) ∙ sym e
 
   -- a replica of the core has a seat
-  pub seat-within : (replica : ℕ) → replica < length (state_in f).replicas → replica < length f.seats
-  seat-within replica less = let e : length (state_in f).replicas ≡ length (core_in f).replicas = ap length replicas-are in let c = h.seats_are.count in omega arith
+  pub seat-within : (replica : ℕ) → replica < length (core_in f).replicas → replica < length f.seats
+  seat-within replica less = let c = h.seats_are.count in omega arith
 
-  pub made-is : threads_made (state_in f) ≡ length f.kernel.kernel.lives
+  pub made-is : threads_made (core_in f) ≡ length f.kernel.kernel.lives
   made-is = ap (λ (k : Kernel). length k.lives) kernel-is
 
   -- and of a lease, by the seat in its place
-  pub lendable-at : (replica thread : ℕ) → replica < length (state_in f).replicas → (seat_unstopped thread (slice_index_or f.seats replica None) && lives_on f.kernel.kernel thread) ≡ is_lendable (state_in f) replica thread
+  pub lendable-at : (replica thread : ℕ) → replica < length (core_in f).replicas → (seat_unstopped thread (slice_index_or f.seats replica None) && lives_on f.kernel.kernel thread) ≡ is_lendable (core_in f) replica thread
   lendable-at replica thread less = is-lendable-is replica thread (slice_index_or f.seats replica None) (slice_get-get_or f.seats replica None (seat-within replica less))
 
   -- a thread that doesn't come last
-  pub turn-of : (thread : ℕ) → false ≡ comes_last f.streak thread → is_turn (state_in f) false thread ≡ true
+  pub turn-of : (thread : ℕ) → false ≡ comes_last f.streak thread → is_turn (core_in f) false thread ≡ true
   turn-of thread e = ap not (ap (λ (s : Streak). comes_last s thread) streak-is ∙ sym e)
 
   -- a thread that has exited, or stands still in every replica, can be lent in none
-  pub gone : (thread : ℕ) → lives_on f.kernel.kernel thread ≡ false → (replica : ℕ) → is_lendable (state_in f) replica thread ≡ false
+  pub gone : (thread : ℕ) → lives_on f.kernel.kernel thread ≡ false → (replica : ℕ) → is_lendable (core_in f) replica thread ≡ false
   gone thread dead replica =
-      and_left (is_home (state_in f) replica && lives_on (state_in f).kernel thread) (option_map_or (is_unstopped thread) (slice_get (state_in f).replicas replica) false)
-      (and_right (is_home (state_in f) replica) (lives_on (state_in f).kernel thread) (ap (λ (k : Kernel). lives_on k thread) kernel-is ∙ dead))
+      and_left (is_home (core_in f) replica && lives_on (core_in f).kernel thread) (option_map_or (is_unstopped thread) (slice_get (core_in f).replicas replica) false)
+      (and_right (is_home (core_in f) replica) (lives_on (core_in f).kernel thread) (ap (λ (k : Kernel). lives_on k thread) kernel-is ∙ dead))
 
-  pub standing : (thread : ℕ) → not (is_ready f.groups thread) ≡ false → (replica : ℕ) → is_lendable (state_in f) replica thread ≡ false
+  pub standing : (thread : ℕ) → not (is_ready f.groups thread) ≡ false → (replica : ℕ) → is_lendable (core_in f) replica thread ≡ false
   standing thread ready replica =
-      and_right (is_home (state_in f) replica && lives_on (state_in f).kernel thread) (option_map_or (is_unstopped thread) (slice_get (state_in f).replicas replica) false)
-      (ap (λ (rs : List Replica). option_map_or (is_unstopped thread) (slice_get rs replica) false) replicas-are ∙ unstopped (core_in f).replicas replica (sym (ready-all (core_in f).replicas f.groups thread h.groups_are) ∙ told (is_ready f.groups thread) ready))
+      and_right (is_home (core_in f) replica && lives_on (core_in f).kernel thread) (option_map_or (is_unstopped thread) (slice_get (core_in f).replicas replica) false)
+      (unstopped (core_in f).replicas replica (sym (ready-all (core_in f).replicas f.groups thread h.groups_are) ∙ told (is_ready f.groups thread) ready))
     where
       one : (r : Replica) → is_some (stop_of r thread) ≡ true → is_unstopped thread r ≡ false
       one r e = by (slice_get r.threads thread) e
@@ -235,8 +224,8 @@ module _ (f : Fields) (h : Holds f) where
       unstopped (r ∷ rs) (suc n) all = unstopped rs n (and_parts (is_some (stop_of r thread)) (list_all (λ (x : Replica). is_some (stop_of x thread)) rs) all).1
 
   -- there are as many replicas as settings say
-  pub count-is : length (state_in f).replicas ≡ f.job.settings.replicas
-  count-is = ap length replicas-are ∙ (ordered f.job f.journal h.legal).replica_count
+  pub count-is : length (core_in f).replicas ≡ f.job.settings.replicas
+  count-is = (ordered f.job f.journal h.legal).replica_count
 
 -- ---- what is lent next
 

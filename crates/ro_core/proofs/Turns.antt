@@ -14,7 +14,7 @@ use Rattle.ro_legal.specs.Legal.{IsAllowed, after, replay, replay_with}
 use Rattle.ro_legal.specs.Action.{next_action, IsNext}
 use Rattle.ro_core.specs.Seen.{CoreOf, state, sent, offered, offered_by, Appends, Quiet, Sends, Stays}
 use Rattle.ro_legal.proofs.Journals.{LegalFrom-append, EachIsNext-append, replay_more}
-use Rattle.ro_core.proofs.Held.{with-leases}
+use Rattle.ro_core.proofs.Failing.{with-leases}
 use Rattle.ro_legal.proofs.Nexts.{lend_is_next}
 use Rattle.ro_core.specs.Driven.{HasRun, IsDriven, IsHome, HasFailed, Goes}
 use Rattle.ro_core.proofs.Offered.{offers_more}

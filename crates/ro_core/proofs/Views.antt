@@ -7,7 +7,7 @@ use Rattle.ro_event.specs.Views.{View}
 use Rattle.ro_replica.specs.Views.{view_of}
 use Rattle.ro_settings.proofs.Counts.{few-replicas}
 use Rattle.ro_legal.specs.Core.{Core, may_vote, views_of}
-use Rattle.ro_core.specs.Fields.{AreHome, Fields, core_in, state_in, Holds}
+use Rattle.ro_core.specs.Fields.{AreHome, Fields, core_in, Holds}
 use Rattle.ro_core.specs.Grouped.{seat_stopped}
 use Rattle.ro_core.proofs.Held.{goes, no-outcome, no-views}
 use Rattle.ro_legal.proofs.Ordered.{vote-parts, ordered}
@@ -32,7 +32,6 @@ viewed-holds f views h still same = record {
   groups_are = h.groups_are;
   views_count = λ unended. same ∙ h.views_count unended;
   views_kept = no-views f.job f.journal views (no-outcome f h still);
-  failed_well = h.failed_well;
   room = h.room;
 }
 
@@ -41,25 +40,18 @@ pub always-on-err : {X E P : Type 0} (r : Result X E) → P → OnErr r P
 always-on-err (Ok x) p = tt
 always-on-err (Err e) p = p
 
-module _ (f : Fields) (h : Holds f) (thread : ℕ) (may : may_vote (state_in f) thread ≡ true) where
-  pub view-may : may_vote (core_in f) thread ≡ true
-  view-may = ap (λ (c : Core). may_vote c thread) (sym (goes f h (vote-parts (state_in f) thread may).going).same) ∙ may
-
+module _ (f : Fields) (h : Holds f) (thread : ℕ) (may : may_vote (core_in f) thread ≡ true) where
   pub view-still : f.ended ≡ None
-  view-still = (goes f h (vote-parts (state_in f) thread may).going).not_ended
+  view-still = (goes f h (vote-parts (core_in f) thread may).going).not_ended
 
   pub view-home : AreHome f.job f.seats (core_in f).replicas
-  view-home = all-home f.job (core_in f) f.seats h.seats_are (vote-parts (core_in f) thread view-may).alone
+  view-home = all-home f.job (core_in f) f.seats h.seats_are (vote-parts (core_in f) thread may).alone
 
   pub view-stopped : list_all (seat_stopped thread) f.seats ≡ true
-  view-stopped = stopped-home f.job thread f.seats (core_in f).replicas view-home ∙ (and_parts _ _ view-may).1
+  view-stopped = stopped-home f.job thread f.seats (core_in f).replicas view-home ∙ (and_parts _ _ may).1
 
   as-many : length f.views ≡ f.job.settings.replicas
   as-many = h.views_count view-still ∙ h.seats_are.count ∙ (ordered f.job f.journal h.legal).replica_count
 
   pub view-count : length f.views ≤ 5
   view-count = let range = few-replicas f.job.settings.replicas h.in_range.replicas in let many = as-many in omega arith
-
-  -- what is shown are the views of the vote
-  pub view-views : (views : List View) → views ≡ filter_map (view_of f.job.program.image.ranges thread) (core_in f).replicas → views ≡ views_of f.job (state_in f) thread
-  view-views views e = e ∙ ap (λ (c : Core). views_of f.job c thread) (sym (goes f h (vote-parts (state_in f) thread may).going).same)

@@ -33,15 +33,15 @@ use Rattle.ro_core.specs.declared.runs.Run.{Run}
 use Rattle.ro_core.specs.declared.events.Event.{Event as Happening}
 use Rattle.ro_legal.specs.Core.{Job, Core, is_going, may_vote, views_of}
 use Rattle.ro_legal.specs.Event.{Event, call_event, event_of, with_recovered, all_applied, core_after}
-use Rattle.ro_legal.specs.Legal.{event_in, core_after_event, after, MayVote, PassesLimit, MayEnd, for_vote, Legal, replay, replay_with}
-use Rattle.ro_core.specs.Seen.{sent_of, IsOfMajority, KeepsViews}
+use Rattle.ro_legal.specs.Legal.{event_in, core_after_event, after, MayVote, PassesLimit, MayEnd, for_vote, Legal, replay}
+use Rattle.ro_core.specs.Seen.{IsOfMajority, KeepsViews}
 use Rattle.ro_legal.specs.Sound.{IsFault}
-use Rattle.ro_core.specs.Fields.{failed_of, one_end, blocked_at, AreSeated, AreHome, AreSpared, IsSeat, AreAllTwins, AreLosers, Fields, core_in, state_in, CountsBytes, Holds}
+use Rattle.ro_core.specs.Fields.{one_end, blocked_at, AreSeated, AreHome, AreSpared, IsSeat, AreAllTwins, AreLosers, Fields, core_in, Holds}
 use Rattle.ro_core.specs.Happening.{event_by}
 use Rattle.ro_core.specs.Runs.{fields_of, job_of, IsHeld, IsAmid, MakesRoom, CanOccur, payload_by}
 use Rattle.ro_core.specs.Grouped.{AreGrouped, AreMade}
 use Rattle.ro_core.specs.Seated.{Stands}
-use Rattle.ro_core.proofs.Held.{Goes, goes, same-counts}
+use Rattle.ro_core.proofs.Held.{Goes, goes}
 use Rattle.ro_legal.proofs.Happens.{Happens, event-happens}
 use Rattle.ro_legal.proofs.Served.{Tidy, tidy_done, serve-tidy}
 use Rattle.ro_legal.proofs.Ordered.{VoteParts, vote-parts, copied-sound, ordered}
@@ -83,13 +83,13 @@ module _ (f : Fields) (thread won : ℕ) (lost : Lost) (v : IsHeld f thread won 
   h : Holds f
   h = v.holds
 
-  parts : VoteParts (state_in f) thread
-  parts = vote-parts (state_in f) thread v.may
+  parts : VoteParts (core_in f) thread
+  parts = vote-parts (core_in f) thread v.may
 
-  pub hold-going : is_going (state_in f) ≡ true
+  pub hold-going : is_going (core_in f) ≡ true
   hold-going = parts.going
 
-  pub hold-not-over : (state_in f).ended ≡ None
+  pub hold-not-over : (core_in f).ended ≡ None
   hold-not-over = parts.not_ended
 
   pub hold-goes : Goes f
@@ -98,20 +98,14 @@ module _ (f : Fields) (thread won : ℕ) (lost : Lost) (v : IsHeld f thread won 
   core : Core
   core = core_in f
 
-  pub hold-may : may_vote (core_in f) thread ≡ true
-  hold-may = ap (λ (c : Core). may_vote c thread) (sym hold-goes.same) ∙ v.may
-
-  pub hold-views : f.views ≡ views_of f.job (core_in f) thread
-  hold-views = v.views_are ∙ ap (λ (c : Core). views_of f.job c thread) hold-goes.same
-
   all-stopped : list_all (λ replica. is_some (stop_of replica thread)) (core_in f).replicas ≡ true
-  all-stopped = (and_parts _ _ hold-may).1
+  all-stopped = (and_parts _ _ v.may).1
 
   pub hold-won : WonBy f.views won (numbers lost)
   hold-won = won-by f.views won (numbers lost) v.verdict
 
   as-many : length f.views ≡ length (core_in f).replicas
-  as-many = ap length hold-views ∙ views-count f.job (core_in f) thread all-stopped
+  as-many = ap length v.views_are ∙ views-count f.job (core_in f) thread all-stopped
 
   won-of : WonIn f.views won (numbers lost)
   won-of = won-in f.views won (numbers lost) v.verdict
@@ -124,22 +118,22 @@ module _ (f : Fields) (thread won : ℕ) (lost : Lost) (v : IsHeld f thread won 
   hold-there view is = slice_get-get_or f.views won view hold-within ∙ ap (λ (v : View). Some v) (sym is)
 
   pub hold-live : lives_on f.kernel.kernel thread ≡ true
-  hold-live = ap (λ (k : Kernel). lives_on k thread) h.kernel_is ∙ (vote-parts (core_in f) thread hold-may).live
+  hold-live = ap (λ (k : Kernel). lives_on k thread) h.kernel_is ∙ parts.live
 
   pub hold-alone : f.leases ≡ []
-  hold-alone = h.leases_are ∙ (vote-parts (core_in f) thread hold-may).alone
+  hold-alone = h.leases_are ∙ parts.alone
 
   pub hold-steps : f.steps ≤ f.job.settings.limit
   hold-steps = let e = h.steps_are in let l = (ordered f.job f.journal h.legal).within_limit in omega arith
 
   made : thread < length (core_in f).kernel.lives
-  made = lives-within (core_in f).kernel thread (vote-parts (core_in f) thread hold-may).live
+  made = lives-within (core_in f).kernel thread parts.live
 
   pub hold-threads : (number : ℕ) (replica : Replica) → slice_get (core_in f).replicas number ≡ Some replica → length replica.threads ≡ length (core_in f).kernel.lives
   hold-threads number replica e = ((ordered f.job f.journal h.legal).sound number replica e).all_made
 
   pub hold-home : AreHome f.job f.seats (core_in f).replicas
-  hold-home = all-home f.job (core_in f) f.seats h.seats_are (vote-parts (core_in f) thread hold-may).alone
+  hold-home = all-home f.job (core_in f) f.seats h.seats_are parts.alone
 
   -- and so it is of the replicas after the copy
   pub hold-healed : (number : ℕ) (replica : Replica) → slice_get (with_recovered won (numbers lost) (core_in f).replicas) number ≡ Some replica → length replica.threads ≡ length (core_in f).kernel.lives
@@ -181,7 +175,7 @@ module _ (f : Fields) (thread won : ℕ) (lost : Lost) (v : IsHeld f thread won 
   -- by the winner's view
   module _ (view : View) (there : slice_get f.views won ≡ Some view) where
     shows : Showing f.job (core_in f) thread won view
-    shows = showing f.job (core_in f) thread won view all-stopped (let w = hold-within in let e = as-many in omega arith) (sym (ap (λ (vs : List View). slice_get vs won) hold-views) ∙ there)
+    shows = showing f.job (core_in f) thread won view all-stopped (let w = hold-within in let e = as-many in omega arith) (sym (ap (λ (vs : List View). slice_get vs won) v.views_are) ∙ there)
 
     abbrev pub hold-event : Event
     hold-event = event_of f.kernel.setup f.kernel.kernel thread view.stop view.payload
@@ -204,8 +198,8 @@ module _ (f : Fields) (thread won : ℕ) (lost : Lost) (v : IsHeld f thread won 
 
     pub hold-allowed : (did : Did) → hold-event.did ≡ did → f.steps + (view.since + event_steps did) ≤ f.job.settings.limit → MayVote f.job (core_in f) thread view.since won lost did
     hold-allowed did is fits = record {
-      may = hold-may;
-      verdict = ap verdict_of (sym hold-views) ∙ v.verdict;
+      may = v.may;
+      verdict = ap verdict_of (sym v.views_are) ∙ v.verdict;
       count_is = showing-since f.job (core_in f) thread won view shows;
       event = hold-event;
       comes = hold-comes;
@@ -217,7 +211,7 @@ module _ (f : Fields) (thread won : ℕ) (lost : Lost) (v : IsHeld f thread won 
     hold-limit did is above = record {
       won = won;
       lost = numbers lost;
-      verdict = ap verdict_of (sym hold-views) ∙ v.verdict;
+      verdict = ap verdict_of (sym v.views_are) ∙ v.verdict;
       count = view.since;
       count_is = showing-since f.job (core_in f) thread won view shows;
       event = hold-event;
@@ -228,19 +222,19 @@ module _ (f : Fields) (thread won : ℕ) (lost : Lost) (v : IsHeld f thread won 
     }
 
     -- and that for so many steps
-    pub hold-over : (did : Did) (next : ℕ) → hold-event.did ≡ did → next ≡ view.since + event_steps did → f.job.settings.limit < f.steps + next → MayEnd f.job (state_in f) (Limit f.steps next) × PassesLimit f.job (state_in f) thread f.steps next
+    pub hold-over : (did : Did) (next : ℕ) → hold-event.did ≡ did → next ≡ view.since + event_steps did → f.job.settings.limit < f.steps + next → MayEnd f.job (core_in f) (Limit f.steps next) × PassesLimit f.job (core_in f) thread f.steps next
     hold-over did next is steps above =
         let over = subst (λ (n : ℕ). f.job.settings.limit < f.steps + n) steps above in
-        let passes = subst (λ (c : Core). PassesLimit f.job c thread f.steps (view.since + event_steps did)) (sym hold-goes.same) (hold-limit did is over) in (
-          subst (λ (n : ℕ). MayEnd f.job (state_in f) (Limit f.steps n)) (sym steps) (for_vote thread v.may passes),
-          subst (λ (n : ℕ). PassesLimit f.job (state_in f) thread f.steps n) (sym steps) passes,
+        let passes = hold-limit did is over in (
+          subst (λ (n : ℕ). MayEnd f.job (core_in f) (Limit f.steps n)) (sym steps) (for_vote thread v.may passes),
+          subst (λ (n : ℕ). PassesLimit f.job (core_in f) thread f.steps n) (sym steps) passes,
         )
 
     -- the entry of the vote
-    pub hold-entry : (did : Did) (count next : ℕ) → hold-event.did ≡ did → count ≡ view.since → next ≡ view.since + event_steps did → f.steps + next ≤ f.job.settings.limit → MayVote f.job (state_in f) thread count won lost did
+    pub hold-entry : (did : Did) (count next : ℕ) → hold-event.did ≡ did → count ≡ view.since → next ≡ view.since + event_steps did → f.steps + next ≤ f.job.settings.limit → MayVote f.job (core_in f) thread count won lost did
     hold-entry did count next is counts steps fits =
-        subst (λ (n : ℕ). MayVote f.job (state_in f) thread n won lost did) (sym counts)
-        (subst (λ (c : Core). MayVote f.job c thread view.since won lost did) (sym hold-goes.same) (hold-allowed did is (subst (λ (n : ℕ). f.steps + n ≤ f.job.settings.limit) steps fits)))
+        subst (λ (n : ℕ). MayVote f.job (core_in f) thread n won lost did) (sym counts)
+        (hold-allowed did is (subst (λ (n : ℕ). f.steps + n ≤ f.job.settings.limit) steps fits))
 
     pub hold-came : (did : Did) → after f.job (core_in f) (Vote thread view.since won lost did) ≡ core_after (core_in f) thread view.since (with_recovered won (numbers lost) (core_in f).replicas) hold-event
     unfolding after
@@ -352,11 +346,10 @@ length-applied effect replicas = length-mapped (λ replica. cancelled (applied e
 
 -- ---- fields that only made room
 
-kept-holds : (f f' : Fields) → Holds f → f.leases ≡ [] → f'.job ≡ f.job → f'.journal ≡ f.journal → AreHome f.job f'.seats (core_in f).replicas → f'.leases ≡ f.leases → f'.kernel ≡ f.kernel → f'.blocked ≡ f.blocked → f'.steps ≡ f.steps → f'.scrubbed ≡ f.scrubbed → f'.streak ≡ f.streak → f'.due ≡ f.due → f'.ended ≡ f.ended → f'.views ≡ f.views → f'.sent ≡ f.sent
+kept-holds : (f f' : Fields) → Holds f → f.leases ≡ [] → f'.job ≡ f.job → f'.journal ≡ f.journal → AreHome f.job f'.seats (core_in f).replicas → f'.leases ≡ f.leases → f'.kernel ≡ f.kernel → f'.blocked ≡ f.blocked → f'.steps ≡ f.steps → f'.scrubbed ≡ f.scrubbed → f'.streak ≡ f.streak → f'.due ≡ f.due → f'.ended ≡ f.ended → f'.views ≡ f.views → f'.sent ≡ f.sent → f'.wrote ≡ f.wrote
     → f'.groups ≡ f.groups → f.places ≤ f'.places → Holds f'
-kept-holds f f' h alone job journal home leases kernel blocked steps scrubbed streak due ended views count groups room =
+kept-holds f f' h alone job journal home leases kernel blocked steps scrubbed streak due ended views count wrote groups room =
     let core : core_in f' ≡ core_in f = ap (λ (j : Job). replay j f'.journal) job ∙ ap (replay f.job) journal in
-    let state : state_in f' ≡ state_in f = ap (λ (j : Job). replay_with j f'.journal (failed_of f'.due)) job ∙ ap (λ (js : List Entry). replay_with f.job js (failed_of f'.due)) journal ∙ ap (λ (o : Option How). replay_with f.job f.journal (failed_of o)) due in
     record {
       in_range = subst (λ (j : Job). InRange j.settings) (sym job) h.in_range;
       legal = subst (λ (j : Job). Legal j f'.journal) (sym job) (subst (Legal f.job) (sym journal) h.legal);
@@ -368,16 +361,18 @@ kept-holds f f' h alone job journal home leases kernel blocked steps scrubbed st
       steps_are = steps ∙ h.steps_are ∙ sym (ap (λ (c : Core). c.steps) core);
       scrubbed_are = scrubbed ∙ h.scrubbed_are ∙ sym (ap (λ (c : Core). c.scrubbed) core);
       streak_is = streak ∙ h.streak_is ∙ sym (ap (λ (c : Core). c.streak) core);
-      counts = subst (λ (j : Job). CountsBytes f'.sent f'.steps (sent_of j f'.journal (failed_of f'.due))) (sym job)
-          (same-counts f f' h count steps (ap (λ (js : List Entry). sent_of f.job js (failed_of f'.due)) journal ∙ ap (λ (o : Option How). sent_of f.job f.journal (failed_of o)) due));
-      due_is = due ∙ h.due_is ∙ sym (ap (λ (c : Core). c.due) state);
+      counts = record {
+        sent_are = count ∙ h.counts.sent_are ∙ ap (λ (c : Core). length c.output) (sym core);
+        wrote_is = wrote ∙ h.counts.wrote_is ∙ ap (λ (c : Core). c.wrote) (sym core);
+        within = let k = h.counts.within in omega arith;
+        few = let k = h.counts.few in omega arith;
+      };
+      due_is = due ∙ h.due_is ∙ sym (ap (λ (c : Core). c.due) core);
       ended_is = ended ∙ h.ended_is ∙ sym (ap (λ (c : Core). c.ended) core);
       seats_are = subst (λ (j : Job). AreSeated j (core_in f') f'.seats) (sym job) (subst (λ (c : Core). AreSeated f.job c f'.seats) (sym core) (seated-home f.job (core_in f) f'.seats home (sym h.leases_are ∙ alone)));
       groups_are = subst (λ (c : Core). AreGrouped c.replicas f'.groups) (sym core) (subst (AreGrouped (core_in f).replicas) (sym groups) h.groups_are);
       views_count = λ unended. ap length views ∙ h.views_count (sym ended ∙ unended) ∙ h.seats_are.count ∙ sym (home-count f.job f'.seats (core_in f).replicas home);
       views_kept = subst (λ (j : Job). KeepsViews j f'.journal f'.views) (sym job) (subst (λ (js : List Entry). KeepsViews f.job js f'.views) (sym journal) (subst (KeepsViews f.job f.journal) (sym views) h.views_kept));
-      failed_well = λ bytes e. let w = h.failed_well bytes (sym due ∙ e) in
-          (subst (λ (c : Core). bytes < c.wrote) (sym core) w.0, ap is_going core ∙ w.1);
       room = let k = h.room in let n : length f'.leases ≡ length f.leases = ap length leases in let e : one_end f'.ended ≡ one_end f.ended = ap one_end ended in omega arith;
     }
 
@@ -385,10 +380,10 @@ kept-holds f f' h alone job journal home leases kernel blocked steps scrubbed st
 pub ready-home : (f : Fields) → Holds f → f.leases ≡ [] → AreHome f.job f.seats (core_in f).replicas
 ready-home f h alone = all-home f.job (core_in f) f.seats h.seats_are (sym h.leases_are ∙ alone)
 
-pub made-room : (f f' : Fields) → Holds f → f.leases ≡ [] → f'.job ≡ f.job → f'.journal ≡ f.journal → AreHome f.job f'.seats (core_in f).replicas → f'.leases ≡ f.leases → f'.kernel ≡ f.kernel → f'.blocked ≡ f.blocked → f'.steps ≡ f.steps → f'.scrubbed ≡ f.scrubbed → f'.streak ≡ f.streak → f'.due ≡ f.due → f'.ended ≡ f.ended → f'.views ≡ f.views → f'.sent ≡ f.sent
+pub made-room : (f f' : Fields) → Holds f → f.leases ≡ [] → f'.job ≡ f.job → f'.journal ≡ f.journal → AreHome f.job f'.seats (core_in f).replicas → f'.leases ≡ f.leases → f'.kernel ≡ f.kernel → f'.blocked ≡ f.blocked → f'.steps ≡ f.steps → f'.scrubbed ≡ f.scrubbed → f'.streak ≡ f.streak → f'.due ≡ f.due → f'.ended ≡ f.ended → f'.views ≡ f.views → f'.sent ≡ f.sent → f'.wrote ≡ f.wrote
     → f'.groups ≡ f.groups → f.places ≤ f'.places → MakesRoom f f'
-made-room f f' h alone job journal home leases kernel blocked steps scrubbed streak due ended views count groups room = record {
-  holds = kept-holds f f' h alone job journal home leases kernel blocked steps scrubbed streak due ended views count groups room;
+made-room f f' h alone job journal home leases kernel blocked steps scrubbed streak due ended views count wrote groups room = record {
+  holds = kept-holds f f' h alone job journal home leases kernel blocked steps scrubbed streak due ended views count wrote groups room;
   job = job;
   journal = journal;
   leases = leases;
@@ -400,10 +395,8 @@ made-room f f' h alone job journal home leases kernel blocked steps scrubbed str
 }
 
 -- the core stays the same where room is made
-pub same-state : (f f' : Fields) → MakesRoom f f' → state_in f' ≡ state_in f
-same-state f f' m =
-    ap (λ (j : Job). replay_with j f'.journal (failed_of f'.due)) m.job ∙ ap (λ (js : List Entry). replay_with f.job js (failed_of f'.due)) m.journal
-    ∙ ap (λ (o : Option How). replay_with f.job f.journal (failed_of o)) m.due
+pub same-state : (f f' : Fields) → MakesRoom f f' → core_in f' ≡ core_in f
+same-state f f' m = ap (λ (j : Job). replay j f'.journal) m.job ∙ ap (replay f.job) m.journal
 
 -- a vote that was won stays so where room is made
 pub held-room : (f f' : Fields) (thread won : ℕ) (lost : Lost) → IsHeld f thread won lost → MakesRoom f f' → IsHeld f' thread won lost
@@ -412,7 +405,7 @@ held-room f f' thread won lost v m =
     record {
       holds = m.holds;
       may = ap (λ (c : Core). may_vote c thread) state ∙ v.may;
-      views_are = m.views ∙ v.views_are ∙ ap (λ (j : Job). views_of j (state_in f) thread) (sym m.job) ∙ ap (λ (c : Core). views_of f'.job c thread) (sym state);
+      views_are = m.views ∙ v.views_are ∙ ap (λ (j : Job). views_of j (core_in f) thread) (sym m.job) ∙ ap (λ (c : Core). views_of f'.job c thread) (sym state);
       verdict = ap verdict_of m.views ∙ v.verdict;
     }
 

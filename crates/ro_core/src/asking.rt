@@ -6,8 +6,8 @@ ghost use Rattle.ro_replica.specs.Seen.{replica_of};
 ghost use Rattle.ro_legal.specs.Core.{is_going, is_home, is_lendable, may_vote, may_free};
 ghost use Rattle.ro_legal.specs.Legal.{MayTake, is_stuck, may_scrub, EndsVote, EndsFree, EndsScrub};
 ghost use Rattle.ro_core.specs.Seen.{state, sent, Stays};
-ghost use Rattle.ro_core.specs.Fields.{failed_of, Holds};
-ghost use Rattle.ro_core.specs.Runs.{fields_of, job_of, state_of, sent_in, IsHeld, SameEnds, WithAnySink};
+ghost use Rattle.ro_core.specs.Fields.{Holds};
+ghost use Rattle.ro_core.specs.Runs.{fields_of, job_of, state_of, silent, IsHeld};
 
 use crate::cores::Core;
 use crate::events::Coming;
@@ -27,42 +27,42 @@ impl<K: Sink> Core<K> {
     pub fn is_going(&self) -> bool
         ensures { result ≡ is_going (state self.now) }
     {
-        self.run.is_going()
+        self.failed.is_none() && self.run.is_going()
     }
 
     /// Whether a thread of a replica may be lent to a driver.
     pub fn may_take(&self, driver: u32, replica: u32, thread: u32) -> bool
         ensures { IsTrue result ↔ MayTake self.now.job (state self.now) driver replica thread }
     {
-        self.run.may_take(driver, replica, thread)
+        self.failed.is_none() && self.run.may_take(driver, replica, thread)
     }
 
     /// Whether a vote may be held on a thread: it stands still in every replica, and is not blocked.
     pub fn may_vote(&self, thread: u32) -> bool
         ensures { result ≡ may_vote (state self.now) thread }
     {
-        self.run.may_vote(thread)
+        self.failed.is_none() && self.run.may_vote(thread)
     }
 
     /// Whether the call on which a thread is blocked may be served.
     pub fn may_free(&self, thread: u32) -> bool
         ensures { result ≡ may_free self.now.job (state self.now) thread }
     {
-        self.run.may_free(thread)
+        self.failed.is_none() && self.run.may_free(thread)
     }
 
     /// Whether the replicas may be compared whole: none is lent, and in each of them every live thread stands still.
     pub fn may_scrub(&self) -> bool
         ensures { result ≡ may_scrub (state self.now) }
     {
-        self.run.may_scrub()
+        self.failed.is_none() && self.run.may_scrub()
     }
 
     /// Whether nothing can be done: none is lent, and no thread can be voted on, freed or lent.
     pub fn is_stuck(&self) -> bool
         ensures { result ≡ is_stuck self.now.job (state self.now) }
     {
-        self.run.is_stuck()
+        self.failed.is_none() && self.run.is_stuck()
     }
 
     /// The end that would come in the place of a vote on a thread, if one would.
@@ -100,14 +100,17 @@ impl<K: Sink> Core<K> {
     pub fn bytes(&self) -> u64
         ensures { result ≡ length (sent self.now) }
     {
-        self.run.bytes()
+        match self.failed {
+            Some(taken) => self.run.sent - u64::from(self.run.wrote - taken),
+            None => self.run.sent,
+        }
     }
 
     /// Of a failing sink how many bytes of the last write it took; its end is due.
     pub fn failed(&self) -> Option<u32>
         ensures { result ≡ self.now.failed }
     {
-        self.run.failed()
+        self.failed
     }
 
     /// The kernel.
@@ -158,9 +161,9 @@ impl Run {
         requires holds { Holds (fields_of self.old) }
         requires may { may_vote (state_of self.old) thread ≡ true }
         ensures holds { Holds (fields_of self.new) }
-        ensures stays { WithAnySink Stays self.old self.new }
+        ensures stays { Stays (silent self.old) (silent self.new) }
         ensures end { (how : HowSeen) → (result ≡ Some how) ↔ EndsVote (job_of self.old) (state_of self.old) thread how }
-        ensures ends { SameEnds self.old self.new }
+        ensures ended { self.new.ended ≡ self.old.ended }
     {
         self.seats.show(thread, self.views.as_mut_slice());
         match verdict(self.views.as_slice()) {
@@ -214,22 +217,6 @@ impl Run {
         ensures { result ≡ (state_of self.now).steps }
     {
         self.steps
-    }
-
-    fn bytes(&self) -> u64
-        requires holds { Holds (fields_of self.now) }
-        ensures { result ≡ length (sent_in (fields_of self.now)) }
-    {
-        self.sent
-    }
-
-    fn failed(&self) -> Option<u32>
-        ensures { result ≡ failed_of self.now.due }
-    {
-        match self.due {
-            Some(How::Sink(taken)) => Some(taken),
-            _ => None,
-        }
     }
 
     fn kernel(&self) -> &Kernel

@@ -27,18 +27,20 @@ use std::marker::Model;
 pub struct Core<K: Sink> {
     pub(crate) run: Run,
     pub(crate) out: K,
+    /// Where the sink failed, how many bytes of the last write it took; the end by it is due, and its entry has not come.
+    pub(crate) failed: Option<u32>,
 }
 
 impl<K: Sink> Model for Core<K> {
     ghost use Rattle.ro_core.specs.Seen.{CoreOf};
-    ghost use Rattle.ro_core.specs.Fields.{Holds, IsFresh};
+    ghost use Rattle.ro_core.specs.Fields.{Cuts, Holds, IsFresh};
     ghost use Rattle.ro_core.specs.Runs.{fields_of, core_of};
 
     ghost Value = { CoreOf };
 
-    ghost view = { λ c. core_of (fields_of c.run) (K.held c.out) (K.failures c.out) (K.sure c.out) };
+    ghost view = { λ c. core_of (fields_of c.run) c.failed (K.held c.out) (K.failures c.out) (K.sure c.out) };
 
-    ghost invariant = { λ c. Holds (fields_of c.run) × IsFresh (fields_of c.run) (K.failures c.out) };
+    ghost invariant = { λ c. Holds (fields_of c.run) × Cuts (fields_of c.run) c.failed × IsFresh (fields_of c.run) c.failed (K.failures c.out) };
 }
 
 /// What a core leaves behind.
@@ -81,7 +83,11 @@ impl<K: Sink> Core<K> {
         ensures back { IfErr result (λ r. (r.image ≡ image) × (r.out ≡ out)) }
     {
         match Run::begin(alloc, image, input, faults, settings) {
-            Ok(run) => Ok(Core { run, out }),
+            Ok(run) => Ok(Core {
+                run,
+                out,
+                failed: None,
+            }),
             Err(image) => Err(Refused { image, out }),
         }
     }
@@ -91,7 +97,10 @@ impl<K: Sink> Core<K> {
     pub fn next_action(&self) -> Action
         ensures next { result ≡ next self.now.job (state self.now) }
     {
-        self.run.next_action()
+        match self.failed {
+            Some(taken) => Action::End(How::Sink(taken)),
+            None => self.run.next_action(),
+        }
     }
 
     /// Makes room for a take, its put, the puts of the leases that are out, and the end.
@@ -139,9 +148,8 @@ impl<K: Sink> Core<K> {
     {
         let voted = self.run.vote(thread)?;
         let payload = self.run.payload(voted.writer);
-        let count = payload.len();
         let failed = send(&mut self.out, payload);
-        self.run.note(failed, count);
+        self.failed = failed;
         Ok(voted.entry)
     }
 
@@ -182,6 +190,7 @@ impl<K: Sink> Core<K> {
         ensures quiet { Quiet self.old self.new }
     {
         self.run.end(how);
+        self.failed = None;
     }
 
     /// Hands out the image, how the run ended, if it did, the views of a vote that came to nothing, the journal and the sink.
@@ -197,7 +206,12 @@ impl<K: Sink> Core<K> {
         ensures open { IsSome self.failed → outcome_of self.journal ≡ None }
         ensures sink { (K.held result.out ≡ self.held) × (K.failures result.out ≡ self.failures) }
     {
-        let Core { run, out } = self;
+        let bytes = self.bytes();
+        let Core {
+            run,
+            out,
+            failed: _,
+        } = self;
         let Run {
             image,
             faults: _,
@@ -210,7 +224,8 @@ impl<K: Sink> Core<K> {
             steps: _,
             scrubbed: _,
             streak: _,
-            sent,
+            sent: _,
+            wrote: _,
             due: _,
             ended,
             views,
@@ -221,7 +236,7 @@ impl<K: Sink> Core<K> {
             how: ended,
             views: kept_views(alloc, ended, views),
             journal,
-            bytes: sent,
+            bytes,
             out,
         }
     }

@@ -2,10 +2,10 @@
 ghost use Rattle.std.specs.Prelude.{◌≡◌, ◌<◌, ◌==◌, ◌∷◌, OnOk, vec_len, vec_capacity, not};
 ghost use Rattle.std.specs.List.{filter, find};
 ghost use Rattle.ro_journal.specs.declared.Entry.TheVariants.{Take};
-ghost use Rattle.ro_legal.specs.Legal.{IsAllowed, is_lease};
-ghost use Rattle.ro_core.specs.Seen.{Appends, Quiet, Stays, HasRoom, IsLent, MayReturn, ReturnIs};
+ghost use Rattle.ro_legal.specs.Legal.{IsAllowed, is_lease, output_of};
+ghost use Rattle.ro_core.specs.Seen.{Appends, Stays, HasRoom, IsLent, MayReturn, ReturnIs};
 ghost use Rattle.ro_core.specs.Fields.{Holds};
-ghost use Rattle.ro_core.specs.Runs.{fields_of, job_of, state_of, silent, SameEnds, WithAnySink};
+ghost use Rattle.ro_core.specs.Runs.{fields_of, job_of, state_of, silent};
 
 use crate::runs::Run;
 use ro_journal::Entry;
@@ -21,9 +21,9 @@ impl Run {
     pub fn room(&mut self) -> Result<(), AllocError>
         requires holds { Holds (fields_of self.old) }
         ensures holds { Holds (fields_of self.new) }
-        ensures stays { WithAnySink Stays self.old self.new }
+        ensures stays { Stays (silent self.old) (silent self.new) }
         ensures room { OnOk result (HasRoom (silent self.new)) }
-        ensures ends { SameEnds self.old self.new }
+        ensures ended { self.new.ended ≡ self.old.ended }
     {
         self.leases.reserve(1)?;
         self.journal.reserve(self.leases.len() + 3)
@@ -35,10 +35,10 @@ impl Run {
         requires allowed { IsAllowed (job_of self.old) (state_of self.old) (Take driver replica thread) }
         requires room { HasRoom (silent self.old) }
         ensures holds { Holds (fields_of self.new) }
-        ensures entry { WithAnySink (λ old new. Appends old new (Take driver replica thread)) self.old self.new }
-        ensures quiet { WithAnySink Quiet self.old self.new }
+        ensures entry { Appends (silent self.old) (silent self.new) (Take driver replica thread) }
+        ensures output { output_of (job_of self.new) self.new.journal.items ≡ output_of (job_of self.old) self.old.journal.items }
         ensures lent { IsLent (silent self.old) replica thread result }
-        ensures ends { SameEnds self.old self.new }
+        ensures ended { self.new.ended ≡ self.old.ended }
     {
         self.journal.push_reserved(Entry::Take {
             driver,
@@ -53,6 +53,7 @@ impl Run {
                 thread,
             },
         );
+        self.wrote = 0;
         self.seats.leave(replica)
     }
 
@@ -61,9 +62,9 @@ impl Run {
         requires holds { Holds (fields_of self.old) }
         requires returns { MayReturn (silent self.old) driver lent ran.count ran.hit }
         ensures holds { Holds (fields_of self.new) }
-        ensures entry { WithAnySink (λ old new. ReturnIs old new driver ran.count ran.hit) self.old self.new }
-        ensures quiet { WithAnySink Quiet self.old self.new }
-        ensures ends { SameEnds self.old self.new }
+        ensures entry { ReturnIs (silent self.old) (silent self.new) driver ran.count ran.hit }
+        ensures output { output_of (job_of self.new) self.new.journal.items ≡ output_of (job_of self.old) self.old.journal.items }
+        ensures ended { self.new.ended ≡ self.old.ended }
     {
         let Some(lease) = lease_of(self.leases.as_slice(), driver) else {
             unreachable!()
@@ -75,6 +76,7 @@ impl Run {
             count: ran.count,
             hit: ran.hit,
         });
+        self.wrote = 0;
         give_back(&mut self.leases, lease);
         self.seats.come_home(lease.replica, lease.thread, lent);
     }

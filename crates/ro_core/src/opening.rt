@@ -1,12 +1,12 @@
 //! Opening a run.
-ghost use Rattle.std.specs.Prelude.{◌≡◌, ℕ, List, Option, IfErr, IfOk, length};
+ghost use Rattle.std.specs.Prelude.{◌≡◌, ℕ, List, Option, None, IfErr, IfOk, length};
 ghost use Rattle.std.specs.Arc.{arc_value};
 ghost use Rattle.ro_settings.specs.Ranges.{InRange};
 ghost use Rattle.ro_replica.specs.Seen.{AreFaults};
 ghost use Rattle.ro_core.specs.Seen.{Opens};
 ghost use Rattle.ro_core.specs.Fields.{Holds};
 ghost use Rattle.ro_core.specs.Opening.{AreFirst, IsOpened};
-ghost use Rattle.ro_core.specs.Runs.{fields_of, core_of};
+ghost use Rattle.ro_core.specs.Runs.{fields_of, silent};
 
 use crate::runs::{Run, THREADS};
 use crate::seats::Seats;
@@ -48,7 +48,7 @@ impl Run {
         requires settings { InRange settings }
         requires faults { AreFaults faults.now }
         ensures holds { IfOk result (λ run. Holds (fields_of run)) }
-        ensures opens { IfOk result (λ run. (held : Option (List ℕ)) (count sure : ℕ) → Opens (record { program = record { image = image; input = input.now }; faults = faults.now; settings = settings }) held count sure (core_of (fields_of run) held count sure)) }
+        ensures opens { IfOk result (λ run. Opens (record { program = record { image = image; input = input.now }; faults = faults.now; settings = settings }) None 0 0 (silent run)) }
         ensures back { IfErr result (λ given. given ≡ image) }
     {
         match Opening::new(alloc, &image, input, faults, settings) {
@@ -65,6 +65,7 @@ impl Run {
                 scrubbed: 0,
                 streak: Streak::new(),
                 sent: 0,
+                wrote: 0,
                 due: None,
                 ended: None,
                 views: opening.views,

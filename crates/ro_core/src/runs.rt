@@ -1,13 +1,14 @@
-//! The run of a core: all that a core is but its sink.
-ghost use Rattle.std.specs.Prelude.{◌≡◌, ◌≢◌, ◌++◌, ◌∷◌, [], ℕ, Some, true};
+//! The run of a core: all that a core is but its sink, of which it knows nothing.
+ghost use Rattle.std.specs.Prelude.{◌≡◌, ◌≢◌, ◌⊎◌, ◌-◌, ◌≤◌, ◌++◌, ◌∷◌, [], ℕ, Some, true};
 ghost use Rattle.ro_journal.specs.declared.How.TheVariants.{Sink as BySink};
 ghost use Rattle.ro_journal.specs.declared.Entry.TheVariants.{End};
 ghost use Rattle.ro_legal.specs.Core.{is_going};
-ghost use Rattle.ro_legal.specs.Legal.{IsAllowed, MayEnd, replay};
-ghost use Rattle.ro_legal.specs.Action.{IsNext};
-ghost use Rattle.ro_core.specs.Seen.{EndsNow, Appends, Quiet, KeepsViews};
+ghost use Rattle.ro_legal.specs.declared.actions.Action.TheVariants.{End as DoEnd};
+ghost use Rattle.ro_legal.specs.Legal.{IsAllowed, MayEnd, EndsAlone, output_of};
+ghost use Rattle.ro_legal.specs.Action.{next_action as next, IsNext};
+ghost use Rattle.ro_core.specs.Seen.{Appends, KeepsViews};
 ghost use Rattle.ro_core.specs.Fields.{Holds, HoldsUnseen};
-ghost use Rattle.ro_core.specs.Runs.{fields_of, job_of, state_of, WithAnySink};
+ghost use Rattle.ro_core.specs.Runs.{fields_of, job_of, state_of, silent};
 
 use crate::seats::Seats;
 use ro_event::{Call, View};
@@ -39,8 +40,10 @@ pub(crate) struct Run {
     pub scrubbed: u64,
     /// Whose votes came last, and how many in a row.
     pub streak: Streak,
-    /// How many bytes left.
+    /// How many bytes the events wrote.
     pub sent: u64,
+    /// How many of them the last entry's event did.
+    pub wrote: u32,
     pub due: Option<How>,
     pub ended: Option<How>,
     /// Room for the views of a vote, one for each replica.
@@ -49,17 +52,18 @@ pub(crate) struct Run {
 }
 
 impl Run {
-    /// Ends the run so, where this end is due or nothing can be done any more, be a scrub due or not.
+    /// Ends the run so, where this end is due or comes alone, be a scrub due or not.
     pub fn end(&mut self, how: How)
         requires holds { Holds (fields_of self.old) }
-        requires now { EndsNow (job_of self.old) (state_of self.old) how }
+        requires now { (next (job_of self.old) (state_of self.old) ≡ DoEnd how) ⊎ EndsAlone (job_of self.old) (state_of self.old) how }
         ensures holds { Holds (fields_of self.new) }
-        ensures allowed { IsAllowed (job_of self.old) (replay (job_of self.old) self.old.journal.items) (End how) × IsNext (job_of self.old) (replay (job_of self.old) self.old.journal.items) (End how) }
-        ensures appends { WithAnySink (λ old new. Appends old new (End how)) self.old self.new }
-        ensures quiet { WithAnySink Quiet self.old self.new }
+        ensures allowed { IsAllowed (job_of self.old) (state_of self.old) (End how) × IsNext (job_of self.old) (state_of self.old) (End how) }
+        ensures appends { Appends (silent self.old) (silent self.new) (End how) }
         ensures ended { self.new.ended ≡ Some how }
     {
+        self.sent = sent_behind(self.sent, self.wrote, how);
         self.journal.push_reserved(Entry::End { how });
+        self.wrote = 0;
         self.due = None;
         self.ended = Some(how);
     }
@@ -73,13 +77,26 @@ impl Run {
         requires not_sink { (bytes : ℕ) → how ≢ BySink bytes }
         ensures holds { Holds (fields_of self.new) }
         ensures entry { result ≡ End how }
-        ensures appends { WithAnySink (λ old new. Appends old new (End how)) self.old self.new }
-        ensures quiet { WithAnySink Quiet self.old self.new }
+        ensures appends { Appends (silent self.old) (silent self.new) (End how) }
+        ensures output { output_of (job_of self.new) self.new.journal.items ≡ output_of (job_of self.old) self.old.journal.items }
         ensures views { self.new.views.items ≡ self.old.views.items }
     {
         let entry = Entry::End { how };
         self.journal.push_reserved(entry);
+        self.wrote = 0;
         self.ended = Some(how);
         entry
+    }
+}
+
+// How many of so many bytes are out behind an end, where the last entry wrote some of them: a failing sink took not all of these.
+fn sent_behind(sent: u64, wrote: u32, how: How) -> u64
+    requires wrote { (taken : ℕ) → how ≡ BySink taken → (taken ≤ wrote) × (wrote ≤ sent) }
+    ensures cut { (taken : ℕ) → how ≡ BySink taken → result ≡ sent - (wrote - taken) }
+    ensures whole { ((taken : ℕ) → how ≡ BySink taken → ⊥) → result ≡ sent }
+{
+    match how {
+        How::Sink(taken) => sent - u64::from(wrote - taken),
+        _ => sent,
     }
 }

@@ -3,12 +3,12 @@ ghost use Rattle.std.specs.Prelude.{◌≡◌, ◌≤◌, ◌<◌, ◌↔◌, �
 ghost use Rattle.ro_journal.specs.Losers.{numbers};
 ghost use Rattle.ro_vote.specs.Prevails.{Prevails, NonePrevails, NoneAt, NoneBelow};
 ghost use Rattle.ro_replica.specs.Seen.{ReplicaOf, AreTwins};
-ghost use Rattle.ro_legal.specs.Legal.{IsAllowed, may_scrub};
+ghost use Rattle.ro_legal.specs.Legal.{IsAllowed, may_scrub, output_of};
 ghost use Rattle.ro_legal.specs.Decides.{DecidesScrub, IsSplit};
 ghost use Rattle.ro_core.specs.Fields.{AreAllTwins, Holds};
 ghost use Rattle.ro_core.specs.Seated.{seat_snapshot};
-ghost use Rattle.ro_core.specs.Seen.{Appends, Quiet, Stays};
-ghost use Rattle.ro_core.specs.Runs.{fields_of, job_of, state_of, WithAnySink, IsScrubbed};
+ghost use Rattle.ro_core.specs.Seen.{Appends, Stays};
+ghost use Rattle.ro_core.specs.Runs.{fields_of, job_of, state_of, silent, IsScrubbed};
 
 use crate::runs::Run;
 use crate::voting::split_of;
@@ -28,10 +28,10 @@ impl Run {
         requires holds { Holds (fields_of self.old) }
         requires may { may_scrub (state_of self.old) ≡ true }
         ensures holds { Holds (fields_of self.new) }
-        ensures entry { IfOk result (λ entry. IsAllowed (job_of self.old) (state_of self.old) entry × DecidesScrub (state_of self.old) entry × WithAnySink (λ old new. Appends old new entry) self.old self.new) }
-        ensures quiet { OnOk result (WithAnySink Quiet self.old self.new) }
+        ensures entry { IfOk result (λ entry. IsAllowed (job_of self.old) (state_of self.old) entry × DecidesScrub (state_of self.old) entry × Appends (silent self.old) (silent self.new) entry) }
+        ensures output { OnOk result (output_of (job_of self.new) self.new.journal.items ≡ output_of (job_of self.old) self.old.journal.items) }
         ensures no_views { IfOk result (λ entry. IsSplit entry → self.new.views.items ≡ []) }
-        ensures err { OnErr result (WithAnySink Stays self.old self.new) }
+        ensures err { OnErr result (Stays (silent self.old) (silent self.new)) }
     {
         match prevailing(self.seats.homes.as_slice(), &self.kernel) {
             Some(won) => self.clean(won),
@@ -47,10 +47,10 @@ impl Run {
     fn clean(&mut self, won: Won) -> Result<Entry, AllocError>
         requires scrubbed { IsScrubbed (fields_of self.old) won.won won.lost }
         ensures holds { Holds (fields_of self.new) }
-        ensures entry { IfOk result (λ entry. IsAllowed (job_of self.old) (state_of self.old) entry × DecidesScrub (state_of self.old) entry × WithAnySink (λ old new. Appends old new entry) self.old self.new) }
-        ensures quiet { OnOk result (WithAnySink Quiet self.old self.new) }
+        ensures entry { IfOk result (λ entry. IsAllowed (job_of self.old) (state_of self.old) entry × DecidesScrub (state_of self.old) entry × Appends (silent self.old) (silent self.new) entry) }
+        ensures output { OnOk result (output_of (job_of self.new) self.new.journal.items ≡ output_of (job_of self.old) self.old.journal.items) }
         ensures won { IfOk result (λ entry. IsSplit entry → ⊥) }
-        ensures err { OnErr result (WithAnySink Stays self.old self.new) }
+        ensures err { OnErr result (Stays (silent self.old) (silent self.new)) }
     {
         self.prepare()?;
         let threads = self.kernel.made();
@@ -60,6 +60,7 @@ impl Run {
             lost: won.lost,
         };
         self.journal.push_reserved(entry);
+        self.wrote = 0;
         self.scrubbed = self.steps;
         Ok(entry)
     }

@@ -4,9 +4,9 @@ ghost use Rattle.ro_vote.specs.Verdict.{verdict_of, Split};
 ghost use Rattle.ro_legal.specs.Core.{may_vote, may_free, views_of};
 ghost use Rattle.ro_legal.specs.Legal.{IsAllowed, output_of};
 ghost use Rattle.ro_core.specs.Fields.{Holds, AreSpared, split_end};
-ghost use Rattle.ro_core.specs.Seen.{Appends, Quiet, IsOfMajority, Stays};
+ghost use Rattle.ro_core.specs.Seen.{Appends, IsOfMajority, Stays};
 ghost use Rattle.ro_legal.specs.Decides.{DecidesVote, DecidesFree, IsSplit};
-ghost use Rattle.ro_core.specs.Runs.{fields_of, job_of, state_of, sent_in, payload_by, bytes_by, WithAnySink, MakesRoom, IsHeld, CanOccur, LastWrote, Notes};
+ghost use Rattle.ro_core.specs.Runs.{fields_of, job_of, state_of, silent, payload_by, MakesRoom, IsHeld, CanOccur, LastWrote};
 
 use crate::events::{Coming, Event, serve};
 use crate::runs::Run;
@@ -36,7 +36,7 @@ pub(crate) struct Occurrence {
 
 impl Run {
     /// Votes on a thread that stands still in every replica: its event is done once. Where the views have no majority, or
-    /// the limit of steps would be passed, that is an end. What is to be written counts as sent until `note` says otherwise.
+    /// the limit of steps would be passed, that is an end.
     ///
     /// # Errors
     /// Where there is no memory; nothing has changed then.
@@ -44,12 +44,12 @@ impl Run {
         requires holds { Holds (fields_of self.old) }
         requires may { may_vote (state_of self.old) thread ≡ true }
         ensures holds { Holds (fields_of self.new) }
-        ensures entry { IfOk result (λ voted. IsAllowed (job_of self.old) (state_of self.old) voted.entry × DecidesVote (job_of self.old) (state_of self.old) thread voted.entry × WithAnySink (λ old new. Appends old new voted.entry) self.old self.new) }
+        ensures entry { IfOk result (λ voted. IsAllowed (job_of self.old) (state_of self.old) voted.entry × DecidesVote (job_of self.old) (state_of self.old) thread voted.entry × Appends (silent self.old) (silent self.new) voted.entry) }
         ensures writer { IfOk result (λ voted. IfSome voted.writer (λ number. number < length self.new.views.items)) }
-        ensures wrote { IfOk result (λ voted. LastWrote (fields_of self.new) (sent_in (fields_of self.old)) (payload_by self.new.views.items voted.writer)) }
+        ensures wrote { IfOk result (λ voted. LastWrote (fields_of self.new) (output_of (job_of self.old) self.old.journal.items) (payload_by self.new.views.items voted.writer)) }
         ensures majority { IfOk result (λ voted. (payload_by self.new.views.items voted.writer ≡ []) ⊎ IsOfMajority (views_of (job_of self.old) (state_of self.old) thread) (payload_by self.new.views.items voted.writer)) }
         ensures shown { IfOk result (λ voted. IsSplit voted.entry → self.new.views.items ≡ views_of (job_of self.old) (state_of self.old) thread) }
-        ensures err { OnErr result (WithAnySink Stays self.old self.new) }
+        ensures err { OnErr result (Stays (silent self.old) (silent self.new)) }
     {
         self.seats.show(thread, self.views.as_mut_slice());
         match verdict(self.views.as_slice()) {
@@ -72,21 +72,6 @@ impl Run {
         }
     }
 
-    /// Notes what a sink took of the last write: the end by a failing one is due where that was not all.
-    pub fn note(&mut self, failed: Option<u32>, count: usize)
-        requires holds { Holds (fields_of self.old) }
-        requires wrote { (before : List ℕ) × (bytes : List ℕ) × LastWrote (fields_of self.old) before bytes × (count ≡ length bytes) × IfSome failed (λ taken. taken < length bytes) }
-        ensures holds { Holds (fields_of self.new) }
-        ensures sent { (before bytes : List ℕ) → LastWrote (fields_of self.old) before bytes → sent_in (fields_of self.new) ≡ before ++ bytes_by failed bytes }
-        ensures noted { Notes (fields_of self.old) (fields_of self.new) failed }
-    {
-        let Some(taken) = failed else {
-            return;
-        };
-        self.sent -= (count - taken as usize) as u64;
-        self.due = Some(How::Sink(taken));
-    }
-
     // The run ends by views that have no majority.
     fn split(&mut self, thread: u32) -> Entry
         requires holds { Holds (fields_of self.old) }
@@ -96,8 +81,8 @@ impl Run {
         ensures holds { Holds (fields_of self.new) }
         ensures allowed { IsAllowed (job_of self.old) (state_of self.old) result }
         ensures decides { DecidesVote (job_of self.old) (state_of self.old) thread result }
-        ensures appends { WithAnySink (λ old new. Appends old new result) self.old self.new }
-        ensures wrote { LastWrote (fields_of self.new) (sent_in (fields_of self.old)) [] }
+        ensures appends { Appends (silent self.old) (silent self.new) result }
+        ensures wrote { LastWrote (fields_of self.new) (output_of (job_of self.old) self.old.journal.items) [] }
         ensures views { self.new.views.items ≡ self.old.views.items }
     {
         let how = split_of(self.views.len());
@@ -108,12 +93,12 @@ impl Run {
     fn hold(&mut self, thread: u32, won: Won) -> Result<Voted, AllocError>
         requires held { IsHeld (fields_of self.old) thread won.won won.lost }
         ensures holds { Holds (fields_of self.new) }
-        ensures entry { IfOk result (λ voted. IsAllowed (job_of self.old) (state_of self.old) voted.entry × DecidesVote (job_of self.old) (state_of self.old) thread voted.entry × WithAnySink (λ old new. Appends old new voted.entry) self.old self.new) }
+        ensures entry { IfOk result (λ voted. IsAllowed (job_of self.old) (state_of self.old) voted.entry × DecidesVote (job_of self.old) (state_of self.old) thread voted.entry × Appends (silent self.old) (silent self.new) voted.entry) }
         ensures writer { IfOk result (λ voted. IfSome voted.writer (λ number. number < length self.new.views.items)) }
-        ensures wrote { IfOk result (λ voted. LastWrote (fields_of self.new) (sent_in (fields_of self.old)) (payload_by self.new.views.items voted.writer)) }
+        ensures wrote { IfOk result (λ voted. LastWrote (fields_of self.new) (output_of (job_of self.old) self.old.journal.items) (payload_by self.new.views.items voted.writer)) }
         ensures majority { IfOk result (λ voted. (payload_by self.new.views.items voted.writer ≡ []) ⊎ IsOfMajority self.old.views.items (payload_by self.new.views.items voted.writer)) }
         ensures won { IfOk result (λ voted. IsSplit voted.entry → ⊥) }
-        ensures err { OnErr result (WithAnySink Stays self.old self.new) }
+        ensures err { OnErr result (Stays (silent self.old) (silent self.new)) }
     {
         let view = &self.views[won.won as usize];
         let count = view.since();
@@ -159,9 +144,9 @@ impl Run {
         requires holds { Holds (fields_of self.old) }
         requires may { may_free (job_of self.old) (state_of self.old) thread ≡ true }
         ensures holds { Holds (fields_of self.new) }
-        ensures entry { IfOk result (λ entry. IsAllowed (job_of self.old) (state_of self.old) entry × DecidesFree (job_of self.old) (state_of self.old) thread entry × WithAnySink (λ old new. Appends old new entry) self.old self.new) }
-        ensures quiet { OnOk result (WithAnySink Quiet self.old self.new) }
-        ensures err { OnErr result (WithAnySink Stays self.old self.new) }
+        ensures entry { IfOk result (λ entry. IsAllowed (job_of self.old) (state_of self.old) entry × DecidesFree (job_of self.old) (state_of self.old) thread entry × Appends (silent self.old) (silent self.new) entry) }
+        ensures output { OnOk result (output_of (job_of self.new) self.new.journal.items ≡ output_of (job_of self.old) self.old.journal.items) }
+        ensures err { OnErr result (Stays (silent self.old) (silent self.new)) }
     {
         let Some(call) = self.blocked[thread as usize] else {
             unreachable!()
@@ -225,6 +210,7 @@ impl Run {
         self.blocked[thread as usize] = event.blocked;
         self.steps += steps;
         self.sent += written as u64;
+        self.wrote = written as u32;
         self.due = event.due;
     }
 }

@@ -30,4 +30,4 @@ returns-clause-kept g c split =
     c.kept_views.ensures.split (subst (λ (o : Option How). (o ≡ Some Differ) ⊎ (o ≡ Some NoMajority)) is split) ∙ ap (λ (v : CoreOf). v.views) c.self.view_is
 
 pub returns-clause-open : goal.returns-clause-open
-returns-clause-open g c = subst (λ (v : CoreOf). IsSome v.failed → outcome_of v.journal ≡ None) c.self.view_is (failed_open (fields_of c.self.inside.run) c.self.invariant.0)
+returns-clause-open g c = subst (λ (v : CoreOf). IsSome v.failed → outcome_of v.journal ≡ None) c.self.view_is (failed_open (fields_of c.self.inside.run) c.self.invariant.0 c.self.inside.failed c.self.invariant.1)

@@ -1,11 +1,11 @@
 use Rattle.std.proofs.Common.{ℕ, refl, sym, ap, ◌∙◌, subst, arith}
 use Rattle.ro_legal.specs.Core.{Job}
-use Rattle.ro_core.specs.Fields.{Fields, core_in, failed_of}
+use Rattle.ro_legal.specs.Legal.{output_of}
+use Rattle.ro_core.specs.Fields.{Fields, core_in}
 use Rattle.ro_core.specs.Grouped.{AreMade}
-use Rattle.ro_core.specs.Seen.{sent_of}
 use Rattle.ro_core.specs.Runs.{fields_of, job_of}
 use Rattle.ro_core.proofs.Votes.{ready-stands}
-use Rattle.ro_core.proofs.Scrubs.{scrub-goes, scrub-alone, scrub-made, scrub-twins, scrubbed-room, clean-winner, clean-losers, clean-sent, clean-holds}
+use Rattle.ro_core.proofs.Scrubs.{scrub-alone, scrub-made, scrub-twins, scrubbed-room, clean-winner, clean-losers, clean-output, clean-holds}
 use Rattle.ro_core.proofs.runs.Run.clean.Goals as goal
 
 pub heal-requires-clause-home : goal.heal-requires-clause-home
@@ -39,20 +39,13 @@ returns-clause-holds c =
     let v = scrubbed-room (fields_of c.args.self.now) f c.args.won.won c.args.won.lost c.requires.scrubbed m in
     let made = subst (λ (n : ℕ). AreMade n (core_in f).replicas) (sym c.made-threads.ensures.made) (scrub-made f m.holds v.may) in
     let stands = c.heal.ensures.stands f.job (core_in f).replicas (ready-stands c.prepare.new.self m.holds (scrub-alone f m.holds v.may)) made in
-    clean-holds f c.args.won.won c.args.won.lost v _ refl c.push_reserved.ensures.items stands.home stands.grouped refl refl refl refl refl refl refl refl refl refl
+    clean-holds f c.args.won.won c.args.won.lost v _ refl c.push_reserved.ensures.items stands.home stands.grouped refl refl refl refl refl refl refl refl refl refl refl
     (omega (arith, c.push_reserved.ensures.len, c.push_reserved.ensures.capacity, c.in_ok-prepare.ensures.room))
 
-pub returns-clause-quiet : goal.returns-clause-quiet
-returns-clause-quiet c held failures sure =
+pub returns-clause-output : goal.returns-clause-output
+returns-clause-output c =
     let old : Fields = fields_of c.args.self.now in
     let f : Fields = fields_of c.prepare.new.self in
     let m = c.prepare.ensures.makes in
     let v = scrubbed-room old f c.args.won.won c.args.won.lost c.requires.scrubbed m in
-    record {
-      failed = (scrub-goes f m.holds v.may).not_failed;
-      sent = clean-sent f c.args.won.won c.args.won.lost v f.due _ refl c.push_reserved.ensures.items
-          ∙ ap (λ (j : Job). sent_of j f.journal (failed_of f.due)) m.job ∙ ap (λ js. sent_of old.job js (failed_of f.due)) m.journal ∙ ap (λ o. sent_of old.job old.journal (failed_of o)) m.due;
-      held = refl;
-      failures = refl;
-      sure = refl;
-    }
+    ap (output_of f.job) c.push_reserved.ensures.items ∙ clean-output f c.args.won.won c.args.won.lost v ∙ ap (λ (j : Job). output_of j f.journal) m.job ∙ ap (output_of old.job) m.journal

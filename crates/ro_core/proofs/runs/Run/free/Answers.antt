@@ -4,12 +4,12 @@ use Rattle.ro_journal.specs.declared.Entry.{Entry}
 use Rattle.ro_journal.specs.declared.Entry.TheVariants.{Free}
 use Rattle.ro_kernel.specs.Kernel.{Setup}
 use Rattle.ro_core.specs.declared.runs.Run.{Run}
-use Rattle.ro_legal.specs.Core.{Job, Core}
-use Rattle.ro_legal.specs.Legal.{IsAllowed, MayFree, output_of}
-use Rattle.ro_core.specs.Seen.{sent_of, Appends}
+use Rattle.ro_legal.specs.Core.{Job}
+use Rattle.ro_legal.specs.Legal.{IsAllowed, output_of}
+use Rattle.ro_core.specs.Seen.{Appends}
 use Rattle.ro_legal.specs.Decides.{DecidesFree}
 use Rattle.ro_core.specs.Fields.{Fields, blocked_at}
-use Rattle.ro_core.specs.Runs.{fields_of, state_of, WithAnySink}
+use Rattle.ro_core.specs.Runs.{fields_of, state_of, silent}
 use Rattle.ro_core.proofs.Held.{limit-keeps}
 use Rattle.ro_core.proofs.Votes.{ready-stands}
 use Rattle.ro_core.proofs.Frees.{free-goes, free-not-over, free-alone, free-live, free-steps, free-ends, free-may-end, free-allowed, free-can, free-room}
@@ -27,7 +27,7 @@ conclude-requires-clause-views c = limit-keeps (fields_of c.args.self.now) c.req
 pub returns-then-self-clause-entry : goal.returns-then-self-clause-entry
 returns-then-self-clause-entry c =
     let f : Fields = fields_of c.args.self.now in
-    subst (λ (e : Entry). IsAllowed f.job (state_of c.args.self.now) e × DecidesFree f.job (state_of c.args.self.now) c.args.thread e × WithAnySink (λ old new. Appends old new e) c.args.self.now c.conclude.new.self) (sym c.conclude.ensures.entry) (
+    subst (λ (e : Entry). IsAllowed f.job (state_of c.args.self.now) e × DecidesFree f.job (state_of c.args.self.now) c.args.thread e × Appends (silent c.args.self.now) (silent c.conclude.new.self) e) (sym c.conclude.ensures.entry) (
       (free-not-over f c.requires.holds c.args.thread c.requires.may, free-may-end f c.requires.holds c.args.thread c.requires.may c.if-self.true),
       free-ends f c.requires.holds c.args.thread c.requires.may c.if-self.true,
       c.conclude.ensures.appends,
@@ -75,24 +75,17 @@ returns-clause-entry c =
     let m = c.prepare.ensures.makes in
     let low = free-steps f c.requires.holds c.args.thread c.requires.may in
     let other = c.if-self.false in (
-      subst (λ (k : Core). MayFree f.job k c.args.thread) (sym (free-goes f c.requires.holds c.args.thread c.requires.may).same) (free-allowed f c.requires.holds c.args.thread c.requires.may c.in-Some.call c.in-Some.is (omega arith)),
+      (free-allowed f c.requires.holds c.args.thread c.requires.may c.in-Some.call c.in-Some.is (omega arith)),
       refl,
-      λ held failures sure. record {
+      record {
         job = c.occur.ensures.job ∙ ap (λ (x : Setup). record { program = record { image = c.prepare.new.self.image; input = x.input }; faults = c.prepare.new.self.faults.items; settings = c.prepare.new.self.settings }) c.serve.ensures.setup ∙ m.job;
         journal = c.occur.ensures.journal ∙ ap (λ (js : List Entry). js ++ Free c.args.thread ∷ []) m.journal;
       },
     )
 
-pub returns-clause-quiet : goal.returns-clause-quiet
-returns-clause-quiet c held failures sure =
+pub returns-clause-output : goal.returns-clause-output
+returns-clause-output c =
     let f : Fields = fields_of c.args.self.now in
     let m = c.prepare.ensures.makes in
     let job = ap (λ (x : Setup). record { program = record { image = c.prepare.new.self.image; input = x.input }; faults = c.prepare.new.self.faults.items; settings = c.prepare.new.self.settings }) c.serve.ensures.setup ∙ m.job in
-    let wrote = c.occur.ensures.wrote in
-    record {
-      failed = wrote.not_failed;
-      sent = wrote.sent ∙ append-nil _ ∙ ap (λ (j : Job). output_of j c.prepare.new.self.journal.items) job ∙ ap (output_of f.job) m.journal ∙ sym (ap (sent_of f.job f.journal) (free-goes f c.requires.holds c.args.thread c.requires.may).not_failed);
-      held = refl;
-      failures = refl;
-      sure = refl;
-    }
+    c.occur.ensures.wrote.output ∙ append-nil _ ∙ ap (λ (j : Job). output_of j c.prepare.new.self.journal.items) job ∙ ap (output_of f.job) m.journal

@@ -11,12 +11,12 @@ use Rattle.ro_core.specs.declared.runs.Run.{Run}
 use Rattle.ro_legal.specs.Core.{Job}
 use Rattle.ro_legal.specs.Event.{event_of}
 use Rattle.ro_legal.specs.Legal.{IsAllowed, output_of}
-use Rattle.ro_core.specs.Seen.{sent_of, Appends, IsOfMajority}
+use Rattle.ro_core.specs.Seen.{Appends, IsOfMajority}
 use Rattle.ro_legal.specs.Decides.{DecidesVote}
 use Rattle.ro_core.specs.Fields.{Fields, core_in}
 use Rattle.ro_core.specs.Grouped.{AreMade}
 use Rattle.ro_core.specs.Happening.{IsCause}
-use Rattle.ro_core.specs.Runs.{fields_of, job_of, state_of, payload_by, WithAnySink, CanOccur, LastWrote}
+use Rattle.ro_core.specs.Runs.{fields_of, job_of, state_of, payload_by, silent, CanOccur, LastWrote}
 use Rattle.ro_core.proofs.Concludes.{ended-wrote}
 use Rattle.ro_core.proofs.Held.{limit-keeps}
 use Rattle.ro_core.proofs.Votes.{then-some, hold-within, hold-there, hold-steps, hold-goes, hold-not-over, hold-alone, hold-home, hold-made-all, hold-twins, hold-losers, seat-of, hold-over, hold-entry, hold-can, hold-writer, hold-majority, held-room, ready-stands}
@@ -56,11 +56,11 @@ returns-then-next-self-clause-entry c =
     (ap (λ (x : Stop). (event_of f.kernel.setup f.kernel.kernel c.args.thread x view.payload).did) (sym c.stop.ensures) ∙ c.of-coming.ensures.did view.payload)
     (let a = c.since-count.ensures in let b = c.from.ensures in let d = c.steps.ensures in omega arith) (omega arith)
     in
-    subst (λ (e : Entry). IsAllowed f.job (state_of c.args.self.now) e × DecidesVote f.job (state_of c.args.self.now) c.args.thread e × WithAnySink (λ old new. Appends old new e) c.args.self.now c.conclude-entry.new.self) (sym c.conclude-entry.ensures.entry)
+    subst (λ (e : Entry). IsAllowed f.job (state_of c.args.self.now) e × DecidesVote f.job (state_of c.args.self.now) c.args.thread e × Appends (silent c.args.self.now) (silent c.conclude-entry.new.self) e) (sym c.conclude-entry.ensures.entry)
     ((hold-not-over f c.args.thread c.args.won.won c.args.won.lost c.requires.held, ends.0), ends.1, c.conclude-entry.ensures.appends)
 
 pub returns-then-next-self-clause-wrote : goal.returns-then-next-self-clause-wrote
-returns-then-next-self-clause-wrote c = ended-wrote c.args.self.now c.conclude-entry.new.self (Limit c.args.self.now.steps (c.from.result + c.steps.result)) c.conclude-entry.ensures.appends c.conclude-entry.ensures.quiet
+returns-then-next-self-clause-wrote c = ended-wrote c.args.self.now c.conclude-entry.new.self (Limit c.args.self.now.steps (c.from.result + c.steps.result)) c.conclude-entry.ensures.appends c.conclude-entry.ensures.output
 
 pub heal-requires-clause-home : goal.heal-requires-clause-home
 heal-requires-clause-home c =
@@ -136,7 +136,7 @@ returns-clause-entry c =
           (ap (λ (x : Stop). (event_of f.kernel.setup f.kernel.kernel c.args.thread x view.payload).did) (sym c.stop.ensures) ∙ c.of-coming.ensures.did view.payload)
           c.since-count.ensures (let a = c.since-count.ensures in let b = c.from.ensures in let d = c.steps.ensures in omega arith) (omega arith),
       refl,
-      λ held failures sure. record {
+      record {
         job = c.occur.ensures.job ∙ ap (λ (x : Setup). record { program = record { image = c.prepare.new.self.image; input = x.input }; faults = c.prepare.new.self.faults.items; settings = c.prepare.new.self.settings }) c.happen.ensures.setup ∙ m.job;
         journal = c.occur.ensures.journal ∙ ap (λ (js : List Entry). js ++ Vote c.args.thread c.since-count.result c.args.won.won c.args.won.lost c.of-coming.result.did ∷ []) m.journal;
       },
@@ -154,7 +154,7 @@ returns-clause-wrote c =
     let f : Fields = fields_of c.args.self.now in
     let m = c.prepare.ensures.makes in
     let job = ap (λ (x : Setup). record { program = record { image = c.prepare.new.self.image; input = x.input }; faults = c.prepare.new.self.faults.items; settings = c.prepare.new.self.settings }) c.happen.ensures.setup ∙ m.job in
-    let before = ap (λ (j : Job). output_of j c.prepare.new.self.journal.items) job ∙ ap (output_of f.job) m.journal ∙ sym (ap (sent_of f.job f.journal) (hold-goes f c.args.thread c.args.won.won c.args.won.lost c.requires.held).not_failed) in
+    let before = ap (λ (j : Job). output_of j c.prepare.new.self.journal.items) job ∙ ap (output_of f.job) m.journal in
     subst (λ (xs : List ℕ). LastWrote (fields_of c.occur.new.self) xs (payload_by c.occur.new.self.views.items c.then_some-writer.result)) before
     (subst (λ (vs : List View). LastWrote (fields_of c.occur.new.self) (output_of (record { program = record { image = c.prepare.new.self.image; input = c.happen.new.kernel.setup.input }; faults = c.prepare.new.self.faults.items; settings = c.prepare.new.self.settings }) c.prepare.new.self.journal.items) (payload_by vs c.then_some-writer.result)) (sym c.occur.ensures.views) c.occur.ensures.wrote)
 

@@ -1,17 +1,15 @@
-use Rattle.std.proofs.Common.{◌≡◌, ◌<◌, ◌∷◌, ◌++◌, [], Some, None, length, not, refl, sym, ap, ◌∙◌, subst, arith}
-use Rattle.std.specs.Prelude.{◌==◌, is_some, slice_get, slice_set}
+use Rattle.std.proofs.Common.{◌≡◌, ◌<◌, ◌∷◌, ◌++◌, [], Some, length, not, refl, sym, ap, ◌∙◌, subst, arith}
+use Rattle.std.specs.Prelude.{◌==◌, is_some, slice_set}
 use Rattle.std.specs.List.{filter, find}
 use Rattle.ro_journal.specs.declared.Entry.TheVariants.{Put}
 use Rattle.ro_replica.specs.Replica.{stop_of}
 use Rattle.ro_replica.specs.Seen.{replica_of}
 use Rattle.ro_legal.specs.declared.actions.Lease.{Lease}
-use Rattle.ro_legal.specs.Core.{Core}
-use Rattle.ro_legal.specs.Legal.{is_lease, after}
-use Rattle.ro_core.specs.Seen.{sent_of}
-use Rattle.ro_core.specs.Fields.{Fields, failed_of}
+use Rattle.ro_legal.specs.Legal.{is_lease, output_of}
+use Rattle.ro_core.specs.Fields.{Fields}
 use Rattle.ro_core.specs.Grouped.{Returns}
 use Rattle.ro_core.specs.Runs.{fields_of}
-use Rattle.ro_core.proofs.Puts.{found_driver, held-lease, same-lease, put-not-due, put-same, put-within, put-group, put-few, put-room, put-holds, put-output}
+use Rattle.ro_core.proofs.Puts.{found_driver, held-lease, same-lease, put-within, put-group, put-few, put-room, put-holds, put-output}
 use Rattle.ro_core.proofs.runs.Run.put.Goals as goal
 
 pub unreachable-requires : goal.unreachable-requires
@@ -54,8 +52,8 @@ returns-clause-holds c =
     let driver : c.in-Some.lease.driver ≡ c.args.driver = found_driver c.args.driver f.leases c.in-Some.lease (ap (find (λ (l : Lease). l.driver == c.args.driver)) (sym c.as_slice.ensures.value) ∙ sym c.in-Some.ensures) in
     let room = put-room f c.requires.holds c.args.driver r.lease.replica r.lease.thread c.args.ran.count c.args.ran.hit r.allowed in
     put-holds f c.requires.holds c.args.driver r.lease.replica r.lease.thread c.args.ran.count c.args.ran.hit r.allowed _ c.args.lent r.program
-    (ap (λ (core : Core). slice_get (after f.job core (Put c.args.driver r.lease.replica r.lease.thread c.args.ran.count c.args.ran.hit)).replicas r.lease.replica) (sym (put-same f c.requires.holds c.args.driver r.lease.replica r.lease.thread c.args.ran.count c.args.ran.hit r.allowed)) ∙ r.became)
-    (record { job = refl; kernel = refl; blocked = refl; steps = refl; scrubbed = refl; streak = refl; sent = refl; due = refl; ended = refl; views = refl })
+    r.became
+    (record { job = refl; kernel = refl; blocked = refl; steps = refl; scrubbed = refl; streak = refl; sent = refl; due = refl; ended = refl; views = refl }) refl
     (c.push_reserved.ensures.items ∙ ap (λ (l : Lease). f.journal ++ Put c.args.driver l.replica l.thread c.args.ran.count c.args.ran.hit ∷ []) (sym same))
     (c.give_back.ensures.items ∙ ap (λ d. filter (λ (l : Lease). not (is_lease d c.in-Some.lease.replica c.in-Some.lease.thread l)) f.leases) driver
     ∙ ap (λ (k : Lease). filter (λ (l : Lease). not (is_lease c.args.driver k.replica k.thread l)) f.leases) (sym same))
@@ -64,21 +62,12 @@ returns-clause-holds c =
     (omega (arith, room, c.push_reserved.ensures.len, c.push_reserved.ensures.capacity))
 
 pub returns-clause-entry : goal.returns-clause-entry
-returns-clause-entry c held failures sure lease of_driver =
+returns-clause-entry c lease of_driver =
     let f : Fields = fields_of c.args.self.now in
     let same = same-lease f c.requires.holds c.args.driver lease c.in-Some.lease of_driver (ap (find (λ (l : Lease). l.driver == c.args.driver)) (sym c.as_slice.ensures.value) ∙ sym c.in-Some.ensures) in
     record { job = refl; journal = c.push_reserved.ensures.items ∙ ap (λ (l : Lease). f.journal ++ Put c.args.driver l.replica l.thread c.args.ran.count c.args.ran.hit ∷ []) (sym same) }
 
-pub returns-clause-quiet : goal.returns-clause-quiet
-returns-clause-quiet c held failures sure =
+pub returns-clause-output : goal.returns-clause-output
+returns-clause-output c =
     let f : Fields = fields_of c.args.self.now in
-    let r = c.requires.returns in
-    let none : failed_of f.due ≡ None = ap failed_of (put-not-due f c.requires.holds c.args.driver r.lease.replica r.lease.thread c.args.ran.count c.args.ran.hit r.allowed) in
-    record {
-      failed = none;
-      sent = ap (sent_of f.job c.push_reserved.new.self.items) none ∙ ap (λ js. sent_of f.job js None) c.push_reserved.ensures.items
-          ∙ put-output f.job f.journal c.args.driver c.in-Some.lease.replica c.in-Some.lease.thread c.args.ran.count c.args.ran.hit ∙ sym (ap (sent_of f.job f.journal) none);
-      held = refl;
-      failures = refl;
-      sure = refl;
-    }
+    ap (output_of f.job) c.push_reserved.ensures.items ∙ put-output f.job f.journal c.args.driver c.in-Some.lease.replica c.in-Some.lease.thread c.args.ran.count c.args.ran.hit

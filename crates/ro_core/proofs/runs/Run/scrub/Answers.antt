@@ -12,7 +12,7 @@ use Rattle.ro_legal.specs.Decides.{DecidesScrub}
 use Rattle.ro_core.specs.Fields.{Fields, AreAllTwins, split_end}
 use Rattle.ro_core.specs.Seated.{seat_snapshot}
 use Rattle.ro_core.specs.Seen.{KeepsViews, Appends}
-use Rattle.ro_core.specs.Runs.{fields_of, state_of, WithAnySink}
+use Rattle.ro_core.specs.Runs.{fields_of, state_of, silent}
 use Rattle.ro_core.proofs.Scrubs.{scrub-few, scrub-twins, scrub-won, scrub-none, scrub-not-over, scrub-ends, scrub-may-end, scrub-keeps}
 use Rattle.ro_core.proofs.runs.Run.scrub.Goals as goal
 
@@ -51,8 +51,7 @@ returns-in-None-clause-entry c =
     let how : c.split_of-how.result ≡ split_end (length f.seats) = c.split_of-how.ensures ∙ ap split_end (c.len.ensures ∙ c.args.self.now.seats.homes.ok.0) in (
       subst (IsAllowed f.job (state_of c.args.self.now)) (sym (c.conclude.ensures.entry ∙ ap (λ (h : How). End h) how)) (scrub-not-over f c.requires.holds c.requires.may, scrub-may-end f c.requires.holds c.requires.may none),
       subst (DecidesScrub (state_of c.args.self.now)) (sym (c.conclude.ensures.entry ∙ ap (λ (h : How). End h) how)) (scrub-ends f c.requires.holds c.requires.may none),
-      subst (λ (e : Entry). WithAnySink (λ old new. Appends old new e) c.args.self.now c.conclude.new.self) (sym c.conclude.ensures.entry)
-          (λ held failures sure. let a = c.conclude.ensures.appends held failures sure in record { job = a.job; journal = a.journal }),
+      subst (λ (e : Entry). Appends (silent c.args.self.now) (silent c.conclude.new.self) e) (sym c.conclude.ensures.entry) (record { job = c.conclude.ensures.appends.job; journal = c.conclude.ensures.appends.journal }),
     )
 
 pub returns-in-None-clause-no_views : goal.returns-in-None-clause-no_views
@@ -60,8 +59,3 @@ returns-in-None-clause-no_views c split = c.conclude.ensures.views ∙ c.clear.e
 
 pub returns-in-Some-clause-no_views : goal.returns-in-Some-clause-no_views
 returns-in-Some-clause-no_views c = IfOk-weaker c.clean.result _ _ (λ entry none split. absurd (none split)) c.clean.ensures.won
-
-pub returns-in-None-clause-quiet : goal.returns-in-None-clause-quiet
-returns-in-None-clause-quiet c held failures sure =
-    let q = c.conclude.ensures.quiet held failures sure in
-    record { failed = q.failed; sent = q.sent; held = q.held; failures = q.failures; sure = q.sure }

@@ -9,7 +9,7 @@ use Rattle.ro_core.specs.Fields.{Fields, AreAllTwins, split_end}
 use Rattle.ro_core.specs.Seated.{seat_snapshot}
 use Rattle.ro_core.specs.Runs.{fields_of, state_of}
 use Rattle.ro_core.proofs.Asked.{some-scrub-end, none-scrub-ends}
-use Rattle.ro_core.proofs.Scrubs.{scrub-few, scrub-twins, scrub-won, scrub-none, scrub-ends, clean-entry}
+use Rattle.ro_core.proofs.Scrubs.{scrub-few, scrub-twins, scrub-won, scrub-none, scrub-ends, clean-allowed}
 use Rattle.ro_core.proofs.runs.Run.scrub_end.Goals as goal
 
 pub prevailing-requires-clause-few : goal.prevailing-requires-clause-few
@@ -22,7 +22,7 @@ pub returns-in-Some : goal.returns-in-Some
 returns-in-Some c =
     let f : Fields = fields_of c.args.self.now in
     none-scrub-ends f.job (state_of c.args.self.now) c.in-Some.field-0.won c.in-Some.field-0.lost
-    (clean-entry f c.in-Some.field-0.won c.in-Some.field-0.lost
+    (clean-allowed f c.in-Some.field-0.won c.in-Some.field-0.lost
     (scrub-won f c.requires.holds c.requires.may c.in-Some.field-0.won c.in-Some.field-0.lost
     (subst (λ (xs : List (Option ReplicaOf)). Prevails (map (seat_snapshot c.args.self.now.kernel.kernel) xs) c.in-Some.field-0.won (numbers c.in-Some.field-0.lost)) c.as_slice.ensures.value c.in-Some.ensures.won)))
 

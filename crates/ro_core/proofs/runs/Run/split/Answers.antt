@@ -7,7 +7,7 @@ use Rattle.ro_legal.specs.Legal.{IsAllowed, MayEnd}
 use Rattle.ro_core.specs.Seen.{KeepsViews, Appends}
 use Rattle.ro_legal.specs.Decides.{DecidesVote}
 use Rattle.ro_core.specs.Fields.{split_end}
-use Rattle.ro_core.specs.Runs.{fields_of, job_of, state_of, WithAnySink}
+use Rattle.ro_core.specs.Runs.{fields_of, job_of, state_of, silent}
 use Rattle.ro_core.proofs.Splits.{split-ends, split-may, split-keeps, split-going, split-not-over, not-sink}
 use Rattle.ro_core.proofs.Concludes.{ended-wrote}
 use Rattle.ro_core.proofs.runs.Run.split.Goals as goal
@@ -42,7 +42,7 @@ returns-clause-decides c =
     (split-ends (fields_of c.args.self.now) c.requires.holds c.args.thread c.requires.may c.requires.views c.requires.verdict)
 
 pub returns-clause-appends : goal.returns-clause-appends
-returns-clause-appends c = subst (λ (e : Entry). WithAnySink (λ old new. Appends old new e) c.args.self.now c.conclude.new.self) (sym c.conclude.ensures.entry) c.conclude.ensures.appends
+returns-clause-appends c = subst (λ (e : Entry). Appends (silent c.args.self.now) (silent c.conclude.new.self) e) (sym c.conclude.ensures.entry) c.conclude.ensures.appends
 
 pub returns-clause-wrote : goal.returns-clause-wrote
-returns-clause-wrote c = ended-wrote c.args.self.now c.conclude.new.self c.split_of-how.result c.conclude.ensures.appends c.conclude.ensures.quiet
+returns-clause-wrote c = ended-wrote c.args.self.now c.conclude.new.self c.split_of-how.result c.conclude.ensures.appends c.conclude.ensures.output

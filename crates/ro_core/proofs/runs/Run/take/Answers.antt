@@ -1,11 +1,8 @@
-use Rattle.std.proofs.Common.{None, length, refl, sym, ap, ◌∙◌, arith}
-use Rattle.std.specs.Prelude.{slice_get}
-use Rattle.ro_legal.specs.Core.{Core}
-use Rattle.ro_core.specs.Seen.{sent_of}
-use Rattle.ro_core.specs.Fields.{Fields, failed_of}
+use Rattle.std.proofs.Common.{length, refl, ap, ◌∙◌, arith}
+use Rattle.ro_legal.specs.Legal.{output_of}
+use Rattle.ro_core.specs.Fields.{Fields}
 use Rattle.ro_core.specs.Runs.{fields_of}
-use Rattle.ro_core.proofs.Held.{with-leases}
-use Rattle.ro_core.proofs.Takes.{spare_parts, take-goes, take-seat, take-holds, take-lent, take-going, take-countable, take-output}
+use Rattle.ro_core.proofs.Takes.{spare_parts, take-seat, take-holds, take-lent, take-going, take-countable, take-output}
 use Rattle.ro_core.proofs.runs.Run.take.Goals as goal
 
 pub push_reserved-requires : goal.push_reserved-requires
@@ -22,23 +19,15 @@ returns-clause-holds c =
     let f : Fields = fields_of c.args.self.now in
     let h = c.requires.holds in
     let parts = spare_parts _ f.places f.lease_places c.requires.room in
-    let same = ap length (h.leases_are ∙ sym (with-leases f.job f.journal (failed_of f.due))) in
-    take-holds f h c.args.driver c.args.replica c.args.thread c.requires.allowed _ (record { job = refl; kernel = refl; blocked = refl; steps = refl; scrubbed = refl; streak = refl; sent = refl; due = refl; ended = refl; views = refl })
+    let same = ap length h.leases_are in
+    take-holds f h c.args.driver c.args.replica c.args.thread c.requires.allowed _ (record { job = refl; kernel = refl; blocked = refl; steps = refl; scrubbed = refl; streak = refl; sent = refl; due = refl; ended = refl; views = refl }) refl
     c.push_reserved.ensures.items c.lend.ensures.items c.leave.ensures.homes c.leave.ensures.groups
     (omega (arith, parts.0, same, c.push_reserved.ensures.len, c.push_reserved.ensures.capacity))
 
-pub returns-clause-quiet : goal.returns-clause-quiet
-returns-clause-quiet c held failures sure =
+pub returns-clause-output : goal.returns-clause-output
+returns-clause-output c =
     let f : Fields = fields_of c.args.self.now in
-    let none = (take-goes f c.requires.holds c.args.driver c.args.replica c.args.thread c.requires.allowed).not_failed in
-    record {
-      failed = none;
-      sent = ap (sent_of f.job c.push_reserved.new.self.items) none ∙ ap (λ js. sent_of f.job js None) c.push_reserved.ensures.items
-          ∙ take-output f.job f.journal c.args.driver c.args.replica c.args.thread ∙ sym (ap (sent_of f.job f.journal) none);
-      held = refl;
-      failures = refl;
-      sure = refl;
-    }
+    ap (output_of f.job) c.push_reserved.ensures.items ∙ take-output f.job f.journal c.args.driver c.args.replica c.args.thread
 
 pub returns-clause-lent : goal.returns-clause-lent
 returns-clause-lent c =
@@ -48,7 +37,7 @@ returns-clause-lent c =
     let lent = take-lent f h c.args.driver c.args.replica c.args.thread c.requires.allowed c.leave.result there in
     record {
       program = lent.0;
-      replica = ap (λ (core : Core). slice_get core.replicas c.args.replica) (take-goes f h c.args.driver c.args.replica c.args.thread c.requires.allowed).same ∙ lent.1;
+      replica = lent.1;
       going = take-going f h c.args.driver c.args.replica c.args.thread c.requires.allowed c.leave.result there;
       countable = take-countable f h c.args.driver c.args.replica c.args.thread c.requires.allowed c.leave.result there (omega (arith, c.args.self.now.journal.ok.0));
     }

@@ -6,11 +6,14 @@ from auditing.kernel import Call
 from auditing.reasons import core_behind, reason_of
 from auditing.replicas import PageFault, Stop, Trap, Watchdog
 from journals import Vote
+from racing.symbols import REGISTERS
 
 LEFT_OUT = "function", "instruction"  # what a file's symbols and words tell
 
 WORDS = {  # of the parts of a view
     "pc": "the pc", "since": "the instructions since the last vote", "stop": "what it stands at", "payload": "what is written"}
+
+ABI_NAMES = {f"x{number}": name for number, name in enumerate(REGISTERS)}
 
 
 def told(judged: Judged, entries: list[Entry]) -> dict:
@@ -38,12 +41,18 @@ def fault_line(fault: Fault) -> str:
 
 def copy_told(copy: Copy) -> dict:
     undone = [{"fault": fault_line(fault), "before": before} for fault, before in copy.undone]
-    differed = whole_told(copy.differed) if isinstance(copy.differed, Whole) else copy.differed
-    return {"place": copy.place, "thread": copy.thread, "replica": copy.replica, "differed": differed, "undone": undone}
+    differed = ({"differed": whole_told(copy.differed)} if isinstance(copy.differed, Whole)
+                else {"differed": copy.differed, "abi_names": names_of(copy.differed)})
+    return {"place": copy.place, "thread": copy.thread, "replica": copy.replica, **differed, "undone": undone}
+
+
+def names_of(parts: list[str]) -> list[str | None]:
+    """The ABI name of each part that is a register."""
+    return [ABI_NAMES.get(part) for part in parts]
 
 
 def whole_told(whole: Whole) -> dict:
-    return {"threads": [{"thread": thread, "parts": parts} for thread, parts in whole.threads], "pages": whole.pages}
+    return {"threads": [{"thread": thread, "parts": parts, "abi_names": names_of(parts)} for thread, parts in whole.threads], "pages": whole.pages}
 
 
 def copy_line(copy: Copy) -> str:
@@ -56,7 +65,7 @@ def copy_line(copy: Copy) -> str:
 
 
 def listed(parts: list[str]) -> str:
-    *most, last = [WORDS.get(part, part) for part in parts]
+    *most, last = [WORDS.get(part) or f"{ABI_NAMES[part]} ({part})" for part in parts]
     return f"{', '.join(most)} and {last}" if most else last
 
 
@@ -97,7 +106,7 @@ def waiting_told(core: Core, thread: int) -> dict:
 def trap_told(core: Core, entries: list[Entry]) -> dict:
     thread = [entry.thread for entry in entries if isinstance(entry, Vote) and entry.did == "trapped"][-1]
     trapped = core.replicas[0].threads[thread]
-    return {"thread": thread, "pc": trapped.pc, "registers": trapped.registers[1:]}
+    return {"thread": thread, "pc": trapped.pc, "registers": trapped.registers[1:], "abi_names": REGISTERS[1:]}
 
 
 def stop_word(stop: Stop) -> str:
@@ -128,4 +137,4 @@ def fields_told(views: list) -> list[dict]:
               **{f"x{number}": [view[0][number] for view in views] for number in range(1, 32)},
               "stop": [stop_word(view[3]) for view in views], "payload": [len(view[4]) for view in views]}
     order = ["pc", "since", *(f"x{number}" for number in range(1, 32)), "stop", "payload"]
-    return [{"part": part, "values": values[part]} for part in order if part in parts]
+    return [{"part": part, "abi_name": ABI_NAMES.get(part), "values": values[part]} for part in order if part in parts]

@@ -1,4 +1,4 @@
-//! Instructions as assemblers write them, and the address that a load or a store accesses.
+//! Instructions as assemblers write them, the names of registers, and the address that a load or a store accesses.
 #![tactic(auto)]
 
 mod accesses;
@@ -6,4 +6,5 @@ mod names;
 mod texts;
 
 pub use accesses::address_touched;
+pub use names::register_name;
 pub use texts::instruction_text;

@@ -5,7 +5,7 @@ ghost use Rattle.ro_assembly.specs.Names.{register_name, alu_name, alu_imm_name,
 use ro_decode::{AluOp, BranchOp, LoadOp, MulDivOp, StoreOp};
 
 /// The name of a register in the calling convention.
-pub(crate) fn register_name(number: u8) -> &'static str
+pub fn register_name(number: u8) -> &'static str
     requires { number < 32 }
     ensures { result.now ≡ register_name number }
 {

@@ -149,10 +149,9 @@ pub struct Standing {
 }
 
 /// A thread that trapped.
-#[derive(Drop, Serialize)]
+#[derive(Drop)]
 pub struct Trapped {
     pub thread: u32,
-    #[serde(flatten)]
     pub place: Place,
     /// The registers x1 to x31.
     pub registers: [u32; 31],
@@ -227,7 +226,7 @@ pub enum Differed {
 }
 
 /// A thread, and parts of it.
-#[derive(Drop, Serialize)]
+#[derive(Drop)]
 pub struct ThreadParts {
     pub thread: u32,
     pub parts: Vec<Part>,

@@ -1,9 +1,10 @@
 //! What an audit finds, as JSON.
 use crate::findings::{
-    Differed, Ended, Field, Findings, Function, Part, Split, Standing, State, ThreadFields,
-    ThreadParts, Trapped,
+    Differed, Ended, Field, Findings, Function, Instruction, Part, Place, Split, Standing, State,
+    ThreadFields, ThreadParts, Trapped,
 };
 use crate::lines::WithoutEnd;
+use crate::registers::{Numbered, abi_name};
 use ro_audit::Why;
 use ro_event::Stop;
 use ro_faults::{Fault, fault_text};
@@ -12,7 +13,6 @@ use ro_journal_text::entry_text;
 use serde::{Described, Serialize, Serializer};
 use serde_json::to_value;
 use std::alloc::{AllocError, Global};
-use std::fmt;
 
 impl Findings {
     /// What is told of a journal, as one object of JSON with a line end behind it. The keys of each object are in the order of
@@ -147,6 +147,48 @@ struct Trap<'a> {
     at: &'a Option<Trapped>,
 }
 
+impl Described for Trapped {}
+
+impl Serialize for Trapped {
+    fn serialize<S: Serializer>(&self, out: &mut S) -> Result<(), S::Error> {
+        TrappedAt {
+            thread: self.thread,
+            place: &self.place,
+            registers: &self.registers,
+            abi_names: RegisterNames,
+            instruction: &self.instruction,
+        }
+        .serialize(out)
+    }
+}
+
+// A thread that trapped, as it is written.
+#[derive(Clone, Copy, Serialize)]
+struct TrappedAt<'a> {
+    thread: u32,
+    #[serde(flatten)]
+    place: &'a Place,
+    registers: &'a [u32; 31],
+    abi_names: RegisterNames,
+    instruction: &'a Option<Instruction>,
+}
+
+// The names of the registers x1 to x31.
+#[derive(Clone, Copy)]
+struct RegisterNames;
+
+impl Described for RegisterNames {}
+
+impl Serialize for RegisterNames {
+    fn serialize<S: Serializer>(&self, out: &mut S) -> Result<(), S::Error> {
+        out.begin_seq(Some(31))?;
+        for number in 1..32 {
+            abi_name(number).serialize(out)?;
+        }
+        out.end_seq()
+    }
+}
+
 // The limit, and where each thread stands.
 #[derive(Clone, Copy, Serialize)]
 struct Limit<'a> {
@@ -178,26 +220,34 @@ impl Described for Differed {}
 impl Serialize for Differed {
     fn serialize<S: Serializer>(&self, out: &mut S) -> Result<(), S::Error> {
         match self {
-            Differed::AtVote { thread, parts } => write_differed(Some(*thread), parts, out),
-            Differed::AtScrub { threads, pages } => {
-                write_differed(None, &WholeParts { threads, pages }, out)
+            Differed::AtVote { thread, parts } => VotedParts {
+                thread: Some(*thread),
+                differed: parts,
+                abi_names: PartNames(parts.as_slice()),
             }
+            .serialize(out),
+            Differed::AtScrub { threads, pages } => ScrubbedParts {
+                thread: None,
+                differed: WholeParts { threads, pages },
+            }
+            .serialize(out),
         }
     }
 }
 
-// Writes the thread that was voted on, if one was, and in what a replica differed.
-fn write_differed<T: Serialize, S: Serializer>(
+// In what a replica differed at a vote on a thread, as it is written.
+#[derive(Clone, Copy, Serialize)]
+struct VotedParts<'a> {
     thread: Option<u32>,
-    differed: &T,
-    out: &mut S,
-) -> Result<(), S::Error> {
-    out.begin_map(Some(2))?;
-    out.key("thread")?;
-    thread.serialize(out)?;
-    out.key("differed")?;
-    differed.serialize(out)?;
-    out.end_map()
+    differed: &'a Vec<Part>,
+    abi_names: PartNames<'a>,
+}
+
+// The same at a scrub, which is on no thread.
+#[derive(Clone, Copy, Serialize)]
+struct ScrubbedParts<'a> {
+    thread: Option<u32>,
+    differed: WholeParts<'a>,
 }
 
 // In what a replica differed that was compared whole.
@@ -205,6 +255,43 @@ fn write_differed<T: Serialize, S: Serializer>(
 struct WholeParts<'a> {
     threads: &'a Vec<ThreadParts>,
     pages: &'a Vec<u32>,
+}
+
+impl Described for ThreadParts {}
+
+impl Serialize for ThreadParts {
+    fn serialize<S: Serializer>(&self, out: &mut S) -> Result<(), S::Error> {
+        NamedParts {
+            thread: self.thread,
+            parts: &self.parts,
+            abi_names: PartNames(self.parts.as_slice()),
+        }
+        .serialize(out)
+    }
+}
+
+// A thread and parts of it, as they are written.
+#[derive(Clone, Copy, Serialize)]
+struct NamedParts<'a> {
+    thread: u32,
+    parts: &'a Vec<Part>,
+    abi_names: PartNames<'a>,
+}
+
+// The name of each part in the calling convention, if it is a register.
+#[derive(Clone, Copy)]
+struct PartNames<'a>(&'a [Part]);
+
+impl Described for PartNames<'_> {}
+
+impl Serialize for PartNames<'_> {
+    fn serialize<S: Serializer>(&self, out: &mut S) -> Result<(), S::Error> {
+        out.begin_seq(Some(self.0.len()))?;
+        for part in self.0 {
+            part.abi_name().serialize(out)?;
+        }
+        out.end_seq()
+    }
 }
 
 impl Described for State {}
@@ -317,12 +404,24 @@ fn write_values<T: Serialize, S: Serializer>(
     values: &T,
     out: &mut S,
 ) -> Result<(), S::Error> {
-    out.begin_map(Some(2))?;
+    out.begin_map(Some(3))?;
     out.key("part")?;
     part.serialize(out)?;
+    out.key("abi_name")?;
+    part.abi_name().serialize(out)?;
     out.key("values")?;
     values.serialize(out)?;
     out.end_map()
+}
+
+impl Part {
+    // Its name in the calling convention, if it is a register.
+    fn abi_name(self) -> Option<&'static str> {
+        match self {
+            Part::Register(number) => abi_name(number),
+            _ => None,
+        }
+    }
 }
 
 impl Described for Part {}
@@ -330,22 +429,11 @@ impl Described for Part {}
 impl Serialize for Part {
     fn serialize<S: Serializer>(&self, out: &mut S) -> Result<(), S::Error> {
         match self {
-            Part::Register(number) => out.collect_str(&RegisterName(*number)),
+            Part::Register(number) => out.collect_str(&Numbered(*number)),
             Part::Pc => out.str("pc"),
             Part::Since => out.str("since"),
             Part::Stop => out.str("stop"),
             Part::Payload => out.str("payload"),
         }
-    }
-}
-
-// The name of a register.
-#[derive(Clone, Copy)]
-struct RegisterName(u32);
-
-impl fmt::Display for RegisterName {
-    fn fmt<W: fmt::Write>(&self, f: &mut fmt::Formatter<W>) -> fmt::Result {
-        let number = self.0;
-        write!(f, "x{number}")
     }
 }

@@ -4,6 +4,7 @@
 mod findings;
 mod json;
 mod lines;
+mod registers;
 mod sentences;
 
 pub use findings::{

@@ -8,6 +8,7 @@ use crate::findings::{
     ThreadFields, ThreadParts, Trapped, Verdict, Waiting,
 };
 use crate::lines::WithoutEnd;
+use crate::registers::Named;
 use ro_audit::Why;
 use ro_event::Stop;
 use ro_faults::fault_text;
@@ -165,12 +166,13 @@ fn tell_trap(text: &mut String, cause: u8, at: &Option<Trapped>) -> Result<(), A
     }
 }
 
-// Eight registers a line.
+// Four registers a line.
 fn tell_registers(text: &mut String, registers: &[u32; 31]) -> Result<(), AllocError> {
     let mut number = 1u32;
     for value in registers {
-        write!(text, "x{number} {value:08x}")?;
-        if number % 8 == 0 || number == 31 {
+        let register = Named(number);
+        write!(text, "{register} {value:08x}")?;
+        if number % 4 == 0 || number == 31 {
             writeln!(text)?;
         } else {
             write!(text, " ")?;
@@ -285,7 +287,8 @@ fn tell_values<T: fmt::Display>(
 
 // A register, and what it is in each replica.
 fn tell_register(text: &mut String, number: u32, values: &[u32]) -> Result<(), AllocError> {
-    write!(text, "x{number}:")?;
+    let register = Named(number);
+    write!(text, "{register}:")?;
     for value in values {
         write!(text, " {value:08x}")?;
     }
@@ -384,7 +387,10 @@ fn tell_parts(text: &mut String, parts: &[Part]) -> Result<(), AllocError> {
 
 fn tell_part(text: &mut String, part: Part) -> Result<(), AllocError> {
     match part {
-        Part::Register(number) => write!(text, "x{number}"),
+        Part::Register(number) => {
+            let register = Named(number);
+            write!(text, "{register}")
+        }
         Part::Pc => text.push_str("the pc"),
         Part::Since => text.push_str("the instructions since the last vote"),
         Part::Stop => text.push_str("what it stands at"),

@@ -116,15 +116,19 @@ fn a_trap(rt: HostRuntime) -> Result<(), Fail> {
         "The journal has 8 entries, and its plan 3 steps.",
         "The program trapped by cause 8: a store where it is not permitted.",
         "Thread 1 stands at pc 00010074 (main+20), with these registers:",
-        "x1 00000001 x2 00000002 x3 00000003 x4 00000004 x5 00000005 x6 00000006 x7 00000007 x8 00000008",
-        "x9 00000009 x10 0000000a x11 0000000b x12 0000000c x13 0000000d x14 0000000e x15 0000000f x16 00000010",
-        "x17 00000011 x18 00000012 x19 00000013 x20 00000014 x21 00000015 x22 00000016 x23 00000017 x24 00000018",
-        "x25 00000019 x26 0000001a x27 0000001b x28 0000001c x29 0000001d x30 0000001e x31 0000001f",
+        "ra (x1) 00000001 sp (x2) 00000002 gp (x3) 00000003 tp (x4) 00000004",
+        "t0 (x5) 00000005 t1 (x6) 00000006 t2 (x7) 00000007 s0 (x8) 00000008",
+        "s1 (x9) 00000009 a0 (x10) 0000000a a1 (x11) 0000000b a2 (x12) 0000000c",
+        "a3 (x13) 0000000d a4 (x14) 0000000e a5 (x15) 0000000f a6 (x16) 00000010",
+        "a7 (x17) 00000011 s2 (x18) 00000012 s3 (x19) 00000013 s4 (x20) 00000014",
+        "s5 (x21) 00000015 s6 (x22) 00000016 s7 (x23) 00000017 s8 (x24) 00000018",
+        "s9 (x25) 00000019 s10 (x26) 0000001a s11 (x27) 0000001b t3 (x28) 0000001c",
+        "t4 (x29) 0000001d t5 (x30) 0000001e t6 (x31) 0000001f",
         "The instruction there is 0c042c23, sw zero, 216(s0).",
         "It touches the address 000100d8.",
     ];
     let json =
-        r#"{"copies":[],"end":{"at":{"function":{"name":"main","offset":32},"instruction":{"text":"sw zero, 216(s0)","touched":65752,"word":201600035},"pc":65652,"registers":[1,2,3,4,5,6,7,8,9,10,11,12,13,14,15,16,17,18,19,20,21,22,23,24,25,26,27,28,29,30,31],"thread":1},"cause":8,"how":"trap"},"entries":8,"steps":3,"verdict":"legal"}"#;
+        r#"{"copies":[],"end":{"at":{"abi_names":["ra","sp","gp","tp","t0","t1","t2","s0","s1","a0","a1","a2","a3","a4","a5","a6","a7","s2","s3","s4","s5","s6","s7","s8","s9","s10","s11","t3","t4","t5","t6"],"function":{"name":"main","offset":32},"instruction":{"text":"sw zero, 216(s0)","touched":65752,"word":201600035},"pc":65652,"registers":[1,2,3,4,5,6,7,8,9,10,11,12,13,14,15,16,17,18,19,20,21,22,23,24,25,26,27,28,29,30,31],"thread":1},"cause":8,"how":"trap"},"entries":8,"steps":3,"verdict":"legal"}"#;
     let at = Some(trapped(alloc)?);
     let end = Ended::Trap { cause: 8, at };
     assert_told(
@@ -274,12 +278,12 @@ fn differing_views(rt: HostRuntime) -> Result<(), Fail> {
         "The two replicas differ.",
         "pc: 00010054 (main) 00010058",
         "instructions since the last vote: 2 3",
-        "x10: 00000007 000000ff",
+        "a0 (x10): 00000007 000000ff",
         "at: a call; a turn of the watchdog;",
         "what is written differs, of so many bytes: 5 0",
     ];
     let json =
-        r#"{"copies":[],"end":{"fields":[{"part":"pc","values":[{"function":{"name":"main","offset":0},"pc":65620},{"function":null,"pc":65624}]},{"part":"since","values":[2,3]},{"part":"x10","values":[7,255]},{"part":"stop","values":["call","watchdog"]},{"part":"payload","values":[5,0]}],"how":"differ"},"entries":8,"steps":3,"verdict":"legal"}"#;
+        r#"{"copies":[],"end":{"fields":[{"abi_name":null,"part":"pc","values":[{"function":{"name":"main","offset":0},"pc":65620},{"function":null,"pc":65624}]},{"abi_name":null,"part":"since","values":[2,3]},{"abi_name":"a0","part":"x10","values":[7,255]},{"abi_name":null,"part":"stop","values":["call","watchdog"]},{"abi_name":null,"part":"payload","values":[5,0]}],"how":"differ"},"entries":8,"steps":3,"verdict":"legal"}"#;
     let end = Ended::Differ(Split::AtVote(fields(alloc)?));
     assert_told(
         &rt,
@@ -436,11 +440,11 @@ fn copies(rt: HostRuntime) -> Result<(), Fail> {
         "legal",
         "The journal has 15 entries, and its plan 9 steps.",
         "The program exited with status 0.",
-        "At entry 6 replica 1 was overwritten at a vote on thread 0: x5, x10, what it stands at and what is written differed. Undone: 1 0 5 reg 10 1, struck 0 instructions before; 1 0 1 reg 5 0, struck 4 instructions before.",
-        "At entry 13 replica 2 was overwritten at a vote on thread 0: x10 and what it stands at differed. Undone: 2 0 6 reg 10 0, struck 1 instruction before.",
+        "At entry 6 replica 1 was overwritten at a vote on thread 0: t0 (x5), a0 (x10), what it stands at and what is written differed. Undone: 1 0 5 reg 10 1, struck 0 instructions before; 1 0 1 reg 5 0, struck 4 instructions before.",
+        "At entry 13 replica 2 was overwritten at a vote on thread 0: a0 (x10) and what it stands at differed. Undone: 2 0 6 reg 10 0, struck 1 instruction before.",
     ];
     let json =
-        r#"{"copies":[{"differed":["x5","x10","stop","payload"],"place":6,"replica":1,"thread":0,"undone":[{"before":0,"fault":"1 0 5 reg 10 1"},{"before":4,"fault":"1 0 1 reg 5 0"}]},{"differed":["x10","stop"],"place":13,"replica":2,"thread":0,"undone":[{"before":1,"fault":"2 0 6 reg 10 0"}]}],"end":{"how":"exit","status":0},"entries":15,"steps":9,"verdict":"legal"}"#;
+        r#"{"copies":[{"abi_names":["t0","a0",null,null],"differed":["x5","x10","stop","payload"],"place":6,"replica":1,"thread":0,"undone":[{"before":0,"fault":"1 0 5 reg 10 1"},{"before":4,"fault":"1 0 1 reg 5 0"}]},{"abi_names":["a0",null],"differed":["x10","stop"],"place":13,"replica":2,"thread":0,"undone":[{"before":1,"fault":"2 0 6 reg 10 0"}]}],"end":{"how":"exit","status":0},"entries":15,"steps":9,"verdict":"legal"}"#;
     assert_found(
         &rt,
         alloc,
@@ -455,10 +459,10 @@ fn copies(rt: HostRuntime) -> Result<(), Fail> {
         "legal",
         "The journal has 8 entries, and its plan 3 steps.",
         "The program exited with status 6.",
-        "At entry 6 replica 2 was overwritten at a vote on thread 0: x10 and what it stands at differed. No fault of the list in that replica explains it.",
+        "At entry 6 replica 2 was overwritten at a vote on thread 0: a0 (x10) and what it stands at differed. No fault of the list in that replica explains it.",
     ];
     let json =
-        r#"{"copies":[{"differed":["x10","stop"],"place":6,"replica":2,"thread":0,"undone":[]}],"end":{"how":"exit","status":6},"entries":8,"steps":3,"verdict":"legal"}"#;
+        r#"{"copies":[{"abi_names":["a0",null],"differed":["x10","stop"],"place":6,"replica":2,"thread":0,"undone":[]}],"end":{"how":"exit","status":6},"entries":8,"steps":3,"verdict":"legal"}"#;
     assert_found(&rt, alloc, SHORT, faults, ALIKE, sentences.as_slice(), json)
 }
 
@@ -499,10 +503,10 @@ fn a_copy_by_a_scrub(rt: HostRuntime) -> Result<(), Fail> {
         "legal",
         "The journal has 16 entries, and its plan 9 steps.",
         "The program exited with status 0.",
-        "At entry 6 replica 1 was overwritten at a scrub: x5 and x6 of thread 0, the page 00010000 differed. Undone: 1 0 1 reg 5 0, struck 4 instructions before; 1 0 2 reg 6 4, struck 3 instructions before; 1 0 3 mem 65661 0, struck 2 instructions before.",
+        "At entry 6 replica 1 was overwritten at a scrub: t0 (x5) and t1 (x6) of thread 0, the page 00010000 differed. Undone: 1 0 1 reg 5 0, struck 4 instructions before; 1 0 2 reg 6 4, struck 3 instructions before; 1 0 3 mem 65661 0, struck 2 instructions before.",
     ];
     let json =
-        r#"{"copies":[{"differed":{"pages":[65536],"threads":[{"parts":["x5","x6"],"thread":0}]},"place":6,"replica":1,"thread":null,"undone":[{"before":4,"fault":"1 0 1 reg 5 0"},{"before":3,"fault":"1 0 2 reg 6 4"},{"before":2,"fault":"1 0 3 mem 65661 0"}]}],"end":{"how":"exit","status":0},"entries":16,"steps":9,"verdict":"legal"}"#;
+        r#"{"copies":[{"differed":{"pages":[65536],"threads":[{"abi_names":["t0","t1"],"parts":["x5","x6"],"thread":0}]},"place":6,"replica":1,"thread":null,"undone":[{"before":4,"fault":"1 0 1 reg 5 0"},{"before":3,"fault":"1 0 2 reg 6 4"},{"before":2,"fault":"1 0 3 mem 65661 0"}]}],"end":{"how":"exit","status":0},"entries":16,"steps":9,"verdict":"legal"}"#;
     assert_found(
         &rt,
         rt.alloc(),
@@ -523,12 +527,12 @@ fn an_end_in_a_scrubs_place(rt: HostRuntime) -> Result<(), Fail> {
         "No more than half of the replicas agree.",
         "They were compared whole, at a scrub.",
         "Of thread 0:",
-        "x5: 00000000 00000001 00000000",
-        "x6: 00000000 00000010 00000000",
+        "t0 (x5): 00000000 00000001 00000000",
+        "t1 (x6): 00000000 00000010 00000000",
         "the bytes of the page 00010000 differ",
     ];
     let json =
-        r#"{"copies":[],"end":{"how":"no-majority","pages":[65536],"threads":[{"fields":[{"part":"x5","values":[0,1,0]},{"part":"x6","values":[0,16,0]}],"thread":0}]},"entries":7,"steps":0,"verdict":"legal"}"#;
+        r#"{"copies":[],"end":{"how":"no-majority","pages":[65536],"threads":[{"fields":[{"abi_name":"t0","part":"x5","values":[0,1,0]},{"abi_name":"t1","part":"x6","values":[0,16,0]}],"thread":0}]},"entries":7,"steps":0,"verdict":"legal"}"#;
     assert_found(
         &rt,
         rt.alloc(),
@@ -561,15 +565,19 @@ fn the_instruction_that_trapped(rt: HostRuntime) -> Result<(), Fail> {
         "The journal has 8 entries, and its plan 1 steps.",
         "The program trapped by cause 6: a load where it is not permitted.",
         "Thread 0 stands at pc 00010054, with these registers:",
-        "x1 00000000 x2 7000fff0 x3 00000000 x4 00000000 x5 00000000 x6 00000000 x7 00000000 x8 00000000",
-        "x9 00000000 x10 00000000 x11 00000000 x12 00000000 x13 00000000 x14 00000000 x15 00000000 x16 00000000",
-        "x17 00000000 x18 00000000 x19 00000000 x20 00000000 x21 00000000 x22 00000000 x23 00000000 x24 00000000",
-        "x25 00000000 x26 00000000 x27 00000000 x28 00000000 x29 00000000 x30 00000000 x31 00000000",
+        "ra (x1) 00000000 sp (x2) 7000fff0 gp (x3) 00000000 tp (x4) 00000000",
+        "t0 (x5) 00000000 t1 (x6) 00000000 t2 (x7) 00000000 s0 (x8) 00000000",
+        "s1 (x9) 00000000 a0 (x10) 00000000 a1 (x11) 00000000 a2 (x12) 00000000",
+        "a3 (x13) 00000000 a4 (x14) 00000000 a5 (x15) 00000000 a6 (x16) 00000000",
+        "a7 (x17) 00000000 s2 (x18) 00000000 s3 (x19) 00000000 s4 (x20) 00000000",
+        "s5 (x21) 00000000 s6 (x22) 00000000 s7 (x23) 00000000 s8 (x24) 00000000",
+        "s9 (x25) 00000000 s10 (x26) 00000000 s11 (x27) 00000000 t3 (x28) 00000000",
+        "t4 (x29) 00000000 t5 (x30) 00000000 t6 (x31) 00000000",
         "The instruction there is 00002503, lw a0, 0(zero).",
         "It touches the address 00000000.",
     ];
     let json =
-        r#"{"copies":[],"end":{"at":{"function":null,"instruction":{"text":"lw a0, 0(zero)","touched":0,"word":9475},"pc":65620,"registers":[0,1879113712,0,0,0,0,0,0,0,0,0,0,0,0,0,0,0,0,0,0,0,0,0,0,0,0,0,0,0,0,0],"thread":0},"cause":6,"how":"trap"},"entries":8,"steps":1,"verdict":"legal"}"#;
+        r#"{"copies":[],"end":{"at":{"abi_names":["ra","sp","gp","tp","t0","t1","t2","s0","s1","a0","a1","a2","a3","a4","a5","a6","a7","s2","s3","s4","s5","s6","s7","s8","s9","s10","s11","t3","t4","t5","t6"],"function":null,"instruction":{"text":"lw a0, 0(zero)","touched":0,"word":9475},"pc":65620,"registers":[0,1879113712,0,0,0,0,0,0,0,0,0,0,0,0,0,0,0,0,0,0,0,0,0,0,0,0,0,0,0,0,0],"thread":0},"cause":6,"how":"trap"},"entries":8,"steps":1,"verdict":"legal"}"#;
     assert_found(
         &rt,
         rt.alloc(),

@@ -66,7 +66,7 @@ row() {
 # What audits a run: its own journal where that went to a file, else that of the same run once more.
 audit_of() {
     shift
-    echo "what happened is told by$(with_journal "$@")$(command_of audit "$@") --journal$(journal_of "$@")"
+    echo "to see what happened:$(with_journal "$@")$(command_of audit "$@") --journal$(journal_of "$@")"
 }
 
 races_of() {

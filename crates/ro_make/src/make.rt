@@ -25,7 +25,7 @@ pub fn image_bytes(
     names: &[(&str, u32)],
 ) -> Result<Vec<u8>, AllocError>
     requires words { length words.now ≤ 65536 }
-    requires names { length names.now ≤ 9 }
+    requires names { length names.now ≤ 65536 }
     requires short { All (λ name. length name.0.now ≤ 64) names.now }
     ensures made { IfOk result (λ file. file.items ≡ file_of words.now flags (map (λ name. named name.0.now name.1) names.now)) }
 
@@ -43,7 +43,7 @@ fn file_bytes(
     names: &[(&str, u32)],
 ) -> Result<Vec<u8>, AllocError>
     requires words { length words.now ≤ 65536 }
-    requires names { length names.now ≤ 9 }
+    requires names { length names.now ≤ 65536 }
     requires short { All (λ name. length name.0.now ≤ 64) names.now }
     ensures { IfOk result (λ file. file.items ≡ file_of words.now flags (map (λ name. named name.0.now name.1) names.now)) }
 {

@@ -16,10 +16,10 @@ fn symbol(place: u32, value: u32) -> [u8; 16]
 
 /// The symbols of functions with their addresses, behind one of zeros.
 pub(crate) fn symbols(alloc: Global, names: &[(&str, u32)]) -> Result<Vec<u8>, AllocError>
-    requires few { length names.now ≤ 9 }
+    requires few { length names.now ≤ 65536 }
     requires short { All (λ name. length name.0.now ≤ 64) names.now }
     ensures made { IfOk result (λ file. file.items ≡ symbols_of (map (λ name. named name.0.now name.1) names.now)) }
-    ensures few { IfOk result (λ file. length file.items ≤ 160) }
+    ensures few { IfOk result (λ file. length file.items ≤ 16 + 16 * length names.now) }
 {
     let mut file = Vec::from_slice(alloc, &[0; 16])?;
     let mut place = 1;
@@ -32,10 +32,10 @@ pub(crate) fn symbols(alloc: Global, names: &[(&str, u32)]) -> Result<Vec<u8>, A
 
 /// The names of functions, each with a zero byte behind it, behind one zero byte, and zeros up to a multiple of 4.
 pub(crate) fn strings(alloc: Global, names: &[(&str, u32)]) -> Result<Vec<u8>, AllocError>
-    requires few { length names.now ≤ 9 }
+    requires few { length names.now ≤ 65536 }
     requires short { All (λ name. length name.0.now ≤ 64) names.now }
     ensures made { IfOk result (λ file. file.items ≡ strings_of (map (λ name. named name.0.now name.1) names.now)) }
-    ensures few { IfOk result (λ file. length file.items ≤ 600) }
+    ensures few { IfOk result (λ file. length file.items ≤ 4 + 65 * length names.now) }
 {
     let mut file = texts(alloc, names)?;
     let padding = (4 - file.len() % 4) % 4;
@@ -45,10 +45,10 @@ pub(crate) fn strings(alloc: Global, names: &[(&str, u32)]) -> Result<Vec<u8>, A
 
 // The names of functions, each with a zero byte behind it, behind one zero byte.
 fn texts(alloc: Global, names: &[(&str, u32)]) -> Result<Vec<u8>, AllocError>
-    requires few { length names.now ≤ 9 }
+    requires few { length names.now ≤ 65536 }
     requires short { All (λ name. length name.0.now ≤ 64) names.now }
     ensures made { IfOk result (λ file. file.items ≡ texts_of (map (λ name. named name.0.now name.1) names.now)) }
-    ensures few { IfOk result (λ file. length file.items ≤ 590) }
+    ensures few { IfOk result (λ file. length file.items ≤ 1 + 65 * length names.now) }
 {
     let mut file = Vec::from_slice(alloc, &[0])?;
     for (name, _) in names {

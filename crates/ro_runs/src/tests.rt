@@ -137,7 +137,7 @@ fn store_of(rt: &impl Abort, alloc: Global, row: &Row) -> Result<MemStore, Fail>
 
 pub(crate) fn file_of(rt: &impl Abort, alloc: Global, guest: &Guest) -> Result<Vec<u8>, Fail> {
     assert!(rt; guest.words.len() <= 65_536);
-    assert!(rt; guest.functions.len() <= 9);
+    assert!(rt; guest.functions.len() <= 65_536);
     assert!(rt;
         guest
             .functions

@@ -43,7 +43,7 @@ class Step:
     held: tuple[int, ...]  # the mutexes that its thread holds before it
     word: int | None = None  # the instruction, where one was read
     call: str = ""  # the call's name, where it is one
-    caller: int = 0  # of a call of the nine functions, the instruction in front of the place where it comes back
+    caller: int = 0  # of a call of a POSIX function, the instruction in front of the place where it comes back
     code: range = NONE  # the bytes that were read as an instruction
     loaded: range = NONE  # the bytes that it loads, or writes to the output
     stored: range = NONE
@@ -169,7 +169,7 @@ class Replay(Machine):
     # ---- Threads
 
     def pthread(self, thread: Thread, name: str, x: list[int]):
-        """A call of one of the nine functions."""
+        """A call of a function of POSIX threads."""
         self.now.call, self.now.caller = name, x[1] - 4 & WORD
         number = self.now.thread
         if name == "pthread_exit":

@@ -1,28 +1,14 @@
 //! The calls of a thread.
 
-/// Which call a thread makes: a system call by its number, or a function of POSIX threads.
+use crate::functions::Function;
+
+/// Which call a thread makes.
 #[derive(Clone, Copy, PartialEq, Eq, Debug)]
 pub enum Which {
     /// The system call of this number, by ECALL.
     System(u32),
-    /// `pthread_create`
-    Create,
-    /// `pthread_join`
-    Join,
-    /// `pthread_exit`
-    Exit,
-    /// `pthread_self`
-    ThreadSelf,
-    /// `pthread_mutex_init`
-    MutexInit,
-    /// `pthread_mutex_destroy`
-    MutexDestroy,
-    /// `pthread_mutex_lock`
-    Lock,
-    /// `pthread_mutex_trylock`
-    TryLock,
-    /// `pthread_mutex_unlock`
-    Unlock,
+    /// A function of POSIX threads, at its address.
+    Function(Function),
 }
 
 /// A call with its arguments, the registers a0 to a3.

@@ -2,15 +2,16 @@
 ghost use Rattle.std.specs.Prelude.{ℕ, ◌≡◌, ◌+◌, ◌/◌, ◌%◌, ◌^◌, ◌<◌, ◌≤◌, ◌∷◌, drop, true, false, None, slice_index};
 ghost use Rattle.std.specs.List.{list_any};
 ghost use Rattle.ro_event.specs.Addresses.{is_at};
-ghost use Rattle.ro_event.specs.Table.{functions, call_at};
+ghost use Rattle.ro_event.specs.Table.{call_at};
 
 use crate::calls::Which;
+use crate::functions::{FUNCTIONS, Function};
 use std::marker::Model;
 
-/// The addresses of the nine functions, in the order of `Which` from `Create` on; `None` where the program has none.
+/// The addresses of the functions of POSIX threads, in their order; `None` where the program has none.
 #[derive(Drop)]
 pub struct CallTable {
-    addresses: [Option<u32>; 9],
+    addresses: [Option<u32>; FUNCTIONS],
     /// The bits of the addresses, so that most places are seen to be none of them at once.
     filter: u64,
 }
@@ -27,18 +28,18 @@ impl Model for CallTable {
 
 impl CallTable {
     /// The table of these addresses.
-    pub fn new(addresses: [Option<u32>; 9]) -> CallTable
+    pub fn new(addresses: [Option<u32>; FUNCTIONS]) -> CallTable
         ensures { result.addresses ≡ addresses }
     {
         let mut filter = 0u64;
-        for i in 0..9usize {
+        for i in 0..FUNCTIONS {
             filter = with_address(filter, addresses[i]);
         }
         CallTable { addresses, filter }
     }
 
     /// The addresses that it was made of.
-    pub fn addresses(&self) -> &[Option<u32>; 9]
+    pub fn addresses(&self) -> &[Option<u32>; FUNCTIONS]
         ensures { result.now ≡ self.now.addresses }
     {
         &self.addresses
@@ -70,7 +71,7 @@ impl CallTable {
     {
         let mut from = from;
         let mut to = to;
-        for i in 0..9usize {
+        for i in 0..FUNCTIONS {
             (from, to) = cut(self.addresses[i], pc, from, to);
         }
         (from, to)
@@ -79,10 +80,10 @@ impl CallTable {
     fn search(&self, pc: u32) -> Option<Which>
         ensures { result ≡ call_at self.now pc }
     {
-        for i in 0..9usize {
-            let which = function(i);
+        for i in 0..FUNCTIONS {
+            let function = Function::at(i);
             if stands_at(self.addresses[i], pc) {
-                return Some(which);
+                return Some(Which::Function(function));
             }
         }
         None
@@ -123,24 +124,6 @@ fn stands_at(address: Option<u32>, pc: u32) -> bool
     ensures { result ≡ is_at pc address }
 {
     address == Some(pc)
-}
-
-/// The function of a place in the table.
-fn function(place: usize) -> Which
-    requires { place < 9 }
-    ensures { drop place functions ≡ result ∷ drop (place + 1) functions }
-{
-    match place {
-        0 => Which::Create,
-        1 => Which::Join,
-        2 => Which::Exit,
-        3 => Which::ThreadSelf,
-        4 => Which::MutexInit,
-        5 => Which::MutexDestroy,
-        6 => Which::Lock,
-        7 => Which::TryLock,
-        _ => Which::Unlock,
-    }
 }
 
 /// The filter with the bit of one more address.

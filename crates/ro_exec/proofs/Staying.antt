@@ -3,7 +3,8 @@ use Rattle.std.specs.Prelude.{◌≡◌, ℕ, ◌%◌, Bool, true, not, ◌==◌
 use Rattle.std.specs.Option.{option_map}
 use Rattle.std.proofs.Common.{sym, ap, ◌∙◌}
 use Rattle.ro_event.specs.declared.stops.Stop.TheVariants.{Trap, PageFault}
-use Rattle.ro_event.specs.declared.calls.Which.TheVariants.{Exit}
+use Rattle.ro_event.specs.declared.calls.Which.TheVariants.{Function}
+use Rattle.ro_event.specs.declared.functions.Function.TheVariants.{Exit}
 use Rattle.ro_event.specs.Table.{call_at}
 use Rattle.ro_region.specs.declared.Range.{Range}
 use Rattle.ro_region.specs.declared.Kind.{Kind}
@@ -21,7 +22,7 @@ fetch-same : (layout : Layout) (backed more : Backed) (cpu : Cpu) → backed (pa
 unfolding fetch_stop
 fetch-same layout backed more cpu same = ap (λ (b : Bool). first
     (stop_if (not (cpu.pc % 4 == 0)) (Trap 1)
-    ∷ stop_if (cpu.pc == exit_place) (call_of cpu Exit)
+    ∷ stop_if (cpu.pc == exit_place) (call_of cpu (Function Exit))
     ∷ option_map (call_of cpu) (call_at layout.calls cpu.pc)
     ∷ stop_if (not (permits_of layout.ranges Execute cpu.pc 4)) (Trap 2)
     ∷ stop_if (not b) (PageFault (page_of cpu.pc))

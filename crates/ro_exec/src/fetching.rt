@@ -4,7 +4,7 @@ ghost use Rattle.ro_pages.specs.Bytes.{number_at};
 ghost use Rattle.ro_exec.specs.Next.{call_of, fetch_stop};
 
 use crate::{Cpu, EXIT_PLACE, traps};
-use ro_event::{Call, CallTable, Stop, Which};
+use ro_event::{Call, CallTable, Function, Stop, Which};
 use ro_limits::PAGE_SIZE;
 use ro_pages::Memory;
 use ro_region::{Kind, Regions};
@@ -26,7 +26,7 @@ pub fn fetch<M: Memory>(
         return Err(Stop::Trap(traps::MISALIGNED_PC));
     }
     if pc == EXIT_PLACE {
-        return Err(call(cpu, Which::Exit));
+        return Err(call(cpu, Which::Function(Function::Exit)));
     }
     if let Some(which) = calls.find(pc) {
         return Err(call(cpu, which));

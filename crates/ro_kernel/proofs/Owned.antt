@@ -3,7 +3,8 @@ use Rattle.std.specs.Prelude.{◌≡◌, ℕ, true, Option, Some, None, nat_lt}
 use Rattle.std.proofs.Common.{refl, sym, ap, ◌∙◌, subst}
 use Rattle.std.proofs.lemmas.Bool.{false≢true}
 use Rattle.ro_event.specs.declared.calls.Which.{Which}
-use Rattle.ro_event.specs.declared.calls.Which.TheVariants.{Lock, TryLock, Unlock}
+use Rattle.ro_event.specs.declared.calls.Which.TheVariants.{Function}
+use Rattle.ro_event.specs.declared.functions.Function.TheVariants.{Lock, TryLock, Unlock}
 use Rattle.ro_event.specs.declared.calls.Call.{Call}
 use Rattle.ro_event.specs.Effects.{Effect}
 use Rattle.ro_mutex.specs.Owners.{owner_of, with_owner}
@@ -58,13 +59,13 @@ module _ (setup : Setup) (kernel : Kernel) (thread : ℕ) (call : Call) where
   unfolding serve
   owned which owner after effect w h e = yields-done (Owned call.a0 owner) _ after effect (subst (λ (v : Which). Yields (Owned call.a0 owner) (serve_which setup kernel thread call v)) (sym w) h) e
 
-  pub lock-owned : (after : Kernel) (effect : Effect) → call.which ≡ Lock → serve setup kernel thread call ≡ Done after effect → effect.answer ≡ Some 0 → owner_of after.owners call.a0 ≡ Some (Some thread)
-  lock-owned after effect w = owned Lock (Some thread) after effect w (owned-mutex (Some thread) _ (owned-lock_at (owner_of kernel.owners call.a0)))
+  pub lock-owned : (after : Kernel) (effect : Effect) → call.which ≡ Function Lock → serve setup kernel thread call ≡ Done after effect → effect.answer ≡ Some 0 → owner_of after.owners call.a0 ≡ Some (Some thread)
+  lock-owned after effect w = owned (Function Lock) (Some thread) after effect w (owned-mutex (Some thread) _ (owned-lock_at (owner_of kernel.owners call.a0)))
 
-  pub trylock-owned : (after : Kernel) (effect : Effect) → call.which ≡ TryLock → serve setup kernel thread call ≡ Done after effect → effect.answer ≡ Some 0 → owner_of after.owners call.a0 ≡ Some (Some thread)
-  trylock-owned after effect w = owned TryLock (Some thread) after effect w (owned-mutex (Some thread) _ (owned-trylock_at (owner_of kernel.owners call.a0)))
+  pub trylock-owned : (after : Kernel) (effect : Effect) → call.which ≡ Function TryLock → serve setup kernel thread call ≡ Done after effect → effect.answer ≡ Some 0 → owner_of after.owners call.a0 ≡ Some (Some thread)
+  trylock-owned after effect w = owned (Function TryLock) (Some thread) after effect w (owned-mutex (Some thread) _ (owned-trylock_at (owner_of kernel.owners call.a0)))
 
-  pub unlock-free : (after : Kernel) (effect : Effect) → call.which ≡ Unlock → serve setup kernel thread call ≡ Done after effect → effect.answer ≡ Some 0 → owner_of after.owners call.a0 ≡ Some None
-  unlock-free after effect w = owned Unlock None after effect w (owned-mutex None _ (owned-unlock_at (owner_of kernel.owners call.a0)))
+  pub unlock-free : (after : Kernel) (effect : Effect) → call.which ≡ Function Unlock → serve setup kernel thread call ≡ Done after effect → effect.answer ≡ Some 0 → owner_of after.owners call.a0 ≡ Some None
+  unlock-free after effect w = owned (Function Unlock) None after effect w (owned-mutex None _ (owned-unlock_at (owner_of kernel.owners call.a0)))
 
 pub ruleset owned_laws = (lock-owned, trylock-owned, unlock-free)

@@ -3,7 +3,8 @@ use Rattle.std.specs.Prelude.{◌≡◌, ℕ, Bool, true, false, not, ◌&&◌, 
 use Rattle.std.proofs.Common.{refl, sym, ap, ◌∙◌, arith, length-take}
 use Rattle.std.proofs.lemmas.Bool.{true≢false}
 use Rattle.ro_event.specs.declared.calls.Which.{Which}
-use Rattle.ro_event.specs.declared.calls.Which.TheVariants.{System}
+use Rattle.ro_event.specs.declared.calls.Which.TheVariants.{System, Function}
+use Rattle.ro_event.specs.declared.functions.Function.TheVariants.{ThreadSelf}
 use Rattle.ro_event.specs.declared.calls.Call.{Call}
 use Rattle.ro_event.specs.Effects.{Effect}
 use Rattle.ro_kernel.specs.Kernel.{Setup, Kernel}
@@ -24,7 +25,8 @@ no-error (System number) = and-false (not (number == 214))
     and-false : (b : Bool) → (b && false) ≡ false
     and-false true = refl
     and-false false = refl
-no-error other = refl
+no-error (Function ThreadSelf) = refl
+no-error (Function function) = refl
 
 -- nor is what a system call moved
 moved-few : (number : ℕ) (call : Call) (xs : List ℕ) → is_error (System number) (length (take (capped call.a2) xs)) ≡ false

@@ -3,7 +3,8 @@ use Rattle.std.specs.Prelude.{◌≡◌, ◌+◌, ◌==◌, ℕ, Bool, true, fal
 use Rattle.std.proofs.Common.{refl, sym, subst}
 use Rattle.std.proofs.lemmas.Bool.{true≢false, eqb-true}
 use Rattle.ro_event.specs.declared.calls.Which.{Which}
-use Rattle.ro_event.specs.declared.calls.Which.TheVariants.{System, Create, Join, Exit, ThreadSelf, MutexInit, MutexDestroy, Lock, TryLock, Unlock}
+use Rattle.ro_event.specs.declared.calls.Which.TheVariants.{System, Function}
+use Rattle.ro_event.specs.declared.functions.Function.TheVariants.{Create, Join, Exit, ThreadSelf, MutexInit, MutexDestroy, Lock, TryLock, Unlock}
 use Rattle.ro_event.specs.declared.calls.Call.{Call}
 use Rattle.ro_event.specs.declared.effects.Goes.TheVariants.{Stays, Returns}
 use Rattle.ro_region.specs.declared.Kind.TheVariants.{Write}
@@ -18,9 +19,9 @@ use Rattle.ro_kernel.specs.Serve.{Served, Done, Blocked, Ends, answers, stores_e
 
 -- a call that may set the owner of a mutex
 pub data IsOnMutex : Which → Type 0 where
-  on_lock : IsOnMutex Lock
-  on_trylock : IsOnMutex TryLock
-  on_unlock : IsOnMutex Unlock
+  on_lock : IsOnMutex (Function Lock)
+  on_trylock : IsOnMutex (Function TryLock)
+  on_unlock : IsOnMutex (Function Unlock)
 
 pub data Shape (setup : Setup) (kernel : Kernel) (u : ℕ) (call : Call) : Served → Type 0 where
   -- a value, and nothing else
@@ -130,15 +131,15 @@ module _ (setup : Setup) (kernel : Kernel) (u : ℕ) (call : Call) where
 
   of-which : (which : Which) → call.which ≡ which → Shape setup kernel u call (serve_which setup kernel u call which)
   of-which (System number) e = of-system number e
-  of-which Create e = of-create
-  of-which Join e = of-join_at (slice_get kernel.lives call.a0) refl
-  of-which Exit e = of-exit
-  of-which ThreadSelf e = says u
-  of-which MutexInit e = of-mutex _ (says 0)
-  of-which MutexDestroy e = of-mutex _ (says 0)
-  of-which Lock e = of-mutex _ (of-lock_at (subst IsOnMutex (sym e) on_lock) (owner_of kernel.owners call.a0))
-  of-which TryLock e = of-mutex _ (of-trylock_at (subst IsOnMutex (sym e) on_trylock) (owner_of kernel.owners call.a0))
-  of-which Unlock e = of-mutex _ (of-unlock_at (subst IsOnMutex (sym e) on_unlock) (owner_of kernel.owners call.a0))
+  of-which (Function Create) e = of-create
+  of-which (Function Join) e = of-join_at (slice_get kernel.lives call.a0) refl
+  of-which (Function Exit) e = of-exit
+  of-which (Function ThreadSelf) e = says u
+  of-which (Function MutexInit) e = of-mutex _ (says 0)
+  of-which (Function MutexDestroy) e = of-mutex _ (says 0)
+  of-which (Function Lock) e = of-mutex _ (of-lock_at (subst IsOnMutex (sym e) on_lock) (owner_of kernel.owners call.a0))
+  of-which (Function TryLock) e = of-mutex _ (of-trylock_at (subst IsOnMutex (sym e) on_trylock) (owner_of kernel.owners call.a0))
+  of-which (Function Unlock) e = of-mutex _ (of-unlock_at (subst IsOnMutex (sym e) on_unlock) (owner_of kernel.owners call.a0))
 
   -- what comes of a thread's call has one of the shapes
   pub shape-of : Shape setup kernel u call (serve setup kernel u call)

@@ -2,7 +2,8 @@
 use Rattle.std.specs.Prelude.{◌≡◌, ◌==◌, Bool, true, false, Result, Ok, Err}
 use Rattle.std.specs.declared.alloc.AllocError.{AllocError}
 use Rattle.ro_event.specs.declared.calls.Which.{Which}
-use Rattle.ro_event.specs.declared.calls.Which.TheVariants.{System, Create, Join}
+use Rattle.ro_event.specs.declared.calls.Which.TheVariants.{System, Function}
+use Rattle.ro_event.specs.declared.functions.Function.TheVariants.{Create, Join}
 use Rattle.ro_kernel.specs.declared.outcome.Served.{Served}
 use Rattle.ro_kernel.specs.declared.outcome.Served.TheVariants.{Done, Blocked, Ends}
 use Rattle.ro_kernel.specs.State.{State}
@@ -22,6 +23,6 @@ IsServe outcome old new (Err error) = new ≡ old
 -- whether a call may store bytes, which takes memory
 abbrev pub may_store : Which → Bool
 may_store (System number) = number == 63
-may_store Create = true
-may_store Join = true
+may_store (Function Create) = true
+may_store (Function Join) = true
 may_store _ = false

@@ -13,7 +13,7 @@ fn goes_after(which: Which) -> Goes
 {
     match which {
         Which::System(_) => Goes::Next,
-        _ => Goes::Returns,
+        Which::Function(_) => Goes::Returns,
     }
 }
 

@@ -2,7 +2,8 @@
 ghost use Rattle.std.specs.Prelude.{ℕ, ◌≡◌, ◌≢◌, true, false, Some, None, length};
 ghost use Rattle.ro_region.specs.declared.Kind.TheVariants.{Write};
 ghost use Rattle.ro_region.specs.Permission.{permits_of};
-ghost use Rattle.ro_event.specs.declared.calls.Which.TheVariants.{System, Lock, TryLock, Unlock};
+ghost use Rattle.ro_event.specs.declared.calls.Which.TheVariants.{System, Function};
+ghost use Rattle.ro_event.specs.declared.functions.Function.TheVariants.{Lock, TryLock, Unlock};
 ghost use Rattle.ro_event.specs.declared.calls.Call.{Call};
 ghost use Rattle.ro_event.specs.Effects.{Effect};
 ghost use Rattle.ro_mutex.specs.Owners.{owner_of};
@@ -32,9 +33,9 @@ pub fn blocks_as_serve_says()
 /// A mutex that was locked has the caller for owner, and one that was unlocked is free.
 #[tactic(auto, using(crate::proofs::Owned::owned_laws))]
 pub fn locks_and_unlocks_set_the_owner()
-    ensures locked { (setup : Setup) (kernel after : Kernel) (thread : ℕ) (call : Call) (effect : Effect) → call.which ≡ Lock → serve setup kernel thread call ≡ Done after effect → effect.answer ≡ Some 0 → owner_of after.owners call.a0 ≡ Some (Some thread) }
-    ensures tried { (setup : Setup) (kernel after : Kernel) (thread : ℕ) (call : Call) (effect : Effect) → call.which ≡ TryLock → serve setup kernel thread call ≡ Done after effect → effect.answer ≡ Some 0 → owner_of after.owners call.a0 ≡ Some (Some thread) }
-    ensures unlocked { (setup : Setup) (kernel after : Kernel) (thread : ℕ) (call : Call) (effect : Effect) → call.which ≡ Unlock → serve setup kernel thread call ≡ Done after effect → effect.answer ≡ Some 0 → owner_of after.owners call.a0 ≡ Some None }
+    ensures locked { (setup : Setup) (kernel after : Kernel) (thread : ℕ) (call : Call) (effect : Effect) → call.which ≡ Function Lock → serve setup kernel thread call ≡ Done after effect → effect.answer ≡ Some 0 → owner_of after.owners call.a0 ≡ Some (Some thread) }
+    ensures tried { (setup : Setup) (kernel after : Kernel) (thread : ℕ) (call : Call) (effect : Effect) → call.which ≡ Function TryLock → serve setup kernel thread call ≡ Done after effect → effect.answer ≡ Some 0 → owner_of after.owners call.a0 ≡ Some (Some thread) }
+    ensures unlocked { (setup : Setup) (kernel after : Kernel) (thread : ℕ) (call : Call) (effect : Effect) → call.which ≡ Function Unlock → serve setup kernel thread call ≡ Done after effect → effect.answer ≡ Some 0 → owner_of after.owners call.a0 ≡ Some None }
 {}
 
 /// An error answer changes nothing but the caller's a0 and pc.

@@ -1,13 +1,13 @@
 //! Serving a call, whichever it is.
 ghost use Rattle.std.specs.Prelude.{◌≡◌, not, true, OnErr};
 ghost use Rattle.ro_kernel.specs.Kernel.{lives_on};
-ghost use Rattle.ro_kernel.specs.Serve.{serve, blocks};
+ghost use Rattle.ro_kernel.specs.Serve.{serve, serve_function, blocks};
 ghost use Rattle.ro_kernel.specs.Served.{IsServe, may_store};
 
 use crate::answers::answer;
 use crate::outcome::Served;
 use crate::state::Kernel;
-use ro_event::{Call, Which};
+use ro_event::{Call, Function, Which};
 use std::alloc::AllocError;
 
 impl Kernel {
@@ -21,14 +21,30 @@ impl Kernel {
     {
         match call.which {
             Which::System(number) => self.system(thread, call, number),
-            Which::Create => self.create(thread, call),
-            Which::Join => self.join(thread, call),
-            Which::Exit => Ok(self.exit(thread, call)),
-            Which::ThreadSelf => Ok(answer(self.alloc, thread, call, thread)),
-            Which::MutexInit | Which::MutexDestroy => Ok(self.check_mutex(thread, call)),
-            Which::Lock => Ok(self.lock(thread, call)),
-            Which::TryLock => Ok(self.trylock(thread, call)),
-            Which::Unlock => Ok(self.unlock(thread, call)),
+            Which::Function(function) => self.function(thread, call, function),
+        }
+    }
+
+    // Serves a call of a function of POSIX threads.
+    fn function(
+        &mut self,
+        thread: u32,
+        call: Call,
+        function: Function,
+    ) -> Result<Served, AllocError>
+        requires { lives_on self.old.kernel thread ≡ true }
+        ensures served { IsServe (serve_function self.old.setup self.old.kernel thread call function) self.old self.new result }
+        ensures memory { OnErr result (may_store (Which.Function function) ≡ true) }
+    {
+        match function {
+            Function::Create => self.create(thread, call),
+            Function::Join => self.join(thread, call),
+            Function::Exit => Ok(self.exit(thread, call)),
+            Function::ThreadSelf => Ok(answer(self.alloc, thread, call, thread)),
+            Function::MutexInit | Function::MutexDestroy => Ok(self.check_mutex(thread, call)),
+            Function::Lock => Ok(self.lock(thread, call)),
+            Function::TryLock => Ok(self.trylock(thread, call)),
+            Function::Unlock => Ok(self.unlock(thread, call)),
         }
     }
 
@@ -38,8 +54,8 @@ impl Kernel {
         ensures { result ≡ blocks self.now.setup self.now.kernel thread call }
     {
         match call.which {
-            Which::Join => self.join_blocks(thread, call),
-            Which::Lock => self.lock_blocks(thread, call),
+            Which::Function(Function::Join) => self.join_blocks(thread, call),
+            Which::Function(Function::Lock) => self.lock_blocks(thread, call),
             _ => false,
         }
     }

@@ -10,7 +10,7 @@ ghost use Rattle.ro_machine.specs.Watched.{span_of, sync_of_relation, Tells, Loo
 
 use crate::calls::Came;
 use crate::looking::Look;
-use ro_event::{Call, Which};
+use ro_event::{Call, Function, Which};
 use ro_kernel::payload_len;
 use ro_region::Regions;
 
@@ -108,17 +108,17 @@ fn payload_of_call(regions: &Regions, call: Call) -> Stretch
 fn relation_of(came: Came, made: u32) -> Relation
     ensures { (machine : Machine) (served : Served) → length machine.kernel.lives ≡ made → Tells served came.call came → sync_of_relation result ≡ sync_served machine came.call served }
 {
-    if came.call.which == Which::Exit {
+    if came.call.which == Which::Function(Function::Exit) {
         return Relation::Exits;
     }
     if came.how.is_some() || came.answer != Some(0) {
         return Relation::Nothing;
     }
     match came.call.which {
-        Which::Unlock => Relation::Unlocks(came.call.a0),
-        Which::Lock | Which::TryLock => Relation::Locks(came.call.a0),
-        Which::Create => Relation::Makes(made),
-        Which::Join => Relation::Joins(came.call.a0),
+        Which::Function(Function::Unlock) => Relation::Unlocks(came.call.a0),
+        Which::Function(Function::Lock | Function::TryLock) => Relation::Locks(came.call.a0),
+        Which::Function(Function::Create) => Relation::Makes(made),
+        Which::Function(Function::Join) => Relation::Joins(came.call.a0),
         _ => Relation::Nothing,
     }
 }

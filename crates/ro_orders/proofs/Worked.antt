@@ -4,7 +4,8 @@ use Rattle.std.specs.Option.{option_map}
 use Rattle.std.proofs.Common.{refl, sym, ap, ◌∙◌, arith}
 use Rattle.ro_decode.specs.Table.{instruction_of}
 use Rattle.ro_event.specs.declared.calls.Which.{Which}
-use Rattle.ro_event.specs.declared.calls.Which.TheVariants.{Create, Lock, TryLock, Unlock}
+use Rattle.ro_event.specs.declared.calls.Which.TheVariants.{Function}
+use Rattle.ro_event.specs.declared.functions.Function.TheVariants.{Create, Lock, TryLock, Unlock}
 use Rattle.ro_event.specs.declared.stops.Stop.TheVariants.{Calls}
 use Rattle.ro_event.specs.Table.{call_at}
 use Rattle.ro_region.specs.Permission.{permits_of}
@@ -32,30 +33,30 @@ use Rattle.ro_orders.proofs.Copies.{times-append}
 abbrev pub turn_at : Option ℕ → Which → Turn
 turn_at owner which = turn_by two_locks in_table (kernel_with owner) 1 (Stands (Calls (call_on which its_mutex)))
 
-pub at-free : turn_at None Lock ≡ Gets its_mutex
+pub at-free : turn_at None (Function Lock) ≡ Gets its_mutex
 unfolding in_table permits_of serve
 at-free = refl
 
-pub at-own : turn_at (Some 1) Lock ≡ Alone
+pub at-own : turn_at (Some 1) (Function Lock) ≡ Alone
 unfolding in_table permits_of serve
 at-own = refl
 
-pub at-another : turn_at (Some 0) Lock ≡ Alone
+pub at-another : turn_at (Some 0) (Function Lock) ≡ Alone
 unfolding in_table permits_of serve
 at-another = refl
 
-pub at-unlock : turn_at (Some 1) Unlock ≡ Alone
+pub at-unlock : turn_at (Some 1) (Function Unlock) ≡ Alone
 unfolding in_table permits_of serve
 at-unlock = refl
 
-pub at-wrong-unlock : turn_at (Some 0) Unlock ≡ Alone
+pub at-wrong-unlock : turn_at (Some 0) (Function Unlock) ≡ Alone
 unfolding in_table permits_of serve
 at-wrong-unlock = refl
 
 pub at-first : (which : Which) → turn_by two_locks in_table (opening_kernel 0x11000) 0 (Stands (Calls (call_on which its_mutex))) ≡ Serves
 unfolding in_table
-at-first Lock = refl
-at-first Unlock = refl
+at-first (Function Lock) = refl
+at-first (Function Unlock) = refl
 at-first other = refl
 
 pub no-mutex : in_table.holds (opening_kernel 0x11000) its_mutex ≡ false
@@ -125,16 +126,16 @@ pub no-races : RaceFree two_locks
 unfolding sync_of accesses opening steppable step first_cpu made_cpu next fetch_stop instruction_stop instruction_of call_at permits_of alu_of taken_by meaning serve payload_of
 no-races = explored-free 28 two_locks refl
 
-no-try-cond : (b : Bool) (x y : Option Which) → x ≢ Some TryLock → y ≢ Some TryLock → cond b x y ≢ Some TryLock
+no-try-cond : (b : Bool) (x y : Option Which) → x ≢ Some (Function TryLock) → y ≢ Some (Function TryLock) → cond b x y ≢ Some (Function TryLock)
 no-try-cond true x y h k = h
 no-try-cond false x y h k = k
 
-no-try : (address : ℕ) → call_at two_locks.image.calls address ≢ Some TryLock
+no-try : (address : ℕ) → call_at two_locks.image.calls address ≢ Some (Function TryLock)
 unfolding call_at
 no-try address =
-    no-try-cond (0x100A4 == address) (Some Create) _ (λ (e : Some Create ≡ Some TryLock). cc)
-    (no-try-cond (0x100A8 == address) (Some Lock) _ (λ (e : Some Lock ≡ Some TryLock). cc)
-    (no-try-cond (0x100AC == address) (Some Unlock) None (λ (e : Some Unlock ≡ Some TryLock). cc) (λ (e : None ≡ Some TryLock). cc)))
+    no-try-cond (0x100A4 == address) (Some (Function Create)) _ (λ (e : Some (Function Create) ≡ Some (Function TryLock)). cc)
+    (no-try-cond (0x100A8 == address) (Some (Function Lock)) _ (λ (e : Some (Function Lock) ≡ Some (Function TryLock)). cc)
+    (no-try-cond (0x100AC == address) (Some (Function Unlock)) None (λ (e : Some (Function Unlock) ≡ Some (Function TryLock)). cc) (λ (e : None ≡ Some (Function TryLock)). cc)))
 
 pub no-trylock : LacksTryLock two_locks
 no-trylock = lacks-by-table two_locks no-try
@@ -162,7 +163,7 @@ same-between =
 
 pub has-trylock : LacksTryLock two_trylocks → ⊥
 unfolding first_cpu next fetch_stop call_at
-has-trylock h = h (λ a. 0) (first_cpu 0x100A8) (call_on TryLock 0) refl refl
+has-trylock h = h (λ a. 0) (first_cpu 0x100A8) (call_on (Function TryLock) 0) refl refl
 
 -- ---- copies
 

@@ -1,6 +1,7 @@
 //! Rows: what steps of a guest of two threads under one mutex take part in, in which orders, and what comes of that.
 ghost use Rattle.std.specs.Prelude.{◌≡◌, ℕ, true, false, not, List, [], ◌∷◌, ◌++◌, Some, None, replicate, map};
-ghost use Rattle.ro_event.specs.declared.calls.Which.TheVariants.{System, Create, Lock, TryLock, Unlock};
+ghost use Rattle.ro_event.specs.declared.calls.Which.TheVariants.{System, Function};
+ghost use Rattle.ro_event.specs.declared.functions.Function.TheVariants.{Create, Lock, TryLock, Unlock};
 ghost use Rattle.ro_event.specs.declared.stops.Stop.TheVariants.{Calls, Trap};
 ghost use Rattle.ro_decode.specs.declared.Instr.TheVariants.{Ecall};
 ghost use Rattle.ro_exec.specs.Next.{all_backed, Stands, Executes};
@@ -16,13 +17,13 @@ ghost use Rattle.ro_orders.specs.Guests.{two_locks, two_trylocks, its_mutex, fir
 /// A row: what a lock and an unlock come to. A free mutex is got, one's own is answered 35, and another's waits; an unlock
 /// frees one's own, and is answered 1 elsewhere; and where no word can be stored at the address, 14.
 pub fn answer_row()
-    ensures gets { answer_of true Lock 1 None ≡ Answers (Some (Some 1)) 0 }
-    ensures own { answer_of true Lock 1 (Some 1) ≡ Answers None 35 }
-    ensures waits { answer_of true Lock 1 (Some 0) ≡ Waits }
-    ensures frees { answer_of true Unlock 1 (Some 1) ≡ Answers (Some None) 0 }
-    ensures of_another { answer_of true Unlock 1 (Some 0) ≡ Answers None 1 }
-    ensures of_none { answer_of true Unlock 1 None ≡ Answers None 1 }
-    ensures not_fit { map (λ which. answer_of false which 1 None) (Lock ∷ Unlock ∷ []) ≡ replicate 2 (Answers None 14) }
+    ensures gets { answer_of true (Function Lock) 1 None ≡ Answers (Some (Some 1)) 0 }
+    ensures own { answer_of true (Function Lock) 1 (Some 1) ≡ Answers None 35 }
+    ensures waits { answer_of true (Function Lock) 1 (Some 0) ≡ Waits }
+    ensures frees { answer_of true (Function Unlock) 1 (Some 1) ≡ Answers (Some None) 0 }
+    ensures of_another { answer_of true (Function Unlock) 1 (Some 0) ≡ Answers None 1 }
+    ensures of_none { answer_of true (Function Unlock) 1 None ≡ Answers None 1 }
+    ensures not_fit { map (λ which. answer_of false which 1 None) ((Function Lock) ∷ (Function Unlock) ∷ []) ≡ replicate 2 (Answers None 14) }
 {}
 
 /// A row: of the mutexes, those that stand in the table are cooperative, whoever owns them.
@@ -37,16 +38,16 @@ pub fn choice_row()
 /// waits, an unlock of one's own and one of another's are alone, and so is an instruction. The kernel serves all else: calls
 /// on a mutex that does not stand in the table, a trylock, other calls, and a trap.
 pub fn turn_row()
-    ensures gets { turn_by two_locks in_table (kernel_with None) 1 (Stands (Calls (call_on Lock its_mutex))) ≡ Gets its_mutex }
-    ensures own { turn_by two_locks in_table (kernel_with (Some 1)) 1 (Stands (Calls (call_on Lock its_mutex))) ≡ Alone }
-    ensures waits { turn_by two_locks in_table (kernel_with (Some 0)) 1 (Stands (Calls (call_on Lock its_mutex))) ≡ Alone }
-    ensures frees { turn_by two_locks in_table (kernel_with (Some 1)) 1 (Stands (Calls (call_on Unlock its_mutex))) ≡ Alone }
-    ensures of_another { turn_by two_locks in_table (kernel_with (Some 0)) 1 (Stands (Calls (call_on Unlock its_mutex))) ≡ Alone }
+    ensures gets { turn_by two_locks in_table (kernel_with None) 1 (Stands (Calls (call_on (Function Lock) its_mutex))) ≡ Gets its_mutex }
+    ensures own { turn_by two_locks in_table (kernel_with (Some 1)) 1 (Stands (Calls (call_on (Function Lock) its_mutex))) ≡ Alone }
+    ensures waits { turn_by two_locks in_table (kernel_with (Some 0)) 1 (Stands (Calls (call_on (Function Lock) its_mutex))) ≡ Alone }
+    ensures frees { turn_by two_locks in_table (kernel_with (Some 1)) 1 (Stands (Calls (call_on (Function Unlock) its_mutex))) ≡ Alone }
+    ensures of_another { turn_by two_locks in_table (kernel_with (Some 0)) 1 (Stands (Calls (call_on (Function Unlock) its_mutex))) ≡ Alone }
     ensures instruction { turn_by two_locks in_table (kernel_with None) 1 (Executes Ecall) ≡ Alone }
-    ensures first_lock { turn_by two_locks in_table (opening_kernel 0x11000) 0 (Stands (Calls (call_on Lock its_mutex))) ≡ Serves }
-    ensures first_unlock { turn_by two_locks in_table (opening_kernel 0x11000) 0 (Stands (Calls (call_on Unlock its_mutex))) ≡ Serves }
-    ensures trylock { turn_by two_locks in_table (kernel_with None) 1 (Stands (Calls (call_on TryLock its_mutex))) ≡ Serves }
-    ensures others { map (λ which. turn_by two_locks in_table (kernel_with None) 1 (Stands (Calls (call_on which its_mutex)))) (Create ∷ System 64 ∷ []) ≡ replicate 2 Serves }
+    ensures first_lock { turn_by two_locks in_table (opening_kernel 0x11000) 0 (Stands (Calls (call_on (Function Lock) its_mutex))) ≡ Serves }
+    ensures first_unlock { turn_by two_locks in_table (opening_kernel 0x11000) 0 (Stands (Calls (call_on (Function Unlock) its_mutex))) ≡ Serves }
+    ensures trylock { turn_by two_locks in_table (kernel_with None) 1 (Stands (Calls (call_on (Function TryLock) its_mutex))) ≡ Serves }
+    ensures others { map (λ which. turn_by two_locks in_table (kernel_with None) 1 (Stands (Calls (call_on which its_mutex)))) ((Function Create) ∷ System 64 ∷ []) ≡ replicate 2 Serves }
     ensures trap { turn_by two_locks in_table (kernel_with None) 1 (Stands (Trap 3)) ≡ Serves }
     ensures mutex { map (λ turn. takes turn (OfMutex its_mutex)) (Gets its_mutex ∷ Gets 0x100B8 ∷ Alone ∷ Serves ∷ []) ≡ true ∷ replicate 3 false }
     ensures kernel { map (λ turn. takes turn OfKernel) (Serves ∷ Gets its_mutex ∷ Alone ∷ []) ≡ true ∷ replicate 2 false }

@@ -1,26 +1,24 @@
 //! The table of call addresses: the call that an address names, and the stretch round a place that names none.
-use ro_event::{CallTable, Which};
+use ro_event::{CallTable, FUNCTIONS, Function, Which};
 
 #[test]
 fn finds_the_first(rt: HostRuntime) {
-    let table = CallTable::new([
-        Some(0x1_0000),
-        Some(0x1_0100),
-        None,
-        Some(0x1_0100),
-        Some(0x1_0204),
-        None,
-        Some(0x1_0208),
-        Some(0x1_020C),
-        Some(0x1_0001),
-    ]);
+    let mut addresses = [None; FUNCTIONS];
+    addresses[0] = Some(0x1_0000);
+    addresses[1] = Some(0x1_0100);
+    addresses[3] = Some(0x1_0100);
+    addresses[4] = Some(0x1_0204);
+    addresses[6] = Some(0x1_0208);
+    addresses[7] = Some(0x1_020C);
+    addresses[8] = Some(0x1_0001);
+    let table = CallTable::new(addresses);
     for (pc, want) in [
-        (0x1_0000, Some(Which::Create)),
-        (0x1_0100, Some(Which::Join)),
-        (0x1_0204, Some(Which::MutexInit)),
-        (0x1_0208, Some(Which::Lock)),
-        (0x1_020C, Some(Which::TryLock)),
-        (0x1_0001, Some(Which::Unlock)),
+        (0x1_0000, Some(Which::Function(Function::Create))),
+        (0x1_0100, Some(Which::Function(Function::Join))),
+        (0x1_0204, Some(Which::Function(Function::MutexInit))),
+        (0x1_0208, Some(Which::Function(Function::Lock))),
+        (0x1_020C, Some(Which::Function(Function::TryLock))),
+        (0x1_0001, Some(Which::Function(Function::Unlock))),
         (0x1_0004, None),
         (0x0, None),
         (0xFFFF_FFFC, None),
@@ -31,7 +29,7 @@ fn finds_the_first(rt: HostRuntime) {
 
 #[test]
 fn clears_round_a_place(rt: HostRuntime) {
-    let mut addresses = [None; 9];
+    let mut addresses = [None; FUNCTIONS];
     addresses[1] = Some(0x1_0100);
     addresses[4] = Some(0x1_0206);
     addresses[8] = Some(0x2_0000);

@@ -8,7 +8,8 @@ use Rattle.ro_decode.specs.declared.Instr.TheVariants.{Lui, Auipc, Jal, Jalr, Br
 use Rattle.ro_decode.specs.Table.{instruction_of}
 use Rattle.ro_event.specs.declared.stops.Stop.{Stop}
 use Rattle.ro_event.specs.declared.stops.Stop.TheVariants.{Trap, PageFault}
-use Rattle.ro_event.specs.declared.calls.Which.TheVariants.{Exit}
+use Rattle.ro_event.specs.declared.calls.Which.TheVariants.{Function}
+use Rattle.ro_event.specs.declared.functions.Function.TheVariants.{Exit}
 use Rattle.ro_event.specs.Table.{call_at}
 use Rattle.ro_region.specs.declared.Range.{Range}
 use Rattle.ro_region.specs.declared.Kind.{Kind}
@@ -58,7 +59,7 @@ module _ (backed more : Backed) (h : IsMore backed more) where
   unfolding fetch_stop
   fetch-more layout cpu =
       row more (stop_if (not (cpu.pc % 4 == 0)) (Trap 1)) _ _
-      (row more (stop_if (cpu.pc == exit_place) (call_of cpu Exit)) _ _
+      (row more (stop_if (cpu.pc == exit_place) (call_of cpu (Function Exit))) _ _
       (row more (option_map (call_of cpu) (call_at layout.calls cpu.pc)) _ _
       (row more (stop_if (not (permits_of layout.ranges Execute cpu.pc 4)) (Trap 2)) _ _
       (last-row more (page_of cpu.pc) (backed (page_of cpu.pc)) (more (page_of cpu.pc)) (h.keeps (page_of cpu.pc)) refl))))

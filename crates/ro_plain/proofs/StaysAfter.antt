@@ -6,7 +6,8 @@ use Rattle.std.proofs.lemmas.Option.{slice_get_within, option_and_then_some}
 use Rattle.std.proofs.lemmas.Bool.{true≢false}
 use Rattle.ro_decode.specs.declared.Instr.{Instr}
 use Rattle.ro_event.specs.declared.calls.Which.{Which}
-use Rattle.ro_event.specs.declared.calls.Which.TheVariants.{System, Create, Join, Lock, TryLock, Unlock}
+use Rattle.ro_event.specs.declared.calls.Which.TheVariants.{System, Function}
+use Rattle.ro_event.specs.declared.functions.Function.TheVariants.{Create, Join, Lock, TryLock, Unlock}
 use Rattle.ro_event.specs.declared.calls.Call.{Call}
 use Rattle.ro_event.specs.declared.stops.Stop.{Stop}
 use Rattle.ro_event.specs.declared.stops.Stop.TheVariants.{Calls, Trap, PageFault, Watchdog}
@@ -67,11 +68,11 @@ fetched-nothing program machine t cpu (Some instr) = passable-nothing program ma
 
 -- a call that makes a thread makes the next one
 makes-by : (machine : Machine) (call : Call) (w : Which) (made : ℕ) → sync_by machine call w ≡ Makes made → made ≡ length machine.kernel.lives
-makes-by machine call Create made e = let f : Makes (length machine.kernel.lives) ≡ Makes made = e in cc
-makes-by machine call Join made e = absurd (let f : Joins call.a0 ≡ Makes made = e in cc)
-makes-by machine call Lock made e = absurd (let f : Locks call.a0 ≡ Makes made = e in cc)
-makes-by machine call TryLock made e = absurd (let f : Locks call.a0 ≡ Makes made = e in cc)
-makes-by machine call Unlock made e = absurd (let f : Unlocks call.a0 ≡ Makes made = e in cc)
+makes-by machine call (Function Create) made e = let f : Makes (length machine.kernel.lives) ≡ Makes made = e in cc
+makes-by machine call (Function Join) made e = absurd (let f : Joins call.a0 ≡ Makes made = e in cc)
+makes-by machine call (Function Lock) made e = absurd (let f : Locks call.a0 ≡ Makes made = e in cc)
+makes-by machine call (Function TryLock) made e = absurd (let f : Locks call.a0 ≡ Makes made = e in cc)
+makes-by machine call (Function Unlock) made e = absurd (let f : Unlocks call.a0 ≡ Makes made = e in cc)
 makes-by machine call other made e = absurd (let f : Nothing ≡ Makes made = e in cc)
 
 -- through the tests

@@ -3,8 +3,10 @@ use Rattle.std.specs.Prelude.{◌≡◌, ◌-◌, ◌^◌, true, false, [], ◌�
 use Rattle.std.proofs.Common.{refl}
 use Rattle.ro_decode.specs.Table.{instruction_of, word_of}
 use Rattle.ro_alu.specs.Results.{muldiv_of}
-use Rattle.ro_event.specs.declared.calls.Which.TheVariants.{System, Create, Join, Exit, ThreadSelf, MutexInit, MutexDestroy, Lock, TryLock, Unlock}
+use Rattle.ro_event.specs.declared.calls.Which.TheVariants.{System, Function}
+use Rattle.ro_event.specs.declared.functions.Function.TheVariants.{Create, Join, Exit, ThreadSelf, MutexInit, MutexDestroy, Lock, TryLock, Unlock}
 use Rattle.ro_event.specs.declared.stops.Stop.TheVariants.{Trap}
+use Rattle.ro_event.specs.Functions.{names}
 use Rattle.ro_event.specs.Table.{call_at}
 use Rattle.ro_region.specs.declared.Kind.TheVariants.{Write, Execute}
 use Rattle.ro_region.specs.Permission.{permits_of}
@@ -23,7 +25,7 @@ use Rattle.ro_kernel.specs.declared.Life.TheVariants.{Live}
 use Rattle.ro_kernel.specs.Serve.{serve, payload_of}
 use Rattle.ro_simulation.specs.Guests.{exit_guest}
 use Rattle.ro_rows.specs.Exit.{exit_file}
-use Rattle.ro_rows.specs.Tables.{instructions, assembled, results, changed, header, two_headers, strings, function, nine, four, kernel_with, two_held, unheld, answer, next_of}
+use Rattle.ro_rows.specs.Tables.{instructions, assembled, results, changed, header, two_headers, strings, function, standing_symbols, address_named, four, kernel_with, two_held, unheld, answer, next_of}
 
 -- ---- instructions_row
 
@@ -69,11 +71,11 @@ checks-symbols = refl
 
 -- ---- names_row
 
-pub names-table : table_with strings (map symbol_in nine) ≡ Ok (record { addresses = Some 0x10000 ∷ Some 0x10008 ∷ Some 0x10004 ∷ Some 0x10020 ∷ Some 0x10010 ∷ Some 0x1000C ∷ Some 0x10014 ∷ Some 0x10018 ∷ Some 0x1001C ∷ [] })
+pub names-table : table_with strings (map symbol_in standing_symbols) ≡ Ok (record { addresses = map address_named names })
 unfolding call_at symbol_in half_in word_in
 names-table = refl
 
-pub names-calls : map (call_at (record { addresses = Some 0x10000 ∷ Some 0x10008 ∷ Some 0x10004 ∷ Some 0x10020 ∷ Some 0x10010 ∷ Some 0x1000C ∷ Some 0x10014 ∷ Some 0x10018 ∷ Some 0x1001C ∷ [] })) (0x10000 ∷ 0x10004 ∷ 0x10008 ∷ 0x1000C ∷ 0x10010 ∷ 0x10014 ∷ 0x10018 ∷ 0x1001C ∷ 0x10020 ∷ 0x10024 ∷ []) ≡ Some Create ∷ Some Exit ∷ Some Join ∷ Some MutexDestroy ∷ Some MutexInit ∷ Some Lock ∷ Some TryLock ∷ Some Unlock ∷ Some ThreadSelf ∷ None ∷ []
+pub names-calls : map (call_at (record { addresses = Some 0x10000 ∷ Some 0x10008 ∷ Some 0x10004 ∷ Some 0x10020 ∷ Some 0x10010 ∷ Some 0x1000C ∷ Some 0x10014 ∷ Some 0x10018 ∷ Some 0x1001C ∷ [] })) (0x10000 ∷ 0x10004 ∷ 0x10008 ∷ 0x1000C ∷ 0x10010 ∷ 0x10014 ∷ 0x10018 ∷ 0x1001C ∷ 0x10020 ∷ 0x10024 ∷ []) ≡ Some (Function Create) ∷ Some (Function Exit) ∷ Some (Function Join) ∷ Some (Function MutexDestroy) ∷ Some (Function MutexInit) ∷ Some (Function Lock) ∷ Some (Function TryLock) ∷ Some (Function Unlock) ∷ Some (Function ThreadSelf) ∷ None ∷ []
 unfolding call_at symbol_in half_in word_in
 names-calls = refl
 
@@ -100,19 +102,19 @@ pub errors-system : answer (kernel_with four []) (System 63) 1 0x100E0 1 ∷ ans
 unfolding serve permits_of payload_of
 errors-system = refl
 
-pub errors-create : answer (kernel_with four []) Create 0x100E0 1 0x10098 ∷ answer (kernel_with four []) Create 0x100E0 0 0x10099 ∷ answer (kernel_with four []) Create 0 0 0x10098 ∷ answer (kernel_with (replicate 16 Live) []) Create 0x100E0 0 0x10098 ∷ answer (kernel_with (replicate 15 Live) []) Create 0x100E0 0 0x10098 ∷ [] ≡ Some 22 ∷ Some 22 ∷ Some 14 ∷ Some 11 ∷ Some 0 ∷ []
+pub errors-create : answer (kernel_with four []) (Function Create) 0x100E0 1 0x10098 ∷ answer (kernel_with four []) (Function Create) 0x100E0 0 0x10099 ∷ answer (kernel_with four []) (Function Create) 0 0 0x10098 ∷ answer (kernel_with (replicate 16 Live) []) (Function Create) 0x100E0 0 0x10098 ∷ answer (kernel_with (replicate 15 Live) []) (Function Create) 0x100E0 0 0x10098 ∷ [] ≡ Some 22 ∷ Some 22 ∷ Some 14 ∷ Some 11 ∷ Some 0 ∷ []
 unfolding serve permits_of payload_of
 errors-create = refl
 
-pub errors-join : answer (kernel_with four []) Join 4 0 0 ∷ answer (kernel_with four []) Join 0 0 0 ∷ answer (kernel_with four []) Join 3 0 0 ∷ answer (kernel_with four []) Join 2 2 0 ∷ answer (kernel_with four []) Join 1 0 0 ∷ answer (kernel_with four []) Join 2 0 0 ∷ [] ≡ Some 3 ∷ Some 35 ∷ Some 3 ∷ Some 14 ∷ None ∷ Some 0 ∷ []
+pub errors-join : answer (kernel_with four []) (Function Join) 4 0 0 ∷ answer (kernel_with four []) (Function Join) 0 0 0 ∷ answer (kernel_with four []) (Function Join) 3 0 0 ∷ answer (kernel_with four []) (Function Join) 2 2 0 ∷ answer (kernel_with four []) (Function Join) 1 0 0 ∷ answer (kernel_with four []) (Function Join) 2 0 0 ∷ [] ≡ Some 3 ∷ Some 35 ∷ Some 3 ∷ Some 14 ∷ None ∷ Some 0 ∷ []
 unfolding serve permits_of payload_of
 errors-join = refl
 
-pub errors-mutex : answer (kernel_with four two_held) Lock 0 0 0 ∷ answer (kernel_with four two_held) Lock 0x100E4 0 0 ∷ answer (kernel_with four two_held) Lock 0x100E0 0 0 ∷ answer (kernel_with four two_held) TryLock 0x100E0 0 0 ∷ answer (kernel_with four two_held) TryLock 0x100E4 0 0 ∷ answer (kernel_with four two_held) Unlock 0x100E0 0 0 ∷ answer (kernel_with four two_held) Unlock 0x100E8 0 0 ∷ answer (kernel_with four two_held) Unlock 0x100E4 0 0 ∷ [] ≡ Some 14 ∷ Some 35 ∷ None ∷ Some 16 ∷ Some 16 ∷ Some 1 ∷ Some 1 ∷ Some 0 ∷ []
+pub errors-mutex : answer (kernel_with four two_held) (Function Lock) 0 0 0 ∷ answer (kernel_with four two_held) (Function Lock) 0x100E4 0 0 ∷ answer (kernel_with four two_held) (Function Lock) 0x100E0 0 0 ∷ answer (kernel_with four two_held) (Function TryLock) 0x100E0 0 0 ∷ answer (kernel_with four two_held) (Function TryLock) 0x100E4 0 0 ∷ answer (kernel_with four two_held) (Function Unlock) 0x100E0 0 0 ∷ answer (kernel_with four two_held) (Function Unlock) 0x100E8 0 0 ∷ answer (kernel_with four two_held) (Function Unlock) 0x100E4 0 0 ∷ [] ≡ Some 14 ∷ Some 35 ∷ None ∷ Some 16 ∷ Some 16 ∷ Some 1 ∷ Some 1 ∷ Some 0 ∷ []
 unfolding serve permits_of payload_of
 errors-mutex = refl
 
-pub errors-full : answer (kernel_with four (unheld 256)) Lock 0x100E0 0 0 ∷ answer (kernel_with four (unheld 256)) TryLock 0x100E0 0 0 ∷ answer (kernel_with four (unheld 255)) Lock 0x100E0 0 0 ∷ [] ≡ Some 11 ∷ Some 11 ∷ Some 0 ∷ []
+pub errors-full : answer (kernel_with four (unheld 256)) (Function Lock) 0x100E0 0 0 ∷ answer (kernel_with four (unheld 256)) (Function TryLock) 0x100E0 0 0 ∷ answer (kernel_with four (unheld 255)) (Function Lock) 0x100E0 0 0 ∷ [] ≡ Some 11 ∷ Some 11 ∷ Some 0 ∷ []
 unfolding serve permits_of payload_of
 errors-full = refl
 

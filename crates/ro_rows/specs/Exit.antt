@@ -1,8 +1,8 @@
 -- The first path: a file of 96 bytes whose program exits with 7, and the journal of its default job.
-use Rattle.std.specs.Prelude.{ℕ, true, false, List, [], ◌∷◌, ◌++◌}
+use Rattle.std.specs.Prelude.{ℕ, true, false, List, [], ◌∷◌, ◌++◌, None, map}
+use Rattle.ro_event.specs.Functions.{functions}
 use Rattle.ro_journal.specs.declared.losers.Lost.TheVariants.{Nobody}
 use Rattle.ro_image.specs.Image.{Image, ranges_with}
-use Rattle.ro_image.specs.Executable.{no_calls}
 use Rattle.ro_journal.specs.declared.Did.TheVariants.{Served}
 use Rattle.ro_journal.specs.declared.How.TheVariants.{Exit}
 use Rattle.ro_journal.specs.declared.Entry.{Entry}
@@ -24,7 +24,7 @@ abbrev pub exit_image : Image
 exit_image = record {
   pieces = record { place = 0x10000; bytes = exit_file } ∷ [];
   ranges = ranges_with (record { start = 0x10000; length = 96; read = true; write = false; execute = true } ∷ []) 0x11000;
-  calls = no_calls;
+  calls = record { addresses = map (λ function. None) functions };
   entry = 0x10054;
   heap = 0x11000;
 }

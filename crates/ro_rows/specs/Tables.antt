@@ -1,6 +1,7 @@
 -- What tables are asked of: each instruction once, files, calls of the kernel, and threads.
-use Rattle.std.specs.Prelude.{ℕ, List, [], ◌∷◌, ◌++◌, Option, Some, None, replicate, slice_set, map, codes}
+use Rattle.std.specs.Prelude.{ℕ, List, [], ◌∷◌, ◌++◌, Option, Some, None, replicate, slice_set, map, find, codes}
 use Rattle.std.specs.List.{flat_map}
+use Rattle.std.specs.Option.{option_map}
 use Rattle.ro_decode.specs.declared.Instr.{Instr}
 use Rattle.ro_decode.specs.declared.Instr.TheVariants.{Lui, Auipc, Jal, Jalr, Branch, Load, Store, AluImm, Alu, MulDiv, Fence, Ecall, Ebreak}
 use Rattle.ro_decode.specs.declared.AluOp.TheVariants.{Add, Sub, Sll, Slt, Sltu, Xor, Srl, Sra, Or, And}
@@ -10,6 +11,7 @@ use Rattle.ro_decode.specs.declared.StoreOp.TheVariants.{Sb, Sh, Sw}
 use Rattle.ro_decode.specs.declared.BranchOp.TheVariants.{Beq, Bne, Blt, Bge, Bltu, Bgeu}
 use Rattle.ro_alu.specs.Results.{muldiv_of}
 use Rattle.ro_event.specs.declared.calls.Which.{Which}
+use Rattle.ro_event.specs.Views.{same_numbers}
 use Rattle.ro_pages.specs.Bytes.{bytes_of, stored}
 use Rattle.ro_mutex.specs.Owners.{Owners}
 use Rattle.ro_kernel.specs.declared.Life.{Life}
@@ -120,19 +122,35 @@ header kind offset address file_size memory_size flags =
 abbrev pub two_headers : (one other : List ℕ) → List ℕ
 two_headers one other = changed exit_file ((28, 96) ∷ (44, 2) ∷ []) ++ one ++ other
 
--- names of functions, in the order of the alphabet, each ended by a zero byte
+-- names of functions, in the order of the alphabet, and where each stands, one at each word from 10000 on
+abbrev pub standing : List (List ℕ × ℕ)
+standing =
+    (codes "pthread_create", 0x10000)
+    ∷ (codes "pthread_exit", 0x10004)
+    ∷ (codes "pthread_join", 0x10008)
+    ∷ (codes "pthread_mutex_destroy", 0x1000C)
+    ∷ (codes "pthread_mutex_init", 0x10010)
+    ∷ (codes "pthread_mutex_lock", 0x10014)
+    ∷ (codes "pthread_mutex_trylock", 0x10018)
+    ∷ (codes "pthread_mutex_unlock", 0x1001C)
+    ∷ (codes "pthread_self", 0x10020)
+    ∷ []
+
+-- where the function with a name stands
+abbrev pub address_named : List ℕ → Option ℕ
+address_named name = option_map (λ (row : List ℕ × ℕ). row.1) (find (λ (row : List ℕ × ℕ). same_numbers row.0 name) standing)
+
+-- the names, each ended by a zero byte
 abbrev pub strings : List ℕ
-strings =
-    flat_map (λ name. name ++ 0 ∷ [])
-    (codes "pthread_create" ∷ codes "pthread_exit" ∷ codes "pthread_join" ∷ codes "pthread_mutex_destroy" ∷ codes "pthread_mutex_init" ∷ codes "pthread_mutex_lock" ∷ codes "pthread_mutex_trylock" ∷ codes "pthread_mutex_unlock" ∷ codes "pthread_self" ∷ [])
+strings = flat_map (λ (row : List ℕ × ℕ). row.0 ++ 0 ∷ []) standing
 
 -- the symbol of a global function of section 1 whose name begins there
 abbrev pub function : (name value : ℕ) → List ℕ
 function name value = bytes_of 4 name ++ bytes_of 4 value ++ bytes_of 4 0 ++ 18 ∷ 0 ∷ 1 ∷ 0 ∷ []
 
--- the nine functions, one at each word from 10000 on
-abbrev pub nine : List (List ℕ)
-nine =
+-- the symbols of these functions
+abbrev pub standing_symbols : List (List ℕ)
+standing_symbols =
     function 0 0x10000 ∷ function 15 0x10004 ∷ function 28 0x10008 ∷ function 41 0x1000C ∷ function 63 0x10010 ∷ function 82 0x10014 ∷ function 101 0x10018 ∷ function 123 0x1001C ∷ function 144 0x10020 ∷ []
 
 -- ---- the kernel

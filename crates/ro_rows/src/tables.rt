@@ -1,8 +1,10 @@
 //! Rows of tables: instructions, checks of files, names, limits, errors, traps and the registers of new threads.
 ghost use Rattle.std.specs.Prelude.{◌≡◌, ◌-◌, ◌^◌, true, false, [], ◌∷◌, ◌++◌, length, map, Some, None, Ok, Err, replicate};
 ghost use Rattle.ro_decode.specs.Table.{instruction_of, word_of};
-ghost use Rattle.ro_event.specs.declared.calls.Which.TheVariants.{System, Create, Join, Exit, ThreadSelf, MutexInit, MutexDestroy, Lock, TryLock, Unlock};
+ghost use Rattle.ro_event.specs.declared.calls.Which.TheVariants.{System, Function};
+ghost use Rattle.ro_event.specs.declared.functions.Function.TheVariants.{Create, Join, Exit, ThreadSelf, MutexInit, MutexDestroy, Lock, TryLock, Unlock};
 ghost use Rattle.ro_event.specs.declared.stops.Stop.TheVariants.{Trap};
+ghost use Rattle.ro_event.specs.Functions.{names};
 ghost use Rattle.ro_event.specs.Table.{call_at};
 ghost use Rattle.ro_region.specs.declared.Kind.TheVariants.{Write, Execute};
 ghost use Rattle.ro_region.specs.Permission.{permits_of};
@@ -15,7 +17,7 @@ ghost use Rattle.ro_image.specs.Executable.{bad_code};
 ghost use Rattle.ro_settings.specs.Ranges.{default_settings};
 ghost use Rattle.ro_simulation.specs.Guests.{exit_guest};
 ghost use Rattle.ro_rows.specs.Exit.{exit_file};
-ghost use Rattle.ro_rows.specs.Tables.{instructions, assembled, results, changed, header, two_headers, strings, function, nine, four, kernel_with, two_held, unheld, answer, next_of};
+ghost use Rattle.ro_rows.specs.Tables.{instructions, assembled, results, changed, header, two_headers, strings, function, standing_symbols, address_named, four, kernel_with, two_held, unheld, answer, next_of};
 
 /// A row: the words of the 48 instructions are those of an assembler, and give the instructions back.
 pub fn instructions_row()
@@ -39,10 +41,10 @@ pub fn checks_row()
     ensures symbols { map (λ symbols. table_with strings (map symbol_in symbols)) ((function 0 0x10000 ∷ function 15 0x10000 ∷ function 157 0x10004 ∷ []) ∷ (function 0 0x10000 ∷ function 15 0x10000 ∷ []) ∷ (function 0 0x10000 ∷ function 0 0x10004 ∷ []) ∷ []) ≡ Err 16 ∷ Err 17 ∷ Err 17 ∷ [] }
 {}
 
-/// A row: each of the nine functions stands where the symbol with its name says.
+/// A row: each function of POSIX threads stands where the symbol with its name says.
 pub fn names_row()
-    ensures table { table_with strings (map symbol_in nine) ≡ Ok (record { addresses = Some 0x10000 ∷ Some 0x10008 ∷ Some 0x10004 ∷ Some 0x10020 ∷ Some 0x10010 ∷ Some 0x1000C ∷ Some 0x10014 ∷ Some 0x10018 ∷ Some 0x1001C ∷ [] }) }
-    ensures calls { map (call_at (record { addresses = Some 0x10000 ∷ Some 0x10008 ∷ Some 0x10004 ∷ Some 0x10020 ∷ Some 0x10010 ∷ Some 0x1000C ∷ Some 0x10014 ∷ Some 0x10018 ∷ Some 0x1001C ∷ [] })) (0x10000 ∷ 0x10004 ∷ 0x10008 ∷ 0x1000C ∷ 0x10010 ∷ 0x10014 ∷ 0x10018 ∷ 0x1001C ∷ 0x10020 ∷ 0x10024 ∷ []) ≡ Some Create ∷ Some Exit ∷ Some Join ∷ Some MutexDestroy ∷ Some MutexInit ∷ Some Lock ∷ Some TryLock ∷ Some Unlock ∷ Some ThreadSelf ∷ None ∷ [] }
+    ensures table { table_with strings (map symbol_in standing_symbols) ≡ Ok (record { addresses = map address_named names }) }
+    ensures calls { map (call_at (record { addresses = Some 0x10000 ∷ Some 0x10008 ∷ Some 0x10004 ∷ Some 0x10020 ∷ Some 0x10010 ∷ Some 0x1000C ∷ Some 0x10014 ∷ Some 0x10018 ∷ Some 0x1001C ∷ [] })) (0x10000 ∷ 0x10004 ∷ 0x10008 ∷ 0x1000C ∷ 0x10010 ∷ 0x10014 ∷ 0x10018 ∷ 0x1001C ∷ 0x10020 ∷ 0x10024 ∷ []) ≡ Some (Function Create) ∷ Some (Function Exit) ∷ Some (Function Join) ∷ Some (Function MutexDestroy) ∷ Some (Function MutexInit) ∷ Some (Function Lock) ∷ Some (Function TryLock) ∷ Some (Function Unlock) ∷ Some (Function ThreadSelf) ∷ None ∷ [] }
 {}
 
 /// A row: the settings that hold where none are given.
@@ -58,10 +60,10 @@ pub fn settings_row()
 /// EDEADLK 35, ENOSYS 38. A system call answers them as negative numbers.
 pub fn errors_row()
     ensures system { answer (kernel_with four []) (System 63) 1 0x100E0 1 ∷ answer (kernel_with four []) (System 64) 0 0x100E0 1 ∷ answer (kernel_with four []) (System 63) 0 0 1 ∷ answer (kernel_with four []) (System 64) 2 0 1 ∷ answer (kernel_with four []) (System 57) 0 0 0 ∷ [] ≡ Some (2 ^ 32 - 9) ∷ Some (2 ^ 32 - 9) ∷ Some (2 ^ 32 - 14) ∷ Some (2 ^ 32 - 14) ∷ Some (2 ^ 32 - 38) ∷ [] }
-    ensures create { answer (kernel_with four []) Create 0x100E0 1 0x10098 ∷ answer (kernel_with four []) Create 0x100E0 0 0x10099 ∷ answer (kernel_with four []) Create 0 0 0x10098 ∷ answer (kernel_with (replicate 16 Live) []) Create 0x100E0 0 0x10098 ∷ answer (kernel_with (replicate 15 Live) []) Create 0x100E0 0 0x10098 ∷ [] ≡ Some 22 ∷ Some 22 ∷ Some 14 ∷ Some 11 ∷ Some 0 ∷ [] }
-    ensures join { answer (kernel_with four []) Join 4 0 0 ∷ answer (kernel_with four []) Join 0 0 0 ∷ answer (kernel_with four []) Join 3 0 0 ∷ answer (kernel_with four []) Join 2 2 0 ∷ answer (kernel_with four []) Join 1 0 0 ∷ answer (kernel_with four []) Join 2 0 0 ∷ [] ≡ Some 3 ∷ Some 35 ∷ Some 3 ∷ Some 14 ∷ None ∷ Some 0 ∷ [] }
-    ensures mutex { answer (kernel_with four two_held) Lock 0 0 0 ∷ answer (kernel_with four two_held) Lock 0x100E4 0 0 ∷ answer (kernel_with four two_held) Lock 0x100E0 0 0 ∷ answer (kernel_with four two_held) TryLock 0x100E0 0 0 ∷ answer (kernel_with four two_held) TryLock 0x100E4 0 0 ∷ answer (kernel_with four two_held) Unlock 0x100E0 0 0 ∷ answer (kernel_with four two_held) Unlock 0x100E8 0 0 ∷ answer (kernel_with four two_held) Unlock 0x100E4 0 0 ∷ [] ≡ Some 14 ∷ Some 35 ∷ None ∷ Some 16 ∷ Some 16 ∷ Some 1 ∷ Some 1 ∷ Some 0 ∷ [] }
-    ensures full { answer (kernel_with four (unheld 256)) Lock 0x100E0 0 0 ∷ answer (kernel_with four (unheld 256)) TryLock 0x100E0 0 0 ∷ answer (kernel_with four (unheld 255)) Lock 0x100E0 0 0 ∷ [] ≡ Some 11 ∷ Some 11 ∷ Some 0 ∷ [] }
+    ensures create { answer (kernel_with four []) (Function Create) 0x100E0 1 0x10098 ∷ answer (kernel_with four []) (Function Create) 0x100E0 0 0x10099 ∷ answer (kernel_with four []) (Function Create) 0 0 0x10098 ∷ answer (kernel_with (replicate 16 Live) []) (Function Create) 0x100E0 0 0x10098 ∷ answer (kernel_with (replicate 15 Live) []) (Function Create) 0x100E0 0 0x10098 ∷ [] ≡ Some 22 ∷ Some 22 ∷ Some 14 ∷ Some 11 ∷ Some 0 ∷ [] }
+    ensures join { answer (kernel_with four []) (Function Join) 4 0 0 ∷ answer (kernel_with four []) (Function Join) 0 0 0 ∷ answer (kernel_with four []) (Function Join) 3 0 0 ∷ answer (kernel_with four []) (Function Join) 2 2 0 ∷ answer (kernel_with four []) (Function Join) 1 0 0 ∷ answer (kernel_with four []) (Function Join) 2 0 0 ∷ [] ≡ Some 3 ∷ Some 35 ∷ Some 3 ∷ Some 14 ∷ None ∷ Some 0 ∷ [] }
+    ensures mutex { answer (kernel_with four two_held) (Function Lock) 0 0 0 ∷ answer (kernel_with four two_held) (Function Lock) 0x100E4 0 0 ∷ answer (kernel_with four two_held) (Function Lock) 0x100E0 0 0 ∷ answer (kernel_with four two_held) (Function TryLock) 0x100E0 0 0 ∷ answer (kernel_with four two_held) (Function TryLock) 0x100E4 0 0 ∷ answer (kernel_with four two_held) (Function Unlock) 0x100E0 0 0 ∷ answer (kernel_with four two_held) (Function Unlock) 0x100E8 0 0 ∷ answer (kernel_with four two_held) (Function Unlock) 0x100E4 0 0 ∷ [] ≡ Some 14 ∷ Some 35 ∷ None ∷ Some 16 ∷ Some 16 ∷ Some 1 ∷ Some 1 ∷ Some 0 ∷ [] }
+    ensures full { answer (kernel_with four (unheld 256)) (Function Lock) 0x100E0 0 0 ∷ answer (kernel_with four (unheld 256)) (Function TryLock) 0x100E0 0 0 ∷ answer (kernel_with four (unheld 255)) (Function Lock) 0x100E0 0 0 ∷ [] ≡ Some 11 ∷ Some 11 ∷ Some 0 ∷ [] }
 {}
 
 /// A row: the nine traps: a misaligned pc, a fetch that is not permitted, no instruction, a misaligned target, a

@@ -8,7 +8,8 @@ use Rattle.std.proofs.lemmas.Option.{option_and_then_some, slice_get_within, get
 use Rattle.ro_decode.specs.declared.Instr.{Instr}
 use Rattle.ro_decode.specs.Table.{instruction_of}
 use Rattle.ro_event.specs.declared.calls.Which.{Which}
-use Rattle.ro_event.specs.declared.calls.Which.TheVariants.{System, Create, Join, Lock, Unlock}
+use Rattle.ro_event.specs.declared.calls.Which.TheVariants.{System, Function}
+use Rattle.ro_event.specs.declared.functions.Function.TheVariants.{Create, Join, Lock, Unlock}
 use Rattle.ro_event.specs.declared.calls.Call.{Call}
 use Rattle.ro_event.specs.declared.effects.Made.{Made}
 use Rattle.ro_event.specs.declared.stops.Stop.TheVariants.{Calls, Trap, PageFault, Watchdog}
@@ -208,7 +209,7 @@ asks which a0 a1 a2 a3 = record { which = which; a0 = a0; a1 = a1; a2 = a2; a3 =
 
 -- a join that stores nothing
 abbrev joins : (a0 a2 a3 : ℕ) → Call
-joins a0 a2 a3 = record { which = Join; a0 = a0; a1 = 0; a2 = a2; a3 = a3 }
+joins a0 a2 a3 = record { which = Function Join; a0 = a0; a1 = 0; a2 = a2; a3 = a3 }
 
 -- a join
 join-fine : (cpu : Cpu) (a0 a2 a3 : ℕ) → ((value t : ℕ) → At true (cpu_after (answer_effect t (joins a0 a2 a3) value) cpu)) → (kernel : Kernel) (t : ℕ) (o : Option Life) → Fine true cpu t (serve_join_at (setup_of locking_guest) kernel t (joins a0 a2 a3) o)
@@ -243,11 +244,11 @@ does k2 = goes _ (λ found. k3) (λ found. refl) refl refl
 does k3 = goes _ (λ found. k4) (λ found. refl) refl refl
 does k4 = goes _ (λ found. k5) (λ found. refl) refl refl
 does k5 = goes _ (λ found. c1) (λ found. refl) refl refl
-does (c1 {sp = sp}) = calls _ (record { served = λ kernel t. fine-cond true _ t _ _ _ (fine-answer true _ t (asks Create 0x100E0 0 0x10098 0x100EC) (λ value. k6) kernel 11) (fine_done refl k6 (λ a w. (refl, within-shared 0x100E0 4 a (lit≤ tt) (lit≤ tt) w)) (λ made n e. made-fine _ made (cpu_at 0x1006C 0x1006C sp 0 0 0x10000 0 0 0 0x10098 0x100EC 0) t n e refl (w0 false))); payload = λ (f : true ≡ false). absurd (true≢false f) })
+does (c1 {sp = sp}) = calls _ (record { served = λ kernel t. fine-cond true _ t _ _ _ (fine-answer true _ t (asks (Function Create) 0x100E0 0 0x10098 0x100EC) (λ value. k6) kernel 11) (fine_done refl k6 (λ a w. (refl, within-shared 0x100E0 4 a (lit≤ tt) (lit≤ tt) w)) (λ made n e. made-fine _ made (cpu_at 0x1006C 0x1006C sp 0 0 0x10000 0 0 0 0x10098 0x100EC 0) t n e refl (w0 false))); payload = λ (f : true ≡ false). absurd (true≢false f) })
 does k6 = goes _ (λ found. k7) (λ found. refl) refl refl
 does k7 = goes _ (λ found. k8) (λ found. refl) refl refl
 does k8 = goes _ (λ found. c2) (λ found. refl) refl refl
-does (c2 {sp = sp}) = calls _ (record { served = λ kernel t. fine-cond true _ t _ _ _ (fine-answer true _ t (asks Create 0x100E4 0 0x10098 0x100ED) (λ value. k9) kernel 11) (fine_done refl k9 (λ a w. (refl, within-shared 0x100E4 4 a (lit≤ tt) (lit≤ tt) w)) (λ made n e. made-fine _ made (cpu_at 0x10078 0x10078 sp 0 0 0x10000 0 0 0 0x10098 0x100ED 0) t n e refl (w0 true))); payload = λ (f : true ≡ false). absurd (true≢false f) })
+does (c2 {sp = sp}) = calls _ (record { served = λ kernel t. fine-cond true _ t _ _ _ (fine-answer true _ t (asks (Function Create) 0x100E4 0 0x10098 0x100ED) (λ value. k9) kernel 11) (fine_done refl k9 (λ a w. (refl, within-shared 0x100E4 4 a (lit≤ tt) (lit≤ tt) w)) (λ made n e. made-fine _ made (cpu_at 0x10078 0x10078 sp 0 0 0x10000 0 0 0 0x10098 0x100ED 0) t n e refl (w0 true))); payload = λ (f : true ≡ false). absurd (true≢false f) })
 does k9 = goes _ (λ found. k10) (λ found. refl) refl refl
 does k10 = goes _ (λ found. k11) (λ found. refl) refl refl
 does k11 = goes _ (λ found. c3) (λ found. refl) refl refl
@@ -263,7 +264,7 @@ does (w0 false) = goes _ (λ found. w1 false) (λ found. refl) refl refl
 does (w1 last) = goes _ (λ found. w2 last) (λ found. refl) refl refl
 does (w2 last) = goes _ (λ found. w3 last) (λ found. refl) refl refl
 does (w3 last) = goes _ (λ found. l1 last) (λ found. refl) refl refl
-does (l1 last) = calls _ (record { served = λ kernel t. lock-fine _ (asks Lock 0x100E8 0 0 0) (λ value u. w4 last) kernel t _; payload = λ f a w. absurd (false≢true w) })
+does (l1 last) = calls _ (record { served = λ kernel t. lock-fine _ (asks (Function Lock) 0x100E8 0 0 0) (λ value u. w4 last) kernel t _; payload = λ f a w. absurd (false≢true w) })
 does (w4 last) = goes _ (λ found. w5 last) (λ found. refl) refl refl
 does (w5 true) = goes _ (λ found. w6 true) (λ found. refl) refl refl
 does (w5 false) = goes _ (λ found. w6 false) (λ found. refl) refl refl
@@ -273,7 +274,7 @@ does (w8 true) = calls _ (record { served = λ kernel t. fine-answer false _ t (
 does (w8 false) = calls _ (record { served = λ kernel t. fine-answer false _ t (asks (System 64) 1 0x100EC 1 0) (λ value. w9 false) kernel 1; payload = λ f a w. above-shared 0x100EC 1 a (lit≤ tt) (touch-one _ w) })
 does (w9 last) = goes _ (λ found. w10 last) (λ found. refl) refl refl
 does (w10 last) = goes _ (λ found. u1 last) (λ found. refl) refl refl
-does (u1 last) = calls _ (record { served = λ kernel t. unlock-fine _ (asks Unlock 0x100E8 (letter last) 1 0) (λ value u. w11 last) kernel t _; payload = λ f a w. absurd (false≢true w) })
+does (u1 last) = calls _ (record { served = λ kernel t. unlock-fine _ (asks (Function Unlock) 0x100E8 (letter last) 1 0) (λ value u. w11 last) kernel t _; payload = λ f a w. absurd (false≢true w) })
 does (w11 last) = goes _ (λ found. w12 last) (λ found. refl) refl refl
 does (w12 last) = goes _ (λ found. e1 last) (λ found. refl) refl refl
 does (e1 last) = calls _ (record { served = λ kernel t. fine-cond false _ t _ _ _ (fine_done refl (e1 last) (λ a w. absurd (none-within 0 a w)) (λ made n (e : None ≡ Some made). absurd cc)) fine_ends; payload = λ f a w. absurd (false≢true w) })

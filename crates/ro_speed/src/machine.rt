@@ -2,7 +2,7 @@
 ghost use Rattle.std.specs.Prelude.{◌≡◌, ◌<◌, ◌^◌};
 ghost use Rattle.ro_exec.specs.Registers.{register};
 
-use ro_event::CallTable;
+use ro_event::{CallTable, FUNCTIONS};
 use ro_exec::{Cpu, Learnt};
 use ro_pages::{Memory, Pages};
 use ro_region::{Range, Regions};
@@ -133,10 +133,10 @@ fn range(start: u32, length: u32, write: bool, execute: bool) -> Range {
     }
 }
 
-/// Nine short functions of POSIX threads, none of which the loops call.
+/// Short functions of POSIX threads, none of which the loops call.
 fn calls() -> CallTable {
-    let mut addresses = [None; 9];
-    for place in 0..9usize {
+    let mut addresses = [None; FUNCTIONS];
+    for place in 0..FUNCTIONS {
         addresses[place] = Some(CODE + 0x3A8 + place as u32 * 12);
     }
     CallTable::new(addresses)

@@ -1,6 +1,6 @@
 //! What each call comes to, row by row.
 
-use ro_event::{Call, Effect, Goes, Made, Which};
+use ro_event::{Call, Effect, Function, Goes, Made, Which};
 use ro_journal::How;
 use ro_kernel::{Kernel, Served, payload_len};
 use ro_region::{Range, Regions};
@@ -28,6 +28,24 @@ const EXIT: Which = Which::System(93);
 const EXIT_GROUP: Which = Which::System(94);
 
 const BRK: Which = Which::System(214);
+
+const CREATE: Which = Which::Function(Function::Create);
+
+const JOIN: Which = Which::Function(Function::Join);
+
+const THREAD_EXIT: Which = Which::Function(Function::Exit);
+
+const THREAD_SELF: Which = Which::Function(Function::ThreadSelf);
+
+const MUTEX_INIT: Which = Which::Function(Function::MutexInit);
+
+const MUTEX_DESTROY: Which = Which::Function(Function::MutexDestroy);
+
+const LOCK: Which = Which::Function(Function::Lock);
+
+const TRYLOCK: Which = Which::Function(Function::TryLock);
+
+const UNLOCK: Which = Which::Function(Function::Unlock);
 
 #[derive(Clone, Copy, Debug)]
 enum Want {
@@ -85,66 +103,61 @@ const SYSTEM_CALLS: &[Row] = &[
 ];
 
 const THREADS_AND_MUTEXES: &[Row] = &[
-    (0, Which::ThreadSelf, [9, 0, 0, 0], Want::Answers(0)),
+    (0, THREAD_SELF, [9, 0, 0, 0], Want::Answers(0)),
     // create: attr, then start, then p
-    (0, Which::Create, [DATA, 1, CODE, 7], Want::Answers(22)),
-    (0, Which::Create, [DATA, 0, CODE + 2, 7], Want::Answers(22)),
-    (0, Which::Create, [0, 0, CODE + 2, 7], Want::Answers(22)),
-    (0, Which::Create, [0, 0, CODE, 7], Want::Answers(14)),
-    (0, Which::Create, [DATA + 2, 0, CODE, 7], Want::Answers(14)),
+    (0, CREATE, [DATA, 1, CODE, 7], Want::Answers(22)),
+    (0, CREATE, [DATA, 0, CODE + 2, 7], Want::Answers(22)),
+    (0, CREATE, [0, 0, CODE + 2, 7], Want::Answers(22)),
+    (0, CREATE, [0, 0, CODE, 7], Want::Answers(14)),
+    (0, CREATE, [DATA + 2, 0, CODE, 7], Want::Answers(14)),
     (
         0,
-        Which::Create,
+        CREATE,
         [DATA, 0, CODE, 7],
         Want::Stores(0, &[1, 0, 0, 0]),
     ),
-    (1, Which::ThreadSelf, [0, 0, 0, 0], Want::Answers(1)),
+    (1, THREAD_SELF, [0, 0, 0, 0], Want::Answers(1)),
     // join: never made, then oneself, then joined, then p
-    (0, Which::Join, [2, 2, 0, 0], Want::Answers(3)),
-    (0, Which::Join, [0, 2, 0, 0], Want::Answers(35)),
-    (0, Which::Join, [1, 2, 0, 0], Want::Answers(14)),
-    (0, Which::Join, [1, CODE, 0, 0], Want::Answers(14)),
-    (0, Which::Join, [1, DATA, 0, 0], Want::Blocks),
-    (0, Which::Join, [1, 0, 0, 0], Want::Blocks),
+    (0, JOIN, [2, 2, 0, 0], Want::Answers(3)),
+    (0, JOIN, [0, 2, 0, 0], Want::Answers(35)),
+    (0, JOIN, [1, 2, 0, 0], Want::Answers(14)),
+    (0, JOIN, [1, CODE, 0, 0], Want::Answers(14)),
+    (0, JOIN, [1, DATA, 0, 0], Want::Blocks),
+    (0, JOIN, [1, 0, 0, 0], Want::Blocks),
     // mutexes: the address, then the owner
-    (0, Which::MutexInit, [DATA + 2, 9, 0, 0], Want::Answers(14)),
-    (0, Which::MutexInit, [DATA, 9, 0, 0], Want::Answers(0)),
-    (0, Which::MutexDestroy, [CODE, 0, 0, 0], Want::Answers(14)),
-    (0, Which::MutexDestroy, [DATA, 0, 0, 0], Want::Answers(0)),
-    (0, Which::Unlock, [CODE, 0, 0, 0], Want::Answers(14)),
-    (0, Which::Unlock, [DATA, 0, 0, 0], Want::Answers(1)),
-    (0, Which::Lock, [CODE, 0, 0, 0], Want::Answers(14)),
-    (0, Which::Lock, [DATA, 0, 0, 0], Want::Answers(0)),
-    (0, Which::Lock, [DATA, 0, 0, 0], Want::Answers(35)),
-    (0, Which::TryLock, [DATA + 1, 0, 0, 0], Want::Answers(14)),
-    (0, Which::TryLock, [DATA, 0, 0, 0], Want::Answers(16)),
-    (1, Which::Lock, [DATA, 0, 0, 0], Want::Blocks),
-    (1, Which::TryLock, [DATA, 0, 0, 0], Want::Answers(16)),
-    (1, Which::Unlock, [DATA, 0, 0, 0], Want::Answers(1)),
-    (0, Which::Unlock, [DATA, 0, 0, 0], Want::Answers(0)),
-    (0, Which::Unlock, [DATA, 0, 0, 0], Want::Answers(1)),
-    (1, Which::TryLock, [DATA, 0, 0, 0], Want::Answers(0)),
+    (0, MUTEX_INIT, [DATA + 2, 9, 0, 0], Want::Answers(14)),
+    (0, MUTEX_INIT, [DATA, 9, 0, 0], Want::Answers(0)),
+    (0, MUTEX_DESTROY, [CODE, 0, 0, 0], Want::Answers(14)),
+    (0, MUTEX_DESTROY, [DATA, 0, 0, 0], Want::Answers(0)),
+    (0, UNLOCK, [CODE, 0, 0, 0], Want::Answers(14)),
+    (0, UNLOCK, [DATA, 0, 0, 0], Want::Answers(1)),
+    (0, LOCK, [CODE, 0, 0, 0], Want::Answers(14)),
+    (0, LOCK, [DATA, 0, 0, 0], Want::Answers(0)),
+    (0, LOCK, [DATA, 0, 0, 0], Want::Answers(35)),
+    (0, TRYLOCK, [DATA + 1, 0, 0, 0], Want::Answers(14)),
+    (0, TRYLOCK, [DATA, 0, 0, 0], Want::Answers(16)),
+    (1, LOCK, [DATA, 0, 0, 0], Want::Blocks),
+    (1, TRYLOCK, [DATA, 0, 0, 0], Want::Answers(16)),
+    (1, UNLOCK, [DATA, 0, 0, 0], Want::Answers(1)),
+    (0, UNLOCK, [DATA, 0, 0, 0], Want::Answers(0)),
+    (0, UNLOCK, [DATA, 0, 0, 0], Want::Answers(1)),
+    (1, TRYLOCK, [DATA, 0, 0, 0], Want::Answers(0)),
     // a thread that exits keeps its mutexes, and is joined once
-    (1, Which::Exit, [0x0403_0201, 0, 0, 0], Want::Exits),
-    (0, Which::Lock, [DATA, 0, 0, 0], Want::Blocks),
-    (0, Which::Join, [1, 2, 0, 0], Want::Answers(14)),
+    (1, THREAD_EXIT, [0x0403_0201, 0, 0, 0], Want::Exits),
+    (0, LOCK, [DATA, 0, 0, 0], Want::Blocks),
+    (0, JOIN, [1, 2, 0, 0], Want::Answers(14)),
+    (0, JOIN, [1, DATA + 8, 0, 0], Want::Stores(0, &[1, 2, 3, 4])),
+    (0, JOIN, [1, 2, 0, 0], Want::Answers(3)),
     (
         0,
-        Which::Join,
-        [1, DATA + 8, 0, 0],
-        Want::Stores(0, &[1, 2, 3, 4]),
-    ),
-    (0, Which::Join, [1, 2, 0, 0], Want::Answers(3)),
-    (
-        0,
-        Which::Create,
+        CREATE,
         [DATA, 0, CODE, 7],
         Want::Stores(0, &[2, 0, 0, 0]),
     ),
-    (2, Which::Exit, [5, 0, 0, 0], Want::Exits),
-    (0, Which::Join, [2, 0, 0, 0], Want::Stores(0, b"")),
+    (2, THREAD_EXIT, [5, 0, 0, 0], Want::Exits),
+    (0, JOIN, [2, 0, 0, 0], Want::Stores(0, b"")),
     // the last thread
-    (0, Which::Exit, [5, 0, 0, 0], Want::Ends(0)),
+    (0, THREAD_EXIT, [5, 0, 0, 0], Want::Ends(0)),
 ];
 
 fn regions(alloc: Global) -> Result<Regions, AllocError> {
@@ -251,7 +264,7 @@ fn serves_threads_and_mutexes(rt: HostRuntime) -> Result<(), Fail> {
 #[test]
 fn makes_16_threads(rt: HostRuntime) -> Result<(), Fail> {
     let mut kernel = kernel(rt.alloc(), b"")?;
-    let create = call(Which::Create, [DATA, 0, CODE, 7]);
+    let create = call(CREATE, [DATA, 0, CODE, 7]);
     let wanted = Made {
         start: CODE,
         argument: 7,
@@ -269,9 +282,9 @@ fn makes_16_threads(rt: HostRuntime) -> Result<(), Fail> {
         &rt,
         &mut kernel,
         &[
-            (0, Which::Create, [DATA, 0, CODE, 7], Want::Answers(11)),
-            (0, Which::Create, [0, 0, CODE, 7], Want::Answers(14)),
-            (0, Which::Create, [DATA, 1, CODE, 7], Want::Answers(22)),
+            (0, CREATE, [DATA, 0, CODE, 7], Want::Answers(11)),
+            (0, CREATE, [0, 0, CODE, 7], Want::Answers(14)),
+            (0, CREATE, [DATA, 1, CODE, 7], Want::Answers(22)),
         ],
     )?;
     Ok(())
@@ -284,27 +297,17 @@ fn holds_256_mutexes(rt: HostRuntime) -> Result<(), Fail> {
         check(
             &rt,
             &mut kernel,
-            &[(
-                0,
-                Which::Lock,
-                [DATA + 4 * place, 0, 0, 0],
-                Want::Answers(0),
-            )],
+            &[(0, LOCK, [DATA + 4 * place, 0, 0, 0], Want::Answers(0))],
         )?;
     }
     check(
         &rt,
         &mut kernel,
         &[
-            (0, Which::Lock, [DATA + 0x800, 0, 0, 0], Want::Answers(11)),
-            (
-                0,
-                Which::TryLock,
-                [DATA + 0x800, 0, 0, 0],
-                Want::Answers(11),
-            ),
-            (0, Which::Lock, [CODE, 0, 0, 0], Want::Answers(14)),
-            (0, Which::Lock, [DATA, 0, 0, 0], Want::Answers(35)),
+            (0, LOCK, [DATA + 0x800, 0, 0, 0], Want::Answers(11)),
+            (0, TRYLOCK, [DATA + 0x800, 0, 0, 0], Want::Answers(11)),
+            (0, LOCK, [CODE, 0, 0, 0], Want::Answers(14)),
+            (0, LOCK, [DATA, 0, 0, 0], Want::Answers(35)),
         ],
     )?;
     Ok(())
@@ -320,7 +323,7 @@ fn puts_out_what_may_be_read(rt: HostRuntime) -> Result<(), Fail> {
         (WRITE, [1, DATA, 0, 0], 0),
         (WRITE, [1, NOWHERE, 1, 0], 0),
         (READ, [1, DATA, 4, 0], 0),
-        (Which::Lock, [1, DATA, 4, 0], 0),
+        (LOCK, [1, DATA, 4, 0], 0),
     ] {
         assert_eq!(rt;
             payload_len(&regions, call(which, arguments)),

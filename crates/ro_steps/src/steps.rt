@@ -1,5 +1,5 @@
 //! One instruction each: what it executes, and where a thread stands. Traps are named by their numbers.
-use ro_event::{Call, CallTable, Stop, Which};
+use ro_event::{Call, CallTable, FUNCTIONS, Function, Stop, Which};
 use ro_exec::{Cpu, Step, step};
 use ro_pages::{Memory, Pages};
 use ro_region::{Range, Regions};
@@ -39,7 +39,7 @@ fn regions(alloc: Global) -> Result<Regions, AllocError> {
 }
 
 fn calls() -> CallTable {
-    let mut addresses = [None; 9];
+    let mut addresses = [None; FUNCTIONS];
     addresses[0] = Some(CREATE);
     CallTable::new(addresses)
 }
@@ -250,7 +250,7 @@ const STANDING: &[(u32, Stop)] = &[
     (
         0x7FFF_FFF0,
         Stop::Calls(Call {
-            which: Which::Exit,
+            which: Which::Function(Function::Exit),
             a0: 10,
             a1: 11,
             a2: 12,
@@ -260,7 +260,7 @@ const STANDING: &[(u32, Stop)] = &[
     (
         CREATE,
         Stop::Calls(Call {
-            which: Which::Create,
+            which: Which::Function(Function::Create),
             a0: 10,
             a1: 11,
             a2: 12,

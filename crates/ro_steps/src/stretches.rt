@@ -1,5 +1,5 @@
 //! The stretch that a run keeps, and the rows that a quick step does itself. What it does is proved; that it does it is not.
-use ro_event::CallTable;
+use ro_event::{CallTable, FUNCTIONS};
 use ro_exec::{Bank, Cpu, NONE, Open, Stretch, quick_step, step};
 use ro_pages::{Memory, Pages};
 use ro_region::{Kind, Range, Regions};
@@ -37,7 +37,7 @@ fn regions(alloc: Global) -> Result<Regions, AllocError> {
 }
 
 fn calls() -> CallTable {
-    let mut addresses = [None; 9];
+    let mut addresses = [None; FUNCTIONS];
     addresses[6] = Some(CALL);
     CallTable::new(addresses)
 }

@@ -1,5 +1,5 @@
 //! Runs of a thread over a small loop: three turns of a store, a count down and a branch, and then a word that stops.
-use ro_event::{Call, CallTable, Stop, Which};
+use ro_event::{Call, CallTable, FUNCTIONS, Function, Stop, Which};
 use ro_exec::{Cpu, Learnt};
 use ro_pages::{Memory, Pages};
 use ro_region::{Range, Regions};
@@ -50,7 +50,7 @@ fn small_guest(alloc: Global) -> Result<Guest, AllocError> {
         range(DATA, 4, true, false),
         range(UNBACKED, 0x1000, true, true),
     ];
-    let mut addresses = [None; 9];
+    let mut addresses = [None; FUNCTIONS];
     addresses[4] = Some(CODE + 0x18);
     Ok(Guest {
         regions: Regions::new(alloc, &ranges)?,
@@ -192,8 +192,14 @@ fn stops_where_it_jumps(rt: HostRuntime) -> Result<(), Fail> {
     let guest = small_guest(rt.alloc())?;
     let mut pages = memory(&rt, rt.alloc(), JUMP)?;
     for (x7, stop) in [
-        (CODE + 0x18, Stop::Calls(call(Which::MutexInit))),
-        (0x7FFF_FFF0, Stop::Calls(call(Which::Exit))),
+        (
+            CODE + 0x18,
+            Stop::Calls(call(Which::Function(Function::MutexInit))),
+        ),
+        (
+            0x7FFF_FFF0,
+            Stop::Calls(call(Which::Function(Function::Exit))),
+        ),
         (DATA, Stop::Trap(2)),
         (UNBACKED, Stop::PageFault(0x12)),
     ] {

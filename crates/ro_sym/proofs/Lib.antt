@@ -1,3 +1,4 @@
 pub mod Rows
 pub mod Among
 pub mod Ends
+pub mod Strings

@@ -1,27 +1,14 @@
 -- The call table of an executable, or the code by which its symbols are refused.
-use Rattle.std.specs.Prelude.{ℕ, Bool, true, false, ◌&&◌, List, [], ◌∷◌, ◌++◌, Option, Some, None, Result, Ok, Err, map, codes, ◌==◌, if◌then◌else◌}
+use Rattle.std.specs.Prelude.{ℕ, Bool, true, false, ◌&&◌, List, [], ◌∷◌, ◌++◌, Option, Some, None, Result, Ok, Err, map, ◌==◌, if◌then◌else◌}
 use Rattle.std.specs.List.{list_all}
 use Rattle.ro_elf.specs.declared.header.SectionTable.{SectionTable}
 use Rattle.ro_event.specs.declared.table.CallTable.{CallTable}
+use Rattle.ro_event.specs.Functions.{names}
 use Rattle.ro_sym.specs.Sections.{Functions, functions_of}
 use Rattle.ro_sym.specs.Symbols.{symbol_in, are_ended, place_of}
 use Rattle.ro_sym.specs.declared.symbols.Symbol.{Symbol}
 use Rattle.ro_sym.specs.declared.symbols.Place.{Place}
 use Rattle.ro_sym.specs.declared.symbols.Place.TheVariants.{At, Several}
-
--- the nine names, in the order of the call table
-abbrev pub names : List (List ℕ)
-names =
-    codes "pthread_create"
-    ∷ codes "pthread_join"
-    ∷ codes "pthread_exit"
-    ∷ codes "pthread_self"
-    ∷ codes "pthread_mutex_init"
-    ∷ codes "pthread_mutex_destroy"
-    ∷ codes "pthread_mutex_lock"
-    ∷ codes "pthread_mutex_trylock"
-    ∷ codes "pthread_mutex_unlock"
-    ∷ []
 
 -- where the functions with each name stand
 abbrev pub places_of : (strings : List ℕ) → List Symbol → List Place
@@ -63,7 +50,7 @@ abbrev pub table_among : Result Functions ℕ → Result CallTable ℕ
 table_among (Ok functions) = table_with functions.strings (map symbol_in functions.symbols)
 table_among (Err code) = Err code
 
--- The call table of a file: the value of each of the nine names among its function symbols. Code 16, where the symbols and
--- their names aren't as they must be, else 17, where a name has two values or two have one.
+-- The call table of a file: the value of each of the names of POSIX threads among its function symbols. Code 16, where the
+-- symbols and their names aren't as they must be, else 17, where a name has two values or two have one.
 unfoldable pub calls_of : List ℕ → SectionTable → Result CallTable ℕ
 calls_of bytes sections = table_among (functions_of bytes sections)

@@ -1,4 +1,4 @@
-//! The functions that an executable names: where its symbols put each of the nine of POSIX threads, or why its symbols are
+//! The functions that an executable names: where its symbols put each of those of POSIX threads, or why its symbols are
 //! refused; and which function an address lies in. Nothing here takes memory.
 #![tactic(auto)]
 

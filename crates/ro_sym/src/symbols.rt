@@ -1,5 +1,5 @@
 //! Function symbols and their names.
-ghost use Rattle.std.specs.Prelude.{◌≡◌, ◌==◌, ℕ, ◌<◌, ◌≤◌, IfSome, nat_lt, length, map, find, drop, position, nat_eq};
+ghost use Rattle.std.specs.Prelude.{◌≡◌, ◌==◌, ℕ, ◌≤◌, [], ◌∷◌, ◌++◌, IfSome, nat_lt, length, map, find, drop, position, nat_eq};
 ghost use Rattle.std.specs.List.{list_all, position_or_len, starts_with};
 ghost use Rattle.ro_sym.specs.Symbols.{symbol_in, is_function, is_ended, is_below, are_ended, is_called, agrees, place_of, holds, is_around, string_at};
 
@@ -71,18 +71,16 @@ impl Symbol {
         !self.is_defined_function() || (self.name as usize) < place
     }
 
-    // Whether it is a function with a name, which is given with the zero byte behind it.
-    fn has_name(&self, strings: &[u8], name: &[u8]) -> bool
-        requires { 0 < length name.now }
-        ensures { result ≡ is_called strings.now name.now self.now }
+    // Whether it is a function with a name, which a zero byte ends.
+    fn has_name(&self, strings: &[u8], name: &str) -> bool
+        ensures { result ≡ is_called strings.now (name.now ++ 0 ∷ []) self.now }
     {
         self.is_defined_function() && stands_at(strings, self.name as usize, name)
     }
 
     // Whether it has a value, where it is a function with a name.
-    fn has_value(&self, strings: &[u8], name: &[u8], value: u32) -> bool
-        requires { 0 < length name.now }
-        ensures { result ≡ agrees strings.now name.now value self.now }
+    fn has_value(&self, strings: &[u8], name: &str, value: u32) -> bool
+        ensures { result ≡ agrees strings.now (name.now ++ 0 ∷ []) value self.now }
     {
         !self.has_name(strings, name) || self.value == value
     }
@@ -115,12 +113,21 @@ fn ended_size(strings: &[u8]) -> usize
     size
 }
 
-// Whether a text stands at a place.
-fn stands_at(strings: &[u8], place: usize, text: &[u8]) -> bool
-    requires { 0 < length text.now }
-    ensures { result ≡ starts_with nat_eq (drop place strings.now) text.now }
+// Whether a text stands at a place, and a zero byte behind it.
+#[tactic(auto, using(crate::proofs::Strings::starts_with_behind))]
+fn stands_at(strings: &[u8], place: usize, text: &str) -> bool
+    ensures { result ≡ starts_with nat_eq (drop place strings.now) (text.now ++ 0 ∷ []) }
 {
-    place < strings.len() && strings[place..].starts_with(text)
+    let text = text.as_bytes();
+    let string = bytes_from(strings, place);
+    string.starts_with(text) && is_zero(string, text.len())
+}
+
+// Whether a zero byte stands at a place.
+fn is_zero(bytes: &[u8], place: usize) -> bool
+    ensures { result ≡ starts_with nat_eq (drop place bytes.now) (0 ∷ []) }
+{
+    place < bytes.len() && bytes[place] == 0
 }
 
 // Whether the names of all functions are ended.
@@ -141,9 +148,8 @@ fn all_below(symbols: &[[u8; SYMBOL_SIZE]], place: usize) -> bool
 }
 
 // The first function with a name.
-fn find_called(symbols: &[[u8; SYMBOL_SIZE]], strings: &[u8], name: &[u8]) -> Option<Symbol>
-    requires { 0 < length name.now }
-    ensures { result ≡ find (is_called strings.now name.now) (map symbol_in symbols.now) }
+fn find_called(symbols: &[[u8; SYMBOL_SIZE]], strings: &[u8], name: &str) -> Option<Symbol>
+    ensures { result ≡ find (is_called strings.now (name.now ++ 0 ∷ [])) (map symbol_in symbols.now) }
 {
     symbols
         .iter()
@@ -152,9 +158,8 @@ fn find_called(symbols: &[[u8; SYMBOL_SIZE]], strings: &[u8], name: &[u8]) -> Op
 }
 
 // Whether each function with a name has a value.
-fn all_at(symbols: &[[u8; SYMBOL_SIZE]], strings: &[u8], name: &[u8], value: u32) -> bool
-    requires { 0 < length name.now }
-    ensures { result ≡ list_all (agrees strings.now name.now value) (map symbol_in symbols.now) }
+fn all_at(symbols: &[[u8; SYMBOL_SIZE]], strings: &[u8], name: &str, value: u32) -> bool
+    ensures { result ≡ list_all (agrees strings.now (name.now ++ 0 ∷ []) value) (map symbol_in symbols.now) }
 {
     symbols
         .iter()
@@ -162,10 +167,9 @@ fn all_at(symbols: &[[u8; SYMBOL_SIZE]], strings: &[u8], name: &[u8], value: u32
         .all(|symbol| symbol.has_value(strings, name, value))
 }
 
-// The value of the functions with a name, which is given with the zero byte behind it.
-pub(crate) fn find_place(symbols: &[[u8; SYMBOL_SIZE]], strings: &[u8], name: &[u8]) -> Place
-    requires { 0 < length name.now }
-    ensures { result ≡ place_of strings.now (map symbol_in symbols.now) name.now }
+// The value of the functions with a name.
+pub(crate) fn find_place(symbols: &[[u8; SYMBOL_SIZE]], strings: &[u8], name: &str) -> Place
+    ensures { result ≡ place_of strings.now (map symbol_in symbols.now) (name.now ++ 0 ∷ []) }
 {
     let Some(first) = find_called(symbols, strings, name) else {
         return Place::Nowhere;

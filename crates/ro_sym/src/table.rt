@@ -7,10 +7,7 @@ ghost use Rattle.ro_sym.specs.Calls.{places_of, is_one, differs, are_different, 
 use crate::sections::{SYMBOL_SIZE, find_functions};
 use crate::symbols::{Place, find_place, names_end};
 use ro_elf::{BadExe, Elf};
-use ro_event::CallTable;
-
-/// How many functions of POSIX threads there are.
-const FUNCTIONS: usize = 9;
+use ro_event::{CallTable, FUNCTIONS, Function};
 
 impl Place {
     // Whether functions with one name have one value.
@@ -48,9 +45,9 @@ impl Place {
     }
 }
 
-/// The addresses of the nine functions of POSIX threads in an executable, whose headers were read from the same bytes: the
-/// values of the function symbols with their names, in the first symbol table. Which symbols are local, weak or global isn't
-/// looked at.
+/// The addresses of the functions of POSIX threads in an executable, whose headers were read from the same bytes: the values
+/// of the function symbols with their names, in the first symbol table. Which symbols are local, weak or global isn't looked
+/// at.
 ///
 /// # Errors
 /// Code 16, exactly where the section headers, the symbols or their names aren't as they must be (ELF32); else code 17,
@@ -82,17 +79,11 @@ fn table_in(symbols: &[[u8; SYMBOL_SIZE]], strings: &[u8]) -> Result<CallTable, 
 fn find_places(symbols: &[[u8; SYMBOL_SIZE]], strings: &[u8]) -> [Place; FUNCTIONS]
     ensures { result ≡ places_of strings.now (map symbol_in symbols.now) }
 {
-    [
-        find_place(symbols, strings, b"pthread_create\0"),
-        find_place(symbols, strings, b"pthread_join\0"),
-        find_place(symbols, strings, b"pthread_exit\0"),
-        find_place(symbols, strings, b"pthread_self\0"),
-        find_place(symbols, strings, b"pthread_mutex_init\0"),
-        find_place(symbols, strings, b"pthread_mutex_destroy\0"),
-        find_place(symbols, strings, b"pthread_mutex_lock\0"),
-        find_place(symbols, strings, b"pthread_mutex_trylock\0"),
-        find_place(symbols, strings, b"pthread_mutex_unlock\0"),
-    ]
+    let mut places = [Place::Nowhere; FUNCTIONS];
+    for i in 0..FUNCTIONS {
+        places[i] = find_place(symbols, strings, Function::at(i).name());
+    }
+    places
 }
 
 // Whether each name has one value at most, and no value two names.
@@ -122,16 +113,9 @@ fn all_different(places: &[Place]) -> bool
 fn call_table(places: &[Place; FUNCTIONS]) -> CallTable
     ensures { result ≡ table_of places.now }
 {
-    let [a, b, c, d, e, f, g, h, i] = *places;
-    CallTable::new([
-        a.address(),
-        b.address(),
-        c.address(),
-        d.address(),
-        e.address(),
-        f.address(),
-        g.address(),
-        h.address(),
-        i.address(),
-    ])
+    let mut addresses = [None; FUNCTIONS];
+    for i in 0..FUNCTIONS {
+        addresses[i] = places[i].address();
+    }
+    CallTable::new(addresses)
 }

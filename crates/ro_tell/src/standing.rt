@@ -2,7 +2,7 @@
 use crate::places::{instruction_at, place_at};
 use ro_audit::{Kept, Trail};
 use ro_core::Core;
-use ro_event::{Call, Which};
+use ro_event::{Call, Function, Which};
 use ro_findings::{Standing, State, Trapped, Waiting};
 use ro_journal::{Did, Entry};
 use ro_kernel::Kernel;
@@ -55,11 +55,11 @@ fn state_of(core: &Core<Kept>, thread: u32) -> State {
         return State::Unblocked;
     };
     match call.which {
-        Which::Lock => State::Locks {
+        Which::Function(Function::Lock) => State::Locks {
             mutex: call.a0,
             owner: owner(core.kernel(), call),
         },
-        Which::Join => State::Joins(call.a0),
+        Which::Function(Function::Join) => State::Joins(call.a0),
         _ => State::Blocked,
     }
 }

@@ -1,5 +1,6 @@
 -- The parts are lemmas.
-use Rattle.ro_event.specs.declared.calls.Which.TheVariants.{Lock, Unlock}
+use Rattle.ro_event.specs.declared.calls.Which.TheVariants.{Function}
+use Rattle.ro_event.specs.declared.functions.Function.TheVariants.{Lock, Unlock}
 use Rattle.ro_orders.proofs.Worked.{at-free, at-own, at-another, at-unlock, at-wrong-unlock, at-first}
 use Rattle.ro_orders.proofs.rows.turn_row.Goals as goal
 
@@ -19,7 +20,7 @@ pub returns-clause-of_another : goal.returns-clause-of_another
 returns-clause-of_another c = at-wrong-unlock
 
 pub returns-clause-first_lock : goal.returns-clause-first_lock
-returns-clause-first_lock c = at-first Lock
+returns-clause-first_lock c = at-first (Function Lock)
 
 pub returns-clause-first_unlock : goal.returns-clause-first_unlock
-returns-clause-first_unlock c = at-first Unlock
+returns-clause-first_unlock c = at-first (Function Unlock)

@@ -1,6 +1,7 @@
-use Rattle.std.proofs.Common.{rules, arith, ap, sym, ◌∙◌, ◌≡◌, ◌+◌, take}
+use Rattle.std.proofs.Common.{rules, arith, ap, sym, ◌∙◌, ◌≡◌, ◌+◌, take, length}
 use Rattle.std.specs.List.{list_any}
 use Rattle.ro_event.specs.Addresses.{Addresses, is_at}
+use Rattle.ro_event.specs.Functions.{functions}
 use Rattle.ro_event.proofs.Filter.{none_in, none_more, none_here}
 use Rattle.ro_event.proofs.table.CallTable.clear_around.Goals as goal
 
@@ -25,5 +26,5 @@ loop-i-preserved c = record {
 
 pub returns-clause-clear : goal.returns-clause-clear
 returns-clause-clear c p l h =
-    let last : 9 ≡ c.loop-i.i = omega arith in
+    let last : length functions ≡ c.loop-i.i = omega arith in
     none_in c.args.self.now p (ap (λ i. list_any (is_at p) (take i c.args.self.now.addresses)) last ∙ c.loop-i.invariant.clear p l h)

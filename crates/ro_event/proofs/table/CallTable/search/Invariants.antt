@@ -1,5 +1,6 @@
 use Rattle.std.proofs.Common.{◌≡◌, drop}
-use Rattle.ro_event.specs.Table.{functions, function_at}
+use Rattle.ro_event.specs.Functions.{functions}
+use Rattle.ro_event.specs.Table.{function_at}
 use Rattle.ro_event.proofs.table.CallTable.search.Given as goal
 
 abbrev pub invariant-loop-i : goal.invariant-loop-i

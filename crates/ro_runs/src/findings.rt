@@ -1,6 +1,6 @@
 //! What is told of findings, in sentences and as JSON; and what is found of two journals.
 use ro_audit::Why;
-use ro_event::{Call, Function, Stop, Which};
+use ro_event::{Call, Stop, Which};
 use ro_findings::{
     Ended, Field, Findings, Function, Instruction, Place, Split, Standing, State, Trapped, Verdict,
     Waiting,
@@ -191,7 +191,7 @@ fn waiting_threads(rt: HostRuntime) -> Result<(), Fail> {
 
 // The call of a lock.
 const LOCK: Call = Call {
-    which: Which::Function(Function::Lock),
+    which: Which::Function(ro_event::Function::Lock),
     a0: 0x10100,
     a1: 0,
     a2: 0,

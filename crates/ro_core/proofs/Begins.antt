@@ -1,12 +1,14 @@
 -- The fields of a run at its opening.
 use Rattle.std.proofs.Common.{◌≡◌, ◌⊎◌, inl, inr, ℕ, zero, suc, ◌<◌, ◌≤◌, List, [], ◌∷◌, ◌++◌, length, Option, Some, None, refl, sym, ap, ◌∙◌, subst, arith}
-use Rattle.std.specs.Prelude.{replicate, slice_get}
+use Rattle.std.specs.Prelude.{false, not, replicate, slice_get}
+use Rattle.std.specs.Option.{option_map_or}
 use Rattle.std.proofs.lemmas.Option.{slice_get_within}
 use Rattle.ro_journal.specs.Plan.{outcome_of}
 use Rattle.ro_event.specs.declared.calls.Call.{Call}
 use Rattle.ro_faults.specs.declared.Fault.{Fault}
 use Rattle.ro_image.specs.Image.{Image}
 use Rattle.ro_kernel.specs.Kernel.{opening_kernel}
+use Rattle.ro_kernel.specs.Serve.{blocks}
 use Rattle.ro_plain.specs.Machine.{setup_of}
 use Rattle.ro_replica.specs.Replica.{Replica, opening_replica}
 use Rattle.ro_replica.specs.Seen.{ReplicaOf, IsOpening}
@@ -14,13 +16,14 @@ use Rattle.ro_settings.specs.Ranges.{InRange}
 use Rattle.ro_legal.specs.Streaks.{no_streak}
 use Rattle.ro_legal.specs.Core.{Job, Core, opening_replicas, opening_core}
 use Rattle.ro_legal.specs.Legal.{Legal, replay}
-use Rattle.ro_core.specs.Fields.{Seated, AreSeated, one_end, Fields, blocked_at, Holds}
+use Rattle.ro_core.specs.Fields.{Seated, AreSeated, one_end, Fields, blocked_at, is_unblocked, first_unblocked, Holds}
 use Rattle.ro_core.specs.Grouped.{AreGrouped}
 use Rattle.ro_core.specs.Opening.{IsFirst, AreFirst, NoneStands}
 use Rattle.ro_legal.proofs.Lists.{get-within, get-append-cases}
 use Rattle.ro_legal.proofs.Ordered.{length-opening, get-opening}
 use Rattle.ro_core.proofs.Grouped.{opening-grouped}
 use Rattle.ro_core.proofs.Held.{no-views}
+use Rattle.ro_core.proofs.Tests.{lowest-never}
 
 pub first-push : (image : Image) (faults : List Fault) (watchdog : ℕ) (seats : List (Option ReplicaOf)) (seat : Option ReplicaOf) → AreFirst image faults watchdog seats → IsFirst image faults watchdog (length seats) seat → AreFirst image faults watchdog (seats ++ seat ∷ [])
 first-push image faults watchdog seats seat h first number other e = by (get-append-cases seats seat number other e)
@@ -54,10 +57,10 @@ nothing-blocked (suc n) (suc thread) = nothing-blocked n thread
 
 pub opening-holds : (f : Fields) → InRange f.job.settings → f.journal ≡ [] → AreFirst f.job.program.image f.job.faults f.job.settings.watchdog f.seats → length f.seats ≡ f.job.settings.replicas
     → f.leases ≡ [] → f.kernel.setup ≡ setup_of f.job.program → f.kernel.kernel ≡ opening_kernel f.job.program.image.heap
-    → f.blocked ≡ replicate 16 None → f.steps ≡ 0 → f.scrubbed ≡ 0 → f.streak ≡ no_streak → f.due ≡ None → f.ended ≡ None → f.sent ≡ 0 → f.wrote ≡ 0
+    → f.blocked ≡ replicate 16 None → f.unblocked ≡ None → f.steps ≡ 0 → f.scrubbed ≡ 0 → f.streak ≡ no_streak → f.due ≡ None → f.ended ≡ None → f.sent ≡ 0 → f.wrote ≡ 0
     → length f.views ≡ f.job.settings.replicas → NoneStands f.job.settings.replicas f.groups → 1 ≤ f.places → Holds f
 unfolding opening_core
-opening-holds f in_range journal first count leases setup kernel blocked steps scrubbed streak due ended sent wrote views none room =
+opening-holds f in_range journal first count leases setup kernel blocked unblocked steps scrubbed streak due ended sent wrote views none room =
     let core : replay f.job f.journal ≡ opening_core f.job = ap (replay f.job) journal in
     record {
       in_range = in_range;
@@ -67,6 +70,7 @@ opening-holds f in_range journal first count leases setup kernel blocked steps s
       kernel_is = kernel ∙ sym (ap (λ (x : Core). x.kernel) core);
       blocked_count = ap length blocked;
       blocked_are = λ t. ap (λ (bs : List (Option Call)). blocked_at bs t) blocked ∙ nothing-blocked 16 t ∙ sym (ap (λ (x : Core). x.blocked t) core);
+      unblocked_is = unblocked ∙ sym (ap (first_unblocked f.kernel) blocked ∙ lowest-never (is_unblocked f.kernel.setup f.kernel.kernel (replicate 16 None)) (length f.kernel.kernel.lives) (λ t. ap (λ (o : Option Call). option_map_or (λ call. not (blocks f.kernel.setup f.kernel.kernel t call)) o false) (nothing-blocked 16 t)));
       steps_are = steps ∙ sym (ap (λ (x : Core). x.steps) core);
       scrubbed_are = scrubbed ∙ sym (ap (λ (x : Core). x.scrubbed) core);
       streak_is = streak ∙ sym (ap (λ (x : Core). x.streak) core);

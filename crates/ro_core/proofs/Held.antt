@@ -7,11 +7,12 @@ use Rattle.ro_journal.specs.declared.Entry.TheVariants.{End}
 use Rattle.ro_journal.specs.Plan.{outcome_of}
 use Rattle.ro_event.specs.Views.{View}
 use Rattle.ro_settings.specs.Ranges.{InRange}
+use Rattle.ro_kernel.specs.State.{State}
 use Rattle.ro_plain.specs.Machine.{setup_of}
 use Rattle.ro_legal.specs.Core.{Job, Core, is_going}
 use Rattle.ro_legal.specs.Legal.{after, IsAllowed, Legal, replay}
 use Rattle.ro_core.specs.Seen.{CoreOf, KeepsViews}
-use Rattle.ro_core.specs.Fields.{AreSeated, one_end, Fields, core_in, blocked_at, CountsBytes, Holds}
+use Rattle.ro_core.specs.Fields.{AreSeated, one_end, Fields, core_in, blocked_at, first_unblocked, CountsBytes, Holds}
 use Rattle.ro_core.specs.Grouped.{AreGrouped}
 use Rattle.ro_legal.proofs.Journals.{outcome_of-append, replay_more, legal_more}
 use Rattle.ro_legal.proofs.Ordered.{going-parts}
@@ -53,6 +54,7 @@ pub record Becomes (f f' : Fields) (entry : Entry) : Type 0 where
   pub kernel : f'.kernel.kernel ≡ (after f.job (core_in f) entry).kernel
   pub blocked_count : length f'.blocked ≡ 16
   pub blocked : (thread : ℕ) → blocked_at f'.blocked thread ≡ (after f.job (core_in f) entry).blocked thread
+  pub unblocked : f'.unblocked ≡ first_unblocked f'.kernel f'.blocked
   pub steps : f'.steps ≡ (after f.job (core_in f) entry).steps
   pub scrubbed : f'.scrubbed ≡ (after f.job (core_in f) entry).scrubbed
   pub streak : f'.streak ≡ (after f.job (core_in f) entry).streak
@@ -78,6 +80,7 @@ module _ (f f' : Fields) (entry : Entry) (h : Holds f) (allowed : IsAllowed f.jo
     kernel_is = b.kernel ∙ sym (ap (λ (c : Core). c.kernel) core_is);
     blocked_count = b.blocked_count;
     blocked_are = λ t. b.blocked t ∙ sym (ap (λ (c : Core). c.blocked t) core_is);
+    unblocked_is = b.unblocked;
     steps_are = b.steps ∙ sym (ap (λ (c : Core). c.steps) core_is);
     scrubbed_are = b.scrubbed ∙ sym (ap (λ (c : Core). c.scrubbed) core_is);
     streak_is = b.streak ∙ sym (ap (λ (c : Core). c.streak) core_is);
@@ -90,6 +93,11 @@ module _ (f f' : Fields) (entry : Entry) (h : Holds f) (allowed : IsAllowed f.jo
     views_kept = subst (λ (j : Job). KeepsViews j f'.journal f'.views) (sym b.job) (subst (λ (js : List Entry). KeepsViews f.job js f'.views) (sym b.journal) b.views_kept);
     room = b.room;
   }
+
+-- no event came
+pub same-unblocked : (f f' : Fields) → Holds f → f'.kernel ≡ f.kernel → f'.blocked ≡ f.blocked → f'.unblocked ≡ f.unblocked → f'.unblocked ≡ first_unblocked f'.kernel f'.blocked
+same-unblocked f f' h kernel blocked unblocked =
+    unblocked ∙ h.unblocked_is ∙ ap (first_unblocked f.kernel) (sym blocked) ∙ ap (λ (k : State). first_unblocked k f'.blocked) (sym kernel)
 
 -- no byte is written
 pub same-counts : (f f' : Fields) → Holds f → (core : Core) → core.output ≡ (core_in f).output → core.wrote ≡ 0 → f'.sent ≡ f.sent → f'.wrote ≡ 0 → f'.steps ≡ f.steps → CountsBytes f'.sent f'.wrote f'.steps core

@@ -25,7 +25,7 @@ use Rattle.std.proofs.lemmas.Option.{slice_get_within}
 use Rattle.ro_legal.proofs.Grants.{lent-go, lent-thread}
 use Rattle.ro_core.proofs.Grouped.{put-grouped}
 use Rattle.ro_legal.proofs.Ordered.{ordered}
-use Rattle.ro_core.proofs.Held.{no-views, no-outcome, same-counts, holds-step}
+use Rattle.ro_core.proofs.Held.{no-views, no-outcome, same-counts, same-unblocked, holds-step}
 use Rattle.ro_core.proofs.Takes.{Rest}
 
 pub found_driver : (driver : ℕ) (leases : List Lease) (lease : Lease) → find (λ l. l.driver == driver) leases ≡ Some lease → lease.driver ≡ driver
@@ -110,6 +110,7 @@ module _ (f : Fields) (h : Holds f) (driver replica thread count hit : ℕ) (all
         kernel = ap (λ (k : State). k.kernel) r.kernel ∙ h.kernel_is ∙ sym (ap (λ (c : Core). c.kernel) is);
         blocked_count = ap length r.blocked ∙ h.blocked_count;
         blocked = λ t. ap (λ (bs : List (Option Call)). blocked_at bs t) r.blocked ∙ h.blocked_are t ∙ sym (ap (λ (c : Core). c.blocked t) is);
+        unblocked = same-unblocked f f' h r.kernel r.blocked r.unblocked;
         steps = r.steps ∙ h.steps_are ∙ sym (ap (λ (c : Core). c.steps) is);
         scrubbed = r.scrubbed ∙ h.scrubbed_are ∙ sym (ap (λ (c : Core). c.scrubbed) is);
         streak = r.streak ∙ h.streak_is ∙ sym (ap (λ (c : Core). c.streak) is);

@@ -25,7 +25,7 @@ use Rattle.ro_core.proofs.Homes.{seat_there, take_seated}
 use Rattle.ro_core.specs.Grouped.{AreGrouped}
 use Rattle.ro_legal.proofs.Ordered.{going-parts}
 use Rattle.ro_legal.proofs.Counted.{counted}
-use Rattle.ro_core.proofs.Held.{Goes, goes, no-views, no-outcome, same-counts, holds-step}
+use Rattle.ro_core.proofs.Held.{Goes, goes, no-views, no-outcome, same-counts, same-unblocked, holds-step}
 
 one-end-le : (o : Option How) → one_end o ≤ 1
 one-end-le None = omega arith
@@ -41,6 +41,7 @@ pub record Rest (f f' : Fields) : Type 0 where
   pub job : f'.job ≡ f.job
   pub kernel : f'.kernel ≡ f.kernel
   pub blocked : f'.blocked ≡ f.blocked
+  pub unblocked : f'.unblocked ≡ f.unblocked
   pub steps : f'.steps ≡ f.steps
   pub scrubbed : f'.scrubbed ≡ f.scrubbed
   pub streak : f'.streak ≡ f.streak
@@ -79,6 +80,7 @@ module _ (f : Fields) (h : Holds f) (driver replica thread : ℕ) (allowed : May
     kernel = ap (λ (k : State). k.kernel) r.kernel ∙ h.kernel_is;
     blocked_count = ap length r.blocked ∙ h.blocked_count;
     blocked = λ t. ap (λ (bs : List (Option Call)). blocked_at bs t) r.blocked ∙ h.blocked_are t;
+    unblocked = same-unblocked f f' h r.kernel r.blocked r.unblocked;
     steps = r.steps ∙ h.steps_are;
     scrubbed = r.scrubbed ∙ h.scrubbed_are;
     streak = r.streak ∙ h.streak_is;

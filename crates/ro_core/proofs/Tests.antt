@@ -9,7 +9,7 @@ use Rattle.ro_event.specs.declared.calls.Call.{Call}
 use Rattle.ro_event.specs.declared.stops.Stop.{Stop}
 use Rattle.ro_thread.specs.declared.Thread.{Thread}
 use Rattle.ro_kernel.specs.declared.Life.{Life}
-use Rattle.ro_kernel.specs.Kernel.{Kernel, live_option, lives_on}
+use Rattle.ro_kernel.specs.Kernel.{Setup, Kernel, live_option, lives_on}
 use Rattle.ro_kernel.specs.Serve.{blocks}
 use Rattle.ro_plain.specs.Machine.{setup_of}
 use Rattle.ro_replica.specs.Replica.{Replica, stop_of}
@@ -23,7 +23,7 @@ use Rattle.ro_legal.specs.declared.actions.Streak.{Streak}
 use Rattle.ro_legal.specs.Streaks.{is_long, comes_last}
 use Rattle.ro_legal.specs.Action.{or_else, lowest_below, map_action, threads_made, is_turn, may_vote_in, may_lend_in, lend_in, lend_turn, turn_next}
 use Rattle.ro_core.specs.Seen.{IsOfJob}
-use Rattle.ro_core.specs.Fields.{Seated, AreSeated, AreHome, seat_unstopped, Fields, core_in, blocked_at, Holds}
+use Rattle.ro_core.specs.Fields.{Seated, AreSeated, AreHome, seat_unstopped, Fields, core_in, blocked_at, is_unblocked, Holds}
 use Rattle.ro_core.specs.Grouped.{seat_stopped}
 use Rattle.ro_group.specs.Groups.{is_ready}
 use Rattle.ro_core.proofs.Grouped.{ready-all}
@@ -59,10 +59,16 @@ lowest-none test zero fails = refl
 lowest-none test (suc n) fails =
     ap (λ (o : Option ℕ). or_else o (cond (test n) (Some n) None)) (lowest-none test n (λ k less. fails k (omega arith))) ∙ ap (λ (b : Bool). cond b (Some n) None) (fails n (omega arith))
 
-lowest-never : (test : ℕ → Bool) (n : ℕ) → ((k : ℕ) → test k ≡ false) → lowest_below n test ≡ None
+pub lowest-never : (test : ℕ → Bool) (n : ℕ) → ((k : ℕ) → test k ≡ false) → lowest_below n test ≡ None
 lowest-never test zero never = refl
 lowest-never test (suc n) never =
     ap (λ (o : Option ℕ). or_else o (cond (test n) (Some n) None)) (lowest-never test n never) ∙ ap (λ (b : Bool). cond b (Some n) None) (never n)
+
+-- of two tests that pass the same numbers
+lowest-same : (test other : ℕ → Bool) (n : ℕ) → ((k : ℕ) → test k ≡ other k) → lowest_below n test ≡ lowest_below n other
+lowest-same test other zero same = refl
+lowest-same test other (suc n) same =
+    ap (λ (o : Option ℕ). or_else o (cond (test n) (Some n) None)) (lowest-same test other n same) ∙ ap (λ (b : Bool). or_else (lowest_below n other) (cond b (Some n) None)) (same n)
 
 -- a core that does not go on, or has lent something, frees nobody, and votes on nobody
 pub none-freed : (job : Job) (core : Core) (n : ℕ) → (is_going core && nothing_lent core) ≡ false → lowest_below n (may_free job core) ≡ None
@@ -187,6 +193,19 @@ module _ (f : Fields) (h : Holds f) where
 
   pub made-is : threads_made (core_in f) ≡ length f.kernel.kernel.lives
   made-is = ap (λ (k : Kernel). length k.lives) kernel-is
+
+  -- what is left of the test of a free where the core goes on and has lent nothing
+  free-same : (is_going (core_in f) && nothing_lent (core_in f)) ≡ true → (thread : ℕ) → is_unblocked f.kernel.setup f.kernel.kernel f.blocked thread ≡ may_free f.job (core_in f) thread
+  free-same idle thread =
+      ap (λ (s : Setup). option_map_or (λ call. not (blocks s f.kernel.kernel thread call)) (blocked_at f.blocked thread) false) h.setup_is
+      ∙ ap (λ (k : Kernel). option_map_or (λ call. not (blocks (setup_of f.job.program) k thread call)) (blocked_at f.blocked thread) false) h.kernel_is
+      ∙ ap (λ (o : Option Call). option_map_or (λ call. not (blocks (setup_of f.job.program) (core_in f).kernel thread call)) o false) (h.blocked_are thread)
+      ∙ ap (λ (b : Bool). b && option_map_or (λ call. not (blocks (setup_of f.job.program) (core_in f).kernel thread call)) ((core_in f).blocked thread) false) (sym idle)
+
+  pub freed-is : (is_going (core_in f) && nothing_lent (core_in f)) ≡ true → f.unblocked ≡ lowest_below (threads_made (core_in f)) (may_free f.job (core_in f))
+  freed-is idle =
+      h.unblocked_is ∙ lowest-same (is_unblocked f.kernel.setup f.kernel.kernel f.blocked) (may_free f.job (core_in f)) (length f.kernel.kernel.lives) (free-same idle)
+      ∙ ap (λ (n : ℕ). lowest_below n (may_free f.job (core_in f))) (sym made-is)
 
   -- and of a lease, by the seat in its place
   pub lendable-at : (replica thread : ℕ) → replica < length (core_in f).replicas → (seat_unstopped thread (slice_index_or f.seats replica None) && lives_on f.kernel.kernel thread) ≡ is_lendable (core_in f) replica thread

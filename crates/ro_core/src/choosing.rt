@@ -1,15 +1,18 @@
 //! What the core does next.
-ghost use Rattle.std.specs.Prelude.{◌≡◌, ◌<◌, ◌&&◌, ℕ, None, length, true, false};
+ghost use Rattle.std.specs.Prelude.{◌≡◌, ◌<◌, ◌&&◌, ℕ, None, length, not, true, false};
+ghost use Rattle.std.specs.Option.{option_map_or};
+ghost use Rattle.ro_kernel.specs.Serve.{blocks};
 ghost use Rattle.ro_legal.specs.Core.{is_going, nothing_lent, is_lendable, may_vote, may_free};
 ghost use Rattle.ro_legal.specs.Legal.{is_stuck, may_scrub};
 ghost use Rattle.ro_legal.specs.Streaks.{is_long};
 ghost use Rattle.ro_legal.specs.Action.{lowest_below, threads_made, may_vote_in, may_lend_in, lend_turn, turn_next, lend_next, first_action, is_scrub_due, scrub_action, next_action as next};
-ghost use Rattle.ro_core.specs.Fields.{Holds};
+ghost use Rattle.ro_core.specs.Fields.{first_unblocked, Holds};
 ghost use Rattle.ro_core.specs.Runs.{fields_of, job_of, state_of};
 
-use crate::runs::Run;
+use crate::runs::{Run, THREADS};
 use ro_event::Call;
 use ro_journal::How;
+use ro_kernel::Kernel;
 use ro_legal::Action;
 
 impl Run {
@@ -133,12 +136,7 @@ impl Run {
         if !self.is_idle() {
             return None;
         }
-        for thread in 0..self.kernel.made() {
-            if self.can_free(thread) {
-                return Some(thread);
-            }
-        }
-        None
+        self.unblocked
     }
 
     // The lowest thread that can be voted on and doesn't come last.
@@ -301,5 +299,27 @@ impl Run {
         ensures { result ≡ is_lendable (state_of self.now) replica thread }
     {
         self.seats.is_unstopped(replica, thread) && self.kernel.lives_on(thread)
+    }
+}
+
+/// The lowest thread whose call, on which it is blocked, no longer blocks.
+pub(crate) fn lowest_unblocked(kernel: &Kernel, blocked: &[Option<Call>; THREADS]) -> Option<u32>
+    ensures { result ≡ first_unblocked kernel.now blocked.now }
+{
+    for thread in 0..kernel.made() {
+        if goes_on(kernel, thread, blocked[thread as usize]) {
+            return Some(thread);
+        }
+    }
+    None
+}
+
+// Whether a call on which a thread is blocked, if it is, no longer blocks.
+fn goes_on(kernel: &Kernel, thread: u32, blocked: Option<Call>) -> bool
+    ensures { result ≡ option_map_or (λ call. not (blocks kernel.now.setup kernel.now.kernel thread call)) blocked false }
+{
+    match blocked {
+        Some(call) => kernel.ready(thread, call),
+        None => false,
     }
 }

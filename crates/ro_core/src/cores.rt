@@ -221,6 +221,7 @@ impl<K: Sink> Core<K> {
             leases: _,
             kernel: _,
             blocked: _,
+            unblocked: _,
             steps: _,
             scrubbed: _,
             streak: _,

@@ -61,6 +61,7 @@ impl Run {
                 leases: Vec::new(alloc),
                 kernel: opening.kernel,
                 blocked: [None; THREADS],
+                unblocked: None,
                 steps: 0,
                 scrubbed: 0,
                 streak: Streak::new(),

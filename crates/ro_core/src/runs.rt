@@ -34,6 +34,8 @@ pub(crate) struct Run {
     pub kernel: Kernel,
     /// Of each thread the voted call on which it is blocked.
     pub blocked: [Option<Call>; THREADS],
+    /// The lowest thread whose call no longer blocks. Only an event changes which one that is.
+    pub unblocked: Option<u32>,
     /// The length of the plan so far.
     pub steps: u64,
     /// How long it was at the last scrub.

@@ -8,6 +8,7 @@ ghost use Rattle.ro_core.specs.Seen.{Appends, IsOfMajority, Stays};
 ghost use Rattle.ro_legal.specs.Decides.{DecidesVote, DecidesFree, IsSplit};
 ghost use Rattle.ro_core.specs.Runs.{fields_of, job_of, state_of, silent, payload_by, MakesRoom, IsHeld, CanOccur, LastWrote};
 
+use crate::choosing::lowest_unblocked;
 use crate::events::{Coming, Event, serve};
 use crate::runs::Run;
 use ro_journal::{Entry, How};
@@ -208,6 +209,7 @@ impl Run {
         self.journal.push_reserved(entry);
         self.streak = streak;
         self.blocked[thread as usize] = event.blocked;
+        self.unblocked = lowest_unblocked(&self.kernel, &self.blocked);
         self.steps += steps;
         self.sent += written as u64;
         self.wrote = written as u32;

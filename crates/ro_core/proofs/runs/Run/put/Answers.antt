@@ -53,7 +53,7 @@ returns-clause-holds c =
     let room = put-room f c.requires.holds c.args.driver r.lease.replica r.lease.thread c.args.ran.count c.args.ran.hit r.allowed in
     put-holds f c.requires.holds c.args.driver r.lease.replica r.lease.thread c.args.ran.count c.args.ran.hit r.allowed _ c.args.lent r.program
     r.became
-    (record { job = refl; kernel = refl; blocked = refl; steps = refl; scrubbed = refl; streak = refl; sent = refl; due = refl; ended = refl; views = refl }) refl
+    (record { job = refl; kernel = refl; blocked = refl; unblocked = refl; steps = refl; scrubbed = refl; streak = refl; sent = refl; due = refl; ended = refl; views = refl }) refl
     (c.push_reserved.ensures.items ∙ ap (λ (l : Lease). f.journal ++ Put c.args.driver l.replica l.thread c.args.ran.count c.args.ran.hit ∷ []) (sym same))
     (c.give_back.ensures.items ∙ ap (λ d. filter (λ (l : Lease). not (is_lease d c.in-Some.lease.replica c.in-Some.lease.thread l)) f.leases) driver
     ∙ ap (λ (k : Lease). filter (λ (l : Lease). not (is_lease c.args.driver k.replica k.thread l)) f.leases) (sym same))

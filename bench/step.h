@@ -284,7 +284,7 @@ static void add_heap_and_stacks(Regions *regions, int place, uint32_t heap) {
         regions->ranges[place + 1 + i] = (Range){STACKS_START + i * STACK_STEP, STACK_SIZE, {1, 1, 0}};
 }
 
-// Makes an address one of the nine calls.
+// Makes an address one of the calls.
 static void add_call(Calls *calls, int place, uint32_t address) {
     calls->addresses[place] = address;
     calls->filter |= (uint64_t)1 << (address / 4 % 64);

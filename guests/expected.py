@@ -74,6 +74,21 @@ def totals():
     return b"sum %d\nlargest %d\nnumbers %d\n" % (sum(numbers) % 2**32, max(numbers), len(numbers))
 
 
+def squares():
+    numbers = [int(word) for word in given("queue").split()]
+    return b"squares %d\nnumbers %d\n" % (sum(number * number for number in numbers) % 2**32, len(numbers))
+
+
+def cells():
+    """Rows of cells, each from the one before by rule 110, of a ring whose last cell alone is set."""
+    width, rows = 64, 16
+    born = {"110", "101", "011", "010", "001"}
+    row = "0" * (width - 1) + "1"
+    for _ in range(rows):
+        row = "".join(str(int(row[i - 1] + row[i] + row[(i + 1) % width] in born)) for i in range(width))
+        yield row.translate(str.maketrans("01", ".#")).encode() + b"\n"
+
+
 def expected():
     """Of each guest its output and its status."""
     count = given("lines").count(b"\n")
@@ -87,6 +102,8 @@ def expected():
         "ledger": (b"".join(digests()), 0),
         "parallel_sum": (totals(), 0),
         "polling": (b"The count is there.\n", 0),
+        "queue": (squares(), 0),
+        "barrier": (b"".join(cells()), 0),
         "lines": (b"%d\n" % count, count % 256),
     }
 

@@ -25,10 +25,10 @@ LEFT, RIGHT, WIDTH = 96, 24, 1100  # margins and the whole width, in pixels
 LANE, BAR, GAP, HEAD, FOOT = 18, 10, 10, 22, 26  # a lane's height, a bar's, between threads, above and below a line's lanes
 LEAST, MOST, MIDDLE = 10, 180, 48  # widths of what lies between two marks: the least, the most, that of the median
 STRETCH, END = 8, 80  # how much wider a run of few marks is drawn, and the room for its end's words
-COLOURS = {"served": "#2171b5", "blocked": "#e6890a", "mapped": "#6a51a3", "watch": "#8c8c8c", "trapped": "#a50f15",
-           "free": "#238b45", "scrub": "#d4449c"}
-MEANS = {"served": "call served", "blocked": "call waits", "mapped": "page needed", "watch": "watchdog", "trapped": "trap",
-         "free": "a waiting call served", "scrub": "scrub, all replicas compared whole"}
+COLOURS = {"served": "#2171b5", "blocked": "#e6890a", "parked": "#8c510a", "mapped": "#6a51a3", "watch": "#8c8c8c",
+           "trapped": "#a50f15", "free": "#238b45", "scrub": "#d4449c"}
+MEANS = {"served": "call served", "blocked": "call waits", "parked": "mutex left, call waits", "mapped": "page needed",
+         "watch": "watchdog", "trapped": "trap", "free": "a waiting call served", "scrub": "scrub, all replicas compared whole"}
 RED, GREY, RUNS, LOST = "#d62728", "#666666", "#9ecae1", "#f4a6a6"
 OVERVIEW = 34  # the height of the overview
 
@@ -361,7 +361,7 @@ class Picture:
         line, x = self.scale.place(mark.at)
         x, rows = x + LEFT, {lane: y for lane, y in self.rows[line].items() if mark.is_on(lane)}
         low, high = self.tops[line] + min(rows.values()) + 1, self.tops[line] + max(rows.values()) + LANE - 1
-        dashes = {"stroke_dasharray": "3 2"} if mark.what in ("blocked", "watch") else {}
+        dashes = {"stroke_dasharray": "3 2"} if mark.what in ("blocked", "parked", "watch") else {}
         self.add("line", title(mark.title), x1=number(x), y1=number(low), x2=number(x), y2=number(high),
                  stroke=COLOURS.get(mark.what, "#000000"), stroke_width=6 if mark.thread is None else 2, **dashes)
         for copy in mark.copies:

@@ -1,4 +1,4 @@
-// All that a guest of Romain may ask of its kernel: four system calls, and nine functions of POSIX threads. The names of
+// All that a guest of Romain may ask of its kernel: four system calls, and fourteen functions of POSIX threads. The names of
 // the standard are in the headers of the standard's names, which this one stands above. docs/GUESTS.md says what each call
 // answers; there is no C library.
 #ifndef ROMAIN_H

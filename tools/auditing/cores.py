@@ -3,7 +3,7 @@ after the definitions and for no speed, so that one shows an error of the other.
 import dataclasses
 
 from auditing.jobs import Entry, Fault, Job
-from auditing.kernel import Blocked, Call, Done, Effect, Ends, Kernel, Served, opening_kernel
+from auditing.kernel import Blocked, Call, Done, Effect, Ends, Kernel, Parked, Served, opening_kernel
 from auditing.replicas import Change, PageFault, Replica, Stands, Stop, Trap, View
 from fuzzing.machine import PAGE
 from journals import Free, Put, Scrub, Take, Vote
@@ -19,7 +19,7 @@ def needs(holds: bool, why: str):
 
 
 PARTS = [*(f"x{number}" for number in range(1, 32)), "pc", "since", "stop", "payload"]  # of a view, as they are told
-STEPS = {"served": 1, "trapped": 1, "blocked": 0, "mapped": 0, "watch": 0}  # that an event itself adds to the plan
+STEPS = {"served": 1, "trapped": 1, "parked": 1, "blocked": 0, "mapped": 0, "watch": 0}  # that an event itself adds to the plan
 
 
 @dataclasses.dataclass
@@ -143,9 +143,9 @@ class Core:
                 and all(self.stop_of(replica, thread) is not None for replica in self.replicas))
 
     def may_free(self, thread: int) -> bool:
-        """Nothing is lent, and the call on which the thread is blocked no longer blocks."""
+        """Nothing is lent, and the call on which the thread is blocked can be served."""
         return (self.is_going() and not self.leases and thread in self.blocked
-                and not self.kernel.blocks(thread, self.blocked[thread]))
+                and self.kernel.serves(thread, self.blocked[thread]))
 
     def may_scrub(self) -> bool:
         """Nothing is lent and nothing can be: every thread that lives stands still in every replica."""
@@ -208,6 +208,8 @@ class Core:
             return Event("served", served.kernel, served.effect, payload)
         if isinstance(served, Blocked):
             return Event("blocked", self.kernel, Effect(thread), blocked=call)
+        if isinstance(served, Parked):
+            return Event("parked", served.kernel, Effect(thread), blocked=call)
         return Event("served", served.kernel, Effect(thread), due=f"exit {served.status}")
 
     def occur(self, thread: int, count: int, event: Event):

@@ -58,13 +58,27 @@ class Blocked:
 
 
 @dataclasses.dataclass
+class Parked:
+    """The kernel changes, and the call waits."""
+    kernel: "Kernel"
+
+
+@dataclasses.dataclass
 class Ends:
     """The program ends with this status."""
     kernel: "Kernel"
     status: int
 
 
-Served = Done | Blocked | Ends
+Served = Done | Blocked | Parked | Ends
+
+
+@dataclasses.dataclass(frozen=True)
+class Waiter:
+    """A thread that waits for a condition variable. Its mutex stands in its call."""
+    thread: int
+    condition: int
+    signalled: bool = False
 
 
 def moved(call: Call) -> int:
@@ -85,12 +99,18 @@ class Kernel:
     owners: dict[int, int | None]  # of each mutex that was ever locked
     broken: int  # the program's break
     taken: int = 0  # how much of the input was read
+    waiters: tuple[Waiter, ...] = ()  # in the order in which they began to wait
 
     def lives_on(self, thread: int) -> bool:
         return thread < len(self.lives) and self.lives[thread] is Life.LIVE
 
-    def blocks(self, thread: int, call: Call) -> bool:
-        return isinstance(self.serve(thread, call), Blocked)
+    def waiter(self, thread: int) -> Waiter | None:
+        """The thread as one that waits for a condition variable."""
+        return next((waiter for waiter in self.waiters if waiter.thread == thread), None)
+
+    def serves(self, thread: int, call: Call) -> bool:
+        """Whether all of the call would be done now."""
+        return isinstance(self.serve(thread, call), Done | Ends)
 
     def serve(self, thread: int, call: Call) -> Served:
         """What comes of a thread's call. The kernel itself stays as it is; a new one is answered."""
@@ -99,6 +119,8 @@ class Kernel:
             return calling.system()
         if call.which.startswith("pthread_mutex_"):
             return calling.on_mutex(call.which.removeprefix("pthread_mutex_"))
+        if call.which.startswith("pthread_cond_"):
+            return calling.on_condition(call.which.removeprefix("pthread_cond_"))
         return {"pthread_create": calling.create, "pthread_join": calling.join, "pthread_exit": calling.exit,
                 "pthread_self": lambda: calling.answers(thread)}[call.which]()
 
@@ -217,3 +239,35 @@ class Calling:
         if mutex not in owners and len(owners) >= MOST_MUTEXES:
             return self.answers(EAGAIN)
         return self.answers(0, owners=owners | {mutex: self.thread})
+
+    # ---- Condition variables
+
+    def on_condition(self, what: str) -> Served:
+        """A condition variable is its address, too."""
+        if not self.kernel.machine.room(self.call.a0):
+            return self.answers(EFAULT)
+        if what == "wait":
+            return self.wait()
+        if what in ("init", "destroy"):
+            return self.answers(0)
+        waiters = self.kernel.waiters
+        waiting = [waiter for waiter in waiters if waiter.condition == self.call.a0 and not waiter.signalled]
+        woken = waiting[:1] if what == "signal" else waiting
+        return self.answers(0, waiters=tuple(
+            dataclasses.replace(waiter, signalled=True) if waiter in woken else waiter for waiter in waiters))
+
+    def wait(self) -> Served:
+        """Two steps: the mutex becomes free and the thread waits; later, signalled, it takes the mutex."""
+        kernel, condition, mutex, waiter = self.kernel, self.call.a0, self.call.a1, self.kernel.waiter(self.thread)
+        if not kernel.machine.room(mutex):
+            return self.answers(EFAULT)
+        owner = kernel.owners.get(mutex)
+        if waiter is None:
+            if owner != self.thread:
+                return self.answers(EPERM)
+            return Parked(dataclasses.replace(kernel, owners=kernel.owners | {mutex: None},
+                                              waiters=(*kernel.waiters, Waiter(self.thread, condition))))
+        if not waiter.signalled or owner is not None:
+            return Blocked()
+        return self.answers(0, owners=kernel.owners | {mutex: self.thread},
+                            waiters=tuple(other for other in kernel.waiters if other != waiter))

@@ -16,7 +16,7 @@ def core_behind(job: Job, entries: list[Entry]) -> Core:
 
 def reason_of(core: Core, entry: Entry) -> dict:
     """Of an entry that is not allowed; the core is of no use behind it."""
-    if (core.ended or "").startswith("sink "):
+    if core.ended:
         return {"reason": "behind"}
     if isinstance(entry, Take):
         return {"reason": "not_lendable"}

@@ -100,7 +100,25 @@ def waiting_told(core: Core, thread: int) -> dict:
         return {"thread": thread, "state": "unblocked"}
     if call.which == "pthread_join":
         return {"thread": thread, "state": "joins", "other": call.a0}
+    if call.which == "pthread_cond_wait":
+        return {"thread": thread, "state": "waits", "condition": call.a0, "signalled": core.kernel.waiter(thread).signalled,
+                "mutex": call.a1, "owner": core.kernel.owners[call.a1]}
     return {"thread": thread, "state": "locks", "mutex": call.a0, "owner": core.kernel.owners[call.a0]}
+
+
+def waiting_line(core: Core, thread: int) -> str:
+    """The sentence of the same."""
+    told = waiting_told(core, thread)
+    holds = "" if told.get("owner") is None else f", which thread {told['owner']} holds"
+    waits = {
+        "exited": lambda: "has exited",
+        "unblocked": lambda: "is not blocked",
+        "joins": lambda: f"waits until thread {told['other']} has exited",
+        "locks": lambda: f"waits for the mutex at {told['mutex']:08x}{holds}",
+        "waits": lambda: (f"waits for the condition at {told['condition']:08x}, "
+                          f"{'' if told['signalled'] else 'not '}signalled, to hold the mutex at {told['mutex']:08x}{holds}"),
+    }
+    return f"Thread {thread} {waits[told['state']]()}."
 
 
 def trap_told(core: Core, entries: list[Entry]) -> dict:

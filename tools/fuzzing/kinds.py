@@ -251,7 +251,8 @@ class Journals:
             for replica in range(3):
                 lines += [b"take 0 %d 0" % replica, b"put 0 %d 0 %d 0" % (replica, steps)]
             lines += [b"scrub 0 %s" % draw.choice((b"-", b"1", b"1,2"))] * draw.choice((0, 0, 1))
-            lines.append(b"vote 0 %d 0 %s served" % (steps, draw.choice((b"-", b"1", b"2"))))
+            did = draw.choice((b"served", b"served", b"parked"))  # each a step
+            lines.append(b"vote 0 %d 0 %s %s" % (steps, draw.choice((b"-", b"1", b"2")), did))
         return b"\n".join(lines + [draw.choice((b"end exit 7", b"end limit 5 6", b"end sink 3", b"free 0"))]) + b"\n"
 
     def draw(self, draw):

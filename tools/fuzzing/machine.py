@@ -170,6 +170,8 @@ class Machine:
             raise Several
         if not self.room(a0):
             return EFAULT
+        if name.startswith(b"pthread_cond_"):
+            return self.condition_call(name, a1)
         held = self.owners.get(a0, False)
         if name in (b"pthread_mutex_lock", b"pthread_mutex_trylock"):
             if held:
@@ -182,6 +184,16 @@ class Machine:
                 return EPERM
             self.owners[a0] = False
         return 0
+
+    def condition_call(self, name, mutex):
+        """The same of a condition variable: nobody waits for it, and whoever does waits for ever."""
+        if name != b"pthread_cond_wait":
+            return 0
+        if not self.room(mutex):
+            return EFAULT
+        if not self.owners.get(mutex, False):
+            return EPERM
+        raise Ended("deadlock")
 
     # ---- Steps
 

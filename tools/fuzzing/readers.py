@@ -9,7 +9,8 @@ import struct
 LOWEST, HIGHEST = 0x10000, 0x40000000
 MOST_MEMORY = 4 << 20
 NAMES = [b"pthread_" + name for name in (b"create", b"join", b"exit", b"self", b"mutex_init", b"mutex_destroy", b"mutex_lock",
-                                         b"mutex_trylock", b"mutex_unlock")]
+                                         b"mutex_trylock", b"mutex_unlock", b"cond_init", b"cond_destroy", b"cond_wait",
+                                         b"cond_signal", b"cond_broadcast")]
 
 
 def half(data, place):
@@ -217,6 +218,7 @@ def run_of(words):
 # ---- Journals
 
 DIDS = [b"served", b"blocked", b"mapped", b"watch", b"trapped"]
+STEPS = [b"served", b"trapped", b"parked"]  # of what a vote did, what is a step itself
 HOWS = {b"exit": [(0, 255)], b"deadlock": [], b"trap": [(1, 9)], b"limit": [(0, 10**12)] * 2, b"differ": [], b"no-majority": [],
         b"sink": [(0, 4095)]}
 HEADS = {b"romain 1": (0, 2), b"romain 2": (0, 4)}  # the numbers of replicas by the first line
@@ -250,6 +252,11 @@ def losers_of(word, replica):
     return losers, rise
 
 
+def dids_of(replica):
+    """What a vote may have done. The first version has no `parked`."""
+    return [*DIDS, b"parked"] if replica == HEADS[b"romain 2"] else DIDS
+
+
 def entry_code(words, replica):
     """The code by which a journal's line is refused, where numbers of replicas have this range, or None."""
     kind, fields = words[0], words[1:]
@@ -259,7 +266,7 @@ def entry_code(words, replica):
         return 1
     ranges, rise = entries_of(replica)[kind], True
     if kind == b"vote":
-        if len(fields) != 5 or fields.pop() not in DIDS:
+        if len(fields) != 5 or fields.pop() not in dids_of(replica):
             return 1
     if kind in (b"vote", b"scrub"):
         if len(fields) != len(ranges) + 1:
@@ -294,6 +301,6 @@ def plan_of(entries):
     """The steps of a journal: pairs of a thread and how many steps of it follow each other."""
     for kind, *fields in entries:
         if kind == b"vote":
-            yield int(fields[0]), int(fields[1]) + (fields[4] in (b"served", b"trapped"))
+            yield int(fields[0]), int(fields[1]) + (fields[4] in STEPS)
         elif kind == b"free":
             yield int(fields[0]), 1

@@ -37,6 +37,14 @@ class Thread:
 
 
 @dataclasses.dataclass
+class Waiter:
+    """A thread between the two steps of a wait for a condition variable."""
+    thread: int
+    condition: int
+    signalled: bool = False
+
+
+@dataclasses.dataclass
 class Step:
     thread: int
     pc: int
@@ -87,6 +95,7 @@ class Replay(Machine):
             raise Refused(f"exe {code}")
         super().__init__(file, functions, data, watchdog=0, limit=0)
         self.threads = [Thread(self.registers, self.pc)]
+        self.waiters: list[Waiter] = []  # in the order of their first steps
         self.ended: str | None = None
         self.now = Step(0, self.pc, ())
 
@@ -183,9 +192,14 @@ class Replay(Machine):
             answer = self.create(x, *x[10:14])
         elif name == "pthread_join":
             answer = self.join(number, *x[10:12])
+        elif not self.room(x[10]):
+            answer = EFAULT
+        elif name.startswith("pthread_cond_"):
+            answer = self.on_condition(name.removeprefix("pthread_cond_"), number, *x[10:12])
         else:
-            answer = self.on_mutex(name.removeprefix("pthread_mutex_"), number, x[10]) if self.room(x[10]) else EFAULT
-        x[10], thread.pc = answer, x[1]
+            answer = self.on_mutex(name.removeprefix("pthread_mutex_"), number, x[10])
+        if answer is not None:
+            x[10], thread.pc = answer, x[1]
 
     def means(self, relation: Relation, subject: int) -> int:
         """The answer 0, of a step that means this for the order."""
@@ -238,6 +252,31 @@ class Replay(Machine):
             raise NoStep
         if mutex not in self.owners and len(self.owners) == MOST_MUTEXES:
             return EAGAIN
+        self.owners[mutex] = caller
+        return self.means(Relation.LOCKS, mutex)
+
+    def on_condition(self, what: str, caller: int, condition: int, mutex: int) -> int | None:
+        """What it answers; of the first step of a wait None, which leaves the thread at its call."""
+        if what == "wait":
+            return self.wait(caller, condition, mutex) if self.room(mutex) else EFAULT
+        waiting = [waiter for waiter in self.waiters if waiter.condition == condition and not waiter.signalled]
+        for waiter in {"signal": waiting[:1], "broadcast": waiting}.get(what, []):
+            waiter.signalled = True
+        return 0
+
+    def wait(self, caller: int, condition: int, mutex: int) -> int | None:
+        waiter = next((waiter for waiter in self.waiters if waiter.thread == caller), None)
+        owner = self.owners.get(mutex)
+        if waiter is None:
+            if owner != caller:
+                return EPERM
+            self.owners[mutex] = None
+            self.waiters.append(Waiter(caller, condition))
+            self.means(Relation.UNLOCKS, mutex)
+            return None
+        if not waiter.signalled or owner is not None:
+            raise NoStep
+        self.waiters.remove(waiter)
         self.owners[mutex] = caller
         return self.means(Relation.LOCKS, mutex)
 

@@ -34,7 +34,8 @@ def executable(words: list[int], symbols: list[Symbol]) -> bytes:
 STUBS = {name.decode(): CODE + 4 + 4 * i for i, name in enumerate(NAMES)}
 SHARED = CODE + 4 * (1 + len(NAMES))  # two words that all threads access
 MUTEXES = [SHARED + 8, SHARED + 12]
-FIRST, ROOM = SHARED + 16, 4 * 100  # thread 0's function, and the room of each
+CONDITIONS = [SHARED + 16, SHARED + 20]
+FIRST, ROOM = SHARED + 24, 4 * 130  # thread 0's function, and the room of each
 POINTER, VALUE, RETURN_PLACE = 9, 5, 18  # registers: SHARED, what is loaded and stored, and where a thread returns to
 NOP = 0x13
 
@@ -62,7 +63,7 @@ class Function:
 
 def linked(functions: list[Function]) -> bytes:
     """The executable of a program's functions, which begins with the first."""
-    words = [form_j(FIRST - CODE, 0)] + [EBREAK] * len(NAMES) + [0] * 4
+    words = [form_j(FIRST - CODE, 0)] + [EBREAK] * len(NAMES) + [0] * ((FIRST - SHARED) // 4)
     words += [word for function in functions for word in function.whole()]
     return executable(words, [Symbol(address, address + 4, FUNCTION, name) for name, address in STUBS.items()])
 
@@ -83,19 +84,37 @@ def draw_access(draw: random.Random, function: Function):
         function.words += put(6, FIRST + ROOM * draw.randrange(3)) + put(VALUE, NOP) + [form_s(0, VALUE, 6, 2)]
 
 
+def draw_condition(draw: random.Random, function: Function, mutex: int):
+    """A signal or a broadcast, or a wait, seldom with another mutex. Nobody looks whether there is something to wait for."""
+    condition = CONDITIONS[draw.randrange(8) == 0]
+    kind = draw.randrange(20)
+    if kind < 8:
+        function.call("pthread_cond_wait", condition, draw.choice(MUTEXES) if draw.randrange(8) == 0 else mutex)
+    elif kind == 8:
+        function.call(draw.choice(("pthread_cond_init", "pthread_cond_destroy", "pthread_cond_wait")), condition, 0)
+    else:
+        function.call(draw.choice(("pthread_cond_signal", "pthread_cond_broadcast")), condition)
+
+
 def draw_part(draw: random.Random, function: Function):
-    """Accesses, mostly under a mutex, which is now and then another one or not locked at all."""
+    """Accesses, mostly under a mutex, which is now and then another one or not locked at all; among them, now and then, a call on
+    a condition variable."""
     kind = draw.randrange(8)
     mutex = draw.choice(MUTEXES) if draw.randrange(4) == 0 else MUTEXES[0]
     if kind < 6:
         function.call("pthread_mutex_trylock" if kind == 0 else "pthread_mutex_lock", mutex)
     for _ in range(draw.randint(1, 2)):
+        if draw.randrange(4) == 0:
+            draw_condition(draw, function, mutex)
         draw_access(draw, function)
     if kind < 7:
         function.call("pthread_mutex_unlock", mutex)
 
 
 def draw_end(draw: random.Random, function: Function, is_first: bool):
+    """The end, mostly behind a broadcast."""
+    if draw.randrange(3):
+        function.call("pthread_cond_broadcast", CONDITIONS[0])
     kind = draw.randrange(6)
     if kind < 4:
         function.call("pthread_exit", draw.randrange(100))
@@ -157,7 +176,7 @@ def draw_journal(draw: random.Random, plan: Plan) -> bytes:
     """A journal with this plan, in drawn forms of its lines."""
     lines = ["romain 2"]
     for thread, count in plan:
-        forms = [f"vote {thread} {count} 0 - watch", f"vote {thread} {count - 1} 1 0 served"]
+        forms = [f"vote {thread} {count} 0 - watch", *(f"vote {thread} {count - 1} 1 0 {did}" for did in ("served", "parked"))]
         lines.append(draw.choice(forms + [f"free {thread}"] if count == 1 else forms))
         lines += draw.choice(([],) * 7 + (["scrub 0 -"], ["scrub 1 0,2"]))  # no steps
     return "".join(line + "\n" for line in lines).encode()

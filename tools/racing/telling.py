@@ -91,7 +91,14 @@ class Teller:
         if race.before is None:
             return f"No step of thread {thread} is ordered before step {second}."
         place, step = race.before
-        return f"Of thread {thread}, step {place}, a call of {step.call}, is the last that is ordered before step {second}."
+        call = f"{part_of(step)}a call of {step.call}"
+        return f"Of thread {thread}, step {place}, {call}, is the last that is ordered before step {second}."
+
+
+def part_of(step: Step) -> str:
+    """Which of the two steps of a wait it is; nothing of another call."""
+    parts = {Relation.UNLOCKS: "the first step of ", Relation.LOCKS: "the second step of "}
+    return parts.get(step.relation, "") if step.call == "pthread_cond_wait" else ""
 
 
 def verb(step: Step, byte: int) -> str:

@@ -1,15 +1,15 @@
 -- An end that is not allowed.
-use Rattle.std.proofs.Common.{◌≡◌, inl, inr, ℕ, ◌<◌, true, false, true≢false, Option, Some, None, refl, sym, ap, ◌∙◌, arith}
+use Rattle.std.proofs.Common.{◌≡◌, ◌⊎◌, inl, inr, ℕ, ◌<◌, true, false, true≢false, Option, Some, None, refl, ap, arith}
 use Rattle.std.specs.Prelude.{is_some}
 use Rattle.ro_journal.specs.declared.How.{How}
-use Rattle.ro_journal.specs.declared.How.TheVariants.{Exit, Deadlock, Trap, Limit, Differ, NoMajority, Sink}
 use Rattle.ro_journal.specs.declared.Entry.TheVariants.{End}
-use Rattle.ro_legal.specs.Core.{Job, Core, is_going, may_vote, may_free}
+use Rattle.ro_legal.specs.declared.actions.Action.TheVariants.{End as DoEnd}
+use Rattle.ro_legal.specs.Action.{next_action}
+use Rattle.ro_legal.specs.Core.{Job, Core, may_vote, may_free}
 use Rattle.ro_legal.specs.Legal.{IsAllowed, MayEnd, due, alone, for_vote, for_free, for_scrub, EndsAlone}
-use Rattle.ro_legal.specs.Sound.{IsOrdered, IsOver}
+use Rattle.ro_legal.specs.Sound.{IsOrdered}
 use Rattle.ro_legal.proofs.Nexts.{next_due}
 use Rattle.ro_legal.proofs.Ordered.{vote-parts, free-parts}
-use Rattle.ro_core.specs.Seen.{EndsNow}
 use Rattle.ro_core.proofs.Tests.{lives-within}
 use Rattle.ro_audit.specs.Following.{NotInPlace}
 
@@ -29,36 +29,13 @@ module _ (job : Job) (core : Core) where
       let few = o.few_lives in
       omega arith
 
-  -- an end that is not next, and comes in the place of nothing
-  pub no-such-end : (how : How) → IsOrdered job core → (EndsNow job core how → ⊥) → ((bytes : ℕ) → how ≡ Sink bytes → ⊥) → NotInPlace job core how → IsAllowed job core (End how) → ⊥
-  no-such-end how o now sink none (open_yet, may) = by may now sink none
+  -- an end that is not next, does not come alone, and comes in the place of nothing
+  pub no-such-end : (how : How) → IsOrdered job core → ((next_action job core ≡ DoEnd how) ⊎ EndsAlone job core how → ⊥) → NotInPlace job core how → IsAllowed job core (End how) → ⊥
+  no-such-end how o now none (open_yet, may) = by may now none
     where
-      by-alone : (h : How) → EndsAlone job core h → (EndsNow job core h → ⊥) → ((bytes : ℕ) → h ≡ Sink bytes → ⊥) → ⊥
-      by-alone Deadlock e n s = n (inr (refl, e))
-      by-alone (Sink bytes) e n s = s bytes refl
-      by-alone (Exit status) e n s = e
-      by-alone (Trap code) e n s = e
-      by-alone (Limit steps next) e n s = e
-      by-alone Differ e n s = e
-      by-alone NoMajority e n s = e
-
-      by : MayEnd job core how → (EndsNow job core how → ⊥) → ((bytes : ℕ) → how ≡ Sink bytes → ⊥) → NotInPlace job core how → ⊥
-      by (due e) n s z = n (inl (next_due job core how (ap is_some open_yet) e))
-      by (alone e) n s z = by-alone how e n s
-      by (for_vote thread may e) n s z = (z.threads thread (vote-few thread o may)).0 may e
-      by (for_free thread may e) n s z = (z.threads thread (free-few thread o may)).1 may e
-      by (for_scrub may e) n s z = z.scrub may e
-
-  -- a failing sink's end that may not come
-  pub no-sink-end : (bytes : ℕ) → IsOrdered job core → (is_going core ≡ true → bytes < core.wrote → ⊥) → IsAllowed job core (End (Sink bytes)) → ⊥
-  no-sink-end bytes o none (open_yet, may) = by may
-    where
-      not-over : IsOver (Sink bytes) → ⊥
-      not-over h = elim h [ ]
-
-      by : MayEnd job core (Sink bytes) → ⊥
-      by (due e) = not-over (o.due_over (Sink bytes) e)
-      by (alone e) = none e.0 e.1
-      by (for_vote thread may e) = e
-      by (for_free thread may e) = e
-      by (for_scrub may e) = e
+      by : MayEnd job core how → ((next_action job core ≡ DoEnd how) ⊎ EndsAlone job core how → ⊥) → NotInPlace job core how → ⊥
+      by (due e) n z = n (inl (next_due job core how (ap is_some open_yet) e))
+      by (alone e) n z = n (inr e)
+      by (for_vote thread may e) n z = (z.threads thread (vote-few thread o may)).0 may e
+      by (for_free thread may e) n z = (z.threads thread (free-few thread o may)).1 may e
+      by (for_scrub may e) n z = z.scrub may e

@@ -1,8 +1,7 @@
 -- The steps of a core are as many as the plan of its journal has.
-use Rattle.std.proofs.Common.{◌≡◌, ℕ, ◌+◌, List, [], ◌∷◌, ◌++◌, length, Option, Some, None, refl, sym, ap, ◌∙◌, arith, length-append}
+use Rattle.std.proofs.Common.{◌≡◌, ℕ, ◌+◌, List, [], ◌∷◌, length, Option, Some, None, refl, ap, ◌∙◌, arith, length-append}
 use Rattle.std.specs.Prelude.{replicate}
-use Rattle.std.proofs.lemmas.List.{length-replicate, append-nil}
-use Rattle.ro_journal.specs.declared.How.{How}
+use Rattle.std.proofs.lemmas.List.{length-replicate}
 use Rattle.ro_journal.specs.declared.Entry.{Entry}
 use Rattle.ro_journal.specs.declared.Entry.TheVariants.{Take, Put, Vote, Free, Scrub, End}
 use Rattle.ro_journal.specs.Losers.{numbers}
@@ -10,8 +9,7 @@ use Rattle.ro_journal.specs.Plan.{entry_plan, event_steps, plan_of}
 use Rattle.ro_replica.specs.Runs.{RanTo}
 use Rattle.ro_legal.specs.Core.{Job, Core, opening_core}
 use Rattle.ro_legal.specs.Event.{Event, with_recovered}
-use Rattle.ro_legal.specs.Legal.{after, lease_run, core_after_put, core_after_event, event_in, freed_event, IsAllowed, LegalFrom, Legal, replay_from, replay}
-use Rattle.ro_legal.proofs.Journals.{plan_of-append}
+use Rattle.ro_legal.specs.Legal.{after, lease_run, core_after_put, core_after_event, event_in, IsAllowed, LegalFrom, Legal, replay_from, replay}
 use Rattle.ro_legal.proofs.Ordered.{free-parts, freed-is, freed-steps}
 
 put-steps : (job : Job) (core : Core) (driver replica thread count : ℕ) (o : Option RanTo) → (core_after_put job core driver replica thread count o).steps ≡ core.steps
@@ -53,7 +51,3 @@ plan_steps job journal legal =
     let none : (opening_core job).steps ≡ 0 = refl in
     let sum : (replay job journal).steps ≡ (opening_core job).steps + length (plan_of journal) = steps-from job (opening_core job) journal legal in
     sum ∙ ap (λ (n : ℕ). n + length (plan_of journal)) none ∙ omega arith
-
--- an end adds nothing to the plan
-pub plan-end : (journal : List Entry) (how : How) → plan_of (journal ++ End how ∷ []) ≡ plan_of journal
-plan-end journal how = plan_of-append journal (End how ∷ []) ∙ append-nil (plan_of journal)

@@ -1,20 +1,19 @@
 -- A journal that is followed.
-use Rattle.std.specs.Prelude.{◌≡◌, ◌≢◌, ◌<◌, ◌≤◌, ℕ, true, List, [], ◌∷◌, ◌++◌, length, Option, Some, None, slice_get, slice_index_or}
+use Rattle.std.specs.Prelude.{◌≡◌, ◌≢◌, ◌<◌, ℕ, true, List, ◌∷◌, ◌++◌, length, Option, Some, None, slice_get, slice_index_or}
 use Rattle.ro_journal.specs.declared.How.{How}
-use Rattle.ro_journal.specs.declared.How.TheVariants.{Sink}
 use Rattle.ro_journal.specs.declared.Entry.{Entry}
-use Rattle.ro_journal.specs.declared.Entry.TheVariants.{End}
-use Rattle.ro_settings.specs.Ranges.{InRange}
 use Rattle.ro_replica.specs.Seen.{replica_of}
 use Rattle.ro_lease.specs.Loans.{LentOf}
-use Rattle.ro_legal.specs.Core.{Job, Core, is_going, is_idle, may_vote, may_free, lease_of}
-use Rattle.ro_legal.specs.Legal.{IsAllowed, Legal, may_scrub, EndsVote, EndsFree, EndsScrub, replay, output_of}
-use Rattle.ro_core.specs.Seen.{CoreOf, IsOfJob, Appends}
+use Rattle.ro_legal.specs.Core.{Job, Core, is_idle, may_vote, may_free, lease_of}
+use Rattle.ro_legal.specs.Legal.{IsAllowed, may_scrub, EndsVote, EndsFree, EndsScrub, output_of}
+use Rattle.ro_core.specs.Fields.{Fields, Holds, core_in}
+use Rattle.ro_core.specs.Runs.{fields_of, seen}
+use Rattle.ro_core.specs.Seen.{IsOfJob, Appends}
 use Rattle.ro_audit.specs.declared.audits.Trail.{Trail}
 use Rattle.ro_audit.specs.declared.follower.InPlace.{InPlace}
 use Rattle.ro_audit.specs.declared.follower.InPlace.TheVariants.{OfVote, OfFree, OfScrub}
 use Rattle.ro_audit.specs.declared.follower.Walk.{Walk}
-use Rattle.ro_audit.specs.declared.follower.Walk.TheVariants.{Whole, Cut, Stopped}
+use Rattle.ro_audit.specs.declared.follower.Walk.TheVariants.{Whole, Stopped}
 use Rattle.ro_audit.specs.declared.follower.Why.{Why}
 use Rattle.ro_audit.specs.declared.follower.Why.TheVariants.{Comes}
 use Rattle.ro_audit.specs.Audits.{FirstIllegal, IsReason}
@@ -33,25 +32,17 @@ abbrev pub Slot : Job → Core → (driver : ℕ) → Option LentOf → Type 0
 Slot job core driver None = is_idle core driver ≡ true
 Slot job core driver (Some lent) = Lends job core driver lent
 
--- a core that has made the entries of a journal, what is lent, and how many bytes the last entry wrote
-pub record Follows (core : CoreOf) (lent : List (Option LentOf)) (wrote : ℕ) : Type 0 where
-  pub calm : core.failed ≡ None
-  pub held : core.held ≡ Some (output_of core.job core.journal)
-  pub legal : Legal core.job core.journal
-  pub in_range : InRange core.job.settings
-  pub wrote_is : wrote ≡ (replay core.job core.journal).wrote
-  pub few : wrote ≤ length (output_of core.job core.journal)
+-- a core that has made the entries of a journal, what is lent, and what the entries wrote
+pub record Follows (core : Fields) (lent : List (Option LentOf)) (output : List ℕ) : Type 0 where
+  pub holds : Holds core
+  pub output_is : output ≡ output_of core.job core.journal
   pub drivers : length lent ≡ core.job.settings.drivers
-  pub slots : (driver : ℕ) → Slot core.job (replay core.job core.journal) driver (slice_index_or lent driver None)
-
--- the core that its journal leaves
-abbrev pub core_at : CoreOf → Core
-core_at core = replay core.job core.journal
+  pub slots : (driver : ℕ) → Slot core.job (core_in core) driver (slice_index_or lent driver None)
 
 -- the entry was followed, or it is not allowed, and why
-abbrev pub Followed : CoreOf → Entry → Option Why → CoreOf → List (Option LentOf) → ℕ → Type 0
-Followed old entry None core lent wrote = IsAllowed old.job (core_at old) entry × Appends old core entry × Follows core lent wrote
-Followed old entry (Some why) core lent wrote = (IsAllowed old.job (core_at old) entry → ⊥) × IsReason old.job (core_at old) entry why
+abbrev pub Followed : Fields → Entry → Option Why → Fields → List (Option LentOf) → List ℕ → Type 0
+Followed old entry None core lent output = IsAllowed old.job (core_in old) entry × Appends (seen old) (seen core) entry × Follows core lent output
+Followed old entry (Some why) core lent output = (IsAllowed old.job (core_in old) entry → ⊥) × IsReason old.job (core_in old) entry why
 
 -- it is what came, or that is why it is not allowed
 abbrev pub IsUnless : (came entry : Entry) → Option Why → Type 0
@@ -74,24 +65,23 @@ pub record NotInPlace (job : Job) (core : Core) (how : How) : Type 0 where
   pub scrub : may_scrub core ≡ true → EndsScrub core how → ⊥
 
 -- the same journal, with nothing but room and views of its own
-pub record Same (old new : CoreOf) : Type 0 where
+pub record Same (old new : Fields) : Type 0 where
   pub job : new.job ≡ old.job
   pub journal : new.journal ≡ old.journal
 
 -- the entry comes next in a journal that was followed so far
-pub record AtEntry (core : CoreOf) (journal : List Entry) (place : ℕ) (entry : Entry) : Type 0 where
+pub record AtEntry (core : Fields) (journal : List Entry) (place : ℕ) (entry : Entry) : Type 0 where
   pub rest : List Entry
   pub journal_is : journal ≡ core.journal ++ entry ∷ rest
   pub place_is : length core.journal ≡ place
 
--- what became of a journal: all of it was followed, or all but a failing sink's end, which may come; or an entry is not
--- allowed
-abbrev pub Walked : Job → List Entry → Walk → CoreOf → List (Option LentOf) → ℕ → Type 0
-Walked job journal Whole core lent wrote = (core.job ≡ job) × (core.journal ≡ journal) × Follows core lent wrote
-Walked job journal (Cut taken) core lent wrote =
-    (core.job ≡ job) × (core.journal ++ End (Sink taken) ∷ [] ≡ journal) × (is_going (core_at core) ≡ true) × (taken < wrote) × Follows core lent wrote
-Walked job journal (Stopped place why) core lent wrote = FirstIllegal job journal place why
+-- what became of a journal: all of it was followed, or an entry is not allowed
+abbrev pub Walked : Job → List Entry → Walk → Fields → List (Option LentOf) → List ℕ → Type 0
+Walked job journal Whole core lent output = (core.journal ≡ journal) × Follows core lent output
+Walked job journal (Stopped place why) core lent output = FirstIllegal job journal place why
 
 -- the trail of a journal of a job
-abbrev pub IsTrail : Job → List Entry → Trail → Type 0
-IsTrail job journal trail = (trail.follower.core.job ≡ job) × Walked job journal trail.walk trail.follower.core trail.follower.lent.items trail.follower.wrote
+pub record IsTrail (job : Job) (journal : List Entry) (trail : Trail) : Type 0 where
+  pub job_is : (fields_of trail.follower.core).job ≡ job
+  pub holds : Holds (fields_of trail.follower.core)
+  pub walked : Walked job journal trail.walk (fields_of trail.follower.core) trail.follower.lent.items trail.follower.output.items

@@ -1,4 +1,3 @@
-pub mod Kept
 pub mod Pages
 pub mod Audits
 pub mod Following

@@ -1,18 +1,16 @@
 //! The audit of a journal.
-ghost use Rattle.std.specs.Prelude.{◌≡◌, ◌<◌, ◌++◌, ◌∷◌, [], List, IfErr, IfOk, MatchResult, true};
+ghost use Rattle.std.specs.Prelude.{◌≡◌, List, IfErr, IfOk, MatchResult};
 ghost use Rattle.ro_journal.specs.declared.Entry.{Entry as EntrySeen};
-ghost use Rattle.ro_journal.specs.declared.How.TheVariants.{Sink as BySink};
-ghost use Rattle.ro_journal.specs.declared.Entry.TheVariants.{End};
 ghost use Rattle.ro_settings.specs.Ranges.{InRange};
 ghost use Rattle.ro_replica.specs.Seen.{AreFaults};
-ghost use Rattle.ro_legal.specs.Core.{Job, is_going};
+ghost use Rattle.ro_legal.specs.Core.{Job};
 ghost use Rattle.ro_legal.specs.Jobs.{job_of};
+ghost use Rattle.ro_core.specs.Runs.{fields_of, job_of as job_in};
 ghost use Rattle.ro_audit.specs.Audits.{Tells, IsCause};
-ghost use Rattle.ro_audit.specs.Following.{Follows, IsTrail, core_at};
+ghost use Rattle.ro_audit.specs.Following.{Follows, IsTrail};
 
 use crate::copies::{Difference, shown};
 use crate::follower::{Follower, Walk, Why};
-use crate::kept::Kept;
 use crate::whole::differing_pages;
 use ro_core::{Core, Finished};
 use ro_event::View;
@@ -101,7 +99,7 @@ pub fn trace(
 impl Trail {
     /// The core that the entries leave up to where they were followed. Where an entry that is not allowed names a vote, a call
     /// that is served or a scrub, it has come to another entry by now.
-    pub fn core(&self) -> &Core<Kept>
+    pub fn core(&self) -> &Core
         ensures { result.now ≡ self.now.follower.core }
     {
         &self.follower.core
@@ -137,10 +135,6 @@ impl Trail {
                 let (image, audited) = whole(follower);
                 (image, Ok(audited))
             }
-            Walk::Cut(taken) => {
-                let (image, audited) = cut(follower, taken);
-                (image, Ok(audited))
-            }
             Walk::Stopped { place, why } => {
                 let image = follower.discard();
                 (image, Err(AuditError::Illegal { place, why }))
@@ -150,15 +144,14 @@ impl Trail {
 }
 
 // The image, and what a journal that was followed to its end comes to.
-#[tactic(auto, using(crate::proofs::Plans::plan_steps))]
 fn whole(follower: Follower) -> (Executable, Audited)
-    ensures image { result.0 ≡ follower.core.job.program.image }
-    ensures tells { Follows follower.core follower.lent.items follower.wrote → Tells follower.core.job follower.core.journal result.1 }
+    ensures image { result.0 ≡ (job_in follower.core).program.image }
+    ensures tells { Follows (fields_of follower.core) follower.lent.items follower.output.items → Tells (job_in follower.core) (fields_of follower.core).journal result.1 }
 {
     let Follower {
         core,
         lent: _,
-        wrote: _,
+        output,
         copies: _,
         alloc: _,
     } = follower;
@@ -168,27 +161,12 @@ fn whole(follower: Follower) -> (Executable, Audited)
         how,
         views,
         journal: _,
-        bytes: _,
-        out,
     } = core.finish();
     let audited = Audited {
         how,
         steps,
-        output: out.into_bytes(),
+        output,
         views,
     };
-    (image, audited)
-}
-
-// The same, with the end by a failing sink behind it.
-fn cut(follower: Follower, taken: u32) -> (Executable, Audited)
-    ensures image { result.0 ≡ follower.core.job.program.image }
-    ensures tells { Follows follower.core follower.lent.items follower.wrote → is_going (core_at follower.core) ≡ true → taken < follower.wrote → Tells follower.core.job (follower.core.journal ++ End (BySink taken) ∷ []) result.1 }
-{
-    let left = follower.wrote.saturating_sub(u64::from(taken));
-    let (image, mut audited) = whole(follower);
-    audited.how = Some(How::Sink(taken));
-    let kept = audited.output.len().saturating_sub(left as usize);
-    audited.output.truncate(kept);
     (image, audited)
 }

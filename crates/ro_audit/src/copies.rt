@@ -1,7 +1,6 @@
 //! What differs in a copy that a vote or a scrub makes.
 ghost use Rattle.std.specs.Prelude.{◌≡◌, ◌≢◌, ◌↔◌, IsTrue};
 
-use crate::kept::Kept;
 use crate::whole::Whole;
 use ro_core::Core;
 use ro_event::View;
@@ -30,7 +29,7 @@ impl Compared {
     pub fn between(
         self,
         alloc: Global,
-        core: &Core<Kept>,
+        core: &Core,
         one: u32,
         other: u32,
     ) -> Result<Difference, AllocError> {
@@ -97,7 +96,7 @@ fn unequal(one: &[u32; 31], other: &[u32; 31]) -> u32 {
 }
 
 /// A thread of a replica that is at home, where it stands still.
-pub(crate) fn shown(core: &Core<Kept>, replica: u32, thread: u32) -> Option<View> {
+pub(crate) fn shown(core: &Core, replica: u32, thread: u32) -> Option<View> {
     let replica = core.replica(replica)?;
     let stop = replica.stop(thread)?;
     let mut view = View::new([0; 31], 0, 0, stop);
@@ -106,7 +105,7 @@ pub(crate) fn shown(core: &Core<Kept>, replica: u32, thread: u32) -> Option<View
 }
 
 /// What of a thread that stands still differs in two replicas.
-pub(crate) fn parts_between(core: &Core<Kept>, thread: u32, one: u32, other: u32) -> Parts {
+pub(crate) fn parts_between(core: &Core, thread: u32, one: u32, other: u32) -> Parts {
     match (shown(core, one, thread), shown(core, other, thread)) {
         (Some(one), Some(other)) => Parts::between(&one, &other),
         _ => Parts::default(),

@@ -1,19 +1,19 @@
 //! A follower of a journal: a core that makes the same entries, and the replicas that are lent.
-ghost use Rattle.std.specs.Prelude.{◌≡◌, ◌≢◌, ◌<◌, ◌↔◌, ℕ, [], IfErr, IfOk, IfSome, IsSome, IsTrue, None, Some, length, slice_index_or, slice_set, false, true};
-ghost use Rattle.ro_journal.specs.declared.How.TheVariants.{Deadlock as ByDeadlock, Sink as BySink};
+ghost use Rattle.std.specs.Prelude.{◌≡◌, ◌≢◌, ◌⊎◌, ◌<◌, ◌↔◌, ℕ, [], IfErr, IfOk, IfSome, IsSome, IsTrue, None, Some, length, slice_index_or, slice_set, false, true};
 ghost use Rattle.ro_journal.specs.declared.Entry.TheVariants.{Take, Put, Scrub, End};
 ghost use Rattle.ro_settings.specs.Ranges.{InRange};
 ghost use Rattle.ro_replica.specs.Seen.{AreFaults};
 ghost use Rattle.ro_legal.specs.declared.actions.Action.TheVariants as act;
-ghost use Rattle.ro_legal.specs.Core.{is_going, may_vote, may_free};
-ghost use Rattle.ro_legal.specs.Legal.{may_scrub, EndsVote, EndsFree, EndsScrub};
+ghost use Rattle.ro_legal.specs.Action.{next_action as next};
+ghost use Rattle.ro_legal.specs.Core.{may_vote, may_free};
+ghost use Rattle.ro_legal.specs.Legal.{may_scrub, EndsAlone, EndsVote, EndsFree, EndsScrub};
 ghost use Rattle.ro_legal.specs.Decides.{DecidesVote, DecidesFree, DecidesScrub};
-ghost use Rattle.ro_core.specs.Seen.{EndsNow, state};
-ghost use Rattle.ro_audit.specs.Following.{Follows, Followed, IsInPlace, IsUnless, NotByThread, NotInPlace, Same, AtEntry, Walked, core_at};
+ghost use Rattle.ro_core.specs.Fields.{Holds};
+ghost use Rattle.ro_core.specs.Runs.{fields_of, job_of, state_of};
+ghost use Rattle.ro_audit.specs.Following.{Follows, Followed, IsInPlace, IsUnless, NotByThread, NotInPlace, Same, Walked};
 
 use crate::copies::{Compared, Difference};
-use crate::kept::Kept;
-use ro_core::{Core, Finished, Refused};
+use ro_core::{Core, Finished};
 use ro_faults::Fault;
 use ro_image::Executable;
 use ro_journal::{Entry, How, Lost};
@@ -26,11 +26,11 @@ use std::alloc::{AllocError, Global};
 
 /// Follows a journal.
 pub(crate) struct Follower {
-    pub core: Core<Kept>,
+    pub core: Core,
     /// Of each driver what is lent to it.
     pub lent: Vec<Option<Lent>>,
-    /// How many bytes the last entry wrote.
-    pub wrote: u64,
+    /// What the entries wrote.
+    pub output: Vec<u8>,
     /// What differed in each copy that the votes and scrubs made.
     pub copies: Vec<Difference>,
     pub alloc: Global,
@@ -64,8 +64,6 @@ pub enum Why {
 pub(crate) enum Walk {
     /// All of it was followed.
     Whole,
-    /// It ends by a failing sink, which took so many bytes of the last write.
-    Cut(u32),
     /// The entry at this place is not allowed, and why it is not.
     Stopped { place: usize, why: Why },
 }
@@ -95,24 +93,22 @@ impl Follower {
     ) -> Result<Follower, Executable>
         requires settings { InRange settings }
         requires faults { AreFaults faults.now }
-        ensures follows { IfOk result (λ f. Follows f.core f.lent.items f.wrote) }
-        ensures job { IfOk result (λ f. f.core.job ≡ record { program = record { image = image; input = input.now }; faults = faults.now; settings = settings }) }
-        ensures journal { IfOk result (λ f. f.core.journal ≡ []) }
+        ensures follows { IfOk result (λ f. Follows (fields_of f.core) f.lent.items f.output.items) }
+        ensures job { IfOk result (λ f. job_of f.core ≡ record { program = record { image = image; input = input.now }; faults = faults.now; settings = settings }) }
+        ensures journal { IfOk result (λ f. (fields_of f.core).journal ≡ []) }
         ensures back { IfErr result (λ back. back ≡ image) }
     {
         let Ok(lent) = vacant(alloc, settings.drivers) else {
             return Err(image);
         };
-        match Core::begin(alloc, image, input, faults, settings, Kept::new(alloc)) {
-            Ok(core) => Ok(Follower {
-                core,
-                lent,
-                wrote: 0,
-                copies: Vec::new(alloc),
-                alloc,
-            }),
-            Err(Refused { image, out: _ }) => Err(image),
-        }
+        let core = Core::begin(alloc, image, input, faults, settings)?;
+        Ok(Follower {
+            core,
+            lent,
+            output: Vec::new(alloc),
+            copies: Vec::new(alloc),
+            alloc,
+        })
     }
 
     /// Follows the entries up to the first that is not allowed.
@@ -120,18 +116,13 @@ impl Follower {
     /// # Errors
     /// Where there is no memory.
     pub fn walk(&mut self, journal: &[Entry]) -> Result<Walk, AllocError>
-        requires follows { Follows self.old.core self.old.lent.items self.old.wrote }
-        requires journal { self.old.core.journal ≡ [] }
-        ensures job { self.new.core.job ≡ self.old.core.job }
-        ensures walked { IfOk result (λ walk. Walked self.old.core.job journal.now walk self.new.core self.new.lent.items self.new.wrote) }
+        requires follows { Follows (fields_of self.old.core) self.old.lent.items self.old.output.items }
+        requires journal { (fields_of self.old.core).journal ≡ [] }
+        ensures holds { Holds (fields_of self.new.core) }
+        ensures job { job_of self.new.core ≡ job_of self.old.core }
+        ensures walked { IfOk result (λ walk. Walked (job_of self.old.core) journal.now walk (fields_of self.new.core) self.new.lent.items self.new.output.items) }
     {
         for (place, entry) in journal.iter().enumerate() {
-            if let Entry::End {
-                how: How::Sink(taken),
-            } = *entry
-            {
-                return Ok(self.cut(taken, place, journal));
-            }
             if let Some(why) = self.follow(entry)? {
                 return Ok(Walk::Stopped { place, why });
             }
@@ -141,12 +132,12 @@ impl Follower {
 
     /// Lets all go but the image.
     pub fn discard(self) -> Executable
-        ensures { result ≡ self.core.job.program.image }
+        ensures { result ≡ (job_of self.core).program.image }
     {
         let Follower {
             core,
             lent: _,
-            wrote: _,
+            output: _,
             copies: _,
             alloc: _,
         } = self;
@@ -155,19 +146,20 @@ impl Follower {
             how: _,
             views: _,
             journal: _,
-            bytes: _,
-            out: _,
         } = core.finish();
         image
     }
 
-    // Follows one entry, which is no failing sink's end; answers why it is not allowed, if it is not.
+    // Follows one entry; answers why it is not allowed, if it is not.
     fn follow(&mut self, entry: &Entry) -> Result<Option<Why>, AllocError>
-        requires follows { Follows self.old.core self.old.lent.items self.old.wrote }
-        requires not_sink { (bytes : ℕ) → entry.now ≢ End (BySink bytes) }
-        ensures job { self.new.core.job ≡ self.old.core.job }
-        ensures followed { IfOk result (λ why. Followed self.old.core entry.now why self.new.core self.new.lent.items self.new.wrote) }
+        requires follows { Follows (fields_of self.old.core) self.old.lent.items self.old.output.items }
+        ensures holds { Holds (fields_of self.new.core) }
+        ensures job { job_of self.new.core ≡ job_of self.old.core }
+        ensures followed { IfOk result (λ why. Followed (fields_of self.old.core) entry.now why (fields_of self.new.core) self.new.lent.items self.new.output.items) }
     {
+        if self.core.ended().is_some() {
+            return Ok(Some(Why::Behind));
+        }
         match *entry {
             Entry::Take {
                 driver,
@@ -207,9 +199,10 @@ impl Follower {
 
     // Lends a thread of a replica to a driver, where that is allowed.
     fn take(&mut self, driver: u32, replica: u32, thread: u32) -> Result<Option<Why>, AllocError>
-        requires { Follows self.old.core self.old.lent.items self.old.wrote }
-        ensures job { self.new.core.job ≡ self.old.core.job }
-        ensures followed { IfOk result (λ why. Followed self.old.core (Take driver replica thread) why self.new.core self.new.lent.items self.new.wrote) }
+        requires { Follows (fields_of self.old.core) self.old.lent.items self.old.output.items }
+        ensures holds { Holds (fields_of self.new.core) }
+        ensures job { job_of self.new.core ≡ job_of self.old.core }
+        ensures followed { IfOk result (λ why. Followed (fields_of self.old.core) (Take driver replica thread) why (fields_of self.new.core) self.new.lent.items self.new.output.items) }
     {
         if !self.core.may_take(driver, replica, thread) {
             return Ok(Some(Why::NotLendable));
@@ -219,15 +212,15 @@ impl Follower {
         let taken = self.core.take(driver, replica, thread);
         let lent = Lent::new(driver, replica, thread, quantum, taken);
         lend(self.lent.as_mut_slice(), driver, lent);
-        self.wrote = 0;
         Ok(None)
     }
 
     // Runs what is lent to a driver and puts it back, where the entry is that of its run.
     fn put(&mut self, driver: u32, replica: u32, thread: u32, count: u32, hit: u32) -> Option<Why>
-        requires { Follows self.old.core self.old.lent.items self.old.wrote }
-        ensures job { self.new.core.job ≡ self.old.core.job }
-        ensures followed { Followed self.old.core (Put driver replica thread count hit) result self.new.core self.new.lent.items self.new.wrote }
+        requires { Follows (fields_of self.old.core) self.old.lent.items self.old.output.items }
+        ensures holds { Holds (fields_of self.new.core) }
+        ensures job { job_of self.new.core ≡ job_of self.old.core }
+        ensures followed { Followed (fields_of self.old.core) (Put driver replica thread count hit) result (fields_of self.new.core) self.new.lent.items self.new.output.items }
     {
         let Some(lent) = take_back(self.lent.as_mut_slice(), driver) else {
             return Some(Why::NotOut);
@@ -247,25 +240,22 @@ impl Follower {
             });
         }
         self.core.put(driver, returned, ran);
-        self.wrote = 0;
         None
     }
 
     // Holds a vote that may be held, and answers what it comes to where that is not this entry, which would decide it.
     fn vote(&mut self, thread: u32, entry: &Entry) -> Result<Option<Why>, AllocError>
-        requires follows { Follows self.old.core self.old.lent.items self.old.wrote }
-        requires may { IsTrue (may_vote (core_at self.old.core) thread) }
-        requires decides { DecidesVote self.old.core.job (core_at self.old.core) thread entry.now }
-        ensures job { self.new.core.job ≡ self.old.core.job }
-        ensures followed { IfOk result (λ why. Followed self.old.core entry.now why self.new.core self.new.lent.items self.new.wrote) }
+        requires follows { Follows (fields_of self.old.core) self.old.lent.items self.old.output.items }
+        requires may { IsTrue (may_vote (state_of self.old.core) thread) }
+        requires decides { DecidesVote (job_of self.old.core) (state_of self.old.core) thread entry.now }
+        ensures holds { Holds (fields_of self.new.core) }
+        ensures job { job_of self.new.core ≡ job_of self.old.core }
+        ensures followed { IfOk result (λ why. Followed (fields_of self.old.core) entry.now why (fields_of self.new.core) self.new.lent.items self.new.output.items) }
     {
-        let before = self.core.bytes();
         let came = self.core.vote(thread)?;
-        if self.core.failed().is_some() {
-            return Err(AllocError);
-        }
-        self.wrote = self.core.bytes() - before;
-        Ok(unless_same(came, entry))
+        let payload = self.core.payload(came.writer);
+        self.output.extend_from_slice(payload)?;
+        Ok(unless_same(came.entry, entry))
     }
 
     // The same of a vote whose entry names who won and who lost; what differs in the copies that it makes is noted.
@@ -276,11 +266,12 @@ impl Follower {
         lost: Lost,
         entry: &Entry,
     ) -> Result<Option<Why>, AllocError>
-        requires follows { Follows self.old.core self.old.lent.items self.old.wrote }
-        requires may { IsTrue (may_vote (core_at self.old.core) thread) }
-        requires decides { DecidesVote self.old.core.job (core_at self.old.core) thread entry.now }
-        ensures job { self.new.core.job ≡ self.old.core.job }
-        ensures followed { IfOk result (λ why. Followed self.old.core entry.now why self.new.core self.new.lent.items self.new.wrote) }
+        requires follows { Follows (fields_of self.old.core) self.old.lent.items self.old.output.items }
+        requires may { IsTrue (may_vote (state_of self.old.core) thread) }
+        requires decides { DecidesVote (job_of self.old.core) (state_of self.old.core) thread entry.now }
+        ensures holds { Holds (fields_of self.new.core) }
+        ensures job { job_of self.new.core ≡ job_of self.old.core }
+        ensures followed { IfOk result (λ why. Followed (fields_of self.old.core) entry.now why (fields_of self.new.core) self.new.lent.items self.new.output.items) }
     {
         let before = self.copies.len();
         self.note_all(Compared::Views(thread), won, lost)?;
@@ -294,9 +285,10 @@ impl Follower {
     // Scrubs where that is allowed, and answers what it comes to where that is not this entry; what differs in the copies that
     // it makes is noted.
     fn scrub_noted(&mut self, won: u32, lost: Lost) -> Result<Option<Why>, AllocError>
-        requires { Follows self.old.core self.old.lent.items self.old.wrote }
-        ensures job { self.new.core.job ≡ self.old.core.job }
-        ensures followed { IfOk result (λ why. Followed self.old.core (Scrub won lost) why self.new.core self.new.lent.items self.new.wrote) }
+        requires { Follows (fields_of self.old.core) self.old.lent.items self.old.output.items }
+        ensures holds { Holds (fields_of self.new.core) }
+        ensures job { job_of self.new.core ≡ job_of self.old.core }
+        ensures followed { IfOk result (λ why. Followed (fields_of self.old.core) (Scrub won lost) why (fields_of self.new.core) self.new.lent.items self.new.output.items) }
     {
         if !self.core.may_scrub() {
             return Ok(Some(Why::NoScrub));
@@ -312,14 +304,14 @@ impl Follower {
 
     // Makes a scrub that may be made, and answers what it comes to where that is not this entry, which would decide it.
     fn scrub(&mut self, entry: &Entry) -> Result<Option<Why>, AllocError>
-        requires follows { Follows self.old.core self.old.lent.items self.old.wrote }
-        requires may { IsTrue (may_scrub (core_at self.old.core)) }
-        requires decides { DecidesScrub (core_at self.old.core) entry.now }
-        ensures job { self.new.core.job ≡ self.old.core.job }
-        ensures followed { IfOk result (λ why. Followed self.old.core entry.now why self.new.core self.new.lent.items self.new.wrote) }
+        requires follows { Follows (fields_of self.old.core) self.old.lent.items self.old.output.items }
+        requires may { IsTrue (may_scrub (state_of self.old.core)) }
+        requires decides { DecidesScrub (state_of self.old.core) entry.now }
+        ensures holds { Holds (fields_of self.new.core) }
+        ensures job { job_of self.new.core ≡ job_of self.old.core }
+        ensures followed { IfOk result (λ why. Followed (fields_of self.old.core) entry.now why (fields_of self.new.core) self.new.lent.items self.new.output.items) }
     {
         let came = self.core.scrub()?;
-        self.wrote = 0;
         Ok(unless_same(came, entry))
     }
 
@@ -327,7 +319,7 @@ impl Follower {
     fn note_all(&mut self, compared: Compared, won: u32, lost: Lost) -> Result<(), AllocError>
         ensures core { self.new.core ≡ self.old.core }
         ensures lent { self.new.lent ≡ self.old.lent }
-        ensures wrote { self.new.wrote ≡ self.old.wrote }
+        ensures output { self.new.output ≡ self.old.output }
     {
         match lost {
             Lost::Nobody => Ok(()),
@@ -343,7 +335,7 @@ impl Follower {
     fn note(&mut self, compared: Compared, won: u32, replica: u32) -> Result<(), AllocError>
         ensures core { self.new.core ≡ self.old.core }
         ensures lent { self.new.lent ≡ self.old.lent }
-        ensures wrote { self.new.wrote ≡ self.old.wrote }
+        ensures output { self.new.output ≡ self.old.output }
     {
         let difference = compared.between(self.alloc, &self.core, won, replica)?;
         self.copies.push(difference)?;
@@ -352,28 +344,28 @@ impl Follower {
 
     // Serves a call that may be served, and answers what that comes to where it is not this entry, which would decide it.
     fn free(&mut self, thread: u32, entry: &Entry) -> Result<Option<Why>, AllocError>
-        requires follows { Follows self.old.core self.old.lent.items self.old.wrote }
-        requires may { IsTrue (may_free self.old.core.job (core_at self.old.core) thread) }
-        requires decides { DecidesFree self.old.core.job (core_at self.old.core) thread entry.now }
-        ensures job { self.new.core.job ≡ self.old.core.job }
-        ensures followed { IfOk result (λ why. Followed self.old.core entry.now why self.new.core self.new.lent.items self.new.wrote) }
+        requires follows { Follows (fields_of self.old.core) self.old.lent.items self.old.output.items }
+        requires may { IsTrue (may_free (job_of self.old.core) (state_of self.old.core) thread) }
+        requires decides { DecidesFree (job_of self.old.core) (state_of self.old.core) thread entry.now }
+        ensures holds { Holds (fields_of self.new.core) }
+        ensures job { job_of self.new.core ≡ job_of self.old.core }
+        ensures followed { IfOk result (λ why. Followed (fields_of self.old.core) entry.now why (fields_of self.new.core) self.new.lent.items self.new.output.items) }
     {
         let came = self.core.free(thread)?;
-        self.wrote = 0;
         Ok(unless_same(came, entry))
     }
 
     // Ends the run so, where that is allowed: the end is due, or nothing can be done, or it comes in the place of a vote, a free
     // or a scrub.
     fn end(&mut self, how: How) -> Result<Option<Why>, AllocError>
-        requires follows { Follows self.old.core self.old.lent.items self.old.wrote }
-        requires not_sink { (bytes : ℕ) → how ≢ BySink bytes }
-        ensures job { self.new.core.job ≡ self.old.core.job }
-        ensures followed { IfOk result (λ why. Followed self.old.core (End how) why self.new.core self.new.lent.items self.new.wrote) }
+        requires follows { Follows (fields_of self.old.core) self.old.lent.items self.old.output.items }
+        ensures holds { Holds (fields_of self.new.core) }
+        ensures job { job_of self.new.core ≡ job_of self.old.core }
+        ensures followed { IfOk result (λ why. Followed (fields_of self.old.core) (End how) why (fields_of self.new.core) self.new.lent.items self.new.output.items) }
     {
         if self.ends_now(how) {
             self.core.end(how);
-            self.wrote = 0;
+            self.output.truncate(self.core.bytes() as usize);
             return Ok(None);
         }
         let entry = Entry::End { how };
@@ -385,26 +377,36 @@ impl Follower {
         }
     }
 
-    // Whether such an end may be appended by itself: it comes next, or it is a deadlock and nothing can be done.
+    // Whether such an end may be appended by itself: it comes next, or it comes alone.
     fn ends_now(&self, how: How) -> bool
-        ensures { IsTrue result ↔ EndsNow self.now.core.job (state self.now.core) how }
+        requires { Holds (fields_of self.now.core) }
+        ensures { IsTrue result ↔ ((next (job_of self.now.core) (state_of self.now.core) ≡ act.End how) ⊎ EndsAlone (job_of self.now.core) (state_of self.now.core) how) }
     {
         if is_end(self.core.next_action(), how) {
             return true;
         }
-        if !is_deadlock(how) {
-            return false;
+        self.ends_alone(how)
+    }
+
+    // Whether nothing can be done and this is a deadlock, or bytes of the last write are left and it is a failing sink's end.
+    fn ends_alone(&self, how: How) -> bool
+        requires { Holds (fields_of self.now.core) }
+        ensures { IsTrue result ↔ EndsAlone (job_of self.now.core) (state_of self.now.core) how }
+    {
+        match how {
+            How::Deadlock => self.core.is_stuck(),
+            How::Sink(taken) => self.core.is_going() && taken < self.core.wrote(),
+            _ => false,
         }
-        self.core.is_stuck()
     }
 
     // In the place of what the run would end so.
     fn place_of(&mut self, how: How) -> Option<InPlace>
-        requires { Follows self.old.core self.old.lent.items self.old.wrote }
-        ensures follows { Follows self.new.core self.new.lent.items self.new.wrote }
-        ensures same { Same self.old.core self.new.core }
-        ensures some { IfSome result (λ place. IsInPlace self.old.core.job (core_at self.old.core) how place) }
-        ensures none { result ≡ None → NotInPlace self.old.core.job (core_at self.old.core) how }
+        requires { Follows (fields_of self.old.core) self.old.lent.items self.old.output.items }
+        ensures follows { Follows (fields_of self.new.core) self.new.lent.items self.new.output.items }
+        ensures same { Same (fields_of self.old.core) (fields_of self.new.core) }
+        ensures some { IfSome result (λ place. IsInPlace (job_of self.old.core) (state_of self.old.core) how place) }
+        ensures none { result ≡ None → NotInPlace (job_of self.old.core) (state_of self.old.core) how }
     {
         for thread in 0..ro_limits::MOST_THREADS {
             let place = self.place_at(thread, how);
@@ -420,11 +422,11 @@ impl Follower {
 
     // The same of one thread.
     fn place_at(&mut self, thread: u32, how: How) -> Option<InPlace>
-        requires { Follows self.old.core self.old.lent.items self.old.wrote }
-        ensures follows { Follows self.new.core self.new.lent.items self.new.wrote }
-        ensures same { Same self.old.core self.new.core }
-        ensures some { IfSome result (λ place. IsInPlace self.old.core.job (core_at self.old.core) how place) }
-        ensures none { result ≡ None → NotByThread self.old.core.job (core_at self.old.core) how thread }
+        requires { Follows (fields_of self.old.core) self.old.lent.items self.old.output.items }
+        ensures follows { Follows (fields_of self.new.core) self.new.lent.items self.new.output.items }
+        ensures same { Same (fields_of self.old.core) (fields_of self.new.core) }
+        ensures some { IfSome result (λ place. IsInPlace (job_of self.old.core) (state_of self.old.core) how place) }
+        ensures none { result ≡ None → NotByThread (job_of self.old.core) (state_of self.old.core) how thread }
     {
         if self.ends_vote(thread, how) {
             return Some(InPlace::OfVote(thread));
@@ -437,10 +439,10 @@ impl Follower {
 
     // Whether the run would end so in the place of a vote on a thread.
     fn ends_vote(&mut self, thread: u32, how: How) -> bool
-        requires { Follows self.old.core self.old.lent.items self.old.wrote }
-        ensures follows { Follows self.new.core self.new.lent.items self.new.wrote }
-        ensures same { Same self.old.core self.new.core }
-        ensures ends { IsTrue result ↔ ((may_vote (core_at self.old.core) thread ≡ true) × EndsVote self.old.core.job (core_at self.old.core) thread how) }
+        requires { Follows (fields_of self.old.core) self.old.lent.items self.old.output.items }
+        ensures follows { Follows (fields_of self.new.core) self.new.lent.items self.new.output.items }
+        ensures same { Same (fields_of self.old.core) (fields_of self.new.core) }
+        ensures ends { IsTrue result ↔ ((may_vote (state_of self.old.core) thread ≡ true) × EndsVote (job_of self.old.core) (state_of self.old.core) thread how) }
     {
         if !self.core.may_vote(thread) {
             return false;
@@ -451,8 +453,8 @@ impl Follower {
 
     // Whether the run would end so in the place of a call that is served for a thread.
     fn ends_free(&self, thread: u32, how: How) -> bool
-        requires { Follows self.now.core self.now.lent.items self.now.wrote }
-        ensures { IsTrue result ↔ ((may_free self.now.core.job (core_at self.now.core) thread ≡ true) × EndsFree self.now.core.job (core_at self.now.core) how) }
+        requires { Follows (fields_of self.now.core) self.now.lent.items self.now.output.items }
+        ensures { IsTrue result ↔ ((may_free (job_of self.now.core) (state_of self.now.core) thread ≡ true) × EndsFree (job_of self.now.core) (state_of self.now.core) how) }
     {
         if !self.core.may_free(thread) {
             return false;
@@ -462,40 +464,10 @@ impl Follower {
 
     // Whether the run would end so in the place of a scrub.
     fn ends_scrub(&self, how: How) -> bool
-        requires { Follows self.now.core self.now.lent.items self.now.wrote }
-        ensures { IsTrue result ↔ ((may_scrub (core_at self.now.core) ≡ true) × EndsScrub (core_at self.now.core) how) }
+        requires { Follows (fields_of self.now.core) self.now.lent.items self.now.output.items }
+        ensures { IsTrue result ↔ ((may_scrub (state_of self.now.core) ≡ true) × EndsScrub (state_of self.now.core) how) }
     {
         self.core.may_scrub() && is_how(self.core.scrub_end(), how)
-    }
-
-    // A failing sink's end at this place of the journal: it may come while bytes of the last write are left, and is the last
-    // entry.
-    fn cut(&self, taken: u32, place: usize, journal: &[Entry]) -> Walk
-        requires follows { Follows self.now.core self.now.lent.items self.now.wrote }
-        requires there { AtEntry self.now.core journal.now place (End (BySink taken)) }
-        ensures { Walked self.now.core.job journal.now result self.now.core self.now.lent.items self.now.wrote }
-    {
-        if !self.may_cut(taken) {
-            return Walk::Stopped {
-                place,
-                why: Why::NoEnd,
-            };
-        }
-        if place + 1 < journal.len() {
-            return Walk::Stopped {
-                place: place + 1,
-                why: Why::Behind,
-            };
-        }
-        Walk::Cut(taken)
-    }
-
-    // Whether the run may end by a sink that took so many bytes of the last write.
-    fn may_cut(&self, taken: u32) -> bool
-        requires { Follows self.now.core self.now.lent.items self.now.wrote }
-        ensures { IsTrue result ↔ ((is_going (core_at self.now.core) ≡ true) × (taken < self.now.wrote)) }
-    {
-        self.core.is_going() && u64::from(taken) < self.wrote
     }
 }
 
@@ -566,12 +538,6 @@ fn is_end(action: Action, how: How) -> bool
     ensures { IsTrue result ↔ (action ≡ act.End how) }
 {
     action == Action::End(how)
-}
-
-fn is_deadlock(how: How) -> bool
-    ensures { IsTrue result ↔ (how ≡ ByDeadlock) }
-{
-    how == How::Deadlock
 }
 
 fn is_how(end: Option<How>, how: How) -> bool

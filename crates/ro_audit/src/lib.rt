@@ -4,11 +4,9 @@
 mod audits;
 mod copies;
 mod follower;
-mod kept;
 mod whole;
 
 pub use audits::{AuditError, Audited, Trail, audit, trace};
 pub use copies::{Difference, Parts};
 pub use follower::Why;
-pub use kept::Kept;
 pub use whole::Whole;

@@ -4,7 +4,6 @@ ghost use Rattle.ro_replica.specs.Seen.{replica_of};
 ghost use Rattle.ro_audit.specs.Pages.{DiffersIn};
 
 use crate::copies::{Parts, parts_between};
-use crate::kept::Kept;
 use ro_core::Core;
 use ro_limits::{PAGE_SIZE, PAGES};
 use ro_replica::ReplicaBox;
@@ -23,7 +22,7 @@ impl Whole {
     /// What differs in two replicas of a core, in which each live thread stands still.
     pub(crate) fn between(
         alloc: Global,
-        core: &Core<Kept>,
+        core: &Core,
         one: u32,
         other: u32,
     ) -> Result<Whole, AllocError> {
@@ -43,7 +42,7 @@ impl Whole {
 // Of each live thread that differs in two replicas, the parts. What one would write is no part: it is in their memory.
 fn unequal_threads(
     alloc: Global,
-    core: &Core<Kept>,
+    core: &Core,
     one: u32,
     other: u32,
 ) -> Result<Vec<(u32, Parts)>, AllocError> {
@@ -59,7 +58,7 @@ fn unequal_threads(
 }
 
 /// The first address of each page, rising, in which not all replicas that are at home have the same bytes.
-pub(crate) fn differing_pages(alloc: Global, core: &Core<Kept>) -> Result<Vec<u32>, AllocError> {
+pub(crate) fn differing_pages(alloc: Global, core: &Core) -> Result<Vec<u32>, AllocError> {
     let mut pages = Vec::new(alloc);
     for page in 0..PAGES {
         if !are_alike_in(core, page) {
@@ -70,7 +69,7 @@ pub(crate) fn differing_pages(alloc: Global, core: &Core<Kept>) -> Result<Vec<u3
 }
 
 // Whether all replicas that are at home have the same bytes in a page.
-fn are_alike_in(core: &Core<Kept>, page: u32) -> bool
+fn are_alike_in(core: &Core, page: u32) -> bool
     requires { page < 2 ^ 20 }
 {
     let mut first = None;

@@ -8,7 +8,7 @@ use Rattle.ro_event.specs.declared.calls.Call.{Call}
 use Rattle.ro_faults.specs.declared.Fault.{Fault}
 use Rattle.ro_image.specs.Image.{Image}
 use Rattle.ro_kernel.specs.Kernel.{opening_kernel}
-use Rattle.ro_kernel.specs.Serve.{blocks}
+use Rattle.ro_kernel.specs.Serve.{serves}
 use Rattle.ro_plain.specs.Machine.{setup_of}
 use Rattle.ro_replica.specs.Replica.{Replica, opening_replica}
 use Rattle.ro_replica.specs.Seen.{ReplicaOf, IsOpening}
@@ -70,7 +70,7 @@ opening-holds f in_range journal first count leases setup kernel blocked unblock
       kernel_is = kernel ∙ sym (ap (λ (x : Core). x.kernel) core);
       blocked_count = ap length blocked;
       blocked_are = λ t. ap (λ (bs : List (Option Call)). blocked_at bs t) blocked ∙ nothing-blocked 16 t ∙ sym (ap (λ (x : Core). x.blocked t) core);
-      unblocked_is = unblocked ∙ sym (ap (first_unblocked f.kernel) blocked ∙ lowest-never (is_unblocked f.kernel.setup f.kernel.kernel (replicate 16 None)) (length f.kernel.kernel.lives) (λ t. ap (λ (o : Option Call). option_map_or (λ call. not (blocks f.kernel.setup f.kernel.kernel t call)) o false) (nothing-blocked 16 t)));
+      unblocked_is = unblocked ∙ sym (ap (first_unblocked f.kernel) blocked ∙ lowest-never (is_unblocked f.kernel.setup f.kernel.kernel (replicate 16 None)) (length f.kernel.kernel.lives) (λ t. ap (λ (o : Option Call). option_map_or (λ call. serves f.kernel.setup f.kernel.kernel t call) o false) (nothing-blocked 16 t)));
       steps_are = steps ∙ sym (ap (λ (x : Core). x.steps) core);
       scrubbed_are = scrubbed ∙ sym (ap (λ (x : Core). x.scrubbed) core);
       streak_is = streak ∙ sym (ap (λ (x : Core). x.streak) core);

@@ -1,11 +1,10 @@
 -- An end that is due, or comes alone, in the fields of a run.
-use Rattle.std.proofs.Common.{◌≡◌, ◌⊎◌, inl, inr, ℕ, ◌+◌, ◌-◌, ◌<◌, ◌≤◌, take, true, List, [], ◌∷◌, ◌++◌, length, Option, Some, None, refl, sym, ap, ◌∙◌, subst, arith}
+use Rattle.std.proofs.Common.{◌≡◌, ◌⊎◌, inl, inr, ℕ, ◌+◌, ◌-◌, ◌<◌, ◌≤◌, take, List, [], ◌∷◌, ◌++◌, length, Option, Some, None, refl, sym, ap, ◌∙◌, subst, arith}
 use Rattle.std.specs.Prelude.{slice_get, unwrap_or}
 use Rattle.std.proofs.lemmas.Bool.{and_parts}
 use Rattle.std.proofs.lemmas.List.{length-take-le}
 use Rattle.ro_journal.specs.declared.How.{How}
 use Rattle.ro_journal.specs.declared.How.TheVariants.{Deadlock, Differ, NoMajority, Sink}
-use Rattle.ro_journal.specs.declared.Entry.{Entry}
 use Rattle.ro_journal.specs.declared.Entry.TheVariants.{End}
 use Rattle.ro_event.specs.declared.calls.Call.{Call}
 use Rattle.ro_kernel.specs.State.{State}
@@ -17,7 +16,7 @@ use Rattle.ro_legal.specs.Action.{next_action, IsNext}
 use Rattle.ro_core.specs.Seen.{EndsNow, KeepsViews}
 use Rattle.ro_legal.specs.Sound.{IsOver}
 use Rattle.ro_core.specs.Fields.{Seated, AreSeated, one_end, Fields, core_in, blocked_at, CountsBytes, Holds}
-use Rattle.ro_legal.proofs.Journals.{replay_more, outcome_of-append}
+use Rattle.ro_legal.proofs.Journals.{outcome_of-append}
 use Rattle.ro_core.specs.Grouped.{AreGrouped}
 use Rattle.ro_legal.proofs.Ordered.{ordered, going-parts}
 use Rattle.ro_legal.proofs.Nexts.{end_next, end_is}

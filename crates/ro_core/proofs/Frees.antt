@@ -11,7 +11,7 @@ use Rattle.ro_kernel.specs.Kernel.{Setup, Kernel, lives_on}
 use Rattle.ro_kernel.specs.Serve.{serve}
 use Rattle.ro_plain.specs.Machine.{setup_of}
 use Rattle.ro_replica.specs.Replica.{Replica}
-use Rattle.ro_core.specs.declared.runs.Run.{Run}
+use Rattle.ro_core.specs.declared.cores.Core.{Core as Run}
 use Rattle.ro_core.specs.declared.events.Event.{Event as Happening}
 use Rattle.ro_legal.specs.Core.{Job, Core, is_going, may_free}
 use Rattle.ro_legal.specs.Event.{Event, call_event, event_of, core_after}

@@ -1,5 +1,5 @@
 -- The fields of a run behind one entry more.
-use Rattle.std.proofs.Common.{◌≡◌, ◌⊎◌, inl, inr, ℕ, ◌+◌, ◌<◌, ◌≤◌, true, List, [], ◌∷◌, ◌++◌, length, Option, Some, None, refl, sym, ap, ◌∙◌, subst, arith}
+use Rattle.std.proofs.Common.{◌≡◌, ◌⊎◌, inl, inr, ℕ, ◌+◌, ◌≤◌, true, List, [], ◌∷◌, ◌++◌, length, Some, None, sym, ap, ◌∙◌, subst, arith}
 use Rattle.ro_journal.specs.declared.How.{How}
 use Rattle.ro_journal.specs.declared.How.TheVariants.{Limit, Differ, NoMajority}
 use Rattle.ro_journal.specs.declared.Entry.{Entry}
@@ -17,6 +17,12 @@ use Rattle.ro_core.specs.Grouped.{AreGrouped}
 use Rattle.ro_legal.proofs.Journals.{outcome_of-append, replay_more, legal_more}
 use Rattle.ro_legal.proofs.Ordered.{going-parts}
 use Rattle.ro_legal.proofs.Outcomes.{ended_is_outcome}
+
+-- of an outcome that an entry gives or the journal had
+pub outcome_cases : (journal : List Entry) (entry : Entry) (how : How) → outcome_of (journal ++ entry ∷ []) ≡ Some how → (outcome_of journal ≡ Some how) ⊎ (outcome_of (entry ∷ []) ≡ Some how)
+outcome_cases [] entry how e = inr e
+outcome_cases (End other ∷ journal) entry how e = inl e
+outcome_cases (x ∷ journal) entry how e = outcome_cases journal entry how e
 
 -- no end is due where the core goes on
 pub record Goes (f : Fields) : Type 0 where

@@ -1,38 +1,16 @@
--- What a driver that holds a lease may give back.
-use Rattle.std.proofs.Common.{◌≡◌, ◌⊎◌, inl, inr, ℕ, ◌<◌, Bool, true, false, cond, ◌||◌, List, [], ◌∷◌, Option, Some, None, refl, sym, ap, ◌∙◌, subst, eq-eqb}
-use Rattle.std.specs.Prelude.{◌==◌, IsSome, slice_get}
+-- What comes back of a lease that is out.
+use Rattle.std.proofs.Common.{◌≡◌, ℕ, Bool, true, false, cond, ◌||◌, List, [], ◌∷◌, Option, Some, None, refl, ap, ◌∙◌, eq-eqb}
+use Rattle.std.specs.Prelude.{◌==◌, slice_get}
 use Rattle.std.specs.List.{find, list_any}
-use Rattle.std.specs.Option.{option_and_then}
 use Rattle.std.proofs.lemmas.Bool.{and_from}
 use Rattle.ro_journal.specs.declared.Entry.TheVariants.{Put}
-use Rattle.ro_event.specs.declared.stops.Stop.{Stop}
-use Rattle.ro_plain.specs.Machine.{layout_of}
-use Rattle.ro_exec.specs.Next.{Layout}
-use Rattle.ro_thread.specs.declared.Thread.{Thread}
-use Rattle.ro_replica.specs.Replica.{Replica, changed_at}
-use Rattle.ro_replica.specs.Runs.{RanTo, run_of, with_stop}
-use Rattle.ro_replica.specs.Seen.{ReplicaOf, replica_of, SameProgram, Runs}
+use Rattle.ro_replica.specs.Replica.{Replica}
+use Rattle.ro_replica.specs.Runs.{RanTo}
 use Rattle.ro_legal.specs.declared.actions.Lease.{Lease}
-use Rattle.ro_legal.specs.Core.{Job, Core, lease_of}
-use Rattle.ro_legal.specs.Legal.{MayPut, arrived, arrival, is_lease, lease_run, core_after_put, after}
-use Rattle.ro_legal.specs.Laws.{HasLease}
-use Rattle.ro_core.specs.Seen.{CoreOf, state, IsOfJob, MayReturn}
+use Rattle.ro_legal.specs.Core.{Job, Core}
+use Rattle.ro_legal.specs.Legal.{arrived, is_lease, lease_run, core_after_put, after}
 use Rattle.ro_legal.proofs.Leases.{or_true}
 use Rattle.ro_legal.proofs.Lists.{get-set-same}
-
--- ---- a put, by what stands in the core
-
--- the replica with other threads
-abbrev with_threads : List Thread → Replica → Replica
-with_threads threads replica = record replica { threads = threads }
-
--- a run is of a replica that is there
-run_there : (job : Job) (core : Core) (replica thread count : ℕ) (ran : RanTo) → lease_run job core replica thread count ≡ Some ran → (r : Replica) × (slice_get core.replicas replica ≡ Some r)
-run_there job core replica thread count ran e = by (slice_get core.replicas replica) refl e
-  where
-    by : (o : Option Replica) → slice_get core.replicas replica ≡ o → option_and_then (λ r. run_of (layout_of job.program) job.settings.watchdog count r thread) o ≡ Some ran → (r : Replica) × (slice_get core.replicas replica ≡ Some r)
-    by None f g = absurd (let h : None ≡ Some ran = g in cc)
-    by (Some r) f g = (r, f)
 
 -- what a put makes of the replica
 pub put_became : (job : Job) (core : Core) (driver replica thread count hit : ℕ) (r : Replica) (ran : RanTo) → slice_get core.replicas replica ≡ Some r → lease_run job core replica thread count ≡ Some ran
@@ -41,10 +19,6 @@ unfolding after
 put_became job core driver replica thread count hit r ran there runs =
     ap (λ (o : Option RanTo). slice_get (core_after_put job core driver replica thread count o).replicas replica) runs
     ∙ get-set-same core.replicas replica r (arrived job thread count ran.replica) there
-
--- the run of the same replica
-same_run : (job : Job) (one other : Core) (replica thread count : ℕ) → slice_get one.replicas replica ≡ slice_get other.replicas replica → lease_run job one replica thread count ≡ lease_run job other replica thread count
-same_run job one other replica thread count e = ap (option_and_then (λ r. run_of (layout_of job.program) job.settings.watchdog count r thread)) e
 
 -- a lease that is found is out
 pub out_found : (driver : ℕ) (lease : Lease) (leases : List Lease) → find (λ l. l.driver == driver) leases ≡ Some lease → list_any (is_lease driver lease.replica lease.thread) leases ≡ true
@@ -60,112 +34,3 @@ out_found driver lease (l ∷ leases) e = by (l.driver == driver) refl e (λ f. 
         in
         ap (λ (b : Bool). b || list_any (is_lease driver lease.replica lease.thread) leases) here
     by false is f rest = or_true (is_lease driver lease.replica lease.thread l) (list_any (is_lease driver lease.replica lease.thread) leases) (rest f)
-
--- ---- it stays so while others take their turns
-
--- what may be given back is of a lease that is out
-pub returns_out : (core : CoreOf) (driver count hit : ℕ) (value : ReplicaOf) (m : MayReturn core driver value count hit) → (r : Replica) × HasLease (state core) driver m.lease r
-returns_out core driver count hit value m =
-    let there = run_there core.job (state core) m.lease.replica m.lease.thread count m.allowed.ran m.allowed.runs in
-    (there.0, record { held = m.held; there = there.1; not_ended = m.allowed.not_ended })
-
--- and may be given back to any core in which the lease is out with that replica
-pub out_returns : (one other : CoreOf) (driver count hit : ℕ) (value : ReplicaOf) (m : MayReturn one driver value count hit) (r : Replica) → other.job ≡ one.job → slice_get (state one).replicas m.lease.replica ≡ Some r → HasLease (state other) driver m.lease r
-    → (k : MayReturn other driver value count hit) × (k.lease ≡ m.lease)
-out_returns one other driver count hit value m r job there out = (
-  record {
-    lease = lease;
-    held = out.held;
-    allowed = subst (λ (j : Job). MayPut j (state other) driver lease.replica lease.thread count hit) (sym job) may;
-    program = record {
-      layout = m.program.layout ∙ sym (ap (λ (j : Job). layout_of j.program) job);
-      watchdog = m.program.watchdog ∙ sym (ap (λ (j : Job). j.settings.watchdog) job);
-    };
-    became = ap (λ (j : Job). slice_get (after j (state other) (Put driver lease.replica lease.thread count hit)).replicas lease.replica) job
-        ∙ put_became one.job (state other) driver lease.replica lease.thread count hit r m.allowed.ran out.there runs
-        ∙ sym (put_became one.job (state one) driver lease.replica lease.thread count hit r m.allowed.ran there m.allowed.runs)
-        ∙ m.became;
-  },
-  refl,
-)
-  where
-    lease : Lease
-    lease = m.lease
-
-    runs : lease_run one.job (state other) lease.replica lease.thread count ≡ Some m.allowed.ran
-    runs = same_run one.job (state other) (state one) lease.replica lease.thread count (out.there ∙ sym there) ∙ m.allowed.runs
-
-    may : MayPut one.job (state other) driver lease.replica lease.thread count hit
-    may = record {
-      not_ended = out.not_ended;
-      out = out_found driver lease (state other).leases out.held;
-      ran = m.allowed.ran;
-      runs = runs;
-      struck = m.allowed.struck;
-      arrives = m.allowed.arrives;
-    }
-
--- ---- a fresh lease
-
--- the core while a replica is lent
-abbrev pub lending : Core → (driver replica thread : ℕ) → Core
-lending core driver replica thread = record core { leases = record { driver = driver; replica = replica; thread = thread } ∷ core.leases; wrote = 0 }
-
-module _ (job : Job) (start : Core) (driver replica thread quantum count hit : ℕ) (lent value : ReplicaOf) (stop : Option Stop)
-    (alive : start.ended ≡ None) (there : slice_get start.replicas replica ≡ Some (replica_of lent)) (program : IsOfJob job lent)
-    (same : SameProgram value lent) (quantum_is : quantum ≡ job.settings.quantum)
-    (runs : Runs lent.layout lent.watchdog quantum thread (replica_of lent) (replica_of value) count hit stop) where
-  job_runs : Runs (layout_of job.program) job.settings.watchdog job.settings.quantum thread (replica_of lent) (replica_of value) count hit stop
-  job_runs =
-      subst (λ (n : ℕ). Runs (layout_of job.program) job.settings.watchdog n thread (replica_of lent) (replica_of value) count hit stop) quantum_is
-      (subst (λ (w : ℕ). Runs (layout_of job.program) w quantum thread (replica_of lent) (replica_of value) count hit stop) program.watchdog
-      (subst (λ (l : Layout). Runs l lent.watchdog quantum thread (replica_of lent) (replica_of value) count hit stop) program.layout runs))
-
-  lease_runs : lease_run job (lending start driver replica thread) replica thread count ≡ Some job_runs.end
-  lease_runs = ap (option_and_then (λ r. run_of (layout_of job.program) job.settings.watchdog count r thread)) there ∙ job_runs.runs
-
-  abbrev pub its_lease : Lease
-  its_lease = record { driver = driver; replica = replica; thread = thread }
-
-  pub lent_held : lease_of (lending start driver replica thread) driver ≡ Some its_lease
-  lent_held = ap (λ (b : Bool). cond b (Some its_lease) (find (λ (l : Lease). l.driver == driver) start.leases)) (eq-eqb driver driver refl)
-
-  pub lent_may_put : MayPut job (lending start driver replica thread) driver replica thread count hit
-  lent_may_put = record {
-    not_ended = alive;
-    out = out_found driver its_lease (its_lease ∷ start.leases) lent_held;
-    ran = job_runs.end;
-    runs = lease_runs;
-    struck = job_runs.hit_is;
-    arrives = by job_runs.arrives;
-  }
-    where
-      by : (count ≡ job.settings.quantum) ⊎ ((count < job.settings.quantum) × IsSome stop) → (count ≡ job.settings.quantum) ⊎ ((count < job.settings.quantum) × IsSome (arrival job thread count job_runs.end.replica))
-      by (inl whole) = inl whole
-      by (inr early) = inr (early.0, subst (λ (o : Option Stop). IsSome o) job_runs.stop_is early.1)
-
-  pub lent_became : slice_get (after job (lending start driver replica thread) (Put driver replica thread count hit)).replicas replica ≡ Some (replica_of value)
-  lent_became =
-      put_became job (lending start driver replica thread) driver replica thread count hit (replica_of lent) job_runs.end there lease_runs ∙ ap (λ (r : Replica). Some r) (sym arrived_is)
-    where
-      arrived_is : replica_of value ≡ arrived job thread count job_runs.end.replica
-      arrived_is = job_runs.new_is ∙ ap (λ (o : Option Stop). with_threads (changed_at (with_stop o) job_runs.end.replica.threads thread) job_runs.end.replica) job_runs.stop_is
-
-  -- to a core that has just lent it
-  pub lent_returns : (core : CoreOf) → core.job ≡ job → state core ≡ lending start driver replica thread → (k : MayReturn core driver value count hit) × (k.lease.replica ≡ replica) × (k.lease.thread ≡ thread)
-  lent_returns core job_is at = (
-    record {
-      lease = its_lease;
-      held = ap (λ (c : Core). lease_of c driver) at ∙ lent_held;
-      allowed = subst (λ (j : Job). MayPut j (state core) driver replica thread count hit) (sym job_is) (subst (λ (c : Core). MayPut job c driver replica thread count hit) (sym at) lent_may_put);
-      program = record {
-        layout = same.layout ∙ program.layout ∙ sym (ap (λ (j : Job). layout_of j.program) job_is);
-        watchdog = same.watchdog ∙ program.watchdog ∙ sym (ap (λ (j : Job). j.settings.watchdog) job_is);
-      };
-      became = ap (λ (j : Job). slice_get (after j (state core) (Put driver replica thread count hit)).replicas replica) job_is
-          ∙ ap (λ (c : Core). slice_get (after job c (Put driver replica thread count hit)).replicas replica) at
-          ∙ lent_became;
-    },
-    refl,
-    refl,
-  )

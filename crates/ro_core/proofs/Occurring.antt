@@ -6,7 +6,7 @@ use Rattle.ro_journal.specs.Plan.{event_steps}
 use Rattle.ro_kernel.specs.Kernel.{Kernel, lives_on}
 use Rattle.ro_kernel.specs.State.{State}
 use Rattle.ro_settings.proofs.Counts.{few-replicas}
-use Rattle.ro_core.specs.declared.runs.Run.{Run}
+use Rattle.ro_core.specs.declared.cores.Core.{Core as Run}
 use Rattle.ro_core.specs.declared.voting.Occurrence.{Occurrence}
 use Rattle.ro_legal.specs.Streaks.{after_event}
 use Rattle.ro_legal.specs.Core.{Job, Core, is_going}

@@ -1,11 +1,11 @@
 -- A vote of views that have no majority.
-use Rattle.std.proofs.Common.{inl, ◌≡◌, ◌≢◌, ℕ, Bool, true, false, true≢false, [], ◌∷◌, ◌++◌, length, None, refl, sym, ap, ◌∙◌, subst, arith, eqb-true}
+use Rattle.std.proofs.Common.{inl, ◌≡◌, ◌≢◌, ℕ, Bool, true, false, true≢false, [], ◌∷◌, ◌++◌, length, None, refl, sym, ap, ◌∙◌, arith, eqb-true}
 use Rattle.std.specs.Prelude.{◌==◌, if◌then◌else◌}
 use Rattle.std.proofs.lemmas.Bool.{eq-eqb}
 use Rattle.ro_journal.specs.declared.How.TheVariants.{Differ, NoMajority, Sink}
 use Rattle.ro_journal.specs.declared.Entry.TheVariants.{End}
 use Rattle.ro_vote.specs.Verdict.{verdict_of, Split}
-use Rattle.ro_legal.specs.Core.{Core, is_going, may_vote, views_of}
+use Rattle.ro_legal.specs.Core.{is_going, may_vote, views_of}
 use Rattle.ro_legal.specs.Legal.{MayEnd, for_vote, EndsVote}
 use Rattle.ro_core.specs.Seen.{KeepsViews}
 use Rattle.ro_core.specs.Fields.{Fields, core_in, split_end, Holds}

@@ -1,5 +1,5 @@
 -- A take, in the fields of a run.
-use Rattle.std.proofs.Common.{◌≡◌, inl, ℕ, zero, suc, ◌+◌, ◌*◌, ◌^◌, ◌<◌, ◌≤◌, Bool, true, false, cond, List, [], ◌∷◌, ◌++◌, length, Option, Some, None, refl, sym, ap, ◌∙◌, subst, arith, lt-ltb}
+use Rattle.std.proofs.Common.{◌≡◌, ℕ, zero, suc, ◌+◌, ◌*◌, ◌^◌, ◌<◌, ◌≤◌, Bool, true, false, cond, List, [], ◌∷◌, ◌++◌, length, Option, Some, None, refl, sym, ap, ◌∙◌, subst, arith, lt-ltb}
 use Rattle.std.specs.Prelude.{IfSome, slice_get, slice_set}
 use Rattle.std.specs.Option.{option_map_or}
 use Rattle.std.proofs.lemmas.Bool.{and_parts}
@@ -15,7 +15,7 @@ use Rattle.ro_replica.specs.Views.{is_unstopped}
 use Rattle.ro_replica.specs.Seen.{ReplicaOf, replica_of, CanCount}
 use Rattle.ro_legal.specs.declared.actions.Lease.{Lease}
 use Rattle.ro_legal.specs.Core.{Job, Core}
-use Rattle.ro_legal.specs.Legal.{after, IsAllowed, MayTake, output_of}
+use Rattle.ro_legal.specs.Legal.{after, MayTake, output_of}
 use Rattle.ro_core.specs.Seen.{IsOfJob}
 use Rattle.ro_legal.specs.Sound.{Counts}
 use Rattle.ro_core.specs.Fields.{spare_of, Seated, AreSeated, IsSeat, one_end, Fields, core_in, blocked_at, Holds}
@@ -23,7 +23,6 @@ use Rattle.ro_legal.proofs.Journals.{replay_more, outcome_of-append}
 use Rattle.ro_legal.proofs.Leases.{AtHome, lendable_there}
 use Rattle.ro_core.proofs.Homes.{seat_there, take_seated}
 use Rattle.ro_core.specs.Grouped.{AreGrouped}
-use Rattle.ro_legal.proofs.Ordered.{going-parts}
 use Rattle.ro_legal.proofs.Counted.{counted}
 use Rattle.ro_core.proofs.Held.{Goes, goes, no-views, no-outcome, same-counts, same-unblocked, holds-step}
 

@@ -10,7 +10,7 @@ use Rattle.ro_event.specs.declared.stops.Stop.{Stop}
 use Rattle.ro_thread.specs.declared.Thread.{Thread}
 use Rattle.ro_kernel.specs.declared.Life.{Life}
 use Rattle.ro_kernel.specs.Kernel.{Setup, Kernel, live_option, lives_on}
-use Rattle.ro_kernel.specs.Serve.{blocks}
+use Rattle.ro_kernel.specs.Serve.{serves}
 use Rattle.ro_plain.specs.Machine.{setup_of}
 use Rattle.ro_replica.specs.Replica.{Replica, stop_of}
 use Rattle.ro_replica.specs.Views.{is_unstopped}
@@ -18,7 +18,7 @@ use Rattle.ro_replica.specs.Seen.{ReplicaOf, replica_of}
 use Rattle.ro_legal.specs.declared.actions.Action.TheVariants.{Lend, Vote as DoVote}
 use Rattle.ro_legal.specs.declared.actions.Lease.{Lease}
 use Rattle.ro_legal.specs.Core.{Job, Core, is_going, nothing_lent, is_home, is_lendable, may_vote, may_free}
-use Rattle.ro_legal.specs.Legal.{any_below, replay}
+use Rattle.ro_legal.specs.Legal.{any_below}
 use Rattle.ro_legal.specs.declared.actions.Streak.{Streak}
 use Rattle.ro_legal.specs.Streaks.{is_long, comes_last}
 use Rattle.ro_legal.specs.Action.{or_else, lowest_below, map_action, threads_made, is_turn, may_vote_in, may_lend_in, lend_in, lend_turn, turn_next}
@@ -73,7 +73,7 @@ lowest-same test other (suc n) same =
 -- a core that does not go on, or has lent something, frees nobody, and votes on nobody
 pub none-freed : (job : Job) (core : Core) (n : ℕ) → (is_going core && nothing_lent core) ≡ false → lowest_below n (may_free job core) ≡ None
 none-freed job core n busy =
-    lowest-never (may_free job core) n (λ k. ap (λ (b : Bool). b && option_map_or (λ call. not (blocks (setup_of job.program) core.kernel k call)) (core.blocked k) false) busy)
+    lowest-never (may_free job core) n (λ k. ap (λ (b : Bool). b && option_map_or (λ call. serves (setup_of job.program) core.kernel k call) (core.blocked k) false) busy)
 
 pub none-voted : (core : Core) (last : Bool) (n : ℕ) → (is_going core && nothing_lent core) ≡ false → lowest_below n (may_vote_in core last) ≡ None
 none-voted core last n busy =
@@ -163,7 +163,7 @@ module _ (f : Fields) (h : Holds f) where
 
   -- and that of a free
   abbrev free-test : (thread : ℕ) → Bool → ℕ → Kernel → Option Call → Bool
-  free-test thread going lent kernel call = going && (lent == 0) && option_map_or (λ c. not (blocks (setup_of f.job.program) kernel thread c)) call false
+  free-test thread going lent kernel call = going && (lent == 0) && option_map_or (λ c. serves (setup_of f.job.program) kernel thread c) call false
 
   -- and that of a lease
   pub is-lendable-is : (replica thread : ℕ) (seat : Option ReplicaOf) → slice_get f.seats replica ≡ Some seat → (seat_unstopped thread seat && lives_on f.kernel.kernel thread) ≡ is_lendable (core_in f) replica thread
@@ -197,10 +197,10 @@ module _ (f : Fields) (h : Holds f) where
   -- what is left of the test of a free where the core goes on and has lent nothing
   free-same : (is_going (core_in f) && nothing_lent (core_in f)) ≡ true → (thread : ℕ) → is_unblocked f.kernel.setup f.kernel.kernel f.blocked thread ≡ may_free f.job (core_in f) thread
   free-same idle thread =
-      ap (λ (s : Setup). option_map_or (λ call. not (blocks s f.kernel.kernel thread call)) (blocked_at f.blocked thread) false) h.setup_is
-      ∙ ap (λ (k : Kernel). option_map_or (λ call. not (blocks (setup_of f.job.program) k thread call)) (blocked_at f.blocked thread) false) h.kernel_is
-      ∙ ap (λ (o : Option Call). option_map_or (λ call. not (blocks (setup_of f.job.program) (core_in f).kernel thread call)) o false) (h.blocked_are thread)
-      ∙ ap (λ (b : Bool). b && option_map_or (λ call. not (blocks (setup_of f.job.program) (core_in f).kernel thread call)) ((core_in f).blocked thread) false) (sym idle)
+      ap (λ (s : Setup). option_map_or (λ call. serves s f.kernel.kernel thread call) (blocked_at f.blocked thread) false) h.setup_is
+      ∙ ap (λ (k : Kernel). option_map_or (λ call. serves (setup_of f.job.program) k thread call) (blocked_at f.blocked thread) false) h.kernel_is
+      ∙ ap (λ (o : Option Call). option_map_or (λ call. serves (setup_of f.job.program) (core_in f).kernel thread call) o false) (h.blocked_are thread)
+      ∙ ap (λ (b : Bool). b && option_map_or (λ call. serves (setup_of f.job.program) (core_in f).kernel thread call) ((core_in f).blocked thread) false) (sym idle)
 
   pub freed-is : (is_going (core_in f) && nothing_lent (core_in f)) ≡ true → f.unblocked ≡ lowest_below (threads_made (core_in f)) (may_free f.job (core_in f))
   freed-is idle =

@@ -1,12 +1,11 @@
 -- The views of a vote, in the fields of a run.
-use Rattle.std.proofs.Common.{◌≤◌, ◌≡◌, ℕ, true, List, length, None, Result, Ok, Err, sym, ap, ◌∙◌, arith}
+use Rattle.std.proofs.Common.{◌≤◌, ◌≡◌, ℕ, true, List, length, None, Result, Ok, Err, ◌∙◌, arith}
 use Rattle.std.specs.Prelude.{OnErr}
-use Rattle.std.specs.List.{list_all, filter_map}
+use Rattle.std.specs.List.{list_all}
 use Rattle.std.proofs.lemmas.Bool.{and_parts}
 use Rattle.ro_event.specs.Views.{View}
-use Rattle.ro_replica.specs.Views.{view_of}
 use Rattle.ro_settings.proofs.Counts.{few-replicas}
-use Rattle.ro_legal.specs.Core.{Core, may_vote, views_of}
+use Rattle.ro_legal.specs.Core.{may_vote}
 use Rattle.ro_core.specs.Fields.{AreHome, Fields, core_in, Holds}
 use Rattle.ro_core.specs.Grouped.{seat_stopped}
 use Rattle.ro_core.proofs.Held.{goes, no-outcome, no-views}

@@ -7,7 +7,6 @@ use Rattle.std.specs.Option.{option_map_or}
 use Rattle.std.proofs.lemmas.Bool.{and_parts}
 use Rattle.std.proofs.lemmas.Option.{slice_get_within, slice_get-get_or}
 use Rattle.ro_journal.specs.declared.Did.{Did}
-use Rattle.ro_journal.specs.declared.How.{How}
 use Rattle.ro_journal.specs.declared.How.TheVariants.{Limit}
 use Rattle.ro_journal.specs.declared.Entry.{Entry}
 use Rattle.ro_journal.specs.declared.Entry.TheVariants.{Vote}
@@ -20,7 +19,7 @@ use Rattle.ro_event.specs.declared.stops.Stop.TheVariants.{Calls, Trap as TrapSt
 use Rattle.ro_event.specs.Effects.{Effect}
 use Rattle.ro_event.specs.Views.{View}
 use Rattle.ro_kernel.specs.Kernel.{Setup, Kernel, lives_on}
-use Rattle.ro_kernel.specs.Serve.{Served, Done, Blocked, Ends, serve}
+use Rattle.ro_kernel.specs.Serve.{Served, Done, Parked, Blocked, Ends, serve}
 use Rattle.ro_kernel.specs.State.{State}
 use Rattle.ro_exec.specs.Next.{Backed}
 use Rattle.ro_settings.specs.Ranges.{InRange}
@@ -29,7 +28,7 @@ use Rattle.ro_vote.proofs.Verdicts.{WonBy, won-by}
 use Rattle.ro_plain.specs.Machine.{setup_of}
 use Rattle.ro_replica.specs.Replica.{Replica, applied, cancelled, stop_of}
 use Rattle.ro_replica.specs.Seen.{ReplicaOf, replica_of}
-use Rattle.ro_core.specs.declared.runs.Run.{Run}
+use Rattle.ro_core.specs.declared.cores.Core.{Core as Run}
 use Rattle.ro_core.specs.declared.events.Event.{Event as Happening}
 use Rattle.ro_legal.specs.Core.{Job, Core, is_going, may_vote, views_of}
 use Rattle.ro_legal.specs.Event.{Event, call_event, event_of, with_recovered, all_applied, core_after}
@@ -69,6 +68,7 @@ live-few f h thread e =
 module _ (setup : Setup) (kernel : Kernel) (thread : ℕ) where
   pub no-page : (call : Call) (payload : List ℕ) (served : Served) → Tidy kernel thread served → (call_event kernel thread call payload served).effect.page ≡ None
   no-page call payload (Done after effect) (tidy_done t) = t.backs_none
+  no-page call payload (Parked after) t = refl
   no-page call payload Blocked t = refl
   no-page call payload (Ends after how) t = refl
 
@@ -302,6 +302,7 @@ module _ (f : Fields) (thread won : ℕ) (lost : Lost) (v : IsHeld f thread won 
 
 payload-call : (kernel : Kernel) (thread : ℕ) (call : Call) (payload : List ℕ) (served : Served) (n : ℕ) → n < length (call_event kernel thread call payload served).payload → (call_event kernel thread call payload served).due ≡ None
 payload-call kernel thread call payload (Done after effect) n less = refl
+payload-call kernel thread call payload (Parked after) n less = refl
 payload-call kernel thread call payload Blocked n less = refl
 payload-call kernel thread call payload (Ends after how) n less = absurd (omega arith)
 
@@ -315,6 +316,7 @@ payload-due setup kernel thread (TrapStop code) payload n less = absurd (omega a
 
 payload-few-call : (kernel : Kernel) (thread : ℕ) (call : Call) (payload : List ℕ) (served : Served) → length payload ≤ 4096 → length (call_event kernel thread call payload served).payload ≤ 4096
 payload-few-call kernel thread call payload (Done after effect) few = few
+payload-few-call kernel thread call payload (Parked after) few = omega arith
 payload-few-call kernel thread call payload Blocked few = omega arith
 payload-few-call kernel thread call payload (Ends after how) few = omega arith
 
@@ -329,6 +331,7 @@ payload-few setup kernel thread (TrapStop code) payload few = omega arith
 -- what is written fits the steps of its event
 pub writes-step-call : (kernel : Kernel) (thread : ℕ) (call : Call) (payload : List ℕ) (served : Served) → length payload ≤ 4096 → length (call_event kernel thread call payload served).payload ≤ 4096 * event_steps (call_event kernel thread call payload served).did
 writes-step-call kernel thread call payload (Done after effect) few = few
+writes-step-call kernel thread call payload (Parked after) few = omega arith
 writes-step-call kernel thread call payload Blocked few = omega arith
 writes-step-call kernel thread call payload (Ends after how) few = omega arith
 

@@ -1,7 +1,7 @@
 //! What the core does next.
 ghost use Rattle.std.specs.Prelude.{◌≡◌, ◌<◌, ◌&&◌, ℕ, None, length, not, true, false};
 ghost use Rattle.std.specs.Option.{option_map_or};
-ghost use Rattle.ro_kernel.specs.Serve.{blocks};
+ghost use Rattle.ro_kernel.specs.Serve.{serves};
 ghost use Rattle.ro_legal.specs.Core.{is_going, nothing_lent, is_lendable, may_vote, may_free};
 ghost use Rattle.ro_legal.specs.Legal.{is_stuck, may_scrub};
 ghost use Rattle.ro_legal.specs.Streaks.{is_long};
@@ -9,13 +9,13 @@ ghost use Rattle.ro_legal.specs.Action.{lowest_below, threads_made, may_vote_in,
 ghost use Rattle.ro_core.specs.Fields.{first_unblocked, Holds};
 ghost use Rattle.ro_core.specs.Runs.{fields_of, job_of, state_of};
 
-use crate::runs::{Run, THREADS};
+use crate::cores::{Core, THREADS};
 use ro_event::Call;
 use ro_journal::How;
 use ro_kernel::Kernel;
 use ro_legal::Action;
 
-impl Run {
+impl Core {
     /// What comes next: an end that is due; else, where nothing is lent, the lowest thread is freed or voted on; else the
     /// lowest thread of the lowest replica is lent. A thread that had its votes in a row is voted on and lent last.
     pub fn next_action(&self) -> Action
@@ -219,8 +219,7 @@ impl Run {
 
     /// The call on which a thread is blocked, if it is.
     pub fn blocked_call(&self, thread: u32) -> Option<Call>
-        requires holds { Holds (fields_of self.now) }
-        ensures { result ≡ (state_of self.now).blocked thread }
+        ensures { Holds (fields_of self.now) → result ≡ (state_of self.now).blocked thread }
     {
         match self.blocked.get(thread as usize) {
             Some(call) => *call,
@@ -256,7 +255,7 @@ impl Run {
         }
     }
 
-    /// Whether the call on which a thread is blocked no longer blocks.
+    /// Whether the call on which a thread is blocked would be done now.
     pub fn may_free(&self, thread: u32) -> bool
         requires holds { Holds (fields_of self.now) }
         ensures { result ≡ may_free (job_of self.now) (state_of self.now) thread }
@@ -292,8 +291,8 @@ impl Run {
         self.is_idle() && self.first_action().is_none()
     }
 
-    /// Whether a thread may be lent in a replica.
-    pub fn is_lendable(&self, replica: u32, thread: u32) -> bool
+    // Whether a thread may be lent in a replica.
+    pub(crate) fn is_lendable(&self, replica: u32, thread: u32) -> bool
         requires holds { Holds (fields_of self.now) }
         requires replica { replica < length (state_of self.now).replicas }
         ensures { result ≡ is_lendable (state_of self.now) replica thread }
@@ -302,7 +301,7 @@ impl Run {
     }
 }
 
-/// The lowest thread whose call, on which it is blocked, no longer blocks.
+/// The lowest thread whose call, on which it is blocked, would be done now.
 pub(crate) fn lowest_unblocked(kernel: &Kernel, blocked: &[Option<Call>; THREADS]) -> Option<u32>
     ensures { result ≡ first_unblocked kernel.now blocked.now }
 {
@@ -314,9 +313,9 @@ pub(crate) fn lowest_unblocked(kernel: &Kernel, blocked: &[Option<Call>; THREADS
     None
 }
 
-// Whether a call on which a thread is blocked, if it is, no longer blocks.
+// Whether a call on which a thread is blocked, if it is, would be done now.
 fn goes_on(kernel: &Kernel, thread: u32, blocked: Option<Call>) -> bool
-    ensures { result ≡ option_map_or (λ call. not (blocks kernel.now.setup kernel.now.kernel thread call)) blocked false }
+    ensures { result ≡ option_map_or (λ call. serves kernel.now.setup kernel.now.kernel thread call) blocked false }
 {
     match blocked {
         Some(call) => kernel.ready(thread, call),

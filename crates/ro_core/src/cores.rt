@@ -1,50 +1,61 @@
-//! The core: a sequential machine whose journal only grows. It is a run and the sink of its bytes.
-ghost use Rattle.std.specs.Prelude.{◌≡◌, ◌≢◌, ◌⊎◌, [], ℕ, List, Some, None, IsSome, IfOk, IfErr, OnErr, OnOk, IsTrue, length};
-ghost use Rattle.ro_journal.specs.declared.How.TheVariants.{Differ, NoMajority};
-ghost use Rattle.ro_journal.specs.declared.Entry.TheVariants.{Take, End};
+//! The core: a sequential machine whose journal only grows. It is plain data, and knows no sink.
+ghost use Rattle.std.specs.Prelude.{◌≡◌, ◌≢◌, ◌⊎◌, ◌-◌, ◌≤◌, ◌++◌, ◌∷◌, [], ℕ, Some, true};
+ghost use Rattle.ro_journal.specs.declared.How.TheVariants.{Differ, NoMajority, Sink as BySink};
+ghost use Rattle.ro_journal.specs.declared.Entry.TheVariants.{End};
 ghost use Rattle.ro_journal.specs.Plan.{outcome_of};
-ghost use Rattle.ro_settings.specs.Ranges.{InRange};
-ghost use Rattle.ro_replica.specs.Seen.{AreFaults};
-ghost use Rattle.ro_legal.specs.Core.{may_vote, may_free, views_of};
-ghost use Rattle.ro_legal.specs.Legal.{IsAllowed, Legal, may_scrub, replay};
+ghost use Rattle.ro_legal.specs.Core.{is_going};
+ghost use Rattle.ro_legal.specs.declared.actions.Action.TheVariants.{End as DoEnd};
+ghost use Rattle.ro_legal.specs.Legal.{IsAllowed, MayEnd, EndsAlone, output_of};
 ghost use Rattle.ro_legal.specs.Action.{next_action as next, IsNext};
-ghost use Rattle.ro_core.specs.Seen.{state, sent, EndsNow, Opens, Appends, Quiet, Sends, IsOfMajority, Stays, KeepsViews, HasRoom, IsLent, MayReturn, ReturnIs};
-ghost use Rattle.ro_legal.specs.Decides.{DecidesVote, DecidesFree, DecidesScrub, IsSplit};
+ghost use Rattle.ro_core.specs.Seen.{Appends, KeepsViews};
+ghost use Rattle.ro_core.specs.Fields.{Holds, HoldsUnseen};
+ghost use Rattle.ro_core.specs.Runs.{fields_of, job_of, state_of, silent};
 
-use crate::runs::Run;
-use ro_event::View;
+use crate::seats::Seats;
+use ro_event::{Call, View};
 use ro_faults::Fault;
 use ro_image::Executable;
-use ro_io::{Sink, send};
 use ro_journal::{Entry, How};
-use ro_legal::Action;
-use ro_replica::{Ran, ReplicaBox};
+use ro_kernel::Kernel;
+use ro_legal::{Lease, Streak};
 use ro_settings::Settings;
-use std::alloc::{AllocError, Global};
-use std::marker::Model;
+use std::alloc::Global;
 
-/// The core of a run. It keeps what it was opened with beside its journal.
-pub struct Core<K: Sink> {
-    pub(crate) run: Run,
-    pub(crate) out: K,
-    /// Where the sink failed, how many bytes of the last write it took; the end by it is due, and its entry has not come.
-    pub(crate) failed: Option<u32>,
-}
+/// How many threads a program may make.
+pub(crate) const THREADS: usize = ro_limits::MOST_THREADS as usize;
 
-impl<K: Sink> Model for Core<K> {
-    ghost use Rattle.ro_core.specs.Seen.{CoreOf};
-    ghost use Rattle.ro_core.specs.Fields.{Cuts, Holds, IsFresh};
-    ghost use Rattle.ro_core.specs.Runs.{fields_of, core_of};
-
-    ghost Value = { CoreOf };
-
-    ghost view = { λ c. core_of (fields_of c.run) c.failed (K.held c.out) (K.failures c.out) (K.sure c.out) };
-
-    ghost invariant = { λ c. Holds (fields_of c.run) × Cuts (fields_of c.run) c.failed × IsFresh (fields_of c.run) c.failed (K.failures c.out) };
+/// The core of a run: what it was opened with, its journal, and what that journal leaves.
+pub struct Core {
+    pub(crate) image: Executable,
+    pub(crate) faults: Vec<Fault>,
+    pub(crate) settings: Settings,
+    pub(crate) journal: Vec<Entry>,
+    pub(crate) seats: Seats,
+    pub(crate) leases: Vec<Lease>,
+    pub(crate) kernel: Kernel,
+    /// Of each thread the voted call on which it is blocked.
+    pub(crate) blocked: [Option<Call>; THREADS],
+    /// The lowest thread whose call, on which it is blocked, would be done now. Only an event changes which one that is.
+    pub(crate) unblocked: Option<u32>,
+    /// The length of the plan so far.
+    pub(crate) steps: u64,
+    /// How long it was at the last scrub.
+    pub(crate) scrubbed: u64,
+    /// Whose votes came last, and how many in a row.
+    pub(crate) streak: Streak,
+    /// How many bytes the events wrote.
+    pub(crate) sent: u64,
+    /// How many of them the last entry's event did.
+    pub(crate) wrote: u32,
+    pub(crate) due: Option<How>,
+    pub(crate) ended: Option<How>,
+    /// Room for the views of a vote, one for each replica.
+    pub(crate) views: Vec<View>,
+    pub(crate) alloc: Global,
 }
 
 /// What a core leaves behind.
-pub struct Finished<K> {
+pub struct Finished {
     /// The image with which it was opened.
     pub image: Executable,
     /// How the run ended, if it did.
@@ -52,167 +63,55 @@ pub struct Finished<K> {
     /// Where it ended by a vote of views that had no majority, those views in the order of the replicas.
     pub views: Vec<View>,
     pub journal: Vec<Entry>,
-    /// How many bytes the run wrote.
-    pub bytes: u64,
-    pub out: K,
 }
 
-/// What `begin` was given to keep.
-pub struct Refused<K> {
-    pub image: Executable,
-    pub out: K,
-}
-
-impl<K: Sink> Core<K> {
-    /// Opens a core for the program of an image, an input and faults to be struck, over a sink that has not failed.
-    ///
-    /// # Errors
-    /// Where there is no memory; the image and the sink come back.
-    pub fn begin(
-        alloc: Global,
-        image: Executable,
-        input: &[u8],
-        faults: &[Fault],
-        settings: Settings,
-        out: K,
-    ) -> Result<Core<K>, Refused<K>>
-        requires settings { InRange settings }
-        requires faults { AreFaults faults.now }
-        requires unfailed { K.failures out ≡ 0 }
-        ensures opens { IfOk result (λ c. Opens (record { program = record { image = image; input = input.now }; faults = faults.now; settings = settings }) (K.held out) (K.failures out) (K.sure out) c) }
-        ensures back { IfErr result (λ r. (r.image ≡ image) × (r.out ≡ out)) }
-    {
-        match Run::begin(alloc, image, input, faults, settings) {
-            Ok(run) => Ok(Core {
-                run,
-                out,
-                failed: None,
-            }),
-            Err(image) => Err(Refused { image, out }),
-        }
-    }
-
-    /// What comes next: an end that is due; else, where nothing is lent, the lowest thread is freed or voted on; else the
-    /// lowest thread of the lowest replica is lent.
-    pub fn next_action(&self) -> Action
-        ensures next { result ≡ next self.now.job (state self.now) }
-    {
-        match self.failed {
-            Some(taken) => Action::End(How::Sink(taken)),
-            None => self.run.next_action(),
-        }
-    }
-
-    /// Makes room for a take, its put, the puts of the leases that are out, and the end.
-    ///
-    /// # Errors
-    /// Where there is no memory.
-    pub fn room(&mut self) -> Result<(), AllocError>
-        ensures stays { Stays self.old self.new }
-        ensures room { OnOk result (HasRoom self.new) }
-    {
-        self.run.room()
-    }
-
-    /// Lends a replica's thread to a driver.
-    pub fn take(&mut self, driver: u32, replica: u32, thread: u32) -> ReplicaBox
-        requires allowed { IsAllowed self.old.job (state self.old) (Take driver replica thread) }
-        requires room { HasRoom self.old }
-        ensures entry { Appends self.old self.new (Take driver replica thread) }
-        ensures quiet { Quiet self.old self.new }
-        ensures lent { IsLent self.old replica thread result }
-    {
-        self.run.take(driver, replica, thread)
-    }
-
-    /// Puts a replica back that a driver has run.
-    pub fn put(&mut self, driver: u32, lent: ReplicaBox, ran: Ran)
-        requires { MayReturn self.old driver lent ran.count ran.hit }
-        ensures entry { ReturnIs self.old self.new driver ran.count ran.hit }
-        ensures quiet { Quiet self.old self.new }
-    {
-        self.run.put(driver, lent, ran);
-    }
-
-    /// Votes on a thread that stands still in every replica: its event is done once, and the entry that was
-    /// appended is answered. Where the views have no majority, or the limit of steps would be passed, that is an end.
-    ///
-    /// # Errors
-    /// Where there is no memory; nothing has changed then.
-    pub fn vote(&mut self, thread: u32) -> Result<Entry, AllocError>
-        requires { IsTrue (may_vote (state self.old) thread) }
-        ensures entry { IfOk result (λ entry. IsAllowed self.old.job (state self.old) entry × DecidesVote self.old.job (state self.old) thread entry × Appends self.old self.new entry) }
-        ensures sends { OnOk result ((bytes : List ℕ) × Sends self.old self.new bytes × ((bytes ≡ []) ⊎ IsOfMajority (views_of self.old.job (state self.old) thread) bytes)) }
-        ensures shown { IfOk result (λ entry. IsSplit entry → self.new.views ≡ views_of self.old.job (state self.old) thread) }
-        ensures err { OnErr result (Stays self.old self.new) }
-    {
-        let voted = self.run.vote(thread)?;
-        let payload = self.run.payload(voted.writer);
-        let failed = send(&mut self.out, payload);
-        self.failed = failed;
-        Ok(voted.entry)
-    }
-
-    /// Serves the call on which a thread is blocked, and answers the entry that was appended. Where the limit of steps would
-    /// be passed, that is an end.
-    ///
-    /// # Errors
-    /// Where there is no memory; nothing has changed then.
-    pub fn free(&mut self, thread: u32) -> Result<Entry, AllocError>
-        requires { IsTrue (may_free self.old.job (state self.old) thread) }
-        ensures entry { IfOk result (λ entry. IsAllowed self.old.job (state self.old) entry × DecidesFree self.old.job (state self.old) thread entry × Appends self.old self.new entry) }
-        ensures quiet { OnOk result (Quiet self.old self.new) }
-        ensures err { OnErr result (Stays self.old self.new) }
-    {
-        self.run.free(thread)
-    }
-
-    /// Compares the replicas whole, of which none is lent and in each of which every live thread stands still: each that is
-    /// not as more than half of them becomes as these. The entry that was appended is answered. Where no more than half are
-    /// the same, that is an end.
-    ///
-    /// # Errors
-    /// Where there is no memory; nothing has changed then.
-    pub fn scrub(&mut self) -> Result<Entry, AllocError>
-        requires { IsTrue (may_scrub (state self.old)) }
-        ensures entry { IfOk result (λ entry. IsAllowed self.old.job (state self.old) entry × DecidesScrub (state self.old) entry × Appends self.old self.new entry) }
-        ensures quiet { OnOk result (Quiet self.old self.new) }
-        ensures no_views { IfOk result (λ entry. IsSplit entry → self.new.views ≡ []) }
-        ensures err { OnErr result (Stays self.old self.new) }
-    {
-        self.run.scrub()
-    }
-
-    /// Ends the run so, where this end is due or nothing can be done any more, be a scrub due or not.
+impl Core {
+    /// Ends the run so, where this end is due or comes alone, be a scrub due or not.
     pub fn end(&mut self, how: How)
-        requires { EndsNow self.old.job (state self.old) how }
-        ensures entry { IsAllowed self.old.job (replay self.old.job self.old.journal) (End how) × IsNext self.old.job (replay self.old.job self.old.journal) (End how) × Appends self.old self.new (End how) }
-        ensures quiet { Quiet self.old self.new }
+        requires holds { Holds (fields_of self.old) }
+        requires now { (next (job_of self.old) (state_of self.old) ≡ DoEnd how) ⊎ EndsAlone (job_of self.old) (state_of self.old) how }
+        ensures holds { Holds (fields_of self.new) }
+        ensures allowed { IsAllowed (job_of self.old) (state_of self.old) (End how) × IsNext (job_of self.old) (state_of self.old) (End how) }
+        ensures appends { Appends (silent self.old) (silent self.new) (End how) }
+        ensures ended { (fields_of self.new).ended ≡ Some how }
     {
-        self.run.end(how);
-        self.failed = None;
+        self.sent = sent_behind(self.sent, self.wrote, how);
+        self.journal.push_reserved(Entry::End { how });
+        self.wrote = 0;
+        self.due = None;
+        self.ended = Some(how);
     }
 
-    /// Hands out the image, how the run ended, if it did, the views of a vote that came to nothing, the journal and the sink.
-    pub fn finish(self) -> Finished<K>
-        ensures image { result.image ≡ self.job.program.image }
-        ensures how { result.how ≡ outcome_of self.journal }
-        ensures views { KeepsViews self.job self.journal result.views.items }
-        ensures kept { (outcome_of self.journal ≡ Some Differ) ⊎ (outcome_of self.journal ≡ Some NoMajority) → result.views.items ≡ self.views }
-        ensures no_views { outcome_of self.journal ≢ Some Differ → outcome_of self.journal ≢ Some NoMajority → result.views.items ≡ [] }
-        ensures journal { result.journal.items ≡ self.journal }
-        ensures bytes { result.bytes ≡ length (sent self) }
-        ensures legal { Legal self.job self.journal }
-        ensures open { IsSome self.failed → outcome_of self.journal ≡ None }
-        ensures sink { (K.held result.out ≡ self.held) × (K.failures result.out ≡ self.failures) }
+    /// Ends the run in the place of a vote, a free or a scrub, with the views that are to be kept.
+    pub(crate) fn conclude(&mut self, how: How) -> Entry
+        requires holds { HoldsUnseen (fields_of self.old) }
+        requires going { is_going (state_of self.old) ≡ true }
+        requires allowed { MayEnd (job_of self.old) (state_of self.old) how }
+        requires views { KeepsViews (job_of self.old) (self.old.journal.items ++ End how ∷ []) self.old.views.items }
+        requires not_sink { (bytes : ℕ) → how ≢ BySink bytes }
+        ensures holds { Holds (fields_of self.new) }
+        ensures entry { result ≡ End how }
+        ensures appends { Appends (silent self.old) (silent self.new) (End how) }
+        ensures output { output_of (job_of self.new) self.new.journal.items ≡ output_of (job_of self.old) self.old.journal.items }
+        ensures views { self.new.views.items ≡ self.old.views.items }
     {
-        let bytes = self.bytes();
+        let entry = Entry::End { how };
+        self.journal.push_reserved(entry);
+        self.wrote = 0;
+        self.ended = Some(how);
+        entry
+    }
+
+    /// Hands out the image, how the run ended, if it did, the views of a vote that came to nothing, and the journal.
+    pub fn finish(self) -> Finished
+        ensures image { result.image ≡ (job_of self).program.image }
+        ensures how { Holds (fields_of self) → result.how ≡ outcome_of (fields_of self).journal }
+        ensures views { Holds (fields_of self) → KeepsViews (job_of self) (fields_of self).journal result.views.items }
+        ensures kept { Holds (fields_of self) → (outcome_of (fields_of self).journal ≡ Some Differ) ⊎ (outcome_of (fields_of self).journal ≡ Some NoMajority) → result.views.items ≡ (fields_of self).views }
+        ensures no_views { Holds (fields_of self) → outcome_of (fields_of self).journal ≢ Some Differ → outcome_of (fields_of self).journal ≢ Some NoMajority → result.views.items ≡ [] }
+        ensures journal { result.journal.items ≡ (fields_of self).journal }
+    {
         let Core {
-            run,
-            out,
-            failed: _,
-        } = self;
-        let Run {
             image,
             faults: _,
             settings: _,
@@ -231,14 +130,12 @@ impl<K: Sink> Core<K> {
             ended,
             views,
             alloc,
-        } = run;
+        } = self;
         Finished {
             image,
             how: ended,
             views: kept_views(alloc, ended, views),
             journal,
-            bytes,
-            out,
         }
     }
 }
@@ -251,5 +148,17 @@ fn kept_views(alloc: Global, ended: Option<How>, views: Vec<View>) -> Vec<View>
     match ended {
         Some(How::Differ | How::NoMajority) => views,
         _ => Vec::new(alloc),
+    }
+}
+
+// How many of so many bytes are out behind an end, where the last entry wrote some of them: a failing sink took not all of these.
+fn sent_behind(sent: u64, wrote: u32, how: How) -> u64
+    requires wrote { (taken : ℕ) → how ≡ BySink taken → (taken ≤ wrote) × (wrote ≤ sent) }
+    ensures cut { (taken : ℕ) → how ≡ BySink taken → result ≡ sent - (wrote - taken) }
+    ensures whole { ((taken : ℕ) → how ≡ BySink taken → ⊥) → result ≡ sent }
+{
+    match how {
+        How::Sink(taken) => sent - u64::from(wrote - taken),
+        _ => sent,
     }
 }

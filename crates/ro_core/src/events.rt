@@ -1,5 +1,5 @@
 //! The event of a vote: what the winner's stop comes to.
-ghost use Rattle.std.specs.Prelude.{ℕ, ◌≡◌, List, IfOk, OnErr, [], None, true, false, if◌then◌else◌};
+ghost use Rattle.std.specs.Prelude.{ℕ, ◌≡◌, List, IfOk, OnErr, [], Some, None, true, false, if◌then◌else◌};
 ghost use Rattle.ro_kernel.specs.Kernel.{lives_on, Kernel as KernelSeen};
 ghost use Rattle.ro_event.specs.declared.stops.Stop.{Stop as At};
 ghost use Rattle.ro_event.specs.declared.stops.Stop.TheVariants.{Calls};
@@ -89,13 +89,15 @@ impl Coming {
     }
 }
 
-// Whether a call is served or blocks.
+// Whether a call is served, does its first step, or blocks.
 #[tactic(auto, unfolding(ro_legal::specs::Event::event_of))]
 fn did_of(kernel: &Kernel, thread: u32, call: Call) -> Did
     ensures { (payload : List ℕ) → (event_of kernel.now.setup kernel.now.kernel thread (Calls call) payload).did ≡ result }
 {
     if kernel.blocks(thread, call) {
         Did::Blocked
+    } else if kernel.parks(thread, call) {
+        Did::Parked
     } else {
         Did::Served
     }
@@ -146,14 +148,22 @@ fn event_of_call(alloc: Global, thread: u32, call: Call, served: Served) -> Even
             due: None,
             writes: true,
         },
-        Served::Blocked => Event {
-            did: Did::Blocked,
-            effect: quiet_effect(alloc, thread, None, false),
-            blocked: Some(call),
-            due: None,
-            writes: false,
-        },
+        Served::Parked => waiting_event(alloc, Did::Parked, thread, call),
+        Served::Blocked => waiting_event(alloc, Did::Blocked, thread, call),
         Served::Ends(how) => quiet_event(alloc, Did::Served, thread, None, false, Some(how)),
+    }
+}
+
+// An event that leaves the thread blocked at its call.
+fn waiting_event(alloc: Global, did: Did, thread: u32, call: Call) -> Event
+    ensures { result ≡ record { did = did; effect = quiet_effect thread None false; blocked = Some call; due = None; writes = false } }
+{
+    Event {
+        did,
+        effect: quiet_effect(alloc, thread, None, false),
+        blocked: Some(call),
+        due: None,
+        writes: false,
     }
 }
 

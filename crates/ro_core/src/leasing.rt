@@ -7,13 +7,13 @@ ghost use Rattle.ro_core.specs.Seen.{Appends, Stays, HasRoom, IsLent, MayReturn,
 ghost use Rattle.ro_core.specs.Fields.{Holds};
 ghost use Rattle.ro_core.specs.Runs.{fields_of, job_of, state_of, silent};
 
-use crate::runs::Run;
+use crate::cores::Core;
 use ro_journal::Entry;
 use ro_legal::Lease;
 use ro_replica::{Ran, ReplicaBox};
 use std::alloc::AllocError;
 
-impl Run {
+impl Core {
     /// Makes room for a take, its put, the puts of the leases that are out, and the end.
     ///
     /// # Errors
@@ -23,7 +23,7 @@ impl Run {
         ensures holds { Holds (fields_of self.new) }
         ensures stays { Stays (silent self.old) (silent self.new) }
         ensures room { OnOk result (HasRoom (silent self.new)) }
-        ensures ended { self.new.ended ≡ self.old.ended }
+        ensures ended { (fields_of self.new).ended ≡ (fields_of self.old).ended }
     {
         self.leases.reserve(1)?;
         self.journal.reserve(self.leases.len() + 3)
@@ -36,9 +36,9 @@ impl Run {
         requires room { HasRoom (silent self.old) }
         ensures holds { Holds (fields_of self.new) }
         ensures entry { Appends (silent self.old) (silent self.new) (Take driver replica thread) }
-        ensures output { output_of (job_of self.new) self.new.journal.items ≡ output_of (job_of self.old) self.old.journal.items }
+        ensures output { output_of (job_of self.new) (fields_of self.new).journal ≡ output_of (job_of self.old) (fields_of self.old).journal }
         ensures lent { IsLent (silent self.old) replica thread result }
-        ensures ended { self.new.ended ≡ self.old.ended }
+        ensures ended { (fields_of self.new).ended ≡ (fields_of self.old).ended }
     {
         self.journal.push_reserved(Entry::Take {
             driver,
@@ -63,8 +63,8 @@ impl Run {
         requires returns { MayReturn (silent self.old) driver lent ran.count ran.hit }
         ensures holds { Holds (fields_of self.new) }
         ensures entry { ReturnIs (silent self.old) (silent self.new) driver ran.count ran.hit }
-        ensures output { output_of (job_of self.new) self.new.journal.items ≡ output_of (job_of self.old) self.old.journal.items }
-        ensures ended { self.new.ended ≡ self.old.ended }
+        ensures output { output_of (job_of self.new) (fields_of self.new).journal ≡ output_of (job_of self.old) (fields_of self.old).journal }
+        ensures ended { (fields_of self.new).ended ≡ (fields_of self.old).ended }
     {
         let Some(lease) = lease_of(self.leases.as_slice(), driver) else {
             unreachable!()

@@ -8,7 +8,7 @@ ghost use Rattle.ro_core.specs.Fields.{Holds};
 ghost use Rattle.ro_core.specs.Opening.{AreFirst, IsOpened};
 ghost use Rattle.ro_core.specs.Runs.{fields_of, silent};
 
-use crate::runs::{Run, THREADS};
+use crate::cores::{Core, THREADS};
 use crate::seats::Seats;
 use ro_event::{Stop, View};
 use ro_faults::Fault;
@@ -33,7 +33,7 @@ pub(crate) struct Opening {
     views: Vec<View>,
 }
 
-impl Run {
+impl Core {
     /// Opens a run of the program of an image, with an input and faults to be struck.
     ///
     /// # Errors
@@ -44,7 +44,7 @@ impl Run {
         input: &[u8],
         faults: &[Fault],
         settings: Settings,
-    ) -> Result<Run, Executable>
+    ) -> Result<Core, Executable>
         requires settings { InRange settings }
         requires faults { AreFaults faults.now }
         ensures holds { IfOk result (λ run. Holds (fields_of run)) }
@@ -52,7 +52,7 @@ impl Run {
         ensures back { IfErr result (λ given. given ≡ image) }
     {
         match Opening::new(alloc, &image, input, faults, settings) {
-            Ok(opening) => Ok(Run {
+            Ok(opening) => Ok(Core {
                 image,
                 faults: opening.faults,
                 settings,

@@ -10,7 +10,7 @@ ghost use Rattle.ro_core.specs.Seated.{seat_snapshot};
 ghost use Rattle.ro_core.specs.Seen.{Appends, Stays};
 ghost use Rattle.ro_core.specs.Runs.{fields_of, job_of, state_of, silent, IsScrubbed};
 
-use crate::runs::Run;
+use crate::cores::Core;
 use crate::voting::split_of;
 use ro_journal::{Entry, Lost};
 use ro_kernel::Kernel;
@@ -18,7 +18,7 @@ use ro_replica::ReplicaBox;
 use ro_vote::Won;
 use std::alloc::AllocError;
 
-impl Run {
+impl Core {
     /// Compares the replicas whole: each that is not as more than half of them becomes as these, and the entry that was
     /// appended is answered. Where no more than half are the same, that is an end, and no views are kept.
     ///
@@ -29,8 +29,8 @@ impl Run {
         requires may { may_scrub (state_of self.old) ≡ true }
         ensures holds { Holds (fields_of self.new) }
         ensures entry { IfOk result (λ entry. IsAllowed (job_of self.old) (state_of self.old) entry × DecidesScrub (state_of self.old) entry × Appends (silent self.old) (silent self.new) entry) }
-        ensures output { OnOk result (output_of (job_of self.new) self.new.journal.items ≡ output_of (job_of self.old) self.old.journal.items) }
-        ensures no_views { IfOk result (λ entry. IsSplit entry → self.new.views.items ≡ []) }
+        ensures output { OnOk result (output_of (job_of self.new) (fields_of self.new).journal ≡ output_of (job_of self.old) (fields_of self.old).journal) }
+        ensures no_views { IfOk result (λ entry. IsSplit entry → (fields_of self.new).views ≡ []) }
         ensures err { OnErr result (Stays (silent self.old) (silent self.new)) }
     {
         match prevailing(self.seats.homes.as_slice(), &self.kernel) {

@@ -9,15 +9,15 @@ ghost use Rattle.ro_legal.specs.Decides.{DecidesVote, DecidesFree, IsSplit};
 ghost use Rattle.ro_core.specs.Runs.{fields_of, job_of, state_of, silent, payload_by, MakesRoom, IsHeld, CanOccur, LastWrote};
 
 use crate::choosing::lowest_unblocked;
+use crate::cores::Core;
 use crate::events::{Coming, Event, serve};
-use crate::runs::Run;
 use ro_journal::{Entry, How};
 use ro_vote::{Won, verdict};
 use std::alloc::AllocError;
 
 /// What a vote decided: its entry, and the replica whose payload is to be written, if any is.
 #[derive(Clone, Copy)]
-pub(crate) struct Voted {
+pub struct Voted {
     pub entry: Entry,
     pub writer: Option<u32>,
 }
@@ -35,9 +35,10 @@ pub(crate) struct Occurrence {
     pub threads: u32,
 }
 
-impl Run {
-    /// Votes on a thread that stands still in every replica: its event is done once. Where the views have no majority, or
-    /// the limit of steps would be passed, that is an end.
+impl Core {
+    /// Votes on a thread that stands still in every replica: its event is done once, and the entry that was appended is answered,
+    /// with the replica whose payload is to be sent. Where the views have no majority, or the limit of steps would be passed,
+    /// that is an end.
     ///
     /// # Errors
     /// Where there is no memory; nothing has changed then.
@@ -46,10 +47,10 @@ impl Run {
         requires may { may_vote (state_of self.old) thread ≡ true }
         ensures holds { Holds (fields_of self.new) }
         ensures entry { IfOk result (λ voted. IsAllowed (job_of self.old) (state_of self.old) voted.entry × DecidesVote (job_of self.old) (state_of self.old) thread voted.entry × Appends (silent self.old) (silent self.new) voted.entry) }
-        ensures writer { IfOk result (λ voted. IfSome voted.writer (λ number. number < length self.new.views.items)) }
-        ensures wrote { IfOk result (λ voted. LastWrote (fields_of self.new) (output_of (job_of self.old) self.old.journal.items) (payload_by self.new.views.items voted.writer)) }
-        ensures majority { IfOk result (λ voted. (payload_by self.new.views.items voted.writer ≡ []) ⊎ IsOfMajority (views_of (job_of self.old) (state_of self.old) thread) (payload_by self.new.views.items voted.writer)) }
-        ensures shown { IfOk result (λ voted. IsSplit voted.entry → self.new.views.items ≡ views_of (job_of self.old) (state_of self.old) thread) }
+        ensures writer { IfOk result (λ voted. IfSome voted.writer (λ number. number < length (fields_of self.new).views)) }
+        ensures wrote { IfOk result (λ voted. LastWrote (fields_of self.new) (output_of (job_of self.old) (fields_of self.old).journal) (payload_by (fields_of self.new).views voted.writer)) }
+        ensures majority { IfOk result (λ voted. (payload_by (fields_of self.new).views voted.writer ≡ []) ⊎ IsOfMajority (views_of (job_of self.old) (state_of self.old) thread) (payload_by (fields_of self.new).views voted.writer)) }
+        ensures shown { IfOk result (λ voted. IsSplit voted.entry → (fields_of self.new).views ≡ views_of (job_of self.old) (state_of self.old) thread) }
         ensures err { OnErr result (Stays (silent self.old) (silent self.new)) }
     {
         self.seats.show(thread, self.views.as_mut_slice());
@@ -64,8 +65,8 @@ impl Run {
 
     /// The payload of the replica that writes.
     pub fn payload(&self, writer: Option<u32>) -> &[u8]
-        requires { IfSome writer (λ number. number < length self.now.views.items) }
-        ensures { result.now ≡ payload_by self.now.views.items writer }
+        requires { IfSome writer (λ number. number < length (fields_of self.now).views) }
+        ensures { result.now ≡ payload_by (fields_of self.now).views writer }
     {
         match writer {
             Some(number) => self.views[number as usize].payload(),
@@ -146,7 +147,7 @@ impl Run {
         requires may { may_free (job_of self.old) (state_of self.old) thread ≡ true }
         ensures holds { Holds (fields_of self.new) }
         ensures entry { IfOk result (λ entry. IsAllowed (job_of self.old) (state_of self.old) entry × DecidesFree (job_of self.old) (state_of self.old) thread entry × Appends (silent self.old) (silent self.new) entry) }
-        ensures output { OnOk result (output_of (job_of self.new) self.new.journal.items ≡ output_of (job_of self.old) self.old.journal.items) }
+        ensures output { OnOk result (output_of (job_of self.new) (fields_of self.new).journal ≡ output_of (job_of self.old) (fields_of self.old).journal) }
         ensures err { OnErr result (Stays (silent self.old) (silent self.new)) }
     {
         let Some(call) = self.blocked[thread as usize] else {
@@ -172,7 +173,7 @@ impl Run {
     }
 
     /// Makes room for an entry and the end, and for an event in every replica, each of which is at home.
-    pub fn prepare(&mut self) -> Result<(), AllocError>
+    pub(crate) fn prepare(&mut self) -> Result<(), AllocError>
         requires holds { Holds (fields_of self.old) }
         requires alone { self.old.leases.items ≡ [] }
         ensures makes { MakesRoom (fields_of self.old) (fields_of self.new) }

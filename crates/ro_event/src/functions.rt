@@ -14,6 +14,11 @@ pub enum Function {
     Lock,
     TryLock,
     Unlock,
+    ConditionInit,
+    ConditionDestroy,
+    Wait,
+    Signal,
+    Broadcast,
 }
 
 /// The functions and their names in a program's symbols, in the order of the enum and of the call table.
@@ -27,6 +32,11 @@ const TABLE: &[(Function, &str)] = &[
     (Function::Lock, "pthread_mutex_lock"),
     (Function::TryLock, "pthread_mutex_trylock"),
     (Function::Unlock, "pthread_mutex_unlock"),
+    (Function::ConditionInit, "pthread_cond_init"),
+    (Function::ConditionDestroy, "pthread_cond_destroy"),
+    (Function::Wait, "pthread_cond_wait"),
+    (Function::Signal, "pthread_cond_signal"),
+    (Function::Broadcast, "pthread_cond_broadcast"),
 ];
 
 /// How many functions there are.

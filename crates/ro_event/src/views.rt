@@ -113,10 +113,16 @@ impl View {
         ensures test { result ≡ same_view self.now other.now }
         ensures equal { IsTrue result ↔ (self.now ≡ other.now) }
     {
+        self.stands_like(other) && self.payload() == other.payload()
+    }
+
+    /// Whether all but the payloads are equal.
+    fn stands_like(&self, other: &View) -> bool
+        ensures { IsTrue result ↔ ((self.now.registers ≡ other.now.registers) × (self.now.pc ≡ other.now.pc) × (self.now.since ≡ other.now.since) × (self.now.stop ≡ other.now.stop)) }
+    {
         self.registers == other.registers
             && self.pc == other.pc
             && self.since == other.since
             && self.stop == other.stop
-            && self.payload() == other.payload()
     }
 }

@@ -13,4 +13,6 @@ mod reports;
 #[cfg(test)]
 mod sinks;
 #[cfg(test)]
+mod waiting;
+#[cfg(test)]
 mod words;

@@ -9,7 +9,8 @@ use Rattle.ro_exec.specs.declared.Cpu.{Cpu}
 use Rattle.ro_region.specs.declared.Kind.TheVariants.{Read, Write}
 use Rattle.ro_exec.specs.declared.stretch.Stretch.{Stretch}
 use Rattle.ro_exec.specs.declared.learnt.Learnt.{Learnt}
-use Rattle.ro_exec.specs.Next.{Layout, Backed, fetch_stop}
+use Rattle.ro_alu.specs.Results.{low_word}
+use Rattle.ro_exec.specs.Next.{Layout, Backed, fetch_stop, jump_stop}
 
 -- the place of an instruction in it
 abbrev pub IsIn : Stretch → ℕ → Type 0
@@ -26,6 +27,16 @@ end_of stretch = (stretch.from + 4 * stretch.words) % 2 ^ 32
 -- a thread stands in the stretch, which ends at the place where code is looked up again, or it is at that place
 abbrev pub IsAlong : Stretch → (until pc : ℕ) → Type 0
 IsAlong stretch until pc = pc ≢ until → IsIn stretch pc × (until ≡ end_of stretch)
+
+-- A thread stands in the stretch, whose end is where code is looked up again, and this is the place of its next instruction.
+pub record IsOn (stretch : Stretch) (until pc next : ℕ) : Type 0 where
+  pub aligned : stretch.from % 4 ≡ 0
+  pub bounded : stretch.from + 4 * stretch.words ≤ 2 ^ 32
+  pub until_end : until ≡ end_of stretch
+  pub here : IsAlong stretch until pc
+  pub next_is : next ≡ low_word (pc + 4)
+  pub next_along : IsAlong stretch until next
+  pub next_whole : jump_stop next ≡ None
 
 -- the page of each of its instructions is kept at its place
 abbrev pub IsKept : (ℕ → Option ℕ) → Stretch → Type 0

@@ -5,7 +5,7 @@ ghost use Rattle.ro_alu.specs.Results.{low_word};
 ghost use Rattle.ro_exec.specs.Registers.{with_register};
 ghost use Rattle.ro_exec.specs.Next.{Executes, instruction_stop, unless_stop, next_at, next, jump_stop};
 ghost use Rattle.ro_exec.specs.Steps.{IsQuick};
-ghost use Rattle.ro_exec.specs.Stretches.{IsAlong, IsClear, IsKept, AreOpenTo};
+ghost use Rattle.ro_exec.specs.Stretches.{IsOn, IsAlong, IsClear, IsKept, AreOpenTo};
 
 use crate::bank::Bank;
 use crate::data::Open;
@@ -18,78 +18,76 @@ use ro_event::CallTable;
 use ro_pages::Memory;
 use ro_region::{Kind, Regions};
 
-/// Goes on at the next instruction.
-#[inline(always)]
-fn go_on(pc: &mut u32)
-    ensures { pc.new ≡ low_word (pc.old + 4) }
-{
-    *pc = pc.wrapping_add(4);
-}
-
 /// Goes on at the next instruction with a value in rd.
 #[inline(always)]
-fn give(registers: &mut Bank, pc: &mut u32, rd: u8, value: u32)
+fn give(registers: &mut Bank, pc: &mut u32, next: u32, rd: u8, value: u32)
     requires { rd < 32 }
     ensures registers { registers.new ≡ with_register registers.old rd value }
-    ensures pc { pc.new ≡ low_word (pc.old + 4) }
+    ensures pc { pc.new ≡ next }
 {
     registers.set(rd, value);
-    go_on(pc);
+    *pc = next;
 }
 
-/// Jumps, with the place after the jump in rd, if the target is a multiple of 4.
+/// Jumps, with the next instruction's place in rd, if the target is a multiple of 4.
 #[inline(always)]
-fn jump(registers: &mut Bank, pc: &mut u32, rd: u8, target: u32) -> bool
-    requires { rd < 32 }
-    ensures registers { result ≡ true → registers.new ≡ with_register registers.old rd (low_word (pc.old + 4)) }
+fn jump(
+    registers: &mut Bank,
+    pc: &mut u32,
+    next: u32,
+    rd: u8,
+    target: u32,
+    stretch: &Stretch,
+    until: &mut u32,
+) -> bool
+    requires rd { rd < 32 }
+    requires on { IsOn stretch.now until.old pc.old next }
+    ensures registers { result ≡ true → registers.new ≡ with_register registers.old rd next }
     ensures pc { result ≡ true → (pc.new ≡ target) × (jump_stop target ≡ None) }
     ensures left { result ≡ false → (registers.new ≡ registers.old) × (pc.new ≡ pc.old) }
+    ensures along { IsAlong stretch.now until.new pc.new }
 {
-    if target % 4 != 0 {
+    if !stretch.leads(until, target) {
         return false;
     }
-    registers.set(rd, pc.wrapping_add(4));
+    registers.set(rd, next);
     *pc = target;
     true
 }
 
 /// Goes on at the place that a branch comes to, if it is a multiple of 4.
 #[inline(always)]
-fn branch(pc: &mut u32, target: u32) -> bool
+fn branch(pc: &mut u32, next: u32, target: u32, stretch: &Stretch, until: &mut u32) -> bool
+    requires on { IsOn stretch.now until.old pc.old next }
     ensures did { result ≡ true → (pc.new ≡ target) × (jump_stop target ≡ None) }
     ensures left { result ≡ false → pc.new ≡ pc.old }
+    ensures along { IsAlong stretch.now until.new pc.new }
 {
-    if target % 4 != 0 {
+    if !stretch.leads(until, target) {
         return false;
     }
     *pc = target;
     true
 }
 
-/// Goes on behind a branch that isn't taken. The next instruction's place is a multiple of 4, as the branch's is.
-#[inline(always)]
-fn pass(pc: &mut u32)
-    requires { pc.old % 4 ≡ 0 }
-    ensures pc { pc.new ≡ low_word (pc.old + 4) }
-    ensures stop { jump_stop (low_word (pc.old + 4)) ≡ None }
-{
-    go_on(pc);
-}
-
-/// Executes an instruction, or changes nothing.
+/// Executes an instruction, or changes nothing. `next` is the next instruction's place; it is computed once, before the word is
+/// read, so that all instructions but jumps go on with one value.
 #[tactic(auto, unfolding(crate::specs::Next::instruction_stop, crate::specs::Meaning::meaning))]
 #[inline(always)]
 fn execute<M: Memory>(
     instr: Instr,
     registers: &mut Bank,
     pc: &mut u32,
+    next: u32,
     memory: &mut M,
     reads: &mut Open,
     writes: &mut Open,
     regions: &Regions,
+    stretch: &Stretch,
+    until: &mut u32,
 ) -> bool
     requires in_range { InRange instr }
-    requires aligned { pc.old % 4 ≡ 0 }
+    requires on { IsOn stretch.now until.old pc.old next }
     requires reads { AreOpenTo regions.now (M.backing memory.old) (M.kept memory.old) Kind.Read reads.old.stretches }
     requires writes { AreOpenTo regions.now (M.backing memory.old) (M.kept memory.old) Kind.Write writes.old.stretches }
     ensures step { IsQuick result (unless_stop (instruction_stop regions.now (M.backing memory.old) (record { registers = registers.old; pc = pc.old }) instr) (Executes instr)) (record { registers = registers.old; pc = pc.old }) (record { registers = registers.new; pc = pc.new }) (M.memory memory.old) (M.memory memory.new) }
@@ -97,27 +95,31 @@ fn execute<M: Memory>(
     ensures kept { M.kept memory.new ≡ M.kept memory.old }
     ensures reads { AreOpenTo regions.now (M.backing memory.old) (M.kept memory.old) Kind.Read reads.new.stretches }
     ensures writes { AreOpenTo regions.now (M.backing memory.old) (M.kept memory.old) Kind.Write writes.new.stretches }
+    ensures along { IsAlong stretch.now until.new pc.new }
 {
     let place = *pc;
     match instr {
         Instr::Lui { rd, imm } => {
-            give(registers, pc, rd, imm);
+            give(registers, pc, next, rd, imm);
             true
         }
         Instr::Auipc { rd, imm } => {
-            give(registers, pc, rd, place.wrapping_add(imm));
+            give(registers, pc, next, rd, place.wrapping_add(imm));
             true
         }
-        Instr::Jal { rd, imm } => jump(registers, pc, rd, place.wrapping_add(imm)),
+        Instr::Jal { rd, imm } => {
+            let target = place.wrapping_add(imm);
+            jump(registers, pc, next, rd, target, stretch, until)
+        }
         Instr::Jalr { rd, rs1, imm } => {
             let target = registers.get(rs1).wrapping_add(imm) / 2 * 2;
-            jump(registers, pc, rd, target)
+            jump(registers, pc, next, rd, target, stretch, until)
         }
         Instr::Branch { op, rs1, rs2, imm } => {
             if taken(op, registers.get(rs1), registers.get(rs2)) {
-                branch(pc, place.wrapping_add(imm))
+                branch(pc, next, place.wrapping_add(imm), stretch, until)
             } else {
-                pass(pc);
+                *pc = next;
                 true
             }
         }
@@ -128,7 +130,7 @@ fn execute<M: Memory>(
             }
             let kept = reads.at(address).place;
             let found = memory.load_kept(kept, address, load_size(op));
-            give(registers, pc, rd, spread(op, found));
+            give(registers, pc, next, rd, spread(op, found));
             true
         }
         Instr::Store { op, rs1, rs2, imm } => {
@@ -138,29 +140,21 @@ fn execute<M: Memory>(
             }
             let kept = writes.at(address).place;
             memory.store_kept(kept, address, store_size(op), registers.get(rs2));
-            go_on(pc);
+            *pc = next;
             true
         }
         Instr::AluImm { op, rd, rs1, imm } => {
-            give(registers, pc, rd, alu(op, registers.get(rs1), imm));
+            give(registers, pc, next, rd, alu(op, registers.get(rs1), imm));
             true
         }
         Instr::Alu { op, rd, rs1, rs2 } => {
-            give(
-                registers,
-                pc,
-                rd,
-                alu(op, registers.get(rs1), registers.get(rs2)),
-            );
+            let value = alu(op, registers.get(rs1), registers.get(rs2));
+            give(registers, pc, next, rd, value);
             true
         }
         Instr::MulDiv { op, rd, rs1, rs2 } => {
-            give(
-                registers,
-                pc,
-                rd,
-                muldiv(op, registers.get(rs1), registers.get(rs2)),
-            );
+            let value = muldiv(op, registers.get(rs1), registers.get(rs2));
+            give(registers, pc, next, rd, value);
             true
         }
         Instr::Fence { .. } | Instr::Ecall | Instr::Ebreak => false,
@@ -173,12 +167,15 @@ fn read_and_execute<M: Memory, User>(
     word: u32,
     registers: &mut Bank,
     pc: &mut u32,
+    next: u32,
     memory: &mut M,
     reads: &mut Open,
     writes: &mut Open,
     regions: &Regions,
+    stretch: &Stretch,
+    until: &mut u32,
 ) -> bool
-    requires aligned { pc.old % 4 ≡ 0 }
+    requires on { IsOn stretch.now until.old pc.old next }
     requires reads { AreOpenTo regions.now (M.backing memory.old) (M.kept memory.old) Kind.Read reads.old.stretches }
     requires writes { AreOpenTo regions.now (M.backing memory.old) (M.kept memory.old) Kind.Write writes.old.stretches }
     ensures step { IsQuick result (next_at regions.now (M.backing memory.old) (record { registers = registers.old; pc = pc.old }) (instruction_of word)) (record { registers = registers.old; pc = pc.old }) (record { registers = registers.new; pc = pc.new }) (M.memory memory.old) (M.memory memory.new) }
@@ -186,11 +183,12 @@ fn read_and_execute<M: Memory, User>(
     ensures kept { M.kept memory.new ≡ M.kept memory.old }
     ensures reads { AreOpenTo regions.now (M.backing memory.old) (M.kept memory.old) Kind.Read reads.new.stretches }
     ensures writes { AreOpenTo regions.now (M.backing memory.old) (M.kept memory.old) Kind.Write writes.new.stretches }
+    ensures along { IsAlong stretch.now until.new pc.new }
 {
     // executes this instruction
     macro_rules! does {
         ($instr:expr) => {
-            execute($instr, registers, pc, memory, reads, writes, regions)
+            execute($instr, registers, pc, next, memory, reads, writes, regions, stretch, until)
         };
     }
     // Executes that of these instructions which the word's funct7 names. Most words have a funct7 of 0, which is one comparison
@@ -322,9 +320,7 @@ pub fn quick_step<M: Memory, User>(
     }
     let next = stretch.after(*until, place);
     let word = memory.load_at(stretch.place, place);
-    if !read_and_execute::<M, User>(word, registers, pc, memory, reads, writes, regions) {
-        return false;
-    }
-    stretch.note_jump(until, next, *pc);
-    true
+    read_and_execute::<M, User>(
+        word, registers, pc, next, memory, reads, writes, regions, stretch, until,
+    )
 }

@@ -1,7 +1,8 @@
 //! Stretches of code that a run keeps.
-ghost use Rattle.std.specs.Prelude.{ℕ, ◌≡◌, ◌+◌, ◌*◌, ◌/◌, ◌%◌, ◌^◌, ◌<◌, ◌≤◌, true};
+ghost use Rattle.std.specs.Prelude.{ℕ, ◌≡◌, ◌+◌, ◌*◌, ◌/◌, ◌%◌, ◌^◌, ◌<◌, ◌≤◌, true, false, None};
 ghost use Rattle.ro_alu.specs.Results.{low_word};
 ghost use Rattle.ro_pages.specs.Bytes.{IsSize};
+ghost use Rattle.ro_exec.specs.Next.{jump_stop};
 ghost use Rattle.ro_exec.specs.Stretches.{IsIn, IsAlong, IsClear, IsKept, end_of};
 ghost use Rattle.ro_region.specs.Permission.{permits_byte, permits_of};
 ghost use Rattle.ro_region.specs.declared.Kind.TheVariants.{Execute};
@@ -127,7 +128,7 @@ impl Stretch {
         self.from.wrapping_add(self.words.wrapping_mul(4))
     }
 
-    /// The place after an instruction of the stretch: it lies in the stretch, or is its end.
+    /// The place after an instruction of the stretch: it lies in the stretch, or is its end, and is a multiple of 4.
     #[inline(always)]
     pub fn after(self, until: u32, place: u32) -> u32
         requires aligned { self.from % 4 ≡ 0 }
@@ -136,23 +137,30 @@ impl Stretch {
         requires until { until ≡ end_of self }
         ensures place { result ≡ low_word (place + 4) }
         ensures along { IsAlong self until result }
+        ensures whole { jump_stop result ≡ None }
     {
         place.wrapping_add(4)
     }
 
-    /// Has the code of a thread looked up next where it left the stretch by a jump: only one that isn't at the next
-    /// instruction can have.
+    /// Whether a thread of the stretch may jump to a place, which is so where that is a multiple of 4. Where the jump leaves the
+    /// stretch, code is looked up there.
     #[inline(always)]
-    pub fn note_jump(self, until: &mut u32, next: u32, pc: u32)
+    pub fn leads(self, until: &mut u32, target: u32) -> bool
         requires aligned { self.from % 4 ≡ 0 }
         requires bounded { self.from + 4 * self.words ≤ 2 ^ 32 }
-        requires next { IsAlong self until.old next }
         requires until { until.old ≡ end_of self }
-        ensures { IsAlong self until.new pc }
+        ensures along { result ≡ true → IsAlong self until.new target }
+        ensures stop { result ≡ true → jump_stop target ≡ None }
+        ensures left { result ≡ false → until.new ≡ until.old }
     {
-        if pc != next && !self.holds(pc) {
-            *until = pc;
+        if self.holds(target) {
+            return true;
         }
+        if target % 4 != 0 {
+            return false;
+        }
+        *until = target;
+        true
     }
 
     /// Becomes the code round a place. It is no part of the loop that runs code, as `stretch_at` would be.

@@ -95,7 +95,18 @@ pub enum State {
     /// It has exited.
     Exited,
     /// It waits for the mutex at an address, and which thread holds that.
-    Locks { mutex: u32, owner: Option<u32> },
+    Locks {
+        mutex: u32,
+        owner: Option<u32>,
+    },
+    /// It waits for the condition variable at an address, whether that was signalled to it, and then for the mutex at another,
+    /// and which thread holds that.
+    Waits {
+        condition: u32,
+        signalled: bool,
+        mutex: u32,
+        owner: Option<u32>,
+    },
     /// It waits until this thread has exited.
     Joins(u32),
     /// It is blocked on another call.

@@ -304,6 +304,22 @@ impl Serialize for State {
                 let (mutex, owner) = (*mutex, *owner);
                 write_named("state", "locks", &Locks { mutex, owner }, out)
             }
+            State::Waits {
+                condition,
+                signalled,
+                mutex,
+                owner,
+            } => {
+                let (condition, signalled) = (*condition, *signalled);
+                let (mutex, owner) = (*mutex, *owner);
+                let waits = Waits {
+                    condition,
+                    signalled,
+                    mutex,
+                    owner,
+                };
+                write_named("state", "waits", &waits, out)
+            }
             State::Joins(other) => write_named("state", "joins", &Member("other", other), out),
             State::Blocked => write_named("state", "blocked", &(), out),
             State::Unblocked => write_named("state", "unblocked", &(), out),
@@ -314,6 +330,15 @@ impl Serialize for State {
 // A mutex, and who holds it.
 #[derive(Clone, Copy, Serialize)]
 struct Locks {
+    mutex: u32,
+    owner: Option<u32>,
+}
+
+// A condition variable, whether it was signalled to the thread, and the mutex, and who holds that.
+#[derive(Clone, Copy, Serialize)]
+struct Waits {
+    condition: u32,
+    signalled: bool,
     mutex: u32,
     owner: Option<u32>,
 }

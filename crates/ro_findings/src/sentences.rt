@@ -107,6 +107,12 @@ fn tell_waiting(text: &mut String, waiting: Waiting) -> Result<(), AllocError> {
     match state {
         State::Exited => text.push_str("has exited.\n"),
         State::Locks { mutex, owner } => tell_lock(text, mutex, owner),
+        State::Waits {
+            condition,
+            signalled,
+            mutex,
+            owner,
+        } => tell_wait(text, condition, signalled, mutex, owner),
         State::Joins(other) => writeln!(text, "waits until thread {other} has exited."),
         State::Blocked => text.push_str("is blocked.\n"),
         State::Unblocked => text.push_str("is not blocked.\n"),
@@ -116,6 +122,29 @@ fn tell_waiting(text: &mut String, waiting: Waiting) -> Result<(), AllocError> {
 // For which mutex it waits, and who holds that.
 fn tell_lock(text: &mut String, mutex: u32, owner: Option<u32>) -> Result<(), AllocError> {
     write!(text, "waits for the mutex at {mutex:08x}")?;
+    tell_owner(text, owner)
+}
+
+// For which condition variable it waits, whether it was signalled, and which mutex it will hold then.
+fn tell_wait(
+    text: &mut String,
+    condition: u32,
+    signalled: bool,
+    mutex: u32,
+    owner: Option<u32>,
+) -> Result<(), AllocError> {
+    let heard = if signalled {
+        "signalled"
+    } else {
+        "not signalled"
+    };
+    write!(text, "waits for the condition at {condition:08x}, {heard}")?;
+    write!(text, ", to hold the mutex at {mutex:08x}")?;
+    tell_owner(text, owner)
+}
+
+// Who holds a mutex, at the end of a sentence.
+fn tell_owner(text: &mut String, owner: Option<u32>) -> Result<(), AllocError> {
     match owner {
         Some(owner) => writeln!(text, ", which thread {owner} holds."),
         None => text.push_str(".\n"),

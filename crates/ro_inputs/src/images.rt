@@ -173,6 +173,11 @@ fn a_whole_image(rt: HostRuntime) {
         Some(0x1_00D4),
         None,
         Some(0x1_00D8),
+        None,
+        None,
+        None,
+        None,
+        None,
     ];
     assert_eq!(rt; image.ranges().len(), 18);
     assert_eq!(rt; image.ranges()[0], segment);

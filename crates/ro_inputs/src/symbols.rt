@@ -59,6 +59,11 @@ fn five_functions(rt: HostRuntime) {
         Some(0x1_00D4),
         None,
         Some(0x1_00D8),
+        None,
+        None,
+        None,
+        None,
+        None,
     ];
     assert_eq!(rt; *table.addresses(), want);
 }

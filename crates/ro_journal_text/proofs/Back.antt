@@ -10,7 +10,7 @@ use Rattle.ro_text.specs.Lines.{spaced, is_plain, parts_of}
 use Rattle.ro_text.proofs.Spellings.{number_spelled, number_value}
 use Rattle.ro_text.proofs.Plain.{number_plain, words_back, line_back}
 use Rattle.ro_journal.specs.declared.Did.{Did}
-use Rattle.ro_journal.specs.declared.Did.TheVariants.{Served, Blocked, PageBacked, Watch, Trapped}
+use Rattle.ro_journal.specs.declared.Did.TheVariants.{Served, Blocked, Parked, PageBacked, Watch, Trapped}
 use Rattle.ro_journal.specs.declared.How.{How}
 use Rattle.ro_journal.specs.declared.How.TheVariants.{Exit, Deadlock, Trap, Limit, Differ, NoMajority, Sink}
 use Rattle.ro_journal.specs.declared.losers.Lost.{Lost}
@@ -21,7 +21,7 @@ use Rattle.ro_journal_text.specs.declared.versions.Version.{Version}
 use Rattle.ro_journal_text.specs.declared.versions.Version.TheVariants.{First, Second}
 use Rattle.ro_journal_text.specs.declared.errors.JournalCode.TheVariants.{Range}
 use Rattle.ro_journal_text.specs.Texts.{did_word, lost_word, how_words, entry_words, entries_text, header_word, text_in}
-use Rattle.ro_journal_text.specs.Reading.{did_of, listed, several_of, lost_of, how_of, entry_of, most_replica, is_lost, is_how, is_entry, ranged, line_entry, is_end, before, behind, in_line, lines_entries, file_journal, ends_last}
+use Rattle.ro_journal_text.specs.Reading.{did_of, has_did, listed, several_of, lost_of, how_of, entry_of, most_replica, is_lost, is_how, is_entry, ranged, line_entry, is_end, before, behind, in_line, lines_entries, file_journal, ends_last}
 use Rattle.ro_journal_text.proofs.Steps.{cut_before, header_read}
 use Rattle.ro_journal_text.proofs.Listed.{no_comma, digits_of}
 use Rattle.ro_journal_text.proofs.Wording.{same}
@@ -96,12 +96,14 @@ pair_back lower higher l h = (
 abbrev Back : {A : Type 0} → List (List ℕ) → (List (List ℕ) → Option A) → A → Type 0
 Back words of x = (list_all is_plain words ≡ true) × (of words ≡ Some x)
 
-did_back : (did : Did) → (is_plain (did_word did) ≡ true) × (did_of (did_word did) ≡ Some did)
-did_back Served = (refl, refl)
-did_back Blocked = (refl, refl)
-did_back PageBacked = (refl, refl)
-did_back Watch = (refl, refl)
-did_back Trapped = (refl, refl)
+did_back : (version : Version) (did : Did) → has_did version did ≡ true → (is_plain (did_word did) ≡ true) × (did_of version (did_word did) ≡ Some did)
+did_back version Served h = (refl, refl)
+did_back version Blocked h = (refl, refl)
+did_back First Parked h = absurd (false≢true h)
+did_back Second Parked h = (refl, refl)
+did_back version PageBacked h = (refl, refl)
+did_back version Watch h = (refl, refl)
+did_back version Trapped h = (refl, refl)
 
 -- the highest replica fits into a number
 most_fits : (version : Version) → most_replica version < 2 ^ 64
@@ -152,14 +154,15 @@ entry_back version (Put driver replica thread count hit) h =
     let s = spelled 0 256 hit (omega arith) four.1 in
     (rw (d.plain, r.plain, t.plain, n.plain, s.plain) refl, rw (d.spells, r.spells, t.spells, n.spells, s.spells, d.value, r.value, t.value, n.value, s.value) refl)
 entry_back version (Vote thread count won lost did) h =
-    let three = and_parts (within 0 15 thread && within 0 1000000 count && within 0 (most_replica version) won) (is_lost version lost) h in
+    let four = and_parts (within 0 15 thread && within 0 1000000 count && within 0 (most_replica version) won && is_lost version lost) (has_did version did) h in
+    let three = and_parts (within 0 15 thread && within 0 1000000 count && within 0 (most_replica version) won) (is_lost version lost) four.0 in
     let two = and_parts (within 0 15 thread && within 0 1000000 count) (within 0 (most_replica version) won) three.0 in
     let one = and_parts (within 0 15 thread) (within 0 1000000 count) two.0 in
     let t = spelled 0 15 thread (omega arith) one.0 in
     let n = spelled 0 1000000 count (omega arith) one.1 in
     let w = spelled 0 (most_replica version) won (most_fits version) two.1 in
     let l = lost_back version lost three.1 in
-    let x = did_back did in
+    let x = did_back version did four.1 in
     (rw (t.plain, n.plain, w.plain, l.0, x.0) refl, rw (t.spells, n.spells, w.spells, t.value, n.value, w.value, l.1, x.1) refl)
 entry_back version (Free thread) h = let t = spelled 0 15 thread (omega arith) h in (rw (t.plain) refl, rw (t.spells, t.value) refl)
 entry_back First (Scrub won lost) h = absurd (false≢true h)

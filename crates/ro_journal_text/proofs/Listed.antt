@@ -17,7 +17,7 @@ use Rattle.ro_journal_text.specs.declared.versions.Version.{Version}
 use Rattle.ro_journal_text.specs.declared.versions.Version.TheVariants.{First, Second}
 use Rattle.ro_journal_text.specs.declared.errors.JournalCode.{JournalCode}
 use Rattle.ro_journal_text.specs.declared.errors.JournalCode.TheVariants.{Form, Range}
-use Rattle.ro_journal_text.specs.Reading.{listed, several_of, lost_of, how_of, free_of, end_of, is_lost, is_entry, most_replica, ranged, vote_with}
+use Rattle.ro_journal_text.specs.Reading.{has_did, listed, several_of, lost_of, how_of, free_of, end_of, is_lost, is_entry, most_replica, ranged, vote_with}
 
 -- digits have no comma
 pub no_comma : (digits : List ℕ) → are_digits digits ≡ true → All (λ (b : ℕ). (b == 44) ≡ false) digits
@@ -93,7 +93,7 @@ vote_refused version thread count won (Some lost) code h did = by (is_lost versi
     by false t q =
         let e : code ≡ Range = cc in
         ap (λ (c : JournalCode). Err c) e
-        ∙ sym (ap (λ b. cond b (Ok (Vote thread count won lost did)) (Err Range)) (with_false (within 0 15 thread && within 0 1000000 count && within 0 (most_replica version) won) (is_lost version lost) t))
+        ∙ sym (ap (λ b. cond b (Ok (Vote thread count won lost did)) (Err Range)) (ap (λ b. b && has_did version did) (with_false (within 0 15 thread && within 0 1000000 count && within 0 (most_replica version) won) (is_lost version lost) t)))
 
 -- a scrub whose losers are refused
 pub scrub_refused : (won : ℕ) (lost : Option Lost) (code : JournalCode) → Err code ≡ ranged (is_lost Second) lost → Err code ≡ ranged (is_entry Second) (option_map (λ l. Scrub won l) lost)

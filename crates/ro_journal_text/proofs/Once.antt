@@ -15,7 +15,7 @@ use Rattle.ro_journal_text.specs.declared.versions.Version.{Version}
 use Rattle.ro_journal_text.specs.declared.versions.Version.TheVariants.{First, Second}
 use Rattle.ro_journal_text.specs.declared.errors.JournalCode.TheVariants.{Range}
 use Rattle.ro_journal_text.specs.Texts.{entry_words}
-use Rattle.ro_journal_text.specs.Reading.{did_of, lost_of, how_of, take_of, put_of, vote_with, vote_of, free_of, scrub_in, scrub_of, end_of, entry_of, most_replica, is_lost, is_entry, ranged, line_entry}
+use Rattle.ro_journal_text.specs.Reading.{did_of, has_did, lost_of, how_of, take_of, put_of, vote_with, vote_of, free_of, scrub_in, scrub_of, end_of, entry_of, most_replica, is_lost, is_entry, ranged, line_entry}
 use Rattle.ro_journal_text.proofs.Wording.{same, pick, chosen, inner, once, replica_once, did_once, lost_once, how_once}
 
 take_once : (version : Version) (fields : List (List ℕ)) (entry : Entry) → take_of fields ≡ Some entry → is_entry version entry ≡ true → entry_words entry ≡ codes "take" ∷ fields
@@ -65,17 +65,18 @@ vote_once version (a ∷ b ∷ []) entry h fits = absurd (cc)
 vote_once version (a ∷ b ∷ c ∷ []) entry h fits = absurd (cc)
 vote_once version (a ∷ b ∷ c ∷ d ∷ []) entry h fits = absurd (cc)
 vote_once version (thread ∷ count ∷ won ∷ lost ∷ did ∷ []) entry h fits =
-    let p = chosen (is_number thread && is_number count && is_number won) (vote_with (value_of thread) (value_of count) (value_of won) (lost_of version lost) (did_of did)) entry h in
+    let p = chosen (is_number thread && is_number count && is_number won) (vote_with (value_of thread) (value_of count) (value_of won) (lost_of version lost) (did_of version did)) entry h in
     let two = and_parts (is_number thread && is_number count) (is_number won) p.0 in
     let one = and_parts (is_number thread) (is_number count) two.0 in
-    let v = voted (value_of thread) (value_of count) (value_of won) (lost_of version lost) (did_of did) entry p.1 in
+    let v = voted (value_of thread) (value_of count) (value_of won) (lost_of version lost) (did_of version did) entry p.1 in
     let l = v.0 in
     let d = v.1.0 in
     let e = v.1.3 in
-    let i = and_parts (within 0 15 (value_of thread) && within 0 1000000 (value_of count) && within 0 (most_replica version) (value_of won)) (is_lost version l) (ap (is_entry version) e ∙ fits) in
+    let j = and_parts (within 0 15 (value_of thread) && within 0 1000000 (value_of count) && within 0 (most_replica version) (value_of won) && is_lost version l) (has_did version d) (ap (is_entry version) e ∙ fits) in
+    let i = and_parts (within 0 15 (value_of thread) && within 0 1000000 (value_of count) && within 0 (most_replica version) (value_of won)) (is_lost version l) j.0 in
     let g = and_parts (within 0 15 (value_of thread) && within 0 1000000 (value_of count)) (within 0 (most_replica version) (value_of won)) i.0 in
     let f = and_parts (within 0 15 (value_of thread)) (within 0 1000000 (value_of count)) g.0 in
-    ap entry_words (sym e) ∙ rw (once 0 15 thread (omega arith) one.0 f.0, once 0 1000000 count (omega arith) one.1 f.1, replica_once version won two.1 g.1, lost_once version lost l v.1.1 i.1, did_once did d v.1.2) refl
+    ap entry_words (sym e) ∙ rw (once 0 15 thread (omega arith) one.0 f.0, once 0 1000000 count (omega arith) one.1 f.1, replica_once version won two.1 g.1, lost_once version lost l v.1.1 i.1, did_once version did d v.1.2) refl
 vote_once version (a ∷ b ∷ c ∷ d ∷ e ∷ f ∷ fields) entry h fits = absurd (cc)
 
 free_once : (version : Version) (fields : List (List ℕ)) (entry : Entry) → free_of fields ≡ Some entry → is_entry version entry ≡ true → entry_words entry ≡ codes "free" ∷ fields

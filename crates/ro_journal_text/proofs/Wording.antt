@@ -8,7 +8,7 @@ use Rattle.std.proofs.lemmas.Slice.Eq.{bytes_eq-Decides}
 use Rattle.ro_text.specs.Numbers.{is_number, value_of, within}
 use Rattle.ro_text.proofs.Spellings.{number_once}
 use Rattle.ro_journal.specs.declared.Did.{Did}
-use Rattle.ro_journal.specs.declared.Did.TheVariants.{Served, Blocked, PageBacked, Watch, Trapped}
+use Rattle.ro_journal.specs.declared.Did.TheVariants.{Served, Blocked, Parked, PageBacked, Watch, Trapped}
 use Rattle.ro_journal.specs.declared.How.{How}
 use Rattle.ro_journal.specs.declared.How.TheVariants.{Exit, Deadlock, Trap, Limit, Differ, NoMajority, Sink}
 use Rattle.ro_journal.specs.declared.losers.Lost.{Lost}
@@ -16,7 +16,7 @@ use Rattle.ro_journal.specs.declared.losers.Lost.TheVariants.{Nobody, One, Two}
 use Rattle.ro_journal_text.specs.declared.versions.Version.{Version}
 use Rattle.ro_journal_text.specs.declared.versions.Version.TheVariants.{First, Second}
 use Rattle.ro_journal_text.specs.Texts.{did_word, lost_word, how_words}
-use Rattle.ro_journal_text.specs.Reading.{did_of, listed, several_of, several_in, lost_of, how_of, most_replica, is_lost, is_how}
+use Rattle.ro_journal_text.specs.Reading.{parked_in, did_of, listed, several_of, several_in, lost_of, how_of, most_replica, is_lost, is_how}
 
 pub same : (word text : List ℕ) → bytes_eq word text ≡ true → word ≡ text
 same word text e = (bytes_eq-Decides word text).0 e
@@ -36,17 +36,24 @@ inner x y h = cc
 pub once : (least most : ℕ) (word : List ℕ) → most < 2 ^ 64 → is_number word ≡ true → within least most (value_of word) ≡ true → decimal (value_of word) ≡ word
 once least most word fits n h = number_once word n (omega (arith, leb-true (value_of word) most (and_parts (nat_le least (value_of word)) (nat_le (value_of word) most) h).1))
 
-pub did_once : (word : List ℕ) (did : Did) → did_of word ≡ Some did → did_word did ≡ word
-did_once word did h = elim (pick (bytes_eq word (codes "served")) (Some Served) _ did h) [
+parked-is : (version : Version) (did : Did) → parked_in version ≡ Some did → Parked ≡ did
+parked-is First did h = absurd (let f : None ≡ Some did = h in cc)
+parked-is Second did h = inner Parked did h
+
+pub did_once : (version : Version) (word : List ℕ) (did : Did) → did_of version word ≡ Some did → did_word did ≡ word
+did_once version word did h = elim (pick (bytes_eq word (codes "served")) (Some Served) _ did h) [
   | inl p ↦ ap did_word (sym (inner Served did p.1)) ∙ sym (same word (codes "served") p.0)
   | inr q ↦ elim (pick (bytes_eq word (codes "blocked")) (Some Blocked) _ did q.1) [
     | inl p ↦ ap did_word (sym (inner Blocked did p.1)) ∙ sym (same word (codes "blocked") p.0)
-    | inr q ↦ elim (pick (bytes_eq word (codes "mapped")) (Some PageBacked) _ did q.1) [
-      | inl p ↦ ap did_word (sym (inner PageBacked did p.1)) ∙ sym (same word (codes "mapped") p.0)
-      | inr q ↦ elim (pick (bytes_eq word (codes "watch")) (Some Watch) _ did q.1) [
-        | inl p ↦ ap did_word (sym (inner Watch did p.1)) ∙ sym (same word (codes "watch") p.0)
-        | inr q ↦ let p = chosen (bytes_eq word (codes "trapped")) (Some Trapped) did q.1 in
-            ap did_word (sym (inner Trapped did p.1)) ∙ sym (same word (codes "trapped") p.0)
+    | inr q ↦ elim (pick (bytes_eq word (codes "parked")) (parked_in version) _ did q.1) [
+      | inl p ↦ ap did_word (sym (parked-is version did p.1)) ∙ sym (same word (codes "parked") p.0)
+      | inr q ↦ elim (pick (bytes_eq word (codes "mapped")) (Some PageBacked) _ did q.1) [
+        | inl p ↦ ap did_word (sym (inner PageBacked did p.1)) ∙ sym (same word (codes "mapped") p.0)
+        | inr q ↦ elim (pick (bytes_eq word (codes "watch")) (Some Watch) _ did q.1) [
+          | inl p ↦ ap did_word (sym (inner Watch did p.1)) ∙ sym (same word (codes "watch") p.0)
+          | inr q ↦ let p = chosen (bytes_eq word (codes "trapped")) (Some Trapped) did q.1 in
+              ap did_word (sym (inner Trapped did p.1)) ∙ sym (same word (codes "trapped") p.0)
+        ]
       ]
     ]
   ]

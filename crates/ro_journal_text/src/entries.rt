@@ -152,7 +152,7 @@ fn vote_entry(
     if !is_number(thread) || !is_number(count) || !is_number(won) {
         return Err(JournalCode::Form);
     }
-    match (read_did(did), read_lost(lost, version)) {
+    match (read_did(did, version), read_lost(lost, version)) {
         (None, _) => Err(JournalCode::Form),
         (_, Err(code)) => Err(code),
         (Some(did), Ok(lost)) => match (

@@ -104,6 +104,7 @@ fn did_word(did: Did) -> &'static str
     match did {
         Did::Served => "served",
         Did::Blocked => "blocked",
+        Did::Parked => "parked",
         Did::PageBacked => "mapped",
         Did::Watch => "watch",
         Did::Trapped => "trapped",

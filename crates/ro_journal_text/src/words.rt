@@ -1,8 +1,8 @@
 //! The words of an entry's line, read.
-ghost use Rattle.std.specs.Prelude.{◌≡◌, [], ◌∷◌, Some, true, map, IfOk};
+ghost use Rattle.std.specs.Prelude.{◌≡◌, [], ◌∷◌, Some, true, map, IfOk, IfSome};
 ghost use Rattle.std.specs.List.{list_all};
 ghost use Rattle.ro_text.specs.Numbers.{is_number, value_of};
-ghost use Rattle.ro_journal_text.specs.Reading.{did_of, listed, several_of, lost_of, how_of, is_lost, is_how, ranged};
+ghost use Rattle.ro_journal_text.specs.Reading.{did_of, has_did, listed, several_of, lost_of, how_of, is_lost, is_how, ranged};
 
 use crate::errors::JournalCode;
 use crate::versions::Version;
@@ -10,13 +10,19 @@ use ro_journal::{Did, How, Lost};
 use ro_limits::MOST_STEPS;
 use ro_text::{cut_at, is_number, value_within};
 
-pub(crate) fn read_did(word: &[u8]) -> Option<Did>
-    ensures { result ≡ did_of word.now }
+pub(crate) fn read_did(word: &[u8], version: Version) -> Option<Did>
+    ensures read { result ≡ did_of version word.now }
+    ensures inside { IfSome result (λ did. has_did version did ≡ true) }
 {
     if word == b"served".as_slice() {
         Some(Did::Served)
     } else if word == b"blocked".as_slice() {
         Some(Did::Blocked)
+    } else if word == b"parked".as_slice() {
+        match version {
+            Version::First => None,
+            Version::Second => Some(Did::Parked),
+        }
     } else if word == b"mapped".as_slice() {
         Some(Did::PageBacked)
     } else if word == b"watch".as_slice() {

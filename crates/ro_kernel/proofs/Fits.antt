@@ -9,10 +9,11 @@ use Rattle.ro_event.specs.Effects.{Effect}
 use Rattle.ro_journal.specs.declared.How.{How}
 use Rattle.ro_pages.specs.Bytes.{bytes_of}
 use Rattle.ro_mutex.specs.Owners.{with_owner}
+use Rattle.ro_condition.specs.Waiters.{without}
 use Rattle.ro_kernel.specs.declared.Life.TheVariants.{Live, Exited, Joined}
 use Rattle.ro_kernel.specs.Kernel.{Setup, Kernel}
-use Rattle.ro_kernel.specs.Serve.{Served, Done, Blocked, Ends, answers, capped, serve}
-use Rattle.ro_kernel.proofs.Shapes.{Shape, says, reads, breaks, owns, makes, joins, leaves, waits, stops, stops_last, shape-of}
+use Rattle.ro_kernel.specs.Serve.{Served, Done, Parked, Blocked, Ends, answers, capped, serve}
+use Rattle.ro_kernel.proofs.Shapes.{Shape, says, reads, breaks, owns, wakes, parks_at, resumes, makes, joins, leaves, waits, stops, stops_last, shape-of}
 
 -- how many threads an effect makes
 abbrev pub made_count : Option Made → ℕ
@@ -29,6 +30,7 @@ pub record IsFit (before after : Kernel) (effect : Effect) : Type 0 where
 -- whatever comes of a call
 pub data Fit (before : Kernel) : Served → Type 0 where
   fit_done : {after : Kernel} {effect : Effect} → IsFit before after effect → Fit before (Done after effect)
+  fit_parked : {after : Kernel} → length after.lives ≡ length before.lives → Fit before (Parked after)
   fit_blocked : Fit before Blocked
   fit_end : {after : Kernel} {how : How} → length after.lives ≡ length before.lives → Fit before (Ends after how)
 
@@ -55,10 +57,13 @@ module _ (setup : Setup) (kernel : Kernel) (u : ℕ) (call : Call) where
   fit-of (reads number e xs h) = fit_done (record { one_life_each = add-none (length kernel.lives); few = omega (arith, length-take (capped call.a2) xs); place_left = tt; backs_none = refl })
   fit-of (breaks e end) = fit-answers (record kernel { heap_end = end }) end refl
   fit-of (owns on owner) = fit-answers (record kernel { owners = with_owner kernel.owners call.a0 owner }) 0 refl
+  fit-of (wakes ws w) = fit-answers (record kernel { waiters = ws }) 0 refl
+  fit-of (parks_at w e h) = fit_parked refl
+  fit-of (resumes w waiter e h) = fit-answers (record kernel { owners = with_owner kernel.owners call.a1 (Some u); waiters = without kernel.waiters u }) 0 refl
   fit-of (makes f n) = fit_done (record { one_life_each = length-append kernel.lives (Live ∷ []); few = omega arith; place_left = below (length kernel.lives) n; backs_none = refl })
   fit-of (joins value e h) = fit_done (record { one_life_each = length-set kernel.lives call.a0 Joined ∙ add-none (length kernel.lives); few = few-bytes (call.a1 == 0) value; place_left = tt; backs_none = refl })
   fit-of leaves = fit_done (record { one_life_each = length-set kernel.lives u (Exited call.a0) ∙ add-none (length kernel.lives); few = omega arith; place_left = tt; backs_none = refl })
-  fit-of waits = fit_blocked
+  fit-of (waits w) = fit_blocked
   fit-of (stops status) = fit_end refl
   fit-of stops_last = fit_end (length-set kernel.lives u (Exited call.a0))
 
@@ -76,3 +81,9 @@ ended before after how (fit_end h) = h
 
 pub fit-ended : (setup : Setup) (kernel : Kernel) (u : ℕ) (call : Call) (after : Kernel) (how : How) → serve setup kernel u call ≡ Ends after how → length after.lives ≡ length kernel.lives
 fit-ended setup kernel u call after how e = ended kernel after how (rw e at (serve-fit setup kernel u call))
+
+parked-fit : (before after : Kernel) → Fit before (Parked after) → length after.lives ≡ length before.lives
+parked-fit before after (fit_parked h) = h
+
+pub fit-parked : (setup : Setup) (kernel : Kernel) (u : ℕ) (call : Call) (after : Kernel) → serve setup kernel u call ≡ Parked after → length after.lives ≡ length kernel.lives
+fit-parked setup kernel u call after e = parked-fit kernel after (rw e at (serve-fit setup kernel u call))

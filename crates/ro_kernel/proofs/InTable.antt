@@ -1,15 +1,17 @@
--- Which owners a served call sets: none, or that of its mutex; so an address that stands in the table stays there.
-use Rattle.std.specs.Prelude.{◌≡◌, ℕ, true, Option, is_some}
+-- Which owners a call sets: none, or that of its mutex; so an address that stands in the table stays there.
+use Rattle.std.specs.Prelude.{◌≡◌, ℕ, true, Option, Some, None, is_some}
 use Rattle.std.proofs.Common.{refl, sym, ap, ◌∙◌, ⊎_elim}
 use Rattle.std.proofs.lemmas.Bool.{cases_eq}
+use Rattle.ro_event.specs.declared.calls.Which.TheVariants.{Function}
+use Rattle.ro_event.specs.declared.functions.Function.TheVariants.{Wait}
 use Rattle.ro_event.specs.declared.calls.Call.{Call}
 use Rattle.ro_event.specs.Effects.{Effect}
 use Rattle.ro_journal.specs.declared.How.{How}
 use Rattle.ro_mutex.specs.Owners.{Owners, owner_of, with_owner}
 use Rattle.ro_mutex.proofs.Given.{owner_of-given, owner_of-other}
 use Rattle.ro_kernel.specs.Kernel.{Setup, Kernel}
-use Rattle.ro_kernel.specs.Serve.{Served, Done, Blocked, Ends, serve}
-use Rattle.ro_kernel.proofs.Shapes.{IsOnMutex, Shape, says, reads, breaks, owns, makes, joins, leaves, waits, stops, stops_last, shape-of}
+use Rattle.ro_kernel.specs.Serve.{Served, Done, Parked, Blocked, Ends, serve}
+use Rattle.ro_kernel.proofs.Shapes.{IsOnMutex, Shape, says, reads, breaks, owns, wakes, parks_at, resumes, makes, joins, leaves, waits, stops, stops_last, shape-of}
 
 -- an address stands in the table
 abbrev pub InTable : Owners → ℕ → Type 0
@@ -35,6 +37,8 @@ same-table owners m a o h =
 pub data OwnersAfter (kernel : Kernel) (call : Call) : Served → Type 0 where
   as_before : {after : Kernel} {effect : Effect} → after.owners ≡ kernel.owners → OwnersAfter kernel call (Done after effect)
   one_set : {after : Kernel} {effect : Effect} → (o : Option ℕ) → IsOnMutex call.which → after.owners ≡ with_owner kernel.owners call.a0 o → OwnersAfter kernel call (Done after effect)
+  one_back : {after : Kernel} {effect : Effect} → (o : Option ℕ) → call.which ≡ Function Wait → after.owners ≡ with_owner kernel.owners call.a1 o → OwnersAfter kernel call (Done after effect)
+  one_freed : {after : Kernel} → call.which ≡ Function Wait → after.owners ≡ with_owner kernel.owners call.a1 None → OwnersAfter kernel call (Parked after)
   none_there : OwnersAfter kernel call Blocked
   at_the_end : {after : Kernel} {how : How} → OwnersAfter kernel call (Ends after how)
 
@@ -44,10 +48,13 @@ module _ (setup : Setup) (kernel : Kernel) (u : ℕ) (call : Call) where
   after-of (reads number e xs h) = as_before refl
   after-of (breaks e end) = as_before refl
   after-of (owns on owner) = one_set owner on refl
+  after-of (wakes ws w) = as_before refl
+  after-of (parks_at w e h) = one_freed w refl
+  after-of (resumes w waiter e h) = one_back (Some u) w refl
   after-of (makes f n) = as_before refl
   after-of (joins value e h) = as_before refl
   after-of leaves = as_before refl
-  after-of waits = none_there
+  after-of (waits w) = none_there
   after-of (stops status) = at_the_end
   after-of stops_last = at_the_end
 
@@ -60,5 +67,9 @@ table-lasts kernel call m (Done k e') (as_before e) after effect is h = ap (λ (
 table-lasts kernel call m (Done k e') (one_set o on e) after effect is h =
     ap (λ (s : Kernel). is_some (owner_of s.owners m)) (let f : k ≡ after = cc in sym f)
     ∙ (ap (λ (owners : Owners). is_some (owner_of owners m)) e ∙ stays-in-table kernel.owners m call.a0 o h)
+table-lasts kernel call m (Done k e') (one_back o w e) after effect is h =
+    ap (λ (s : Kernel). is_some (owner_of s.owners m)) (let f : k ≡ after = cc in sym f)
+    ∙ (ap (λ (owners : Owners). is_some (owner_of owners m)) e ∙ stays-in-table kernel.owners m call.a1 o h)
+table-lasts kernel call m (Parked k) (one_freed w e) after effect is h = absurd (let f : Parked k ≡ Done after effect = is in cc)
 table-lasts kernel call m Blocked none_there after effect is h = absurd (let f : Blocked ≡ Done after effect = is in cc)
 table-lasts kernel call m (Ends k how) at_the_end after effect is h = absurd (let f : Ends k how ≡ Done after effect = is in cc)

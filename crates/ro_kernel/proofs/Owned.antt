@@ -10,7 +10,7 @@ use Rattle.ro_event.specs.Effects.{Effect}
 use Rattle.ro_mutex.specs.Owners.{owner_of, with_owner}
 use Rattle.ro_mutex.proofs.Given.{owner_of-given}
 use Rattle.ro_kernel.specs.Kernel.{Setup, Kernel}
-use Rattle.ro_kernel.specs.Serve.{Served, Done, answers, gets, lock_at, trylock_at, unlock_at, on_mutex, serve_which, serve}
+use Rattle.ro_kernel.specs.Serve.{Served, Done, answers, gets, lock_at, trylock_at, unlock_at, on_word, serve_which, serve}
 use Rattle.ro_kernel.proofs.Yields.{Yields, done, blocked, yields-cond, yields-done}
 
 -- where the answer is 0, the address has this owner
@@ -51,7 +51,7 @@ module _ (setup : Setup) (kernel : Kernel) (thread : ℕ) (call : Call) where
   owned-unlock_at (Some None) = refused None 1 refl
   owned-unlock_at (Some (Some owner)) = yields-cond _ _ _ _ (owned-frees kernel thread call) (refused None 1 refl)
 
-  owned-mutex : (owner : Option ℕ) (served : Served) → Yields (Owned call.a0 owner) served → Yields (Owned call.a0 owner) (on_mutex setup kernel thread call served)
+  owned-mutex : (owner : Option ℕ) (served : Served) → Yields (Owned call.a0 owner) served → Yields (Owned call.a0 owner) (on_word setup kernel thread call served)
   owned-mutex owner served h = yields-cond _ _ _ _ (refused owner 14 refl) h
 
   owned : (which : Which) (owner : Option ℕ) (after : Kernel) (effect : Effect) → call.which ≡ which → Yields (Owned call.a0 owner) (serve_which setup kernel thread call which)

@@ -10,8 +10,8 @@ use Rattle.ro_event.specs.Effects.{Effect}
 use Rattle.ro_kernel.specs.Kernel.{Setup, Kernel}
 use Rattle.ro_kernel.specs.Serve.{Served, Done, answer_effect, capped, serve}
 use Rattle.ro_kernel.specs.Errors.{is_error}
-use Rattle.ro_kernel.proofs.Yields.{Yields, done, blocked, ends, yields-done}
-use Rattle.ro_kernel.proofs.Shapes.{Shape, says, reads, breaks, owns, makes, joins, leaves, waits, stops, stops_last, shape-of}
+use Rattle.ro_kernel.proofs.Yields.{Yields, done, parked, blocked, ends, yields-done}
+use Rattle.ro_kernel.proofs.Shapes.{Shape, says, reads, breaks, owns, wakes, parks_at, resumes, makes, joins, leaves, waits, stops, stops_last, shape-of}
 
 -- if the answer is an error of that call, the kernel stays and the effect is the answer alone
 abbrev pub Refuses : Kernel → ℕ → Call → Kernel → Effect → Type 0
@@ -46,10 +46,13 @@ module _ (setup : Setup) (kernel : Kernel) (thread : ℕ) (call : Call) where
   refuses-of (reads number e xs h) = fine _ _ _ refl (ap (λ (w : Which). is_error w (length (take (capped call.a2) xs))) e ∙ moved-few number call xs)
   refuses-of (breaks e end) = fine end _ _ refl (ap (λ (w : Which). is_error w end) e)
   refuses-of (owns on owner) = fine 0 _ _ refl (no-error call.which)
+  refuses-of (wakes ws w) = fine 0 _ _ refl (no-error call.which)
+  refuses-of (parks_at w e h) = parked
+  refuses-of (resumes w waiter e h) = fine 0 _ _ refl (no-error call.which)
   refuses-of (makes f n) = fine 0 _ _ refl (no-error call.which)
   refuses-of (joins value e h) = fine 0 _ _ refl (no-error call.which)
   refuses-of leaves = done (λ value (e : None ≡ Some value) h. absurd (let f : None ≡ Some value = e in cc))
-  refuses-of waits = blocked
+  refuses-of (waits w) = blocked
   refuses-of (stops status) = ends
   refuses-of stops_last = ends
 

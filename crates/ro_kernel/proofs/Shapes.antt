@@ -4,7 +4,7 @@ use Rattle.std.proofs.Common.{refl, sym, subst}
 use Rattle.std.proofs.lemmas.Bool.{true≢false, eqb-true}
 use Rattle.ro_event.specs.declared.calls.Which.{Which}
 use Rattle.ro_event.specs.declared.calls.Which.TheVariants.{System, Function}
-use Rattle.ro_event.specs.declared.functions.Function.TheVariants.{Create, Join, Exit, ThreadSelf, MutexInit, MutexDestroy, Lock, TryLock, Unlock}
+use Rattle.ro_event.specs.declared.functions.Function.TheVariants.{Create, Join, Exit, ThreadSelf, MutexInit, MutexDestroy, Lock, TryLock, Unlock, ConditionInit, ConditionDestroy, Wait, Signal, Broadcast}
 use Rattle.ro_event.specs.declared.calls.Call.{Call}
 use Rattle.ro_event.specs.declared.effects.Goes.TheVariants.{Stays, Returns}
 use Rattle.ro_region.specs.declared.Kind.TheVariants.{Write}
@@ -12,16 +12,29 @@ use Rattle.ro_region.specs.Permission.{permits_of}
 use Rattle.ro_pages.specs.Bytes.{bytes_of}
 use Rattle.ro_journal.specs.declared.How.TheVariants.{Exit as ExitHow}
 use Rattle.ro_mutex.specs.Owners.{owner_of, with_owner}
+use Rattle.ro_condition.specs.declared.waiters.Waiter.{Waiter}
+use Rattle.ro_condition.specs.Waiters.{wait_of, with_signal, with_broadcast}
 use Rattle.ro_kernel.specs.declared.Life.{Life}
 use Rattle.ro_kernel.specs.declared.Life.TheVariants.{Live, Exited, Joined}
 use Rattle.ro_kernel.specs.Kernel.{Setup, Kernel}
-use Rattle.ro_kernel.specs.Serve.{Served, Done, Blocked, Ends, answers, stores_effect, minus, capped, fits, serve_read, serve_write, serve_brk, serve_system, serve_create, joined, serve_join_at, serve_exit, lock_at, trylock_at, unlock_at, on_mutex, serve_which, serve}
+use Rattle.ro_kernel.specs.Serve.{Served, Done, Parked, Blocked, Ends, answers, stores_effect, minus, capped, fits, is_owner, is_free, begins_wait, ends_wait, wait_at, signals, serve_read, serve_write, serve_brk, serve_system, serve_create, joined, serve_join_at, serve_exit, lock_at, trylock_at, unlock_at, on_word, serve_which, serve}
 
 -- a call that may set the owner of a mutex
 pub data IsOnMutex : Which → Type 0 where
   on_lock : IsOnMutex (Function Lock)
   on_trylock : IsOnMutex (Function TryLock)
   on_unlock : IsOnMutex (Function Unlock)
+
+-- a call that wakes waiters, with those before and behind it
+pub data IsWaking (before : List Waiter) (condition : ℕ) : Which → List Waiter → Type 0 where
+  wakes_first : IsWaking before condition (Function Signal) (with_signal before condition)
+  wakes_all : IsWaking before condition (Function Broadcast) (with_broadcast before condition)
+
+-- a call that may block: a wait for a signal only where the thread waits already
+pub data IsWaiting (kernel : Kernel) (u : ℕ) : Which → Type 0 where
+  for_thread : IsWaiting kernel u (Function Join)
+  for_mutex : IsWaiting kernel u (Function Lock)
+  for_signal : (waiter : Waiter) → wait_of kernel.waiters u ≡ Some waiter → IsWaiting kernel u (Function Wait)
 
 pub data Shape (setup : Setup) (kernel : Kernel) (u : ℕ) (call : Call) : Served → Type 0 where
   -- a value, and nothing else
@@ -32,6 +45,12 @@ pub data Shape (setup : Setup) (kernel : Kernel) (u : ℕ) (call : Call) : Serve
   breaks : call.which ≡ System 214 → (end : ℕ) → Shape setup kernel u call (answers (record kernel { heap_end = end }) u call end)
   -- a mutex has another owner, or none
   owns : IsOnMutex call.which → (owner : Option ℕ) → Shape setup kernel u call (answers (record kernel { owners = with_owner kernel.owners call.a0 owner }) u call 0)
+  -- those who wait on a condition variable are signalled, or one of them is
+  wakes : (after : List Waiter) → IsWaking kernel.waiters call.a0 call.which after → Shape setup kernel u call (signals kernel u call after)
+  -- a wait begins, and gives its mutex up
+  parks_at : call.which ≡ Function Wait → wait_of kernel.waiters u ≡ None → is_owner u (owner_of kernel.owners call.a1) ≡ true → Shape setup kernel u call (begins_wait kernel u call)
+  -- a wait ends, and has its mutex back
+  resumes : call.which ≡ Function Wait → (waiter : Waiter) → wait_of kernel.waiters u ≡ Some waiter → (waiter.signalled && is_free (owner_of kernel.owners call.a1)) ≡ true → Shape setup kernel u call (ends_wait kernel u call)
   -- a thread is made
   makes : fits setup.ranges call.a0 ≡ true → nat_le 16 (length kernel.lives) ≡ false → Shape setup kernel u call (Done (record kernel { lives = kernel.lives ++ Live ∷ [] }) (record {
     thread = u;
@@ -57,7 +76,7 @@ pub data Shape (setup : Setup) (kernel : Kernel) (u : ℕ) (call : Call) : Serve
     releases = true;
   }))
   -- it blocks
-  waits : Shape setup kernel u call Blocked
+  waits : IsWaiting kernel u call.which → Shape setup kernel u call Blocked
   -- the program exits, by a call or with its last thread
   stops : (status : ℕ) → Shape setup kernel u call (Ends kernel (ExitHow status))
   stops_last : Shape setup kernel u call (Ends (record kernel { lives = slice_set kernel.lives u (Exited call.a0) }) (ExitHow 0))
@@ -97,11 +116,11 @@ module _ (setup : Setup) (kernel : Kernel) (u : ℕ) (call : Call) where
       let l = tested (not (fits setup.ranges call.a0)) _ _ (λ h. says 14) (λ h. tested (nat_le 16 (length kernel.lives)) _ _ (λ k. says 11) (λ k. makes (set-by _ h) k)) in
       search (l, either, says)
 
-  of-join_at : (o : Option Life) → slice_get kernel.lives call.a0 ≡ o → Shape setup kernel u call (serve_join_at setup kernel u call o)
-  of-join_at None e = says 3
-  of-join_at (Some Joined) e = search (either, says)
-  of-join_at (Some Live) e = search (either, says, waits)
-  of-join_at (Some (Exited value)) e =
+  of-join_at : (o : Option Life) → slice_get kernel.lives call.a0 ≡ o → IsWaiting kernel u call.which → Shape setup kernel u call (serve_join_at setup kernel u call o)
+  of-join_at None e w = says 3
+  of-join_at (Some Joined) e w = search (either, says)
+  of-join_at (Some Live) e w = search (either, says, waits, w)
+  of-join_at (Some (Exited value)) e w =
       let l = tested (not (call.a1 == 0) && not (fits setup.ranges call.a1)) _ _ (λ h. says 14) (λ h. joins value e h) in search (l, either, says)
 
   of-exit : Shape setup kernel u call (serve_exit kernel u call)
@@ -111,10 +130,10 @@ module _ (setup : Setup) (kernel : Kernel) (u : ℕ) (call : Call) where
     sets : (owner : Option ℕ) → Shape setup kernel u call (answers (record kernel { owners = with_owner kernel.owners call.a0 owner }) u call 0)
     sets owner = owns on owner
 
-    of-lock_at : (o : Option (Option ℕ)) → Shape setup kernel u call (lock_at kernel u call o)
-    of-lock_at None = search (either, says, sets)
-    of-lock_at (Some None) = sets (Some u)
-    of-lock_at (Some (Some owner)) = search (either, says, waits)
+    of-lock_at : (o : Option (Option ℕ)) → IsWaiting kernel u call.which → Shape setup kernel u call (lock_at kernel u call o)
+    of-lock_at None w = search (either, says, sets)
+    of-lock_at (Some None) w = sets (Some u)
+    of-lock_at (Some (Some owner)) w = search (either, says, waits, w)
 
     of-trylock_at : (o : Option (Option ℕ)) → Shape setup kernel u call (trylock_at kernel u call o)
     of-trylock_at None = search (either, says, sets)
@@ -126,20 +145,35 @@ module _ (setup : Setup) (kernel : Kernel) (u : ℕ) (call : Call) where
     of-unlock_at (Some None) = says 1
     of-unlock_at (Some (Some owner)) = search (either, says, sets)
 
-  of-mutex : (served : Served) → Shape setup kernel u call served → Shape setup kernel u call (on_mutex setup kernel u call served)
-  of-mutex served h = search (either, says, h)
+  of-wait_at : (o : Option Waiter) → wait_of kernel.waiters u ≡ o → call.which ≡ Function Wait → Shape setup kernel u call (wait_at setup kernel u call o)
+  of-wait_at None e w =
+      let l = tested (is_owner u (owner_of kernel.owners call.a1)) _ _ (λ h. parks_at w e h) (λ h. says 1) in
+      either _ _ _ (says 14) l
+  of-wait_at (Some waiter) e w =
+      tested (waiter.signalled && is_free (owner_of kernel.owners call.a1)) _ _ (λ h. resumes w waiter e h) (λ h. waits (subst (IsWaiting kernel u) (sym w) (for_signal waiter e)))
+
+  of-signals : (after : List Waiter) → IsWaking kernel.waiters call.a0 call.which after → Shape setup kernel u call (signals kernel u call after)
+  of-signals after w = wakes after w
+
+  of-word : (served : Served) → Shape setup kernel u call served → Shape setup kernel u call (on_word setup kernel u call served)
+  of-word served h = search (either, says, h)
 
   of-which : (which : Which) → call.which ≡ which → Shape setup kernel u call (serve_which setup kernel u call which)
   of-which (System number) e = of-system number e
   of-which (Function Create) e = of-create
-  of-which (Function Join) e = of-join_at (slice_get kernel.lives call.a0) refl
+  of-which (Function Join) e = of-join_at (slice_get kernel.lives call.a0) refl (subst (IsWaiting kernel u) (sym e) for_thread)
   of-which (Function Exit) e = of-exit
   of-which (Function ThreadSelf) e = says u
-  of-which (Function MutexInit) e = of-mutex _ (says 0)
-  of-which (Function MutexDestroy) e = of-mutex _ (says 0)
-  of-which (Function Lock) e = of-mutex _ (of-lock_at (subst IsOnMutex (sym e) on_lock) (owner_of kernel.owners call.a0))
-  of-which (Function TryLock) e = of-mutex _ (of-trylock_at (subst IsOnMutex (sym e) on_trylock) (owner_of kernel.owners call.a0))
-  of-which (Function Unlock) e = of-mutex _ (of-unlock_at (subst IsOnMutex (sym e) on_unlock) (owner_of kernel.owners call.a0))
+  of-which (Function MutexInit) e = of-word _ (says 0)
+  of-which (Function MutexDestroy) e = of-word _ (says 0)
+  of-which (Function Lock) e = of-word _ (of-lock_at (subst IsOnMutex (sym e) on_lock) (owner_of kernel.owners call.a0) (subst (IsWaiting kernel u) (sym e) for_mutex))
+  of-which (Function TryLock) e = of-word _ (of-trylock_at (subst IsOnMutex (sym e) on_trylock) (owner_of kernel.owners call.a0))
+  of-which (Function Unlock) e = of-word _ (of-unlock_at (subst IsOnMutex (sym e) on_unlock) (owner_of kernel.owners call.a0))
+  of-which (Function ConditionInit) e = of-word _ (says 0)
+  of-which (Function ConditionDestroy) e = of-word _ (says 0)
+  of-which (Function Wait) e = of-word _ (of-wait_at (wait_of kernel.waiters u) refl e)
+  of-which (Function Signal) e = of-word _ (of-signals _ (subst (λ (w : Which). IsWaking kernel.waiters call.a0 w (with_signal kernel.waiters call.a0)) (sym e) wakes_first))
+  of-which (Function Broadcast) e = of-word _ (of-signals _ (subst (λ (w : Which). IsWaking kernel.waiters call.a0 w (with_broadcast kernel.waiters call.a0)) (sym e) wakes_all))
 
   -- what comes of a thread's call has one of the shapes
   pub shape-of : Shape setup kernel u call (serve setup kernel u call)

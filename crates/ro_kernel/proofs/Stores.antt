@@ -11,8 +11,8 @@ use Rattle.ro_region.specs.Permission.{permits_byte, permits_each, permits_of}
 use Rattle.ro_pages.specs.Bytes.{bytes_of}
 use Rattle.ro_kernel.specs.Kernel.{Setup, Kernel}
 use Rattle.ro_kernel.specs.Serve.{Served, Done, capped, fits, serve}
-use Rattle.ro_kernel.proofs.Yields.{Yields, done, blocked, ends, yields-done}
-use Rattle.ro_kernel.proofs.Shapes.{set-by, Shape, says, reads, breaks, owns, makes, joins, leaves, waits, stops, stops_last, shape-of}
+use Rattle.ro_kernel.proofs.Yields.{Yields, done, parked, blocked, ends, yields-done}
+use Rattle.ro_kernel.proofs.Shapes.{set-by, Shape, says, reads, breaks, owns, wakes, parks_at, resumes, makes, joins, leaves, waits, stops, stops_last, shape-of}
 
 -- fewer bytes are permitted too
 each-fewer : (ranges : List Range) (kind : Kind) (place more fewer : ℕ) → fewer ≤ more → permits_each ranges kind place more ≡ true → permits_each ranges kind place fewer ≡ true
@@ -51,10 +51,13 @@ module _ (setup : Setup) (kernel : Kernel) (thread : ℕ) (call : Call) where
   stores-of (reads number e xs h) = done (permits-fewer setup.ranges Write call.a1 (capped call.a2) (length (take (capped call.a2) xs)) (grind (arith, length-take)) h)
   stores-of (breaks e end) = done (permits-none setup.ranges Write)
   stores-of (owns on owner) = done (permits-none setup.ranges Write)
+  stores-of (wakes ws w) = done (permits-none setup.ranges Write)
+  stores-of (parks_at w e h) = parked
+  stores-of (resumes w waiter e h) = done (permits-none setup.ranges Write)
   stores-of (makes f n) = done (fits-permits call.a0 f)
   stores-of (joins value e h) = done (value-fits value (call.a1 == 0) refl h)
   stores-of leaves = done (permits-none setup.ranges Write)
-  stores-of waits = blocked
+  stores-of (waits w) = blocked
   stores-of (stops status) = ends
   stores-of stops_last = ends
 

@@ -4,10 +4,11 @@ use Rattle.std.proofs.Common.{subst}
 use Rattle.ro_event.specs.Effects.{Effect}
 use Rattle.ro_journal.specs.declared.How.{How}
 use Rattle.ro_kernel.specs.Kernel.{Kernel}
-use Rattle.ro_kernel.specs.Serve.{Served, Done, Blocked, Ends}
+use Rattle.ro_kernel.specs.Serve.{Served, Done, Parked, Blocked, Ends}
 
 pub data Yields (P : Kernel → Effect → Type 0) : Served → Type 0 where
   done : {after : Kernel} {effect : Effect} → P after effect → Yields P (Done after effect)
+  parked : {after : Kernel} → Yields P (Parked after)
   blocked : Yields P Blocked
   ends : {after : Kernel} {how : How} → Yields P (Ends after how)
 

@@ -3,15 +3,16 @@ use Rattle.std.specs.Prelude.{◌≡◌, ◌==◌, Bool, true, false, Result, Ok
 use Rattle.std.specs.declared.alloc.AllocError.{AllocError}
 use Rattle.ro_event.specs.declared.calls.Which.{Which}
 use Rattle.ro_event.specs.declared.calls.Which.TheVariants.{System, Function}
-use Rattle.ro_event.specs.declared.functions.Function.TheVariants.{Create, Join}
+use Rattle.ro_event.specs.declared.functions.Function.TheVariants.{Create, Join, Wait}
 use Rattle.ro_kernel.specs.declared.outcome.Served.{Served}
-use Rattle.ro_kernel.specs.declared.outcome.Served.TheVariants.{Done, Blocked, Ends}
+use Rattle.ro_kernel.specs.declared.outcome.Served.TheVariants.{Done, Parked, Blocked, Ends}
 use Rattle.ro_kernel.specs.State.{State}
-use Rattle.ro_kernel.specs.Serve.{Served as Outcome, Done as DoneWith, Blocked as BlockedAtAll, Ends as EndsWith}
+use Rattle.ro_kernel.specs.Serve.{Served as Outcome, Done as DoneWith, Parked as ParkedWith, Blocked as BlockedAtAll, Ends as EndsWith}
 
 -- the outcome of the call, with the kernel after it
 abbrev pub Brings : Outcome → (old new : State) → Served → Type 0
 Brings outcome old new (Done effect) = (outcome ≡ DoneWith new.kernel effect) × (new.setup ≡ old.setup)
+Brings outcome old new Parked = (outcome ≡ ParkedWith new.kernel) × (new.setup ≡ old.setup)
 Brings outcome old new Blocked = (outcome ≡ BlockedAtAll) × (new ≡ old)
 Brings outcome old new (Ends how) = (outcome ≡ EndsWith new.kernel how) × (new.setup ≡ old.setup)
 
@@ -20,9 +21,10 @@ abbrev pub IsServe : Outcome → (old new : State) → Result Served AllocError 
 IsServe outcome old new (Ok served) = Brings outcome old new served
 IsServe outcome old new (Err error) = new ≡ old
 
--- whether a call may store bytes, which takes memory
-abbrev pub may_store : Which → Bool
-may_store (System number) = number == 63
-may_store (Function Create) = true
-may_store (Function Join) = true
-may_store _ = false
+-- whether serving a call may take memory: for the bytes that it stores, or for the place of one who waits
+abbrev pub may_take_memory : Which → Bool
+may_take_memory (System number) = number == 63
+may_take_memory (Function Create) = true
+may_take_memory (Function Join) = true
+may_take_memory (Function Wait) = true
+may_take_memory _ = false

@@ -1,7 +1,7 @@
 //! The calls on mutexes. The kernel neither reads nor writes a mutex's own bytes.
 ghost use Rattle.std.specs.Prelude.{◌≡◌};
 ghost use Rattle.ro_mutex.specs.Owners.{owner_of};
-ghost use Rattle.ro_kernel.specs.Serve.{answers, on_mutex, lock_at, trylock_at, unlock_at, is_blocked};
+ghost use Rattle.ro_kernel.specs.Serve.{answers, on_word, lock_at, trylock_at, unlock_at, is_owner, is_blocked};
 ghost use Rattle.ro_kernel.specs.Served.{Brings};
 
 use crate::answers::answer;
@@ -12,9 +12,10 @@ use ro_event::Call;
 use ro_mutex::{Locked, Tried, Unlocked};
 
 impl Kernel {
-    /// pthread_mutex_init(m, attr) and pthread_mutex_destroy(m), which do nothing but look at m.
-    pub(crate) fn check_mutex(&mut self, thread: u32, call: Call) -> Served
-        ensures { let kernel = self.old.kernel in Brings (on_mutex self.old.setup kernel thread call (answers kernel thread call 0)) self.old self.new result }
+    /// pthread_mutex_init(m, attr), pthread_mutex_destroy(m), pthread_cond_init(c, attr) and pthread_cond_destroy(c), which
+    /// do nothing but look at the address.
+    pub(crate) fn check_word(&mut self, thread: u32, call: Call) -> Served
+        ensures { let kernel = self.old.kernel in Brings (on_word self.old.setup kernel thread call (answers kernel thread call 0)) self.old self.new result }
     {
         let value = if self.fits(call.a0) { 0 } else { EFAULT };
         answer(self.alloc, thread, call, value)
@@ -22,7 +23,7 @@ impl Kernel {
 
     /// pthread_mutex_lock(m).
     pub(crate) fn lock(&mut self, thread: u32, call: Call) -> Served
-        ensures { let kernel = self.old.kernel in Brings (on_mutex self.old.setup kernel thread call (lock_at kernel thread call (owner_of kernel.owners call.a0))) self.old self.new result }
+        ensures { let kernel = self.old.kernel in Brings (on_word self.old.setup kernel thread call (lock_at kernel thread call (owner_of kernel.owners call.a0))) self.old self.new result }
     {
         if !self.fits(call.a0) {
             return answer(self.alloc, thread, call, EFAULT);
@@ -38,7 +39,7 @@ impl Kernel {
 
     /// pthread_mutex_trylock(m).
     pub(crate) fn trylock(&mut self, thread: u32, call: Call) -> Served
-        ensures { let kernel = self.old.kernel in Brings (on_mutex self.old.setup kernel thread call (trylock_at kernel thread call (owner_of kernel.owners call.a0))) self.old self.new result }
+        ensures { let kernel = self.old.kernel in Brings (on_word self.old.setup kernel thread call (trylock_at kernel thread call (owner_of kernel.owners call.a0))) self.old self.new result }
     {
         if !self.fits(call.a0) {
             return answer(self.alloc, thread, call, EFAULT);
@@ -53,7 +54,7 @@ impl Kernel {
 
     /// pthread_mutex_unlock(m).
     pub(crate) fn unlock(&mut self, thread: u32, call: Call) -> Served
-        ensures { let kernel = self.old.kernel in Brings (on_mutex self.old.setup kernel thread call (unlock_at kernel thread call (owner_of kernel.owners call.a0))) self.old self.new result }
+        ensures { let kernel = self.old.kernel in Brings (on_word self.old.setup kernel thread call (unlock_at kernel thread call (owner_of kernel.owners call.a0))) self.old self.new result }
     {
         if !self.fits(call.a0) {
             return answer(self.alloc, thread, call, EFAULT);
@@ -67,7 +68,7 @@ impl Kernel {
 
     /// Whether pthread_mutex_lock(m) would block.
     pub(crate) fn lock_blocks(&self, thread: u32, call: Call) -> bool
-        ensures { let kernel = self.now.kernel in result ≡ is_blocked (on_mutex self.now.setup kernel thread call (lock_at kernel thread call (owner_of kernel.owners call.a0))) }
+        ensures { let kernel = self.now.kernel in result ≡ is_blocked (on_word self.now.setup kernel thread call (lock_at kernel thread call (owner_of kernel.owners call.a0))) }
     {
         if !self.fits(call.a0) {
             return false;
@@ -76,5 +77,12 @@ impl Kernel {
             Some(Some(owner)) => owner != thread,
             _ => false,
         }
+    }
+
+    /// Whether the thread holds a mutex.
+    pub(crate) fn is_owner(&self, thread: u32, mutex: u32) -> bool
+        ensures { result ≡ is_owner thread (owner_of self.now.kernel.owners mutex) }
+    {
+        self.mutexes.owner(mutex) == Some(Some(thread))
     }
 }

@@ -8,6 +8,8 @@ use ro_journal::How;
 pub enum Served {
     /// It is served, with this effect on the thread and its memory.
     Done(Effect),
+    /// It did its first step, and blocks before its second.
+    Parked,
     /// It can't be served now, and changes nothing.
     Blocked,
     /// The program ends.

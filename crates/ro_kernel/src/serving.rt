@@ -1,8 +1,8 @@
 //! Serving a call, whichever it is.
-ghost use Rattle.std.specs.Prelude.{◌≡◌, not, true, OnErr};
+ghost use Rattle.std.specs.Prelude.{◌≡◌, true, OnErr};
 ghost use Rattle.ro_kernel.specs.Kernel.{lives_on};
-ghost use Rattle.ro_kernel.specs.Serve.{serve, serve_function, blocks};
-ghost use Rattle.ro_kernel.specs.Served.{IsServe, may_store};
+ghost use Rattle.ro_kernel.specs.Serve.{serve, serve_function, blocks, parks, serves};
+ghost use Rattle.ro_kernel.specs.Served.{IsServe, may_take_memory};
 
 use crate::answers::answer;
 use crate::outcome::Served;
@@ -12,12 +12,12 @@ use std::alloc::AllocError;
 
 impl Kernel {
     /// Serves a call of a live thread, or says that it blocks or how the program ends. Where memory is wanting for
-    /// the bytes that it stores, nothing changes.
+    /// the bytes that it stores or the place of one who waits, nothing changes.
     #[tactic(auto, unfolding(crate::specs::Serve::serve))]
     pub fn serve(&mut self, thread: u32, call: Call) -> Result<Served, AllocError>
         requires { lives_on self.old.kernel thread ≡ true }
         ensures served { IsServe (serve self.old.setup self.old.kernel thread call) self.old self.new result }
-        ensures memory { OnErr result (may_store call.which ≡ true) }
+        ensures memory { OnErr result (may_take_memory call.which ≡ true) }
     {
         match call.which {
             Which::System(number) => self.system(thread, call, number),
@@ -34,17 +34,23 @@ impl Kernel {
     ) -> Result<Served, AllocError>
         requires { lives_on self.old.kernel thread ≡ true }
         ensures served { IsServe (serve_function self.old.setup self.old.kernel thread call function) self.old self.new result }
-        ensures memory { OnErr result (may_store (Which.Function function) ≡ true) }
+        ensures memory { OnErr result (may_take_memory (Which.Function function) ≡ true) }
     {
         match function {
             Function::Create => self.create(thread, call),
             Function::Join => self.join(thread, call),
             Function::Exit => Ok(self.exit(thread, call)),
             Function::ThreadSelf => Ok(answer(self.alloc, thread, call, thread)),
-            Function::MutexInit | Function::MutexDestroy => Ok(self.check_mutex(thread, call)),
+            Function::MutexInit
+            | Function::MutexDestroy
+            | Function::ConditionInit
+            | Function::ConditionDestroy => Ok(self.check_word(thread, call)),
             Function::Lock => Ok(self.lock(thread, call)),
             Function::TryLock => Ok(self.trylock(thread, call)),
             Function::Unlock => Ok(self.unlock(thread, call)),
+            Function::Wait => self.wait(thread, call),
+            Function::Signal => Ok(self.signal(thread, call)),
+            Function::Broadcast => Ok(self.broadcast(thread, call)),
         }
     }
 
@@ -56,14 +62,27 @@ impl Kernel {
         match call.which {
             Which::Function(Function::Join) => self.join_blocks(thread, call),
             Which::Function(Function::Lock) => self.lock_blocks(thread, call),
+            Which::Function(Function::Wait) => self.wait_blocks(thread, call),
             _ => false,
         }
     }
 
-    /// Whether a call that blocked can be served now.
-    pub fn ready(&self, thread: u32, call: Call) -> bool
-        ensures { result ≡ not (blocks self.now.setup self.now.kernel thread call) }
+    /// Whether a call of the thread would do its first step now, and block before its second.
+    #[tactic(auto, unfolding(crate::specs::Serve::serve))]
+    pub fn parks(&self, thread: u32, call: Call) -> bool
+        ensures { result ≡ parks self.now.setup self.now.kernel thread call }
     {
-        !self.blocks(thread, call)
+        match call.which {
+            Which::Function(Function::Wait) => self.wait_parks(thread, call),
+            _ => false,
+        }
+    }
+
+    /// Whether all of a call would be done now: so one that blocked can be served.
+    #[tactic(auto, using(crate::proofs::Outcomes::outcome_laws))]
+    pub fn ready(&self, thread: u32, call: Call) -> bool
+        ensures { result ≡ serves self.now.setup self.now.kernel thread call }
+    {
+        !self.blocks(thread, call) && !self.parks(thread, call)
     }
 }

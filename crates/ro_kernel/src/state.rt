@@ -1,17 +1,20 @@
 //! The kernel's state.
 ghost use Rattle.std.specs.Prelude.{◌≡◌, ◌∷◌, [], ◌≤◌, length, IfOk};
 ghost use Rattle.std.specs.Arc.{arc_value};
+ghost use Rattle.ro_condition.specs.Waiters.{wait_of};
 ghost use Rattle.ro_kernel.specs.Kernel.{is_live, lives_on, any_live, opening_kernel};
 ghost use Rattle.ro_kernel.specs.Serve.{fits};
 
 use crate::Life;
+use ro_condition::{Waiter, Waiters};
 use ro_mutex::MutexTable;
 use ro_region::{Kind, Regions};
 use std::alloc::{AllocError, Global};
 use std::marker::Model;
 use std::sync::Arc;
 
-/// What the kernel knows of a guest: its threads' lives, the owners of mutexes, the end of the heap and the input.
+/// What the kernel knows of a guest: its threads' lives, the owners of mutexes, who waits on condition variables, the end
+/// of the heap and the input.
 #[derive(Drop)]
 pub struct Kernel {
     pub(crate) regions: Arc<Regions>,
@@ -25,6 +28,7 @@ pub struct Kernel {
     /// One for each thread that was made.
     pub(crate) lives: Vec<Life>,
     pub(crate) mutexes: MutexTable,
+    pub(crate) waiters: Waiters,
     pub(crate) alloc: Global,
 }
 
@@ -35,7 +39,7 @@ impl Model for Kernel {
 
     ghost Value = { State };
 
-    ghost view = { λ k. record { setup = record { ranges = arc_value k.regions; heap = k.heap; input = k.input.items }; kernel = record { lives = k.lives.items; owners = k.mutexes; heap_end = k.heap_end; taken = k.taken } } };
+    ghost view = { λ k. record { setup = record { ranges = arc_value k.regions; heap = k.heap; input = k.input.items }; kernel = record { lives = k.lives.items; owners = k.mutexes; waiters = k.waiters; heap_end = k.heap_end; taken = k.taken } } };
 
     ghost invariant = { λ k. (k.taken ≤ vec_len k.input) × (vec_len k.lives ≤ 16) };
 }
@@ -49,7 +53,7 @@ impl Life {
 }
 
 impl Kernel {
-    /// The kernel of a guest that starts: one live thread, no mutex, an empty heap at `heap`, and nothing read of the
+    /// The kernel of a guest that starts: one live thread, no mutex and no waiter, an empty heap at `heap`, and nothing read of the
     /// input. The regions are shared with whoever else judges addresses.
     pub fn new(
         alloc: Global,
@@ -68,6 +72,7 @@ impl Kernel {
             taken: 0,
             lives: [Life::Live].to_vec(alloc)?,
             mutexes: MutexTable::new(alloc)?,
+            waiters: Waiters::new(alloc),
             alloc,
         })
     }
@@ -88,6 +93,13 @@ impl Kernel {
             Some(life) => life.is_live(),
             None => false,
         }
+    }
+
+    /// The wait of a thread on a condition variable, where it waits.
+    pub fn waiter(&self, thread: u32) -> Option<Waiter>
+        ensures { result ≡ wait_of self.now.kernel.waiters thread }
+    {
+        self.waiters.of(thread)
     }
 
     pub(crate) fn any_live(&self) -> bool

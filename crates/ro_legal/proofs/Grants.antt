@@ -3,7 +3,7 @@ use Rattle.std.specs.Prelude.{◌≡◌, ◌≢◌, ℕ, zero, suc, ◌⊎◌, B
 use Rattle.std.specs.List.{filter, list_any}
 use Rattle.std.specs.Option.{option_map_or, option_and_then}
 use Rattle.std.proofs.Common.{refl, sym, ap, ◌∙◌, subst, inl, inr}
-use Rattle.std.proofs.lemmas.Bool.{true≢false, and_parts, cases_Bool, cases_eq}
+use Rattle.std.proofs.lemmas.Bool.{true≢false, false≢true, and_parts, cases_Bool, cases_eq}
 use Rattle.std.proofs.lemmas.Option.{option_and_then_some}
 use Rattle.ro_event.specs.declared.calls.Call.{Call}
 use Rattle.ro_event.specs.declared.effects.Made.{Made}
@@ -15,13 +15,13 @@ use Rattle.ro_journal.specs.Losers.{numbers}
 use Rattle.ro_journal.specs.declared.losers.Lost.{Lost}
 use Rattle.ro_vote.specs.Numbers.{is_among}
 use Rattle.ro_journal.specs.declared.Did.{Did}
-use Rattle.ro_journal.specs.declared.Did.TheVariants.{Served, Blocked, PageBacked, Watch, Trapped}
+use Rattle.ro_journal.specs.declared.Did.TheVariants.{Served, Parked, Blocked, PageBacked, Watch, Trapped}
 use Rattle.ro_journal.specs.declared.How.{How}
 use Rattle.ro_journal.specs.declared.Entry.{Entry}
 use Rattle.ro_journal.specs.declared.Entry.TheVariants.{Take, Put, Vote, Free, Scrub, End}
 use Rattle.ro_kernel.proofs.Kept.{slice_get-set_other}
 use Rattle.ro_kernel.specs.Kernel.{Setup, Kernel, lives_on}
-use Rattle.ro_kernel.specs.Serve.{Served as Serving, Done, Blocked as Blocks, Ends, serve}
+use Rattle.ro_kernel.specs.Serve.{Served as Serving, Done, Parked as Parks, Blocked as Blocks, Ends, serve}
 use Rattle.ro_thread.specs.declared.Thread.{Thread}
 use Rattle.ro_replica.specs.Replica.{Replica, changed_at, thread_after, with_made, without_cancelled, is_cancelled, applied, cancelled}
 use Rattle.ro_replica.specs.Runs.{RanTo, run_of, with_stop}
@@ -32,7 +32,7 @@ use Rattle.ro_legal.specs.declared.actions.Lease.{Lease}
 use Rattle.ro_legal.specs.Core.{Job, Core, opening_core, is_home, is_out, is_lendable}
 use Rattle.ro_legal.specs.Event.{Event, quiet_effect, call_event, event_of, with_recovered}
 use Rattle.ro_legal.specs.Legal.{lease_run, is_lease, arrival, arrived, core_after_put, core_after_event, event_in, freed_event, after, IsAllowed, MayPut, MayVote, MayFree, LegalFrom, Legal, replay}
-use Rattle.ro_legal.specs.Laws.{thread_in, LeavesBlocked, LetsGoOn}
+use Rattle.ro_legal.specs.Laws.{thread_in, leaves_blocked, LeavesBlocked, LetsGoOn}
 use Rattle.ro_legal.proofs.Lists.{get-map-there, get-set-same, changed-is-set}
 use Rattle.ro_legal.proofs.Copies.{copied-other}
 use Rattle.ro_legal.proofs.Effects.{backed_after, threads_after}
@@ -226,26 +226,19 @@ blocked-stands core voted count replicas event replica value stands call quiet i
         get-map-there (without_cancelled (backed_after effect value.backed)) (threads_after effect value.threads) voted (record stands { since = 0 }) changed
         ∙ ap Some (not-cancelled (backed_after effect value.backed) (record stands { since = 0 }) call at)
 
--- an event that blocks changes nothing else
-blocked-quiet : (setup : Setup) (kernel : Kernel) (thread : ℕ) (stop : Stop) (payload : List ℕ) → (event_of setup kernel thread stop payload).did ≡ Blocked → (event_of setup kernel thread stop payload).effect ≡ quiet_effect thread None false
+-- an event that blocks changes nothing else of the replicas
+blocked-quiet : (setup : Setup) (kernel : Kernel) (thread : ℕ) (stop : Stop) (payload : List ℕ) → leaves_blocked (event_of setup kernel thread stop payload).did ≡ true → (event_of setup kernel thread stop payload).effect ≡ quiet_effect thread None false
 unfolding event_of
-blocked-quiet setup kernel thread (PageFault page) payload e = absurd (let f : PageBacked ≡ Blocked = e in cc)
-blocked-quiet setup kernel thread Watchdog payload e = absurd (let f : Watch ≡ Blocked = e in cc)
-blocked-quiet setup kernel thread (Trap code) payload e = absurd (let f : Trapped ≡ Blocked = e in cc)
+blocked-quiet setup kernel thread (PageFault page) payload e = absurd (false≢true e)
+blocked-quiet setup kernel thread Watchdog payload e = absurd (false≢true e)
+blocked-quiet setup kernel thread (Trap code) payload e = absurd (false≢true e)
 blocked-quiet setup kernel thread (Calls call) payload e = by (serve setup kernel thread call) e
   where
-    by : (s : Serving) → (call_event kernel thread call payload s).did ≡ Blocked → (call_event kernel thread call payload s).effect ≡ quiet_effect thread None false
-    by (Done after effect) f = absurd (let g : Served ≡ Blocked = f in cc)
+    by : (s : Serving) → leaves_blocked (call_event kernel thread call payload s).did ≡ true → (call_event kernel thread call payload s).effect ≡ quiet_effect thread None false
+    by (Done after effect) f = absurd (false≢true f)
+    by (Parks after) f = refl
     by Blocks f = refl
-    by (Ends after how) f = absurd (let g : Served ≡ Blocked = f in cc)
-
--- whether a vote blocked
-blocked-cases : (did : Did) → (did ≡ Blocked) ⊎ (did ≢ Blocked)
-blocked-cases Served = inr (λ e. cc)
-blocked-cases Blocked = inl refl
-blocked-cases PageBacked = inr (λ e. cc)
-blocked-cases Watch = inr (λ e. cc)
-blocked-cases Trapped = inr (λ e. cc)
+    by (Ends after how) f = absurd (false≢true f)
 
 -- what becomes of a thread that stands at a call
 abbrev Goes : Core → Entry → (replica thread : ℕ) → Thread → Type 0
@@ -291,7 +284,7 @@ put-keeps job core driver ran_in ran count hit may go replica thread stands call
 vote-keeps : (job : Job) (core : Core) (voted count won : ℕ) (lost : Lost) (did : Did) → MayVote job core voted count won lost did → (replica thread : ℕ) (stands : Thread) (call : Call)
     → Found core replica thread stands → stands.stop ≡ Some (Calls call) → Goes (after job core (Vote voted count won lost did)) (Vote voted count won lost did) replica thread stands
 unfolding after
-vote-keeps job core voted count won lost did may replica thread stands call f at = by (cases_eq voted thread) (blocked-cases did) (cases_Bool (is_among (numbers lost) replica))
+vote-keeps job core voted count won lost did may replica thread stands call f at = by (cases_eq voted thread) (cases_Bool (leaves_blocked did)) (cases_Bool (is_among (numbers lost) replica))
   where
     new : Core
     new = core_after_event core voted count (with_recovered won (numbers lost) core.replicas) (event_in job core voted won)
@@ -306,17 +299,17 @@ vote-keeps job core voted count won lost did may replica thread stands call f at
         subst (λ (o : Option Event). thread_in (core_after_event core voted count (with_recovered won (numbers lost) core.replicas) o) replica thread ≡ Some stands) (sym may.comes)
         (event-keeps core voted count (with_recovered won (numbers lost) core.replicas) may.event replica thread f.value stands call own (λ k. other (sym k)) (here not_lost) f.there at)
 
-    stays : voted ≡ thread → did ≡ Blocked → is_among (numbers lost) replica ≡ false → thread_in new replica thread ≡ Some (record stands { since = 0 })
+    stays : voted ≡ thread → leaves_blocked did ≡ true → is_among (numbers lost) replica ≡ false → thread_in new replica thread ≡ Some (record stands { since = 0 })
     stays same blocks not_lost =
         let e = event-parts job core voted won may.event may.comes in
         let quiet : may.event.effect ≡ quiet_effect voted None false =
-        subst (λ (v : Event). v.did ≡ Blocked → v.effect ≡ quiet_effect voted None false) e.is (blocked-quiet (setup_of job.program) core.kernel voted e.stop _) (may.did_is ∙ blocks)
+        subst (λ (v : Event). leaves_blocked v.did ≡ true → v.effect ≡ quiet_effect voted None false) e.is (blocked-quiet (setup_of job.program) core.kernel voted e.stop _) (ap leaves_blocked may.did_is ∙ blocks)
         in
         subst (λ (o : Option Event). thread_in (core_after_event core voted count (with_recovered won (numbers lost) core.replicas) o) replica thread ≡ Some (record stands { since = 0 })) (sym may.comes)
         (subst (λ (n : ℕ). thread_in (core_after_event core voted count (with_recovered won (numbers lost) core.replicas) (Some may.event)) replica n ≡ Some (record stands { since = 0 })) same
         (blocked-stands core voted count (with_recovered won (numbers lost) core.replicas) may.event replica f.value stands call quiet (here not_lost) (ap (slice_get f.value.threads) same ∙ f.there) at))
 
-    by : (voted ≡ thread) ⊎ (voted ≢ thread) → (did ≡ Blocked) ⊎ (did ≢ Blocked) → (is_among (numbers lost) replica ≡ true) ⊎ (is_among (numbers lost) replica ≡ false) → Goes new (Vote voted count won lost did) replica thread stands
+    by : (voted ≡ thread) ⊎ (voted ≢ thread) → (leaves_blocked did ≡ true) ⊎ (leaves_blocked did ≡ false) → (is_among (numbers lost) replica ≡ true) ⊎ (is_among (numbers lost) replica ≡ false) → Goes new (Vote voted count won lost did) replica thread stands
     by v d (inl e) = inr (inr (inr e))
     by (inr d) b (inr g) = inl (kept d g)
     by (inl e) (inl b) (inr g) = inr (inl ((e, b), stays e b g))

@@ -3,6 +3,8 @@ use Rattle.std.specs.Prelude.{◌≡◌, ◌≢◌, ℕ, ◌+◌, ◌≤◌, ◌
 use Rattle.std.proofs.Common.{refl, sym, ap, ◌∙◌, subst, arith}
 use Rattle.std.proofs.lemmas.Bool.{and_parts, leb-true}
 use Rattle.ro_event.specs.declared.calls.Call.{Call}
+use Rattle.ro_event.specs.declared.calls.Which.TheVariants.{Function}
+use Rattle.ro_event.specs.declared.functions.Function.TheVariants.{Wait}
 use Rattle.ro_event.specs.declared.effects.Made.{Made}
 use Rattle.ro_event.specs.declared.stops.Stop.{Stop}
 use Rattle.ro_event.specs.declared.stops.Stop.TheVariants.{Calls, Trap, PageFault, Watchdog}
@@ -12,10 +14,13 @@ use Rattle.ro_region.specs.Permission.{permits_each, permits_of}
 use Rattle.ro_journal.specs.declared.How.{How}
 use Rattle.ro_journal.specs.declared.How.TheVariants.{Trap as TrapHow}
 use Rattle.ro_kernel.specs.Kernel.{Setup, Kernel, lives_on}
-use Rattle.ro_kernel.specs.Serve.{Served, Done, Blocked, Ends, serve}
+use Rattle.ro_kernel.specs.Serve.{Served, Done, Parked, Blocked, Ends, serve}
 use Rattle.ro_kernel.proofs.Kept.{IsOwn, Own, done, serve-own}
 use Rattle.ro_kernel.proofs.Stores.{stores-permitted}
-use Rattle.ro_kernel.proofs.Fits.{fit-effect}
+use Rattle.ro_condition.proofs.Whose.{is_waiting}
+use Rattle.ro_kernel.proofs.Fits.{fit-effect, fit-parked}
+use Rattle.ro_kernel.proofs.Outcomes.{parked-live}
+use Rattle.ro_kernel.proofs.Waiting.{served-others, begun-others, begun-now, blocked-waits}
 use Rattle.ro_legal.specs.Event.{Event, call_event, event_of}
 use Rattle.ro_legal.specs.Sound.{IsOver, traps}
 use Rattle.ro_legal.proofs.Served.{made_count, IsTidy, Tidy, tidy_done, tidy_end, serve-tidy}
@@ -24,7 +29,9 @@ use Rattle.ro_legal.proofs.Served.{made_count, IsTidy, Tidy, tidy_done, tidy_end
 pub record Happens (kernel : Kernel) (thread : ℕ) (event : Event) : Type 0 where
   pub lives_are : length event.kernel.lives ≡ length kernel.lives + made_count event.effect.made
   pub others_live : event.due ≡ None → (other : ℕ) → other ≢ thread → lives_on kernel other ≡ true → lives_on event.kernel other ≡ true
-  pub blocks_live : (call : Call) → event.blocked ≡ Some call → event.kernel ≡ kernel
+  pub blocks_live : (call : Call) → event.blocked ≡ Some call → lives_on event.kernel thread ≡ lives_on kernel thread
+  pub others_wait : event.due ≡ None → (other : ℕ) → other ≢ thread → is_waiting event.kernel.waiters other ≡ is_waiting kernel.waiters other
+  pub waits_begun : (call : Call) → event.blocked ≡ Some call → call.which ≡ Function Wait → is_waiting event.kernel.waiters thread ≡ true
   pub thread_is : event.effect.thread ≡ thread
   pub creator_is : (made : Made) → event.effect.made ≡ Some made → made.creator ≡ thread
   pub few : length event.effect.bytes ≤ 4096
@@ -37,11 +44,13 @@ add-none n = omega arith
 
 -- an event that changes nothing in the kernel
 quiet : (kernel : Kernel) (thread : ℕ) (event : Event) → event.kernel ≡ kernel → event.effect.made ≡ None → event.effect.thread ≡ thread → event.effect.bytes ≡ [] → event.effect.place ≡ 0
-    → ((how : How) → event.due ≡ Some how → IsOver how) → Happens kernel thread event
-quiet kernel thread event same none own nothing at well = record {
+    → ((how : How) → event.due ≡ Some how → IsOver how) → ((call : Call) → event.blocked ≡ Some call → call.which ≡ Function Wait → is_waiting kernel.waiters thread ≡ true) → Happens kernel thread event
+quiet kernel thread event same none own nothing at well waits_on = record {
   lives_are = ap (λ (k : Kernel). length k.lives) same ∙ add-none (length kernel.lives) ∙ ap (λ (m : Option Made). length kernel.lives + made_count m) (sym none);
   others_live = λ e other differs h. ap (λ (k : Kernel). lives_on k other) same ∙ h;
-  blocks_live = λ call e. same;
+  blocks_live = λ call e. ap (λ (k : Kernel). lives_on k thread) same;
+  others_wait = λ e other differs. ap (λ (k : Kernel). is_waiting k.waiters other) same;
+  waits_begun = λ call e w. ap (λ (k : Kernel). is_waiting k.waiters thread) same ∙ waits_on call e w;
   thread_is = own;
   creator_is = λ made e. absurd (let f : None ≡ Some made = sym none ∙ e in cc);
   few = let e : length event.effect.bytes ≡ 0 = ap length nothing in omega arith;
@@ -82,6 +91,8 @@ module _ (setup : Setup) (kernel : Kernel) (thread : ℕ) (call : Call) (payload
         lives_are = tidy.one_life_each;
         others_live = λ d other differs h. own.keeps_live other differs h;
         blocks_live = λ c f. absurd (let g : None ≡ Some c = f in cc);
+        others_wait = λ d other differs. served-others setup kernel thread call after effect e other differs;
+        waits_begun = λ c f. absurd (let g : None ≡ Some c = f in cc);
         thread_is = own.thread_is;
         creator_is = own.creator_is;
         few = fit.few;
@@ -89,13 +100,30 @@ module _ (setup : Setup) (kernel : Kernel) (thread : ℕ) (call : Call) (payload
         place_left = fit.place_left;
         ends_well = no-end;
       }
-  by-served Blocked e = quiet kernel thread _ refl refl refl refl refl no-end
+  by-served (Parked after) e = record {
+    lives_are = fit-parked setup kernel thread call after e ∙ add-none (length kernel.lives);
+    others_live = λ d other differs h. parked-live setup kernel thread call after other e ∙ h;
+    blocks_live = λ c f. parked-live setup kernel thread call after thread e;
+    others_wait = λ d other differs. begun-others setup kernel thread call after e other differs;
+    waits_begun = λ c f w. begun-now setup kernel thread call after e;
+    thread_is = refl;
+    creator_is = λ made f. absurd (let g : None ≡ Some made = f in cc);
+    few = omega arith;
+    within = omega arith;
+    place_left = tt;
+    ends_well = no-end;
+  }
+  by-served Blocked e =
+      quiet kernel thread _ refl refl refl refl refl no-end
+      (λ c f w. blocked-waits setup kernel thread call e (let g : Some call ≡ Some c = f in let same : call ≡ c = cc in ap (λ (d : Call). d.which) same ∙ w))
   by-served (Ends after how) e =
       let tidy = subst (Tidy kernel thread) e (serve-tidy setup kernel thread call) in
       record {
         lives_are = end-lives after how tidy ∙ add-none (length kernel.lives);
         others_live = λ f other differs h. absurd (let g : None ≡ Some how = sym f in cc);
         blocks_live = λ c f. absurd (let g : None ≡ Some c = f in cc);
+        others_wait = λ f other differs. absurd (let g : None ≡ Some how = sym f in cc);
+        waits_begun = λ c f. absurd (let g : None ≡ Some c = f in cc);
         thread_is = refl;
         creator_is = λ made f. absurd (let g : None ≡ Some made = f in cc);
         few = omega arith;
@@ -110,6 +138,6 @@ module _ (setup : Setup) (kernel : Kernel) (thread : ℕ) (call : Call) (payload
 pub event-happens : (setup : Setup) (kernel : Kernel) (thread : ℕ) (stop : Stop) (payload : List ℕ) → Happens kernel thread (event_of setup kernel thread stop payload)
 unfolding event_of
 event-happens setup kernel thread (Calls call) payload = call-happens setup kernel thread call payload
-event-happens setup kernel thread (PageFault page) payload = quiet kernel thread _ refl refl refl refl refl no-end
-event-happens setup kernel thread Watchdog payload = quiet kernel thread _ refl refl refl refl refl no-end
-event-happens setup kernel thread (Trap code) payload = quiet kernel thread _ refl refl refl refl refl (λ how e. subst IsOver (let g : Some (TrapHow code) ≡ Some how = e in cc) (traps {code = code}))
+event-happens setup kernel thread (PageFault page) payload = quiet kernel thread _ refl refl refl refl refl no-end (λ c f. absurd (let g : None ≡ Some c = f in cc))
+event-happens setup kernel thread Watchdog payload = quiet kernel thread _ refl refl refl refl refl no-end (λ c f. absurd (let g : None ≡ Some c = f in cc))
+event-happens setup kernel thread (Trap code) payload = quiet kernel thread _ refl refl refl refl refl (λ how e. subst IsOver (let g : Some (TrapHow code) ≡ Some how = e in cc) (traps {code = code})) (λ c f. absurd (let g : None ≡ Some c = f in cc))

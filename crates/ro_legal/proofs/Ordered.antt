@@ -7,6 +7,8 @@ use Rattle.std.proofs.lemmas.Bool.{true≢false, false≢true, eqb-true, eq-eqb,
 use Rattle.std.proofs.lemmas.List.{length-set, nil_from_length}
 use Rattle.std.proofs.lemmas.Option.{option_and_then_some}
 use Rattle.ro_event.specs.declared.calls.Call.{Call}
+use Rattle.ro_event.specs.declared.calls.Which.TheVariants.{Function}
+use Rattle.ro_event.specs.declared.functions.Function.TheVariants.{Wait}
 use Rattle.ro_event.specs.declared.effects.Made.{Made}
 use Rattle.ro_event.specs.declared.stops.Stop.{Stop}
 use Rattle.ro_image.specs.Image.{holds_file_byte}
@@ -19,8 +21,9 @@ use Rattle.ro_journal.specs.declared.How.TheVariants.{Deadlock, Sink}
 use Rattle.ro_journal.specs.declared.Entry.{Entry}
 use Rattle.ro_journal.specs.declared.Entry.TheVariants.{Take, Put, Vote, Free, Scrub, End}
 use Rattle.ro_journal.specs.Plan.{event_steps}
+use Rattle.ro_condition.proofs.Whose.{is_waiting}
 use Rattle.ro_kernel.specs.Kernel.{Kernel, lives_on}
-use Rattle.ro_kernel.specs.Serve.{Served, Done, Blocked, Ends, is_blocked, blocks, serve}
+use Rattle.ro_kernel.specs.Serve.{Served, Done, Parked, Blocked, Ends, is_served, serves, serve}
 use Rattle.ro_exec.specs.Next.{Backed}
 use Rattle.ro_thread.specs.declared.Thread.{Thread}
 use Rattle.ro_replica.specs.Replica.{Replica, opening_replica, applied, cancelled, stop_of}
@@ -63,6 +66,7 @@ ordered-take job core driver replica thread may h = record {
   few_lives = h.few_lives;
   within_limit = h.within_limit;
   blocked_live = h.blocked_live;
+  waits_begun = h.waits_begun;
   due_alone = λ how e. absurd (let none : core.due ≡ None = is-none-from core.due (and_parts _ _ may.going).0 in let f : None ≡ Some how = sym none ∙ e in cc);
   due_over = h.due_over;
   wrote_alone = λ (some : 0 < 0). absurd (omega arith);
@@ -93,6 +97,7 @@ ordered-ran job core driver replica thread count hit may h = record {
   few_lives = h.few_lives;
   within_limit = h.within_limit;
   blocked_live = h.blocked_live;
+  waits_begun = h.waits_begun;
   due_alone = λ how e. none-left _ core.leases (h.due_alone how e);
   due_over = h.due_over;
   wrote_alone = λ (some : 0 < 0). absurd (omega arith);
@@ -135,8 +140,12 @@ module _ (job : Job) (core : Core) (h : IsOrdered job core) (thread count : ℕ)
 
   blocked-after : (u : ℕ) (call : Call) → event.due ≡ None → (b : Bool) → (u == thread) ≡ b → cond b event.blocked (core.blocked u) ≡ Some call → lives_on event.kernel u ≡ true
   blocked-after u call on true e f =
-      ap (λ (n : ℕ). lives_on event.kernel n) (eqb-true u thread e) ∙ ap (λ (k : Kernel). lives_on k thread) (happens.blocks_live call f) ∙ live
+      ap (λ (n : ℕ). lives_on event.kernel n) (eqb-true u thread e) ∙ happens.blocks_live call f ∙ live
   blocked-after u call on false e f = happens.others_live on u (λ (same : u ≡ thread). true≢false (sym (eq-eqb u thread same) ∙ e)) (h.blocked_live going still u call f)
+
+  begun-after : (u : ℕ) (call : Call) → event.due ≡ None → (b : Bool) → (u == thread) ≡ b → cond b event.blocked (core.blocked u) ≡ Some call → call.which ≡ Function Wait → is_waiting event.kernel.waiters u ≡ true
+  begun-after u call on true e f w = ap (is_waiting event.kernel.waiters) (eqb-true u thread e) ∙ happens.waits_begun call f w
+  begun-after u call on false e f w = happens.others_wait on u (λ (same : u ≡ thread). true≢false (sym (eq-eqb u thread same) ∙ e)) ∙ h.waits_begun going still u call f w
 
   few-after : (made : Option Made) → length event.kernel.lives ≡ length core.kernel.lives + made_count made → IfSome made (λ m. length core.kernel.lives < 16) → length event.kernel.lives ≤ 16
   few-after None e left = let few = h.few_lives in omega arith
@@ -152,6 +161,7 @@ module _ (job : Job) (core : Core) (h : IsOrdered job core) (thread count : ℕ)
     few_lives = few-after event.effect.made happens.lives_are happens.place_left;
     within_limit = fits;
     blocked_live = λ on ended u call e. blocked-after u call on (u == thread) refl e;
+    waits_begun = λ on ended u call e w. begun-after u call on (u == thread) refl e w;
     due_alone = λ how e. alone;
     due_over = happens.ends_well;
     wrote_alone = λ some. alone;
@@ -191,22 +201,18 @@ pub record FreeParts (job : Job) (core : Core) (thread : ℕ) : Type 0 where
   pub not_ended : core.ended ≡ None
   pub call : Call
   pub blocked_on : core.blocked thread ≡ Some call
-  pub goes_on : blocks (setup_of job.program) core.kernel thread call ≡ false
+  pub goes_on : serves (setup_of job.program) core.kernel thread call ≡ true
 
 pub free-parts : (job : Job) (core : Core) (thread : ℕ) → may_free job core thread ≡ true → FreeParts job core thread
 free-parts job core thread may = by (core.blocked thread) refl p.1
   where
-    p : ((is_going core && nothing_lent core) ≡ true) × (option_map_or (λ call. not (blocks (setup_of job.program) core.kernel thread call)) (core.blocked thread) false ≡ true)
+    p : ((is_going core && nothing_lent core) ≡ true) × (option_map_or (λ call. serves (setup_of job.program) core.kernel thread call) (core.blocked thread) false ≡ true)
     p = and_parts _ _ may
 
-    not-true : (b : Bool) → not b ≡ true → b ≡ false
-    not-true true e = absurd (false≢true e)
-    not-true false e = refl
-
-    by : (o : Option Call) → core.blocked thread ≡ o → option_map_or (λ call. not (blocks (setup_of job.program) core.kernel thread call)) o false ≡ true → FreeParts job core thread
+    by : (o : Option Call) → core.blocked thread ≡ o → option_map_or (λ call. serves (setup_of job.program) core.kernel thread call) o false ≡ true → FreeParts job core thread
     by None e f = absurd (false≢true f)
     by (Some call) e f = let q = and_parts _ _ p.0 in let g = going-parts core q.0 in
-        record { going = q.0; alone = none-lent-is core q.1; not_due = g.0; not_ended = g.1; call = call; blocked_on = e; goes_on = not-true _ f }
+        record { going = q.0; alone = none-lent-is core q.1; not_due = g.0; not_ended = g.1; call = call; blocked_on = e; goes_on = f }
 
 -- the same where the replicas may be scrubbed
 pub record ScrubParts (core : Core) : Type 0 where
@@ -269,13 +275,14 @@ ordered-vote job core thread count won lost did may h =
 pub freed-is : (job : Job) (core : Core) (thread : ℕ) (call : Call) → core.blocked thread ≡ Some call → freed_event job core thread ≡ Some (call_event core.kernel thread call [] (serve (setup_of job.program) core.kernel thread call))
 freed-is job core thread call e = ap (option_map (λ c. call_event core.kernel thread c [] (serve (setup_of job.program) core.kernel thread c))) e
 
--- a call that does not block is served
-pub freed-steps : (job : Job) (kernel : Kernel) (thread : ℕ) (call : Call) → blocks (setup_of job.program) kernel thread call ≡ false → (call_event kernel thread call [] (serve (setup_of job.program) kernel thread call)).did ≡ WasServed
+-- a call that would be done is served
+pub freed-steps : (job : Job) (kernel : Kernel) (thread : ℕ) (call : Call) → serves (setup_of job.program) kernel thread call ≡ true → (call_event kernel thread call [] (serve (setup_of job.program) kernel thread call)).did ≡ WasServed
 freed-steps job kernel thread call e = by (serve (setup_of job.program) kernel thread call) e
   where
-    by : (served : Served) → is_blocked served ≡ false → (call_event kernel thread call [] served).did ≡ WasServed
+    by : (served : Served) → is_served served ≡ true → (call_event kernel thread call [] served).did ≡ WasServed
     by (Done after effect) f = refl
-    by Blocked f = absurd (true≢false f)
+    by (Parked after) f = absurd (false≢true f)
+    by Blocked f = absurd (false≢true f)
     by (Ends after how) f = refl
 
 ordered-free : (job : Job) (core : Core) (thread : ℕ) → MayFree job core thread → IsOrdered job core → IsOrdered job (after job core (Free thread))
@@ -302,6 +309,7 @@ ordered-scrub job core won lost may h = record {
   few_lives = h.few_lives;
   within_limit = h.within_limit;
   blocked_live = h.blocked_live;
+  waits_begun = h.waits_begun;
   due_alone = h.due_alone;
   due_over = h.due_over;
   wrote_alone = λ (some : 0 < 0). absurd (omega arith);
@@ -329,6 +337,7 @@ ordered-end job core how may h = record {
   few_lives = h.few_lives;
   within_limit = h.within_limit;
   blocked_live = λ e (f : Some how ≡ None) thread call g. absurd cc;
+  waits_begun = λ e (f : Some how ≡ None) thread call g w. absurd cc;
   due_alone = λ other e. absurd (let f : None ≡ Some other = e in cc);
   due_over = λ other e. absurd (let f : None ≡ Some other = e in cc);
   wrote_alone = λ (some : 0 < 0). absurd (omega arith);
@@ -372,6 +381,7 @@ ordered-opening job = record {
   few_lives = omega arith;
   within_limit = omega arith;
   blocked_live = λ on still thread call e. absurd (let f : None ≡ Some call = e in cc);
+  waits_begun = λ on still thread call e w. absurd (let f : None ≡ Some call = e in cc);
   due_alone = λ how e. absurd (let f : None ≡ Some how = e in cc);
   due_over = λ how e. absurd (let f : None ≡ Some how = e in cc);
   wrote_alone = λ (some : 0 < 0). absurd (omega arith);

@@ -5,12 +5,12 @@ use Rattle.std.specs.Option.{option_and_then}
 use Rattle.ro_event.specs.declared.calls.Call.{Call}
 use Rattle.ro_event.specs.declared.stops.Stop.{Stop}
 use Rattle.ro_event.specs.declared.stops.Stop.TheVariants.{Calls, Trap, PageFault, Watchdog}
-use Rattle.ro_journal.specs.declared.Did.TheVariants.{Served as WasServed, Blocked as WasBlocked, PageBacked, Watch, Trapped}
+use Rattle.ro_journal.specs.declared.Did.TheVariants.{Served as WasServed, Blocked as WasBlocked, Parked as WasParked, PageBacked, Watch, Trapped}
 use Rattle.ro_journal.specs.declared.Entry.{Entry}
 use Rattle.ro_journal.specs.declared.Entry.TheVariants.{Take, Put, Vote, Free, Scrub, End}
 use Rattle.ro_journal.specs.Losers.{numbers}
 use Rattle.ro_kernel.specs.Kernel.{Setup, Kernel}
-use Rattle.ro_kernel.specs.Serve.{Served, Done, Blocked, Ends, serve}
+use Rattle.ro_kernel.specs.Serve.{Served, Done, Parked, Blocked, Ends, serve}
 use Rattle.ro_exec.specs.Next.{Backed}
 use Rattle.ro_thread.specs.declared.Thread.{Thread}
 use Rattle.ro_replica.specs.Replica.{Replica, applied, cancelled, is_cancelled, without_cancelled, stop_of}
@@ -31,6 +31,7 @@ use Rattle.ro_legal.proofs.Grants.{last-entry}
 call-releases : (kernel : Kernel) (thread : ℕ) (call : Call) (payload : List ℕ) (served : Served) → Tidy kernel thread served → (call_event kernel thread call payload served).did ≡ WasServed → (call_event kernel thread call payload served).due ≡ None
     → (call_event kernel thread call payload served).effect.releases ≡ true
 call-releases kernel thread call payload (Done after effect) (tidy_done t) did due = t.goes_on
+call-releases kernel thread call payload (Parked after) t did due = absurd (let e : WasParked ≡ WasServed = did in cc)
 call-releases kernel thread call payload Blocked t did due = absurd (let e : WasBlocked ≡ WasServed = did in cc)
 call-releases kernel thread call payload (Ends after how) t did due = absurd (let e : Some how ≡ None = due in cc)
 

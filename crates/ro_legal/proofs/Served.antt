@@ -8,13 +8,14 @@ use Rattle.ro_event.specs.declared.effects.Made.{Made}
 use Rattle.ro_event.specs.Effects.{Effect}
 use Rattle.ro_journal.specs.declared.How.{How}
 use Rattle.ro_mutex.specs.Owners.{with_owner}
+use Rattle.ro_condition.specs.Waiters.{without}
 use Rattle.ro_kernel.specs.declared.Life.{Life}
 use Rattle.ro_kernel.specs.declared.Life.TheVariants.{Live, Exited, Joined}
 use Rattle.ro_kernel.specs.Kernel.{Setup, Kernel, is_live, live_option, lives_on}
-use Rattle.ro_kernel.specs.Serve.{Served, Done, Blocked, Ends, answers, serve}
+use Rattle.ro_kernel.specs.Serve.{Served, Done, Parked, Blocked, Ends, answers, serve}
 use Rattle.ro_kernel.proofs.Kept.{slice_get-set_other}
 use Rattle.ro_legal.specs.Sound.{IsOver, exits}
-use Rattle.ro_kernel.proofs.Shapes.{Shape, says, reads, breaks, owns, makes, joins, leaves, waits, stops, stops_last, shape-of}
+use Rattle.ro_kernel.proofs.Shapes.{Shape, says, reads, breaks, owns, wakes, parks_at, resumes, makes, joins, leaves, waits, stops, stops_last, shape-of}
 
 -- how many threads an effect makes
 abbrev pub made_count : Option Made → ℕ
@@ -31,6 +32,7 @@ pub record IsTidy (before : Kernel) (u : ℕ) (after : Kernel) (effect : Effect)
 -- whatever comes of a call
 pub data Tidy (before : Kernel) (u : ℕ) : Served → Type 0 where
   tidy_done : {after : Kernel} {effect : Effect} → IsTidy before u after effect → Tidy before u (Done after effect)
+  tidy_parked : {after : Kernel} → Tidy before u (Parked after)
   tidy_blocked : Tidy before u Blocked
   tidy_end : {after : Kernel} {how : How} → length after.lives ≡ length before.lives → IsOver how → Tidy before u (Ends after how)
 
@@ -73,6 +75,9 @@ module _ (setup : Setup) (kernel : Kernel) (u : ℕ) (call : Call) where
   tidy-of (reads number e xs h) = tidy_done (record { one_life_each = add-none (length kernel.lives); stays_dead = λ t d short h. h; goes_on = refl; backs_none = refl })
   tidy-of (breaks e end) = tidy-answers kernel (record kernel { heap_end = end }) u call end refl
   tidy-of (owns on owner) = tidy-answers kernel (record kernel { owners = with_owner kernel.owners call.a0 owner }) u call 0 refl
+  tidy-of (wakes ws w) = tidy-answers kernel (record kernel { waiters = ws }) u call 0 refl
+  tidy-of (parks_at w e h) = tidy_parked
+  tidy-of (resumes w waiter e h) = tidy-answers kernel (record kernel { owners = with_owner kernel.owners call.a1 (Some u); waiters = without kernel.waiters u }) u call 0 refl
   tidy-of (makes f n) = tidy_done (record {
     one_life_each = length-append kernel.lives (Live ∷ []);
     stays_dead = λ t d short h. ap live_option (sym (get-append-short kernel.lives (Live ∷ []) t short)) ∙ h;
@@ -91,7 +96,7 @@ module _ (setup : Setup) (kernel : Kernel) (u : ℕ) (call : Call) where
     goes_on = refl;
     backs_none = refl;
   })
-  tidy-of waits = tidy_blocked
+  tidy-of (waits w) = tidy_blocked
   tidy-of (stops status) = tidy_end refl exits
   tidy-of stops_last = tidy_end (length-set kernel.lives u (Exited call.a0)) exits
 

@@ -1,12 +1,15 @@
 -- What legal journals keep, struck or not.
-use Rattle.std.specs.Prelude.{◌≡◌, ◌≤◌, ◌<◌, ◌^◌, ℕ, true, false, List, [], length, Option, Some, None, slice_get}
+use Rattle.std.specs.Prelude.{◌≡◌, ◌≤◌, ◌<◌, ◌^◌, ℕ, true, false, List, [], length, Option, Some, None, is_some, slice_get}
 use Rattle.ro_event.specs.Effects.{Effect}
 use Rattle.ro_event.specs.declared.stops.Stop.{Stop}
 use Rattle.ro_event.specs.declared.stops.Stop.TheVariants.{PageFault}
 use Rattle.ro_event.specs.declared.calls.Call.{Call}
+use Rattle.ro_event.specs.declared.calls.Which.TheVariants.{Function}
+use Rattle.ro_event.specs.declared.functions.Function.TheVariants.{Wait}
 use Rattle.ro_journal.specs.declared.How.{How}
 use Rattle.ro_journal.specs.declared.How.TheVariants.{Exit, Trap}
 use Rattle.ro_faults.specs.declared.Fault.{Fault}
+use Rattle.ro_condition.specs.Waiters.{wait_of}
 use Rattle.ro_kernel.specs.Kernel.{lives_on}
 use Rattle.ro_exec.specs.Next.{Backed}
 use Rattle.ro_thread.specs.declared.Thread.{Thread}
@@ -38,6 +41,7 @@ pub record IsOrdered (job : Job) (core : Core) : Type 0 where
   pub few_lives : length core.kernel.lives ≤ 16
   pub within_limit : core.steps ≤ job.settings.limit
   pub blocked_live : core.due ≡ None → core.ended ≡ None → (thread : ℕ) (call : Call) → core.blocked thread ≡ Some call → lives_on core.kernel thread ≡ true
+  pub waits_begun : core.due ≡ None → core.ended ≡ None → (thread : ℕ) (call : Call) → core.blocked thread ≡ Some call → call.which ≡ Function Wait → is_some (wait_of core.kernel.waiters thread) ≡ true
   pub due_alone : (how : How) → core.due ≡ Some how → core.leases ≡ []
   pub due_over : (how : How) → core.due ≡ Some how → IsOver how
   pub wrote_alone : 0 < core.wrote → core.leases ≡ []

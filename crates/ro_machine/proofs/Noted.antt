@@ -19,7 +19,7 @@ use Rattle.ro_exec.specs.Meaning.{loads, stores}
 use Rattle.ro_exec.specs.Next.{Layout, all_backed, exit_place, Next, Stands, Executes, first, stop_if, fetch_stop, instruction_stop, unless_stop, next_at, next}
 use Rattle.ro_exec.proofs.Frame.{next-fetched, next-stopped}
 use Rattle.ro_kernel.specs.Kernel.{Kernel}
-use Rattle.ro_kernel.specs.Serve.{Served, Done, Blocked, Ends, serve, payload_of, is_write, is_good_write, capped}
+use Rattle.ro_kernel.specs.Serve.{Served, Done, Parked, Blocked, Ends, serve, payload_of, is_write, is_good_write, capped}
 use Rattle.std.proofs.lemmas.Option.{option_and_then_some}
 use Rattle.ro_plain.specs.Machine.{Program, layout_of, setup_of, Machine, next_of, steppable, step, step_by}
 use Rattle.ro_event.specs.Effects.{Effect}
@@ -175,8 +175,8 @@ module _ (layout : Layout) (memory : Memory) (cpu : Cpu) where
 
 -- ---- what a call came to
 
-pub tells-done : (served : Served) (kernel : Kernel) (effect : Effect) (call : Call) (answer : Option ℕ) (place count : ℕ) → served ≡ Done kernel effect → answer ≡ effect.answer → place ≡ effect.place → count ≡ length effect.bytes → length effect.bytes ≤ 4096 → Tells served call (record { call = call; how = None; answer = answer; stored = record { place = place; count = count } })
-tells-done served kernel effect call answer place count e d f g few = subst (λ (s : Served). Tells s call (record { call = call; how = None; answer = answer; stored = record { place = place; count = count } })) (sym e) (refl, refl, d, f, g, omega arith)
+pub tells-done : (served : Served) (kernel : Kernel) (effect : Effect) (call : Call) (answer : Option ℕ) (place count : ℕ) → served ≡ Done kernel effect → answer ≡ effect.answer → place ≡ effect.place → count ≡ length effect.bytes → length effect.bytes ≤ 4096 → Tells served call (record { call = call; how = None; answer = answer; stored = record { place = place; count = count }; parked = false })
+tells-done served kernel effect call answer place count e d f g few = subst (λ (s : Served). Tells s call (record { call = call; how = None; answer = answer; stored = record { place = place; count = count }; parked = false })) (sym e) (refl, refl, d, f, g, omega arith, refl)
 
 length-bytes_at : (m : Memory) (place n : ℕ) → length (bytes_at m place n) ≡ n
 length-bytes_at m place zero = refl
@@ -251,16 +251,19 @@ module _ (program : Program) (machine : Machine) (thread : ℕ) (cpu : Cpu) (liv
 
   stored-are : (served : Served) (call : Call) (came : Came) → Tells served call came → (a : ℕ) → touches (stored_span served) a ≡ within (span_of came.stored) a
   stored-are (Done kernel effect) call came h a = touches-one (record { place = effect.place; count = length effect.bytes }) a ∙ ap₂ (λ (p c : ℕ). within (record { place = p; count = c }) a) (sym h.3) (sym h.4)
+  stored-are (Parked kernel) call came h a = sym (ap (λ (c : ℕ). within (record { place = came.stored.place; count = c }) a) h.2 ∙ in-none came.stored.place a)
   stored-are Blocked call came h a = absurd h
   stored-are (Ends kernel how) call came h a = sym (ap (λ (c : ℕ). within (record { place = came.stored.place; count = c }) a) h.2 ∙ in-none came.stored.place a)
 
   stored-few : (served : Served) (call : Call) (came : Came) → Tells served call came → came.stored.count ≤ 4096
   stored-few (Done kernel effect) call came h = h.5
+  stored-few (Parked kernel) call came h = let e = h.2 in omega arith
   stored-few Blocked call came h = absurd h
   stored-few (Ends kernel how) call came h = let e = h.2 in omega arith
 
   call-same : (served : Served) (call : Call) (came : Came) → Tells served call came → came.call ≡ call
   call-same (Done kernel effect) call came h = h.0
+  call-same (Parked kernel) call came h = h.0
   call-same Blocked call came h = absurd h
   call-same (Ends kernel how) call came h = h.0
 

@@ -18,13 +18,13 @@ use Rattle.ro_kernel.specs.State.{State}
 use Rattle.ro_kernel.specs.Serve.{Done as DoneWith, serve}
 use Rattle.ro_kernel.specs.Served.{IsServe}
 use Rattle.ro_kernel.specs.declared.outcome.Served.{Served}
-use Rattle.ro_kernel.specs.declared.outcome.Served.TheVariants.{Done, Ends}
+use Rattle.ro_kernel.specs.declared.outcome.Served.TheVariants.{Done, Parked, Ends}
 use Rattle.ro_kernel.proofs.Kept.{IsOwn, Own, done as own_done, serve-own}
 use Rattle.ro_kernel.proofs.Stores.{stores-permitted}
 use Rattle.ro_replica.proofs.Payloads.{permitted_ends}
 use Rattle.ro_plain.specs.Machine.{with_made, called}
 use Rattle.ro_machine.specs.Seen.{machine_with}
-use Rattle.ro_kernel.proofs.Fits.{made_count, fit-effect, fit-ended}
+use Rattle.ro_kernel.proofs.Fits.{made_count, fit-effect, fit-ended, fit-parked}
 
 -- a thread that lives was made
 pub lives-made : (lives : List Life) (t : ℕ) → live_option (slice_get lives t) ≡ true → t < length lives
@@ -76,6 +76,12 @@ pub ended-lives : (state after : State) (thread : ℕ) (call : Call) (served : S
 ended-lives state after thread call served how is h =
     let brings : IsServe (serve state.setup state.kernel thread call) state after (Ok (Ends how)) = subst (λ (s : Served). IsServe (serve state.setup state.kernel thread call) state after (Ok s)) is h in
     fit-ended state.setup state.kernel thread call after.kernel how brings.0
+
+-- and so does one that did its first step
+pub parked-lives : (state after : State) (thread : ℕ) (call : Call) (served : Served) → served ≡ Parked → IsServe (serve state.setup state.kernel thread call) state after (Ok served) → length after.kernel.lives ≡ length state.kernel.lives
+parked-lives state after thread call served is h =
+    let brings : IsServe (serve state.setup state.kernel thread call) state after (Ok Parked) = subst (λ (s : Served). IsServe (serve state.setup state.kernel thread call) state after (Ok s)) is h in
+    fit-parked state.setup state.kernel thread call after.kernel brings.0
 
 length-with_made : (made : Option Made) (cpu : Cpu) (cpus : List Cpu) → length (with_made made cpu cpus) ≡ length cpus + made_count made
 length-with_made None cpu cpus = omega arith

@@ -1,5 +1,5 @@
 -- What a step did, as it is told.
-use Rattle.std.specs.Prelude.{◌≡◌, ℕ, ◌<◌, ◌≤◌, ◌||◌, List, [], ◌∷◌, length, None, Some, is_none, if◌then◌else◌}
+use Rattle.std.specs.Prelude.{◌≡◌, ℕ, ◌<◌, ◌≤◌, ◌||◌, true, false, List, [], ◌∷◌, length, None, Some, is_none, if◌then◌else◌}
 use Rattle.ro_decode.specs.declared.Instr.{Instr}
 use Rattle.ro_event.specs.declared.calls.Call.{Call}
 use Rattle.ro_event.specs.declared.stops.Stop.{Stop}
@@ -9,7 +9,7 @@ use Rattle.ro_exec.specs.declared.Cpu.{Cpu}
 use Rattle.ro_exec.specs.Meaning.{loads, stores}
 use Rattle.ro_exec.specs.Next.{Layout, all_backed, Next, Stands, Executes, fetch_stop, next}
 use Rattle.ro_kernel.specs.Kernel.{Kernel}
-use Rattle.ro_kernel.specs.Serve.{Served, Done, Blocked, Ends, serve}
+use Rattle.ro_kernel.specs.Serve.{Served, Done, Parked, Blocked, Ends, serve}
 use Rattle.ro_plain.specs.Machine.{Program, setup_of, Machine}
 use Rattle.ro_plain.specs.Accesses.{accesses, touches}
 use Rattle.ro_plain.specs.Order.{Sync, Unlocks, Locks, Makes, Joins, Exits, Nothing, sync_of}
@@ -36,9 +36,10 @@ sync_of_relation IsNothing = Nothing
 -- what a call came to is what the kernel made of it
 abbrev pub Tells : Served → Call → Came → Type 0
 Tells (Done kernel effect) call came =
-    (came.call ≡ call) × (came.how ≡ None) × (came.answer ≡ effect.answer) × (came.stored.place ≡ effect.place) × (came.stored.count ≡ length effect.bytes) × (came.stored.count ≤ 4096)
+    (came.call ≡ call) × (came.how ≡ None) × (came.answer ≡ effect.answer) × (came.stored.place ≡ effect.place) × (came.stored.count ≡ length effect.bytes) × (came.stored.count ≤ 4096) × (came.parked ≡ false)
+Tells (Parked kernel) call came = (came.call ≡ call) × (came.how ≡ None) × (came.stored.count ≡ 0) × (came.parked ≡ true)
 Tells Blocked call came = ⊥
-Tells (Ends kernel how) call came = (came.call ≡ call) × (came.how ≡ Some how) × (came.stored.count ≡ 0)
+Tells (Ends kernel how) call came = (came.call ≡ call) × (came.how ≡ Some how) × (came.stored.count ≡ 0) × (came.parked ≡ false)
 
 -- what a step was, by the stop at which the thread stood
 abbrev pub TellsStop : Program → Kernel → (thread : ℕ) → Stop → Went → Type 0

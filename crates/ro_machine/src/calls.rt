@@ -21,7 +21,7 @@ use ro_pages::Pages;
 use ro_region::Regions;
 use ro_replica::{change, made_cpu, store};
 
-/// What a call that was served came to.
+/// What a call that was served, or did its first step, came to.
 #[derive(Clone, Copy, Debug, PartialEq, Eq)]
 pub(crate) struct Came {
     pub call: Call,
@@ -31,12 +31,15 @@ pub(crate) struct Came {
     pub answer: Option<u32>,
     /// The bytes that it stored.
     pub stored: Stretch,
+    /// Whether it did its first step alone.
+    pub parked: bool,
 }
 
 /// How many pages an effect may back: those of 4,096 bytes, and one.
 const SPARE_PAGES: u32 = 3;
 
-/// Serves a call of a live thread, with its effect on the memory and the threads. It answers what the call came to, and leaves
+/// Serves a call of a live thread, with its effect on the memory and the threads; the first step of one that has two changes
+/// the kernel alone. It answers what the call came to, and leaves
 /// what it wrote in `written`.
 ///
 /// # Errors
@@ -83,14 +86,23 @@ pub(crate) fn serve(
                     place: effect.place,
                     count: effect.bytes.as_slice().len() as u32,
                 },
+                parked: false,
             })
         }
+        Served::Parked => Ok(Came {
+            call,
+            how: None,
+            answer: None,
+            stored: NO_BYTES,
+            parked: true,
+        }),
         Served::Blocked => Err(StepErr::NoStep),
         Served::Ends(how) => Ok(Came {
             call,
             how: Some(how),
             answer: None,
             stored: NO_BYTES,
+            parked: false,
         }),
     }
 }

@@ -29,9 +29,9 @@ pub(crate) const NO_BYTES: Stretch = Stretch { place: 0, count: 0 };
 /// What a step means for the order of the threads' steps.
 #[derive(Clone, Copy, Debug, PartialEq, Eq)]
 pub enum Relation {
-    /// It unlocks the mutex at this address.
+    /// It unlocks the mutex at this address, by the first step of a wait too.
     Unlocks(u32),
-    /// It locks the mutex at this address, by a trylock too.
+    /// It locks the mutex at this address, by a trylock or the second step of a wait too.
     Locks(u32),
     /// It makes the thread of this number.
     Makes(u32),
@@ -104,10 +104,13 @@ fn payload_of_call(regions: &Regions, call: Call) -> Stretch
     }
 }
 
-/// What a call that was served means for the order, where so many threads were made before it.
+/// What a call that was served, or did its first step, means for the order, where so many threads were made before it.
 fn relation_of(came: Came, made: u32) -> Relation
     ensures { (machine : Machine) (served : Served) → length machine.kernel.lives ≡ made → Tells served came.call came → sync_of_relation result ≡ sync_served machine came.call served }
 {
+    if came.parked {
+        return Relation::Unlocks(came.call.a1);
+    }
     if came.call.which == Which::Function(Function::Exit) {
         return Relation::Exits;
     }
@@ -117,6 +120,7 @@ fn relation_of(came: Came, made: u32) -> Relation
     match came.call.which {
         Which::Function(Function::Unlock) => Relation::Unlocks(came.call.a0),
         Which::Function(Function::Lock | Function::TryLock) => Relation::Locks(came.call.a0),
+        Which::Function(Function::Wait) => Relation::Locks(came.call.a1),
         Which::Function(Function::Create) => Relation::Makes(made),
         Which::Function(Function::Join) => Relation::Joins(came.call.a0),
         _ => Relation::Nothing,

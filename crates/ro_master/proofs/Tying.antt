@@ -26,16 +26,16 @@ use Rattle.ro_post.specs.Turns.{IfOver}
 use Rattle.ro_master.specs.History.{Turned, turned, journal_of}
 use Rattle.ro_master.specs.Passes.{CountOf, PassOf, Knew, counted, added, shown, empty_count}
 use Rattle.ro_legal.specs.Jobs.{CanRun}
-use Rattle.ro_core.specs.Driven.{HasRun, IsDriven, Goes, KeepsLast}
+use Rattle.ro_master.specs.Driven.{HasRun, IsDriven, Goes, KeepsLast}
 use Rattle.ro_legal.specs.Laws.{Names}
 use Rattle.ro_lease.specs.Loans.{LentOf, BackOf, Gives}
 use Rattle.ro_master.specs.Desks.{DeskOf, Tied, seen_core, seen_state, AtRest, MayGiveBack, Rests, IsOver, Moved, Looked, IsLoan, Decides, votes, frees, scrubs, ends, TurnIs, PutIs, AnswersOver, TakesMemory}
-use Rattle.ro_core.proofs.Turns.{calm_state, lend_calm, driven_more, leases_with, not_failed, goes_quiet, goes_none, goes_on, stays_state, stays_goes, stays_driven, stays_next}
-use Rattle.ro_core.proofs.Deciding.{vote_going, vote_calm, free_going, free_calm, voted_driven, voted_goes, freed_driven, freed_goes, scrub_going, scrub_calm, scrubbed_driven, scrubbed_goes, end_driven, end_goes}
-use Rattle.ro_core.proofs.LastViews.{going_open, none_last, more_open, stays_open, voted_last, freed_last, scrubbed_last, end_open, end_last}
+use Rattle.ro_master.proofs.Turns.{calm_state, lend_calm, driven_more, leases_with, not_failed, goes_quiet, goes_none, goes_on, stays_state, stays_goes, stays_driven, stays_next}
+use Rattle.ro_master.proofs.Deciding.{vote_going, vote_calm, free_going, free_calm, voted_driven, voted_goes, freed_driven, freed_goes, scrub_going, scrub_calm, scrubbed_driven, scrubbed_goes, end_driven, end_goes}
+use Rattle.ro_master.proofs.LastViews.{going_open, none_last, more_open, stays_open, voted_last, freed_last, scrubbed_last, end_open, end_last}
 use Rattle.ro_legal.proofs.Leases.{one_each}
 use Rattle.ro_legal.proofs.Lasting.{idle_after_put, idle_after}
-use Rattle.ro_core.proofs.Lending.{lending, lent_returns}
+use Rattle.ro_master.proofs.Lending.{lending, lent_returns}
 use Rattle.ro_master.proofs.Leases.{still_idle, still_returns, owned_snoc, within_snoc, journal_snoc}
 
 pub length-journal : (h : List Turned) → length (journal_of h) ≡ length h

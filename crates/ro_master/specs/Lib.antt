@@ -1,4 +1,6 @@
 pub mod History
+pub mod Sessions
+pub mod Driven
 pub mod Names
 pub mod Seats
 pub mod Passes

@@ -11,8 +11,8 @@ ghost use Rattle.ro_legal.specs.Decides.{DecidesVote, DecidesFree, DecidesScrub}
 
 use crate::passes::{Counter, Pass};
 use crate::seats::Naming;
+use crate::sessions::Session;
 use crate::waking::{Wakes, Waking};
-use ro_core::Core;
 use ro_io::Sink;
 use ro_journal::{Entry, How};
 use ro_lease::{Back, Lent};
@@ -23,7 +23,7 @@ use std::marker::Model;
 
 /// What stands behind the lock.
 pub struct Desk<K: Sink, N: Naming> {
-    core: Core<K>,
+    core: Session<K>,
     count: Counter<N>,
     waking: Waking,
 }
@@ -44,7 +44,7 @@ impl<K: Sink, N: Naming> Desk<K, N> {
     ghost use Rattle.ro_master.specs.Desks.{AtRest, MayGiveBack, Moved, Looked, IsLoan, Decides, TurnIs, PutIs, TakesMemory, Rests, IsOver, AnswersOver, Tied};
 
     /// A desk for a core that was just opened, whose passes have their numbers.
-    pub fn new(core: Core<K>, count: Counter<N>) -> Desk<K, N>
+    pub fn new(core: Session<K>, count: Counter<N>) -> Desk<K, N>
         requires start { core ≡ N.start }
         requires journal { (core.journal ≡ []) }
         requires can_run { CanRun core.job }
@@ -69,7 +69,7 @@ impl<K: Sink, N: Naming> Desk<K, N> {
     }
 
     /// The core.
-    pub fn into_core(self) -> Core<K>
+    pub fn into_core(self) -> Session<K>
         ensures core { result ≡ self.core }
         ensures tied { Tied N.start self.core self.count }
     {

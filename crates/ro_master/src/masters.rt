@@ -4,7 +4,7 @@ ghost use Rattle.std.specs.List.{All};
 ghost use Rattle.ro_post.specs.Turns.{IfOver};
 ghost use Rattle.ro_core.specs.Seen.{state};
 ghost use Rattle.ro_legal.specs.Jobs.{CanRun};
-ghost use Rattle.ro_core.specs.Driven.{IsDriven, IsHome, Goes, KeepsLast};
+ghost use Rattle.ro_master.specs.Driven.{IsDriven, IsHome, Goes, KeepsLast};
 ghost use Rattle.ro_master.specs.Desks.{AtRest, MayGiveBack, Rests, IsOver, AreWithin, Owned};
 ghost use Rattle.ro_master.specs.Masters.{TurnDid, PutDid, WantsMemory, fresh_drivers, AreAll, AllKnew};
 ghost use Rattle.ro_master.specs.History.{journal_of};
@@ -13,8 +13,8 @@ ghost use Rattle.ro_master.specs.Passes.{CountOf, empty_count};
 use crate::desks::Desk;
 use crate::passes::{Counter, Opened, Pass};
 use crate::seats::Naming;
+use crate::sessions::Session;
 use crate::waking::Wakes;
-use ro_core::Core;
 use ro_io::{Gate, Sink};
 use ro_lease::{Back, Lent};
 use ro_post::{Driver, Post, Turn, Work};
@@ -32,13 +32,13 @@ pub struct Master<K: Sink, N: Naming> {
 
 /// What `start` was given.
 pub struct Refused<K: Sink> {
-    pub core: Core<K>,
+    pub core: Session<K>,
     pub opened: Opened,
 }
 
 impl<K: Sink> Refused<K> {
     /// Its parts.
-    pub fn into_parts(self) -> (Core<K>, Opened)
+    pub fn into_parts(self) -> (Session<K>, Opened)
         ensures { (result.0 ≡ self.core) × (result.1 ≡ self.opened) }
     {
         let Refused { core, opened } = self;
@@ -126,7 +126,7 @@ impl<K: Sink, N: Naming> Master<K, N> {
     /// Where there is no memory; all comes back.
     pub fn start(
         alloc: Global,
-        core: Core<K>,
+        core: Session<K>,
         opened: Opened,
     ) -> Result<(Master<K, N>, Vec<Driver<Pass<N>>>), Refused<K>>
         requires name { opened ≡ N.table }
@@ -153,7 +153,7 @@ impl<K: Sink, N: Naming> Master<K, N> {
 
     /// Hands the core back, once every pass has come back. Of its history each take and each put bears the number of the driver
     /// that it names, and each pass's own places are those of its number.
-    pub fn close(self, drivers: Vec<Driver<Pass<N>>>) -> Core<K>
+    pub fn close(self, drivers: Vec<Driver<Pass<N>>>) -> Session<K>
         ensures goes { Goes N.start result }
         ensures driven { IsDriven result }
         ensures last { KeepsLast result.job result.journal result.views }

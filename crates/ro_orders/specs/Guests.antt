@@ -39,6 +39,10 @@ two_locks = guest_with (record { addresses = Some 0x100A4 ∷ None ∷ None ∷ 
 abbrev pub two_trylocks : Program
 two_trylocks = guest_with (record { addresses = Some 0x100A4 ∷ None ∷ None ∷ None ∷ None ∷ None ∷ None ∷ Some 0x100A8 ∷ Some 0x100AC ∷ [] })
 
+-- a wait where the lock was
+abbrev pub two_waits : Program
+two_waits = guest_with (record { addresses = Some 0x100A4 ∷ None ∷ None ∷ None ∷ None ∷ None ∷ None ∷ None ∷ Some 0x100AC ∷ None ∷ None ∷ Some 0x100A8 ∷ [] })
+
 abbrev pub its_mutex : ℕ
 its_mutex = 0x100B4
 

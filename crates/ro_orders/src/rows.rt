@@ -1,18 +1,18 @@
 //! Rows: what steps of a guest of two threads under one mutex take part in, in which orders, and what comes of that.
 ghost use Rattle.std.specs.Prelude.{◌≡◌, ℕ, true, false, not, List, [], ◌∷◌, ◌++◌, Some, None, replicate, map};
 ghost use Rattle.ro_event.specs.declared.calls.Which.TheVariants.{System, Function};
-ghost use Rattle.ro_event.specs.declared.functions.Function.TheVariants.{Create, Lock, TryLock, Unlock};
+ghost use Rattle.ro_event.specs.declared.functions.Function.TheVariants.{Create, Lock, TryLock, Unlock, Wait};
 ghost use Rattle.ro_event.specs.declared.stops.Stop.TheVariants.{Calls, Trap};
 ghost use Rattle.ro_decode.specs.declared.Instr.TheVariants.{Ecall};
 ghost use Rattle.ro_exec.specs.Next.{all_backed, Stands, Executes};
 ghost use Rattle.ro_kernel.specs.Kernel.{opening_kernel};
 ghost use Rattle.ro_plain.specs.Machine.{Machine, opening, run};
 ghost use Rattle.ro_plain.specs.Order.{RaceFree};
-ghost use Rattle.ro_orders.specs.Turns.{Alone, Gets, Serves, turn_by, OfMutex, OfKernel, takes, order_of, LacksTryLock, SameCounts, SameOrders};
+ghost use Rattle.ro_orders.specs.Turns.{Alone, Gets, Serves, turn_by, OfMutex, OfKernel, takes, order_of, TakesByLocks, SameCounts, SameOrders};
 ghost use Rattle.ro_orders.specs.Choices.{in_table};
 ghost use Rattle.ro_orders.specs.Answers.{Answers, Waits, answer_of};
 ghost use Rattle.ro_orders.specs.Copies.{Copy, StepsAlone, first_after, Runs};
-ghost use Rattle.ro_orders.specs.Guests.{two_locks, two_trylocks, its_mutex, first_then_second, in_between, second_then_first, turns_from, byte_after, kernel_with, call_on, copy_of};
+ghost use Rattle.ro_orders.specs.Guests.{two_locks, two_trylocks, two_waits, its_mutex, first_then_second, in_between, second_then_first, turns_from, byte_after, kernel_with, call_on, copy_of};
 
 /// A row: what a lock and an unlock come to. A free mutex is got, one's own is answered 35, and another's waits; an unlock
 /// frees one's own, and is answered 1 elsewhere; and where no word can be stored at the address, 14.
@@ -36,7 +36,7 @@ pub fn choice_row()
 
 /// A row: what a step takes part in. A lock of a cooperative mutex that is free gets it; a lock that is answered 35, one that
 /// waits, an unlock of one's own and one of another's are alone, and so is an instruction. The kernel serves all else: calls
-/// on a mutex that does not stand in the table, a trylock, other calls, and a trap.
+/// on a mutex that does not stand in the table, a trylock, a wait, other calls, and a trap.
 pub fn turn_row()
     ensures gets { turn_by two_locks in_table (kernel_with None) 1 (Stands (Calls (call_on (Function Lock) its_mutex))) ≡ Gets its_mutex }
     ensures own { turn_by two_locks in_table (kernel_with (Some 1)) 1 (Stands (Calls (call_on (Function Lock) its_mutex))) ≡ Alone }
@@ -47,7 +47,7 @@ pub fn turn_row()
     ensures first_lock { turn_by two_locks in_table (opening_kernel 0x11000) 0 (Stands (Calls (call_on (Function Lock) its_mutex))) ≡ Serves }
     ensures first_unlock { turn_by two_locks in_table (opening_kernel 0x11000) 0 (Stands (Calls (call_on (Function Unlock) its_mutex))) ≡ Serves }
     ensures trylock { turn_by two_locks in_table (kernel_with None) 1 (Stands (Calls (call_on (Function TryLock) its_mutex))) ≡ Serves }
-    ensures others { map (λ which. turn_by two_locks in_table (kernel_with None) 1 (Stands (Calls (call_on which its_mutex)))) ((Function Create) ∷ System 64 ∷ []) ≡ replicate 2 Serves }
+    ensures others { map (λ which. turn_by two_locks in_table (kernel_with None) 1 (Stands (Calls (call_on which its_mutex)))) ((Function Create) ∷ (Function Wait) ∷ System 64 ∷ []) ≡ replicate 3 Serves }
     ensures trap { turn_by two_locks in_table (kernel_with None) 1 (Stands (Trap 3)) ≡ Serves }
     ensures mutex { map (λ turn. takes turn (OfMutex its_mutex)) (Gets its_mutex ∷ Gets 0x100B8 ∷ Alone ∷ Serves ∷ []) ≡ true ∷ replicate 3 false }
     ensures kernel { map (λ turn. takes turn OfKernel) (Serves ∷ Gets its_mutex ∷ Alone ∷ []) ≡ true ∷ replicate 2 false }
@@ -72,20 +72,21 @@ pub fn orders_row()
     ensures byte_too { byte_after second_then_first ≡ Some 0 }
 {}
 
-/// A row: that guest has no races and lacks trylock, so that where thread 1 comes to its lock earlier but gets the mutex as
+/// A row: that guest has no races and takes mutexes by locks alone, so that where thread 1 comes to its lock earlier but gets the mutex as
 /// late, the machine is the same.
 pub fn meeting_row()
     ensures free { RaceFree two_locks }
-    ensures lacks { LacksTryLock two_locks }
+    ensures by_locks { TakesByLocks two_locks }
     ensures counts { SameCounts first_then_second in_between }
     ensures orders { SameOrders two_locks in_table (opening two_locks) first_then_second in_between }
     ensures runs { (machine : Machine) × (run two_locks (opening two_locks) first_then_second ≡ Some machine) }
     ensures same { run two_locks (opening two_locks) first_then_second ≡ run two_locks (opening two_locks) in_between }
 {}
 
-/// A row: where a trylock stands in the table of calls, the program does not lack it.
+/// A row: where a trylock or a wait stands in the table of calls, the program does not take mutexes by locks alone.
 pub fn trylock_row()
-    ensures { LacksTryLock two_trylocks → ⊥ }
+    ensures trylock { TakesByLocks two_trylocks → ⊥ }
+    ensures wait { TakesByLocks two_waits → ⊥ }
 {}
 
 /// A row: the list of first steps grows by a step of a thread that has made all of its first steps in the copy, and by no

@@ -62,6 +62,15 @@ stored_more m f g a xs n k l h e more =
     more ∙ ap₂ (λ (u : Memory) (j : ℕ). stored u (a + j) (take (k - n) (drop n xs))) e (sym long)
     ∙ stored-append m a (take n xs) (take (k - n) (drop n xs)) ∙ ap (stored m a) (sym (take-parts xs n k h))
 
+-- one word more behind others
+pub word_more : (m f g : Memory) (first : ℕ) (xs : List ℕ) (k word : ℕ) → 4 * (k + 1) ≤ length xs → f ≡ stored m (4 * first) (take (4 * k) xs) → bytes_of 4 word ≡ take 4 (drop (4 * k) xs) → ((i : ℕ) → g i ≡ after_store f (4 * (first + k)) 4 word i) → g ≡ stored m (4 * first) (take (4 * (k + 1)) xs)
+word_more m f g first xs k word l e w h =
+    let four : 4 ≡ 4 * (k + 1) - 4 * k = omega arith in
+    let at : 4 * (first + k) ≡ 4 * first + 4 * k = omega arith in
+    stored_more m f g (4 * first) xs (4 * k) (4 * (k + 1)) (omega arith) (omega arith) e
+    (stored_number f g (4 * (first + k)) 4 word (take (4 * (k + 1) - 4 * k) (drop (4 * k) xs)) (inr (inr refl)) (w ∙ ap (λ (n : ℕ). take n (drop (4 * k) xs)) four) h
+    ∙ ap (λ (n : ℕ). stored f n (take (4 * (k + 1) - 4 * k) (drop (4 * k) xs))) at)
+
 -- bytes that are a memory's one by one
 pub bytes_at-each : (m : Memory) (a : ℕ) (xs : List ℕ) → ((i : ℕ) → i < length xs → slice_index xs i ≡ m (a + i)) → xs ≡ bytes_at m a (length xs)
 bytes_at-each m a [] h = refl

@@ -141,7 +141,7 @@ pub fn write_to(words: &mut [u32; PAGE_WORDS], offset: usize, bytes: &[u8])
     }
 }
 
-/// Writes a word more where one begins and there are bytes enough, and else a byte.
+/// Writes all the whole words that are left where one begins, and else a byte.
 #[inline(always)]
 fn write_more(words: &mut [u32; PAGE_WORDS], offset: usize, bytes: &[u8], done: usize) -> usize
     requires within { offset + length bytes.now ≤ 4096 }
@@ -151,13 +151,35 @@ fn write_more(words: &mut [u32; PAGE_WORDS], offset: usize, bytes: &[u8], done: 
     ensures written { byte_in_words words.new ≡ stored (byte_in_words words.old) (offset + done) (take (result - done) (drop done bytes.now)) }
 {
     let place = offset + done;
-    if place % 4 == 0 && bytes.len() - done >= 4 {
-        store_in(words, place as u32, 4, word_at(bytes, done));
-        done + 4
+    let count = (bytes.len() - done) / 4;
+    if place % 4 == 0 && count > 0 {
+        write_words(words, place / 4, &bytes[done..], count);
+        done + 4 * count
     } else {
         store_in(words, place as u32, 1, u32::from(bytes[done]));
         done + 1
     }
+}
+
+/// Writes so many words from one of the page on.
+#[inline(always)]
+fn write_words(words: &mut [u32; PAGE_WORDS], first: usize, bytes: &[u8], count: usize)
+    requires within { first + count ≤ 1024 }
+    requires room { 4 * count ≤ length bytes.now }
+    ensures { byte_in_words words.new ≡ stored (byte_in_words words.old) (4 * first) (take (4 * count) bytes.now) }
+{
+    for k in 0..count {
+        set_word(words, first + k, word_at(bytes, 4 * k));
+    }
+}
+
+/// Writes a word of the page.
+#[inline(always)]
+fn set_word(words: &mut [u32; PAGE_WORDS], index: usize, word: u32)
+    requires { index < 1024 }
+    ensures { (i : ℕ) → byte_in_words words.new i ≡ after_store (byte_in_words words.old) (4 * index) 4 word i }
+{
+    words[index] = word;
 }
 
 /// The word of the four bytes from a place on.

@@ -7,18 +7,19 @@ use Rattle.std.proofs.lemmas.Bool.{true≢false}
 use Rattle.ro_decode.specs.declared.Instr.{Instr}
 use Rattle.ro_event.specs.declared.calls.Which.{Which}
 use Rattle.ro_event.specs.declared.calls.Which.TheVariants.{System, Function}
-use Rattle.ro_event.specs.declared.functions.Function.TheVariants.{Create, Join, Lock, TryLock, Unlock}
+use Rattle.ro_event.specs.declared.functions.Function.TheVariants.{Create, Join, Lock, TryLock, Unlock, Wait}
 use Rattle.ro_event.specs.declared.calls.Call.{Call}
 use Rattle.ro_event.specs.declared.stops.Stop.{Stop}
 use Rattle.ro_event.specs.declared.stops.Stop.TheVariants.{Calls, Trap, PageFault, Watchdog}
 use Rattle.ro_pages.specs.Bytes.{Memory}
 use Rattle.ro_kernel.specs.declared.Life.{Life}
 use Rattle.ro_kernel.specs.Kernel.{live_option}
-use Rattle.ro_kernel.specs.Serve.{Served, Done, Blocked, Ends}
+use Rattle.ro_kernel.specs.Serve.{Served, Done, Parked, Blocked, Ends}
+use Rattle.ro_kernel.proofs.Kept.{IsServed, is_done, is_end, system-served}
 use Rattle.ro_exec.specs.declared.Cpu.{Cpu}
 use Rattle.ro_exec.specs.Next.{Backed, all_backed, Next, Stands, Executes, fetch_stop, unless_stop, next_at, next}
 use Rattle.ro_exec.proofs.Frame.{fetched, next-agree, next-stopped, next-fetched}
-use Rattle.ro_plain.specs.Machine.{Program, layout_of, Machine, opening, step_by, next_of, steppable, step, run, IsExecution}
+use Rattle.ro_plain.specs.Machine.{Program, layout_of, setup_of, Machine, opening, step_by, next_of, steppable, step, run, IsExecution}
 use Rattle.ro_plain.specs.Accesses.{Accesses, no_access, fetches, accesses_by, accesses, conflict_at}
 use Rattle.ro_plain.specs.Order.{Sync, Unlocks, Locks, Makes, Joins, Exits, Nothing, is_zero, sync_by, is_exit, sync_served, sync_next, sync_of, machine_at, sync_at, HappensBefore, in_thread, by_mutex, by_creation, by_join, chain, RaceFree}
 use Rattle.ro_plain.proofs.Separate.{Separate, separate, AgreeOn, AgreeOn-first}
@@ -43,21 +44,22 @@ next-same-with program backed m n cpu h = by (fetch_stop (layout_of program) bac
 -- ---- what the two steps mean for the order
 
 -- a system call orders nothing
-system-nothing : (machine : Machine) (call : Call) (number : ℕ) (served : Served) → call.which ≡ System number → sync_served machine call served ≡ Nothing
-system-nothing machine call number (Done kernel effect) e =
+system-nothing : (machine : Machine) (call : Call) (number : ℕ) (served : Served) → IsServed served → call.which ≡ System number → sync_served machine call served ≡ Nothing
+system-nothing machine call number (Done kernel effect) is_done e =
     ap (λ w. cond (is_exit w) Exits (cond (is_zero effect.answer) (sync_by machine call w) Nothing)) e ∙ either (is_zero effect.answer)
   where
     either : (b : Bool) → cond b Nothing Nothing ≡ Nothing
     either true = refl
     either false = refl
-system-nothing machine call number (Ends kernel how) e = ap (λ w. cond (is_exit w) Exits Nothing) e
-system-nothing machine call number Blocked e = refl
+system-nothing machine call number (Ends kernel how) is_end e = ap (λ w. cond (is_exit w) Exits Nothing) e
+system-nothing machine call number (Parked kernel) h e = elim h [ ]
+system-nothing machine call number Blocked h e = elim h [ ]
 
 -- nor does a plain instruction or a trap
 passable-nothing : (program : Program) (machine : Machine) (t : ℕ) (instr : Instr) (o : Option Stop) → IsPassable o → sync_next program machine t (unless_stop o (Executes instr)) ≡ Nothing
 passable-nothing program machine t instr None no_stop = refl
 passable-nothing program machine t instr (Some (Trap code)) a_trap = refl
-passable-nothing program machine t instr (Some (Calls call)) (a_system_call {number = number} e) = system-nothing machine call number _ e
+passable-nothing program machine t instr (Some (Calls call)) (a_system_call {number = number} e) = system-nothing machine call number _ (system-served (setup_of program) machine.kernel t call number e) e
 passable-nothing program machine t instr (Some (PageFault page)) h = elim h [ ]
 passable-nothing program machine t instr (Some Watchdog) h = elim h [ ]
 
@@ -72,6 +74,7 @@ makes-by machine call (Function Create) made e = let f : Makes (length machine.k
 makes-by machine call (Function Join) made e = absurd (let f : Joins call.a0 ≡ Makes made = e in cc)
 makes-by machine call (Function Lock) made e = absurd (let f : Locks call.a0 ≡ Makes made = e in cc)
 makes-by machine call (Function TryLock) made e = absurd (let f : Locks call.a0 ≡ Makes made = e in cc)
+makes-by machine call (Function Wait) made e = absurd (let f : Locks call.a1 ≡ Makes made = e in cc)
 makes-by machine call (Function Unlock) made e = absurd (let f : Unlocks call.a0 ≡ Makes made = e in cc)
 makes-by machine call other made e = absurd (let f : Nothing ≡ Makes made = e in cc)
 
@@ -85,6 +88,7 @@ makes-cond false false s made n h e = absurd (let f : Nothing ≡ Makes made = e
 makes-served : (machine : Machine) (call : Call) (served : Served) (made : ℕ) → sync_served machine call served ≡ Makes made → made ≡ length machine.kernel.lives
 makes-served machine call (Done kernel effect) made e = makes-cond (is_exit call.which) (is_zero effect.answer) _ made _ (makes-by machine call call.which made) e
 makes-served machine call (Ends kernel how) made e = makes-cond (is_exit call.which) false Nothing made _ (λ (f : Nothing ≡ Makes made). absurd cc) (e ∙ refl)
+makes-served machine call (Parked kernel) made e = absurd (let f : Unlocks call.a1 ≡ Makes made = e in cc)
 makes-served machine call Blocked made e = absurd (let f : Nothing ≡ Makes made = e in cc)
 
 -- as the thread's step

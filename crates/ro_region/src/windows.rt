@@ -13,6 +13,9 @@ use std::alloc::{AllocError, Global};
 /// How many pages a second table is for.
 const SPAN: u32 = 1024;
 
+/// How many second tables there are at most.
+const TABLES: u32 = PAGES / SPAN;
+
 /// A window of no byte.
 const CLOSED: Window = Window { from: 0, to: 0 };
 
@@ -96,19 +99,20 @@ fn meets(range: &Range, page: u32, count: u32) -> bool
         && first < u64::from(range.start) + u64::from(range.length)
 }
 
-/// The place of the windows of 1,024 pages, which are added where a range meets them.
+/// The place of the windows of 1,024 pages, which are added where a range meets them. None is looked for below the table `next`.
 fn table_of(
     windows: &mut Vec<Window>,
     ranges: &[Range],
     kind: Kind,
     table: u32,
+    next: u32,
 ) -> Result<usize, AllocError>
     requires table { table < 1024 }
     requires closed { AreClosed windows.old.items }
     ensures { IfOk result (λ first. IsTable ranges.now kind table first windows.new.items windows.old.items) }
 {
     let first = windows.len();
-    if !is_met(ranges, kind, SPAN * table, SPAN) {
+    if table < next || !is_met(ranges, kind, SPAN * table, SPAN) {
         return Ok(0);
     }
     add_closed(windows)?;
@@ -176,6 +180,35 @@ fn is_met(ranges: &[Range], kind: Kind, page: u32, count: u32) -> bool
         .any(|range| range.allows(kind) && meets(range, page, count))
 }
 
+/// The next table behind one in which a range has a byte, where the next one behind those before was `next`.
+fn next_met(ranges: &[Range], table: u32, next: u32) -> u32
+    requires table { table < 1024 }
+    ensures same { table < next → result ≡ next }
+{
+    if table < next {
+        return next;
+    }
+    let mut lowest = TABLES;
+    for range in ranges {
+        lowest = lowest.min(first_met(range, table + 1));
+    }
+    lowest
+}
+
+/// The first table, from one on, in which a range has a byte; where there is none, how many there are at most.
+fn first_met(range: &Range, table: u32) -> u32
+    ensures { (result ≡ 1024) ⊎ (table ≤ result) }
+{
+    let size = u64::from(PAGE_SIZE) * u64::from(SPAN);
+    let start = u64::from(range.start);
+    let end = start + u64::from(range.length);
+    if u64::from(table) < end.div_ceil(size) {
+        table.max((start / size) as u32)
+    } else {
+        TABLES
+    }
+}
+
 /// A window for each page, for accesses of one kind, found in two tables.
 #[derive(Drop)]
 pub struct Windows {
@@ -190,10 +223,12 @@ impl Windows {
     pub fn new(alloc: Global, ranges: &[Range], kind: Kind) -> Result<Windows, AllocError>
         ensures { IfOk result (λ w. AreAll ranges.now kind w.firsts.items w.windows.items) }
     {
-        let mut firsts = Vec::with_capacity(alloc, (PAGES / SPAN) as usize)?;
+        let mut firsts = Vec::with_capacity(alloc, TABLES as usize)?;
         let mut windows = vec![in alloc; CLOSED; SPAN as usize]?;
-        for table in 0..PAGES / SPAN {
-            firsts.push(table_of(&mut windows, ranges, kind, table)?)?;
+        let mut next = 0;
+        for table in 0..TABLES {
+            firsts.push(table_of(&mut windows, ranges, kind, table, next)?)?;
+            next = next_met(ranges, table, next);
         }
         Ok(Windows { firsts, windows })
     }

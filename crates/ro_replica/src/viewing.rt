@@ -15,6 +15,9 @@ use ro_thread::Thread;
 /// How many bytes a call writes at most.
 const MOST_PAYLOAD: usize = MOST_BYTES as usize;
 
+/// How many bytes of a short write there are at most: a place for them is zeroed at once.
+const SHORT_PAYLOAD: usize = 64;
+
 impl Replica {
     /// Shows a thread that stands still.
     pub fn view(&self, thread: u32, view: &mut View)
@@ -49,8 +52,31 @@ impl Replica {
         requires within { call.a1 + len ≤ 2 ^ 32 }
         ensures { view.new ≡ record { registers = thread.now.cpu.registers; pc = thread.now.cpu.pc; since = thread.now.since; stop = Calls call; payload = bytes_at (replica_of self.now).memory call.a1 len } }
     {
+        if len as usize <= SHORT_PAYLOAD {
+            let mut payload = [0; SHORT_PAYLOAD];
+            self.show_payload(thread, call, &mut payload[..len as usize], view);
+        } else {
+            self.show_long_write(thread, call, len, view);
+        }
+    }
+
+    /// The same of any length. It has a place of its own for the bytes, which takes long to zero.
+    #[inline(never)]
+    fn show_long_write(&self, thread: &Thread, call: Call, len: u32, view: &mut View)
+        requires most { len ≤ 4096 }
+        requires within { call.a1 + len ≤ 2 ^ 32 }
+        ensures { view.new ≡ record { registers = thread.now.cpu.registers; pc = thread.now.cpu.pc; since = thread.now.since; stop = Calls call; payload = bytes_at (replica_of self.now).memory call.a1 len } }
+    {
         let mut payload = [0; MOST_PAYLOAD];
-        let payload = &mut payload[..len as usize];
+        self.show_payload(thread, call, &mut payload[..len as usize], view);
+    }
+
+    /// Shows a thread that writes as many bytes as there are places for.
+    fn show_payload(&self, thread: &Thread, call: Call, payload: &mut [u8], view: &mut View)
+        requires most { length payload.old ≤ 4096 }
+        requires within { call.a1 + length payload.old ≤ 2 ^ 32 }
+        ensures { view.new ≡ record { registers = thread.now.cpu.registers; pc = thread.now.cpu.pc; since = thread.now.since; stop = Calls call; payload = bytes_at (replica_of self.now).memory call.a1 (length payload.old) } }
+    {
         self.pages.read_bytes(call.a1, payload);
         show(thread, Stop::Calls(call), payload, view);
     }

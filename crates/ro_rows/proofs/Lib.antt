@@ -3,6 +3,8 @@ mod ExitCovered
 mod DrivenNext
 mod PageRow
 mod DeadlockRow
+mod WaitingRow
+mod LostRow
 mod PairRow
 mod SingleRow
 mod WatchedRow

@@ -4,7 +4,7 @@ use Rattle.std.proofs.Common.{refl}
 use Rattle.ro_decode.specs.Table.{instruction_of, word_of}
 use Rattle.ro_alu.specs.Results.{muldiv_of}
 use Rattle.ro_event.specs.declared.calls.Which.TheVariants.{System, Function}
-use Rattle.ro_event.specs.declared.functions.Function.TheVariants.{Create, Join, Exit, ThreadSelf, MutexInit, MutexDestroy, Lock, TryLock, Unlock}
+use Rattle.ro_event.specs.declared.functions.Function.TheVariants.{Create, Join, Exit, ThreadSelf, MutexInit, MutexDestroy, Lock, TryLock, Unlock, ConditionInit, ConditionDestroy, Wait, Signal, Broadcast}
 use Rattle.ro_event.specs.declared.stops.Stop.TheVariants.{Trap}
 use Rattle.ro_event.specs.Functions.{names}
 use Rattle.ro_event.specs.Table.{call_at}
@@ -65,7 +65,7 @@ pub checks-sizes : map bad_code (changed exit_file ((72, 0) ∷ (74, 0x40) ∷ [
 unfolding bad_headers half_in word_in header_in headers_of section_in calls_of symbol_in
 checks-sizes = refl
 
-pub checks-symbols : map (λ symbols. table_with strings (map symbol_in symbols)) ((function 0 0x10000 ∷ function 15 0x10000 ∷ function 157 0x10004 ∷ []) ∷ (function 0 0x10000 ∷ function 15 0x10000 ∷ []) ∷ (function 0 0x10000 ∷ function 0 0x10004 ∷ []) ∷ []) ≡ Err 16 ∷ Err 17 ∷ Err 17 ∷ []
+pub checks-symbols : map (λ symbols. table_with strings (map symbol_in symbols)) ((function 0 0x10000 ∷ function 15 0x10000 ∷ function 257 0x10004 ∷ []) ∷ (function 0 0x10000 ∷ function 15 0x10000 ∷ []) ∷ (function 0 0x10000 ∷ function 0 0x10004 ∷ []) ∷ []) ≡ Err 16 ∷ Err 17 ∷ Err 17 ∷ []
 unfolding bad_headers half_in word_in header_in headers_of section_in calls_of symbol_in
 checks-symbols = refl
 
@@ -75,7 +75,7 @@ pub names-table : table_with strings (map symbol_in standing_symbols) ≡ Ok (re
 unfolding call_at symbol_in half_in word_in
 names-table = refl
 
-pub names-calls : map (call_at (record { addresses = Some 0x10000 ∷ Some 0x10008 ∷ Some 0x10004 ∷ Some 0x10020 ∷ Some 0x10010 ∷ Some 0x1000C ∷ Some 0x10014 ∷ Some 0x10018 ∷ Some 0x1001C ∷ [] })) (0x10000 ∷ 0x10004 ∷ 0x10008 ∷ 0x1000C ∷ 0x10010 ∷ 0x10014 ∷ 0x10018 ∷ 0x1001C ∷ 0x10020 ∷ 0x10024 ∷ []) ≡ Some (Function Create) ∷ Some (Function Exit) ∷ Some (Function Join) ∷ Some (Function MutexDestroy) ∷ Some (Function MutexInit) ∷ Some (Function Lock) ∷ Some (Function TryLock) ∷ Some (Function Unlock) ∷ Some (Function ThreadSelf) ∷ None ∷ []
+pub names-calls : map (call_at (record { addresses = Some 0x10000 ∷ Some 0x10008 ∷ Some 0x10004 ∷ Some 0x10020 ∷ Some 0x10010 ∷ Some 0x1000C ∷ Some 0x10014 ∷ Some 0x10018 ∷ Some 0x1001C ∷ Some 0x10024 ∷ Some 0x10028 ∷ Some 0x1002C ∷ Some 0x10030 ∷ Some 0x10034 ∷ [] })) (0x10000 ∷ 0x10004 ∷ 0x10008 ∷ 0x1000C ∷ 0x10010 ∷ 0x10014 ∷ 0x10018 ∷ 0x1001C ∷ 0x10020 ∷ 0x10024 ∷ 0x10028 ∷ 0x1002C ∷ 0x10030 ∷ 0x10034 ∷ 0x10038 ∷ []) ≡ Some (Function Create) ∷ Some (Function Exit) ∷ Some (Function Join) ∷ Some (Function MutexDestroy) ∷ Some (Function MutexInit) ∷ Some (Function Lock) ∷ Some (Function TryLock) ∷ Some (Function Unlock) ∷ Some (Function ThreadSelf) ∷ Some (Function ConditionInit) ∷ Some (Function ConditionDestroy) ∷ Some (Function Wait) ∷ Some (Function Signal) ∷ Some (Function Broadcast) ∷ None ∷ []
 unfolding call_at symbol_in half_in word_in
 names-calls = refl
 
@@ -113,6 +113,10 @@ errors-join = refl
 pub errors-mutex : answer (kernel_with four two_held) (Function Lock) 0 0 0 ∷ answer (kernel_with four two_held) (Function Lock) 0x100E4 0 0 ∷ answer (kernel_with four two_held) (Function Lock) 0x100E0 0 0 ∷ answer (kernel_with four two_held) (Function TryLock) 0x100E0 0 0 ∷ answer (kernel_with four two_held) (Function TryLock) 0x100E4 0 0 ∷ answer (kernel_with four two_held) (Function Unlock) 0x100E0 0 0 ∷ answer (kernel_with four two_held) (Function Unlock) 0x100E8 0 0 ∷ answer (kernel_with four two_held) (Function Unlock) 0x100E4 0 0 ∷ [] ≡ Some 14 ∷ Some 35 ∷ None ∷ Some 16 ∷ Some 16 ∷ Some 1 ∷ Some 1 ∷ Some 0 ∷ []
 unfolding serve permits_of payload_of
 errors-mutex = refl
+
+pub errors-condition : answer (kernel_with four two_held) (Function ConditionInit) 0 0 0 ∷ answer (kernel_with four two_held) (Function ConditionDestroy) 0 0 0 ∷ answer (kernel_with four two_held) (Function Wait) 0 0x100E4 0 ∷ answer (kernel_with four two_held) (Function Wait) 0x100E8 0 0 ∷ answer (kernel_with four two_held) (Function Wait) 0x100E8 0x100E0 0 ∷ answer (kernel_with four two_held) (Function Wait) 0x100E8 0x100EC 0 ∷ answer (kernel_with four two_held) (Function Wait) 0x100E8 0x100E4 0 ∷ answer (kernel_with four two_held) (Function Signal) 0 0 0 ∷ answer (kernel_with four two_held) (Function Broadcast) 0 0 0 ∷ answer (kernel_with four two_held) (Function Signal) 0x100E8 0 0 ∷ answer (kernel_with four two_held) (Function Broadcast) 0x100E8 0 0 ∷ [] ≡ Some 14 ∷ Some 14 ∷ Some 14 ∷ Some 14 ∷ Some 1 ∷ Some 1 ∷ None ∷ Some 14 ∷ Some 14 ∷ Some 0 ∷ Some 0 ∷ []
+unfolding serve permits_of payload_of
+errors-condition = refl
 
 pub errors-full : answer (kernel_with four (unheld 256)) (Function Lock) 0x100E0 0 0 ∷ answer (kernel_with four (unheld 256)) (Function TryLock) 0x100E0 0 0 ∷ answer (kernel_with four (unheld 255)) (Function Lock) 0x100E0 0 0 ∷ [] ≡ Some 11 ∷ Some 11 ∷ Some 0 ∷ []
 unfolding serve permits_of payload_of

@@ -13,6 +13,16 @@ abbrev pub deadlock_guest : Program
 deadlock_guest = guest (record { addresses = Some 0x1008C ∷ Some 0x10090 ∷ None ∷ None ∷ None ∷ None ∷ Some 0x10094 ∷ None ∷ None ∷ [] }) true 160
     (0x00010437 ∷ 0x09C40513 ∷ 0x038000EF ∷ 0x09840513 ∷ 0x00000593 ∷ 0x08040613 ∷ 0x00000693 ∷ 0x01C000EF ∷ 0x00100513 ∷ 0x00000593 ∷ 0x014000EF ∷ 0x00010437 ∷ 0x09C40513 ∷ 0x00C000EF ∷ 0x00008067 ∷ 0x00008067 ∷ 0x00008067 ∷ 0x00000000 ∷ 0x00000000 ∷ [])
 
+-- thread 0 waits on a condition variable, which thread 1 signals, and exits with 5
+abbrev pub waiting_guest : Program
+waiting_guest = guest (record { addresses = Some 0x100CC ∷ Some 0x100D8 ∷ Some 0x100E0 ∷ None ∷ None ∷ None ∷ Some 0x100C8 ∷ None ∷ Some 0x100D4 ∷ None ∷ None ∷ Some 0x100D0 ∷ Some 0x100DC ∷ None ∷ [] }) false 228
+    (0x00011437 ∷ 0x00040513 ∷ 0x06C000EF ∷ 0x00840513 ∷ 0x00000593 ∷ 0x00010637 ∷ 0x0A460613 ∷ 0x00000693 ∷ 0x058000EF ∷ 0x00440513 ∷ 0x00040593 ∷ 0x050000EF ∷ 0x00040513 ∷ 0x04C000EF ∷ 0x00100513 ∷ 0x00000593 ∷ 0x044000EF ∷ 0x00500513 ∷ 0x05D00893 ∷ 0x00000073 ∷ 0x00011437 ∷ 0x00040513 ∷ 0x01C000EF ∷ 0x00440513 ∷ 0x028000EF ∷ 0x00040513 ∷ 0x018000EF ∷ 0x00000513 ∷ 0x01C000EF ∷ 0x00008067 ∷ 0x00008067 ∷ 0x00008067 ∷ 0x00008067 ∷ 0x00008067 ∷ 0x00008067 ∷ 0x00008067 ∷ [])
+
+-- a thread signals a condition variable, and then waits on it
+abbrev pub lost_guest : Program
+lost_guest = guest (record { addresses = None ∷ None ∷ None ∷ None ∷ None ∷ None ∷ Some 0x10074 ∷ None ∷ None ∷ None ∷ None ∷ Some 0x1007C ∷ Some 0x10078 ∷ None ∷ [] }) false 128
+    (0x00011437 ∷ 0x00040513 ∷ 0x018000EF ∷ 0x00440513 ∷ 0x014000EF ∷ 0x00440513 ∷ 0x00040593 ∷ 0x00C000EF ∷ 0x00008067 ∷ 0x00008067 ∷ 0x00008067 ∷ [])
+
 -- a jump to itself
 abbrev pub loop_guest : Program
 loop_guest = guest no_calls false 88 (0x0000006F ∷ [])

@@ -122,7 +122,7 @@ header kind offset address file_size memory_size flags =
 abbrev pub two_headers : (one other : List ℕ) → List ℕ
 two_headers one other = changed exit_file ((28, 96) ∷ (44, 2) ∷ []) ++ one ++ other
 
--- names of functions, in the order of the alphabet, and where each stands, one at each word from 10000 on
+-- names of functions, and where each stands, one at each word from 10000 on
 abbrev pub standing : List (List ℕ × ℕ)
 standing =
     (codes "pthread_create", 0x10000)
@@ -134,6 +134,11 @@ standing =
     ∷ (codes "pthread_mutex_trylock", 0x10018)
     ∷ (codes "pthread_mutex_unlock", 0x1001C)
     ∷ (codes "pthread_self", 0x10020)
+    ∷ (codes "pthread_cond_init", 0x10024)
+    ∷ (codes "pthread_cond_destroy", 0x10028)
+    ∷ (codes "pthread_cond_wait", 0x1002C)
+    ∷ (codes "pthread_cond_signal", 0x10030)
+    ∷ (codes "pthread_cond_broadcast", 0x10034)
     ∷ []
 
 -- where the function with a name stands
@@ -151,7 +156,7 @@ function name value = bytes_of 4 name ++ bytes_of 4 value ++ bytes_of 4 0 ++ 18 
 -- the symbols of these functions
 abbrev pub standing_symbols : List (List ℕ)
 standing_symbols =
-    function 0 0x10000 ∷ function 15 0x10004 ∷ function 28 0x10008 ∷ function 41 0x1000C ∷ function 63 0x10010 ∷ function 82 0x10014 ∷ function 101 0x10018 ∷ function 123 0x1001C ∷ function 144 0x10020 ∷ []
+    function 0 0x10000 ∷ function 15 0x10004 ∷ function 28 0x10008 ∷ function 41 0x1000C ∷ function 63 0x10010 ∷ function 82 0x10014 ∷ function 101 0x10018 ∷ function 123 0x1001C ∷ function 144 0x10020 ∷ function 157 0x10024 ∷ function 175 0x10028 ∷ function 196 0x1002C ∷ function 214 0x10030 ∷ function 234 0x10034 ∷ []
 
 -- ---- the kernel
 
@@ -160,7 +165,7 @@ abbrev pub four : List Life
 four = Live ∷ Live ∷ Exited 5 ∷ Joined ∷ []
 
 abbrev pub kernel_with : List Life → Owners → Kernel
-kernel_with lives owners = record { lives = lives; owners = owners; heap_end = 0x11000; taken = 0 }
+kernel_with lives owners = record { lives = lives; owners = owners; waiters = []; heap_end = 0x11000; taken = 0 }
 
 -- the mutexes at 100E0, which thread 1 holds, and at 100E4, which thread 0 holds
 abbrev pub two_held : Owners

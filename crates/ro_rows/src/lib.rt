@@ -9,7 +9,7 @@ mod tables;
 ghost use Rattle.std.specs.Prelude.{◌≡◌, ◌≢◌, ℕ, List, [], ◌∷◌, length, replicate, Some, None};
 ghost use Rattle.std.specs.Option.{option_map};
 ghost use Rattle.ro_image.specs.Executable.{bad_code, image_of};
-ghost use Rattle.ro_journal.specs.declared.Did.TheVariants.{Served, PageBacked, Blocked};
+ghost use Rattle.ro_journal.specs.declared.Did.TheVariants.{Served, Parked, PageBacked, Blocked};
 ghost use Rattle.ro_journal.specs.declared.How.TheVariants.{Exit, Deadlock, Differ, Sink};
 ghost use Rattle.ro_journal.specs.declared.Entry.TheVariants.{Vote, Free, End};
 ghost use Rattle.ro_journal.specs.declared.losers.Lost.TheVariants.{Nobody, One, Two};
@@ -26,7 +26,7 @@ ghost use Rattle.ro_simulation.specs.Theorem.{IsFront};
 ghost use Rattle.ro_simulation.specs.Drives.{driven};
 ghost use Rattle.ro_rows.specs.Exit.{exit_file, exit_image, exit_job, exit_journal};
 ghost use Rattle.ro_rows.specs.Guests.{loop_guest};
-ghost use Rattle.ro_rows.specs.Rows.{five_job, IdealEnds, decisions, page_job, deadlock_job, deadlock_journal, pair_job, pair_journal, single_job, watched_job, hello_job, failing_journal, healed_job, hidden_job, before_vote};
+ghost use Rattle.ro_rows.specs.Rows.{five_job, IdealEnds, decisions, page_job, waiting_job, lost_job, lost_journal, deadlock_job, deadlock_journal, pair_job, pair_journal, single_job, watched_job, hello_job, failing_journal, healed_job, hidden_job, before_vote};
 
 pub use edges::{
     differ_row, due_row, free_first_row, late_row, length_row, limit_row, parted_row, put_row,
@@ -78,6 +78,22 @@ pub fn deadlock_row()
     ensures driven_is { driven 100 deadlock_job ≡ deadlock_journal }
     ensures legal { Legal deadlock_job deadlock_journal }
     ensures ideal { IdealEnds deadlock_job deadlock_journal Deadlock [] }
+{}
+
+/// A row: thread 0 waits on a condition variable and gives its mutex up, thread 1 takes that, signals and lets go, and thread
+/// 0 goes on. The plan has 39 steps: a vote that parks its thread adds one more than its instructions, and so does the free.
+pub fn waiting_row()
+    ensures legal { Legal waiting_job (driven 200 waiting_job) }
+    ensures decides { decisions (driven 200 waiting_job) ≡ Vote 0 3 0 Nobody Served ∷ Vote 0 6 0 Nobody Served ∷ Vote 0 3 0 Nobody Parked ∷ Vote 1 3 0 Nobody Served ∷ Vote 1 2 0 Nobody Served ∷ Vote 1 2 0 Nobody Served ∷ Free 0 ∷ Vote 0 2 0 Nobody Served ∷ Vote 0 3 0 Nobody Blocked ∷ Vote 1 2 0 Nobody Served ∷ Free 0 ∷ Vote 0 2 0 Nobody Served ∷ End (Exit 5) ∷ [] }
+    ensures steps { length (plan_of (driven 200 waiting_job)) ≡ 39 }
+    ensures ideal { IdealEnds waiting_job (driven 200 waiting_job) (Exit 5) [] }
+{}
+
+/// A row: a signal that nobody waits for is lost. The wait behind it never ends, and no thread can step.
+pub fn lost_row()
+    ensures driven_is { driven 100 lost_job ≡ lost_journal }
+    ensures legal { Legal lost_job lost_journal }
+    ensures ideal { IdealEnds lost_job lost_journal Deadlock [] }
 {}
 
 /// A row: of two replicas one is struck, and the journal of one driver ends by a difference before anything is served.

@@ -152,12 +152,24 @@ fn waiting(alloc: Global) -> Result<Vec<Waiting>, AllocError> {
             mutex: 0x10100,
             owner: None,
         },
+        State::Waits {
+            condition: 0x10104,
+            signalled: false,
+            mutex: 0x10100,
+            owner: None,
+        },
+        State::Waits {
+            condition: 0x10104,
+            signalled: true,
+            mutex: 0x10100,
+            owner: Some(4),
+        },
         State::Joins(1),
         State::Blocked,
         State::Unblocked,
     ];
     let mut threads = Vec::new(alloc);
-    for (thread, state) in (0..6).zip(states) {
+    for (thread, state) in (0..8).zip(states) {
         threads.push(Waiting { thread, state })?;
     }
     Ok(threads)
@@ -173,12 +185,14 @@ fn waiting_threads(rt: HostRuntime) -> Result<(), Fail> {
         "Thread 0 has exited.",
         "Thread 1 waits for the mutex at 00010100, which thread 4 holds.",
         "Thread 2 waits for the mutex at 00010100.",
-        "Thread 3 waits until thread 1 has exited.",
-        "Thread 4 is blocked.",
-        "Thread 5 is not blocked.",
+        "Thread 3 waits for the condition at 00010104, not signalled, to hold the mutex at 00010100.",
+        "Thread 4 waits for the condition at 00010104, signalled, to hold the mutex at 00010100, which thread 4 holds.",
+        "Thread 5 waits until thread 1 has exited.",
+        "Thread 6 is blocked.",
+        "Thread 7 is not blocked.",
     ];
     let json =
-        r#"{"copies":[],"end":{"how":"deadlock","threads":[{"state":"exited","thread":0},{"mutex":65792,"owner":4,"state":"locks","thread":1},{"mutex":65792,"owner":null,"state":"locks","thread":2},{"other":1,"state":"joins","thread":3},{"state":"blocked","thread":4},{"state":"unblocked","thread":5}]},"entries":8,"steps":3,"verdict":"legal"}"#;
+        r#"{"copies":[],"end":{"how":"deadlock","threads":[{"state":"exited","thread":0},{"mutex":65792,"owner":4,"state":"locks","thread":1},{"mutex":65792,"owner":null,"state":"locks","thread":2},{"condition":65796,"mutex":65792,"owner":null,"signalled":false,"state":"waits","thread":3},{"condition":65796,"mutex":65792,"owner":4,"signalled":true,"state":"waits","thread":4},{"other":1,"state":"joins","thread":5},{"state":"blocked","thread":6},{"state":"unblocked","thread":7}]},"entries":8,"steps":3,"verdict":"legal"}"#;
     let end = Ended::Deadlock(waiting(alloc)?);
     assert_told(
         &rt,

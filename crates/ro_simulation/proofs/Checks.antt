@@ -3,7 +3,7 @@ use Rattle.std.specs.Prelude.{◌≡◌, ℕ, ◌+◌, ◌≤◌, ◌⊎◌, Boo
 use Rattle.std.proofs.Common.{refl, ap, ◌∙◌, inl, inr}
 use Rattle.std.proofs.lemmas.Bool.{false≢true, eqb-true, leb-true, ltb-true, and_parts}
 use Rattle.ro_journal.specs.declared.Did.{Did}
-use Rattle.ro_journal.specs.declared.Did.TheVariants.{Served, Blocked, PageBacked, Watch, Trapped}
+use Rattle.ro_journal.specs.declared.Did.TheVariants.{Served, Blocked, Parked, PageBacked, Watch, Trapped}
 use Rattle.ro_journal.specs.declared.How.{How}
 use Rattle.ro_journal.specs.declared.How.TheVariants.{Exit}
 use Rattle.ro_journal.specs.declared.Entry.{Entry}
@@ -54,6 +54,7 @@ test_verdict (Won w l) won lost = (w == won) && same_list l lost
 abbrev pub same_did : Did → Did → Bool
 same_did Served Served = true
 same_did Blocked Blocked = true
+same_did Parked Parked = true
 same_did PageBacked PageBacked = true
 same_did Watch Watch = true
 same_did Trapped Trapped = true
@@ -102,6 +103,7 @@ same-number (Some m) None e = absurd (false≢true e)
 same-did : (a b : Did) → same_did a b ≡ true → a ≡ b
 same-did Served Served e = refl
 same-did Blocked Blocked e = refl
+same-did Parked Parked e = refl
 same-did PageBacked PageBacked e = refl
 same-did Watch Watch e = refl
 same-did Trapped Trapped e = refl

@@ -5,12 +5,16 @@ use Rattle.std.specs.Option.{option_map_or, option_and_then}
 use Rattle.std.proofs.Common.{refl, sym, ap, ◌∙◌, arith, inl, inr, ⊎_elim}
 use Rattle.std.proofs.lemmas.Bool.{true≢false, false≢true, and_parts, and_from, cases_eq}
 use Rattle.std.proofs.lemmas.Option.{slice_get_within}
+use Rattle.ro_event.specs.declared.calls.Which.TheVariants.{Function}
+use Rattle.ro_event.specs.declared.functions.Function.TheVariants.{Wait}
 use Rattle.ro_event.specs.declared.calls.Call.{Call}
 use Rattle.ro_journal.specs.declared.How.{How}
 use Rattle.ro_journal.specs.declared.How.TheVariants.{Exit, Trap, Deadlock, Limit, Differ, NoMajority, Sink}
 use Rattle.ro_journal.specs.declared.Entry.{Entry}
-use Rattle.ro_kernel.specs.Kernel.{Kernel, lives_on}
-use Rattle.ro_kernel.specs.Serve.{Served, Done, Blocked, Ends, serve, is_blocked, blocks, payload_of}
+use Rattle.ro_condition.specs.Waiters.{wait_of}
+use Rattle.ro_kernel.specs.Kernel.{Setup, Kernel, lives_on}
+use Rattle.ro_kernel.specs.Serve.{Served, Done, Parked, Blocked, Ends, serve, is_served, serves, is_parked, parks, payload_of}
+use Rattle.ro_kernel.proofs.Waiting.{waiter-unparked, parked-waits}
 use Rattle.ro_exec.specs.declared.Cpu.{Cpu}
 use Rattle.ro_thread.specs.declared.Thread.{Thread}
 use Rattle.ro_vote.specs.Verdict.{Split, verdict_of}
@@ -26,7 +30,7 @@ use Rattle.ro_legal.proofs.Ordered.{scrub-parts}
 use Rattle.ro_vote.specs.Prevails.{NonePrevails}
 use Rattle.ro_simulation.proofs.Scrubs.{some-good as some-still, always-prevails}
 use Rattle.ro_legal.specs.Sound.{IsOver, exits, traps}
-use Rattle.ro_simulation.specs.Invariant.{TracksIdeal}
+use Rattle.ro_simulation.specs.Invariant.{StandsAtCall, TracksIdeal}
 use Rattle.ro_simulation.specs.Theorem.{EndsAs, TwoThreeOrFive}
 use Rattle.ro_plain.proofs.StaysAfter.{live-within}
 use Rattle.ro_legal.proofs.Lists.{get-within, all-from}
@@ -81,11 +85,22 @@ some-from : {X : Type 0} (o : Option X) → is_none o ≡ false → (x : X) × (
 some-from None e = absurd (true≢false e)
 some-from (Some x) e = (x, refl)
 
--- what is tested to block blocks
-blocked-from : (served : Served) → is_blocked served ≡ true → served ≡ Blocked
-blocked-from (Done kernel effect) e = absurd (false≢true e)
-blocked-from Blocked e = refl
-blocked-from (Ends kernel how) e = absurd (false≢true e)
+-- what is neither served nor does its first step blocks
+blocked-from : (served : Served) → is_served served ≡ false → is_parked served ≡ false → served ≡ Blocked
+blocked-from (Done kernel effect) e f = absurd (true≢false e)
+blocked-from (Parked kernel) e f = absurd (true≢false f)
+blocked-from Blocked e f = refl
+blocked-from (Ends kernel how) e f = absurd (true≢false e)
+
+-- a wait that has begun doesn't begin again
+not-parked : (setup : Setup) (kernel : Kernel) (u : ℕ) (call : Call) → (call.which ≡ Function Wait → is_some (wait_of kernel.waiters u) ≡ true) → parks setup kernel u call ≡ false
+not-parked setup kernel u call begun = by (serve setup kernel u call) refl
+  where
+    by : (served : Served) → serve setup kernel u call ≡ served → is_parked served ≡ false
+    by (Done k effect) e = refl
+    by (Parked k) e = sym (ap is_parked e) ∙ waiter-unparked setup kernel u call (begun (parked-waits setup kernel u call k e))
+    by Blocked e = refl
+    by (Ends k how) e = refl
 
 -- a thread has no step if none comes where it may step
 no-step : (program : Program) (machine : Machine) (u : ℕ) → ((cpu : Cpu) → steppable machine u ≡ Some cpu → step program machine u ≡ None) → step program machine u ≡ None
@@ -153,21 +168,26 @@ module _ (job : Job) (odds : List ℕ) (journal : List Entry) (core : Core) (h :
     call : (c : Call) × (core.blocked u ≡ Some c)
     call = some-from (core.blocked u) unblocked-false
 
+    -- it stands there
+    stands : StandsAtCall job.program h.machine u call.0
+    stands = h.blocked_stands u call.0 call.1 (going-machine going)
+
     -- that call still blocks
     call_blocks : serve (setup_of job.program) h.machine.kernel u call.0 ≡ Blocked
-    call_blocks = blocked-from _ (ap (λ (k : Kernel). blocks (setup_of job.program) k u call.0) (sym h.same_kernel) ∙ by (blocks (setup_of job.program) core.kernel u call.0) refl)
+    call_blocks =
+        blocked-from _ (ap (λ (k : Kernel). serves (setup_of job.program) k u call.0) (sym h.same_kernel) ∙ by (serves (setup_of job.program) core.kernel u call.0) refl)
+        (not-parked (setup_of job.program) h.machine.kernel u call.0 stands.begun)
       where
-        by : (b : Bool) → blocks (setup_of job.program) core.kernel u call.0 ≡ b → blocks (setup_of job.program) core.kernel u call.0 ≡ true
-        by true e = e
-        by false e = absurd (true≢false (sym (and_from _ _ (and_from _ _ going lent) (ap (λ (o : Option Call). option_map_or (λ c. not (blocks (setup_of job.program) core.kernel u c)) o false) call.1 ∙ ap not e)) ∙ nothing.1))
+        by : (b : Bool) → serves (setup_of job.program) core.kernel u call.0 ≡ b → serves (setup_of job.program) core.kernel u call.0 ≡ false
+        by false e = e
+        by true e = absurd (true≢false (sym (and_from _ _ (and_from _ _ going lent) (ap (λ (o : Option Call). option_map_or (λ c. serves (setup_of job.program) core.kernel u c) o false) call.1 ∙ e)) ∙ nothing.1))
 
     -- so the thread has no step
     stuck-step : step job.program h.machine u ≡ None
     stuck-step =
-        let s = h.blocked_stands u call.0 call.1 (going-machine going) in
-        step-at job.program h.machine u s.cpu s.live
-        ∙ (ap (step_by job.program h.machine u s.cpu) s.stands
-        ∙ ap (called h.machine s.cpu (payload_of job.program.image.ranges h.machine.memory call.0)) call_blocks)
+        step-at job.program h.machine u stands.cpu stands.live
+        ∙ (ap (step_by job.program h.machine u stands.cpu) stands.stands
+        ∙ ap (called h.machine stands.cpu (payload_of job.program.image.ranges h.machine.memory call.0)) call_blocks)
 
   -- no thread of the machine has a step where the core is stuck
   pub deadlocked : is_stuck job core ≡ true → EndsAs job.program h.machine Deadlock

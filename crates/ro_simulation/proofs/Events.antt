@@ -1,4 +1,4 @@
--- What an event leaves of a replica that agrees: after a release or a mapped page, after a call that blocks, and after a served call.
+-- What an event leaves of a replica that agrees: after a release or a mapped page, after a call that blocks, after the first step of a call, and after a served call.
 use Rattle.std.specs.Prelude.{◌≡◌, ◌≢◌, ℕ, Bool, true, false, IsTrue, cond, List, ◌++◌, replicate, length, Option, Some, None, is_none, slice_get, slice_set, slice_index_or}
 use Rattle.std.proofs.Common.{refl, sym, ap, ap₂, ◌∙◌, arith}
 use Rattle.std.proofs.lemmas.Bool.{true≢false}
@@ -10,8 +10,9 @@ use Rattle.ro_event.specs.declared.stops.Stop.{Stop}
 use Rattle.ro_event.specs.declared.stops.Stop.TheVariants.{Calls}
 use Rattle.ro_event.specs.Effects.{Effect}
 use Rattle.ro_pages.specs.Bytes.{Memory, stored}
-use Rattle.ro_kernel.specs.Kernel.{Kernel, lives_on}
-use Rattle.ro_kernel.specs.Serve.{Done, serve, payload_of}
+use Rattle.ro_kernel.specs.declared.Life.{Life}
+use Rattle.ro_kernel.specs.Kernel.{Kernel, live_option, lives_on}
+use Rattle.ro_kernel.specs.Serve.{Done, Parked, serve, payload_of}
 use Rattle.ro_kernel.proofs.Kept.{IsOwn, slice_get-set_other}
 use Rattle.ro_exec.specs.declared.Cpu.{Cpu}
 use Rattle.ro_exec.specs.Next.{Backed, all_backed, Stands, next}
@@ -82,6 +83,49 @@ module _ (job : Job) (free : RaceFree job.program) (before : List ℕ) (backed :
     -- a replica that agreed agrees after a quiet effect
     pub agrees-quiet : Agrees job middle (cancelled (applied (quiet_effect t page releases) replica))
     agrees-quiet = agrees-applied job free backed machine middle replica same t thread there comes (quiet_effect t page releases) (quiet-is-of t page releases) middle comes.end comes.back comes.same_memory quiet-cpus quiet-stops
+
+  -- ---- the first step of a call
+
+  module _ (call : Call) (kernel : Kernel) (stands : next_of job.program middle thread.cpu ≡ Stands (Calls call)) (parks : serve (setup_of job.program) middle.kernel t call ≡ Parked kernel) (same_lives : kernel.lives ≡ middle.kernel.lives)
+      (own_stop : (stop : Stop) → false ≡ false → thread.stop ≡ Some stop → standing (layout_of job.program) job.settings.watchdog replica.backed replica.memory thread.cpu 0 ≡ Some stop) where
+    -- the machine after the step
+    parked : Machine
+    parked = record middle { kernel = kernel }
+
+    -- the program goes on in the middle
+    parked_going : middle.ended ≡ None
+    parked_going = own_kept.same_end ∙ going
+
+    -- the step behind what others ran ahead
+    taken_parked : TakenAfter job.program free backed parked t (comes.among.front ++ comes.among.back) comes.end
+    unfolding parked
+    taken_parked = take-after job.program free backed (before ++ replicate thread.since t) t _ (comes.reached_middle before reached) comes.back comes.apart
+        (step-at job.program middle t thread.cpu comes.live
+        ∙ (ap (step_by job.program middle t thread.cpu) stands
+        ∙ ap (called middle thread.cpu (payload_of job.program.image.ranges middle.memory call)) parks)) parked_going
+
+    -- the thread stands at the same call at the end, which does its first step there
+    end_is : taken_parked.last ≡ record comes.end { kernel = kernel }
+    end_is = some-injective (sym taken_parked.step_t
+        ∙ (step-at job.program comes.end t thread.cpu (steppable-along job.program t (backed-is-plain comes.back) comes.apart ∙ comes.live)
+        ∙ (ap (step_by job.program comes.end t thread.cpu)
+        (sym ((stays-along job.program free backed (before ++ replicate thread.since t) t thread.cpu (comes.reached_middle before reached) comes.back comes.apart comes.live).next_stays all_backed) ∙ stands)
+        ∙ ap (called comes.end thread.cpu (payload_of job.program.image.ranges comes.end.memory call))
+        (ap (λ (k : Kernel). serve (setup_of job.program) k t call) back_kept.same_kernel ∙ parks))))
+
+    -- who lives after the step lived before it
+    lived : (number : ℕ) → IsTrue (lives_on kernel number) → IsTrue (lives_on middle.kernel number)
+    lived number alive = ap (λ (l : List Life). live_option (slice_get l number)) (sym same_lives) ∙ alive
+
+    -- a replica that agreed agrees after the first step
+    pub agrees-parked : Agrees job (record middle { kernel = kernel }) (cancelled (applied (quiet_effect t None false) replica))
+    unfolding parked
+    agrees-parked = agrees-applied job free backed machine middle replica same t thread there comes (quiet_effect t None false) (quiet-is-of t None false) (record middle { kernel = kernel }) taken_parked.last taken_parked.runs
+        (comes.same_memory ∙ ap (λ (m : Machine). m.memory) (sym end_is))
+        (λ number other alive h. ap (λ (m : Machine). slice_get m.cpus number) end_is ∙ quiet-cpus None false own_stop number other (lived number alive) h)
+        (λ number other stop alive h kept.
+        ap (λ (m : Machine). standing (layout_of job.program) job.settings.watchdog (backed_after (quiet_effect t None false) replica.backed) m.memory other.cpu other.since) end_is
+        ∙ quiet-stops None false own_stop number other stop (lived number alive) h kept)
 
   -- ---- a served call
 

@@ -9,7 +9,7 @@ use Rattle.ro_journal.specs.declared.Entry.{Entry}
 use Rattle.ro_journal.specs.declared.Entry.TheVariants.{Free}
 use Rattle.ro_journal.specs.Plan.{event_steps, plan_of}
 use Rattle.ro_kernel.specs.Kernel.{Kernel, lives_on}
-use Rattle.ro_kernel.specs.Serve.{Served, Done, Blocked, Ends, serve, is_blocked, blocks}
+use Rattle.ro_kernel.specs.Serve.{Served, Done, Parked, Blocked, Ends, serve, is_served, serves}
 use Rattle.ro_exec.specs.Next.{Stands, Executes}
 use Rattle.ro_thread.specs.declared.Thread.{Thread}
 use Rattle.ro_thread.specs.Stops.{standing}
@@ -36,7 +36,7 @@ pub record FreeParts (job : Job) (core : Core) (t : ℕ) : Type 0 where
   pub no_lease : core.leases ≡ []
   pub call : Call
   pub is_blocked_on : core.blocked t ≡ Some call
-  pub unblocked : blocks (setup_of job.program) core.kernel t call ≡ false
+  pub served : serves (setup_of job.program) core.kernel t call ≡ true
 
 -- what is denied is false
 pub not-true-from : (b : Bool) → not b ≡ true → b ≡ false
@@ -48,14 +48,15 @@ pub free-parts : (job : Job) (core : Core) (t : ℕ) → may_free job core t ≡
 free-parts job core t h =
     let a = and_parts _ _ h in let b = and_parts _ _ a.0 in by (going-from core b.0) (none-lent core b.1) (core.blocked t) refl a.1
   where
-    by : Going core → core.leases ≡ [] → (o : Option Call) → core.blocked t ≡ o → option_map_or (λ call. not (blocks (setup_of job.program) core.kernel t call)) o false ≡ true → FreeParts job core t
+    by : Going core → core.leases ≡ [] → (o : Option Call) → core.blocked t ≡ o → option_map_or (λ call. serves (setup_of job.program) core.kernel t call) o false ≡ true → FreeParts job core t
     by g l None e f = absurd (false≢true f)
-    by g l (Some call) e f = record { going = g; no_lease = l; call = call; is_blocked_on = e; unblocked = not-true-from _ f }
+    by g l (Some call) e f = record { going = g; no_lease = l; call = call; is_blocked_on = e; served = f }
 
--- a call that does not block is one step
-one-step : (kernel : Kernel) (t : ℕ) (call : Call) (served : Served) → is_blocked served ≡ false → event_steps (call_event kernel t call [] served).did ≡ 1
+-- a call that would be done is one step
+one-step : (kernel : Kernel) (t : ℕ) (call : Call) (served : Served) → is_served served ≡ true → event_steps (call_event kernel t call [] served).did ≡ 1
 one-step kernel t call (Done after effect) e = refl
-one-step kernel t call Blocked e = absurd (true≢false e)
+one-step kernel t call (Parked after) e = absurd (false≢true e)
+one-step kernel t call Blocked e = absurd (false≢true e)
 one-step kernel t call (Ends after how) e = refl
 
 module _ (job : Job) (free : RaceFree job.program) (odds : List ℕ) (journal : List Entry) (core : Core) (h : TracksIdeal job odds journal core) (t : ℕ) (parts : FreeParts job core t) where
@@ -80,9 +81,9 @@ module _ (job : Job) (free : RaceFree job.program) (odds : List ℕ) (journal : 
   freed-is = ap (option_map (λ call. call_event core.kernel t call [] (serve (setup_of job.program) core.kernel t call))) parts.is_blocked_on
       ∙ ap (λ (k : Kernel). Some (call_event k t parts.call [] (serve (setup_of job.program) k t parts.call))) h.same_kernel
 
-  -- the call does not block in the machine
-  unblocked : is_blocked (serve (setup_of job.program) h.machine.kernel t parts.call) ≡ false
-  unblocked = ap (λ (k : Kernel). is_blocked (serve (setup_of job.program) k t parts.call)) (sym h.same_kernel) ∙ parts.unblocked
+  -- the call would be done in the machine
+  unblocked : is_served (serve (setup_of job.program) h.machine.kernel t parts.call) ≡ true
+  unblocked = ap (λ (k : Kernel). is_served (serve (setup_of job.program) k t parts.call)) (sym h.same_kernel) ∙ parts.served
 
   -- a blocked thread has not run ahead
   module _ (r : Replica) (agree : Agrees job h.machine r) (thread : Thread) (there : slice_get r.threads t ≡ Some thread) where

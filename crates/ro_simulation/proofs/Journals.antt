@@ -10,7 +10,7 @@ use Rattle.ro_journal.specs.declared.Entry.TheVariants.{Take, Put, Vote, Free, S
 use Rattle.ro_journal.specs.declared.losers.Lost.{Lost}
 use Rattle.ro_journal.specs.Losers.{numbers}
 use Rattle.ro_journal.specs.Plan.{outcome_of}
-use Rattle.ro_kernel.specs.Serve.{Served, Done, Blocked, Ends, serve}
+use Rattle.ro_kernel.specs.Serve.{Served, Done, Parked, Blocked, Ends, serve}
 use Rattle.ro_kernel.specs.Kernel.{Kernel}
 use Rattle.ro_replica.specs.Replica.{Replica}
 use Rattle.ro_replica.specs.Runs.{RanTo}
@@ -87,6 +87,7 @@ event-leaves core thread count replicas (Some event) = record { output = refl; e
 -- a freed call writes nothing
 call-no-payload : (kernel : Kernel) (thread : ℕ) (call : Call) (served : Served) → (call_event kernel thread call [] served).payload ≡ []
 call-no-payload kernel thread call (Done k effect) = refl
+call-no-payload kernel thread call (Parked k) = refl
 call-no-payload kernel thread call Blocked = refl
 call-no-payload kernel thread call (Ends k how) = refl
 

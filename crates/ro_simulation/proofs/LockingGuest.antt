@@ -23,7 +23,7 @@ use Rattle.ro_image.specs.Image.{memory_of}
 use Rattle.ro_kernel.specs.declared.Life.{Life}
 use Rattle.ro_kernel.specs.declared.Life.TheVariants.{Live, Exited, Joined}
 use Rattle.ro_kernel.specs.Kernel.{Kernel}
-use Rattle.ro_kernel.specs.Serve.{Served, Done, Blocked, Ends, answer_effect, answers, serve_join_at, lock_at, unlock_at, serve, payload_of}
+use Rattle.ro_kernel.specs.Serve.{Served, Done, Parked, Blocked, Ends, answer_effect, answers, serve_join_at, lock_at, unlock_at, serve, payload_of}
 use Rattle.ro_journal.specs.declared.How.{How}
 use Rattle.ro_exec.specs.declared.Cpu.{Cpu}
 use Rattle.ro_exec.specs.Meaning.{loads, stores, meaning}
@@ -171,6 +171,7 @@ pub data Fine (b : Bool) (cpu : Cpu) (t : ℕ) : Served → Type 0 where
   fine_done : {kernel : Kernel} {effect : Effect} → effect.thread ≡ t → At b (cpu_after effect cpu) →
       ((a : ℕ) → within (record { place = effect.place; count = length effect.bytes }) a ≡ true → (b ≡ true) × (shared a ≡ true)) →
       ((made : Made) (n : ℕ) → effect.made ≡ Some made → (made.creator ≡ t) × At false (made_cpu made (cpu_after effect cpu) n)) → Fine b cpu t (Done kernel effect)
+  fine_parked : {kernel : Kernel} → Fine b cpu t (Parked kernel)
   fine_blocked : Fine b cpu t Blocked
   fine_ends : {kernel : Kernel} {how : How} → Fine b cpu t (Ends kernel how)
 
@@ -341,6 +342,7 @@ module _ (machine : Machine) (q : Quiet machine) (t : ℕ) (cpu : Cpu) (there : 
         (subst (λ (n : ℕ). (u : ℕ) (c : Cpu) → slice_get (slice_set machine.cpus n (cpu_after effect cpu)) u ≡ Some c → At (u == 0) c) (sym own) (set-threads machine.cpus t (cpu_after effect cpu) q.threads here))
         made;
   })
+  quiet-called payload (Parked kernel) h after e = subst Quiet (some-injective e) (record { code = q.code; threads = q.threads })
   quiet-called payload Blocked h after e = absurd (let f : None ≡ Some after = e in cc)
   quiet-called payload (Ends kernel how) h after e = subst Quiet (some-injective e) (record { code = q.code; threads = q.threads })
 
@@ -428,6 +430,7 @@ no-touch span x e w = none-within 0 x (ap (λ (s : Span). within s x) (sym e) �
 -- what a served call stores
 stored-apart : (t : ℕ) (cpu : Cpu) (served : Served) → Fine (t == 0) cpu t served → (x : ℕ) → touches (stored_span served) x ≡ true → ((t == 0) ≡ true) × (shared x ≡ true)
 stored-apart t cpu (Done kernel effect) (fine_done own here stores made) x w = stores x (touch-one _ w)
+stored-apart t cpu (Parked kernel) h x w = absurd (false≢true w)
 stored-apart t cpu Blocked h x w = absurd (false≢true w)
 stored-apart t cpu (Ends kernel how) h x w = absurd (false≢true w)
 

@@ -11,13 +11,16 @@ use Rattle.ro_event.specs.declared.stops.Stop.{Stop}
 use Rattle.ro_event.specs.declared.stops.Stop.TheVariants.{Calls, Trap, PageFault, Watchdog}
 use Rattle.ro_event.specs.Effects.{Effect}
 use Rattle.ro_journal.specs.declared.Did.{Did}
-use Rattle.ro_journal.specs.declared.Did.TheVariants.{Blocked as WasBlocked, PageBacked, Watch, Trapped}
+use Rattle.ro_journal.specs.declared.Did.TheVariants.{Blocked as WasBlocked, Parked as WasParked, PageBacked, Watch, Trapped}
 use Rattle.ro_journal.specs.declared.How.{How}
 use Rattle.ro_journal.specs.declared.How.TheVariants.{Trap as TrapHow}
 use Rattle.ro_journal.specs.Plan.{event_steps}
-use Rattle.ro_kernel.specs.Kernel.{Setup, Kernel, lives_on}
-use Rattle.ro_kernel.specs.Serve.{Served, Done, Blocked, Ends, serve, payload_of, is_write}
-use Rattle.ro_kernel.proofs.Kept.{Own, done, blocked, ends, serve-own, IsServed, system-served}
+use Rattle.ro_condition.proofs.Whose.{is_waiting}
+use Rattle.ro_kernel.specs.declared.Life.{Life}
+use Rattle.ro_kernel.specs.Kernel.{Setup, Kernel, live_option, lives_on}
+use Rattle.ro_kernel.specs.Serve.{Served, Done, Parked, Blocked, Ends, serve, payload_of, is_write}
+use Rattle.ro_kernel.proofs.Kept.{Own, done, parked, blocked, ends, serve-own, IsServed, system-served}
+use Rattle.ro_kernel.proofs.Waiting.{served-others, begun-others, begun-now, blocked-waits, parked-waits}
 use Rattle.ro_exec.specs.declared.Cpu.{Cpu}
 use Rattle.ro_exec.specs.Next.{Backed, all_backed, Stands}
 use Rattle.ro_exec.proofs.Backing.{IsNoFault, a_call, a_trap}
@@ -27,7 +30,7 @@ use Rattle.ro_replica.specs.Replica.{Replica, applied, cancelled}
 use Rattle.ro_plain.specs.Machine.{layout_of, setup_of, Machine, opening, with_made, affected, called, step_by, next_of, steppable, step, run, BackedRun}
 use Rattle.ro_plain.specs.Order.{RaceFree}
 use Rattle.ro_plain.proofs.Stays.{no-payload}
-use Rattle.ro_plain.proofs.Calls.{some-injective, step-at}
+use Rattle.ro_plain.proofs.Calls.{some-injective, step-at, steppable-parts, steppable-from}
 use Rattle.ro_legal.specs.Core.{Job}
 use Rattle.ro_replica.specs.Views.{payload_at}
 use Rattle.ro_legal.specs.Event.{Event, quiet_effect, call_event, event_of}
@@ -36,9 +39,9 @@ use Rattle.ro_simulation.specs.Invariant.{StopStands, Agrees, StandsAtCall}
 use Rattle.ro_plain.proofs.StaysAfter.{Stays, stays}
 use Rattle.ro_simulation.proofs.Ahead.{KeepsRest, BackedRun-keeps, reach-run, stays-along}
 use Rattle.ro_simulation.proofs.Around.{Without-replicate}
-use Rattle.ro_legal.proofs.Served.{made_count, Tidy, tidy_done, tidy_blocked, tidy_end, serve-tidy}
+use Rattle.ro_legal.proofs.Served.{made_count, Tidy, tidy_done, tidy_parked, tidy_blocked, tidy_end, serve-tidy}
 use Rattle.ro_simulation.proofs.Views.{Comes}
-use Rattle.ro_simulation.proofs.Events.{agrees-quiet, agrees-served}
+use Rattle.ro_simulation.proofs.Events.{agrees-quiet, agrees-parked, agrees-served}
 
 -- what blocks is not served
 never-blocked : IsServed Blocked → ⊥
@@ -105,14 +108,14 @@ module _ (job : Job) (free : RaceFree job.program) (before : List ℕ) (backed :
   stands-middle : (u : ℕ) (call : Call) → u ≢ t → StandsAtCall job.program machine u call → StandsAtCall job.program middle u call
   stands-middle u call d h =
       let along : Stays job.program machine middle u h.cpu = stays-along job.program free backed before u h.cpu reached own (Without-replicate u count t (λ e. d (sym e))) h.live in
-      record { cpu = h.cpu; live = along.live; stands = sym (along.next_stays all_backed) ∙ h.stands; writes_nothing = h.writes_nothing }
+      record { cpu = h.cpu; live = along.live; stands = sym (along.next_stays all_backed) ∙ h.stands; writes_nothing = h.writes_nothing; begun = λ w. ap (λ (k : Kernel). is_waiting k.waiters u) kept.same_kernel ∙ h.begun w }
 
   -- and after its event
-  stands-after : (after : Machine) → step job.program middle t ≡ Some after → after.ended ≡ None → (u : ℕ) (call : Call) → u ≢ t → StandsAtCall job.program machine u call → StandsAtCall job.program after u call
-  stands-after after e on u call d h =
+  stands-after : (after : Machine) → step job.program middle t ≡ Some after → after.ended ≡ None → ((u : ℕ) → u ≢ t → is_waiting after.kernel.waiters u ≡ is_waiting middle.kernel.waiters u) → (u : ℕ) (call : Call) → u ≢ t → StandsAtCall job.program machine u call → StandsAtCall job.program after u call
+  stands-after after e on waiting u call d h =
       let m = stands-middle u call d h in
       let along : Stays job.program middle after u m.cpu = stays job.program free (before ++ replicate count t) middle reached_middle t u (λ f. d (sym f)) after e on m.cpu m.live in
-      record { cpu = m.cpu; live = along.live; stands = sym (along.next_stays all_backed) ∙ m.stands; writes_nothing = m.writes_nothing }
+      record { cpu = m.cpu; live = along.live; stands = sym (along.next_stays all_backed) ∙ m.stands; writes_nothing = m.writes_nothing; begun = λ w. waiting u d ∙ m.begun w }
 
   -- an event without a step
   quiet-step : (did : Did) (page : Option ℕ) (releases : Bool) (event : Event) → event_steps did ≡ 0 → event ≡ record { did = did; kernel = middle.kernel; effect = quiet_effect t page releases; payload = []; blocked = event.blocked; due = None } → ((call : Call) → event.blocked ≡ Some call → StandsAtCall job.program middle t call) → EventStep job backed machine middle t event middle
@@ -156,18 +159,48 @@ module _ (job : Job) (free : RaceFree job.program) (before : List ℕ) (backed :
         as_many = length-made effect.made cpu _ ∙ (ap (λ (n : ℕ). n + made_count effect.made) (length-set middle.cpus effect.thread _ ∙ as_many_middle) ∙ sym tidy.one_life_each);
         one_life_each = tidy.one_life_each ∙ ap (λ (n : ℕ). n + made_count effect.made) lives_middle;
         own_blocked = λ other (f : None ≡ Some other). absurd cc;
-        others_stand = λ u other d h on. stands-after _ (step-called (Done kernel effect) _ e refl) going_middle u other d h;
+        others_stand = λ u other d h on. stands-after _ (step-called (Done kernel effect) _ e refl) going_middle (served-others (setup_of job.program) middle.kernel t call kernel effect e) u other d h;
         agrees = λ on replica thread same there all_made comes stops own_stop.
             let same_cpu : thread.cpu ≡ cpu = some-injective (sym comes.live ∙ live_middle) in
             subst (λ (c : Cpu). Agrees job (affected middle c kernel effect (payload_of job.program.image.ranges middle.memory call)) (cancelled (applied effect replica))) same_cpu
             (agrees-served job free before backed machine middle reached going replica same t live thread there comes stops call kernel effect (ap (next_of job.program middle) same_cpu ∙ stands) e own_effect tidy all_made as_many);
       },
     )
+    call-step (Parked kernel) e (parked same) tidy_parked = (
+      record middle { kernel = kernel },
+      record {
+        run_event = ap (option_and_then (λ m. run job.program m [])) (step-called (Parked kernel) _ e refl);
+        same_kernel = refl;
+        same_output = append-nil middle.output;
+        same_end = sym going_middle;
+        ends_well = over-middle;
+        as_many = as_many_middle ∙ sym (ap length same);
+        one_life_each = ap length same ∙ (lives_middle ∙ no-more (length machine.kernel.lives));
+        own_blocked = λ other (f : Some call ≡ Some other). subst (λ (c : Call). StandsAtCall job.program (record middle { kernel = kernel }) t c) (some-injective f) (record {
+          cpu = cpu;
+          live = steppable-from (record middle { kernel = kernel }) t cpu (let parts = steppable-parts middle t cpu live_middle in record {
+            going = parts.going;
+            live = ap (λ (l : List Life). live_option (slice_get l t)) same ∙ parts.live;
+            there = parts.there;
+          });
+          stands = stands;
+          writes_nothing = λ m. no-payload job.program.image.ranges m call (ap is_write (parked-waits (setup_of job.program) middle.kernel t call kernel e));
+          begun = λ w. begun-now (setup_of job.program) middle.kernel t call kernel e;
+        });
+        others_stand = λ u other d h on. stands-after _ (step-called (Parked kernel) _ e refl) going_middle (begun-others (setup_of job.program) middle.kernel t call kernel e) u other d h;
+        agrees = λ on replica thread same_pages there all_made comes stops own_stop.
+            let same_cpu : thread.cpu ≡ cpu = some-injective (sym comes.live ∙ live_middle) in
+            agrees-parked job free before backed machine middle reached going replica same_pages t live thread there comes stops call kernel (ap (next_of job.program middle) same_cpu ∙ stands) e same own_stop;
+      },
+    )
+      where
+        no-more : (n : ℕ) → n ≡ n + 0
+        no-more n = omega arith
     call-step Blocked e blocked tidy_blocked = (
       middle,
       quiet-step WasBlocked None false _ refl refl (λ other (f : Some call ≡ Some other).
           subst (λ (c : Call). StandsAtCall job.program middle t c) (some-injective f)
-          (record { cpu = cpu; live = live_middle; stands = stands; writes_nothing = λ m. no-payload job.program.image.ranges m call (blocked-no-write (setup_of job.program) middle.kernel t call e) })),
+          (record { cpu = cpu; live = live_middle; stands = stands; writes_nothing = λ m. no-payload job.program.image.ranges m call (blocked-no-write (setup_of job.program) middle.kernel t call e); begun = λ w. blocked-waits (setup_of job.program) middle.kernel t call e w })),
     )
     call-step (Ends kernel how) e ends (tidy_end same over) = (
       record middle { kernel = kernel; ended = Some how },

@@ -1,12 +1,15 @@
 -- What every entry of a legal journal keeps.
-use Rattle.std.specs.Prelude.{◌≡◌, ℕ, IsTrue, List, [], false, length, Some, None, slice_get}
+use Rattle.std.specs.Prelude.{◌≡◌, ℕ, IsTrue, List, [], true, false, length, Some, None, is_some, slice_get}
 use Rattle.ro_event.specs.declared.calls.Call.{Call}
+use Rattle.ro_event.specs.declared.calls.Which.TheVariants.{Function}
+use Rattle.ro_event.specs.declared.functions.Function.TheVariants.{Wait}
 use Rattle.ro_event.specs.declared.stops.Stop.{Stop}
 use Rattle.ro_event.specs.declared.stops.Stop.TheVariants.{Calls}
 use Rattle.ro_journal.specs.declared.How.{How}
 use Rattle.ro_journal.specs.declared.Entry.{Entry}
 use Rattle.ro_journal.specs.Plan.{plan_of}
 use Rattle.ro_pages.specs.Bytes.{Memory}
+use Rattle.ro_condition.specs.Waiters.{wait_of}
 use Rattle.ro_kernel.specs.Kernel.{lives_on}
 use Rattle.ro_kernel.specs.Serve.{payload_of}
 use Rattle.ro_exec.specs.declared.Cpu.{Cpu}
@@ -36,12 +39,13 @@ pub record Agrees (job : Job) (machine : Machine) (replica : Replica) : Type 0 w
   pub runs_ahead : RunsAhead job machine replica
   pub stops : (number : ℕ) → StopStands job machine replica number
 
--- A blocked thread stands at its voted call, which writes nothing.
+-- A blocked thread stands at its voted call, which writes nothing; a wait has had its first step.
 pub record StandsAtCall (program : Program) (machine : Machine) (number : ℕ) (call : Call) : Type 0 where
   pub cpu : Cpu
   pub live : steppable machine number ≡ Some cpu
   pub stands : next_of program machine cpu ≡ Stands (Calls call)
   pub writes_nothing : (memory : Memory) → payload_of program.image.ranges memory call ≡ []
+  pub begun : call.which ≡ Function Wait → is_some (wait_of machine.kernel.waiters number) ≡ true
 
 -- The core stands to the ideal machine as it must; every replica but these, at most half, agrees with it.
 pub record TracksIdeal (job : Job) (odds : List ℕ) (journal : List Entry) (core : Core) : Type 0 where

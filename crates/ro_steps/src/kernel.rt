@@ -47,12 +47,29 @@ const TRYLOCK: Which = Which::Function(Function::TryLock);
 
 const UNLOCK: Which = Which::Function(Function::Unlock);
 
+const CONDITION_INIT: Which = Which::Function(Function::ConditionInit);
+
+const CONDITION_DESTROY: Which = Which::Function(Function::ConditionDestroy);
+
+const WAIT: Which = Which::Function(Function::Wait);
+
+const SIGNAL: Which = Which::Function(Function::Signal);
+
+const BROADCAST: Which = Which::Function(Function::Broadcast);
+
+const MUTEX: u32 = DATA;
+
+const CONDITION: u32 = DATA + 4;
+
+const OTHER_CONDITION: u32 = DATA + 8;
+
 #[derive(Clone, Copy, Debug)]
 enum Want {
     Answers(u32),
     Fails(u32),
     Stores(u32, &'static [u8]),
     Exits,
+    Parks,
     Blocks,
     Ends(u8),
 }
@@ -160,6 +177,108 @@ const THREADS_AND_MUTEXES: &[Row] = &[
     (0, THREAD_EXIT, [5, 0, 0, 0], Want::Ends(0)),
 ];
 
+const CONDITIONS: &[Row] = &[
+    (
+        0,
+        CONDITION_INIT,
+        [CONDITION + 2, 9, 0, 0],
+        Want::Answers(14),
+    ),
+    (0, CONDITION_INIT, [CODE, 9, 0, 0], Want::Answers(14)),
+    (0, CONDITION_INIT, [CONDITION, 9, 0, 0], Want::Answers(0)),
+    (0, CONDITION_DESTROY, [CODE, 0, 0, 0], Want::Answers(14)),
+    (0, CONDITION_DESTROY, [CONDITION, 0, 0, 0], Want::Answers(0)),
+    (0, SIGNAL, [CODE, 0, 0, 0], Want::Answers(14)),
+    (0, SIGNAL, [CONDITION, 0, 0, 0], Want::Answers(0)),
+    (0, BROADCAST, [CONDITION + 1, 0, 0, 0], Want::Answers(14)),
+    (0, BROADCAST, [CONDITION, 0, 0, 0], Want::Answers(0)),
+    // wait: the condition variable, then the mutex, then its owner: it was never locked, is another's, or is free
+    (0, WAIT, [CODE, MUTEX, 0, 0], Want::Answers(14)),
+    (0, WAIT, [CONDITION, CODE, 0, 0], Want::Answers(14)),
+    (0, WAIT, [CONDITION, MUTEX, 0, 0], Want::Answers(1)),
+    (
+        0,
+        CREATE,
+        [DATA, 0, CODE, 7],
+        Want::Stores(0, &[1, 0, 0, 0]),
+    ),
+    (0, LOCK, [MUTEX, 0, 0, 0], Want::Answers(0)),
+    (0, WAIT, [CODE, MUTEX, 0, 0], Want::Answers(14)),
+    (0, WAIT, [CONDITION, MUTEX + 2, 0, 0], Want::Answers(14)),
+    (1, WAIT, [CONDITION, MUTEX, 0, 0], Want::Answers(1)),
+    (0, UNLOCK, [MUTEX, 0, 0, 0], Want::Answers(0)),
+    (0, WAIT, [CONDITION, MUTEX, 0, 0], Want::Answers(1)),
+];
+
+const SIGNALS: &[Row] = &[
+    // nobody waits for it, so a wait behind it waits
+    (0, SIGNAL, [CONDITION, 0, 0, 0], Want::Answers(0)),
+    (1, LOCK, [MUTEX, 0, 0, 0], Want::Answers(0)),
+    (1, WAIT, [CONDITION, MUTEX, 0, 0], Want::Parks),
+    (1, WAIT, [CONDITION, MUTEX, 0, 0], Want::Blocks),
+    // its mutex is free
+    (2, LOCK, [MUTEX, 0, 0, 0], Want::Answers(0)),
+    (2, WAIT, [CONDITION, MUTEX, 0, 0], Want::Parks),
+    (0, LOCK, [MUTEX, 0, 0, 0], Want::Answers(0)),
+    // the first is ready but for the mutex
+    (0, SIGNAL, [CONDITION, 0, 0, 0], Want::Answers(0)),
+    (1, WAIT, [CONDITION, MUTEX, 0, 0], Want::Blocks),
+    (0, UNLOCK, [MUTEX, 0, 0, 0], Want::Answers(0)),
+    (2, WAIT, [CONDITION, MUTEX, 0, 0], Want::Blocks),
+    (1, WAIT, [CONDITION, MUTEX, 0, 0], Want::Answers(0)),
+    (1, LOCK, [MUTEX, 0, 0, 0], Want::Answers(35)),
+    (1, UNLOCK, [MUTEX, 0, 0, 0], Want::Answers(0)),
+    (2, WAIT, [CONDITION, MUTEX, 0, 0], Want::Blocks),
+    (0, SIGNAL, [OTHER_CONDITION, 0, 0, 0], Want::Answers(0)),
+    (2, WAIT, [CONDITION, MUTEX, 0, 0], Want::Blocks),
+    // who was signalled is not signalled again
+    (3, LOCK, [MUTEX, 0, 0, 0], Want::Answers(0)),
+    (3, WAIT, [CONDITION, MUTEX, 0, 0], Want::Parks),
+    (0, SIGNAL, [CONDITION, 0, 0, 0], Want::Answers(0)),
+    (0, SIGNAL, [CONDITION, 0, 0, 0], Want::Answers(0)),
+    (3, WAIT, [CONDITION, MUTEX, 0, 0], Want::Answers(0)),
+    (3, UNLOCK, [MUTEX, 0, 0, 0], Want::Answers(0)),
+    (2, WAIT, [CONDITION, MUTEX, 0, 0], Want::Answers(0)),
+    (2, UNLOCK, [MUTEX, 0, 0, 0], Want::Answers(0)),
+];
+
+const BROADCASTS: &[Row] = &[
+    (0, BROADCAST, [CONDITION, 0, 0, 0], Want::Answers(0)),
+    (1, LOCK, [MUTEX, 0, 0, 0], Want::Answers(0)),
+    (1, WAIT, [CONDITION, MUTEX, 0, 0], Want::Parks),
+    (2, LOCK, [MUTEX, 0, 0, 0], Want::Answers(0)),
+    (2, WAIT, [CONDITION, MUTEX, 0, 0], Want::Parks),
+    (3, LOCK, [MUTEX, 0, 0, 0], Want::Answers(0)),
+    (3, WAIT, [CONDITION, MUTEX, 0, 0], Want::Parks),
+    (1, WAIT, [CONDITION, MUTEX, 0, 0], Want::Blocks),
+    // all three are ready, and one has the mutex
+    (0, BROADCAST, [CONDITION, 0, 0, 0], Want::Answers(0)),
+    (3, WAIT, [CONDITION, MUTEX, 0, 0], Want::Answers(0)),
+    (1, WAIT, [CONDITION, MUTEX, 0, 0], Want::Blocks),
+    (2, WAIT, [CONDITION, MUTEX, 0, 0], Want::Blocks),
+    (3, UNLOCK, [MUTEX, 0, 0, 0], Want::Answers(0)),
+    (1, WAIT, [CONDITION, MUTEX, 0, 0], Want::Answers(0)),
+    // who waits once more waits for the next
+    (1, WAIT, [CONDITION, MUTEX, 0, 0], Want::Parks),
+    (2, WAIT, [CONDITION, MUTEX, 0, 0], Want::Answers(0)),
+    (2, UNLOCK, [MUTEX, 0, 0, 0], Want::Answers(0)),
+    (1, WAIT, [CONDITION, MUTEX, 0, 0], Want::Blocks),
+];
+
+const TWO_CONDITIONS: &[Row] = &[
+    (1, LOCK, [MUTEX, 0, 0, 0], Want::Answers(0)),
+    (1, WAIT, [CONDITION, MUTEX, 0, 0], Want::Parks),
+    (2, LOCK, [MUTEX, 0, 0, 0], Want::Answers(0)),
+    (2, WAIT, [OTHER_CONDITION, MUTEX, 0, 0], Want::Parks),
+    (0, SIGNAL, [OTHER_CONDITION, 0, 0, 0], Want::Answers(0)),
+    (1, WAIT, [CONDITION, MUTEX, 0, 0], Want::Blocks),
+    (2, WAIT, [OTHER_CONDITION, MUTEX, 0, 0], Want::Answers(0)),
+    (0, BROADCAST, [CONDITION, 0, 0, 0], Want::Answers(0)),
+    (1, WAIT, [CONDITION, MUTEX, 0, 0], Want::Blocks),
+    (2, UNLOCK, [MUTEX, 0, 0, 0], Want::Answers(0)),
+    (1, WAIT, [CONDITION, MUTEX, 0, 0], Want::Answers(0)),
+];
+
 fn regions(alloc: Global) -> Result<Regions, AllocError> {
     let range = |start, write| Range {
         start,
@@ -216,7 +335,7 @@ fn is_wanted(served: &Served, thread: u32, goes: Goes, want: Want) -> bool {
         (Served::Done(effect), Want::Exits) => {
             effect.answer.is_none() && effect.goes == Goes::Stays
         }
-        (Served::Blocked, Want::Blocks) => true,
+        (Served::Parked, Want::Parks) | (Served::Blocked, Want::Blocks) => true,
         (Served::Ends(How::Exit(status)), Want::Ends(wanted)) => *status == wanted,
         _ => false,
     }
@@ -237,7 +356,9 @@ fn check(rt: &impl Abort, kernel: &mut Kernel, rows: &[Row]) -> Result<(), Alloc
         let call = call(*which, *arguments);
         let blocks = kernel.blocks(*thread, call);
         assert_eq!(rt; blocks, matches!(want, Want::Blocks), "{thread} {call:?}");
-        assert_eq!(rt; kernel.ready(*thread, call), !blocks);
+        let parks = kernel.parks(*thread, call);
+        assert_eq!(rt; parks, matches!(want, Want::Parks), "{thread} {call:?}");
+        assert_eq!(rt; kernel.ready(*thread, call), !blocks && !parks);
         let served = serve(rt, kernel, *thread, call)?;
         assert!(rt;
             is_wanted(&served, *thread, goes(*which), *want),
@@ -258,6 +379,26 @@ fn serves_system_calls(rt: HostRuntime) -> Result<(), Fail> {
 fn serves_threads_and_mutexes(rt: HostRuntime) -> Result<(), Fail> {
     let mut kernel = kernel(rt.alloc(), b"")?;
     check(&rt, &mut kernel, THREADS_AND_MUTEXES)?;
+    Ok(())
+}
+
+#[test]
+fn answers_errors_of_conditions(rt: HostRuntime) -> Result<(), Fail> {
+    let mut kernel = kernel(rt.alloc(), b"")?;
+    check(&rt, &mut kernel, CONDITIONS)?;
+    Ok(())
+}
+
+#[test]
+fn waits_for_signals(rt: HostRuntime) -> Result<(), Fail> {
+    for rows in [SIGNALS, BROADCASTS, TWO_CONDITIONS] {
+        let mut kernel = kernel(rt.alloc(), b"")?;
+        for made in [&[1, 0, 0, 0], &[2, 0, 0, 0], &[3, 0, 0, 0]] {
+            let create = (0, CREATE, [DATA, 0, CODE, 7], Want::Stores(0, made));
+            check(&rt, &mut kernel, &[create])?;
+        }
+        check(&rt, &mut kernel, rows)?;
+    }
     Ok(())
 }
 

@@ -108,11 +108,11 @@ fn looks_where_code_was_left(rt: HostRuntime) -> Result<(), Fail> {
     let mut until = CODE + 8;
     assert!(rt; code.goes_along(&mut until, CODE + 8, &pages, &regions, &calls));
     assert_eq!(rt; until, CALL);
-    let next = code.after(until, CODE + 8);
-    assert_eq!(rt; next, CODE + 12);
-    code.note_jump(&mut until, next, CODE);
+    assert_eq!(rt; code.after(until, CODE + 8), CODE + 12);
+    assert!(rt; code.leads(&mut until, CODE));
     assert_eq!(rt; until, CALL, "behind a jump inside the stretch");
-    code.note_jump(&mut until, next, CALL + 4);
+    assert!(rt; !code.leads(&mut until, CALL + 6));
+    assert!(rt; code.leads(&mut until, CALL + 4));
     assert_eq!(rt; until, CALL + 4, "behind a jump over the call");
     assert!(rt; code.goes_along(&mut until, CALL + 4, &pages, &regions, &calls));
     assert_eq!(rt; until, CODE + 0x820);

@@ -15,7 +15,7 @@ use Rattle.ro_legal.proofs.Ordered.{vote-parts}
 use Rattle.ro_legal.proofs.Outcomes.{ended_is_outcome}
 use Rattle.ro_legal.proofs.Winners.{views-count}
 use Rattle.ro_core.specs.Seen.{EndsByScrub, KeepsViews, ShowsViews}
-use Rattle.ro_core.proofs.Turns.{outcome_cases}
+use Rattle.ro_core.proofs.Held.{outcome_cases}
 use Rattle.ro_findings.specs.declared.findings.Ended.{Ended}
 use Rattle.ro_findings.specs.declared.findings.Ended.TheVariants.{Exit, Deadlock, Trap, Limit, Differ, NoMajority, Sink}
 use Rattle.ro_findings.specs.declared.findings.Split.{Split}

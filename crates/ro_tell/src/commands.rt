@@ -175,15 +175,16 @@ fn judge(
         faults,
         settings,
     } = job;
-    let trail = trace(
+    let Ok(trail) = trace(
         alloc,
         image,
         input.as_slice(),
         faults.as_slice(),
         settings,
         entries,
-    )
-    .map_err(|_| AllocError)?;
+    ) else {
+        return Err(AllocError);
+    };
     let case = Case {
         executable,
         entries,

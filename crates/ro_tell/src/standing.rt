@@ -1,6 +1,6 @@
 //! Where threads stand behind a journal, and for what they wait.
 use crate::places::{instruction_at, place_at};
-use ro_audit::{Kept, Trail};
+use ro_audit::Trail;
 use ro_core::Core;
 use ro_event::{Call, Function, Which};
 use ro_findings::{Standing, State, Trapped, Waiting};
@@ -47,7 +47,7 @@ impl Stood {
 }
 
 // What holds a thread up.
-fn state_of(core: &Core<Kept>, thread: u32) -> State {
+fn state_of(core: &Core, thread: u32) -> State {
     if !core.kernel().lives_on(thread) {
         return State::Exited;
     }
@@ -57,16 +57,40 @@ fn state_of(core: &Core<Kept>, thread: u32) -> State {
     match call.which {
         Which::Function(Function::Lock) => State::Locks {
             mutex: call.a0,
-            owner: owner(core.kernel(), call),
+            owner: owner(core.kernel(), thread, call.a0),
+        },
+        Which::Function(Function::Wait) => State::Waits {
+            condition: call.a0,
+            signalled: is_signalled(core.kernel(), thread),
+            mutex: call.a1,
+            owner: owner(core.kernel(), thread, call.a1),
         },
         Which::Function(Function::Join) => State::Joins(call.a0),
         _ => State::Blocked,
     }
 }
 
-// The thread that this lock would not block, since it holds the mutex.
-fn owner(kernel: &Kernel, lock: Call) -> Option<u32> {
-    (0..kernel.made()).find(|thread| !kernel.blocks(*thread, lock))
+// The thread that holds a mutex, where one does that is not this thread: the one that a lock of it would not block.
+fn owner(kernel: &Kernel, thread: u32, mutex: u32) -> Option<u32> {
+    let lock = Call {
+        which: Which::Function(Function::Lock),
+        a0: mutex,
+        a1: 0,
+        a2: 0,
+        a3: 0,
+    };
+    if !kernel.blocks(thread, lock) {
+        return None;
+    }
+    (0..kernel.made()).find(|other| !kernel.blocks(*other, lock))
+}
+
+// Whether a thread that waits on a condition variable was signalled.
+fn is_signalled(kernel: &Kernel, thread: u32) -> bool {
+    match kernel.waiter(thread) {
+        Some(waiter) => waiter.signalled,
+        None => false,
+    }
 }
 
 // Where a thread stands.

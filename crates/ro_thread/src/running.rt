@@ -71,7 +71,11 @@ pub fn run<M: Memory>(
             pc = place;
             until = place;
             if let Step::Stopped(stop) = step {
-                return ended(thread, &registers, pc, bound, left, Some(stop));
+                let count = ended(thread, &registers, pc, bound, left);
+                return RunEnd {
+                    count,
+                    stop: Some(stop),
+                };
             }
         }
         left -= 1;
@@ -82,25 +86,19 @@ pub fn run<M: Memory>(
     } else {
         None
     };
-    ended(thread, &registers, pc, bound, 0, stop)
+    let count = ended(thread, &registers, pc, bound, 0);
+    RunEnd { count, stop }
 }
 
 // Ends a run that has `left` of its `bound` instructions left: gives the thread what its registers are then, and counts those
 // that ran. They are counted here and not in the loop, which then has one number that goes down.
 #[cold]
 #[inline(never)]
-fn ended(
-    thread: &mut Thread,
-    registers: &Bank,
-    pc: u32,
-    bound: u32,
-    left: u32,
-    stop: Option<Stop>,
-) -> RunEnd
+fn ended(thread: &mut Thread, registers: &Bank, pc: u32, bound: u32, left: u32) -> u32
     requires left { left ≤ bound }
     requires since { thread.old.since + bound < 2 ^ 32 }
     requires done { thread.old.done + bound < 2 ^ 128 }
-    ensures ran { result ≡ record { count = bound - left; stop = stop } }
+    ensures ran { result ≡ bound - left }
     ensures thread { thread.new ≡ record thread.old { cpu = record { registers = registers.now; pc = pc }; since = thread.old.since + (bound - left); done = thread.old.done + (bound - left) } }
 {
     let count = bound - left;
@@ -108,7 +106,7 @@ fn ended(
     thread.cpu.pc = pc;
     thread.since += count;
     thread.done += u128::from(count);
-    RunEnd { count, stop }
+    count
 }
 
 // A step that `quick_step` left: a stop, a rare instruction or access, or an access whose page is learnt now. A system call,

@@ -8,7 +8,7 @@ use Rattle.ro_journal.specs.declared.How.{How}
 use Rattle.ro_journal.specs.declared.How.TheVariants.{Exit as ByExit, Deadlock as ByDeadlock, Trap as ByTrap, Limit as ByLimit, Differ as ByDiffer, NoMajority as ByNoMajority, Sink as BySink}
 use Rattle.ro_journal.specs.declared.Entry.{Entry}
 use Rattle.ro_journal.specs.Plan.{plan_of}
-use Rattle.ro_kernel.specs.Serve.{Served, Done, Blocked, Ends, serve, payload_of}
+use Rattle.ro_kernel.specs.Serve.{Served, Done, Parked, Blocked, Ends, serve, payload_of}
 use Rattle.ro_kernel.specs.Kernel.{Kernel}
 use Rattle.ro_plain.specs.Machine.{Program, Machine, affected, executed, opening, called, setup_of, step_by, next_of, steppable, step, run}
 use Rattle.ro_legal.specs.Sound.{IsOver, traps}
@@ -35,6 +35,9 @@ module _ (program : Program) (machine after : Machine) (thread : ℕ) (well : En
   by_called : (cpu : Cpu) (payload : List ℕ) (served : Served) → Tidy machine.kernel thread served → called machine cpu payload served ≡ Some after → EndsWell after.ended
   by_called cpu payload (Done kernel effect) tidy e = λ other is.
       let ended : machine.ended ≡ after.ended = ended_by (affected machine cpu kernel effect payload) after e in
+      well other (ended ∙ is)
+  by_called cpu payload (Parked kernel) tidy e = λ other is.
+      let ended : machine.ended ≡ after.ended = ended_by (record machine { kernel = kernel }) after e in
       well other (ended ∙ is)
   by_called cpu payload Blocked tidy e = absurd (let f : None ≡ Some after = e in cc)
   by_called cpu payload (Ends kernel how) tidy e = λ other is.

@@ -20,7 +20,7 @@ use Rattle.ro_plain.specs.Machine.{Program}
 use Rattle.ro_races.specs.declared.found.Found.TheVariants.{NoRace as NoneFound, Pair}
 use Rattle.ro_races.specs.Follows.{Checks, LacksStep as LacksCheckedStep}
 use Rattle.ro_core.specs.Seen.{offered_by}
-use Rattle.ro_core.specs.Driven.{ShowsLast, ScrubsLast}
+use Rattle.ro_master.specs.Driven.{ShowsLast, ScrubsLast}
 
 -- ---- ends of a run
 

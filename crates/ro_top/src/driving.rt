@@ -6,14 +6,13 @@ ghost use Rattle.ro_legal.specs.Legal.{output_of};
 ghost use Rattle.ro_legal.specs.Action.{next_action};
 ghost use Rattle.ro_core.specs.Seen.{state, sent};
 ghost use Rattle.ro_legal.specs.Jobs.{CanRun};
-ghost use Rattle.ro_core.specs.Driven.{IsDriven, IsHome, KeepsLast, Goes};
+ghost use Rattle.ro_master.specs.Driven.{IsDriven, IsHome, KeepsLast, Goes};
 
-use ro_core::Core;
 use ro_drive::drive_all;
 use ro_io::{Gate, Sink};
 use ro_journal::How;
 use ro_legal::Action;
-use ro_master::{Master, Naming, Opened};
+use ro_master::{Master, Naming, Opened, Session};
 use std::alloc::Global;
 use std::marker::Brand;
 use std::sync::Wait;
@@ -25,9 +24,9 @@ use std::thread::Threads;
 pub(crate) fn drive<R: Threads + Wait + Sync, K: Sink + Send, G: Gate + Sync>(
     rt: &R,
     alloc: Global,
-    core: Core<K>,
+    core: Session<K>,
     gate: &G,
-) -> Core<K>
+) -> Session<K>
     requires journal { core.journal ≡ [] }
     requires calm { core.failed ≡ None }
     requires can_run { CanRun core.job }
@@ -48,10 +47,10 @@ pub(crate) fn drive<R: Threads + Wait + Sync, K: Sink + Send, G: Gate + Sync>(
 fn drive_named<R: Threads + Wait + Sync, K: Sink + Send, G: Gate + Sync, N: Naming + Send + Sync>(
     rt: &R,
     alloc: Global,
-    core: Core<K>,
+    core: Session<K>,
     opened: Opened,
     gate: &G,
-) -> Core<K>
+) -> Session<K>
     requires name { opened ≡ N.table }
     requires start { core ≡ N.start }
     requires journal { core.journal ≡ [] }
@@ -77,7 +76,7 @@ fn drive_named<R: Threads + Wait + Sync, K: Sink + Send, G: Gate + Sync, N: Nami
 }
 
 // Appends an end that is due, if one is.
-fn settled<K: Sink>(mut core: Core<K>) -> Core<K>
+fn settled<K: Sink>(mut core: Session<K>) -> Session<K>
     requires driven { IsDriven core }
     requires last { KeepsLast core.job core.journal core.views }
     requires home { IsHome core }
@@ -98,7 +97,7 @@ fn settled<K: Sink>(mut core: Core<K>) -> Core<K>
 }
 
 // Ends the run so.
-fn end<K: Sink>(core: &mut Core<K>, how: How)
+fn end<K: Sink>(core: &mut Session<K>, how: How)
     requires driven { IsDriven core.old }
     requires home { IsHome core.old }
     requires next { next_action core.old.job (state core.old) ≡ act.End how }

@@ -9,11 +9,11 @@ ghost use Rattle.ro_top.specs.Ends.{IsOutcome};
 ghost use Rattle.ro_top.specs.Top.{IsRunOf};
 
 use crate::driving::drive;
-use ro_core::{Core, Finished, Refused};
 use ro_event::View;
 use ro_files::Job;
 use ro_io::{Gate, Sink};
 use ro_journal::{Entry, How};
+use ro_master::{Finished, Session, Unopened};
 use ro_report::Answer;
 use std::alloc::Global;
 use std::sync::Wait;
@@ -78,7 +78,7 @@ pub fn run_job<R: Threads + Wait + Sync, K: Sink + Send, G: Gate + Sync>(
         faults,
         settings,
     } = job;
-    let core = match Core::begin(
+    let core = match Session::begin(
         alloc,
         image,
         input.as_slice(),
@@ -87,7 +87,7 @@ pub fn run_job<R: Threads + Wait + Sync, K: Sink + Send, G: Gate + Sync>(
         out,
     ) {
         Ok(core) => core,
-        Err(Refused { image, out }) => {
+        Err(Unopened { image, out }) => {
             let job = Job {
                 image,
                 input,

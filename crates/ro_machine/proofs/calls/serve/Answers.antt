@@ -3,7 +3,7 @@ use Rattle.ro_pages.specs.Bytes.{stored}
 use Rattle.ro_pages.specs.Held.{memory_of}
 use Rattle.ro_kernel.specs.Serve.{payload_of}
 use Rattle.ro_machine.proofs.Noted.{tells-done}
-use Rattle.ro_machine.proofs.Serving.{known, ended-lives, threads-after, served-so}
+use Rattle.ro_machine.proofs.Serving.{known, ended-lives, parked-lives, threads-after, served-so}
 use Rattle.ro_machine.proofs.calls.serve.Goals as goal
 
 pub apply-requires-clause-thread : goal.apply-requires-clause-thread
@@ -36,6 +36,9 @@ returns-in-Done-clause-served c cpu output there =
 
 pub returns-in-Ends-clause-made : goal.returns-in-Ends-clause-made
 returns-in-Ends-clause-made c = c.requires.made ∙ sym (ended-lives c.args.kernel.now c.serve.new.self c.args.thread c.args.call _ c.in-Ends.how c.in-Ends.is c.in_ok-effect.ensures.served)
+
+pub returns-in-Parked-clause-made : goal.returns-in-Parked-clause-made
+returns-in-Parked-clause-made c = c.requires.made ∙ sym (parked-lives c.args.kernel.now c.serve.new.self c.args.thread c.args.call _ c.in-Parked.is c.in_ok-effect.ensures.served)
 
 pub overflow_cast-result : goal.overflow_cast-result
 overflow_cast-result c =

@@ -1,12 +1,12 @@
 -- The parts are lemmas.
-use Rattle.ro_orders.proofs.Worked.{no-races, no-trylock, counts-between, orders-between, runs-one, same-between}
+use Rattle.ro_orders.proofs.Worked.{no-races, by-locks, counts-between, orders-between, runs-one, same-between}
 use Rattle.ro_orders.proofs.rows.meeting_row.Goals as goal
 
 pub returns-clause-free : goal.returns-clause-free
 returns-clause-free c = no-races
 
-pub returns-clause-lacks : goal.returns-clause-lacks
-returns-clause-lacks c = no-trylock
+pub returns-clause-by_locks : goal.returns-clause-by_locks
+returns-clause-by_locks c = by-locks
 
 pub returns-clause-counts : goal.returns-clause-counts
 returns-clause-counts c = counts-between

@@ -1,6 +1,9 @@
--- The row is a lemma.
-use Rattle.ro_orders.proofs.Worked.{has-trylock}
+-- The parts are lemmas.
+use Rattle.ro_orders.proofs.Worked.{has-trylock, has-wait}
 use Rattle.ro_orders.proofs.rows.trylock_row.Goals as goal
 
-pub returns : goal.returns
-returns c = has-trylock
+pub returns-clause-trylock : goal.returns-clause-trylock
+returns-clause-trylock c = has-trylock
+
+pub returns-clause-wait : goal.returns-clause-wait
+returns-clause-wait c = has-wait

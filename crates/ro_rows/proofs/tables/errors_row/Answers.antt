@@ -1,5 +1,5 @@
 -- The parts are lemmas.
-use Rattle.ro_rows.proofs.TableRows.{errors-system, errors-create, errors-join, errors-mutex, errors-full}
+use Rattle.ro_rows.proofs.TableRows.{errors-system, errors-create, errors-join, errors-mutex, errors-full, errors-condition}
 use Rattle.ro_rows.proofs.tables.errors_row.Goals as goal
 
 pub returns-clause-system : goal.returns-clause-system
@@ -16,3 +16,6 @@ returns-clause-mutex c = errors-mutex
 
 pub returns-clause-full : goal.returns-clause-full
 returns-clause-full c = errors-full
+
+pub returns-clause-condition : goal.returns-clause-condition
+returns-clause-condition c = errors-condition

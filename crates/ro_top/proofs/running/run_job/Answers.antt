@@ -3,7 +3,7 @@ use Rattle.ro_event.specs.Views.{View}
 use Rattle.ro_legal.specs.Core.{Job}
 use Rattle.ro_journal.specs.Plan.{outcome_of}
 use Rattle.ro_legal.specs.Jobs.{CanRun, job_of}
-use Rattle.ro_core.specs.Driven.{HasRun, ShowsLast, ScrubsLast}
+use Rattle.ro_master.specs.Driven.{HasRun, ShowsLast, ScrubsLast}
 use Rattle.ro_top.specs.Ends.{IsOutcome, EndCause}
 use Rattle.ro_top.proofs.Claims.{is_run, not_differ, not_majority}
 use Rattle.ro_top.proofs.Finishing.{none_bytes, none_given, opens_same, none_home, ran_home, ran, ran_counts, ran_sent, ran_held, nothing_ran, ran_calm, ran_cause}

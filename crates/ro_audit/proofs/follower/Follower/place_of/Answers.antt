@@ -1,41 +1,41 @@
-use Rattle.std.proofs.Common.{◌≡◌, ◌⊎◌, inl, inr, ℕ, ◌+◌, ◌<◌, ◌≤◌, true, Option, None, sym, ap, ◌∙◌, subst, true≢false, arith}
+use Rattle.std.proofs.Common.{◌≡◌, ◌⊎◌, inl, inr, ℕ, ◌+◌, ◌<◌, ◌≤◌, true, sym, ◌∙◌, subst, true≢false, arith}
 use Rattle.std.specs.Prelude.{IfSome}
 use Rattle.std.proofs.lemmas.Bool.{cases_lt}
-use Rattle.ro_journal.specs.declared.Entry.{Entry}
 use Rattle.ro_legal.specs.Core.{Job, Core}
 use Rattle.ro_legal.specs.Legal.{may_scrub, EndsScrub}
-use Rattle.ro_audit.specs.Following.{IsInPlace, NotByThread, core_at}
+use Rattle.ro_core.specs.Runs.{fields_of, job_of, state_of}
+use Rattle.ro_audit.specs.Following.{IsInPlace, NotByThread}
 use Rattle.ro_audit.proofs.Ends.{none-of}
 use Rattle.ro_audit.proofs.Steps.{same-old, same-both}
 use Rattle.ro_audit.proofs.follower.Follower.place_of.Goals as goal
 
 pub returns-then-is_some-clause-some : goal.returns-then-is_some-clause-some
 returns-then-is_some-clause-some c =
-    same-old (λ (j : Job) (k : Core). IfSome c.place_at-place.result (λ place. IsInPlace j k c.args.how place)) c.args.self.now.core c.loop-thread.self.core c.loop-thread.invariant.1 c.place_at-place.ensures.some
+    same-old (λ (j : Job) (k : Core). IfSome c.place_at-place.result (λ place. IsInPlace j k c.args.how place)) (fields_of c.args.self.now.core) (fields_of c.loop-thread.self.core) c.loop-thread.invariant.1 c.place_at-place.ensures.some
 
 pub loop-thread-preserved : goal.loop-thread-preserved
 loop-thread-preserved c = (
   c.place_at-place.ensures.follows,
-  same-both c.args.self.now.core c.loop-thread.self.core c.place_at-place.new.self.core c.loop-thread.invariant.1 c.place_at-place.ensures.same,
+  same-both (fields_of c.args.self.now.core) (fields_of c.loop-thread.self.core) (fields_of c.place_at-place.new.self.core) c.loop-thread.invariant.1 c.place_at-place.ensures.same,
   λ thread less. by thread (cases_lt thread c.loop-thread.thread) less,
 )
   where
-    here : NotByThread c.args.self.now.core.job (core_at c.args.self.now.core) c.args.how c.loop-thread.thread
+    here : NotByThread (job_of c.args.self.now.core) (state_of c.args.self.now.core) c.args.how c.loop-thread.thread
     here =
-        same-old (λ (j : Job) (k : Core). NotByThread j k c.args.how c.loop-thread.thread) c.args.self.now.core c.loop-thread.self.core c.loop-thread.invariant.1
+        same-old (λ (j : Job) (k : Core). NotByThread j k c.args.how c.loop-thread.thread) (fields_of c.args.self.now.core) (fields_of c.loop-thread.self.core) c.loop-thread.invariant.1
         (c.place_at-place.ensures.none (none-of c.place_at-place.result (sym c.is_some.ensures ∙ c.if-is_some.false)))
 
-    by : (thread : ℕ) → (thread < c.loop-thread.thread) ⊎ (c.loop-thread.thread ≤ thread) → thread < c.loop-thread.thread + 1 → NotByThread c.args.self.now.core.job (core_at c.args.self.now.core) c.args.how thread
+    by : (thread : ℕ) → (thread < c.loop-thread.thread) ⊎ (c.loop-thread.thread ≤ thread) → thread < c.loop-thread.thread + 1 → NotByThread (job_of c.args.self.now.core) (state_of c.args.self.now.core) c.args.how thread
     by thread (inl less) low = c.loop-thread.invariant.2 thread less
-    by thread (inr most) low = let same : thread ≡ c.loop-thread.thread = omega arith in subst (NotByThread c.args.self.now.core.job (core_at c.args.self.now.core) c.args.how) (sym same) here
+    by thread (inr most) low = let same : thread ≡ c.loop-thread.thread = omega arith in subst (NotByThread (job_of c.args.self.now.core) (state_of c.args.self.now.core) c.args.how) (sym same) here
 
 pub returns-then-ends_scrub-clause-some : goal.returns-then-ends_scrub-clause-some
 returns-then-ends_scrub-clause-some c =
-    same-old (λ (j : Job) (k : Core). (may_scrub k ≡ true) × EndsScrub k c.args.how) c.args.self.now.core c.loop-thread.self.core c.loop-thread.invariant.1 (c.ends_scrub.ensures.0 c.if-ends_scrub.true)
+    same-old (λ (j : Job) (k : Core). (may_scrub k ≡ true) × EndsScrub k c.args.how) (fields_of c.args.self.now.core) (fields_of c.loop-thread.self.core) c.loop-thread.invariant.1 (c.ends_scrub.ensures.0 c.if-ends_scrub.true)
 
 pub returns-clause-none : goal.returns-clause-none
 returns-clause-none c none = record {
   threads = λ thread low. c.loop-thread.invariant.2 thread (let ended = c.loop-thread-test.false in omega (arith, ended));
-  scrub = same-old (λ (j : Job) (k : Core). may_scrub k ≡ true → EndsScrub k c.args.how → ⊥) c.args.self.now.core c.loop-thread.self.core c.loop-thread.invariant.1
+  scrub = same-old (λ (j : Job) (k : Core). may_scrub k ≡ true → EndsScrub k c.args.how → ⊥) (fields_of c.args.self.now.core) (fields_of c.loop-thread.self.core) c.loop-thread.invariant.1
       (λ may ends. true≢false (sym (c.ends_scrub.ensures.1 (may, ends)) ∙ c.if-ends_scrub.false));
 }

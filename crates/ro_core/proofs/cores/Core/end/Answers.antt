@@ -1,36 +1,23 @@
-use Rattle.std.proofs.Common.{refl, sym, ap, ◌∙◌, subst}
-use Rattle.ro_journal.specs.declared.Entry.TheVariants.{End}
-use Rattle.ro_legal.specs.Legal.{IsAllowed, output_of, replay}
-use Rattle.ro_legal.specs.Action.{IsNext}
-use Rattle.ro_core.specs.Seen.{CoreOf, state, EndsNow, Appends, Quiet}
-use Rattle.ro_core.specs.Runs.{fields_of, job_of}
-use Rattle.ro_core.proofs.Failing.{end-comes, end-sends}
-use Rattle.ro_core.proofs.Held.{with-old}
+use Rattle.std.proofs.Common.{refl, arith}
+use Rattle.ro_core.specs.Runs.{fields_of}
+use Rattle.ro_core.proofs.Ends.{end-not-over, end-allowed, end-took, end-room, end-counts, end-holds}
 use Rattle.ro_core.proofs.cores.Core.end.Goals as goal
 
-pub end-requires-clause-now : goal.end-requires-clause-now
-end-requires-clause-now g c =
-    end-comes (fields_of c.self.inside.run) c.self.inside.failed c.self.invariant.0 c.self.invariant.1 c.args.how (subst (λ (v : CoreOf). EndsNow v.job (state v) c.args.how) (sym c.self.view_is) c.requires)
+pub sent_behind-self-requires : goal.sent_behind-self-requires
+sent_behind-self-requires c = record { wrote = end-took (fields_of c.args.self.now) c.requires.holds c.args.how c.requires.now }
 
-pub returns-clause-entry : goal.returns-clause-entry
-returns-clause-entry g c =
-    let how = c.args.how in
-    let a = c.end.ensures.appends in (
-      subst (λ (v : CoreOf). IsAllowed v.job (replay v.job v.journal) (End how)) c.self.view_is c.end.ensures.allowed.0,
-      subst (λ (v : CoreOf). IsNext v.job (replay v.job v.journal) (End how)) c.self.view_is c.end.ensures.allowed.1,
-      with-old (λ old new. Appends old new (End how)) c.self.view_is (record { job = a.job; journal = a.journal }),
-    )
+pub push_reserved-requires : goal.push_reserved-requires
+push_reserved-requires c = let room = end-room (fields_of c.args.self.now) c.requires.holds c.args.how c.requires.now in omega arith
 
-pub returns-clause-quiet : goal.returns-clause-quiet
-returns-clause-quiet g c =
-    let run = c.self.inside.run in
-    let a = c.end.ensures.appends in
-    let ends = subst (λ (v : CoreOf). EndsNow v.job (state v) c.args.how) (sym c.self.view_is) c.requires in
-    with-old Quiet c.self.view_is (record {
-      failed = refl;
-      sent = ap (λ j. output_of j c.end.new.self.journal.items) a.job ∙ ap (output_of (job_of run)) a.journal
-          ∙ end-sends (fields_of run) c.self.inside.failed c.self.invariant.0 c.self.invariant.1 c.args.how ends;
-      held = refl;
-      failures = refl;
-      sure = refl;
-    })
+pub returns-clause-holds : goal.returns-clause-holds
+returns-clause-holds c =
+    let f = fields_of c.args.self.now in
+    let room = end-room f c.requires.holds c.args.how c.requires.now in
+    end-holds f c.requires.holds c.args.how c.requires.now _ (end-counts f c.requires.holds c.args.how c.requires.now c.sent_behind-self.result c.sent_behind-self.ensures.cut c.sent_behind-self.ensures.whole) refl refl refl refl refl refl refl refl refl refl refl refl
+    c.push_reserved.ensures.items (omega (arith, room, c.push_reserved.ensures.len, c.push_reserved.ensures.capacity))
+
+pub returns-clause-allowed : goal.returns-clause-allowed
+returns-clause-allowed c =
+    let f = fields_of c.args.self.now in
+    let allowed = end-allowed f c.requires.holds c.args.how c.requires.now in
+    ((end-not-over f c.requires.holds c.args.how c.requires.now, allowed.0), allowed.1)

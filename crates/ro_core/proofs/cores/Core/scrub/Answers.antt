@@ -1,33 +1,61 @@
-use Rattle.std.proofs.Common.{sym, ap, ◌∙◌, subst}
-use Rattle.std.proofs.lemmas.Result.{IfOk-weaker, on_ok_weaker, on_err_weaker}
-use Rattle.ro_legal.specs.Core.{Core}
-use Rattle.ro_legal.specs.Legal.{IsAllowed, may_scrub}
+use Rattle.std.proofs.Common.{◌≡◌, ◌≤◌, ◌++◌, ◌∷◌, [], List, Option, length, map, refl, sym, ap, ◌∙◌, subst}
+use Rattle.std.proofs.lemmas.Result.{IfOk-weaker}
+use Rattle.ro_journal.specs.declared.How.{How}
+use Rattle.ro_journal.specs.declared.Entry.{Entry}
+use Rattle.ro_journal.specs.declared.Entry.TheVariants.{End}
+use Rattle.ro_journal.specs.Losers.{numbers}
+use Rattle.ro_vote.specs.Prevails.{Prevails, NonePrevails}
+use Rattle.ro_event.specs.Views.{View}
+use Rattle.ro_replica.specs.Seen.{ReplicaOf}
+use Rattle.ro_legal.specs.Legal.{IsAllowed, MayEnd}
 use Rattle.ro_legal.specs.Decides.{DecidesScrub}
-use Rattle.ro_core.specs.Seen.{CoreOf, state, Appends, Quiet, Stays}
-use Rattle.ro_core.specs.Runs.{fields_of, job_of}
-use Rattle.ro_core.proofs.Failing.{at-state, scrub-calm, quiet-same, stays-with}
-use Rattle.ro_core.proofs.Held.{with-old}
+use Rattle.ro_core.specs.Fields.{Fields, AreAllTwins, split_end}
+use Rattle.ro_core.specs.Seated.{seat_snapshot}
+use Rattle.ro_core.specs.Seen.{KeepsViews, Appends}
+use Rattle.ro_core.specs.Runs.{fields_of, state_of, silent}
+use Rattle.ro_core.proofs.Scrubs.{scrub-few, scrub-twins, scrub-won, scrub-none, scrub-not-over, scrub-ends, scrub-may-end, scrub-keeps}
 use Rattle.ro_core.proofs.cores.Core.scrub.Goals as goal
 
-pub scrub-requires-clause-may : goal.scrub-requires-clause-may
-scrub-requires-clause-may g c = (scrub-calm (fields_of c.self.inside.run) c.self.inside.failed (ap (λ (v : CoreOf). may_scrub (state v)) c.self.view_is ∙ c.requires)).1
+pub prevailing-requires-clause-few : goal.prevailing-requires-clause-few
+prevailing-requires-clause-few c = subst (λ (xs : List (Option ReplicaOf)). length xs ≤ 5) (sym c.as_slice.ensures.value) (scrub-few (fields_of c.args.self.now) c.requires.holds c.requires.may)
 
-pub returns-clause-entry : goal.returns-clause-entry
-returns-clause-entry g c =
-    let f = fields_of c.self.inside.run in
-    let failed = c.self.inside.failed in
-    let calm = (scrub-calm f failed (ap (λ (v : CoreOf). may_scrub (state v)) c.self.view_is ∙ c.requires)).0 in
-    IfOk-weaker c.scrub.result _ _ (λ entry x. (
-      subst (λ (v : CoreOf). IsAllowed v.job (state v) entry) c.self.view_is (at-state f failed (λ (k : Core). IsAllowed f.job k entry) calm x.0),
-      subst (λ (v : CoreOf). DecidesScrub (state v) entry) c.self.view_is (at-state f failed (λ (k : Core). DecidesScrub k entry) calm x.1),
-      with-old (λ old new. Appends old new entry) c.self.view_is (record { job = x.2.job; journal = x.2.journal }),
-    )) c.scrub.ensures.entry
+pub prevailing-requires-clause-twins : goal.prevailing-requires-clause-twins
+prevailing-requires-clause-twins c = subst AreAllTwins (sym c.as_slice.ensures.value) (scrub-twins (fields_of c.args.self.now) c.requires.holds c.requires.may)
 
-pub returns-clause-quiet : goal.returns-clause-quiet
-returns-clause-quiet g c =
-    let run = c.self.inside.run in
-    let calm = (scrub-calm (fields_of run) c.self.inside.failed (ap (λ (v : CoreOf). may_scrub (state v)) c.self.view_is ∙ c.requires)).0 in
-    on_ok_weaker c.scrub.result (λ x. with-old Quiet c.self.view_is (quiet-same run c.scrub.new.self c.self.inside.failed (g.K.Sink.held c.self.inside.out) (g.K.Sink.failures c.self.inside.out) (g.K.Sink.sure c.self.inside.out) calm x)) c.scrub.ensures.output
+pub clean-requires : goal.clean-requires
+clean-requires c = record {
+  scrubbed = scrub-won (fields_of c.args.self.now) c.requires.holds c.requires.may c.in-Some.won.won c.in-Some.won.lost
+      (subst (λ (xs : List (Option ReplicaOf)). Prevails (map (seat_snapshot c.args.self.now.kernel.kernel) xs) c.in-Some.won.won (numbers c.in-Some.won.lost)) c.as_slice.ensures.value c.in-Some.ensures.won);
+}
 
-pub returns-clause-err : goal.returns-clause-err
-returns-clause-err g c = on_err_weaker c.scrub.result (λ s. with-old Stays c.self.view_is (stays-with c.self.inside.run c.scrub.new.self s c.self.inside.failed (g.K.Sink.held c.self.inside.out) (g.K.Sink.failures c.self.inside.out) (g.K.Sink.sure c.self.inside.out))) c.scrub.ensures.err
+pub conclude-requires-clause-holds : goal.conclude-requires-clause-holds
+conclude-requires-clause-holds c = (c.args.self.now.views.items, c.requires.holds)
+
+pub conclude-requires-clause-allowed : goal.conclude-requires-clause-allowed
+conclude-requires-clause-allowed c =
+    let f : Fields = fields_of c.args.self.now in
+    let none = scrub-none f c.requires.holds c.requires.may (subst (λ (xs : List (Option ReplicaOf)). NonePrevails (map (seat_snapshot c.args.self.now.kernel.kernel) xs)) c.as_slice.ensures.value (c.in-None.ensures.none refl)) in
+    subst (MayEnd f.job (state_of c.args.self.now)) (sym (c.split_of-how.ensures ∙ ap split_end (c.len.ensures ∙ c.args.self.now.seats.homes.ok.0))) (scrub-may-end f c.requires.holds c.requires.may none)
+
+pub conclude-requires-clause-views : goal.conclude-requires-clause-views
+conclude-requires-clause-views c =
+    let f : Fields = fields_of c.args.self.now in
+    let none = scrub-none f c.requires.holds c.requires.may (subst (λ (xs : List (Option ReplicaOf)). NonePrevails (map (seat_snapshot c.args.self.now.kernel.kernel) xs)) c.as_slice.ensures.value (c.in-None.ensures.none refl)) in
+    subst (λ (vs : List View). KeepsViews f.job (f.journal ++ End c.split_of-how.result ∷ []) vs) (sym c.clear.ensures.items)
+    (subst (λ (how : How). KeepsViews f.job (f.journal ++ End how ∷ []) []) (sym (c.split_of-how.ensures ∙ ap split_end (c.len.ensures ∙ c.args.self.now.seats.homes.ok.0))) (scrub-keeps f c.requires.holds c.requires.may none))
+
+pub returns-in-None-clause-entry : goal.returns-in-None-clause-entry
+returns-in-None-clause-entry c =
+    let f : Fields = fields_of c.args.self.now in
+    let none = scrub-none f c.requires.holds c.requires.may (subst (λ (xs : List (Option ReplicaOf)). NonePrevails (map (seat_snapshot c.args.self.now.kernel.kernel) xs)) c.as_slice.ensures.value (c.in-None.ensures.none refl)) in
+    let how : c.split_of-how.result ≡ split_end (length f.seats) = c.split_of-how.ensures ∙ ap split_end (c.len.ensures ∙ c.args.self.now.seats.homes.ok.0) in (
+      subst (IsAllowed f.job (state_of c.args.self.now)) (sym (c.conclude.ensures.entry ∙ ap (λ (h : How). End h) how)) (scrub-not-over f c.requires.holds c.requires.may, scrub-may-end f c.requires.holds c.requires.may none),
+      subst (DecidesScrub (state_of c.args.self.now)) (sym (c.conclude.ensures.entry ∙ ap (λ (h : How). End h) how)) (scrub-ends f c.requires.holds c.requires.may none),
+      subst (λ (e : Entry). Appends (silent c.args.self.now) (silent c.conclude.new.self) e) (sym c.conclude.ensures.entry) (record { job = c.conclude.ensures.appends.job; journal = c.conclude.ensures.appends.journal }),
+    )
+
+pub returns-in-None-clause-no_views : goal.returns-in-None-clause-no_views
+returns-in-None-clause-no_views c split = c.conclude.ensures.views ∙ c.clear.ensures.items
+
+pub returns-in-Some-clause-no_views : goal.returns-in-Some-clause-no_views
+returns-in-Some-clause-no_views c = IfOk-weaker c.clean.result _ _ (λ entry none split. absurd (none split)) c.clean.ensures.won

@@ -1,32 +1,43 @@
-use Rattle.std.proofs.Common.{sym, subst}
-use Rattle.ro_journal.specs.declared.Entry.TheVariants.{Take}
-use Rattle.ro_legal.specs.Legal.{MayTake}
-use Rattle.ro_core.specs.Seen.{CoreOf, state, Appends, Quiet, HasRoom, IsLent}
-use Rattle.ro_core.specs.Runs.{fields_of, job_of}
-use Rattle.ro_core.proofs.Failing.{take-calm, room-silent, lent-with, quiet-same}
-use Rattle.ro_core.proofs.Held.{with-old}
+use Rattle.std.proofs.Common.{length, refl, ap, ◌∙◌, arith}
+use Rattle.ro_legal.specs.Legal.{output_of}
+use Rattle.ro_core.specs.Fields.{Fields}
+use Rattle.ro_core.specs.Runs.{fields_of}
+use Rattle.ro_core.proofs.Takes.{spare_parts, take-seat, take-holds, take-lent, take-going, take-countable, take-output}
 use Rattle.ro_core.proofs.cores.Core.take.Goals as goal
 
-pub take-requires-clause-allowed : goal.take-requires-clause-allowed
-take-requires-clause-allowed g c =
-    (take-calm (fields_of c.self.inside.run) c.self.inside.failed c.args.driver c.args.replica c.args.thread (subst (λ (v : CoreOf). MayTake v.job (state v) c.args.driver c.args.replica c.args.thread) (sym c.self.view_is) c.requires.allowed)).1
+pub push_reserved-requires : goal.push_reserved-requires
+push_reserved-requires c = let f = fields_of c.args.self.now in let parts = spare_parts _ f.places f.lease_places c.requires.room in omega (arith, parts.0)
 
-pub take-requires-clause-room : goal.take-requires-clause-room
-take-requires-clause-room g c =
-    room-silent c.self.inside.run c.self.inside.failed (g.K.Sink.held c.self.inside.out) (g.K.Sink.failures c.self.inside.out) (g.K.Sink.sure c.self.inside.out) (subst HasRoom (sym c.self.view_is) c.requires.room)
+pub lend-requires : goal.lend-requires
+lend-requires c = let f = fields_of c.args.self.now in let parts = spare_parts _ f.places f.lease_places c.requires.room in omega (arith, parts.1)
 
-pub returns-clause-entry : goal.returns-clause-entry
-returns-clause-entry g c =
-    let a = c.take.ensures.entry in
-    with-old (λ old new. Appends old new (Take c.args.driver c.args.replica c.args.thread)) c.self.view_is (record { job = a.job; journal = a.journal })
+pub leave-requires : goal.leave-requires
+leave-requires c = take-seat (fields_of c.args.self.now) c.requires.holds c.args.driver c.args.replica c.args.thread c.requires.allowed
 
-pub returns-clause-quiet : goal.returns-clause-quiet
-returns-clause-quiet g c =
-    let run = c.self.inside.run in
-    let calm = (take-calm (fields_of run) c.self.inside.failed c.args.driver c.args.replica c.args.thread (subst (λ (v : CoreOf). MayTake v.job (state v) c.args.driver c.args.replica c.args.thread) (sym c.self.view_is) c.requires.allowed)).0 in
-    with-old Quiet c.self.view_is (quiet-same run c.take.new.self c.self.inside.failed (g.K.Sink.held c.self.inside.out) (g.K.Sink.failures c.self.inside.out) (g.K.Sink.sure c.self.inside.out) calm c.take.ensures.output)
+pub returns-clause-holds : goal.returns-clause-holds
+returns-clause-holds c =
+    let f : Fields = fields_of c.args.self.now in
+    let h = c.requires.holds in
+    let parts = spare_parts _ f.places f.lease_places c.requires.room in
+    let same = ap length h.leases_are in
+    take-holds f h c.args.driver c.args.replica c.args.thread c.requires.allowed _ (record { job = refl; kernel = refl; blocked = refl; unblocked = refl; steps = refl; scrubbed = refl; streak = refl; sent = refl; due = refl; ended = refl; views = refl }) refl
+    c.push_reserved.ensures.items c.lend.ensures.items c.leave.ensures.homes c.leave.ensures.groups
+    (omega (arith, parts.0, same, c.push_reserved.ensures.len, c.push_reserved.ensures.capacity))
+
+pub returns-clause-output : goal.returns-clause-output
+returns-clause-output c =
+    let f : Fields = fields_of c.args.self.now in
+    ap (output_of f.job) c.push_reserved.ensures.items ∙ take-output f.job f.journal c.args.driver c.args.replica c.args.thread
 
 pub returns-clause-lent : goal.returns-clause-lent
-returns-clause-lent g c =
-    subst (λ (v : CoreOf). IsLent v c.args.replica c.args.thread c.take.result) c.self.view_is
-    (lent-with c.self.inside.run c.self.inside.failed (g.K.Sink.held c.self.inside.out) (g.K.Sink.failures c.self.inside.out) (g.K.Sink.sure c.self.inside.out) c.args.replica c.args.thread c.take.result c.take.ensures.lent)
+returns-clause-lent c =
+    let f : Fields = fields_of c.args.self.now in
+    let h = c.requires.holds in
+    let there = c.leave.ensures.replica in
+    let lent = take-lent f h c.args.driver c.args.replica c.args.thread c.requires.allowed c.leave.result there in
+    record {
+      program = lent.0;
+      replica = lent.1;
+      going = take-going f h c.args.driver c.args.replica c.args.thread c.requires.allowed c.leave.result there;
+      countable = take-countable f h c.args.driver c.args.replica c.args.thread c.requires.allowed c.leave.result there (omega (arith, c.args.self.now.journal.ok.0));
+    }

@@ -3,10 +3,10 @@ use Rattle.std.proofs.Common.{rules}
 use Rattle.ro_event.proofs.Same.{same_view-decides}
 use Rattle.ro_event.proofs.views.View.same.Goals as goal
 
-pub returns-then-eq-2-clause-test : goal.returns-then-eq-2-clause-test
-returns-then-eq-2-clause-test c =
-    same_view-decides c.eq-then-eq-2.result c.args.self.now c.args.other.now (search rules)
+pub returns-then-stands_like-clause-test : goal.returns-then-stands_like-clause-test
+returns-then-stands_like-clause-test c =
+    same_view-decides c.eq.result c.args.self.now c.args.other.now (search rules)
 
-pub returns-else-eq-2-clause-test : goal.returns-else-eq-2-clause-test
-returns-else-eq-2-clause-test c =
-    same_view-decides c.if-self-other-2.value c.args.self.now c.args.other.now (search rules)
+pub returns-else-stands_like-clause-test : goal.returns-else-stands_like-clause-test
+returns-else-stands_like-clause-test c =
+    same_view-decides c.stands_like.result c.args.self.now c.args.other.now (search rules)

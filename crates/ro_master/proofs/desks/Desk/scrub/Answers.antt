@@ -4,8 +4,8 @@ use Rattle.ro_legal.specs.Action.{next_action}
 use Rattle.ro_core.specs.Seen.{state}
 use Rattle.ro_legal.proofs.Nexts.{scrub_next}
 use Rattle.ro_master.specs.Desks.{DeskOf}
-use Rattle.ro_core.proofs.Deciding.{scrub_going}
-use Rattle.ro_core.proofs.LastViews.{going_open}
+use Rattle.ro_master.proofs.Deciding.{scrub_going}
+use Rattle.ro_master.proofs.LastViews.{going_open}
 use Rattle.ro_master.proofs.Tying.{tied_scrub, tied_stay}
 use Rattle.ro_master.proofs.desks.Desk.scrub.Goals as goal
 

@@ -1,0 +1,43 @@
+use Rattle.std.proofs.Common.{◌+◌, ◌++◌, ◌∷◌, [], length, refl, ap, ◌∙◌, arith}
+use Rattle.ro_core.proofs.Occurring.{occurs-few, occurs-can, occurs-thread, occurs-threads, occurs-seats, occurs-steps, occurs-short, occurs-sent, occurs-holds, occurs-wrote}
+use Rattle.ro_core.proofs.cores.Core.occur.Goals as goal
+
+pub apply-requires-clause-few : goal.apply-requires-clause-few
+apply-requires-clause-few c = occurs-seats _ _ c.requires.can
+
+pub apply-requires-clause-can : goal.apply-requires-clause-can
+apply-requires-clause-can c = occurs-can _ _ c.requires.can
+
+pub apply-requires-clause-thread : goal.apply-requires-clause-thread
+apply-requires-clause-thread c = occurs-thread _ _ c.requires.can
+
+pub apply-requires-clause-threads : goal.apply-requires-clause-threads
+apply-requires-clause-threads c = occurs-threads _ _ c.requires.can
+
+pub bounds-self-thread : goal.bounds-self-thread
+bounds-self-thread c = occurs-few _ _ c.requires.can
+
+pub bounds-self-thread-2 : goal.bounds-self-thread-2
+bounds-self-thread-2 c = occurs-few _ _ c.requires.can
+
+pub push_reserved-requires : goal.push_reserved-requires
+push_reserved-requires c = let room = c.requires.can.amid.room in omega arith
+
+pub overflow_add-self : goal.overflow_add-self
+overflow_add-self c = let steps = occurs-steps _ _ c.requires.can in let range = c.requires.can.holds.in_range.limit in omega arith
+
+pub overflow_cast-self : goal.overflow_cast-self
+overflow_cast-self c = let few = occurs-short _ _ c.requires.can in let long = ap length c.payload-written.ensures in omega arith
+
+pub overflow_add-self-2 : goal.overflow_add-self-2
+overflow_add-self-2 c = let sent = occurs-sent _ _ c.requires.can in let long = ap length c.payload-written.ensures in omega arith
+
+pub returns-clause-holds : goal.returns-clause-holds
+returns-clause-holds c =
+    let can = c.requires.can in
+    let stands = c.apply.ensures.stands can.before.job can.replicas can.stands can.made can.wait in
+    occurs-holds _ _ can _ can.amid.job (c.push_reserved.ensures.items ∙ ap (λ js. js ++ c.args.occurrence.entry ∷ []) can.amid.journal) refl
+    stands.home stands.grouped can.amid.leases refl refl c.lowest_unblocked-self.ensures refl refl c.after_event-streak.ensures can.amid.ended can.amid.views (ap (λ xs. c.args.self.now.sent + length xs) c.payload-written.ensures) (ap (λ xs. length xs) c.payload-written.ensures) (let room = can.amid.room in omega (arith, c.push_reserved.ensures.len, c.push_reserved.ensures.capacity))
+
+pub returns-clause-wrote : goal.returns-clause-wrote
+returns-clause-wrote c = let can = c.requires.can in occurs-wrote _ _ can _ can.amid.job (c.push_reserved.ensures.items ∙ ap (λ js. js ++ c.args.occurrence.entry ∷ []) can.amid.journal) refl

@@ -1,8 +1,0 @@
-use Rattle.ro_core.proofs.Turns.{goes_none, goes_on}
-use Rattle.ro_core.proofs.laws.going_on.Goals as goal
-
-pub returns-clause-none : goal.returns-clause-none
-returns-clause-none c = goes_none
-
-pub returns-clause-twice : goal.returns-clause-twice
-returns-clause-twice c = goes_on

@@ -7,7 +7,7 @@ ghost use Rattle.ro_legal.specs.Event.{event_of, quiet_effect, call_event};
 ghost use Rattle.ro_core.specs.Fields.{outcome_with};
 ghost use Rattle.ro_core.specs.Happening.{event_by, IsCause, IsEvent, IsCallEvent};
 
-use ro_event::{Call, Effect, Goes, Stop};
+use ro_event::{Call, Effect, Stop};
 use ro_journal::{Did, How};
 use ro_kernel::{Kernel, Served};
 use std::alloc::{AllocError, Global};
@@ -192,13 +192,8 @@ fn quiet_effect(alloc: Global, thread: u32, page: Option<u32>, releases: bool) -
     ensures { result ≡ quiet_effect thread page releases }
 {
     Effect {
-        thread,
-        answer: None,
-        goes: Goes::Stays,
-        place: 0,
-        bytes: Vec::new(alloc),
         page,
-        made: None,
         releases,
+        ..Effect::quiet(alloc, thread)
     }
 }

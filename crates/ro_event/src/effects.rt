@@ -1,5 +1,8 @@
 //! What a served call changes.
+ghost use Rattle.std.specs.Prelude.{◌≡◌};
+ghost use Rattle.ro_event.specs.Effects.{storing, quiet};
 
+use std::alloc::Global;
 use std::marker::Model;
 
 /// Where a thread goes on after an effect.
@@ -49,4 +52,29 @@ impl Model for Effect {
     ghost Value = { EffectOf };
 
     ghost view = { λ e. record { thread = e.thread; answer = e.answer; goes = e.goes; place = e.place; bytes = e.bytes.items; page = e.page; made = e.made; releases = e.releases } };
+}
+
+impl Effect {
+    /// Bytes are stored at an address, the thread's stop goes, and all else stays.
+    pub fn storing(thread: u32, place: u32, bytes: Vec<u8>) -> Effect
+        ensures { result ≡ storing thread place bytes.items }
+    {
+        Effect {
+            thread,
+            answer: None,
+            goes: Goes::Stays,
+            place,
+            bytes,
+            page: None,
+            made: None,
+            releases: true,
+        }
+    }
+
+    /// The thread's stop goes, and all else stays.
+    pub fn quiet(alloc: Global, thread: u32) -> Effect
+        ensures { result ≡ quiet thread }
+    {
+        Effect::storing(thread, 0, Vec::new(alloc))
+    }
 }

@@ -6,7 +6,8 @@ use Rattle.ro_event.specs.declared.calls.Which.{Which}
 use Rattle.ro_event.specs.declared.calls.Which.TheVariants.{System, Function}
 use Rattle.ro_event.specs.declared.functions.Function.TheVariants.{Create, Join, Exit, ThreadSelf, MutexInit, MutexDestroy, Lock, TryLock, Unlock, ConditionInit, ConditionDestroy, Wait, Signal, Broadcast}
 use Rattle.ro_event.specs.declared.calls.Call.{Call}
-use Rattle.ro_event.specs.declared.effects.Goes.TheVariants.{Stays, Returns}
+use Rattle.ro_event.specs.declared.effects.Goes.TheVariants.{Returns}
+use Rattle.ro_event.specs.Effects.{storing, quiet}
 use Rattle.ro_region.specs.declared.Kind.TheVariants.{Write}
 use Rattle.ro_region.specs.Permission.{permits_of}
 use Rattle.ro_pages.specs.Bytes.{bytes_of}
@@ -52,29 +53,15 @@ pub data Shape (setup : Setup) (kernel : Kernel) (u : ℕ) (call : Call) : Serve
   -- a wait ends, and has its mutex back
   resumes : call.which ≡ Function Wait → (waiter : Waiter) → wait_of kernel.waiters u ≡ Some waiter → (waiter.signalled && is_free (owner_of kernel.owners call.a1)) ≡ true → Shape setup kernel u call (ends_wait kernel u call)
   -- a thread is made
-  makes : fits setup.ranges call.a0 ≡ true → nat_le 16 (length kernel.lives) ≡ false → Shape setup kernel u call (Done (record kernel { lives = kernel.lives ++ Live ∷ [] }) (record {
-    thread = u;
+  makes : fits setup.ranges call.a0 ≡ true → nat_le 16 (length kernel.lives) ≡ false → Shape setup kernel u call (Done (record kernel { lives = kernel.lives ++ Live ∷ [] }) (record (storing u call.a0 (bytes_of 4 (length kernel.lives))) {
     answer = Some 0;
     goes = Returns;
-    place = call.a0;
-    bytes = bytes_of 4 (length kernel.lives);
-    page = None;
     made = Some (record { start = call.a2; argument = call.a3; creator = u });
-    releases = true;
   }))
   -- a thread that has exited is joined
   joins : (value : ℕ) → slice_get kernel.lives call.a0 ≡ Some (Exited value) → (not (call.a1 == 0) && not (fits setup.ranges call.a1)) ≡ false → Shape setup kernel u call (joined setup kernel u call value)
   -- the thread exits, and others live on
-  leaves : Shape setup kernel u call (Done (record kernel { lives = slice_set kernel.lives u (Exited call.a0) }) (record {
-    thread = u;
-    answer = None;
-    goes = Stays;
-    place = 0;
-    bytes = [];
-    page = None;
-    made = None;
-    releases = true;
-  }))
+  leaves : Shape setup kernel u call (Done (record kernel { lives = slice_set kernel.lives u (Exited call.a0) }) (quiet u))
   -- it blocks
   waits : IsWaiting kernel u call.which → Shape setup kernel u call Blocked
   -- the program exits, by a call or with its last thread

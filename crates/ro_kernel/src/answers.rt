@@ -29,14 +29,9 @@ pub fn stores(thread: u32, call: Call, value: u32, place: u32, bytes: Vec<u8>) -
     ensures { result ≡ Served.Done (stores_effect thread call value place bytes.items) }
 {
     Served::Done(Effect {
-        thread,
         answer: Some(value),
         goes: goes_after(call.which),
-        place,
-        bytes,
-        page: None,
-        made: None,
-        releases: true,
+        ..Effect::storing(thread, place, bytes)
     })
 }
 

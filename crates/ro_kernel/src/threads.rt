@@ -32,18 +32,14 @@ impl Kernel {
         let bytes = word_bytes(self.alloc, number)?;
         self.lives.push(Life::Live)?;
         Ok(Served::Done(Effect {
-            thread,
             answer: Some(0),
             goes: Goes::Returns,
-            place: call.a0,
-            bytes,
-            page: None,
             made: Some(Made {
                 start: call.a2,
                 argument: call.a3,
                 creator: thread,
             }),
-            releases: true,
+            ..Effect::storing(thread, call.a0, bytes)
         }))
     }
 
@@ -104,15 +100,6 @@ impl Kernel {
         if !self.any_live() {
             return Served::Ends(How::Exit(0));
         }
-        Served::Done(Effect {
-            thread,
-            answer: None,
-            goes: Goes::Stays,
-            place: 0,
-            bytes: Vec::new(self.alloc),
-            page: None,
-            made: None,
-            releases: true,
-        })
+        Served::Done(Effect::quiet(self.alloc, thread))
     }
 }

@@ -75,14 +75,8 @@ const FAULTS: [Fault; 2] = [
 // An effect of the first thread that stores bytes, and ends the count since its last release.
 fn stores(place: u32, bytes: Vec<u8>) -> Effect {
     Effect {
-        thread: 0,
-        answer: None,
-        goes: Goes::Stays,
-        place,
-        bytes,
-        page: None,
-        made: None,
         releases: false,
+        ..Effect::storing(0, place, bytes)
     }
 }
 

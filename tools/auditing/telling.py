@@ -5,10 +5,11 @@ from auditing.jobs import Entry, Fault
 from auditing.kernel import Call
 from auditing.reasons import core_behind, reason_of
 from auditing.replicas import PageFault, Stop, Trap, Watchdog
+from fuzzing import readers
 from journals import Vote
 from racing.symbols import REGISTERS
 
-LEFT_OUT = "function", "instruction"  # what a file's symbols and words tell
+LEFT_OUT = "function", "instruction"  # what a file's symbols of functions and its words tell
 
 WORDS = {  # of the parts of a view
     "pc": "the pc", "since": "the instructions since the last vote", "stop": "what it stands at", "payload": "what is written"}
@@ -101,9 +102,25 @@ def waiting_told(core: Core, thread: int) -> dict:
     if call.which == "pthread_join":
         return {"thread": thread, "state": "joins", "other": call.a0}
     if call.which == "pthread_cond_wait":
-        return {"thread": thread, "state": "waits", "condition": call.a0, "signalled": core.kernel.waiter(thread).signalled,
-                "mutex": call.a1, "owner": core.kernel.owners[call.a1]}
-    return {"thread": thread, "state": "locks", "mutex": call.a0, "owner": core.kernel.owners[call.a0]}
+        return {"thread": thread, "state": "waits", **variable_told(core, "condition", call.a0),
+                "signalled": core.kernel.waiter(thread).signalled, **variable_told(core, "mutex", call.a1),
+                "owner": core.kernel.owners[call.a1]}
+    return {"thread": thread, "state": "locks", **variable_told(core, "mutex", call.a0), "owner": core.kernel.owners[call.a0]}
+
+
+def variable_told(core: Core, which: str, address: int) -> dict:
+    """The address of a mutex or a condition variable, and the object of the file's symbols that it lies in."""
+    found = readers.object_at(core.job.file, address)
+    return {which: address, f"{which}_object": {"name": found[0], "offset": found[1]} if found else None}
+
+
+def variable_words(told: dict, which: str) -> str:
+    """The same in a sentence."""
+    found = told[f"{which}_object"]
+    if found is None:
+        return f"{told[which]:08x}"
+    behind = f"+{found['offset']:x}" if found["offset"] else ""
+    return f"{told[which]:08x} ({found['name']}{behind})"
 
 
 def waiting_line(core: Core, thread: int) -> str:
@@ -114,9 +131,10 @@ def waiting_line(core: Core, thread: int) -> str:
         "exited": lambda: "has exited",
         "unblocked": lambda: "is not blocked",
         "joins": lambda: f"waits until thread {told['other']} has exited",
-        "locks": lambda: f"waits for the mutex at {told['mutex']:08x}{holds}",
-        "waits": lambda: (f"waits for the condition at {told['condition']:08x}, "
-                          f"{'' if told['signalled'] else 'not '}signalled, to hold the mutex at {told['mutex']:08x}{holds}"),
+        "locks": lambda: f"waits for the mutex at {variable_words(told, 'mutex')}{holds}",
+        "waits": lambda: (f"waits for the condition at {variable_words(told, 'condition')}, "
+                          f"{'' if told['signalled'] else 'not '}signalled, "
+                          f"to hold the mutex at {variable_words(told, 'mutex')}{holds}"),
     }
     return f"Thread {thread} {waits[told['state']]()}."
 

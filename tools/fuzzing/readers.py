@@ -83,24 +83,30 @@ def segments_code(data, headers):
     return next((code for code, holds in checks if not holds), None)
 
 
-def symbols_code(data):
-    """Where the functions of POSIX threads are, by their names; or the code, 16 or 17."""
+def symbols_of(data):
+    """The symbols of the first symbol table, and the strings that have their names; or the code 16."""
     place, size, count = word(data, 32), half(data, 46), half(data, 48)
     if place == 0 or count == 0:
-        return {}
+        return b"", b""
     if size != 40 or place + 40 * count > len(data):
         return 16
     sections = [struct.unpack_from("<10I", data, place + 40 * i)[1:8] for i in range(count)]
     table = next((section for section in sections if section[0] == 2), None)
     if table is None:
-        return {}
+        return b"", b""
     _, _, _, start, length, link, _ = table
     if start + length > len(data) or length % 16 or link >= count:
         return 16
     kind, _, _, texts, texts_length, _, _ = sections[link]
     if kind != 3 or texts + texts_length > len(data):
         return 16
-    return names_of(data[start:start + length], data[texts:texts + texts_length])
+    return data[start:start + length], data[texts:texts + texts_length]
+
+
+def symbols_code(data):
+    """Where the functions of POSIX threads are, by their names; or the code, 16 or 17."""
+    found = symbols_of(data)
+    return names_of(*found) if isinstance(found, tuple) else found
 
 
 def names_of(symbols, strings):
@@ -117,6 +123,17 @@ def names_of(symbols, strings):
     if any(len(found) > 1 for found in ours.values()) or len(addresses) < len(ours):
         return 17
     return {name: found.pop() for name, found in ours.items()}
+
+
+def object_at(data, address):
+    """The variable of an accepted file that an address lies in: its name, and how many bytes behind its start. None where
+    there is none, or it has no name."""
+    symbols, strings = symbols_of(data)
+    for name, value, size, info, _, section in struct.iter_unpack("<IIIBBH", symbols):
+        if info & 15 == 1 and section and value <= address < value + size:
+            text = strings[name:].split(b"\0")[0]
+            return ("".join(chr(byte) if 33 <= byte <= 126 else "?" for byte in text), address - value) if text else None
+    return None
 
 
 def executable_of(data):

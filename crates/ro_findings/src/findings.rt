@@ -82,7 +82,7 @@ pub struct ThreadFields {
 }
 
 /// For what a thread waits.
-#[derive(Clone, Copy, Debug, PartialEq, Eq, Serialize)]
+#[derive(Debug, PartialEq, Eq, Drop, Serialize)]
 pub struct Waiting {
     pub thread: u32,
     #[serde(flatten)]
@@ -90,21 +90,21 @@ pub struct Waiting {
 }
 
 /// What holds a thread up where no thread can go on.
-#[derive(Clone, Copy, Debug, PartialEq, Eq)]
+#[derive(Debug, PartialEq, Eq, Drop)]
 pub enum State {
     /// It has exited.
     Exited,
-    /// It waits for the mutex at an address, and which thread holds that.
+    /// It waits for this mutex, and which thread holds that.
     Locks {
-        mutex: u32,
+        mutex: Variable,
         owner: Option<u32>,
     },
-    /// It waits for the condition variable at an address, whether that was signalled to it, and then for the mutex at another,
-    /// and which thread holds that.
+    /// It waits for this condition variable, whether that was signalled to it, and then for this mutex, and which thread holds
+    /// that.
     Waits {
-        condition: u32,
+        condition: Variable,
         signalled: bool,
-        mutex: u32,
+        mutex: Variable,
         owner: Option<u32>,
     },
     /// It waits until this thread has exited.
@@ -120,28 +120,50 @@ pub enum State {
 pub struct Place {
     pub pc: u32,
     /// The function that holds it, if one is known.
-    pub function: Option<Function>,
+    pub function: Option<Symbol>,
 }
 
-/// A function, and how far behind its start an address is, in bytes.
+/// A mutex or a condition variable of a program.
+#[derive(Debug, PartialEq, Eq, Drop)]
+pub struct Variable {
+    pub address: u32,
+    /// The data object that holds it, if one is known.
+    pub object: Option<Symbol>,
+}
+
+/// A symbol's name, and how far behind its start an address is, in bytes.
 #[derive(Debug, PartialEq, Eq, Drop, Serialize)]
-pub struct Function {
+pub struct Symbol {
     pub name: String,
     pub offset: u32,
 }
 
 impl fmt::Display for Place {
     fn fmt<W: fmt::Write>(&self, f: &mut fmt::Formatter<W>) -> fmt::Result {
-        let pc = self.pc;
-        write!(f, "{pc:08x}")?;
-        match &self.function {
-            Some(function) => write!(f, " ({function})"),
-            None => Ok(()),
-        }
+        write_address(f, self.pc, &self.function)
     }
 }
 
-impl fmt::Display for Function {
+impl fmt::Display for Variable {
+    fn fmt<W: fmt::Write>(&self, f: &mut fmt::Formatter<W>) -> fmt::Result {
+        write_address(f, self.address, &self.object)
+    }
+}
+
+// An address, and behind it the symbol that holds it, if one is known.
+fn write_address<W: fmt::Write>(
+    f: &mut fmt::Formatter<W>,
+    address: u32,
+    symbol: &Option<Symbol>,
+) -> fmt::Result {
+    write!(f, "{address:08x}")?;
+    match symbol {
+        Some(symbol) => write!(f, " ({symbol})"),
+        None => Ok(()),
+    }
+}
+
+impl fmt::Display for Symbol {
     fn fmt<W: fmt::Write>(&self, f: &mut fmt::Formatter<W>) -> fmt::Result {
         let name = self.name.as_str();
         let offset = self.offset;

@@ -1,6 +1,6 @@
 //! What an audit finds, as JSON.
 use crate::findings::{
-    Differed, Ended, Field, Findings, Function, Instruction, Part, Place, Split, Standing, State,
+    Differed, Ended, Field, Findings, Instruction, Part, Place, Split, Standing, State, Symbol,
     ThreadFields, ThreadParts, Trapped,
 };
 use crate::lines::WithoutEnd;
@@ -301,8 +301,12 @@ impl Serialize for State {
         match self {
             State::Exited => write_named("state", "exited", &(), out),
             State::Locks { mutex, owner } => {
-                let (mutex, owner) = (*mutex, *owner);
-                write_named("state", "locks", &Locks { mutex, owner }, out)
+                let locks = Locks {
+                    mutex: mutex.address,
+                    mutex_object: mutex.object.as_ref(),
+                    owner: *owner,
+                };
+                write_named("state", "locks", &locks, out)
             }
             State::Waits {
                 condition,
@@ -310,13 +314,13 @@ impl Serialize for State {
                 mutex,
                 owner,
             } => {
-                let (condition, signalled) = (*condition, *signalled);
-                let (mutex, owner) = (*mutex, *owner);
                 let waits = Waits {
-                    condition,
-                    signalled,
-                    mutex,
-                    owner,
+                    condition: condition.address,
+                    condition_object: condition.object.as_ref(),
+                    signalled: *signalled,
+                    mutex: mutex.address,
+                    mutex_object: mutex.object.as_ref(),
+                    owner: *owner,
                 };
                 write_named("state", "waits", &waits, out)
             }
@@ -327,19 +331,22 @@ impl Serialize for State {
     }
 }
 
-// A mutex, and who holds it.
+// A mutex, its name, and who holds it.
 #[derive(Clone, Copy, Serialize)]
-struct Locks {
+struct Locks<'a> {
     mutex: u32,
+    mutex_object: Option<&'a Symbol>,
     owner: Option<u32>,
 }
 
-// A condition variable, whether it was signalled to the thread, and the mutex, and who holds that.
+// A condition variable, whether it was signalled to the thread, and the mutex, both with their names, and who holds that.
 #[derive(Clone, Copy, Serialize)]
-struct Waits {
+struct Waits<'a> {
     condition: u32,
+    condition_object: Option<&'a Symbol>,
     signalled: bool,
     mutex: u32,
+    mutex_object: Option<&'a Symbol>,
     owner: Option<u32>,
 }
 
@@ -348,7 +355,7 @@ struct Waits {
 struct Stands<'a> {
     thread: u32,
     pc: Option<u32>,
-    function: Option<&'a Function>,
+    function: Option<&'a Symbol>,
     stop: Option<StopName<'a>>,
 }
 

@@ -8,6 +8,6 @@ mod registers;
 mod sentences;
 
 pub use findings::{
-    CopyMade, Differed, Ended, Field, Findings, Function, Instruction, Part, Place, Split,
-    Standing, State, Strike, ThreadFields, ThreadParts, Trapped, Verdict, Waiting,
+    CopyMade, Differed, Ended, Field, Findings, Instruction, Part, Place, Split, Standing, State,
+    Strike, Symbol, ThreadFields, ThreadParts, Trapped, Variable, Verdict, Waiting,
 };

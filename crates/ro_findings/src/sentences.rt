@@ -5,7 +5,7 @@ ghost use Rattle.ro_findings.specs.Sentences.{TellsVerdict, first_line};
 
 use crate::findings::{
     CopyMade, Differed, Ended, Field, Findings, Instruction, Part, Split, Standing, State, Strike,
-    ThreadFields, ThreadParts, Trapped, Verdict, Waiting,
+    ThreadFields, ThreadParts, Trapped, Variable, Verdict, Waiting,
 };
 use crate::lines::WithoutEnd;
 use crate::registers::Named;
@@ -95,24 +95,24 @@ fn tell_end(text: &mut String, end: &Option<Ended>) -> Result<(), AllocError> {
 fn tell_deadlock(text: &mut String, threads: &[Waiting]) -> Result<(), AllocError> {
     writeln!(text, "No thread can go on.")?;
     for waiting in threads {
-        tell_waiting(text, *waiting)?;
+        tell_waiting(text, waiting)?;
     }
     Ok(())
 }
 
 // For what a thread waits.
-fn tell_waiting(text: &mut String, waiting: Waiting) -> Result<(), AllocError> {
-    let Waiting { thread, state } = waiting;
+fn tell_waiting(text: &mut String, waiting: &Waiting) -> Result<(), AllocError> {
+    let thread = waiting.thread;
     write!(text, "Thread {thread} ")?;
-    match state {
+    match &waiting.state {
         State::Exited => text.push_str("has exited.\n"),
-        State::Locks { mutex, owner } => tell_lock(text, mutex, owner),
+        State::Locks { mutex, owner } => tell_lock(text, mutex, *owner),
         State::Waits {
             condition,
             signalled,
             mutex,
             owner,
-        } => tell_wait(text, condition, signalled, mutex, owner),
+        } => tell_wait(text, condition, *signalled, mutex, *owner),
         State::Joins(other) => writeln!(text, "waits until thread {other} has exited."),
         State::Blocked => text.push_str("is blocked.\n"),
         State::Unblocked => text.push_str("is not blocked.\n"),
@@ -120,17 +120,17 @@ fn tell_waiting(text: &mut String, waiting: Waiting) -> Result<(), AllocError> {
 }
 
 // For which mutex it waits, and who holds that.
-fn tell_lock(text: &mut String, mutex: u32, owner: Option<u32>) -> Result<(), AllocError> {
-    write!(text, "waits for the mutex at {mutex:08x}")?;
+fn tell_lock(text: &mut String, mutex: &Variable, owner: Option<u32>) -> Result<(), AllocError> {
+    write!(text, "waits for the mutex at {mutex}")?;
     tell_owner(text, owner)
 }
 
 // For which condition variable it waits, whether it was signalled, and which mutex it will hold then.
 fn tell_wait(
     text: &mut String,
-    condition: u32,
+    condition: &Variable,
     signalled: bool,
-    mutex: u32,
+    mutex: &Variable,
     owner: Option<u32>,
 ) -> Result<(), AllocError> {
     let heard = if signalled {
@@ -138,8 +138,8 @@ fn tell_wait(
     } else {
         "not signalled"
     };
-    write!(text, "waits for the condition at {condition:08x}, {heard}")?;
-    write!(text, ", to hold the mutex at {mutex:08x}")?;
+    write!(text, "waits for the condition at {condition}, {heard}")?;
+    write!(text, ", to hold the mutex at {mutex}")?;
     tell_owner(text, owner)
 }
 

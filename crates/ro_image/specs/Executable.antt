@@ -6,7 +6,7 @@ use Rattle.ro_elf.specs.Elf.{Elf, elf_of, bad_headers}
 use Rattle.ro_elf.specs.declared.segments.Segment.{Segment}
 use Rattle.ro_event.specs.declared.table.CallTable.{CallTable}
 use Rattle.ro_region.specs.declared.Range.{Range}
-use Rattle.ro_sym.specs.Addresses.{Position, function_over}
+use Rattle.ro_sym.specs.Addresses.{Position, function_over, object_over}
 use Rattle.ro_sym.specs.Calls.{calls_of}
 use Rattle.ro_image.specs.Image.{Piece, Image, ranges_with}
 use Rattle.ro_image.specs.declared.errors.ImageError.{ImageError}
@@ -90,3 +90,7 @@ Refuses bytes NoMemory = Unit {0}
 -- where an address lies in the functions of a file whose headers are accepted
 abbrev pub function_in : List ℕ → (address : ℕ) → Option Position
 function_in bytes address = if is_none (bad_headers bytes) then function_over bytes (section_table_of bytes) address else None
+
+-- where it lies in the data objects of such a file
+abbrev pub object_in : List ℕ → (address : ℕ) → Option Position
+object_in bytes address = if is_none (bad_headers bytes) then object_over bytes (section_table_of bytes) address else None

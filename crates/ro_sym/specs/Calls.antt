@@ -4,7 +4,7 @@ use Rattle.std.specs.List.{list_all}
 use Rattle.ro_elf.specs.declared.header.SectionTable.{SectionTable}
 use Rattle.ro_event.specs.declared.table.CallTable.{CallTable}
 use Rattle.ro_event.specs.Functions.{names}
-use Rattle.ro_sym.specs.Sections.{Functions, functions_of}
+use Rattle.ro_sym.specs.Sections.{SymbolTable, symbols_of}
 use Rattle.ro_sym.specs.Symbols.{symbol_in, are_ended, place_of}
 use Rattle.ro_sym.specs.declared.symbols.Symbol.{Symbol}
 use Rattle.ro_sym.specs.declared.symbols.Place.{Place}
@@ -46,11 +46,11 @@ table_with strings symbols =
     then (if are_clear (places_of strings symbols) then Ok (table_of (places_of strings symbols)) else Err 17)
     else Err 16
 
-abbrev pub table_among : Result Functions ℕ → Result CallTable ℕ
-table_among (Ok functions) = table_with functions.strings (map symbol_in functions.symbols)
+abbrev pub table_among : Result SymbolTable ℕ → Result CallTable ℕ
+table_among (Ok found) = table_with found.strings (map symbol_in found.symbols)
 table_among (Err code) = Err code
 
 -- The call table of a file: the value of each of the names of POSIX threads among its function symbols. Code 16, where the
 -- symbols and their names aren't as they must be, else 17, where a name has two values or two have one.
 unfoldable pub calls_of : List ℕ → SectionTable → Result CallTable ℕ
-calls_of bytes sections = table_among (functions_of bytes sections)
+calls_of bytes sections = table_among (symbols_of bytes sections)

@@ -40,12 +40,12 @@ abbrev pub content_of : List ℕ → Section → List ℕ
 content_of bytes section = slice_range bytes section.offset (section.offset + section.size)
 
 -- the symbols of a file, 16 bytes each, and the bytes that their names stand in
-pub record Functions : Type 0 where
+pub record SymbolTable : Type 0 where
   pub symbols : List (List ℕ)
   pub strings : List ℕ
 
-abbrev pub no_functions : Functions
-no_functions = record { symbols = []; strings = [] }
+abbrev pub no_symbols : SymbolTable
+no_symbols = record { symbols = []; strings = [] }
 
 -- the symbols lie in the file, each whole, and name a section for their strings
 abbrev pub holds_symbols : List ℕ → (count : ℕ) → Section → Bool
@@ -55,23 +55,23 @@ abbrev pub holds_strings : List ℕ → Section → Bool
 holds_strings bytes strings = is_strings strings && is_held bytes strings
 
 -- the symbols of a symbol table and the strings that it is linked to
-abbrev pub functions_with : List ℕ → (symbols strings : Section) → Result Functions ℕ
-functions_with bytes symbols strings =
+abbrev pub symbols_with : List ℕ → (symbols strings : Section) → Result SymbolTable ℕ
+symbols_with bytes symbols strings =
     if holds_strings bytes strings then Ok (record { symbols = pieces_of 16 (content_of bytes symbols); strings = content_of bytes strings }) else Err 16
 
-abbrev pub functions_under : List ℕ → (headers : List (List ℕ)) → Option Section → Result Functions ℕ
-functions_under bytes headers None = Ok no_functions
-functions_under bytes headers (Some symbols) =
-    if holds_symbols bytes (length headers) symbols then functions_with bytes symbols (section_in (slice_index_or headers symbols.link [])) else Err 16
+abbrev pub symbols_under : List ℕ → (headers : List (List ℕ)) → Option Section → Result SymbolTable ℕ
+symbols_under bytes headers None = Ok no_symbols
+symbols_under bytes headers (Some symbols) =
+    if holds_symbols bytes (length headers) symbols then symbols_with bytes symbols (section_in (slice_index_or headers symbols.link [])) else Err 16
 
 -- the symbols of the first symbol table among section headers
-abbrev pub functions_among : List ℕ → (headers : List (List ℕ)) → Result Functions ℕ
-functions_among bytes headers = functions_under bytes headers (find is_symbol_table (map section_in headers))
+abbrev pub symbols_among : List ℕ → (headers : List (List ℕ)) → Result SymbolTable ℕ
+symbols_among bytes headers = symbols_under bytes headers (find is_symbol_table (map section_in headers))
 
 -- The symbols of a file: those of its first symbol table. None, where it has no sections or no symbol table; else code 16,
 -- where the section headers, the symbols or their strings aren't as they must be.
-abbrev pub functions_of : List ℕ → SectionTable → Result Functions ℕ
-functions_of bytes table =
+abbrev pub symbols_of : List ℕ → SectionTable → Result SymbolTable ℕ
+symbols_of bytes table =
     if has_sections table
-    then (if holds_sections bytes table then functions_among bytes (section_headers bytes table) else Err 16)
-    else Ok no_functions
+    then (if holds_sections bytes table then symbols_among bytes (section_headers bytes table) else Err 16)
+    else Ok no_symbols

@@ -1,7 +1,9 @@
--- The function symbols of an ELF32 file and their names.
+-- The symbols of functions and of data objects of an ELF32 file, and their names.
 use Rattle.std.specs.Prelude.{ℕ, ◌+◌, ◌%◌, Bool, true, ◌&&◌, List, Option, Some, None, drop, find, max, nat_eq, nat_le, nat_lt, ◌==◌, if◌then◌else◌}
 use Rattle.std.specs.List.{list_any, list_all, starts_with, before_first}
 use Rattle.ro_elf.specs.Numbers.{byte_in, half_in, word_in}
+use Rattle.ro_sym.specs.declared.symbols.Kind.{Kind}
+use Rattle.ro_sym.specs.declared.symbols.Kind.TheVariants.{Function, Object}
 use Rattle.ro_sym.specs.declared.symbols.Symbol.{Symbol}
 use Rattle.ro_sym.specs.declared.symbols.Place.{Place}
 use Rattle.ro_sym.specs.declared.symbols.Place.TheVariants.{Nowhere, At, Several}
@@ -10,9 +12,17 @@ use Rattle.ro_sym.specs.declared.symbols.Place.TheVariants.{Nowhere, At, Several
 unfoldable pub symbol_in : List ℕ → Symbol
 symbol_in entry = record { name = word_in entry 0; value = word_in entry 4; size = word_in entry 8; info = byte_in entry 12; section = half_in entry 14 }
 
--- of the type of functions, and defined in a section of the file
+-- the type of the symbols of a kind
+abbrev pub type_of : Kind → ℕ
+type_of Object = 1
+type_of Function = 2
+
+-- of the type of a kind, and defined in a section of the file
+abbrev pub is_of : Kind → Symbol → Bool
+is_of kind symbol = (symbol.info % 16 == type_of kind) && nat_lt 0 symbol.section
+
 abbrev pub is_function : Symbol → Bool
-is_function symbol = (symbol.info % 16 == 2) && nat_lt 0 symbol.section
+is_function symbol = is_of Function symbol
 
 -- the string from a place on is ended by a zero byte
 abbrev pub is_ended : (strings : List ℕ) → (place : ℕ) → Bool
@@ -45,13 +55,18 @@ place_from strings name symbols (Some first) = if list_all (agrees strings name 
 abbrev pub place_of : (strings : List ℕ) → List Symbol → (name : List ℕ) → Place
 place_of strings symbols name = place_from strings name symbols (find (is_called strings name) symbols)
 
--- the bytes from its value on hold the address, as many as its size says, or one where that is 0
-abbrev pub holds : (address : ℕ) → Symbol → Bool
-holds address symbol = nat_le symbol.value address && nat_lt address (symbol.value + max symbol.size 1)
+-- how many bytes a symbol of a kind has: as many as its size says, or one where that is 0 and it is a function
+abbrev pub length_of : Kind → Symbol → ℕ
+length_of Object symbol = symbol.size
+length_of Function symbol = max symbol.size 1
 
--- a function whose bytes hold the address
-abbrev pub is_around : (address : ℕ) → Symbol → Bool
-is_around address symbol = is_function symbol && holds address symbol
+-- the bytes from its value on hold the address
+abbrev pub holds : Kind → (address : ℕ) → Symbol → Bool
+holds kind address symbol = nat_le symbol.value address && nat_lt address (symbol.value + length_of kind symbol)
+
+-- a symbol of a kind whose bytes hold the address
+abbrev pub is_around : Kind → (address : ℕ) → Symbol → Bool
+is_around kind address symbol = is_of kind symbol && holds kind address symbol
 
 -- the string from a place on, up to its first zero byte
 abbrev pub string_at : (strings : List ℕ) → (place : ℕ) → List ℕ

@@ -1,6 +1,6 @@
 //! Sections: which holds the symbols, and which their names.
 ghost use Rattle.std.specs.Prelude.{◌≡◌, ◌+◌, ◌*◌, ◌≤◌, IfOk, IfErr, Ok, Err, length, map, find};
-ghost use Rattle.ro_sym.specs.Sections.{section_in, holds_sections as holds_headers, section_headers, is_symbol_table, is_strings, is_held, content_of, holds_symbols as holds_table, functions_with, functions_among as among, functions_of};
+ghost use Rattle.ro_sym.specs.Sections.{section_in, holds_sections as holds_headers, section_headers, is_symbol_table, is_strings, is_held, content_of, holds_symbols as holds_table, symbols_with, symbols_among as among, symbols_of};
 
 use ro_elf::{BadExe, SectionTable, word_at};
 
@@ -38,7 +38,7 @@ pub(crate) struct Section {
 
 /// The symbols of a file, and the bytes that their names stand in.
 #[derive(Clone, Copy)]
-pub(crate) struct Functions<'a> {
+pub(crate) struct SymbolTable<'a> {
     pub(crate) symbols: &'a [[u8; SYMBOL_SIZE]],
     pub(crate) strings: &'a [u8],
 }
@@ -90,12 +90,12 @@ impl Section {
 ///
 /// # Errors
 /// Code 16, where the section headers, the symbols or their strings aren't as they must be (ELF32).
-pub(crate) fn find_functions(bytes: &[u8], table: SectionTable) -> Result<Functions<'_>, BadExe>
-    ensures found { IfOk result (λ f. functions_of bytes.now table ≡ Ok (record { symbols = f.symbols.now; strings = f.strings.now })) }
-    ensures refused { IfErr result (λ bad. functions_of bytes.now table ≡ Err bad.code) }
+pub(crate) fn find_symbols(bytes: &[u8], table: SectionTable) -> Result<SymbolTable<'_>, BadExe>
+    ensures found { IfOk result (λ f. symbols_of bytes.now table ≡ Ok (record { symbols = f.symbols.now; strings = f.strings.now })) }
+    ensures refused { IfErr result (λ bad. symbols_of bytes.now table ≡ Err bad.code) }
 {
     if table.offset == 0 || table.count == 0 {
-        return Ok(Functions {
+        return Ok(SymbolTable {
             symbols: &[],
             strings: &[],
         });
@@ -103,7 +103,7 @@ pub(crate) fn find_functions(bytes: &[u8], table: SectionTable) -> Result<Functi
     if !holds_sections(bytes, table) {
         return Err(BAD_SYMBOLS);
     }
-    functions_among(bytes, headers_of(bytes, table))
+    symbols_among(bytes, headers_of(bytes, table))
 }
 
 // Whether the section headers have their size and lie in the file.
@@ -135,15 +135,15 @@ fn find_symbol_table(headers: &[[u8; HEADER_SIZE]]) -> Option<Section>
 }
 
 // The symbols of the first symbol table among section headers.
-fn functions_among<'a>(
+fn symbols_among<'a>(
     bytes: &'a [u8],
     headers: &[[u8; HEADER_SIZE]],
-) -> Result<Functions<'a>, BadExe>
+) -> Result<SymbolTable<'a>, BadExe>
     ensures found { IfOk result (λ f. among bytes.now headers.now ≡ Ok (record { symbols = f.symbols.now; strings = f.strings.now })) }
     ensures refused { IfErr result (λ bad. among bytes.now headers.now ≡ Err bad.code) }
 {
     let Some(symbols) = find_symbol_table(headers) else {
-        return Ok(Functions {
+        return Ok(SymbolTable {
             symbols: &[],
             strings: &[],
         });
@@ -151,7 +151,7 @@ fn functions_among<'a>(
     if !holds_symbols(bytes, headers.len(), symbols) {
         return Err(BAD_SYMBOLS);
     }
-    functions_in(
+    symbols_in(
         bytes,
         symbols,
         Section::from_header(&headers[symbols.link as usize]),
@@ -168,20 +168,20 @@ fn holds_symbols(bytes: &[u8], count: usize, symbols: Section) -> bool
 }
 
 // The symbols of a symbol table with their strings.
-fn functions_in<'a>(
+fn symbols_in<'a>(
     bytes: &'a [u8],
     symbols: Section,
     strings: Section,
-) -> Result<Functions<'a>, BadExe>
+) -> Result<SymbolTable<'a>, BadExe>
     requires { symbols.offset + symbols.size ≤ length bytes.now }
-    ensures found { IfOk result (λ f. functions_with bytes.now symbols strings ≡ Ok (record { symbols = f.symbols.now; strings = f.strings.now })) }
-    ensures refused { IfErr result (λ bad. functions_with bytes.now symbols strings ≡ Err bad.code) }
+    ensures found { IfOk result (λ f. symbols_with bytes.now symbols strings ≡ Ok (record { symbols = f.symbols.now; strings = f.strings.now })) }
+    ensures refused { IfErr result (λ bad. symbols_with bytes.now symbols strings ≡ Err bad.code) }
 {
     if !strings.has_strings() || !strings.lies_in(bytes) {
         return Err(BAD_SYMBOLS);
     }
     let (symbols, _) = symbols.content(bytes).as_chunks();
-    Ok(Functions {
+    Ok(SymbolTable {
         symbols,
         strings: strings.content(bytes),
     })

@@ -1,7 +1,7 @@
-//! Function symbols and their names.
+//! Symbols and their names.
 ghost use Rattle.std.specs.Prelude.{◌≡◌, ◌==◌, ℕ, ◌≤◌, [], ◌∷◌, ◌++◌, IfSome, nat_lt, length, map, find, drop, position, nat_eq};
 ghost use Rattle.std.specs.List.{list_all, position_or_len, starts_with};
-ghost use Rattle.ro_sym.specs.Symbols.{symbol_in, is_function, is_ended, is_below, are_ended, is_called, agrees, place_of, holds, is_around, string_at};
+ghost use Rattle.ro_sym.specs.Symbols.{symbol_in, type_of, is_of, is_function, is_ended, is_below, are_ended, is_called, agrees, place_of, length_of, holds, is_around, string_at};
 
 use crate::sections::SYMBOL_SIZE;
 use ro_elf::{half_at, word_at};
@@ -17,7 +17,9 @@ const ST_INFO: usize = 12;
 
 const ST_SHNDX: usize = 14;
 
-/// The type of a function.
+// The types of symbols that are looked at.
+const STT_OBJECT: u8 = 1;
+
 const STT_FUNC: u8 = 2;
 
 /// The section of a symbol that is defined in no section.
@@ -34,12 +36,32 @@ pub(crate) struct Symbol {
     pub(crate) section: u16,
 }
 
+/// What a symbol names that is looked at.
+#[derive(Clone, Copy, PartialEq, Eq, Debug)]
+pub(crate) enum Kind {
+    /// A variable: data.
+    Object,
+    Function,
+}
+
 /// The values of the functions with one name: none, one, or more than one.
 #[derive(Clone, Copy, PartialEq, Eq, Debug)]
 pub(crate) enum Place {
     Nowhere,
     At(u32),
     Several,
+}
+
+impl Kind {
+    // The type of its symbols.
+    fn symbol_type(self) -> u8
+        ensures { result ≡ type_of self }
+    {
+        match self {
+            Kind::Object => STT_OBJECT,
+            Kind::Function => STT_FUNC,
+        }
+    }
 }
 
 impl Symbol {
@@ -57,11 +79,18 @@ impl Symbol {
         }
     }
 
+    // Whether it is of a kind, and defined in the file.
+    fn is_of(&self, kind: Kind) -> bool
+        ensures { result ≡ is_of kind self.now }
+    {
+        self.info % 16 == kind.symbol_type() && self.section != SHN_UNDEF
+    }
+
     // Whether it is a function of the file.
     fn is_defined_function(&self) -> bool
         ensures { result ≡ is_function self.now }
     {
-        self.info % 16 == STT_FUNC && self.section != SHN_UNDEF
+        self.is_of(Kind::Function)
     }
 
     // Whether its name starts below a place, where it is a function.
@@ -85,18 +114,28 @@ impl Symbol {
         !self.has_name(strings, name) || self.value == value
     }
 
-    // Whether its bytes hold an address; where it has no size, its value is its one byte.
-    fn holds(&self, address: u32) -> bool
-        ensures { result ≡ holds address self.now }
+    // How many bytes it has, where it is of a kind; of a function without a size its value is its one byte.
+    fn length(&self, kind: Kind) -> u32
+        ensures { result ≡ length_of kind self.now }
     {
-        self.value <= address && address - self.value < self.size.max(1)
+        match kind {
+            Kind::Object => self.size,
+            Kind::Function => self.size.max(1),
+        }
     }
 
-    // Whether it is a function whose bytes hold an address.
-    fn is_around(&self, address: u32) -> bool
-        ensures { result ≡ is_around address self.now }
+    // Whether its bytes hold an address, where it is of a kind.
+    fn holds(&self, kind: Kind, address: u32) -> bool
+        ensures { result ≡ holds kind address self.now }
     {
-        self.is_defined_function() && self.holds(address)
+        self.value <= address && address - self.value < self.length(kind)
+    }
+
+    // Whether it is of a kind, and its bytes hold an address.
+    fn is_around(&self, kind: Kind, address: u32) -> bool
+        ensures { result ≡ is_around kind address self.now }
+    {
+        self.is_of(kind) && self.holds(kind, address)
     }
 }
 
@@ -181,15 +220,19 @@ pub(crate) fn find_place(symbols: &[[u8; SYMBOL_SIZE]], strings: &[u8], name: &s
     }
 }
 
-// The first function whose bytes hold an address.
-pub(crate) fn find_around(symbols: &[[u8; SYMBOL_SIZE]], address: u32) -> Option<Symbol>
-    ensures found { result ≡ find (is_around address) (map symbol_in symbols.now) }
+// The first symbol of a kind whose bytes hold an address.
+pub(crate) fn find_around(
+    symbols: &[[u8; SYMBOL_SIZE]],
+    kind: Kind,
+    address: u32,
+) -> Option<Symbol>
+    ensures found { result ≡ find (is_around kind address) (map symbol_in symbols.now) }
     ensures starts { IfSome result (λ symbol. symbol.value ≤ address) }
 {
     symbols
         .iter()
         .map(|entry| Symbol::from_entry(entry))
-        .find(|symbol| symbol.is_around(address))
+        .find(|symbol| symbol.is_around(kind, address))
 }
 
 // The string from a place on, up to its first zero byte.

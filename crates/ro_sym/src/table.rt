@@ -4,7 +4,7 @@ ghost use Rattle.std.specs.List.{list_all};
 ghost use Rattle.ro_sym.specs.Symbols.{symbol_in};
 ghost use Rattle.ro_sym.specs.Calls.{places_of, is_one, differs, are_different, are_clear, address_of, table_of, table_with, calls_of};
 
-use crate::sections::{SYMBOL_SIZE, find_functions};
+use crate::sections::{SYMBOL_SIZE, find_symbols};
 use crate::symbols::{Place, find_place, names_end};
 use ro_elf::{BadExe, Elf};
 use ro_event::{CallTable, FUNCTIONS, Function};
@@ -56,8 +56,8 @@ pub fn calls(bytes: &[u8], elf: &Elf) -> Result<CallTable, BadExe>
     ensures found { IfOk result (λ table. calls_of bytes.now elf.now.sections ≡ Ok table) }
     ensures refused { IfErr result (λ bad. calls_of bytes.now elf.now.sections ≡ Err bad.code) }
 {
-    let functions = find_functions(bytes, elf.sections())?;
-    table_in(functions.symbols, functions.strings)
+    let found = find_symbols(bytes, elf.sections())?;
+    table_in(found.symbols, found.strings)
 }
 
 // The call table of the functions among symbols.

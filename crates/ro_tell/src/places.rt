@@ -1,24 +1,31 @@
-//! Places of a program, with what its executable and its memory say of them.
+//! Places and variables of a program, with what its executable and its memory say of them.
 use ro_assembly::{address_touched, instruction_text};
 use ro_audit::Trail;
 use ro_event::{Stop, View};
-use ro_findings::{Function, Instruction, Place};
+use ro_findings::{Instruction, Place, Symbol, Variable};
+use ro_image::{Within, function_at, object_at};
 use std::alloc::{AllocError, Global};
 
 /// The place of a pc.
 pub(crate) fn place_at(alloc: Global, executable: &[u8], pc: u32) -> Result<Place, AllocError> {
-    let function = function_at(alloc, executable, pc)?;
+    let function = named(alloc, function_at(executable, pc))?;
     Ok(Place { pc, function })
 }
 
-// The function of an executable that holds an address, if it has a name.
-fn function_at(
+/// The variable at an address.
+pub(crate) fn variable_at(
     alloc: Global,
     executable: &[u8],
     address: u32,
-) -> Result<Option<Function>, AllocError> {
-    match ro_image::function_at(executable, address) {
-        Some(within) if !within.name.is_empty() => Ok(Some(Function {
+) -> Result<Variable, AllocError> {
+    let object = named(alloc, object_at(executable, address))?;
+    Ok(Variable { address, object })
+}
+
+// A symbol that holds an address, if it has a name.
+fn named(alloc: Global, within: Option<Within<'_>>) -> Result<Option<Symbol>, AllocError> {
+    match within {
+        Some(within) if !within.name.is_empty() => Ok(Some(Symbol {
             name: printable(alloc, within.name)?,
             offset: within.offset,
         })),

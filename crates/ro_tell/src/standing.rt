@@ -1,5 +1,5 @@
 //! Where threads stand behind a journal, and for what they wait.
-use crate::places::{instruction_at, place_at};
+use crate::places::{instruction_at, place_at, variable_at};
 use ro_audit::Trail;
 use ro_core::Core;
 use ro_event::{Call, Function, Which};
@@ -30,7 +30,7 @@ impl Stood {
         let mut waiting = Vec::new(alloc);
         let mut threads = Vec::new(alloc);
         for thread in 0..trail.core().kernel().made() {
-            let state = state_of(trail.core(), thread);
+            let state = state_of(alloc, trail.core(), executable, thread)?;
             waiting.push(Waiting { thread, state })?;
             threads.push(standing(alloc, trail, executable, thread)?)?;
         }
@@ -46,28 +46,33 @@ impl Stood {
     }
 }
 
-// What holds a thread up.
-fn state_of(core: &Core, thread: u32) -> State {
+// What holds a thread up in a core of the program of an executable.
+fn state_of(
+    alloc: Global,
+    core: &Core,
+    executable: &[u8],
+    thread: u32,
+) -> Result<State, AllocError> {
     if !core.kernel().lives_on(thread) {
-        return State::Exited;
+        return Ok(State::Exited);
     }
     let Some(call) = core.blocked_call(thread) else {
-        return State::Unblocked;
+        return Ok(State::Unblocked);
     };
-    match call.which {
+    Ok(match call.which {
         Which::Function(Function::Lock) => State::Locks {
-            mutex: call.a0,
+            mutex: variable_at(alloc, executable, call.a0)?,
             owner: owner(core.kernel(), thread, call.a0),
         },
         Which::Function(Function::Wait) => State::Waits {
-            condition: call.a0,
+            condition: variable_at(alloc, executable, call.a0)?,
             signalled: is_signalled(core.kernel(), thread),
-            mutex: call.a1,
+            mutex: variable_at(alloc, executable, call.a1)?,
             owner: owner(core.kernel(), thread, call.a1),
         },
         Which::Function(Function::Join) => State::Joins(call.a0),
         _ => State::Blocked,
-    }
+    })
 }
 
 // The thread that holds a mutex, where one does that is not this thread: the one that a lock of it would not block.

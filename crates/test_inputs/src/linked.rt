@@ -1,6 +1,6 @@
 //! Executables that common linkers wrote, against the images that they are to have. The program is the same: a function in C
 //! that counts, constants, a counter and a field of zeros, and a stub in assembly for `pthread_create`.
-use ro_image::{Executable, function_at, read_executable};
+use ro_image::{Executable, Within, function_at, object_at, read_executable};
 use ro_region::Range;
 use std::process::Abort;
 
@@ -175,9 +175,14 @@ fn of_llvm(rt: HostRuntime) {
     assert_eq!(rt; image.calls().addresses()[0], Some(0x1_1174));
 }
 
-// The function at an address of a file, by its name, and the place in it.
-fn check_function(rt: &impl Abort, file: &[u8], address: u32, want: Option<(&str, u32)>) {
-    let found = function_at(file, address).map(|within| (within.name, within.offset));
+// What was found at an address, by its name, and the place in it.
+fn check_found(
+    rt: &impl Abort,
+    found: Option<Within<'_>>,
+    address: u32,
+    want: Option<(&str, u32)>,
+) {
+    let found = found.map(|within| (within.name, within.offset));
     let want = want.map(|(name, offset)| (name.as_bytes(), offset));
     assert_eq!(rt; found, want, "at {address:x}");
 }
@@ -195,9 +200,9 @@ fn functions_of_gnu(rt: HostRuntime) {
         (0x1_014C, None),
         (0x1_114C, None),
     ] {
-        check_function(&rt, &GNU, address, want);
+        check_found(&rt, function_at(&GNU, address), address, want);
     }
-    check_function(&rt, &GNU[..51], 0x1_00C8, None);
+    check_found(&rt, function_at(&GNU[..51], 0x1_00C8), 0x1_00C8, None);
 }
 
 #[test]
@@ -210,6 +215,43 @@ fn functions_of_llvm(rt: HostRuntime) {
         (0x1_1177, Some(("pthread_create", 3))),
         (0x1_1178, None),
     ] {
-        check_function(&rt, &LLVM, address, want);
+        check_found(&rt, function_at(&LLVM, address), address, want);
+    }
+}
+
+#[test]
+fn objects_of_gnu(rt: HostRuntime) {
+    for (address, want) in [
+        (0x1_00C8, None),
+        (0x1_114B, None),
+        (0x1_114C, Some(("text", 0))),
+        (0x1_1151, Some(("text", 5))),
+        (0x1_1152, None),
+        (0x1_1154, Some(("counter", 0))),
+        (0x1_1157, Some(("counter", 3))),
+        (0x1_1158, Some(("zero", 0))),
+        (0x1_12E7, Some(("zero", 399))),
+        (0x1_12E8, None),
+    ] {
+        check_found(&rt, object_at(&GNU, address), address, want);
+    }
+    check_found(&rt, object_at(&GNU[..51], 0x1_114C), 0x1_114C, None);
+}
+
+#[test]
+fn objects_of_llvm(rt: HostRuntime) {
+    for (address, want) in [
+        (0x1_00D3, None),
+        (0x1_00D4, Some(("text", 0))),
+        (0x1_00D9, Some(("text", 5))),
+        (0x1_00DA, None),
+        (0x1_110C, None),
+        (0x1_2177, None),
+        (0x1_217B, Some(("counter", 3))),
+        (0x1_217C, Some(("zero", 0))),
+        (0x1_230B, Some(("zero", 399))),
+        (0x1_230C, None),
+    ] {
+        check_found(&rt, object_at(&LLVM, address), address, want);
     }
 }

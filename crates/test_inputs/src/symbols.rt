@@ -1,6 +1,6 @@
 //! A file's symbols against the table, or the codes, that they are to give.
 use ro_elf::read_elf;
-use ro_sym::{calls, function_at};
+use ro_sym::{Within, calls, function_at, object_at};
 use std::process::Abort;
 
 // Two threads that write a letter each under one mutex, with the five functions that they call.
@@ -112,14 +112,14 @@ fn cut_files(rt: HostRuntime) {
     }
 }
 
-// Bytes of the file that are changed, an address, and the function that it lies in with the place in it.
+// Bytes of the file that are changed, an address, and the function or the object that it lies in with the place in it.
 struct Row {
     changes: &'static [(usize, u8)],
     address: u32,
     want: Option<(&'static str, u32)>,
 }
 
-const ROWS: &[Row] = &[
+const FUNCTIONS: &[Row] = &[
     // five functions in a row, none with a size
     Row {
         changes: &[],
@@ -230,24 +230,152 @@ const ROWS: &[Row] = &[
     },
 ];
 
+const OBJECTS: &[Row] = &[
+    // five functions, and no object
+    Row {
+        changes: &[],
+        address: 0x1_00CC,
+        want: None,
+    },
+    // the first is an object of four bytes, and a function follows
+    Row {
+        changes: &[(268, 0x11), (264, 4)],
+        address: 0x1_00CB,
+        want: None,
+    },
+    Row {
+        changes: &[(268, 0x11), (264, 4)],
+        address: 0x1_00CC,
+        want: Some(("pthread_create", 0)),
+    },
+    Row {
+        changes: &[(268, 0x11), (264, 4)],
+        address: 0x1_00CF,
+        want: Some(("pthread_create", 3)),
+    },
+    Row {
+        changes: &[(268, 0x11), (264, 4)],
+        address: 0x1_00D0,
+        want: None,
+    },
+    // it has no size
+    Row {
+        changes: &[(268, 0x11)],
+        address: 0x1_00CC,
+        want: None,
+    },
+    // it has no type, or that of a variable of each thread, or is of no section
+    Row {
+        changes: &[(268, 0x10), (264, 4)],
+        address: 0x1_00CC,
+        want: None,
+    },
+    Row {
+        changes: &[(268, 0x16), (264, 4)],
+        address: 0x1_00CC,
+        want: None,
+    },
+    Row {
+        changes: &[(268, 0x11), (264, 4), (270, 0)],
+        address: 0x1_00CC,
+        want: None,
+    },
+    // the second is an object, and a function in front of it has its bytes too
+    Row {
+        changes: &[(264, 0x10), (280, 4), (284, 0x11)],
+        address: 0x1_00D2,
+        want: Some(("pthread_join", 2)),
+    },
+    // the first two are objects, side by side, and one over the other
+    Row {
+        changes: &[(268, 0x11), (264, 4), (280, 4), (284, 0x11)],
+        address: 0x1_00CF,
+        want: Some(("pthread_create", 3)),
+    },
+    Row {
+        changes: &[(268, 0x11), (264, 4), (280, 4), (284, 0x11)],
+        address: 0x1_00D0,
+        want: Some(("pthread_join", 0)),
+    },
+    Row {
+        changes: &[(264, 8), (268, 0x11), (280, 4), (284, 0x11)],
+        address: 0x1_00D1,
+        want: Some(("pthread_create", 5)),
+    },
+    // the first has eight bytes up to the end of the addresses and past it
+    Row {
+        changes: &[(260, 0xFC), (261, 0xFF), (262, 0xFF), (263, 0xFF), (264, 8), (268, 0x11)],
+        address: 0xFFFF_FFFF,
+        want: Some(("pthread_create", 3)),
+    },
+    Row {
+        changes: &[(260, 0xFC), (261, 0xFF), (262, 0xFF), (263, 0xFF), (264, 8), (268, 0x11)],
+        address: 0,
+        want: None,
+    },
+    // its name ends with the strings, or stands behind them
+    Row {
+        changes: &[(268, 0x11), (264, 4), (520, 5)],
+        address: 0x1_00CC,
+        want: Some(("pthr", 0)),
+    },
+    Row {
+        changes: &[(268, 0x11), (264, 4), (257, 1)],
+        address: 0x1_00CC,
+        want: Some(("", 0)),
+    },
+    // no symbol table, and section headers of another size
+    Row {
+        changes: &[(268, 0x11), (264, 4), (464, 1)],
+        address: 0x1_00CC,
+        want: None,
+    },
+    Row {
+        changes: &[(268, 0x11), (264, 4), (46, 0x27)],
+        address: 0x1_00CC,
+        want: None,
+    },
+];
+
+// The file with the changes of a row.
+fn changed(rt: &impl Abort, row: &Row) -> [u8; 540] {
+    let mut file = THREADS;
+    for (at, value) in row.changes {
+        assert!(rt; *at < file.len());
+        file[*at] = *value;
+    }
+    file
+}
+
+// What was found for a row against what is wanted.
+fn check_found(rt: &impl Abort, found: Option<Within<'_>>, row: &Row) {
+    let want = row.want.map(|(name, offset)| (name.as_bytes(), offset));
+    assert_eq!(rt;
+        found.map(|within| (within.name, within.offset)),
+        want,
+        "at {:x}",
+        row.address
+    );
+}
+
 #[test]
 fn functions_at_addresses(rt: HostRuntime) {
-    for row in ROWS {
-        let mut file = THREADS;
-        for (at, value) in row.changes {
-            assert!(rt; *at < file.len());
-            file[*at] = *value;
-        }
+    for row in FUNCTIONS {
+        let file = changed(&rt, row);
         let Ok(elf) = read_elf(&file) else {
             panic!(rt; "its headers are accepted");
         };
-        let found = function_at(&file, elf.sections(), row.address);
-        let want = row.want.map(|(name, offset)| (name.as_bytes(), offset));
-        assert_eq!(rt;
-            found.map(|within| (within.name, within.offset)),
-            want,
-            "at {:x}",
-            row.address
-        );
+        check_found(&rt, function_at(&file, elf.sections(), row.address), row);
+    }
+}
+
+#[test]
+fn objects_at_addresses(rt: HostRuntime) {
+    for row in OBJECTS {
+        let file = changed(&rt, row);
+        let Ok(elf) = read_elf(&file) else {
+            panic!(rt; "its headers are accepted");
+        };
+        check_found(&rt, object_at(&file, elf.sections(), row.address), row);
     }
 }

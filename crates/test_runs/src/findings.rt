@@ -1,9 +1,9 @@
-//! What is told of findings, in sentences and as JSON; and what is found of two journals.
+//! What is told of findings, in sentences and as JSON; and what is found of some journals.
 use ro_audit::Why;
-use ro_event::{Call, Stop, Which};
+use ro_event::{Call, Function, Stop, Which};
 use ro_findings::{
-    Ended, Field, Findings, Function, Instruction, Place, Split, Standing, State, Trapped, Verdict,
-    Waiting,
+    Ended, Field, Findings, Instruction, Place, Split, Standing, State, Symbol, Trapped, Variable,
+    Verdict, Waiting,
 };
 use ro_io::MemStore;
 use ro_journal::{Did, Entry, Lost};
@@ -45,10 +45,34 @@ fn legal(alloc: Global, end: Option<Ended>) -> Findings {
 fn place(alloc: Global, pc: u32, function: &str, offset: u32) -> Result<Place, AllocError> {
     Ok(Place {
         pc,
-        function: Some(Function {
-            name: String::from_str(alloc, function)?,
-            offset,
-        }),
+        function: Some(symbol(alloc, function, offset)?),
+    })
+}
+
+fn symbol(alloc: Global, name: &str, offset: u32) -> Result<Symbol, AllocError> {
+    Ok(Symbol {
+        name: String::from_str(alloc, name)?,
+        offset,
+    })
+}
+
+// A variable whose name is not known, and one in an object.
+fn nameless(address: u32) -> Variable {
+    Variable {
+        address,
+        object: None,
+    }
+}
+
+fn variable(
+    alloc: Global,
+    address: u32,
+    object: &str,
+    offset: u32,
+) -> Result<Variable, AllocError> {
+    Ok(Variable {
+        address,
+        object: Some(symbol(alloc, object, offset)?),
     })
 }
 
@@ -140,39 +164,40 @@ fn a_trap(rt: HostRuntime) -> Result<(), Fail> {
     )
 }
 
-// A thread of each state.
+// A thread of each state; of those that wait for variables one whose names are known, and one whose names are not.
 fn waiting(alloc: Global) -> Result<Vec<Waiting>, AllocError> {
-    let states = [
-        State::Exited,
-        State::Locks {
-            mutex: 0x10100,
-            owner: Some(4),
-        },
-        State::Locks {
-            mutex: 0x10100,
-            owner: None,
-        },
-        State::Waits {
-            condition: 0x10104,
-            signalled: false,
-            mutex: 0x10100,
-            owner: None,
-        },
-        State::Waits {
-            condition: 0x10104,
-            signalled: true,
-            mutex: 0x10100,
-            owner: Some(4),
-        },
-        State::Joins(1),
-        State::Blocked,
-        State::Unblocked,
-    ];
     let mut threads = Vec::new(alloc);
-    for (thread, state) in (0..8).zip(states) {
-        threads.push(Waiting { thread, state })?;
-    }
+    add(&mut threads, State::Exited)?;
+    add(&mut threads, State::Locks {
+        mutex: variable(alloc, 0x10100, "guard", 0)?,
+        owner: Some(4),
+    })?;
+    add(&mut threads, State::Locks {
+        mutex: nameless(0x10100),
+        owner: None,
+    })?;
+    add(&mut threads, State::Waits {
+        condition: variable(alloc, 0x10104, "ready", 0)?,
+        signalled: false,
+        mutex: variable(alloc, 0x10114, "queue", 12)?,
+        owner: None,
+    })?;
+    add(&mut threads, State::Waits {
+        condition: nameless(0x10104),
+        signalled: true,
+        mutex: nameless(0x10100),
+        owner: Some(4),
+    })?;
+    add(&mut threads, State::Joins(1))?;
+    add(&mut threads, State::Blocked)?;
+    add(&mut threads, State::Unblocked)?;
     Ok(threads)
+}
+
+// One more thread.
+fn add(threads: &mut Vec<Waiting>, state: State) -> Result<(), AllocError> {
+    let thread = threads.len() as u32;
+    threads.push(Waiting { thread, state })
 }
 
 #[test]
@@ -183,16 +208,16 @@ fn waiting_threads(rt: HostRuntime) -> Result<(), Fail> {
         "The journal has 8 entries, and its plan 3 steps.",
         "No thread can go on.",
         "Thread 0 has exited.",
-        "Thread 1 waits for the mutex at 00010100, which thread 4 holds.",
+        "Thread 1 waits for the mutex at 00010100 (guard), which thread 4 holds.",
         "Thread 2 waits for the mutex at 00010100.",
-        "Thread 3 waits for the condition at 00010104, not signalled, to hold the mutex at 00010100.",
+        "Thread 3 waits for the condition at 00010104 (ready), not signalled, to hold the mutex at 00010114 (queue+c).",
         "Thread 4 waits for the condition at 00010104, signalled, to hold the mutex at 00010100, which thread 4 holds.",
         "Thread 5 waits until thread 1 has exited.",
         "Thread 6 is blocked.",
         "Thread 7 is not blocked.",
     ];
     let json =
-        r#"{"copies":[],"end":{"how":"deadlock","threads":[{"state":"exited","thread":0},{"mutex":65792,"owner":4,"state":"locks","thread":1},{"mutex":65792,"owner":null,"state":"locks","thread":2},{"condition":65796,"mutex":65792,"owner":null,"signalled":false,"state":"waits","thread":3},{"condition":65796,"mutex":65792,"owner":4,"signalled":true,"state":"waits","thread":4},{"other":1,"state":"joins","thread":5},{"state":"blocked","thread":6},{"state":"unblocked","thread":7}]},"entries":8,"steps":3,"verdict":"legal"}"#;
+        r#"{"copies":[],"end":{"how":"deadlock","threads":[{"state":"exited","thread":0},{"mutex":65792,"mutex_object":{"name":"guard","offset":0},"owner":4,"state":"locks","thread":1},{"mutex":65792,"mutex_object":null,"owner":null,"state":"locks","thread":2},{"condition":65796,"condition_object":{"name":"ready","offset":0},"mutex":65812,"mutex_object":{"name":"queue","offset":12},"owner":null,"signalled":false,"state":"waits","thread":3},{"condition":65796,"condition_object":null,"mutex":65792,"mutex_object":null,"owner":4,"signalled":true,"state":"waits","thread":4},{"other":1,"state":"joins","thread":5},{"state":"blocked","thread":6},{"state":"unblocked","thread":7}]},"entries":8,"steps":3,"verdict":"legal"}"#;
     let end = Ended::Deadlock(waiting(alloc)?);
     assert_told(
         &rt,
@@ -205,7 +230,7 @@ fn waiting_threads(rt: HostRuntime) -> Result<(), Fail> {
 
 // The call of a lock.
 const LOCK: Call = Call {
-    which: Which::Function(ro_event::Function::Lock),
+    which: Which::Function(Function::Lock),
     a0: 0x10100,
     a1: 0,
     a2: 0,
@@ -603,6 +628,84 @@ fn the_instruction_that_trapped(rt: HostRuntime) -> Result<(), Fail> {
     )
 }
 
+// A guest that locks a mutex, signals a condition variable and then waits for it, and its journal.
+const SIGNALS_THEN_WAITS: &[u32] = &[
+    0x0001_1437,
+    0x0004_0513,
+    0x0180_00EF,
+    0x0044_0513,
+    0x0140_00EF,
+    0x0044_0513,
+    0x0004_0593,
+    0x00C0_00EF,
+    0x0000_8067,
+    0x0000_8067,
+    0x0000_8067,
+];
+
+const WAITS_FOR_EVER: &str = "romain 2
+take 0 0 0
+put 0 0 0 3 0
+take 0 1 0
+put 0 1 0 3 0
+take 0 2 0
+put 0 2 0 3 0
+vote 0 3 0 - served
+take 0 0 0
+put 0 0 0 2 0
+take 0 1 0
+put 0 1 0 2 0
+take 0 2 0
+put 0 2 0 2 0
+vote 0 2 0 - served
+take 0 0 0
+put 0 0 0 3 0
+take 0 1 0
+put 0 1 0 3 0
+take 0 2 0
+put 0 2 0 3 0
+vote 0 3 0 - parked
+end deadlock
+";
+
+// Its names: `queue` is made an object of eight bytes, which has the mutex and the condition variable.
+const NAMES: [(&str, u32); 4] = [
+    ("queue", 0x1_1000),
+    ("pthread_mutex_lock", 0x1_0074),
+    ("pthread_cond_signal", 0x1_0078),
+    ("pthread_cond_wait", 0x1_007C),
+];
+
+// Where the size and the type of its first symbol stand.
+const SIZE: usize = 84 + 4 * 11 + 16 + 8;
+
+const TYPE: usize = SIZE + 4;
+
+#[test]
+fn a_thread_that_waits_for_ever(rt: HostRuntime) -> Result<(), Fail> {
+    let sentences = [
+        "legal",
+        "The journal has 22 entries, and its plan 11 steps.",
+        "No thread can go on.",
+        "Thread 0 waits for the condition at 00011004 (queue+4), not signalled, to hold the mutex at 00011000 (queue).",
+    ];
+    let json =
+        r#"{"copies":[],"end":{"how":"deadlock","threads":[{"condition":69636,"condition_object":{"name":"queue","offset":4},"mutex":69632,"mutex_object":{"name":"queue","offset":0},"owner":null,"signalled":false,"state":"waits","thread":0}]},"entries":22,"steps":11,"verdict":"legal"}"#;
+    let mut file = image_bytes(rt.alloc(), SIGNALS_THEN_WAITS, 5, &NAMES)?;
+    assert!(rt; TYPE < file.len());
+    file[SIZE] = 8;
+    file[TYPE] = 0x11;
+    assert_found_in(
+        &rt,
+        rt.alloc(),
+        file.as_slice(),
+        "",
+        WAITS_FOR_EVER,
+        sentences.as_slice(),
+        json,
+    )
+}
+
 // What is told of the journal of a guest that runs as three replicas with one driver and these faults.
 fn assert_found(
     rt: &impl Abort,
@@ -614,8 +717,22 @@ fn assert_found(
     json: &str,
 ) -> Result<(), Fail> {
     assert!(rt; guest.len() <= 65_536);
+    let file = image_bytes(alloc, guest, 5, &[])?;
+    assert_found_in(rt, alloc, file.as_slice(), faults, journal, sentences, json)
+}
+
+// The same of the guest of a file.
+fn assert_found_in(
+    rt: &impl Abort,
+    alloc: Global,
+    file: &[u8],
+    faults: &str,
+    journal: &str,
+    sentences: &[&str],
+    json: &str,
+) -> Result<(), Fail> {
     let mut store = MemStore::new(alloc);
-    store.put("guest", image_bytes(alloc, guest, 5, &[])?.as_slice())?;
+    store.put("guest", file)?;
     store.put("faults", faults.as_bytes())?;
     store.put("journal", journal.as_bytes())?;
     let settings = Settings {

@@ -17,7 +17,7 @@ use Rattle.ro_replica.specs.Replica.{Replica, changed_at}
 use Rattle.ro_replica.specs.Runs.{run_of, with_stop}
 use Rattle.ro_replica.specs.Seen.{ReplicaOf, replica_of, Runs}
 use Rattle.ro_lease.specs.Loans.{LentOf, BackOf, Gives}
-use Rattle.ro_legal.specs.declared.actions.Lease.{Lease}
+use Rattle.ro_journal.specs.declared.Lease.{Lease}
 use Rattle.ro_legal.specs.Core.{Job, Core, opening_core, is_idle, is_out, may_vote, may_free}
 use Rattle.ro_legal.specs.Event.{with_recovered}
 use Rattle.ro_legal.specs.Legal.{lease_run, arrived, event_in, freed_event, after, cut_output, IsAllowed, MayTake, MayPut, Legal, may_scrub, replay, output_of}
@@ -35,7 +35,7 @@ use Rattle.ro_audit.specs.declared.follower.Why.TheVariants.{NotOut, Ran}
 use Rattle.ro_audit.specs.Audits.{Compete, IsReason}
 use Rattle.ro_audit.specs.Following.{Lends, Slot, Follows, Followed, IsUnless, Same}
 use Rattle.ro_audit.proofs.Runs.{Arrives, one-run}
-use Rattle.ro_audit.proofs.Slots.{AreSlots, its_lease, slots-take, slots-put, slots-alone, none-out, out-found}
+use Rattle.ro_audit.proofs.Slots.{AreSlots, slots-take, slots-put, slots-alone, none-out, out-found}
 
 -- ---- one entry more
 
@@ -57,62 +57,61 @@ module _ (old new : Fields) (entry : Entry) (lent : List (Option LentOf)) (outpu
 
 -- ---- a take
 
-pub take-follows : (old new : Fields) (driver replica thread : ℕ) (lent lent' : List (Option LentOf)) (output : List ℕ) (quantum : ℕ) (value : ReplicaOf) → Follows old lent output → MayTake old.job (core_in old) driver replica thread → Appends (seen old) (seen new) (Take driver replica thread) → Holds new
-    → output_of new.job new.journal ≡ output_of old.job old.journal → IsLent (seen old) replica thread value
-    → quantum ≡ old.job.settings.quantum → lent' ≡ slice_set lent driver (Some (record { driver = driver; number = replica; thread = thread; quantum = quantum; replica = value })) → Follows new lent' output
+pub take-follows : (old new : Fields) (lease : Lease) (lent lent' : List (Option LentOf)) (output : List ℕ) (quantum : ℕ) (value : ReplicaOf) → Follows old lent output → MayTake old.job (core_in old) lease → Appends (seen old) (seen new) (Take lease) → Holds new
+    → output_of new.job new.journal ≡ output_of old.job old.journal → IsLent (seen old) lease.replica lease.thread value
+    → quantum ≡ old.job.settings.quantum → lent' ≡ slice_set lent lease.driver (Some (record { lease = lease; quantum = quantum; replica = value })) → Follows new lent' output
 unfolding after
-take-follows old new driver replica thread lent lent' output quantum value f may a holds same its quantum_is is =
-    let loan : LentOf = record { driver = driver; number = replica; thread = thread; quantum = quantum; replica = value } in
-    let slots = slots-take old.job (core_in old) driver replica thread lent loan (ordered old.job old.journal f.holds.legal) (leases_apart old.job old.journal f.holds.legal) may f.drivers f.slots refl refl refl quantum_is its.program its.replica
+take-follows old new lease lent lent' output quantum value f may a holds same its quantum_is is =
+    let loan : LentOf = record { lease = lease; quantum = quantum; replica = value } in
+    let slots = slots-take old.job (core_in old) lease lent loan (ordered old.job old.journal f.holds.legal) (leases_apart old.job old.journal f.holds.legal) may f.drivers f.slots refl quantum_is its.program its.replica
     in
-    follows-quiet old new (Take driver replica thread) lent output f a lent' holds same (ap length is ∙ length-set lent driver (Some loan))
-    (subst (AreSlots old.job (after old.job (core_in old) (Take driver replica thread))) (sym is) slots)
+    follows-quiet old new (Take lease) lent output f a lent' holds same (ap length is ∙ length-set lent lease.driver (Some loan))
+    (subst (AreSlots old.job (after old.job (core_in old) (Take lease))) (sym is) slots)
 
 -- ---- a put
 
 module _ (job : Job) (core : Core) (driver : ℕ) (lent : LentOf) (back : BackOf) (s : Lends job core driver lent) (g : Gives lent back) where
-  runs : Runs (layout_of job.program) job.settings.watchdog job.settings.quantum lent.thread (replica_of lent.replica) (replica_of back.replica) back.ran.count back.ran.hit back.ran.stop
+  runs : Runs (layout_of job.program) job.settings.watchdog job.settings.quantum lent.lease.thread (replica_of lent.replica) (replica_of back.replica) back.ran.count back.ran.hit back.ran.stop
   runs =
-      subst (λ (n : ℕ). Runs (layout_of job.program) job.settings.watchdog n lent.thread (replica_of lent.replica) (replica_of back.replica) back.ran.count back.ran.hit back.ran.stop) s.quantum_is
-      (subst (λ (w : ℕ). Runs (layout_of job.program) w lent.quantum lent.thread (replica_of lent.replica) (replica_of back.replica) back.ran.count back.ran.hit back.ran.stop) s.program.watchdog
-      (subst (λ (l : Layout). Runs l lent.replica.watchdog lent.quantum lent.thread (replica_of lent.replica) (replica_of back.replica) back.ran.count back.ran.hit back.ran.stop) s.program.layout g.runs))
+      subst (λ (n : ℕ). Runs (layout_of job.program) job.settings.watchdog n lent.lease.thread (replica_of lent.replica) (replica_of back.replica) back.ran.count back.ran.hit back.ran.stop) s.quantum_is
+      (subst (λ (w : ℕ). Runs (layout_of job.program) w lent.quantum lent.lease.thread (replica_of lent.replica) (replica_of back.replica) back.ran.count back.ran.hit back.ran.stop) s.program.watchdog
+      (subst (λ (l : Layout). Runs l lent.replica.watchdog lent.quantum lent.lease.thread (replica_of lent.replica) (replica_of back.replica) back.ran.count back.ran.hit back.ran.stop) s.program.layout g.runs))
 
-  lease-runs : lease_run job core lent.number lent.thread back.ran.count ≡ Some runs.end
-  lease-runs = ap (option_and_then (λ (r : Replica). run_of (layout_of job.program) job.settings.watchdog back.ran.count r lent.thread)) s.there ∙ runs.runs
+  lease-runs : lease_run job core lent.lease back.ran.count ≡ Some runs.end
+  lease-runs = ap (option_and_then (λ (r : Replica). run_of (layout_of job.program) job.settings.watchdog back.ran.count r lent.lease.thread)) s.there ∙ runs.runs
 
-  arrives : Arrives (layout_of job.program) job.settings.watchdog lent.thread job.settings.quantum back.ran.count runs.end.replica
+  arrives : Arrives (layout_of job.program) job.settings.watchdog lent.lease.thread job.settings.quantum back.ran.count runs.end.replica
   arrives = by runs.arrives
     where
-      by : (back.ran.count ≡ job.settings.quantum) ⊎ ((back.ran.count < job.settings.quantum) × IsSome back.ran.stop) → Arrives (layout_of job.program) job.settings.watchdog lent.thread job.settings.quantum back.ran.count runs.end.replica
+      by : (back.ran.count ≡ job.settings.quantum) ⊎ ((back.ran.count < job.settings.quantum) × IsSome back.ran.stop) → Arrives (layout_of job.program) job.settings.watchdog lent.lease.thread job.settings.quantum back.ran.count runs.end.replica
       by (inl whole) = inl whole
       by (inr early) = inr (early.0, subst (λ (o : Option Stop). IsSome o) runs.stop_is early.1)
 
-  pub run-may-put : MayPut job core driver lent.number lent.thread back.ran.count back.ran.hit
+  pub run-may-put : MayPut job core lent.lease back.ran.count back.ran.hit
   run-may-put = record {
     not_ended = s.not_ended;
-    out = out_found driver (its_lease driver lent) core.leases s.held;
+    out = out_found driver lent.lease core.leases s.held;
     ran = runs.end;
     runs = lease-runs;
     struck = runs.hit_is;
     arrives = arrives;
   }
 
-  pub run-became : slice_get (after job core (Put driver lent.number lent.thread back.ran.count back.ran.hit)).replicas lent.number ≡ Some (replica_of back.replica)
+  pub run-became : slice_get (after job core (Put lent.lease back.ran.count back.ran.hit)).replicas lent.lease.replica ≡ Some (replica_of back.replica)
   run-became =
-      put_became job core driver lent.number lent.thread back.ran.count back.ran.hit (replica_of lent.replica) runs.end s.there lease-runs ∙ ap (λ (r : Replica). Some r) (sym arrived-is)
+      put_became job core lent.lease back.ran.count back.ran.hit (replica_of lent.replica) runs.end s.there lease-runs ∙ ap (λ (r : Replica). Some r) (sym arrived-is)
     where
-      arrived-is : replica_of back.replica ≡ arrived job lent.thread back.ran.count runs.end.replica
-      arrived-is = runs.new_is ∙ ap (λ (o : Option Stop). record runs.end.replica { threads = changed_at (with_stop o) runs.end.replica.threads lent.thread }) runs.stop_is
+      arrived-is : replica_of back.replica ≡ arrived job lent.lease.thread back.ran.count runs.end.replica
+      arrived-is = runs.new_is ∙ ap (λ (o : Option Stop). record runs.end.replica { threads = changed_at (with_stop o) runs.end.replica.threads lent.lease.thread }) runs.stop_is
 
   -- no other count and no other number of faults may come back
-  pub run-is-one : (replica thread count hit : ℕ) → lent.number ≡ replica → lent.thread ≡ thread → MayPut job core driver replica thread count hit → (back.ran.count ≡ count) × (back.ran.hit ≡ hit)
-  run-is-one replica thread count hit number_is thread_is m =
-      let there : run_of (layout_of job.program) job.settings.watchdog count (replica_of lent.replica) lent.thread ≡ Some m.ran =
-      sym (ap (option_and_then (λ (r : Replica). run_of (layout_of job.program) job.settings.watchdog count r lent.thread)) s.there)
-      ∙ ap (λ (n : ℕ). lease_run job core n lent.thread count) number_is ∙ ap (λ (n : ℕ). lease_run job core replica n count) thread_is ∙ m.runs
+  pub run-is-one : (count hit : ℕ) → MayPut job core lent.lease count hit → (back.ran.count ≡ count) × (back.ran.hit ≡ hit)
+  run-is-one count hit m =
+      let there : run_of (layout_of job.program) job.settings.watchdog count (replica_of lent.replica) lent.lease.thread ≡ Some m.ran =
+      sym (ap (option_and_then (λ (r : Replica). run_of (layout_of job.program) job.settings.watchdog count r lent.lease.thread)) s.there) ∙ m.runs
       in
-      let one = one-run (layout_of job.program) job.settings.watchdog lent.thread job.settings.quantum back.ran.count count (replica_of lent.replica) runs.end m.ran runs.runs there arrives
-      (subst (λ (n : ℕ). Arrives (layout_of job.program) job.settings.watchdog n job.settings.quantum count m.ran.replica) (sym thread_is) m.arrives)
+      let one = one-run (layout_of job.program) job.settings.watchdog lent.lease.thread job.settings.quantum back.ran.count count (replica_of lent.replica) runs.end m.ran runs.runs there arrives
+      m.arrives
       in
       (one.0, sym runs.hit_is ∙ one.1 ∙ m.struck)
 
@@ -120,7 +119,7 @@ module _ (job : Job) (core : Core) (driver : ℕ) (lent : LentOf) (back : BackOf
 pub may-return : (core : Fields) (driver : ℕ) (lent : LentOf) (back : BackOf) → Lends core.job (core_in core) driver lent → Gives lent back → (m : MayReturn (seen core) driver back.replica back.ran.count back.ran.hit) × (m.lease ≡ its_lease driver lent)
 may-return core driver lent back s g = (
   record {
-    lease = its_lease driver lent;
+    lease = lent.lease;
     held = s.held;
     allowed = run-may-put core.job (core_in core) driver lent back s g;
     program = record { layout = g.program.layout ∙ s.program.layout; watchdog = g.program.watchdog ∙ s.program.watchdog };
@@ -129,12 +128,12 @@ may-return core driver lent back s g = (
   refl,
 )
 
-pub put-follows : (old new : Fields) (driver replica thread count hit : ℕ) (lent lent' : List (Option LentOf)) (output : List ℕ) → Follows old lent output → MayPut old.job (core_in old) driver replica thread count hit → Appends (seen old) (seen new) (Put driver replica thread count hit) → Holds new
-    → output_of new.job new.journal ≡ output_of old.job old.journal → driver < length lent → lent' ≡ slice_set lent driver None → Follows new lent' output
-put-follows old new driver replica thread count hit lent lent' output f may a holds same within is =
-    let slots = slots-put old.job (core_in old) driver replica thread count hit lent (ordered old.job old.journal f.holds.legal) (leases_apart old.job old.journal f.holds.legal) (one_each old.job old.journal f.holds.legal) may within f.slots in
-    follows-quiet old new (Put driver replica thread count hit) lent output f a lent' holds same (ap length is ∙ length-set lent driver None)
-    (subst (AreSlots old.job (after old.job (core_in old) (Put driver replica thread count hit))) (sym is) slots)
+pub put-follows : (old new : Fields) (lease : Lease) (count hit : ℕ) (lent lent' : List (Option LentOf)) (output : List ℕ) → Follows old lent output → MayPut old.job (core_in old) lease count hit → Appends (seen old) (seen new) (Put lease count hit) → Holds new
+    → output_of new.job new.journal ≡ output_of old.job old.journal → lease.driver < length lent → lent' ≡ slice_set lent lease.driver None → Follows new lent' output
+put-follows old new lease count hit lent lent' output f may a holds same within is =
+    let slots = slots-put old.job (core_in old) lease count hit lent (ordered old.job old.journal f.holds.legal) (leases_apart old.job old.journal f.holds.legal) (one_each old.job old.journal f.holds.legal) may within f.slots in
+    follows-quiet old new (Put lease count hit) lent output f a lent' holds same (ap length is ∙ length-set lent lease.driver None)
+    (subst (AreSlots old.job (after old.job (core_in old) (Put lease count hit))) (sym is) slots)
 
 -- ---- a vote, a free and a scrub
 
@@ -142,8 +141,8 @@ vote-leases : (job : Job) (core : Core) (thread : ℕ) (entry : Entry) → Decid
 unfolding after
 vote-leases job core thread (Vote t count won lost did) d = event_leases core t count (with_recovered won (numbers lost) core.replicas) (event_in job core t won)
 vote-leases job core thread (End how) d = refl
-vote-leases job core thread (Take driver replica lent) d = absurd d
-vote-leases job core thread (Put driver replica lent count hit) d = absurd d
+vote-leases job core thread (Take lease) d = absurd d
+vote-leases job core thread (Put lease count hit) d = absurd d
 vote-leases job core thread (Free freed) d = absurd d
 vote-leases job core thread (Scrub won lost) d = absurd d
 
@@ -157,8 +156,8 @@ free-leases : (job : Job) (core : Core) (thread : ℕ) (entry : Entry) → Decid
 unfolding after
 free-leases job core thread (Free t) d = event_leases core t 0 core.replicas (freed_event job core t)
 free-leases job core thread (End how) d = refl
-free-leases job core thread (Take driver replica lent) d = absurd d
-free-leases job core thread (Put driver replica lent count hit) d = absurd d
+free-leases job core thread (Take lease) d = absurd d
+free-leases job core thread (Put lease count hit) d = absurd d
 free-leases job core thread (Vote t count won lost did) d = absurd d
 free-leases job core thread (Scrub won lost) d = absurd d
 
@@ -172,8 +171,8 @@ scrub-leases : (job : Job) (core : Core) (entry : Entry) → DecidesScrub core e
 unfolding after
 scrub-leases job core (Scrub won lost) d = refl
 scrub-leases job core (End how) d = refl
-scrub-leases job core (Take driver replica lent) d = absurd d
-scrub-leases job core (Put driver replica lent count hit) d = absurd d
+scrub-leases job core (Take lease) d = absurd d
+scrub-leases job core (Put lease count hit) d = absurd d
 scrub-leases job core (Vote t count won lost did) d = absurd d
 scrub-leases job core (Free freed) d = absurd d
 
@@ -297,46 +296,36 @@ false-by : (b : Bool) → (b ≡ true → ⊥) → b ≡ false
 false-by true none = absurd (none refl)
 false-by false none = refl
 
-not-out : (core : Fields) (driver replica thread count hit : ℕ) → (is_out (core_in core) driver replica thread ≡ true → ⊥) → Refuses core (Put driver replica thread count hit) NotOut
-not-out core driver replica thread count hit none = (λ m. none m.out, false-by (is_out (core_in core) driver replica thread) none)
+not-out : (core : Fields) (lease : Lease) (count hit : ℕ) → (is_out (core_in core) lease ≡ true → ⊥) → Refuses core (Put lease count hit) NotOut
+not-out core lease count hit none = (λ m. none m.out, false-by (is_out (core_in core) lease) none)
 
 -- nothing is lent to the driver
-pub none-lent : (core : Fields) (driver replica thread count hit : ℕ) (o : Option LentOf) → o ≡ None → Slot core.job (core_in core) driver o → Refuses core (Put driver replica thread count hit) NotOut
-none-lent core driver replica thread count hit o e s = not-out core driver replica thread count hit (λ out. none-out (core_in core) driver replica thread (subst (Slot core.job (core_in core) driver) e s) out)
+pub none-lent : (core : Fields) (lease : Lease) (count hit : ℕ) (o : Option LentOf) → o ≡ None → Slot core.job (core_in core) lease.driver o → Refuses core (Put lease count hit) NotOut
+none-lent core lease count hit o e s = not-out core lease count hit (λ out. none-out (core_in core) lease (subst (Slot core.job (core_in core) lease.driver) e s) out)
 
--- another thread is
-pub other-lent : (core : Fields) (driver replica thread count hit : ℕ) (lent : LentOf) (answer : Bool) → Legal core.job core.journal → Lends core.job (core_in core) driver lent → IsTrue answer ↔ ((lent.number ≡ replica) × (lent.thread ≡ thread)) → answer ≡ false
-    → Refuses core (Put driver replica thread count hit) NotOut
-other-lent core driver replica thread count hit lent answer legal s is fails = not-out core driver replica thread count hit (λ out.
-    let found = out-found driver replica thread (its_lease driver lent) (core_in core).leases (one_each core.job core.journal legal) s.held out in
+-- another lease is
+pub other-lent : (core : Fields) (lease : Lease) (count hit : ℕ) (lent : LentOf) (answer : Bool) → Legal core.job core.journal → Lends core.job (core_in core) lease.driver lent → IsTrue answer ↔ (lent.lease ≡ lease) → answer ≡ false → Refuses core (Put lease count hit) NotOut
+other-lent core lease count hit lent answer legal s is fails = not-out core lease count hit (λ out.
+    let found = out-found lease lent.lease (core_in core).leases (one_each core.job core.journal legal) s.held out in
     true≢false (sym (is.1 found) ∙ fails))
 
 -- its run comes to something else
-pub other-run : (core : Fields) (driver replica thread count hit : ℕ) (lent : LentOf) (back : BackOf) (answer : Bool) → Lends core.job (core_in core) driver lent → Gives lent back → (lent.number ≡ replica) × (lent.thread ≡ thread)
-    → IsTrue answer ↔ ((back.ran.count ≡ count) × (back.ran.hit ≡ hit)) → answer ≡ false → Refuses core (Put driver replica thread count hit) (Ran back.ran.count back.ran.hit)
-other-run core driver replica thread count hit lent back answer s g its is fails = (
-  λ m. true≢false (sym (is.1 (run-is-one core.job (core_in core) driver lent back s g replica thread count hit its.0 its.1 m)) ∙ fails),
-  (
-    subst (λ (n : ℕ). MayPut core.job (core_in core) driver replica n back.ran.count back.ran.hit) its.1
-        (subst (λ (n : ℕ). MayPut core.job (core_in core) driver n lent.thread back.ran.count back.ran.hit) its.0 (run-may-put core.job (core_in core) driver lent back s g)),
-    λ same. true≢false (sym (is.1 same) ∙ fails),
-  ),
+pub other-run : (core : Fields) (lease : Lease) (count hit : ℕ) (lent : LentOf) (back : BackOf) (answer : Bool) → Lends core.job (core_in core) lease.driver lent → Gives lent back → lent.lease ≡ lease
+    → IsTrue answer ↔ ((back.ran.count ≡ count) × (back.ran.hit ≡ hit)) → answer ≡ false → Refuses core (Put lease count hit) (Ran back.ran.count back.ran.hit)
+other-run core lease count hit lent back answer s g its is fails = (
+  λ m. true≢false (sym (is.1 (run-is-one core.job (core_in core) lease.driver lent back s g count hit (subst (λ (l : Lease). MayPut core.job (core_in core) l count hit) (sym its) m))) ∙ fails),
+  (subst (λ (l : Lease). MayPut core.job (core_in core) l back.ran.count back.ran.hit) its (run-may-put core.job (core_in core) lease.driver lent back s g), λ same. true≢false (sym (is.1 same) ∙ fails)),
 )
 
 -- a put that was followed
-pub put-followed : (core new : Fields) (driver replica thread count hit : ℕ) (lent : LentOf) (back : BackOf) (items items' : List (Option LentOf)) (output : List ℕ) → Follows core items output → Lends core.job (core_in core) driver lent → Gives lent back
-    → (lent.number ≡ replica) × (lent.thread ≡ thread) → (back.ran.count ≡ count) × (back.ran.hit ≡ hit) → ReturnIs (seen core) (seen new) driver back.ran.count back.ran.hit → Holds new → output_of new.job new.journal ≡ output_of core.job core.journal
-    → driver < length items → items' ≡ slice_set items driver None → Followed core (Put driver replica thread count hit) None new items' output
-put-followed core new driver replica thread count hit lent back items items' output f s g its ran r holds same within is =
-    let may = run-may-put core.job (core_in core) driver lent back s g in
-    let appends : Appends (seen core) (seen new) (Put driver lent.number lent.thread back.ran.count back.ran.hit) = r (its_lease driver lent) s.held in
-    let done : Followed core (Put driver lent.number lent.thread back.ran.count back.ran.hit) None new items' output =
-    (may, appends, put-follows core new driver lent.number lent.thread back.ran.count back.ran.hit items items' output f may appends holds same within is)
-    in
-    let the_same : Put driver lent.number lent.thread back.ran.count back.ran.hit ≡ Put driver replica thread count hit =
-    ap (λ (n : ℕ). Put driver n lent.thread back.ran.count back.ran.hit) its.0 ∙ ap (λ (n : ℕ). Put driver replica n back.ran.count back.ran.hit) its.1
-    ∙ ap (λ (n : ℕ). Put driver replica thread n back.ran.hit) ran.0 ∙ ap (Put driver replica thread count) ran.1
-    in
+pub put-followed : (core new : Fields) (lease : Lease) (count hit : ℕ) (lent : LentOf) (back : BackOf) (items items' : List (Option LentOf)) (output : List ℕ) → Follows core items output → Lends core.job (core_in core) lease.driver lent → Gives lent back
+    → lent.lease ≡ lease → (back.ran.count ≡ count) × (back.ran.hit ≡ hit) → ReturnIs (seen core) (seen new) lease.driver back.ran.count back.ran.hit → Holds new → output_of new.job new.journal ≡ output_of core.job core.journal
+    → lease.driver < length items → items' ≡ slice_set items lease.driver None → Followed core (Put lease count hit) None new items' output
+put-followed core new lease count hit lent back items items' output f s g its ran r holds same within is =
+    let may = subst (λ (l : Lease). MayPut core.job (core_in core) l back.ran.count back.ran.hit) its (run-may-put core.job (core_in core) lease.driver lent back s g) in
+    let appends : Appends (seen core) (seen new) (Put lease back.ran.count back.ran.hit) = r lease (s.held ∙ ap (λ (l : Lease). Some l) its) in
+    let done : Followed core (Put lease back.ran.count back.ran.hit) None new items' output = (may, appends, put-follows core new lease back.ran.count back.ran.hit items items' output f may appends holds same within is) in
+    let the_same : Put lease back.ran.count back.ran.hit ≡ Put lease count hit = ap (λ (n : ℕ). Put lease n back.ran.hit) ran.0 ∙ ap (Put lease count) ran.1 in
     subst (λ (e : Entry). Followed core e None new items' output) the_same done
 
 -- what holds of a journal holds of the same one

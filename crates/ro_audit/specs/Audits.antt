@@ -28,10 +28,10 @@ Compete job core entry came =
 abbrev pub IsReason : Job → Core → Entry → Why → Type 0
 IsReason job core entry (Comes came) = IsAllowed job core came × (came ≢ entry) × Compete job core entry came
 IsReason job core entry Behind = IsSome core.ended
-IsReason job core (Take driver replica thread) NotLendable = MayTake job core driver replica thread → ⊥
-IsReason job core (Put driver replica thread count hit) NotOut = is_out core driver replica thread ≡ false
-IsReason job core (Put driver replica thread count hit) (Ran other struck) =
-    MayPut job core driver replica thread other struck × ((other ≡ count) × (struck ≡ hit) → ⊥)
+IsReason job core (Take lease) NotLendable = MayTake job core lease → ⊥
+IsReason job core (Put lease count hit) NotOut = is_out core lease ≡ false
+IsReason job core (Put lease count hit) (Ran other struck) =
+    MayPut job core lease other struck × ((other ≡ count) × (struck ≡ hit) → ⊥)
 IsReason job core (Vote thread count won lost did) NoVote = may_vote core thread ≡ false
 IsReason job core (Free thread) NoFree = may_free job core thread ≡ false
 IsReason job core (Scrub won lost) NoScrub = may_scrub core ≡ false

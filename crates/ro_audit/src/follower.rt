@@ -16,7 +16,7 @@ use crate::copies::{Compared, Difference};
 use ro_core::{Core, Finished};
 use ro_faults::Fault;
 use ro_image::Executable;
-use ro_journal::{Entry, How, Lost};
+use ro_journal::{Entry, How, Lease, Lost};
 use ro_lease::{Back, Lent};
 use ro_legal::Action;
 use ro_post::Work;
@@ -161,18 +161,8 @@ impl Follower {
             return Ok(Some(Why::Behind));
         }
         match *entry {
-            Entry::Take {
-                driver,
-                replica,
-                thread,
-            } => self.take(driver, replica, thread),
-            Entry::Put {
-                driver,
-                replica,
-                thread,
-                count,
-                hit,
-            } => Ok(self.put(driver, replica, thread, count, hit)),
+            Entry::Take(lease) => self.take(lease),
+            Entry::Put { lease, count, hit } => Ok(self.put(lease, count, hit)),
             Entry::Vote {
                 thread,
                 won,
@@ -198,34 +188,34 @@ impl Follower {
     }
 
     // Lends a thread of a replica to a driver, where that is allowed.
-    fn take(&mut self, driver: u32, replica: u32, thread: u32) -> Result<Option<Why>, AllocError>
+    fn take(&mut self, lease: Lease) -> Result<Option<Why>, AllocError>
         requires { Follows (fields_of self.old.core) self.old.lent.items self.old.output.items }
         ensures holds { Holds (fields_of self.new.core) }
         ensures job { job_of self.new.core ≡ job_of self.old.core }
-        ensures followed { IfOk result (λ why. Followed (fields_of self.old.core) (Take driver replica thread) why (fields_of self.new.core) self.new.lent.items self.new.output.items) }
+        ensures followed { IfOk result (λ why. Followed (fields_of self.old.core) (Take lease) why (fields_of self.new.core) self.new.lent.items self.new.output.items) }
     {
-        if !self.core.may_take(driver, replica, thread) {
+        if !self.core.may_take(lease) {
             return Ok(Some(Why::NotLendable));
         }
         self.core.room()?;
         let quantum = self.core.settings().quantum;
-        let taken = self.core.take(driver, replica, thread);
-        let lent = Lent::new(driver, replica, thread, quantum, taken);
-        lend(self.lent.as_mut_slice(), driver, lent);
+        let taken = self.core.take(lease);
+        let lent = Lent::new(lease, quantum, taken);
+        lend(self.lent.as_mut_slice(), lease.driver, lent);
         Ok(None)
     }
 
     // Runs what is lent to a driver and puts it back, where the entry is that of its run.
-    fn put(&mut self, driver: u32, replica: u32, thread: u32, count: u32, hit: u32) -> Option<Why>
+    fn put(&mut self, lease: Lease, count: u32, hit: u32) -> Option<Why>
         requires { Follows (fields_of self.old.core) self.old.lent.items self.old.output.items }
         ensures holds { Holds (fields_of self.new.core) }
         ensures job { job_of self.new.core ≡ job_of self.old.core }
-        ensures followed { Followed (fields_of self.old.core) (Put driver replica thread count hit) result (fields_of self.new.core) self.new.lent.items self.new.output.items }
+        ensures followed { Followed (fields_of self.old.core) (Put lease count hit) result (fields_of self.new.core) self.new.lent.items self.new.output.items }
     {
-        let Some(lent) = take_back(self.lent.as_mut_slice(), driver) else {
+        let Some(lent) = take_back(self.lent.as_mut_slice(), lease.driver) else {
             return Some(Why::NotOut);
         };
-        if !is_of(&lent, replica, thread) {
+        if !is_of(&lent, lease) {
             return Some(Why::NotOut);
         }
         let Back {
@@ -239,7 +229,7 @@ impl Follower {
                 hit: ran.hit,
             });
         }
-        self.core.put(driver, returned, ran);
+        self.core.put(lease.driver, returned, ran);
         None
     }
 
@@ -502,12 +492,11 @@ fn take_back(lent: &mut [Option<Lent>], driver: u32) -> Option<Lent>
     lent[driver as usize].take()
 }
 
-// Whether what is lent is a thread of this replica.
-fn is_of(lent: &Lent, replica: u32, thread: u32) -> bool
-    ensures { IsTrue result ↔ ((lent.now.number ≡ replica) × (lent.now.thread ≡ thread)) }
+// Whether what is lent is of this lease.
+fn is_of(lent: &Lent, lease: Lease) -> bool
+    ensures { IsTrue result ↔ (lent.now.lease ≡ lease) }
 {
-    let (_, lent_replica, lent_thread) = lent.place();
-    lent_replica == replica && lent_thread == thread
+    lent.lease() == lease
 }
 
 // Whether a run came to so many instructions and faults.

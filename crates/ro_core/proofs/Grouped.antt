@@ -11,6 +11,7 @@ use Rattle.ro_event.specs.declared.stops.Stop.{Stop}
 use Rattle.ro_event.specs.Effects.{Effect}
 use Rattle.ro_group.specs.Groups.{Groups, stands_in, stands, is_ready, Changes}
 use Rattle.ro_plain.proofs.Calls.{some-injective}
+use Rattle.ro_journal.specs.declared.Lease.{Lease}
 use Rattle.ro_journal.specs.declared.Entry.TheVariants.{Put}
 use Rattle.ro_thread.specs.declared.Thread.{Thread}
 use Rattle.ro_replica.specs.Replica.{Replica, applied, cancelled, recovered, stop_of, opening_replica}
@@ -55,60 +56,60 @@ opening-grouped job groups none = record {
 
 -- ---- a run
 
-put-into : (job : Job) (core : Core) (driver replica thread count hit : ℕ) (may : MayPut job core driver replica thread count hit) (lent : LentThread core replica thread) (groups new : Groups) (value : Replica)
-    → slice_get (core_after_put job core driver replica thread count (Some may.ran)).replicas replica ≡ Some value → AreGrouped core.replicas groups → Returns replica thread (is_some (stop_of value thread)) groups new
-    → AreGrouped (core_after_put job core driver replica thread count (Some may.ran)).replicas new
-put-into job core driver replica thread count hit may lent groups new value became h back = record {
-  count = kept-count (cases_Bool (is_some (stop_of value thread))) ∙ h.count ∙ sym (length-set core.replicas replica (arrived job thread count may.ran.replica));
-  each = λ number t r e. by number t r e (cases_eq number replica) (cases_eq t thread);
+put-into : (job : Job) (core : Core) (lease : Lease) (count hit : ℕ) (may : MayPut job core lease count hit) (lent : LentThread core lease.replica lease.thread) (groups new : Groups) (value : Replica)
+    → slice_get (core_after_put job core lease count (Some may.ran)).replicas lease.replica ≡ Some value → AreGrouped core.replicas groups → Returns lease.replica lease.thread (is_some (stop_of value lease.thread)) groups new
+    → AreGrouped (core_after_put job core lease count (Some may.ran)).replicas new
+put-into job core lease count hit may lent groups new value became h back = record {
+  count = kept-count (cases_Bool (is_some (stop_of value lease.thread))) ∙ h.count ∙ sym (length-set core.replicas lease.replica (arrived job lease.thread count may.ran.replica));
+  each = λ number t r e. by number t r e (cases_eq number lease.replica) (cases_eq t lease.thread);
 }
   where
-    kept-count : (is_some (stop_of value thread) ≡ true) ⊎ (is_some (stop_of value thread) ≡ false) → length new ≡ length groups
+    kept-count : (is_some (stop_of value lease.thread) ≡ true) ⊎ (is_some (stop_of value lease.thread) ≡ false) → length new ≡ length groups
     kept-count (inl e) = (back.noted e).count
     kept-count (inr e) = ap (λ (g : Groups). length g) (back.same e)
 
-    kept : (number t : ℕ) → (number ≢ replica) ⊎ (t ≢ thread) → (is_some (stop_of value thread) ≡ true) ⊎ (is_some (stop_of value thread) ≡ false) → stands new number t ≡ stands groups number t
+    kept : (number t : ℕ) → (number ≢ lease.replica) ⊎ (t ≢ lease.thread) → (is_some (stop_of value lease.thread) ≡ true) ⊎ (is_some (stop_of value lease.thread) ≡ false) → stands new number t ≡ stands groups number t
     kept number t d (inl e) = (back.noted e).others number t d
     kept number t d (inr e) = ap (λ (g : Groups). stands g number t) (back.same e)
 
-    arrived-is : value ≡ arrived job thread count may.ran.replica
-    arrived-is = some-injective (sym became ∙ get-set-same core.replicas replica lent.lent (arrived job thread count may.ran.replica) lent.in_core)
+    arrived-is : value ≡ arrived job lease.thread count may.ran.replica
+    arrived-is = some-injective (sym became ∙ get-set-same core.replicas lease.replica lent.lent (arrived job lease.thread count may.ran.replica) lent.in_core)
 
     -- the thread that ran
-    own : (is_some (stop_of value thread) ≡ true) ⊎ (is_some (stop_of value thread) ≡ false) → stands new replica thread ≡ is_some (stop_of value thread)
+    own : (is_some (stop_of value lease.thread) ≡ true) ⊎ (is_some (stop_of value lease.thread) ≡ false) → stands new lease.replica lease.thread ≡ is_some (stop_of value lease.thread)
     own (inl e) = (back.noted e).named ∙ sym e
     own (inr e) =
-        ap (λ (g : Groups). stands g replica thread) (back.same e) ∙ h.each replica thread lent.lent lent.in_core
+        ap (λ (g : Groups). stands g lease.replica lease.thread) (back.same e) ∙ h.each lease.replica lease.thread lent.lent lent.in_core
         ∙ ap (λ (o : Option Thread). is_some (option_and_then (λ (t : Thread). t.stop) o)) lent.in_lent ∙ ap is_some lent.goes ∙ sym e
 
     -- another thread of its replica
-    beside : (t : ℕ) → t ≢ thread → stands new replica t ≡ is_some (stop_of value t)
+    beside : (t : ℕ) → t ≢ lease.thread → stands new lease.replica t ≡ is_some (stop_of value t)
     beside t differs =
-        kept replica t (inr differs) (cases_Bool (is_some (stop_of value thread))) ∙ h.each replica t lent.lent lent.in_core
+        kept lease.replica t (inr differs) (cases_Bool (is_some (stop_of value lease.thread))) ∙ h.each lease.replica t lent.lent lent.in_core
         ∙ ap (λ (o : Option Thread). is_some (option_and_then (λ (x : Thread). x.stop) o))
-        (sym (changed-other (with_stop (arrival job thread count may.ran.replica)) may.ran.replica.threads thread t differs ∙ (lent-meets job core replica thread count may.ran lent may.runs).only.others t differs))
+        (sym (changed-other (with_stop (arrival job lease.thread count may.ran.replica)) may.ran.replica.threads lease.thread t differs ∙ (lent-meets job core lease count may.ran lent may.runs).only.others t differs))
         ∙ ap (λ (r : Replica). is_some (stop_of r t)) (sym arrived-is)
 
-    by : (number t : ℕ) (r : Replica) → slice_get (core_after_put job core driver replica thread count (Some may.ran)).replicas number ≡ Some r → (number ≡ replica) ⊎ (number ≢ replica) → (t ≡ thread) ⊎ (t ≢ thread) → stands new number t ≡ is_some (stop_of r t)
+    by : (number t : ℕ) (r : Replica) → slice_get (core_after_put job core lease count (Some may.ran)).replicas number ≡ Some r → (number ≡ lease.replica) ⊎ (number ≢ lease.replica) → (t ≡ lease.thread) ⊎ (t ≢ lease.thread) → stands new number t ≡ is_some (stop_of r t)
     by number t r e (inr other) _ =
-        kept number t (inl other) (cases_Bool (is_some (stop_of value thread)))
-        ∙ h.each number t r (sym (slice_get-set_other core.replicas replica number (arrived job thread count may.ran.replica) (λ k. other (sym k))) ∙ e)
+        kept number t (inl other) (cases_Bool (is_some (stop_of value lease.thread)))
+        ∙ h.each number t r (sym (slice_get-set_other core.replicas lease.replica number (arrived job lease.thread count may.ran.replica) (λ k. other (sym k))) ∙ e)
     by number t r e (inl same) (inl here) =
-        let is : value ≡ r = some-injective (sym became ∙ ap (slice_get (core_after_put job core driver replica thread count (Some may.ran)).replicas) (sym same) ∙ e) in
-        ap (λ (n : ℕ). stands new n t) same ∙ ap (stands new replica) here ∙ own (cases_Bool (is_some (stop_of value thread))) ∙ ap (λ (x : Replica). is_some (stop_of x thread)) is ∙ ap (λ (n : ℕ). is_some (stop_of r n)) (sym here)
+        let is : value ≡ r = some-injective (sym became ∙ ap (slice_get (core_after_put job core lease count (Some may.ran)).replicas) (sym same) ∙ e) in
+        ap (λ (n : ℕ). stands new n t) same ∙ ap (stands new lease.replica) here ∙ own (cases_Bool (is_some (stop_of value lease.thread))) ∙ ap (λ (x : Replica). is_some (stop_of x lease.thread)) is ∙ ap (λ (n : ℕ). is_some (stop_of r n)) (sym here)
     by number t r e (inl same) (inr differs) =
-        let is : value ≡ r = some-injective (sym became ∙ ap (slice_get (core_after_put job core driver replica thread count (Some may.ran)).replicas) (sym same) ∙ e) in
+        let is : value ≡ r = some-injective (sym became ∙ ap (slice_get (core_after_put job core lease count (Some may.ran)).replicas) (sym same) ∙ e) in
         ap (λ (n : ℕ). stands new n t) same ∙ beside t differs ∙ ap (λ (x : Replica). is_some (stop_of x t)) is
 
 -- a put keeps the groups
-pub put-grouped : (job : Job) (core : Core) (driver replica thread count hit : ℕ) (may : MayPut job core driver replica thread count hit) → LentGo core → (groups new : Groups) (value : Replica)
-    → slice_get (after job core (Put driver replica thread count hit)).replicas replica ≡ Some value → AreGrouped core.replicas groups → Returns replica thread (is_some (stop_of value thread)) groups new
-    → AreGrouped (after job core (Put driver replica thread count hit)).replicas new
+pub put-grouped : (job : Job) (core : Core) (lease : Lease) (count hit : ℕ) (may : MayPut job core lease count hit) → LentGo core → (groups new : Groups) (value : Replica)
+    → slice_get (after job core (Put lease count hit)).replicas lease.replica ≡ Some value → AreGrouped core.replicas groups → Returns lease.replica lease.thread (is_some (stop_of value lease.thread)) groups new
+    → AreGrouped (after job core (Put lease count hit)).replicas new
 unfolding after
-put-grouped job core driver replica thread count hit may go groups new value became h back =
-    let is = ap (core_after_put job core driver replica thread count) may.runs in
+put-grouped job core lease count hit may go groups new value became h back =
+    let is = ap (core_after_put job core lease count) may.runs in
     subst (λ (c : Core). AreGrouped c.replicas new) (sym is)
-    (put-into job core driver replica thread count hit may (lent-thread core replica thread (go driver replica thread may.out)) groups new value (sym (ap (λ (c : Core). slice_get c.replicas replica) is) ∙ became) h back)
+    (put-into job core lease count hit may (lent-thread core lease.replica lease.thread (go lease may.out)) groups new value (sym (ap (λ (c : Core). slice_get c.replicas lease.replica) is) ∙ became) h back)
 
 -- ---- a copy
 

@@ -11,9 +11,9 @@ use Rattle.ro_plain.specs.Machine.{layout_of}
 use Rattle.ro_replica.specs.Replica.{Replica}
 use Rattle.ro_replica.specs.Runs.{RanTo, run_of}
 use Rattle.ro_replica.specs.Seen.{ReplicaOf, replica_of}
-use Rattle.ro_legal.specs.declared.actions.Lease.{Lease}
-use Rattle.ro_legal.specs.Core.{Job, Core, is_home}
-use Rattle.ro_legal.specs.Legal.{is_lease, lease_run, arrived, core_after_put, after, MayPut}
+use Rattle.ro_journal.specs.declared.Lease.{Lease}
+use Rattle.ro_legal.specs.Core.{Job, Core, is_home, is_lease}
+use Rattle.ro_legal.specs.Legal.{lease_run, arrived, core_after_put, after, MayPut}
 use Rattle.ro_core.specs.Seen.{IsOfJob}
 use Rattle.ro_core.specs.Fields.{Seated, AreSeated}
 use Rattle.ro_legal.proofs.Leases.{Apart, has_replica, gone, others_stay}
@@ -42,74 +42,74 @@ same_seat job old new number (Some None) h r s = h ∙ s
 same_seat job old new number (Some (Some value)) h r s = (h ∙ s.0, s.1, r ∙ s.2)
 
 -- a replica leaves its seat
-pub take_seated : (job : Job) (core : Core) (seats : List (Option ReplicaOf)) (driver replica thread : ℕ) (value : ReplicaOf) → AreSeated job core seats → slice_get seats replica ≡ Some (Some value)
-    → AreSeated job (after job core (Take driver replica thread)) (slice_set seats replica None)
+pub take_seated : (job : Job) (core : Core) (seats : List (Option ReplicaOf)) (lease : Lease) (value : ReplicaOf) → AreSeated job core seats → slice_get seats lease.replica ≡ Some (Some value)
+    → AreSeated job (after job core (Take lease)) (slice_set seats lease.replica None)
 unfolding after
-take_seated job core seats driver replica thread value seated there = record {
-  count = length-set seats replica None ∙ seated.count;
-  each = λ number. by number (replica == number) refl;
+take_seated job core seats lease value seated there = record {
+  count = length-set seats lease.replica None ∙ seated.count;
+  each = λ number. by number (lease.replica == number) refl;
 }
   where
-    by : (number : ℕ) (b : Bool) → (replica == number) ≡ b → Seated job (after job core (Take driver replica thread)) number (slice_get (slice_set seats replica None) number)
+    by : (number : ℕ) (b : Bool) → (lease.replica == number) ≡ b → Seated job (after job core (Take lease)) number (slice_get (slice_set seats lease.replica None) number)
     by number true e =
-        let same : replica ≡ number = eqb-true replica number e in
-        let empty : slice_get (slice_set seats replica None) number ≡ Some None = ap (slice_get (slice_set seats replica None)) (sym same) ∙ get-set-same seats replica (Some value) None there in
-        let away : not ((replica == number) || has_replica number core.leases) ≡ false = ap (λ (b : Bool). not (b || has_replica number core.leases)) e in
-        subst (λ (o : Option (Option ReplicaOf)). Seated job (after job core (Take driver replica thread)) number o) (sym empty) away
+        let same : lease.replica ≡ number = eqb-true lease.replica number e in
+        let empty : slice_get (slice_set seats lease.replica None) number ≡ Some None = ap (slice_get (slice_set seats lease.replica None)) (sym same) ∙ get-set-same seats lease.replica (Some value) None there in
+        let away : not ((lease.replica == number) || has_replica number core.leases) ≡ false = ap (λ (b : Bool). not (b || has_replica number core.leases)) e in
+        subst (λ (o : Option (Option ReplicaOf)). Seated job (after job core (Take lease)) number o) (sym empty) away
     by number false e =
-        let kept : slice_get (slice_set seats replica None) number ≡ slice_get seats number = slice_get-set_other seats replica number None (differ_by replica number e) in
-        let home : not ((replica == number) || has_replica number core.leases) ≡ not (has_replica number core.leases) = ap (λ (b : Bool). not (b || has_replica number core.leases)) e in
-        subst (λ (o : Option (Option ReplicaOf)). Seated job (after job core (Take driver replica thread)) number o) (sym kept)
-        (same_seat job core (after job core (Take driver replica thread)) number (slice_get seats number) home refl (seated.each number))
+        let kept : slice_get (slice_set seats lease.replica None) number ≡ slice_get seats number = slice_get-set_other seats lease.replica number None (differ_by lease.replica number e) in
+        let home : not ((lease.replica == number) || has_replica number core.leases) ≡ not (has_replica number core.leases) = ap (λ (b : Bool). not (b || has_replica number core.leases)) e in
+        subst (λ (o : Option (Option ReplicaOf)). Seated job (after job core (Take lease)) number o) (sym kept)
+        (same_seat job core (after job core (Take lease)) number (slice_get seats number) home refl (seated.each number))
 
 -- a run is of a replica that is there
-run_there : (job : Job) (core : Core) (replica thread count : ℕ) (ran : RanTo) → lease_run job core replica thread count ≡ Some ran → (r : Replica) × (slice_get core.replicas replica ≡ Some r)
-run_there job core replica thread count ran e = by (slice_get core.replicas replica) refl e
+run_there : (job : Job) (core : Core) (lease : Lease) (count : ℕ) (ran : RanTo) → lease_run job core lease count ≡ Some ran → (r : Replica) × (slice_get core.replicas lease.replica ≡ Some r)
+run_there job core lease count ran e = by (slice_get core.replicas lease.replica) refl e
   where
-    by : (o : Option Replica) → slice_get core.replicas replica ≡ o → option_and_then (λ r. run_of (layout_of job.program) job.settings.watchdog count r thread) o ≡ Some ran → (r : Replica) × (slice_get core.replicas replica ≡ Some r)
+    by : (o : Option Replica) → slice_get core.replicas lease.replica ≡ o → option_and_then (λ r. run_of (layout_of job.program) job.settings.watchdog count r lease.thread) o ≡ Some ran → (r : Replica) × (slice_get core.replicas lease.replica ≡ Some r)
     by None f g = absurd (let h : None ≡ Some ran = g in cc)
     by (Some r) f g = (r, f)
 
-pub seat_within : (job : Job) (core : Core) (seats : List (Option ReplicaOf)) (replica thread count : ℕ) (ran : RanTo) → AreSeated job core seats → lease_run job core replica thread count ≡ Some ran → replica < length seats
-seat_within job core seats replica thread count ran seated e =
-    let t = run_there job core replica thread count ran e in
-    let h : replica < length core.replicas = slice_get_within core.replicas replica t.0 t.1 in
+pub seat_within : (job : Job) (core : Core) (seats : List (Option ReplicaOf)) (lease : Lease) (count : ℕ) (ran : RanTo) → AreSeated job core seats → lease_run job core lease count ≡ Some ran → lease.replica < length seats
+seat_within job core seats lease count ran seated e =
+    let t = run_there job core lease count ran e in
+    let h : lease.replica < length core.replicas = slice_get_within core.replicas lease.replica t.0 t.1 in
     let c : length seats ≡ length core.replicas = seated.count in
     omega arith
 
 -- a replica comes back to its seat
-pub put_seated : (job : Job) (core : Core) (seats : List (Option ReplicaOf)) (driver replica thread count hit : ℕ) (value : ReplicaOf) → Apart core.leases → AreSeated job core seats
-    → MayPut job core driver replica thread count hit → IsOfJob job value
-    → slice_get (after job core (Put driver replica thread count hit)).replicas replica ≡ Some (replica_of value)
-    → AreSeated job (after job core (Put driver replica thread count hit)) (slice_set seats replica (Some value))
+pub put_seated : (job : Job) (core : Core) (seats : List (Option ReplicaOf)) (lease : Lease) (count hit : ℕ) (value : ReplicaOf) → Apart core.leases → AreSeated job core seats
+    → MayPut job core lease count hit → IsOfJob job value
+    → slice_get (after job core (Put lease count hit)).replicas lease.replica ≡ Some (replica_of value)
+    → AreSeated job (after job core (Put lease count hit)) (slice_set seats lease.replica (Some value))
 unfolding after
-put_seated job core seats driver replica thread count hit value apart seated m program became =
-    let new : Core = core_after_put job core driver replica thread count (Some m.ran) in
-    let is : core_after_put job core driver replica thread count (lease_run job core replica thread count) ≡ new = ap (core_after_put job core driver replica thread count) m.runs in
-    subst (λ (c : Core). AreSeated job c (slice_set seats replica (Some value))) (sym is) (record {
-      count = length-set seats replica (Some value) ∙ seated.count ∙ sym (length-set core.replicas replica (arrived job thread count m.ran.replica));
-      each = λ number. by number (sym (ap (λ (c : Core). slice_get c.replicas replica) is) ∙ became) (replica == number) refl;
+put_seated job core seats lease count hit value apart seated m program became =
+    let new : Core = core_after_put job core lease count (Some m.ran) in
+    let is : core_after_put job core lease count (lease_run job core lease count) ≡ new = ap (core_after_put job core lease count) m.runs in
+    subst (λ (c : Core). AreSeated job c (slice_set seats lease.replica (Some value))) (sym is) (record {
+      count = length-set seats lease.replica (Some value) ∙ seated.count ∙ sym (length-set core.replicas lease.replica (arrived job lease.thread count m.ran.replica));
+      each = λ number. by number (sym (ap (λ (c : Core). slice_get c.replicas lease.replica) is) ∙ became) (lease.replica == number) refl;
     })
   where
     left : List Lease
-    left = filter (λ l. not (is_lease driver replica thread l)) core.leases
+    left = filter (λ l. not (is_lease lease l)) core.leases
 
-    within : replica < length seats
-    within = seat_within job core seats replica thread count m.ran seated m.runs
+    within : lease.replica < length seats
+    within = seat_within job core seats lease count m.ran seated m.runs
 
-    by : (number : ℕ) → slice_get (core_after_put job core driver replica thread count (Some m.ran)).replicas replica ≡ Some (replica_of value) → (b : Bool) → (replica == number) ≡ b
-        → Seated job (core_after_put job core driver replica thread count (Some m.ran)) number (slice_get (slice_set seats replica (Some value)) number)
+    by : (number : ℕ) → slice_get (core_after_put job core lease count (Some m.ran)).replicas lease.replica ≡ Some (replica_of value) → (b : Bool) → (lease.replica == number) ≡ b
+        → Seated job (core_after_put job core lease count (Some m.ran)) number (slice_get (slice_set seats lease.replica (Some value)) number)
     by number there true e =
-        let same : replica ≡ number = eqb-true replica number e in
-        let in_seat : slice_get (slice_set seats replica (Some value)) replica ≡ Some (Some value) = get-set-same seats replica _ (Some value) (slice_get-get_or seats replica None within) in
-        let home : not (has_replica replica (filter (λ l. not (is_lease driver replica thread l)) core.leases)) ≡ true = ap not (gone driver replica thread core.leases apart m.out) in
-        subst (λ (n : ℕ). Seated job (core_after_put job core driver replica thread count (Some m.ran)) n (slice_get (slice_set seats replica (Some value)) n)) same
-        (subst (λ (o : Option (Option ReplicaOf)). Seated job (core_after_put job core driver replica thread count (Some m.ran)) replica o) (sym in_seat) (home, program, there))
+        let same : lease.replica ≡ number = eqb-true lease.replica number e in
+        let in_seat : slice_get (slice_set seats lease.replica (Some value)) lease.replica ≡ Some (Some value) = get-set-same seats lease.replica _ (Some value) (slice_get-get_or seats lease.replica None within) in
+        let home : not (has_replica lease.replica (filter (λ l. not (is_lease lease l)) core.leases)) ≡ true = ap not (gone lease core.leases apart m.out) in
+        subst (λ (n : ℕ). Seated job (core_after_put job core lease count (Some m.ran)) n (slice_get (slice_set seats lease.replica (Some value)) n)) same
+        (subst (λ (o : Option (Option ReplicaOf)). Seated job (core_after_put job core lease count (Some m.ran)) lease.replica o) (sym in_seat) (home, program, there))
     by number there false e =
-        let ne : replica ≡ number → ⊥ = differ_by replica number e in
-        let kept : slice_get (slice_set seats replica (Some value)) number ≡ slice_get seats number = slice_get-set_other seats replica number (Some value) ne in
-        subst (λ (o : Option (Option ReplicaOf)). Seated job (core_after_put job core driver replica thread count (Some m.ran)) number o) (sym kept)
-        (same_seat job core (core_after_put job core driver replica thread count (Some m.ran)) number (slice_get seats number)
-        (ap not (others_stay driver replica thread number core.leases (λ f. ne (sym f))))
-        (slice_get-set_other core.replicas replica number _ ne)
+        let ne : lease.replica ≡ number → ⊥ = differ_by lease.replica number e in
+        let kept : slice_get (slice_set seats lease.replica (Some value)) number ≡ slice_get seats number = slice_get-set_other seats lease.replica number (Some value) ne in
+        subst (λ (o : Option (Option ReplicaOf)). Seated job (core_after_put job core lease count (Some m.ran)) number o) (sym kept)
+        (same_seat job core (core_after_put job core lease count (Some m.ran)) number (slice_get seats number)
+        (ap not (others_stay lease number core.leases (λ f. ne (sym f))))
+        (slice_get-set_other core.replicas lease.replica number _ ne)
         (seated.each number))

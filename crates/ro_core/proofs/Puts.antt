@@ -12,9 +12,9 @@ use Rattle.ro_kernel.specs.State.{State}
 use Rattle.ro_replica.specs.Replica.{stop_of}
 use Rattle.ro_replica.specs.Runs.{RanTo}
 use Rattle.ro_replica.specs.Seen.{ReplicaOf, replica_of}
-use Rattle.ro_legal.specs.declared.actions.Lease.{Lease}
-use Rattle.ro_legal.specs.Core.{Job, Core, is_out, lease_of}
-use Rattle.ro_legal.specs.Legal.{is_lease, lease_run, core_after_put, after, MayPut, replay, output_of}
+use Rattle.ro_journal.specs.declared.Lease.{Lease}
+use Rattle.ro_legal.specs.Core.{Job, Core, is_lease, is_out, lease_of}
+use Rattle.ro_legal.specs.Legal.{lease_run, core_after_put, after, MayPut, replay, output_of}
 use Rattle.ro_core.specs.Seen.{IsOfJob}
 use Rattle.ro_core.specs.Fields.{AreSeated, one_end, Fields, core_in, blocked_at, Holds}
 use Rattle.ro_legal.proofs.Journals.{replay_more, outcome_of-append}
@@ -28,14 +28,6 @@ use Rattle.ro_legal.proofs.Ordered.{ordered}
 use Rattle.ro_core.proofs.Held.{no-views, no-outcome, same-counts, same-unblocked, holds-step}
 use Rattle.ro_core.proofs.Takes.{Rest}
 
-pub found_driver : (driver : ℕ) (leases : List Lease) (lease : Lease) → find (λ l. l.driver == driver) leases ≡ Some lease → lease.driver ≡ driver
-found_driver driver [] lease e = absurd (let f : None ≡ Some lease = e in cc)
-found_driver driver (l ∷ leases) lease e = by (l.driver == driver) refl e (λ f. found_driver driver leases lease f)
-  where
-    by : (b : Bool) → (l.driver == driver) ≡ b → cond b (Some l) (find (λ x. x.driver == driver) leases) ≡ Some lease → (find (λ x. x.driver == driver) leases ≡ Some lease → lease.driver ≡ driver) → lease.driver ≡ driver
-    by true f g rest = let same : l ≡ lease = (let x : Some l ≡ Some lease = g in cc) in ap (λ (x : Lease). x.driver) (sym same) ∙ eqb-true l.driver driver f
-    by false f g rest = rest g
-
 -- the lease that a driver holds stands among those that the fields have, and no other
 pub held-lease : (f : Fields) → Holds f → (driver : ℕ) (lease : Lease) → lease_of (core_in f) driver ≡ Some lease → find (λ l. l.driver == driver) f.leases ≡ Some lease
 held-lease f h driver lease e = ap (find (λ (l : Lease). l.driver == driver)) h.leases_are ∙ e
@@ -43,51 +35,51 @@ held-lease f h driver lease e = ap (find (λ (l : Lease). l.driver == driver)) h
 pub same-lease : (f : Fields) → Holds f → (driver : ℕ) (held found : Lease) → lease_of (core_in f) driver ≡ Some held → find (λ l. l.driver == driver) f.leases ≡ Some found → held ≡ found
 same-lease f h driver held found e g = let k : Some held ≡ Some found = sym (held-lease f h driver held e) ∙ g in cc
 
-put-sends : (job : Job) (core : Core) (driver replica thread count : ℕ) (ran : Option RanTo) → (core_after_put job core driver replica thread count ran).output ≡ core.output
-put-sends job core driver replica thread count None = refl
-put-sends job core driver replica thread count (Some ran) = refl
+put-sends : (job : Job) (core : Core) (lease : Lease) (count : ℕ) (ran : Option RanTo) → (core_after_put job core lease count ran).output ≡ core.output
+put-sends job core lease count None = refl
+put-sends job core lease count (Some ran) = refl
 
 -- a put sends nothing
-pub put-output : (job : Job) (journal : List Entry) (driver replica thread count hit : ℕ) → output_of job (journal ++ Put driver replica thread count hit ∷ []) ≡ output_of job journal
+pub put-output : (job : Job) (journal : List Entry) (lease : Lease) (count hit : ℕ) → output_of job (journal ++ Put lease count hit ∷ []) ≡ output_of job journal
 unfolding after
-put-output job journal driver replica thread count hit =
-    ap (λ (c : Core). c.output) (replay_more job journal (Put driver replica thread count hit)) ∙ put-sends job (replay job journal) driver replica thread count (lease_run job (replay job journal) replica thread count)
+put-output job journal lease count hit =
+    ap (λ (c : Core). c.output) (replay_more job journal (Put lease count hit)) ∙ put-sends job (replay job journal) lease count (lease_run job (replay job journal) lease count)
 
 -- no end is due while a lease is out
-out-going : (f : Fields) → Holds f → (driver replica thread : ℕ) → is_out (core_in f) driver replica thread ≡ true → f.due ≡ None
-out-going f h driver replica thread out = by f.due refl
+out-going : (f : Fields) → Holds f → (lease : Lease) → is_out (core_in f) lease ≡ true → f.due ≡ None
+out-going f h lease out = by f.due refl
   where
     by : (d : Option How) → f.due ≡ d → f.due ≡ None
     by None e = e
     by (Some how) e =
         let none : (core_in f).leases ≡ [] = (ordered f.job f.journal h.legal).due_alone how (sym h.due_is ∙ e) in
-        absurd (true≢false (sym out ∙ ap (list_any (is_lease driver replica thread)) none))
+        absurd (true≢false (sym out ∙ ap (list_any (is_lease lease)) none))
 
-module _ (f : Fields) (h : Holds f) (driver replica thread count hit : ℕ) (allowed : MayPut f.job (core_in f) driver replica thread count hit) where
+module _ (f : Fields) (h : Holds f) (lease : Lease) (count hit : ℕ) (allowed : MayPut f.job (core_in f) lease count hit) where
   still : f.ended ≡ None
   still = h.ended_is ∙ allowed.not_ended
 
   put-not-due : f.due ≡ None
-  put-not-due = out-going f h driver replica thread allowed.out
+  put-not-due = out-going f h lease allowed.out
 
-  pub put-within : replica < length f.seats
-  put-within = seat_within f.job (core_in f) f.seats replica thread count allowed.ran h.seats_are allowed.runs
+  pub put-within : lease.replica < length f.seats
+  put-within = seat_within f.job (core_in f) f.seats lease count allowed.ran h.seats_are allowed.runs
 
   -- its group, and the thread, are there
-  pub put-group : replica < length f.groups
+  pub put-group : lease.replica < length f.groups
   put-group = let s = put-within in let n = h.seats_are.count in let m = h.groups_are.count in omega arith
 
-  pub put-few : thread < 16
+  pub put-few : lease.thread < 16
   put-few =
-      let lent = lent-thread (core_in f) replica thread (lent-go f.job f.journal h.legal driver replica thread allowed.out) in
+      let lent = lent-thread (core_in f) lease.replica lease.thread (lent-go f.job f.journal h.legal lease allowed.out) in
       let order = ordered f.job f.journal h.legal in
-      let made = (order.sound replica lent.lent lent.in_core).all_made in
-      let within = slice_get_within lent.lent.threads thread lent.went lent.in_lent in
+      let made = (order.sound lease.replica lent.lent lent.in_core).all_made in
+      let within = slice_get_within lent.lent.threads lease.thread lent.went lent.in_lent in
       let few = order.few_lives in
       omega arith
 
-  pub put-fewer : length (filter (λ l. not (is_lease driver replica thread l)) f.leases) + 1 ≤ length f.leases
-  put-fewer = fewer (is_lease driver replica thread) f.leases (ap (list_any (is_lease driver replica thread)) h.leases_are ∙ allowed.out)
+  pub put-fewer : length (filter (λ l. not (is_lease lease l)) f.leases) + 1 ≤ length f.leases
+  put-fewer = fewer (is_lease lease) f.leases (ap (list_any (is_lease lease)) h.leases_are ∙ allowed.out)
 
   pub put-room : 0 < f.places
   put-room = let k = h.room in omega (arith, put-fewer)
@@ -95,17 +87,17 @@ module _ (f : Fields) (h : Holds f) (driver replica thread count hit : ℕ) (all
   pub put-outcome : outcome_of f.journal ≡ None
   put-outcome = no-outcome f h still
 
-  pub put-holds : (f' : Fields) (value : ReplicaOf) → IsOfJob f.job value → slice_get (after f.job (core_in f) (Put driver replica thread count hit)).replicas replica ≡ Some (replica_of value)
-      → Rest f f' → f'.wrote ≡ 0 → f'.journal ≡ f.journal ++ Put driver replica thread count hit ∷ [] → f'.leases ≡ filter (λ l. not (is_lease driver replica thread l)) f.leases
-      → f'.seats ≡ slice_set f.seats replica (Some value) → Returns replica thread (is_some (stop_of (replica_of value) thread)) f.groups f'.groups → f.places ≡ f'.places + 1 → Holds f'
+  pub put-holds : (f' : Fields) (value : ReplicaOf) → IsOfJob f.job value → slice_get (after f.job (core_in f) (Put lease count hit)).replicas lease.replica ≡ Some (replica_of value)
+      → Rest f f' → f'.wrote ≡ 0 → f'.journal ≡ f.journal ++ Put lease count hit ∷ [] → f'.leases ≡ filter (λ l. not (is_lease lease l)) f.leases
+      → f'.seats ≡ slice_set f.seats lease.replica (Some value) → Returns lease.replica lease.thread (is_some (stop_of (replica_of value) lease.thread)) f.groups f'.groups → f.places ≡ f'.places + 1 → Holds f'
   unfolding after
   put-holds f' value program became r wrote journal leases seats back less =
       let core : Core = core_in f in
-      let is : core_after_put f.job core driver replica thread count (lease_run f.job core replica thread count) ≡ core_after_put f.job core driver replica thread count (Some allowed.ran) = ap (core_after_put f.job core driver replica thread count) allowed.runs in
-      holds-step f f' (Put driver replica thread count hit) h allowed (record {
+      let is : core_after_put f.job core lease count (lease_run f.job core lease count) ≡ core_after_put f.job core lease count (Some allowed.ran) = ap (core_after_put f.job core lease count) allowed.runs in
+      holds-step f f' (Put lease count hit) h allowed (record {
         job = r.job;
         journal = journal;
-        leases = leases ∙ ap (filter (λ l. not (is_lease driver replica thread l))) h.leases_are ∙ sym (ap (λ (c : Core). c.leases) is);
+        leases = leases ∙ ap (filter (λ l. not (is_lease lease l))) h.leases_are ∙ sym (ap (λ (c : Core). c.leases) is);
         setup = ap (λ (k : State). k.setup) r.kernel;
         kernel = ap (λ (k : State). k.kernel) r.kernel ∙ h.kernel_is ∙ sym (ap (λ (c : Core). c.kernel) is);
         blocked_count = ap length r.blocked ∙ h.blocked_count;
@@ -117,9 +109,9 @@ module _ (f : Fields) (h : Holds f) (driver replica thread count hit : ℕ) (all
         counts = same-counts f f' h _ (ap (λ (c : Core). c.output) is) (ap (λ (c : Core). c.wrote) is) r.sent wrote r.steps;
         due = r.due ∙ h.due_is ∙ sym (ap (λ (c : Core). c.due) is);
         ended = r.ended ∙ h.ended_is ∙ sym (ap (λ (c : Core). c.ended) is);
-        seats = subst (AreSeated f.job (after f.job core (Put driver replica thread count hit))) (sym seats) (put_seated f.job core f.seats driver replica thread count hit value (leases_apart f.job f.journal h.legal) h.seats_are allowed program became);
-        groups = put-grouped f.job core driver replica thread count hit allowed (lent-go f.job f.journal h.legal) f.groups f'.groups (replica_of value) became h.groups_are back;
-        views_count = λ unended. ap length r.views ∙ h.views_count (sym r.ended ∙ unended) ∙ sym (length-set f.seats replica (Some value)) ∙ sym (ap length seats);
-        views_kept = no-views f.job _ f'.views (outcome_of-append f.journal (Put driver replica thread count hit ∷ []) put-outcome);
-        room = let k = h.room in let one : one_end f'.ended ≡ one_end f.ended = ap one_end r.ended in let n : length f'.leases ≡ length (filter (λ l. not (is_lease driver replica thread l)) f.leases) = ap length leases in omega (arith, put-fewer);
+        seats = subst (AreSeated f.job (after f.job core (Put lease count hit))) (sym seats) (put_seated f.job core f.seats lease count hit value (leases_apart f.job f.journal h.legal) h.seats_are allowed program became);
+        groups = put-grouped f.job core lease count hit allowed (lent-go f.job f.journal h.legal) f.groups f'.groups (replica_of value) became h.groups_are back;
+        views_count = λ unended. ap length r.views ∙ h.views_count (sym r.ended ∙ unended) ∙ sym (length-set f.seats lease.replica (Some value)) ∙ sym (ap length seats);
+        views_kept = no-views f.job _ f'.views (outcome_of-append f.journal (Put lease count hit ∷ []) put-outcome);
+        room = let k = h.room in let one : one_end f'.ended ≡ one_end f.ended = ap one_end r.ended in let n : length f'.leases ≡ length (filter (λ l. not (is_lease lease l)) f.leases) = ap length leases in omega (arith, put-fewer);
       })

@@ -13,7 +13,7 @@ use Rattle.ro_thread.specs.declared.Thread.{Thread}
 use Rattle.ro_replica.specs.Replica.{Replica}
 use Rattle.ro_replica.specs.Views.{is_unstopped}
 use Rattle.ro_replica.specs.Seen.{ReplicaOf, replica_of, CanCount}
-use Rattle.ro_legal.specs.declared.actions.Lease.{Lease}
+use Rattle.ro_journal.specs.declared.Lease.{Lease}
 use Rattle.ro_legal.specs.Core.{Job, Core}
 use Rattle.ro_legal.specs.Legal.{after, MayTake, output_of}
 use Rattle.ro_core.specs.Seen.{IsOfJob}
@@ -53,28 +53,28 @@ times-le : (a b n : ℕ) → a ≤ b → a * n ≤ b * n
 times-le a b n h = grind arith
 
 -- a take writes nothing
-pub take-output : (job : Job) (journal : List Entry) (driver replica thread : ℕ) → output_of job (journal ++ Take driver replica thread ∷ []) ≡ output_of job journal
+pub take-output : (job : Job) (journal : List Entry) (lease : Lease) → output_of job (journal ++ Take lease ∷ []) ≡ output_of job journal
 unfolding after
-take-output job journal driver replica thread = ap (λ (c : Core). c.output) (replay_more job journal (Take driver replica thread))
+take-output job journal lease = ap (λ (c : Core). c.output) (replay_more job journal (Take lease))
 
-module _ (f : Fields) (h : Holds f) (driver replica thread : ℕ) (allowed : MayTake f.job (core_in f) driver replica thread) where
+module _ (f : Fields) (h : Holds f) (lease : Lease) (allowed : MayTake f.job (core_in f) lease) where
   pub take-goes : Goes f
   take-goes = goes f h allowed.going
 
-  at-home : AtHome (core_in f) replica
-  at-home = lendable_there (core_in f) replica thread allowed.lendable
+  at-home : AtHome (core_in f) lease.replica
+  at-home = lendable_there (core_in f) lease.replica lease.thread allowed.lendable
 
-  pub take-seat : IsSeat f.seats replica
-  take-seat = seat_there f.job (core_in f) f.seats replica at-home.value h.seats_are at-home.home at-home.there
+  pub take-seat : IsSeat f.seats lease.replica
+  take-seat = seat_there f.job (core_in f) f.seats lease.replica at-home.value h.seats_are at-home.home at-home.there
 
   -- the fields after the take
-  pub take-holds : (f' : Fields) → Rest f f' → f'.wrote ≡ 0 → f'.journal ≡ f.journal ++ Take driver replica thread ∷ [] → f'.leases ≡ record { driver = driver; replica = replica; thread = thread } ∷ f.leases
-      → f'.seats ≡ slice_set f.seats replica None → f'.groups ≡ f.groups → length f.leases + 3 ≤ f'.places + 1 → Holds f'
+  pub take-holds : (f' : Fields) → Rest f f' → f'.wrote ≡ 0 → f'.journal ≡ f.journal ++ Take lease ∷ [] → f'.leases ≡ lease ∷ f.leases
+      → f'.seats ≡ slice_set f.seats lease.replica None → f'.groups ≡ f.groups → length f.leases + 3 ≤ f'.places + 1 → Holds f'
   unfolding after
-  take-holds f' r wrote journal leases seats groups room = holds-step f f' (Take driver replica thread) h allowed (record {
+  take-holds f' r wrote journal leases seats groups room = holds-step f f' (Take lease) h allowed (record {
     job = r.job;
     journal = journal;
-    leases = leases ∙ ap (λ (ls : List Lease). record { driver = driver; replica = replica; thread = thread } ∷ ls) h.leases_are;
+    leases = leases ∙ ap (λ (ls : List Lease). lease ∷ ls) h.leases_are;
     setup = ap (λ (k : State). k.setup) r.kernel;
     kernel = ap (λ (k : State). k.kernel) r.kernel ∙ h.kernel_is;
     blocked_count = ap length r.blocked ∙ h.blocked_count;
@@ -86,35 +86,35 @@ module _ (f : Fields) (h : Holds f) (driver replica thread : ℕ) (allowed : May
     counts = same-counts f f' h _ refl refl r.sent wrote r.steps;
     due = r.due ∙ h.due_is;
     ended = r.ended ∙ h.ended_is;
-    seats = subst (AreSeated f.job (after f.job (core_in f) (Take driver replica thread))) (sym seats) (take_seated f.job (core_in f) f.seats driver replica thread take-seat.0 h.seats_are take-seat.1);
+    seats = subst (AreSeated f.job (after f.job (core_in f) (Take lease))) (sym seats) (take_seated f.job (core_in f) f.seats lease take-seat.0 h.seats_are take-seat.1);
     groups = subst (AreGrouped (core_in f).replicas) (sym groups) h.groups_are;
-    views_count = λ unended. ap length r.views ∙ h.views_count (sym r.ended ∙ unended) ∙ sym (length-set f.seats replica None) ∙ sym (ap length seats);
-    views_kept = no-views f.job _ f'.views (outcome_of-append f.journal (Take driver replica thread ∷ []) (no-outcome f h take-goes.not_ended));
+    views_count = λ unended. ap length r.views ∙ h.views_count (sym r.ended ∙ unended) ∙ sym (length-set f.seats lease.replica None) ∙ sym (ap length seats);
+    views_kept = no-views f.job _ f'.views (outcome_of-append f.journal (Take lease ∷ []) (no-outcome f h take-goes.not_ended));
     room = let one : one_end f'.ended ≤ 1 = one-end-le f'.ended in let n : length f'.leases ≡ suc (length f.leases) = ap length leases in omega arith;
   })
 
   -- what leaves its seat is the replica of the core, and its thread can run
-  pub take-lent : (value : ReplicaOf) → slice_get f.seats replica ≡ Some (Some value) → IsOfJob f.job value × (slice_get (core_in f).replicas replica ≡ Some (replica_of value))
+  pub take-lent : (value : ReplicaOf) → slice_get f.seats lease.replica ≡ Some (Some value) → IsOfJob f.job value × (slice_get (core_in f).replicas lease.replica ≡ Some (replica_of value))
   take-lent value there =
-      let s : Seated f.job (core_in f) replica (Some (Some value)) = subst (λ (o : Option (Option ReplicaOf)). Seated f.job (core_in f) replica o) there (h.seats_are.each replica) in
+      let s : Seated f.job (core_in f) lease.replica (Some (Some value)) = subst (λ (o : Option (Option ReplicaOf)). Seated f.job (core_in f) lease.replica o) there (h.seats_are.each lease.replica) in
       (s.1, s.2)
 
-  pub take-going : (value : ReplicaOf) → slice_get f.seats replica ≡ Some (Some value) → is_unstopped thread (replica_of value) ≡ true
+  pub take-going : (value : ReplicaOf) → slice_get f.seats lease.replica ≡ Some (Some value) → is_unstopped lease.thread (replica_of value) ≡ true
   take-going value there =
       let lendable = (and_parts _ _ allowed.lendable).1 in
-      ap (λ (o : Option Replica). option_map_or (is_unstopped thread) o false) (sym (take-lent value there).1) ∙ lendable
+      ap (λ (o : Option Replica). option_map_or (is_unstopped lease.thread) o false) (sym (take-lent value there).1) ∙ lendable
 
   -- a thread's count leaves room for a quantum in 128 bits
-  pub take-countable : (value : ReplicaOf) → slice_get f.seats replica ≡ Some (Some value) → length f.journal < 2 ^ 64 → CanCount f.job.settings.quantum value thread
-  take-countable value there short = by (slice_get value.threads thread) refl
+  pub take-countable : (value : ReplicaOf) → slice_get f.seats lease.replica ≡ Some (Some value) → length f.journal < 2 ^ 64 → CanCount f.job.settings.quantum value lease.thread
+  take-countable value there short = by (slice_get value.threads lease.thread) refl
     where
       counts : Counts (f.job.settings.quantum * length f.journal) (replica_of value)
-      counts = counted f.job f.journal h.legal replica (replica_of value) (take-lent value there).1
+      counts = counted f.job f.journal h.legal lease.replica (replica_of value) (take-lent value there).1
 
-      by : (o : Option Thread) → slice_get value.threads thread ≡ o → IfSome o (λ t. t.done + f.job.settings.quantum < 2 ^ 128)
+      by : (o : Option Thread) → slice_get value.threads lease.thread ≡ o → IfSome o (λ t. t.done + f.job.settings.quantum < 2 ^ 128)
       by None e = tt
       by (Some t) e =
-          let c : t.done ≤ f.job.settings.quantum * length f.journal = counts thread t e in
+          let c : t.done ≤ f.job.settings.quantum * length f.journal = counts lease.thread t e in
           let q : f.job.settings.quantum ≤ 65536 = h.in_range.quantum.1 in
           let m : f.job.settings.quantum * length f.journal ≤ 65536 * length f.journal = times-le f.job.settings.quantum 65536 (length f.journal) q in
           omega arith

@@ -16,7 +16,7 @@ use Rattle.ro_replica.specs.Replica.{Replica, stop_of}
 use Rattle.ro_replica.specs.Views.{is_unstopped}
 use Rattle.ro_replica.specs.Seen.{ReplicaOf, replica_of}
 use Rattle.ro_legal.specs.declared.actions.Action.TheVariants.{Lend, Vote as DoVote}
-use Rattle.ro_legal.specs.declared.actions.Lease.{Lease}
+use Rattle.ro_journal.specs.declared.Lease.{Lease}
 use Rattle.ro_legal.specs.Core.{Job, Core, is_going, nothing_lent, is_home, is_lendable, may_vote, may_free}
 use Rattle.ro_legal.specs.Legal.{any_below}
 use Rattle.ro_legal.specs.declared.actions.Streak.{Streak}

@@ -13,22 +13,21 @@ use crate::cores::Core;
 use crate::events::Coming;
 use crate::scrubbing::prevailing;
 use crate::voting::split_of;
-use ro_journal::How;
+use ro_journal::{How, Lease};
 use ro_kernel::Kernel;
-use ro_legal::Lease;
 use ro_replica::ReplicaBox;
 use ro_vote::{Won, verdict};
 
 impl Core {
     /// Whether a thread of a replica may be lent to a driver.
-    pub fn may_take(&self, driver: u32, replica: u32, thread: u32) -> bool
+    pub fn may_take(&self, lease: Lease) -> bool
         requires holds { Holds (fields_of self.now) }
-        ensures { IsTrue result ↔ MayTake (job_of self.now) (state_of self.now) driver replica thread }
+        ensures { IsTrue result ↔ MayTake (job_of self.now) (state_of self.now) lease }
     {
         self.is_going()
-            && driver < self.settings.drivers
-            && !has_lease(self.leases.as_slice(), driver)
-            && self.can_lend(replica, thread)
+            && lease.driver < self.settings.drivers
+            && !has_lease(self.leases.as_slice(), lease.driver)
+            && self.can_lend(lease.replica, lease.thread)
     }
 
     // The same of its replica and thread alone.

@@ -15,9 +15,9 @@ use crate::seats::Seats;
 use ro_event::{Call, View};
 use ro_faults::Fault;
 use ro_image::Executable;
-use ro_journal::{Entry, How};
+use ro_journal::{Entry, How, Lease};
 use ro_kernel::Kernel;
-use ro_legal::{Lease, Streak};
+use ro_legal::Streak;
 use ro_settings::Settings;
 use std::alloc::Global;
 

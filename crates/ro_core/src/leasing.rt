@@ -2,14 +2,14 @@
 ghost use Rattle.std.specs.Prelude.{◌≡◌, ◌<◌, ◌==◌, ◌∷◌, OnOk, vec_len, vec_capacity, not};
 ghost use Rattle.std.specs.List.{filter, find};
 ghost use Rattle.ro_journal.specs.declared.Entry.TheVariants.{Take};
-ghost use Rattle.ro_legal.specs.Legal.{IsAllowed, is_lease, output_of};
+ghost use Rattle.ro_legal.specs.Core.{is_lease};
+ghost use Rattle.ro_legal.specs.Legal.{IsAllowed, output_of};
 ghost use Rattle.ro_core.specs.Seen.{Appends, Stays, HasRoom, IsLent, MayReturn, ReturnIs};
 ghost use Rattle.ro_core.specs.Fields.{Holds};
 ghost use Rattle.ro_core.specs.Runs.{fields_of, job_of, state_of, silent};
 
 use crate::cores::Core;
-use ro_journal::Entry;
-use ro_legal::Lease;
+use ro_journal::{Entry, Lease};
 use ro_replica::{Ran, ReplicaBox};
 use std::alloc::AllocError;
 
@@ -30,31 +30,20 @@ impl Core {
     }
 
     /// Lends a replica's thread to a driver.
-    pub fn take(&mut self, driver: u32, replica: u32, thread: u32) -> ReplicaBox
+    pub fn take(&mut self, lease: Lease) -> ReplicaBox
         requires holds { Holds (fields_of self.old) }
-        requires allowed { IsAllowed (job_of self.old) (state_of self.old) (Take driver replica thread) }
+        requires allowed { IsAllowed (job_of self.old) (state_of self.old) (Take lease) }
         requires room { HasRoom (silent self.old) }
         ensures holds { Holds (fields_of self.new) }
-        ensures entry { Appends (silent self.old) (silent self.new) (Take driver replica thread) }
+        ensures entry { Appends (silent self.old) (silent self.new) (Take lease) }
         ensures output { output_of (job_of self.new) (fields_of self.new).journal ≡ output_of (job_of self.old) (fields_of self.old).journal }
-        ensures lent { IsLent (silent self.old) replica thread result }
+        ensures lent { IsLent (silent self.old) lease.replica lease.thread result }
         ensures ended { (fields_of self.new).ended ≡ (fields_of self.old).ended }
     {
-        self.journal.push_reserved(Entry::Take {
-            driver,
-            replica,
-            thread,
-        });
-        lend(
-            &mut self.leases,
-            Lease {
-                driver,
-                replica,
-                thread,
-            },
-        );
+        self.journal.push_reserved(Entry::Take(lease));
+        lend(&mut self.leases, lease);
         self.wrote = 0;
-        self.seats.leave(replica)
+        self.seats.leave(lease.replica)
     }
 
     /// Puts a replica back that a driver has run.
@@ -70,9 +59,7 @@ impl Core {
             unreachable!()
         };
         self.journal.push_reserved(Entry::Put {
-            driver,
-            replica: lease.replica,
-            thread: lease.thread,
+            lease,
             count: ran.count,
             hit: ran.hit,
         });
@@ -104,13 +91,13 @@ fn lease_of(leases: &[Lease], driver: u32) -> Option<Lease>
 
 // Forgets a lease.
 fn give_back(leases: &mut Vec<Lease>, lease: Lease)
-    ensures items { leases.new.items ≡ filter (λ other. not (is_lease lease.driver lease.replica lease.thread other)) leases.old.items }
+    ensures items { leases.new.items ≡ filter (λ other. not (is_lease lease other)) leases.old.items }
 {
     leases.retain(|other| is_another(other, &lease));
 }
 
 fn is_another(lease: &Lease, gone: &Lease) -> bool
-    ensures { result ≡ not (is_lease gone.now.driver gone.now.replica gone.now.thread lease.now) }
+    ensures { result ≡ not (is_lease gone.now lease.now) }
 {
     !(lease.driver == gone.driver && lease.replica == gone.replica && lease.thread == gone.thread)
 }

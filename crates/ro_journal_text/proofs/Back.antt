@@ -15,13 +15,14 @@ use Rattle.ro_journal.specs.declared.How.{How}
 use Rattle.ro_journal.specs.declared.How.TheVariants.{Exit, Deadlock, Trap, Limit, Differ, NoMajority, Sink}
 use Rattle.ro_journal.specs.declared.losers.Lost.{Lost}
 use Rattle.ro_journal.specs.declared.losers.Lost.TheVariants.{Nobody, One, Two}
+use Rattle.ro_journal.specs.declared.Lease.{Lease}
 use Rattle.ro_journal.specs.declared.Entry.{Entry}
 use Rattle.ro_journal.specs.declared.Entry.TheVariants.{Take, Put, Vote, Free, Scrub, End}
 use Rattle.ro_journal_text.specs.declared.versions.Version.{Version}
 use Rattle.ro_journal_text.specs.declared.versions.Version.TheVariants.{First, Second}
 use Rattle.ro_journal_text.specs.declared.errors.JournalCode.TheVariants.{Range}
 use Rattle.ro_journal_text.specs.Texts.{did_word, lost_word, how_words, entry_words, entries_text, header_word, text_in}
-use Rattle.ro_journal_text.specs.Reading.{did_of, has_did, listed, several_of, lost_of, how_of, entry_of, most_replica, is_lost, is_how, is_entry, ranged, line_entry, is_end, before, behind, in_line, lines_entries, file_journal, ends_last}
+use Rattle.ro_journal_text.specs.Reading.{did_of, has_did, listed, several_of, lost_of, how_of, entry_of, most_replica, is_lost, is_how, is_lease, is_entry, ranged, line_entry, is_end, before, behind, in_line, lines_entries, file_journal, ends_last}
 use Rattle.ro_journal_text.proofs.Steps.{cut_before, header_read}
 use Rattle.ro_journal_text.proofs.Listed.{no_comma, digits_of}
 use Rattle.ro_journal_text.proofs.Wording.{same}
@@ -134,25 +135,33 @@ how_back Differ h = (refl, refl)
 how_back NoMajority h = (refl, refl)
 how_back (Sink taken) h = let b = spelled 0 4095 taken (omega arith) h in (rw (b.plain) refl, rw (b.spells, b.value) refl)
 
+-- the spellings of a lease's numbers, read back
+record LeaseSpelled (lease : Lease) : Type 0 where
+  driver : Spelled lease.driver
+  replica : Spelled lease.replica
+  thread : Spelled lease.thread
+
+lease_back : (version : Version) (lease : Lease) → is_lease version lease ≡ true → LeaseSpelled lease
+lease_back version lease h =
+    let two = and_parts (within 0 7 lease.driver && within 0 (most_replica version) lease.replica) (within 0 15 lease.thread) h in
+    let one = and_parts (within 0 7 lease.driver) (within 0 (most_replica version) lease.replica) two.0 in
+    record {
+      driver = spelled 0 7 lease.driver (omega arith) one.0;
+      replica = spelled 0 (most_replica version) lease.replica (most_fits version) one.1;
+      thread = spelled 0 15 lease.thread (omega arith) two.1;
+    }
+
 entry_back : (version : Version) (entry : Entry) → is_entry version entry ≡ true → Back (entry_words entry) (entry_of version) entry
-entry_back version (Take driver replica thread) h =
-    let two = and_parts (within 0 7 driver && within 0 (most_replica version) replica) (within 0 15 thread) h in
-    let one = and_parts (within 0 7 driver) (within 0 (most_replica version) replica) two.0 in
-    let d = spelled 0 7 driver (omega arith) one.0 in
-    let r = spelled 0 (most_replica version) replica (most_fits version) one.1 in
-    let t = spelled 0 15 thread (omega arith) two.1 in
-    (rw (d.plain, r.plain, t.plain) refl, rw (d.spells, r.spells, t.spells, d.value, r.value, t.value) refl)
-entry_back version (Put driver replica thread count hit) h =
-    let four = and_parts (within 0 7 driver && within 0 (most_replica version) replica && within 0 15 thread && within 0 65536 count) (within 0 256 hit) h in
-    let three = and_parts (within 0 7 driver && within 0 (most_replica version) replica && within 0 15 thread) (within 0 65536 count) four.0 in
-    let two = and_parts (within 0 7 driver && within 0 (most_replica version) replica) (within 0 15 thread) three.0 in
-    let one = and_parts (within 0 7 driver) (within 0 (most_replica version) replica) two.0 in
-    let d = spelled 0 7 driver (omega arith) one.0 in
-    let r = spelled 0 (most_replica version) replica (most_fits version) one.1 in
-    let t = spelled 0 15 thread (omega arith) two.1 in
+entry_back version (Take lease) h =
+    let l = lease_back version lease h in
+    (rw (l.driver.plain, l.replica.plain, l.thread.plain) refl, rw (l.driver.spells, l.replica.spells, l.thread.spells, l.driver.value, l.replica.value, l.thread.value) refl)
+entry_back version (Put lease count hit) h =
+    let four = and_parts (is_lease version lease && within 0 65536 count) (within 0 256 hit) h in
+    let three = and_parts (is_lease version lease) (within 0 65536 count) four.0 in
+    let l = lease_back version lease three.0 in
     let n = spelled 0 65536 count (omega arith) three.1 in
     let s = spelled 0 256 hit (omega arith) four.1 in
-    (rw (d.plain, r.plain, t.plain, n.plain, s.plain) refl, rw (d.spells, r.spells, t.spells, n.spells, s.spells, d.value, r.value, t.value, n.value, s.value) refl)
+    (rw (l.driver.plain, l.replica.plain, l.thread.plain, n.plain, s.plain) refl, rw (l.driver.spells, l.replica.spells, l.thread.spells, n.spells, s.spells, l.driver.value, l.replica.value, l.thread.value, n.value, s.value) refl)
 entry_back version (Vote thread count won lost did) h =
     let four = and_parts (within 0 15 thread && within 0 1000000 count && within 0 (most_replica version) won && is_lost version lost) (has_did version did) h in
     let three = and_parts (within 0 15 thread && within 0 1000000 count && within 0 (most_replica version) won) (is_lost version lost) four.0 in
@@ -174,8 +183,8 @@ entry_back Second (Scrub won lost) h =
 entry_back version (End how) h = let e = how_back how h in (e.0, rw (e.1) refl)
 
 nonempty : (entry : Entry) → 0 < length (entry_words entry)
-nonempty (Take driver replica thread) = omega arith
-nonempty (Put driver replica thread count hit) = omega arith
+nonempty (Take lease) = omega arith
+nonempty (Put lease count hit) = omega arith
 nonempty (Vote thread count won lost did) = omega arith
 nonempty (Free thread) = omega arith
 nonempty (Scrub won lost) = omega arith

@@ -8,6 +8,7 @@ use Rattle.ro_text.specs.Numbers.{is_number, value_of, within}
 use Rattle.ro_text.specs.Lines.{spaced, words_of}
 use Rattle.ro_journal.specs.declared.Did.{Did}
 use Rattle.ro_journal.specs.declared.How.{How}
+use Rattle.ro_journal.specs.Leases.{lease_to}
 use Rattle.ro_journal.specs.declared.Entry.{Entry}
 use Rattle.ro_journal.specs.declared.Entry.TheVariants.{Take, Put, Vote, Free, Scrub, End}
 use Rattle.ro_journal.specs.declared.losers.Lost.{Lost}
@@ -23,8 +24,8 @@ take_once version [] entry h fits = absurd (cc)
 take_once version (a ∷ []) entry h fits = absurd (cc)
 take_once version (a ∷ b ∷ []) entry h fits = absurd (cc)
 take_once version (driver ∷ replica ∷ thread ∷ []) entry h fits =
-    let p = chosen (is_number driver && is_number replica && is_number thread) (Some (Take (value_of driver) (value_of replica) (value_of thread))) entry h in
-    let e = inner (Take (value_of driver) (value_of replica) (value_of thread)) entry p.1 in
+    let p = chosen (is_number driver && is_number replica && is_number thread) (Some (Take (lease_to (value_of driver) (value_of replica) (value_of thread)))) entry h in
+    let e = inner (Take (lease_to (value_of driver) (value_of replica) (value_of thread))) entry p.1 in
     let two = and_parts (is_number driver && is_number replica) (is_number thread) p.0 in
     let one = and_parts (is_number driver) (is_number replica) two.0 in
     let g = and_parts (within 0 7 (value_of driver) && within 0 (most_replica version) (value_of replica)) (within 0 15 (value_of thread)) (ap (is_entry version) e ∙ fits) in
@@ -39,7 +40,7 @@ put_once version (a ∷ b ∷ []) entry h fits = absurd (cc)
 put_once version (a ∷ b ∷ c ∷ []) entry h fits = absurd (cc)
 put_once version (a ∷ b ∷ c ∷ d ∷ []) entry h fits = absurd (cc)
 put_once version (driver ∷ replica ∷ thread ∷ count ∷ hit ∷ []) entry h fits =
-    let made = Put (value_of driver) (value_of replica) (value_of thread) (value_of count) (value_of hit) in
+    let made = Put (lease_to (value_of driver) (value_of replica) (value_of thread)) (value_of count) (value_of hit) in
     let p = chosen (is_number driver && is_number replica && is_number thread && is_number count && is_number hit) (Some made) entry h in
     let e = inner made entry p.1 in
     let four = and_parts (is_number driver && is_number replica && is_number thread && is_number count) (is_number hit) p.0 in

@@ -5,7 +5,7 @@ ghost use Rattle.ro_journal_text.specs.Reading.{take_of, put_of, vote_of, free_o
 use crate::errors::JournalCode;
 use crate::versions::Version;
 use crate::words::{read_did, read_how, read_lost};
-use ro_journal::Entry;
+use ro_journal::{Entry, Lease};
 use ro_text::{is_number, split_words, value_within};
 
 // The entry of a line without its line feed.
@@ -74,11 +74,11 @@ fn take_entry(
         value_within(replica, 0, version.most_replica()),
         value_within(thread, 0, 15),
     ) {
-        (Some(driver), Some(replica), Some(thread)) => Ok(Entry::Take {
+        (Some(driver), Some(replica), Some(thread)) => Ok(Entry::Take(Lease {
             driver: driver as u32,
             replica: replica as u32,
             thread: thread as u32,
-        }),
+        })),
         _ => Err(JournalCode::Range),
     }
 }
@@ -120,9 +120,11 @@ fn put_entry(
         value_within(hit, 0, 256),
     ) {
         (Some(driver), Some(replica), Some(thread), Some(count), Some(hit)) => Ok(Entry::Put {
-            driver: driver as u32,
-            replica: replica as u32,
-            thread: thread as u32,
+            lease: Lease {
+                driver: driver as u32,
+                replica: replica as u32,
+                thread: thread as u32,
+            },
             count: count as u32,
             hit: hit as u32,
         }),

@@ -3,7 +3,7 @@ ghost use Rattle.std.specs.Prelude.{◌≡◌, ◌+◌, ◌<◌, ◌≤◌, [], 
 ghost use Rattle.ro_text.specs.Lines.{spaced};
 ghost use Rattle.ro_journal_text.specs.Texts.{did_word, lost_word, how_words, entry_text, header_text};
 
-use ro_journal::{Did, Entry, How, Lost};
+use ro_journal::{Did, Entry, How, Lease, Lost};
 use ro_text::{Line, Text};
 
 /// The first line of every journal's text.
@@ -18,18 +18,8 @@ pub fn entry_text(entry: &Entry) -> Line
     ensures { result ≡ entry_text entry.now }
 {
     match *entry {
-        Entry::Take {
-            driver,
-            replica,
-            thread,
-        } => take_text(driver, replica, thread),
-        Entry::Put {
-            driver,
-            replica,
-            thread,
-            count,
-            hit,
-        } => put_text(driver, replica, thread, count, hit),
+        Entry::Take(lease) => take_text(lease),
+        Entry::Put { lease, count, hit } => put_text(lease, count, hit),
         Entry::Vote {
             thread,
             count,
@@ -43,25 +33,25 @@ pub fn entry_text(entry: &Entry) -> Line
     }
 }
 
-fn take_text(driver: u32, replica: u32, thread: u32) -> Line
-    ensures { result ≡ entry_text (Entry.Take driver replica thread) }
+fn take_text(lease: Lease) -> Line
+    ensures { result ≡ entry_text (Entry.Take lease) }
 {
     let mut text = Text::new();
     text.push("take");
-    text.add_number(u64::from(driver));
-    text.add_number(u64::from(replica));
-    text.add_number(u64::from(thread));
+    text.add_number(u64::from(lease.driver));
+    text.add_number(u64::from(lease.replica));
+    text.add_number(u64::from(lease.thread));
     text.end()
 }
 
-fn put_text(driver: u32, replica: u32, thread: u32, count: u32, hit: u32) -> Line
-    ensures { result ≡ entry_text (Entry.Put driver replica thread count hit) }
+fn put_text(lease: Lease, count: u32, hit: u32) -> Line
+    ensures { result ≡ entry_text (Entry.Put lease count hit) }
 {
     let mut text = Text::new();
     text.push("put");
-    text.add_number(u64::from(driver));
-    text.add_number(u64::from(replica));
-    text.add_number(u64::from(thread));
+    text.add_number(u64::from(lease.driver));
+    text.add_number(u64::from(lease.replica));
+    text.add_number(u64::from(lease.thread));
     text.add_number(u64::from(count));
     text.add_number(u64::from(hit));
     text.end()

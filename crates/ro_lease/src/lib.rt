@@ -4,16 +4,15 @@
 ghost use Rattle.std.specs.Prelude.{◌≡◌};
 ghost use Rattle.ro_lease.specs.Loans.{CanGo};
 
+use ro_journal::Lease;
 use ro_post::Work;
 use ro_replica::{Ran, ReplicaBox};
 use std::marker::Model;
 
-/// A replica that was lent to a driver, and the thread of it that is to run, for at most so many instructions.
+/// A lease and its replica, whose thread is to run for at most so many instructions.
 #[derive(Drop)]
 pub struct Lent {
-    driver: u32,
-    number: u32,
-    thread: u32,
+    lease: Lease,
     quantum: u32,
     replica: ReplicaBox,
 }
@@ -27,33 +26,36 @@ impl Model for Lent {
 
     ghost coded = { Prim.hlevel (codes, coded_held) };
 
-    ghost view = { λ l. record { driver = l.driver; number = l.number; thread = l.thread; quantum = l.quantum; replica = l.replica } };
+    ghost view = { λ l. record { lease = l.lease; quantum = l.quantum; replica = l.replica } };
 
-    ghost invariant = { λ l. CanGo l.quantum l.thread l.replica };
+    ghost invariant = { λ l. CanGo l.quantum l.lease.thread l.replica };
 }
 
 impl Lent {
-    /// Lends the replica with this number to a driver, for a run of a thread.
-    pub fn new(driver: u32, number: u32, thread: u32, quantum: u32, replica: ReplicaBox) -> Lent
-        requires { CanGo quantum thread replica }
-        ensures { result ≡ record { driver = driver; number = number; thread = thread; quantum = quantum; replica = replica } }
+    /// Lends the lease's replica to its driver, for a run of its thread.
+    pub fn new(lease: Lease, quantum: u32, replica: ReplicaBox) -> Lent
+        requires { CanGo quantum lease.thread replica }
+        ensures { result ≡ record { lease = lease; quantum = quantum; replica = replica } }
     {
         Lent {
-            driver,
-            number,
-            thread,
+            lease,
             quantum,
             replica,
         }
+    }
+
+    /// The lease.
+    pub fn lease(&self) -> Lease
+        ensures { result ≡ self.now.lease }
+    {
+        self.lease
     }
 }
 
 /// The replica after its run.
 #[derive(Drop)]
 pub struct Back {
-    pub driver: u32,
-    pub number: u32,
-    pub thread: u32,
+    pub lease: Lease,
     pub replica: ReplicaBox,
     pub ran: Ran,
 }
@@ -67,7 +69,7 @@ impl Model for Back {
 
     ghost coded = { Prim.hlevel (codes, coded_held) };
 
-    ghost view = { λ b. record { driver = b.driver; number = b.number; thread = b.thread; replica = b.replica; ran = b.ran } };
+    ghost view = { λ b. record { lease = b.lease; replica = b.replica; ran = b.ran } };
 }
 
 impl Work for Lent {
@@ -77,27 +79,23 @@ impl Work for Lent {
 
     ghost gives = { Gives };
 
-    ghost place_of = { λ l. (l.driver, l.number, l.thread) };
+    ghost place_of = { λ l. (l.lease.driver, l.lease.replica, l.lease.thread) };
 
     fn place(&self) -> (u32, u32, u32)
-        ensures { result ≡ (self.now.driver, self.now.number, self.now.thread) }
+        ensures { result ≡ (self.now.lease.driver, self.now.lease.replica, self.now.lease.thread) }
     {
-        (self.driver, self.number, self.thread)
+        (self.lease.driver, self.lease.replica, self.lease.thread)
     }
 
     fn run(self) -> Back {
         let Lent {
-            driver,
-            number,
-            thread,
+            lease,
             quantum,
             mut replica,
         } = self;
-        let ran = replica.run(thread, quantum);
+        let ran = replica.run(lease.thread, quantum);
         Back {
-            driver,
-            number,
-            thread,
+            lease,
             replica,
             ran,
         }

@@ -6,6 +6,7 @@ use Rattle.ro_event.specs.declared.effects.Made.{Made}
 use Rattle.ro_event.specs.Effects.{Effect}
 use Rattle.ro_region.specs.declared.Range.{Range}
 use Rattle.ro_journal.specs.Losers.{numbers}
+use Rattle.ro_journal.specs.declared.Lease.{Lease}
 use Rattle.ro_journal.specs.declared.Entry.{Entry}
 use Rattle.ro_journal.specs.declared.Entry.TheVariants.{Take, Put, Vote, Free, Scrub, End}
 use Rattle.ro_exec.specs.Next.{Layout}
@@ -131,8 +132,8 @@ counted-event most core thread count replicas (Some event) each h = λ number r 
     by : (r : Replica) (number : ℕ) → MappedFrom (λ x. cancelled (applied event.effect x)) replicas number r → Counts most r
     by r number m = subst (Counts most) m.gives (counts-applied most event.effect m.from (each number m.from m.there))
 
-counted-put : (most : ℕ) (job : Job) (core : Core) (driver replica thread count : ℕ) (ran : RanTo) → Counts (most + job.settings.quantum) ran.replica → AreCounted most core → AreCounted (most + job.settings.quantum) (core_after_put job core driver replica thread count (Some ran))
-counted-put most job core driver replica thread count ran came h = λ number r e. by number r (get-set-cases core.replicas replica number (arrived job thread count ran.replica) r e)
+counted-put : (most : ℕ) (job : Job) (core : Core) (lease : Lease) (count : ℕ) (ran : RanTo) → Counts (most + job.settings.quantum) ran.replica → AreCounted most core → AreCounted (most + job.settings.quantum) (core_after_put job core lease count (Some ran))
+counted-put most job core lease count ran came h = λ number r e. by number r (get-set-cases core.replicas lease.replica number (arrived job lease.thread count ran.replica) r e)
   where
     by : (number : ℕ) (r : Replica) → ((number ≢ replica) × (slice_get core.replicas number ≡ Some r)) ⊎ ((number ≡ replica) × (arrived job thread count ran.replica ≡ r)) → Counts (most + job.settings.quantum) r
     by number r (inl e) = counts-more most (most + job.settings.quantum) r (omega arith) (h number r e.1)
@@ -148,13 +149,13 @@ more-counted less more core h counts = λ number r e. counts-more less more r h 
 
 counted-after : (most : ℕ) (job : Job) (core : Core) (entry : Entry) → IsAllowed job core entry → AreCounted most core → AreCounted (most + job.settings.quantum) (after job core entry)
 unfolding after
-counted-after most job core (Take driver replica thread) may h = more-counted most (most + job.settings.quantum) (after job core (Take driver replica thread)) (omega arith) h
-counted-after most job core (Put driver replica thread count hit) may h =
-    let parts = put-parts job core replica thread count may.ran may.runs in
-    let few = few-arrive job thread count may.ran.replica may.arrives in
-    let came = counts-run most (layout_of job.program) job.settings.watchdog count thread parts.lent may.ran parts.runs (h replica parts.lent parts.there) in
-    subst (λ (o : Option RanTo). AreCounted (most + job.settings.quantum) (core_after_put job core driver replica thread count o)) (sym may.runs)
-    (counted-put most job core driver replica thread count may.ran (counts-more (most + count) (most + job.settings.quantum) may.ran.replica (omega arith) came) h)
+counted-after most job core (Take lease) may h = more-counted most (most + job.settings.quantum) (after job core (Take lease)) (omega arith) h
+counted-after most job core (Put lease count hit) may h =
+    let parts = put-parts job core lease count may.ran may.runs in
+    let few = few-arrive job lease.thread count may.ran.replica may.arrives in
+    let came = counts-run most (layout_of job.program) job.settings.watchdog count lease.thread parts.lent may.ran parts.runs (h lease.replica parts.lent parts.there) in
+    subst (λ (o : Option RanTo). AreCounted (most + job.settings.quantum) (core_after_put job core lease count o)) (sym may.runs)
+    (counted-put most job core lease count may.ran (counts-more (most + count) (most + job.settings.quantum) may.ran.replica (omega arith) came) h)
 counted-after most job core (Vote thread count won lost did) may h =
     let e = event-parts job core thread won may.event may.comes in
     more-counted most (most + job.settings.quantum) (core_after_event core thread count (with_recovered won (numbers lost) core.replicas) (event_in job core thread won)) (omega arith)

@@ -9,6 +9,7 @@ use Rattle.ro_event.specs.declared.stops.Stop.TheVariants.{Calls, Trap, PageFaul
 use Rattle.ro_event.specs.Effects.{Effect}
 use Rattle.ro_region.specs.declared.Range.{Range}
 use Rattle.ro_journal.specs.Losers.{numbers}
+use Rattle.ro_journal.specs.declared.Lease.{Lease}
 use Rattle.ro_journal.specs.declared.Entry.{Entry}
 use Rattle.ro_journal.specs.declared.Entry.TheVariants.{Take, Put, Vote, Free, Scrub, End}
 use Rattle.ro_exec.specs.Next.{Layout, Backed}
@@ -195,20 +196,20 @@ fault-event core thread count replicas (Some event) each h = λ number r e. by r
     by : (r : Replica) (number : ℕ) → MappedFrom (λ x. cancelled (applied event.effect x)) replicas number r → HasFaults r
     by r number m = subst HasFaults m.gives (fault-applied event.effect m.from (each number m.from m.there))
 
-fault-put : (job : Job) (core : Core) (driver replica thread count : ℕ) (ran : RanTo) → HasFaults ran.replica → FaultsWait core.replicas → FaultsWait (core_after_put job core driver replica thread count (Some ran)).replicas
-fault-put job core driver replica thread count ran came h = λ number r e. by number r (get-set-cases core.replicas replica number (arrived job thread count ran.replica) r e)
+fault-put : (job : Job) (core : Core) (lease : Lease) (count : ℕ) (ran : RanTo) → HasFaults ran.replica → FaultsWait core.replicas → FaultsWait (core_after_put job core lease count (Some ran)).replicas
+fault-put job core lease count ran came h = λ number r e. by number r (get-set-cases core.replicas lease.replica number (arrived job lease.thread count ran.replica) r e)
   where
-    by : (number : ℕ) (r : Replica) → ((number ≢ replica) × (slice_get core.replicas number ≡ Some r)) ⊎ ((number ≡ replica) × (arrived job thread count ran.replica ≡ r)) → HasFaults r
+    by : (number : ℕ) (r : Replica) → ((number ≢ lease.replica) × (slice_get core.replicas number ≡ Some r)) ⊎ ((number ≡ lease.replica) × (arrived job lease.thread count ran.replica ≡ r)) → HasFaults r
     by number r (inl e) = h number r e.1
-    by number r (inr e) = subst HasFaults e.1 (fault-changed ran.replica.backed (with_stop (arrival job thread count ran.replica)) (λ x k. fault-arrival job thread count ran.replica) ran.replica.threads thread came)
+    by number r (inr e) = subst HasFaults e.1 (fault-changed ran.replica.backed (with_stop (arrival job lease.thread count ran.replica)) (λ x k. fault-arrival job lease.thread count ran.replica) ran.replica.threads lease.thread came)
 
 fault-after : (job : Job) (core : Core) (entry : Entry) → IsAllowed job core entry → FaultsWait core.replicas → FaultsWait (after job core entry).replicas
 unfolding after
-fault-after job core (Take driver replica thread) may h = h
-fault-after job core (Put driver replica thread count hit) may h =
-    let parts = put-parts job core replica thread count may.ran may.runs in
-    let came = fault-run (layout_of job.program) job.settings.watchdog count thread parts.lent may.ran parts.runs (h replica parts.lent parts.there) in
-    subst (λ (o : Option RanTo). FaultsWait (core_after_put job core driver replica thread count o).replicas) (sym may.runs) (fault-put job core driver replica thread count may.ran came h)
+fault-after job core (Take lease) may h = h
+fault-after job core (Put lease count hit) may h =
+    let parts = put-parts job core lease count may.ran may.runs in
+    let came = fault-run (layout_of job.program) job.settings.watchdog count lease.thread parts.lent may.ran parts.runs (h lease.replica parts.lent parts.there) in
+    subst (λ (o : Option RanTo). FaultsWait (core_after_put job core lease count o).replicas) (sym may.runs) (fault-put job core lease count may.ran came h)
 fault-after job core (Vote thread count won lost did) may h =
     let e = event-parts job core thread won may.event may.comes in
     fault-event core thread count (with_recovered won (numbers lost) core.replicas) (event_in job core thread won) (each-copied won e.winner (numbers lost) core.replicas e.there h) h

@@ -28,17 +28,17 @@ use Rattle.ro_replica.specs.Runs.{RanTo, run_of, with_stop}
 use Rattle.ro_replica.specs.Views.{is_unstopped}
 use Rattle.ro_plain.specs.Machine.{layout_of, setup_of}
 use Rattle.ro_plain.proofs.Calls.{some-injective, slice_get-append}
-use Rattle.ro_legal.specs.declared.actions.Lease.{Lease}
-use Rattle.ro_legal.specs.Core.{Job, Core, opening_core, is_home, is_out, is_lendable}
+use Rattle.ro_journal.specs.declared.Lease.{Lease}
+use Rattle.ro_legal.specs.Core.{Job, Core, opening_core, is_home, is_lease, is_out, is_lendable}
 use Rattle.ro_legal.specs.Event.{Event, quiet_effect, call_event, event_of, with_recovered}
-use Rattle.ro_legal.specs.Legal.{lease_run, is_lease, arrival, arrived, core_after_put, core_after_event, event_in, freed_event, after, IsAllowed, MayPut, MayVote, MayFree, LegalFrom, Legal, replay}
+use Rattle.ro_legal.specs.Legal.{lease_run, arrival, arrived, core_after_put, core_after_event, event_in, freed_event, after, IsAllowed, MayPut, MayVote, MayFree, LegalFrom, Legal, replay}
 use Rattle.ro_legal.specs.Laws.{thread_in, leaves_blocked, LeavesBlocked, LetsGoOn}
 use Rattle.ro_legal.proofs.Lists.{get-map-there, get-set-same, changed-is-set}
 use Rattle.ro_legal.proofs.Copies.{copied-other}
 use Rattle.ro_legal.proofs.Effects.{backed_after, threads_after}
 use Rattle.ro_legal.proofs.Happens.{Happens, event-happens, call-happens}
 use Rattle.ro_legal.proofs.Journals.{LegalFrom-parts, legal-keeps, replay_more}
-use Rattle.ro_legal.proofs.Leases.{Apart, has_replica, lease-parts, out_has, gone, event_leases, apart_after}
+use Rattle.ro_legal.proofs.Leases.{Apart, has_replica, same-lease, out_has, gone, event_leases, apart_after}
 use Rattle.ro_legal.proofs.Ordered.{going-parts, put-parts, vote-parts, free-parts, scrub-parts, event-parts, freed-is}
 use Rattle.ro_legal.proofs.Retired.{RunMeets, meets}
 
@@ -49,7 +49,7 @@ abbrev pub goes_in : Core → (replica thread : ℕ) → Bool
 goes_in core replica thread = option_map_or (is_unstopped thread) (slice_get core.replicas replica) false
 
 abbrev pub LentGo : Core → Type 0
-LentGo core = (driver replica thread : ℕ) → is_out core driver replica thread ≡ true → goes_in core replica thread ≡ true
+LentGo core = (lease : Lease) → is_out core lease ≡ true → goes_in core lease.replica lease.thread ≡ true
 
 -- what is in a filtered list is in the list
 any-filter : {X : Type 0} (p q : X → Bool) (xs : List X) → list_any p (filter q xs) ≡ true → list_any p xs ≡ true
@@ -68,41 +68,39 @@ any-filter p q (x ∷ xs) e = by (any-filter p q xs) (q x) e
     by rest true f = first rest (p x) f
     by rest false f = later (p x) (rest f)
 
-go-take : (job : Job) (core : Core) (driver replica thread : ℕ) → is_lendable core replica thread ≡ true → LentGo core → LentGo (after job core (Take driver replica thread))
+go-take : (job : Job) (core : Core) (lease : Lease) → is_lendable core lease.replica lease.thread ≡ true → LentGo core → LentGo (after job core (Take lease))
 unfolding after
-go-take job core driver replica thread lendable h d r t e = by (is_lease d r t (record { driver = driver; replica = replica; thread = thread })) refl e
+go-take job core lease lendable h other e = by (is_lease other lease) refl e
   where
-    lent : goes_in core replica thread ≡ true
-    lent = (and_parts (is_home core replica && lives_on core.kernel thread) _ lendable).1
+    lent : goes_in core lease.replica lease.thread ≡ true
+    lent = (and_parts (is_home core lease.replica && lives_on core.kernel lease.thread) _ lendable).1
 
-    by : (b : Bool) → is_lease d r t (record { driver = driver; replica = replica; thread = thread }) ≡ b → (b || is_out core d r t) ≡ true → goes_in core r t ≡ true
-    by true is f =
-        let p = lease-parts d r t (record { driver = driver; replica = replica; thread = thread }) is in
-        subst (λ (n : ℕ). goes_in core n t ≡ true) p.1 (subst (λ (n : ℕ). goes_in core replica n ≡ true) p.2 lent)
-    by false is f = h d r t f
+    by : (b : Bool) → is_lease other lease ≡ b → (b || is_out core other) ≡ true → goes_in core other.replica other.thread ≡ true
+    by true is f = subst (λ (l : Lease). goes_in core l.replica l.thread ≡ true) (same-lease other lease is) lent
+    by false is f = h other f
 
-go-put : (job : Job) (core : Core) (driver replica thread count hit : ℕ) → MayPut job core driver replica thread count hit → Apart core.leases → LentGo core → LentGo (after job core (Put driver replica thread count hit))
+go-put : (job : Job) (core : Core) (lease : Lease) (count hit : ℕ) → MayPut job core lease count hit → Apart core.leases → LentGo core → LentGo (after job core (Put lease count hit))
 unfolding after
-go-put job core driver replica thread count hit may apart h =
-    subst (λ (o : Option RanTo). LentGo (core_after_put job core driver replica thread count o)) (sym may.runs) there
+go-put job core lease count hit may apart h =
+    subst (λ (o : Option RanTo). LentGo (core_after_put job core lease count o)) (sym may.runs) there
   where
     left : List Lease
-    left = filter (λ l. not (is_lease driver replica thread l)) core.leases
+    left = filter (λ l. not (is_lease lease l)) core.leases
 
-    there : LentGo (core_after_put job core driver replica thread count (Some may.ran))
-    there d r t e =
-        let other : r ≢ replica = λ same. true≢false (sym (out_has d r t left e) ∙ ap (λ (n : ℕ). has_replica n left) same ∙ gone driver replica thread core.leases apart may.out) in
-        ap (λ (o : Option Replica). option_map_or (is_unstopped t) o false) (slice_get-set_other core.replicas replica r (arrived job thread count may.ran.replica) (λ k. other (sym k)))
-        ∙ h d r t (any-filter (is_lease d r t) (λ l. not (is_lease driver replica thread l)) core.leases e)
+    there : LentGo (core_after_put job core lease count (Some may.ran))
+    there other e =
+        let apart_from : other.replica ≢ lease.replica = λ same. true≢false (sym (out_has other left e) ∙ ap (λ (n : ℕ). has_replica n left) same ∙ gone lease core.leases apart may.out) in
+        ap (λ (o : Option Replica). option_map_or (is_unstopped other.thread) o false) (slice_get-set_other core.replicas lease.replica other.replica (arrived job lease.thread count may.ran.replica) (λ k. apart_from (sym k)))
+        ∙ h other (any-filter (is_lease other) (λ l. not (is_lease lease l)) core.leases e)
 
 -- where nothing is lent
 pub go-none : (core : Core) → core.leases ≡ [] → LentGo core
-go-none core none d r t e = absurd (true≢false (sym e ∙ ap (list_any (is_lease d r t)) none))
+go-none core none lease e = absurd (true≢false (sym e ∙ ap (list_any (is_lease lease)) none))
 
 pub go-after : (job : Job) (core : Core) (entry : Entry) → IsAllowed job core entry → Apart core.leases → LentGo core → LentGo (after job core entry)
 unfolding after
-go-after job core (Take driver replica thread) may apart h = go-take job core driver replica thread may.lendable h
-go-after job core (Put driver replica thread count hit) may apart h = go-put job core driver replica thread count hit may apart h
+go-after job core (Take lease) may apart h = go-take job core lease may.lendable h
+go-after job core (Put lease count hit) may apart h = go-put job core lease count hit may apart h
 go-after job core (Vote thread count won lost did) may apart h =
     go-none (core_after_event core thread count (with_recovered won (numbers lost) core.replicas) (event_in job core thread won)) (event_leases core thread count (with_recovered won (numbers lost) core.replicas) (event_in job core thread won) ∙ (vote-parts core thread may.may).alone)
 go-after job core (Free thread) may apart h =
@@ -140,11 +138,11 @@ lent-thread core replica thread e = by (slice_get core.replicas replica) refl e
     by (Some r) f g = at r f (slice_get r.threads thread) refl g
 
 -- what its run did to the replica
-pub lent-meets : (job : Job) (core : Core) (replica thread count : ℕ) (ran : RanTo) (lent : LentThread core replica thread) → lease_run job core replica thread count ≡ Some ran → RunMeets thread count lent.went lent.lent ran
-lent-meets job core replica thread count ran lent runs =
-    let parts = put-parts job core replica thread count ran runs in
-    meets (layout_of job.program) job.settings.watchdog count thread lent.went lent.lent ran lent.in_lent
-    (ap (λ (r : Replica). run_of (layout_of job.program) job.settings.watchdog count r thread) (some-injective (sym lent.in_core ∙ parts.there)) ∙ parts.runs)
+pub lent-meets : (job : Job) (core : Core) (lease : Lease) (count : ℕ) (ran : RanTo) (lent : LentThread core lease.replica lease.thread) → lease_run job core lease count ≡ Some ran → RunMeets lease.thread count lent.went lent.lent ran
+lent-meets job core lease count ran lent runs =
+    let parts = put-parts job core lease count ran runs in
+    meets (layout_of job.program) job.settings.watchdog count lease.thread lent.went lent.lent ran lent.in_lent
+    (ap (λ (r : Replica). run_of (layout_of job.program) job.settings.watchdog count r lease.thread) (some-injective (sym lent.in_core ∙ parts.there)) ∙ parts.runs)
 
 -- ---- what stands at a call
 
@@ -245,39 +243,39 @@ abbrev Goes : Core → Entry → (replica thread : ℕ) → Thread → Type 0
 Goes new entry replica thread stands =
     (thread_in new replica thread ≡ Some stands) ⊎ (LeavesBlocked entry thread × (thread_in new replica thread ≡ Some (record stands { since = 0 }))) ⊎ LetsGoOn entry replica thread
 
-put-keeps : (job : Job) (core : Core) (driver ran_in ran count hit : ℕ) → MayPut job core driver ran_in ran count hit → LentGo core → (replica thread : ℕ) (stands : Thread) (call : Call)
-    → Found core replica thread stands → stands.stop ≡ Some (Calls call) → thread_in (after job core (Put driver ran_in ran count hit)) replica thread ≡ Some stands
+put-keeps : (job : Job) (core : Core) (lease : Lease) (count hit : ℕ) → MayPut job core lease count hit → LentGo core → (replica thread : ℕ) (stands : Thread) (call : Call)
+    → Found core replica thread stands → stands.stop ≡ Some (Calls call) → thread_in (after job core (Put lease count hit)) replica thread ≡ Some stands
 unfolding after
-put-keeps job core driver ran_in ran count hit may go replica thread stands call f at =
-    subst (λ (o : Option RanTo). thread_in (core_after_put job core driver ran_in ran count o) replica thread ≡ Some stands) (sym may.runs) (by (cases_eq replica ran_in))
+put-keeps job core lease count hit may go replica thread stands call f at =
+    subst (λ (o : Option RanTo). thread_in (core_after_put job core lease count o) replica thread ≡ Some stands) (sym may.runs) (by (cases_eq replica lease.replica))
   where
     new : Core
-    new = core_after_put job core driver ran_in ran count (Some may.ran)
+    new = core_after_put job core lease count (Some may.ran)
 
-    lent : LentThread core ran_in ran
-    lent = lent-thread core ran_in ran (go driver ran_in ran may.out)
+    lent : LentThread core lease.replica lease.thread
+    lent = lent-thread core lease.replica lease.thread (go lease may.out)
 
-    here : replica ≡ ran_in → thread_in new replica thread ≡ Some stands
+    here : replica ≡ lease.replica → thread_in new replica thread ≡ Some stands
     here same =
         let is : lent.lent ≡ f.value = some-injective (sym lent.in_core ∙ ap (slice_get core.replicas) (sym same) ∙ f.in_core) in
         let there : slice_get lent.lent.threads thread ≡ Some stands = ap (λ (r : Replica). slice_get r.threads thread) is ∙ f.there in
-        let other : thread ≢ ran = λ e. let both : lent.went ≡ stands = some-injective (sym lent.in_lent ∙ ap (slice_get lent.lent.threads) (sym e) ∙ there) in
+        let other : thread ≢ lease.thread = λ e. let both : lent.went ≡ stands = some-injective (sym lent.in_lent ∙ ap (slice_get lent.lent.threads) (sym e) ∙ there) in
         (let g : None ≡ Some (Calls call) = sym lent.goes ∙ ap (λ (x : Thread). x.stop) both ∙ at in cc)
         in
         found-is new replica thread stands (record {
-          value = arrived job ran count may.ran.replica;
-          in_core = ap (slice_get new.replicas) same ∙ get-set-same core.replicas ran_in lent.lent (arrived job ran count may.ran.replica) lent.in_core;
-          there = changed-other (with_stop (arrival job ran count may.ran.replica)) may.ran.replica.threads ran thread other ∙ (lent-meets job core ran_in ran count may.ran lent may.runs).only.others thread other ∙ there;
+          value = arrived job lease.thread count may.ran.replica;
+          in_core = ap (slice_get new.replicas) same ∙ get-set-same core.replicas lease.replica lent.lent (arrived job lease.thread count may.ran.replica) lent.in_core;
+          there = changed-other (with_stop (arrival job lease.thread count may.ran.replica)) may.ran.replica.threads lease.thread thread other ∙ (lent-meets job core lease count may.ran lent may.runs).only.others thread other ∙ there;
         })
 
-    away : replica ≢ ran_in → thread_in new replica thread ≡ Some stands
+    away : replica ≢ lease.replica → thread_in new replica thread ≡ Some stands
     away differs = found-is new replica thread stands (record {
       value = f.value;
-      in_core = slice_get-set_other core.replicas ran_in replica (arrived job ran count may.ran.replica) (λ k. differs (sym k)) ∙ f.in_core;
+      in_core = slice_get-set_other core.replicas lease.replica replica (arrived job lease.thread count may.ran.replica) (λ k. differs (sym k)) ∙ f.in_core;
       there = f.there;
     })
 
-    by : (replica ≡ ran_in) ⊎ (replica ≢ ran_in) → thread_in new replica thread ≡ Some stands
+    by : (replica ≡ lease.replica) ⊎ (replica ≢ lease.replica) → thread_in new replica thread ≡ Some stands
     by (inl same) = here same
     by (inr differs) = away differs
 
@@ -346,8 +344,8 @@ scrub-keeps job core won lost replica thread stands f = by (cases_Bool (is_among
 entry-keeps : (job : Job) (core : Core) (entry : Entry) → IsAllowed job core entry → LentGo core → (replica thread : ℕ) (stands : Thread) (call : Call)
     → Found core replica thread stands → stands.stop ≡ Some (Calls call) → Goes (after job core entry) entry replica thread stands
 unfolding after
-entry-keeps job core (Take driver taken lent) may go replica thread stands call f at = inl (found-is core replica thread stands f)
-entry-keeps job core (Put driver ran_in ran count hit) may go replica thread stands call f at = inl (put-keeps job core driver ran_in ran count hit may go replica thread stands call f at)
+entry-keeps job core (Take lease) may go replica thread stands call f at = inl (found-is core replica thread stands f)
+entry-keeps job core (Put lease count hit) may go replica thread stands call f at = inl (put-keeps job core lease count hit may go replica thread stands call f at)
 entry-keeps job core (Vote voted count won lost did) may go replica thread stands call f at = vote-keeps job core voted count won lost did may replica thread stands call f at
 entry-keeps job core (Free freed) may go replica thread stands call f at = free-keeps job core freed may replica thread stands call f at
 entry-keeps job core (Scrub won lost) may go replica thread stands call f at = scrub-keeps job core won lost replica thread stands f
@@ -371,8 +369,8 @@ one-grant job journal entry legal replica thread stands call e at =
 
 -- nothing is allowed behind an end
 pub ended-none : (job : Job) (core : Core) (entry : Entry) → IsAllowed job core entry → core.ended ≡ None
-ended-none job core (Take driver replica thread) may = (going-parts core may.going).1
-ended-none job core (Put driver replica thread count hit) may = may.not_ended
+ended-none job core (Take lease) may = (going-parts core may.going).1
+ended-none job core (Put lease count hit) may = may.not_ended
 ended-none job core (Vote thread count won lost did) may = (vote-parts core thread may.may).not_ended
 ended-none job core (Free thread) may = (free-parts job core thread may.may).not_ended
 ended-none job core (Scrub won lost) may = (scrub-parts core may.may).not_ended

@@ -11,11 +11,12 @@ use Rattle.ro_journal.specs.declared.Entry.TheVariants.{Take, Put, Vote, Free, S
 use Rattle.ro_replica.specs.Replica.{Replica}
 use Rattle.ro_replica.specs.Runs.{RanTo}
 use Rattle.ro_replica.specs.Views.{is_unstopped}
-use Rattle.ro_legal.specs.declared.actions.Lease.{Lease}
-use Rattle.ro_legal.specs.Core.{Job, Core, opening_core, is_home, is_lendable}
+use Rattle.ro_journal.specs.declared.Lease.{Lease}
+use Rattle.ro_journal.specs.Leases.{lease_to}
+use Rattle.ro_legal.specs.Core.{Job, Core, opening_core, is_home, is_lease, is_lendable}
 use Rattle.ro_kernel.specs.Kernel.{lives_on}
 use Rattle.ro_legal.specs.Event.{Event, with_recovered}
-use Rattle.ro_legal.specs.Legal.{is_lease, core_after_put, core_after_event, lease_run, event_in, freed_event, after, MayTake, IsAllowed, Legal, replay}
+use Rattle.ro_legal.specs.Legal.{core_after_put, core_after_event, lease_run, event_in, freed_event, after, MayTake, IsAllowed, Legal, replay}
 use Rattle.ro_legal.proofs.Journals.{legal-keeps}
 
 -- whether a lease with this number is in the list, by what its number is
@@ -53,11 +54,11 @@ pub not_false : (b : Bool) → not b ≡ true → b ≡ false
 not_false true e = absurd (true≢false (sym e))
 not_false false e = refl
 
-pub lease-parts : (driver replica thread : ℕ) (lease : Lease) → is_lease driver replica thread lease ≡ true → (lease.driver ≡ driver) × (lease.replica ≡ replica) × (lease.thread ≡ thread)
-lease-parts driver replica thread lease e =
-    let p = and_parts (lease.driver == driver && (lease.replica == replica)) (lease.thread == thread) e in
-    let q = and_parts (lease.driver == driver) (lease.replica == replica) p.0 in
-    (eqb-true lease.driver driver q.0, eqb-true lease.replica replica q.1, eqb-true lease.thread thread p.1)
+pub same-lease : (lease other : Lease) → is_lease lease other ≡ true → other ≡ lease
+same-lease lease other e =
+    let p = and_parts (other.driver == lease.driver && (other.replica == lease.replica)) (other.thread == lease.thread) e in
+    let q = and_parts (other.driver == lease.driver) (other.replica == lease.replica) p.0 in
+    (λ t. lease_to (eqb-true other.driver lease.driver q.0 t) (eqb-true other.replica lease.replica q.1 t) (eqb-true other.thread lease.thread p.1 t))
 
 -- ---- leases by a number of theirs
 
@@ -81,33 +82,32 @@ module _ (key : Lease → ℕ) where
       by true one rest = (one, rest)
       by false one rest = rest
 
-  -- of one lease, which has this number
-  module _ (driver replica thread n : ℕ) (its : (lease : Lease) → is_lease driver replica thread lease ≡ true → key lease ≡ n) where
-    -- where it is out its number is there
-    pub out_number : (leases : List Lease) → list_any (is_lease driver replica thread) leases ≡ true → has_number key n leases ≡ true
+  module _ (own : Lease) where
+    -- where a lease is out its number is there
+    pub out_number : (leases : List Lease) → list_any (is_lease own) leases ≡ true → has_number key (key own) leases ≡ true
     out_number [] e = absurd (true≢false (sym e))
-    out_number (lease ∷ leases) e = by (is_lease driver replica thread lease) refl (λ later. out_number leases later)
+    out_number (lease ∷ leases) e = by (is_lease own lease) refl (λ later. out_number leases later)
       where
-        by : (b : Bool) → is_lease driver replica thread lease ≡ b → (list_any (is_lease driver replica thread) leases ≡ true → has_number key n leases ≡ true) → ((key lease == n) || has_number key n leases) ≡ true
-        by true is rest = ap (λ (b : Bool). b || has_number key n leases) (eq-eqb (key lease) n (its lease is))
-        by false is rest = or_true (key lease == n) (has_number key n leases) (rest (sym (ap (λ (b : Bool). b || list_any (is_lease driver replica thread) leases) is) ∙ e))
+        by : (b : Bool) → is_lease own lease ≡ b → (list_any (is_lease own) leases ≡ true → has_number key (key own) leases ≡ true) → ((key lease == key own) || has_number key (key own) leases) ≡ true
+        by true is rest = ap (λ (b : Bool). b || has_number key (key own) leases) (eq-eqb (key lease) (key own) (ap key (same-lease own lease is)))
+        by false is rest = or_true (key lease == key own) (has_number key (key own) leases) (rest (sym (ap (λ (b : Bool). b || list_any (is_lease own) leases) is) ∙ e))
 
-    gone_by : (lease : Lease) (leases : List Lease) → Differ key (lease ∷ leases) → list_any (is_lease driver replica thread) (lease ∷ leases) ≡ true
-        → (list_any (is_lease driver replica thread) leases ≡ true → has_number key n (filter (λ l. not (is_lease driver replica thread l)) leases) ≡ false)
-        → (b : Bool) → is_lease driver replica thread lease ≡ b → has_number key n (cond (not b) (lease ∷ filter (λ l. not (is_lease driver replica thread l)) leases) (filter (λ l. not (is_lease driver replica thread l)) leases)) ≡ false
-    gone_by lease leases h e rest true is = has-filter (λ l. not (is_lease driver replica thread l)) n leases (ap (λ (m : ℕ). has_number key m leases) (sym (its lease is)) ∙ h.0)
+    gone_by : (lease : Lease) (leases : List Lease) → Differ key (lease ∷ leases) → list_any (is_lease own) (lease ∷ leases) ≡ true
+        → (list_any (is_lease own) leases ≡ true → has_number key (key own) (filter (λ l. not (is_lease own l)) leases) ≡ false)
+        → (b : Bool) → is_lease own lease ≡ b → has_number key (key own) (cond (not b) (lease ∷ filter (λ l. not (is_lease own l)) leases) (filter (λ l. not (is_lease own l)) leases)) ≡ false
+    gone_by lease leases h e rest true is = has-filter (λ l. not (is_lease own l)) (key own) leases (ap (λ (m : ℕ). has_number key m leases) (sym (ap key (same-lease own lease is))) ∙ h.0)
     gone_by lease leases h e rest false is =
-        let later : list_any (is_lease driver replica thread) leases ≡ true = sym (ap (λ (b : Bool). b || list_any (is_lease driver replica thread) leases) is) ∙ e in
-        ap (λ (b : Bool). b || has_number key n (filter (λ l. not (is_lease driver replica thread l)) leases)) (differs (key lease == n) refl (out_number leases later)) ∙ rest later
+        let later : list_any (is_lease own) leases ≡ true = sym (ap (λ (b : Bool). b || list_any (is_lease own) leases) is) ∙ e in
+        ap (λ (b : Bool). b || has_number key (key own) (filter (λ l. not (is_lease own l)) leases)) (differs (key lease == key own) refl (out_number leases later)) ∙ rest later
       where
-        differs : (b : Bool) → (key lease == n) ≡ b → has_number key n leases ≡ true → b ≡ false
+        differs : (b : Bool) → (key lease == key own) ≡ b → has_number key (key own) leases ≡ true → b ≡ false
         differs false f there = refl
-        differs true f there = absurd (true≢false (sym there ∙ ap (λ (m : ℕ). has_number key m leases) (sym (eqb-true (key lease) n f)) ∙ h.0))
+        differs true f there = absurd (true≢false (sym there ∙ ap (λ (m : ℕ). has_number key m leases) (sym (eqb-true (key lease) (key own) f)) ∙ h.0))
 
     -- and once it came back its number is gone
-    pub gone_number : (leases : List Lease) → Differ key leases → list_any (is_lease driver replica thread) leases ≡ true → has_number key n (filter (λ l. not (is_lease driver replica thread l)) leases) ≡ false
+    pub gone_number : (leases : List Lease) → Differ key leases → list_any (is_lease own) leases ≡ true → has_number key (key own) (filter (λ l. not (is_lease own l)) leases) ≡ false
     gone_number [] h e = refl
-    gone_number (lease ∷ leases) h e = gone_by lease leases h e (λ later. gone_number leases h.1 later) (is_lease driver replica thread lease) refl
+    gone_number (lease ∷ leases) h e = gone_by lease leases h e (λ later. gone_number leases h.1 later) (is_lease own lease) refl
 
 -- ---- along a journal
 
@@ -118,15 +118,15 @@ event_leases core thread count replicas (Some event) = refl
 
 -- what fewer leases keep, and a take keeps, each entry keeps
 pub leases_keep : (job : Job) (Q : List Lease → Type 0) → ((p : Lease → Bool) (leases : List Lease) → Q leases → Q (filter p leases))
-    → ((core : Core) (driver replica thread : ℕ) → MayTake job core driver replica thread → Q core.leases → Q (record { driver = driver; replica = replica; thread = thread } ∷ core.leases))
+    → ((core : Core) (lease : Lease) → MayTake job core lease → Q core.leases → Q (lease ∷ core.leases))
     → (core : Core) (entry : Entry) → IsAllowed job core entry → Q core.leases → Q (after job core entry).leases
 unfolding after
-leases_keep job Q fewer takes core (Take driver replica thread) m h = takes core driver replica thread m h
-leases_keep job Q fewer takes core (Put driver replica thread count hit) m h = by (lease_run job core replica thread count)
+leases_keep job Q fewer takes core (Take lease) m h = takes core lease m h
+leases_keep job Q fewer takes core (Put lease count hit) m h = by (lease_run job core lease count)
   where
-    by : (ran : Option RanTo) → Q (core_after_put job core driver replica thread count ran).leases
+    by : (ran : Option RanTo) → Q (core_after_put job core lease count ran).leases
     by None = h
-    by (Some ran) = fewer (λ lease. not (is_lease driver replica thread lease)) core.leases h
+    by (Some ran) = fewer (λ other. not (is_lease lease other)) core.leases h
 leases_keep job Q fewer takes core (Vote thread count won lost did) m h = subst Q (sym (event_leases core thread count (with_recovered won (numbers lost) core.replicas) (event_in job core thread won))) h
 leases_keep job Q fewer takes core (Free thread) m h = subst Q (sym (event_leases core thread 0 core.replicas (freed_event job core thread))) h
 leases_keep job Q fewer takes core (Scrub won lost) m h = h
@@ -136,11 +136,11 @@ leases_keep job Q fewer takes core (End how) m h = h
 pub apart_after : (job : Job) (core : Core) (entry : Entry) → IsAllowed job core entry → Apart core.leases → Apart (after job core entry).leases
 apart_after job core entry m h = leases_keep job (λ leases. Apart leases) (differ-filter (λ lease. lease.replica)) takes core entry m h
   where
-    takes : (core : Core) (driver replica thread : ℕ) → MayTake job core driver replica thread → Apart core.leases → Apart (record { driver = driver; replica = replica; thread = thread } ∷ core.leases)
-    takes core driver replica thread m h =
-        let p = and_parts (is_home core replica && lives_on core.kernel thread) _ m.lendable in
-        let q = and_parts (is_home core replica) (lives_on core.kernel thread) p.0 in
-        (not_false (has_replica replica core.leases) q.0, h)
+    takes : (core : Core) (lease : Lease) → MayTake job core lease → Apart core.leases → Apart (lease ∷ core.leases)
+    takes core lease m h =
+        let p = and_parts (is_home core lease.replica && lives_on core.kernel lease.thread) _ m.lendable in
+        let q = and_parts (is_home core lease.replica) (lives_on core.kernel lease.thread) p.0 in
+        (not_false (has_replica lease.replica core.leases) q.0, h)
 
 -- in a legal journal no two leases are of one replica
 pub leases_apart : (job : Job) (journal : List Entry) → Legal job journal → Apart (replay job journal).leases
@@ -152,34 +152,34 @@ pub one_each : (job : Job) (journal : List Entry) → Legal job journal → OneE
 unfolding opening_core
 one_each job journal legal = legal-keeps job (λ core. OneEach core.leases) (leases_keep job (λ leases. OneEach leases) (differ-filter (λ lease. lease.driver)) takes) (opening_core job) journal legal tt
   where
-    takes : (core : Core) (driver replica thread : ℕ) → MayTake job core driver replica thread → OneEach core.leases → OneEach (record { driver = driver; replica = replica; thread = thread } ∷ core.leases)
-    takes core driver replica thread m h = (not_false (has_driver driver core.leases) m.driver_is_idle, h)
+    takes : (core : Core) (lease : Lease) → MayTake job core lease → OneEach core.leases → OneEach (lease ∷ core.leases)
+    takes core lease m h = (not_false (has_driver lease.driver core.leases) m.driver_is_idle, h)
 
 -- a lease that is out is of its replica
-pub out_has : (driver replica thread : ℕ) (leases : List Lease) → list_any (is_lease driver replica thread) leases ≡ true → has_replica replica leases ≡ true
-out_has driver replica thread = out_number (λ lease. lease.replica) driver replica thread replica (λ lease is. (lease-parts driver replica thread lease is).1)
+pub out_has : (lease : Lease) (leases : List Lease) → list_any (is_lease lease) leases ≡ true → has_replica lease.replica leases ≡ true
+out_has lease = out_number (λ lease. lease.replica) lease
 
 -- a lease that came back leaves its replica at home
-pub gone : (driver replica thread : ℕ) (leases : List Lease) → Apart leases → list_any (is_lease driver replica thread) leases ≡ true
-    → has_replica replica (filter (λ l. not (is_lease driver replica thread l)) leases) ≡ false
-gone driver replica thread = gone_number (λ lease. lease.replica) driver replica thread replica (λ lease is. (lease-parts driver replica thread lease is).1)
+pub gone : (lease : Lease) (leases : List Lease) → Apart leases → list_any (is_lease lease) leases ≡ true
+    → has_replica lease.replica (filter (λ l. not (is_lease lease l)) leases) ≡ false
+gone lease = gone_number (λ lease. lease.replica) lease
 
 -- and every other replica as it was
-pub others_stay : (driver replica thread other : ℕ) (leases : List Lease) → (other ≡ replica → ⊥)
-    → has_replica other (filter (λ l. not (is_lease driver replica thread l)) leases) ≡ has_replica other leases
-others_stay driver replica thread other [] ne = refl
-others_stay driver replica thread other (lease ∷ leases) ne = by (is_lease driver replica thread lease) refl (others_stay driver replica thread other leases ne)
+pub others_stay : (own : Lease) (other : ℕ) (leases : List Lease) → (other ≡ own.replica → ⊥)
+    → has_replica other (filter (λ l. not (is_lease own l)) leases) ≡ has_replica other leases
+others_stay own other [] ne = refl
+others_stay own other (lease ∷ leases) ne = by (is_lease own lease) refl (others_stay own other leases ne)
   where
     kept : List Lease
-    kept = filter (λ l. not (is_lease driver replica thread l)) leases
+    kept = filter (λ l. not (is_lease own l)) leases
 
-    not_other : (b : Bool) → (lease.replica == other) ≡ b → lease.replica ≡ replica → b ≡ false
+    not_other : (b : Bool) → (lease.replica == other) ≡ b → lease ≡ own → b ≡ false
     not_other false f same = refl
-    not_other true f same = absurd (ne (sym (eqb-true lease.replica other f) ∙ same))
+    not_other true f same = absurd (ne (sym (eqb-true lease.replica other f) ∙ ap (λ (l : Lease). l.replica) same))
 
-    by : (b : Bool) → is_lease driver replica thread lease ≡ b → has_replica other kept ≡ has_replica other leases → has_replica other (cond (not b) (lease ∷ kept) kept) ≡ ((lease.replica == other) || has_replica other leases)
+    by : (b : Bool) → is_lease own lease ≡ b → has_replica other kept ≡ has_replica other leases → has_replica other (cond (not b) (lease ∷ kept) kept) ≡ ((lease.replica == other) || has_replica other leases)
     by true is rest =
-        let other_is : (lease.replica == other) ≡ false = not_other (lease.replica == other) refl (lease-parts driver replica thread lease is).1 in
+        let other_is : (lease.replica == other) ≡ false = not_other (lease.replica == other) refl (same-lease own lease is) in
         rest ∙ sym (ap (λ (b : Bool). b || has_replica other leases) other_is)
     by false is rest = ap (λ (b : Bool). (lease.replica == other) || b) rest
 

@@ -8,6 +8,7 @@ use Rattle.ro_event.specs.declared.effects.Made.{Made}
 use Rattle.ro_exec.specs.Threads.{made_cpu}
 use Rattle.ro_exec.specs.Next.{Backed}
 use Rattle.ro_journal.specs.Losers.{numbers}
+use Rattle.ro_journal.specs.declared.Lease.{Lease}
 use Rattle.ro_journal.specs.declared.Entry.{Entry}
 use Rattle.ro_journal.specs.declared.Entry.TheVariants.{Take, Put, Vote, Free, Scrub, End}
 use Rattle.ro_faults.specs.declared.Fault.{Fault}
@@ -256,104 +257,104 @@ moment-or ran at done count none = same-bool _ _ (λ e. there (or_cases _ _ e)) 
     back (inl r) (inr g) le = let more : done < at = leb-false at done g in or_right _ _ (and_from _ _ (le-leb done at (omega arith)) (le-leb at (done + count) le))
     back (inr r) l le = let zero_done : done ≡ 0 = none r in or_right _ _ (and_from _ _ (le-leb done at (omega arith)) (le-leb at (done + count) le))
 
-module _ (job : Job) (journal : List Entry) (driver number thread count hit : ℕ) where
+module _ (job : Job) (journal : List Entry) (lease : Lease) (count hit : ℕ) where
   put : Entry
-  put = Put driver number thread count hit
+  put = Put lease count hit
 
   -- of a fault of this replica, its moment has come by now where it had come or was passed in the run
-  come-more : (done : ℕ) → done ≡ retired journal number thread → (fault : Fault) → fault.replica ≡ number → (has_come journal fault || is_passed thread done (done + count) fault) ≡ has_come (journal ++ Put driver number thread count hit ∷ []) fault
-  come-more done is fault own = by (cases_Bool (fault.thread == thread))
+  come-more : (done : ℕ) → done ≡ retired journal lease.replica lease.thread → (fault : Fault) → fault.replica ≡ lease.replica → (has_come journal fault || is_passed lease.thread done (done + count) fault) ≡ has_come (journal ++ Put lease count hit ∷ []) fault
+  come-more done is fault own = by (cases_Bool (fault.thread == lease.thread))
     where
-      by : ((fault.thread == thread) ≡ true) ⊎ ((fault.thread == thread) ≡ false) → (has_come journal fault || is_passed thread done (done + count) fault) ≡ has_come (journal ++ Put driver number thread count hit ∷ []) fault
+      by : ((fault.thread == lease.thread) ≡ true) ⊎ ((fault.thread == lease.thread) ≡ false) → (has_come journal fault || is_passed lease.thread done (done + count) fault) ≡ has_come (journal ++ Put lease count hit ∷ []) fault
       by (inr other) =
-          let quiet : is_run fault.replica fault.thread (Put driver number thread count hit) ≡ false = and_right (number == fault.replica) (thread == fault.thread) (ne_eqb thread fault.thread (λ (e : thread ≡ fault.thread). eqb-false fault.thread thread other (sym e))) in
-          ap (λ (b : Bool). has_come journal fault || b) (and_left _ _ other) ∙ or-false (has_come journal fault) ∙ sym (come-same journal (Put driver number thread count hit) fault quiet)
+          let quiet : is_run fault.replica fault.thread (Put lease count hit) ≡ false = and_right (lease.replica == fault.replica) (lease.thread == fault.thread) (ne_eqb lease.thread fault.thread (λ (e : lease.thread ≡ fault.thread). eqb-false fault.thread lease.thread other (sym e))) in
+          ap (λ (b : Bool). has_come journal fault || b) (and_left _ _ other) ∙ or-false (has_come journal fault) ∙ sym (come-same journal (Put lease count hit) fault quiet)
         where
           or-false : (b : Bool) → (b || false) ≡ b
           or-false true = refl
           or-false false = refl
       by (inl same) =
-          let at_thread : fault.thread ≡ thread = eqb-true fault.thread thread same in
-          let runs : is_run fault.replica fault.thread (Put driver number thread count hit) ≡ true = and_from (number == fault.replica) (thread == fault.thread) (eq-eqb number fault.replica (sym own)) (eq-eqb thread fault.thread (sym at_thread)) in
+          let at_thread : fault.thread ≡ lease.thread = eqb-true fault.thread lease.thread same in
+          let runs : is_run fault.replica fault.thread (Put lease count hit) ≡ true = and_from (lease.replica == fault.replica) (lease.thread == fault.thread) (eq-eqb lease.replica fault.replica (sym own)) (eq-eqb lease.thread fault.thread (sym at_thread)) in
           let before : retired journal fault.replica fault.thread ≡ done = (λ t. retired journal (own t) (at_thread t)) ∙ sym is in
           let none : has_run journal fault.replica fault.thread ≡ false → done ≡ 0 = λ e. sym before ∙ retired-none journal fault.replica fault.thread e in
-          let has : has_run (journal ++ Put driver number thread count hit ∷ []) fault.replica fault.thread ≡ true =
-          has_run-more journal (Put driver number thread count hit) fault.replica fault.thread ∙ ap (λ (b : Bool). b || has_run journal fault.replica fault.thread) runs
+          let has : has_run (journal ++ Put lease count hit ∷ []) fault.replica fault.thread ≡ true =
+          has_run-more journal (Put lease count hit) fault.replica fault.thread ∙ ap (λ (b : Bool). b || has_run journal fault.replica fault.thread) runs
           in
-          let now : retired (journal ++ Put driver number thread count hit ∷ []) fault.replica fault.thread ≡ done + count =
-          retired-more journal (Put driver number thread count hit) fault.replica fault.thread ∙ (λ t. before t + cond (runs t) count 0)
+          let now : retired (journal ++ Put lease count hit ∷ []) fault.replica fault.thread ≡ done + count =
+          retired-more journal (Put lease count hit) fault.replica fault.thread ∙ (λ t. before t + cond (runs t) count 0)
           in
           (λ t. (has_run journal fault.replica fault.thread && nat_le fault.at (before t)) || (same t && (nat_le done fault.at && nat_le fault.at (done + count))))
           ∙ moment-or (has_run journal fault.replica fault.thread) fault.at done count none ∙ sym (λ t. has t && nat_le fault.at (now t))
 
   -- a put of a run that was made of what met the journal
-  meets-put : (lent new : Replica) (ran : RanTo) (went : Thread) (stop : Thread → Thread) → ((x : Thread) → (stop x).done ≡ x.done) → slice_get lent.threads thread ≡ Some went → RunMeets thread count went lent ran → ran.hit ≡ hit
-      → new.waiting ≡ ran.replica.waiting → new.threads ≡ changed_at stop ran.replica.threads thread → Meets job journal number lent → Meets job (journal ++ Put driver number thread count hit ∷ []) number new
+  meets-put : (lent new : Replica) (ran : RanTo) (went : Thread) (stop : Thread → Thread) → ((x : Thread) → (stop x).done ≡ x.done) → slice_get lent.threads lease.thread ≡ Some went → RunMeets lease.thread count went lent ran → ran.hit ≡ hit
+      → new.waiting ≡ ran.replica.waiting → new.threads ≡ changed_at stop ran.replica.threads lease.thread → Meets job journal lease.replica lent → Meets job (journal ++ Put lease count hit ∷ []) lease.replica new
   meets-put lent new ran went stop same there run hit_is waits threads h = record {
-    waiting = waits ∙ run.waiting ∙ ap (filter (λ fault. not (is_passed thread went.done (went.done + count) fault))) h.waiting
+    waiting = waits ∙ run.waiting ∙ ap (filter (λ fault. not (is_passed lease.thread went.done (went.done + count) fault))) h.waiting
         ∙ filter-filter _ _ _ left job.faults;
-    struck = hits-more journal (Put driver number thread count hit) number
-        ∙ (λ t. h.struck t + cond (eq-eqb number number refl t) (sym hit_is t) 0)
-        ∙ ap (λ (n : ℕ). length (filter (λ fault. (fault.replica == number) && has_come journal fault) job.faults) + n) passed
+    struck = hits-more journal (Put lease count hit) lease.replica
+        ∙ (λ t. h.struck t + cond (eq-eqb lease.replica lease.replica refl t) (sym hit_is t) 0)
+        ∙ ap (λ (n : ℕ). length (filter (λ fault. (fault.replica == lease.replica) && has_come journal fault) job.faults) + n) passed
         ∙ length-parts _ _ _ either job.faults;
-    made = λ place x e. made place x (comes-changed stop same ran.replica.threads thread place x (ap (λ (xs : List Thread). slice_get xs place) (sym threads) ∙ e)) (cases_eq place thread);
-    unmade = λ place e. unmade place (changed-none stop ran.replica.threads thread place (ap (λ (xs : List Thread). slice_get xs place) (sym threads) ∙ e)) (cases_eq place thread);
+    made = λ place x e. made place x (comes-changed stop same ran.replica.threads lease.thread place x (ap (λ (xs : List Thread). slice_get xs place) (sym threads) ∙ e)) (cases_eq place lease.thread);
+    unmade = λ place e. unmade place (changed-none stop ran.replica.threads lease.thread place (ap (λ (xs : List Thread). slice_get xs place) (sym threads) ∙ e)) (cases_eq place lease.thread);
   }
     where
-      done : went.done ≡ retired journal number thread
-      done = h.made thread went there
+      done : went.done ≡ retired journal lease.replica lease.thread
+      done = h.made lease.thread went there
 
-      either : (fault : Fault) → (((fault.replica == number) && has_come journal fault) || ((fault.replica == number) && is_passed thread went.done (went.done + count) fault)) ≡ ((fault.replica == number) && has_come (journal ++ Put driver number thread count hit ∷ []) fault)
-      either fault = by (cases_Bool (fault.replica == number))
+      either : (fault : Fault) → (((fault.replica == lease.replica) && has_come journal fault) || ((fault.replica == lease.replica) && is_passed lease.thread went.done (went.done + count) fault)) ≡ ((fault.replica == lease.replica) && has_come (journal ++ Put lease count hit ∷ []) fault)
+      either fault = by (cases_Bool (fault.replica == lease.replica))
         where
-          by : ((fault.replica == number) ≡ true) ⊎ ((fault.replica == number) ≡ false) → (((fault.replica == number) && has_come journal fault) || ((fault.replica == number) && is_passed thread went.done (went.done + count) fault)) ≡ ((fault.replica == number) && has_come (journal ++ Put driver number thread count hit ∷ []) fault)
-          by (inl e) = (λ t. (e t && has_come journal fault) || (e t && is_passed thread went.done (went.done + count) fault)) ∙ come-more went.done done fault (eqb-true fault.replica number e)
-              ∙ sym (ap (λ (b : Bool). b && has_come (journal ++ Put driver number thread count hit ∷ []) fault) e)
-          by (inr e) = (λ t. (e t && has_come journal fault) || (e t && is_passed thread went.done (went.done + count) fault)) ∙ sym (and_left _ _ e)
+          by : ((fault.replica == lease.replica) ≡ true) ⊎ ((fault.replica == lease.replica) ≡ false) → (((fault.replica == lease.replica) && has_come journal fault) || ((fault.replica == lease.replica) && is_passed lease.thread went.done (went.done + count) fault)) ≡ ((fault.replica == lease.replica) && has_come (journal ++ Put lease count hit ∷ []) fault)
+          by (inl e) = (λ t. (e t && has_come journal fault) || (e t && is_passed lease.thread went.done (went.done + count) fault)) ∙ come-more went.done done fault (eqb-true fault.replica lease.replica e)
+              ∙ sym (ap (λ (b : Bool). b && has_come (journal ++ Put lease count hit ∷ []) fault) e)
+          by (inr e) = (λ t. (e t && has_come journal fault) || (e t && is_passed lease.thread went.done (went.done + count) fault)) ∙ sym (and_left _ _ e)
 
-      left : (fault : Fault) → (((fault.replica == number) && not (has_come journal fault)) && not (is_passed thread went.done (went.done + count) fault)) ≡ ((fault.replica == number) && not (has_come (journal ++ Put driver number thread count hit ∷ []) fault))
-      left fault = by (cases_Bool (fault.replica == number))
+      left : (fault : Fault) → (((fault.replica == lease.replica) && not (has_come journal fault)) && not (is_passed lease.thread went.done (went.done + count) fault)) ≡ ((fault.replica == lease.replica) && not (has_come (journal ++ Put lease count hit ∷ []) fault))
+      left fault = by (cases_Bool (fault.replica == lease.replica))
         where
-          by : ((fault.replica == number) ≡ true) ⊎ ((fault.replica == number) ≡ false) → (((fault.replica == number) && not (has_come journal fault)) && not (is_passed thread went.done (went.done + count) fault)) ≡ ((fault.replica == number) && not (has_come (journal ++ Put driver number thread count hit ∷ []) fault))
-          by (inl e) = (λ t. (e t && not (has_come journal fault)) && not (is_passed thread went.done (went.done + count) fault))
-              ∙ not-or _ _ _ (come-more went.done done fault (eqb-true fault.replica number e)) ∙ sym (ap (λ (b : Bool). b && not (has_come (journal ++ Put driver number thread count hit ∷ []) fault)) e)
-          by (inr e) = (λ t. (e t && not (has_come journal fault)) && not (is_passed thread went.done (went.done + count) fault)) ∙ sym (and_left _ _ e)
+          by : ((fault.replica == lease.replica) ≡ true) ⊎ ((fault.replica == lease.replica) ≡ false) → (((fault.replica == lease.replica) && not (has_come journal fault)) && not (is_passed lease.thread went.done (went.done + count) fault)) ≡ ((fault.replica == lease.replica) && not (has_come (journal ++ Put lease count hit ∷ []) fault))
+          by (inl e) = (λ t. (e t && not (has_come journal fault)) && not (is_passed lease.thread went.done (went.done + count) fault))
+              ∙ not-or _ _ _ (come-more went.done done fault (eqb-true fault.replica lease.replica e)) ∙ sym (ap (λ (b : Bool). b && not (has_come (journal ++ Put lease count hit ∷ []) fault)) e)
+          by (inr e) = (λ t. (e t && not (has_come journal fault)) && not (is_passed lease.thread went.done (went.done + count) fault)) ∙ sym (and_left _ _ e)
 
       -- those that were struck: of the faults that had not come, those that were passed
-      passed : ran.hit ≡ length (filter (λ fault. (fault.replica == number) && is_passed thread went.done (went.done + count) fault) (filter (λ fault. not ((fault.replica == number) && has_come journal fault)) job.faults))
-      passed = run.hit ∙ ap (λ (xs : List Fault). length (filter (is_passed thread went.done (went.done + count)) xs)) h.waiting
-          ∙ ap length (filter-filter _ _ _ (λ fault. refl) job.faults ∙ sym (filter-filter _ _ _ (λ fault. again (fault.replica == number) (has_come journal fault) (is_passed thread went.done (went.done + count) fault)) job.faults))
+      passed : ran.hit ≡ length (filter (λ fault. (fault.replica == lease.replica) && is_passed lease.thread went.done (went.done + count) fault) (filter (λ fault. not ((fault.replica == lease.replica) && has_come journal fault)) job.faults))
+      passed = run.hit ∙ ap (λ (xs : List Fault). length (filter (is_passed lease.thread went.done (went.done + count)) xs)) h.waiting
+          ∙ ap length (filter-filter _ _ _ (λ fault. refl) job.faults ∙ sym (filter-filter _ _ _ (λ fault. again (fault.replica == lease.replica) (has_come journal fault) (is_passed lease.thread went.done (went.done + count) fault)) job.faults))
         where
           again : (own come pass : Bool) → (not (own && come) && (own && pass)) ≡ ((own && not come) && pass)
           again true come pass = refl
           again false come pass = refl
 
-      runs : has_run (journal ++ Put driver number thread count hit ∷ []) number thread ≡ true
-      runs = has_run-more journal (Put driver number thread count hit) number thread ∙ or_left _ _ (and_from _ _ (eq-eqb number number refl) (eq-eqb thread thread refl))
+      runs : has_run (journal ++ Put lease count hit ∷ []) lease.replica lease.thread ≡ true
+      runs = has_run-more journal (Put lease count hit) lease.replica lease.thread ∙ or_left _ _ (and_from _ _ (eq-eqb lease.replica lease.replica refl) (eq-eqb lease.thread lease.thread refl))
 
-      own-retired : retired (journal ++ Put driver number thread count hit ∷ []) number thread ≡ went.done + count
-      own-retired = retired-more journal (Put driver number thread count hit) number thread
-          ∙ (λ t. sym done t + cond (eq-eqb number number refl t && eq-eqb thread thread refl t) count 0)
+      own-retired : retired (journal ++ Put lease count hit ∷ []) lease.replica lease.thread ≡ went.done + count
+      own-retired = retired-more journal (Put lease count hit) lease.replica lease.thread
+          ∙ (λ t. sym done t + cond (eq-eqb lease.replica lease.replica refl t && eq-eqb lease.thread lease.thread refl t) count 0)
 
-      other-run : (place : ℕ) → place ≢ thread → is_run number place (Put driver number thread count hit) ≡ false
-      other-run place d = and_right (number == number) (thread == place) (ne_eqb thread place (λ (e : thread ≡ place). d (sym e)))
+      other-run : (place : ℕ) → place ≢ lease.thread → is_run lease.replica place (Put lease count hit) ≡ false
+      other-run place d = and_right (lease.replica == lease.replica) (lease.thread == place) (ne_eqb lease.thread place (λ (e : lease.thread ≡ place). d (sym e)))
 
-      made : (place : ℕ) (x : Thread) → Comes ran.replica.threads place x → (place ≡ thread) ⊎ (place ≢ thread) → x.done ≡ retired (journal ++ Put driver number thread count hit ∷ []) number place
+      made : (place : ℕ) (x : Thread) → Comes ran.replica.threads place x → (place ≡ lease.thread) ⊎ (place ≢ lease.thread) → x.done ≡ retired (journal ++ Put lease count hit ∷ []) lease.replica place
       made place x (inl c) (inl e) =
           let is : c.0 ≡ run.only.self = some-injective (sym c.1 ∙ ap (slice_get ran.replica.threads) e ∙ run.only.there) in
-          c.2 ∙ ap (λ (y : Thread). y.done) is ∙ run.only.has_done ∙ sym own-retired ∙ ap (retired (journal ++ Put driver number thread count hit ∷ []) number) (sym e)
+          c.2 ∙ ap (λ (y : Thread). y.done) is ∙ run.only.has_done ∙ sym own-retired ∙ ap (retired (journal ++ Put lease count hit ∷ []) lease.replica) (sym e)
       made place x (inl c) (inr d) =
           c.2 ∙ h.made place c.0 (sym (run.only.others place d) ∙ c.1)
-          ∙ sym (retired-more journal (Put driver number thread count hit) number place ∙ ap (λ (b : Bool). retired journal number place + cond b count 0) (other-run place d) ∙ (let g : retired journal number place + 0 ≡ retired journal number place = omega arith in g))
+          ∙ sym (retired-more journal (Put lease count hit) lease.replica place ∙ ap (λ (b : Bool). retired journal lease.replica place + cond b count 0) (other-run place d) ∙ (let g : retired journal lease.replica place + 0 ≡ retired journal lease.replica place = omega arith in g))
       made place x (inr c) (inl e) = absurd (let f : None ≡ Some run.only.self = sym c.0 ∙ ap (slice_get ran.replica.threads) e ∙ run.only.there in cc)
       made place x (inr c) (inr d) =
-          c.1 ∙ sym (retired-none journal number place (h.unmade place (sym (run.only.others place d) ∙ c.0)))
-          ∙ sym (retired-more journal (Put driver number thread count hit) number place ∙ ap (λ (b : Bool). retired journal number place + cond b count 0) (other-run place d) ∙ (let g : retired journal number place + 0 ≡ retired journal number place = omega arith in g))
+          c.1 ∙ sym (retired-none journal lease.replica place (h.unmade place (sym (run.only.others place d) ∙ c.0)))
+          ∙ sym (retired-more journal (Put lease count hit) lease.replica place ∙ ap (λ (b : Bool). retired journal lease.replica place + cond b count 0) (other-run place d) ∙ (let g : retired journal lease.replica place + 0 ≡ retired journal lease.replica place = omega arith in g))
 
-      unmade : (place : ℕ) → slice_get ran.replica.threads place ≡ None → (place ≡ thread) ⊎ (place ≢ thread) → has_run (journal ++ Put driver number thread count hit ∷ []) number place ≡ false
+      unmade : (place : ℕ) → slice_get ran.replica.threads place ≡ None → (place ≡ lease.thread) ⊎ (place ≢ lease.thread) → has_run (journal ++ Put lease count hit ∷ []) lease.replica place ≡ false
       unmade place none (inl e) = absurd (let f : None ≡ Some run.only.self = sym none ∙ ap (slice_get ran.replica.threads) e ∙ run.only.there in cc)
       unmade place none (inr d) =
-          has_run-more journal (Put driver number thread count hit) number place ∙ ap (λ (b : Bool). b || has_run journal number place) (other-run place d) ∙ h.unmade place (sym (run.only.others place d) ∙ none)
+          has_run-more journal (Put lease count hit) lease.replica place ∙ ap (λ (b : Bool). b || has_run journal lease.replica place) (other-run place d) ∙ h.unmade place (sym (run.only.others place d) ∙ none)
 
 -- ---- entries
 
@@ -370,29 +371,29 @@ meets-event job journal entry core thread count replicas event quiet same h numb
 meets-same : (job : Job) (journal : List Entry) (entry : Entry) (core : Core) → ((number : ℕ) → IsQuiet number entry) → AllMeet job journal core → AllMeet job (journal ++ entry ∷ []) core
 meets-same job journal entry core quiet h number r e = meets-quiet job journal entry number r r (quiet number) (same-replica r) (h number r e)
 
-meets-ran : (job : Job) (journal : List Entry) (core : Core) (driver replica thread count hit : ℕ) → (may : MayPut job core driver replica thread count hit) → LentGo core → AllMeet job journal core
-    → AllMeet job (journal ++ Put driver replica thread count hit ∷ []) (core_after_put job core driver replica thread count (Some may.ran))
-meets-ran job journal core driver replica thread count hit may go h number r e = by (get-set-cases core.replicas replica number (arrived job thread count may.ran.replica) r e)
+meets-ran : (job : Job) (journal : List Entry) (core : Core) (lease : Lease) (count hit : ℕ) → (may : MayPut job core lease count hit) → LentGo core → AllMeet job journal core
+    → AllMeet job (journal ++ Put lease count hit ∷ []) (core_after_put job core lease count (Some may.ran))
+meets-ran job journal core lease count hit may go h number r e = by (get-set-cases core.replicas lease.replica number (arrived job lease.thread count may.ran.replica) r e)
   where
-    lent : LentThread core replica thread
-    lent = lent-thread core replica thread (go driver replica thread may.out)
+    lent : LentThread core lease.replica lease.thread
+    lent = lent-thread core lease.replica lease.thread (go lease may.out)
 
-    came : Meets job (journal ++ Put driver replica thread count hit ∷ []) replica (arrived job thread count may.ran.replica)
-    came = meets-put job journal driver replica thread count hit lent.lent (arrived job thread count may.ran.replica) may.ran lent.went (with_stop (arrival job thread count may.ran.replica)) (λ x. refl)
-        lent.in_lent (lent-meets job core replica thread count may.ran lent may.runs) may.struck refl refl (h replica lent.lent lent.in_core)
+    came : Meets job (journal ++ Put lease count hit ∷ []) lease.replica (arrived job lease.thread count may.ran.replica)
+    came = meets-put job journal lease count hit lent.lent (arrived job lease.thread count may.ran.replica) may.ran lent.went (with_stop (arrival job lease.thread count may.ran.replica)) (λ x. refl)
+        lent.in_lent (lent-meets job core lease count may.ran lent may.runs) may.struck refl refl (h lease.replica lent.lent lent.in_core)
 
-    quiet : number ≢ replica → IsQuiet number (Put driver replica thread count hit)
-    quiet d = ((λ t. and_left (replica == number) (thread == t) (ne_eqb replica number (λ (k : replica ≡ number). d (sym k)))), ap (λ (b : Bool). cond b hit 0) (ne_eqb replica number (λ (k : replica ≡ number). d (sym k))))
+    quiet : number ≢ lease.replica → IsQuiet number (Put lease count hit)
+    quiet d = ((λ t. and_left (lease.replica == number) (lease.thread == t) (ne_eqb lease.replica number (λ (k : lease.replica ≡ number). d (sym k)))), ap (λ (b : Bool). cond b hit 0) (ne_eqb lease.replica number (λ (k : lease.replica ≡ number). d (sym k))))
 
-    by : ((number ≢ replica) × (slice_get core.replicas number ≡ Some r)) ⊎ ((number ≡ replica) × (arrived job thread count may.ran.replica ≡ r)) → Meets job (journal ++ Put driver replica thread count hit ∷ []) number r
-    by (inl f) = meets-quiet job journal (Put driver replica thread count hit) number r r (quiet f.0) (same-replica r) (h number r f.1)
-    by (inr f) = subst (λ (n : ℕ). Meets job (journal ++ Put driver replica thread count hit ∷ []) n r) (sym f.0) (subst (Meets job (journal ++ Put driver replica thread count hit ∷ []) replica) f.1 came)
+    by : ((number ≢ lease.replica) × (slice_get core.replicas number ≡ Some r)) ⊎ ((number ≡ lease.replica) × (arrived job lease.thread count may.ran.replica ≡ r)) → Meets job (journal ++ Put lease count hit ∷ []) number r
+    by (inl f) = meets-quiet job journal (Put lease count hit) number r r (quiet f.0) (same-replica r) (h number r f.1)
+    by (inr f) = subst (λ (n : ℕ). Meets job (journal ++ Put lease count hit ∷ []) n r) (sym f.0) (subst (Meets job (journal ++ Put lease count hit ∷ []) lease.replica) f.1 came)
 
 meets-after : (job : Job) (journal : List Entry) (core : Core) (entry : Entry) → IsAllowed job core entry → IsOrdered job core → LentGo core → AllMeet job journal core → AllMeet job (journal ++ entry ∷ []) (after job core entry)
 unfolding after
-meets-after job journal core (Take driver replica thread) may ordered go h = λ number r e. meets-same job journal (Take driver replica thread) core (λ n. ((λ t. refl), refl)) h number r e
-meets-after job journal core (Put driver replica thread count hit) may ordered go h =
-    subst (λ (o : Option RanTo). AllMeet job (journal ++ Put driver replica thread count hit ∷ []) (core_after_put job core driver replica thread count o)) (sym may.runs) (meets-ran job journal core driver replica thread count hit may go h)
+meets-after job journal core (Take lease) may ordered go h = λ number r e. meets-same job journal (Take lease) core (λ n. ((λ t. refl), refl)) h number r e
+meets-after job journal core (Put lease count hit) may ordered go h =
+    subst (λ (o : Option RanTo). AllMeet job (journal ++ Put lease count hit ∷ []) (core_after_put job core lease count o)) (sym may.runs) (meets-ran job journal core lease count hit may go h)
 meets-after job journal core (Vote thread count won lost did) may ordered go h =
     let e = event-parts job core thread won may.event may.comes in
     subst (λ (o : Option Event). AllMeet job (journal ++ Vote thread count won lost did ∷ []) (core_after_event core thread count (with_recovered won (numbers lost) core.replicas) o)) (sym may.comes)

@@ -32,7 +32,7 @@ use Rattle.ro_replica.specs.Snapshots.{snapshot_of}
 use Rattle.ro_plain.specs.Machine.{layout_of, setup_of}
 use Rattle.ro_plain.proofs.Ahead.{is-none-from}
 use Rattle.ro_plain.proofs.Calls.{some-injective}
-use Rattle.ro_legal.specs.declared.actions.Lease.{Lease}
+use Rattle.ro_journal.specs.declared.Lease.{Lease}
 use Rattle.ro_legal.specs.Core.{Job, Core, opening_replicas, opening_core, is_going, nothing_lent, may_vote, may_free}
 use Rattle.ro_legal.specs.Event.{Event, call_event, with_copy, with_recovered, core_after}
 use Rattle.ro_legal.specs.Legal.{lease_run, arrived, arrival, core_after_put, event_with, event_in, freed_event, core_after_event, after, IsAllowed, MayTake, MayPut, MayVote, MayFree, may_scrub, MayScrub, MayEnd, due, alone, for_vote, for_free, for_scrub, Legal, replay}
@@ -56,12 +56,12 @@ sound-with job core other backed number r e h = record {
 
 -- ---- a take
 
-ordered-take : (job : Job) (core : Core) (driver replica thread : ℕ) → MayTake job core driver replica thread → IsOrdered job core → IsOrdered job (after job core (Take driver replica thread))
+ordered-take : (job : Job) (core : Core) (lease : Lease) → MayTake job core lease → IsOrdered job core → IsOrdered job (after job core (Take lease))
 unfolding after
-ordered-take job core driver replica thread may h = record {
+ordered-take job core lease may h = record {
   replica_count = h.replica_count;
   backed = h.backed;
-  sound = λ number r e. sound-with job core (after job core (Take driver replica thread)) h.backed number r refl (h.sound number r e);
+  sound = λ number r e. sound-with job core (after job core (Take lease)) h.backed number r refl (h.sound number r e);
   some_life = h.some_life;
   few_lives = h.few_lives;
   within_limit = h.within_limit;
@@ -75,24 +75,24 @@ ordered-take job core driver replica thread may h = record {
 -- ---- a put
 
 -- the lent replica of a run
-pub record PutParts (job : Job) (core : Core) (replica thread count : ℕ) (ran : RanTo) : Type 0 where
+pub record PutParts (job : Job) (core : Core) (lease : Lease) (count : ℕ) (ran : RanTo) : Type 0 where
   pub lent : Replica
-  pub there : slice_get core.replicas replica ≡ Some lent
-  pub runs : run_of (layout_of job.program) job.settings.watchdog count lent thread ≡ Some ran
+  pub there : slice_get core.replicas lease.replica ≡ Some lent
+  pub runs : run_of (layout_of job.program) job.settings.watchdog count lent lease.thread ≡ Some ran
 
-pub put-parts : (job : Job) (core : Core) (replica thread count : ℕ) (ran : RanTo) → lease_run job core replica thread count ≡ Some ran → PutParts job core replica thread count ran
-put-parts job core replica thread count ran e =
-    option_and_then_some (λ r. run_of (layout_of job.program) job.settings.watchdog count r thread) (slice_get core.replicas replica) ran e (λ lent there runs. record { lent = lent; there = there; runs = runs })
+pub put-parts : (job : Job) (core : Core) (lease : Lease) (count : ℕ) (ran : RanTo) → lease_run job core lease count ≡ Some ran → PutParts job core lease count ran
+put-parts job core lease count ran e =
+    option_and_then_some (λ r. run_of (layout_of job.program) job.settings.watchdog count r lease.thread) (slice_get core.replicas lease.replica) ran e (λ lent there runs. record { lent = lent; there = there; runs = runs })
 
 -- no lease is left where none was
 none-left : (p : Lease → Bool) (leases : List Lease) → leases ≡ [] → filter p leases ≡ []
 none-left p leases e = ap (filter p) e
 
-ordered-ran : (job : Job) (core : Core) (driver replica thread count hit : ℕ) (may : MayPut job core driver replica thread count hit) → IsOrdered job core → IsOrdered job (core_after_put job core driver replica thread count (Some may.ran))
-ordered-ran job core driver replica thread count hit may h = record {
-  replica_count = length-set core.replicas replica _ ∙ h.replica_count;
+ordered-ran : (job : Job) (core : Core) (lease : Lease) (count hit : ℕ) (may : MayPut job core lease count hit) → IsOrdered job core → IsOrdered job (core_after_put job core lease count (Some may.ran))
+ordered-ran job core lease count hit may h = record {
+  replica_count = length-set core.replicas lease.replica _ ∙ h.replica_count;
   backed = h.backed;
-  sound = λ number r e. by number r (get-set-cases core.replicas replica number (arrived job thread count may.ran.replica) r e);
+  sound = λ number r e. by number r (get-set-cases core.replicas lease.replica number (arrived job lease.thread count may.ran.replica) r e);
   some_life = h.some_life;
   few_lives = h.few_lives;
   within_limit = h.within_limit;
@@ -103,24 +103,24 @@ ordered-ran job core driver replica thread count hit may h = record {
   wrote_alone = λ (some : 0 < 0). absurd (omega arith);
 }
   where
-    parts : PutParts job core replica thread count may.ran
-    parts = put-parts job core replica thread count may.ran may.runs
+    parts : PutParts job core lease count may.ran
+    parts = put-parts job core lease count may.ran may.runs
 
     new : Core
-    new = core_after_put job core driver replica thread count (Some may.ran)
+    new = core_after_put job core lease count (Some may.ran)
 
-    came : IsSound job core h.backed replica (arrived job thread count may.ran.replica)
-    came = sound-changed job core h.backed replica may.ran.replica (with_stop (arrival job thread count may.ran.replica)) thread (λ x k. k)
-        (run-well job core h.backed replica (layout_of job.program) count thread parts.lent may.ran parts.runs (h.sound replica parts.lent parts.there)).sound
+    came : IsSound job core h.backed lease.replica (arrived job lease.thread count may.ran.replica)
+    came = sound-changed job core h.backed lease.replica may.ran.replica (with_stop (arrival job lease.thread count may.ran.replica)) lease.thread (λ x k. k)
+        (run-well job core h.backed lease.replica (layout_of job.program) count lease.thread parts.lent may.ran parts.runs (h.sound lease.replica parts.lent parts.there)).sound
 
-    by : (number : ℕ) (r : Replica) → ((number ≢ replica) × (slice_get core.replicas number ≡ Some r)) ⊎ ((number ≡ replica) × (arrived job thread count may.ran.replica ≡ r)) → IsSound job new h.backed number r
+    by : (number : ℕ) (r : Replica) → ((number ≢ lease.replica) × (slice_get core.replicas number ≡ Some r)) ⊎ ((number ≡ lease.replica) × (arrived job lease.thread count may.ran.replica ≡ r)) → IsSound job new h.backed number r
     by number r (inl e) = sound-with job core new h.backed number r refl (h.sound number r e.1)
-    by number r (inr e) = subst (λ (n : ℕ). IsSound job new h.backed n r) (sym e.0) (subst (IsSound job new h.backed replica) e.1 (sound-with job core new h.backed replica (arrived job thread count may.ran.replica) refl came))
+    by number r (inr e) = subst (λ (n : ℕ). IsSound job new h.backed n r) (sym e.0) (subst (IsSound job new h.backed lease.replica) e.1 (sound-with job core new h.backed lease.replica (arrived job lease.thread count may.ran.replica) refl came))
 
-ordered-put : (job : Job) (core : Core) (driver replica thread count hit : ℕ) → MayPut job core driver replica thread count hit → IsOrdered job core → IsOrdered job (after job core (Put driver replica thread count hit))
+ordered-put : (job : Job) (core : Core) (lease : Lease) (count hit : ℕ) → MayPut job core lease count hit → IsOrdered job core → IsOrdered job (after job core (Put lease count hit))
 unfolding after
-ordered-put job core driver replica thread count hit may h =
-    subst (λ (o : Option RanTo). IsOrdered job (core_after_put job core driver replica thread count o)) (sym may.runs) (ordered-ran job core driver replica thread count hit may h)
+ordered-put job core lease count hit may h =
+    subst (λ (o : Option RanTo). IsOrdered job (core_after_put job core lease count o)) (sym may.runs) (ordered-ran job core lease count hit may h)
 
 -- ---- an event
 
@@ -390,8 +390,8 @@ ordered-opening job = record {
 -- ---- all entries
 
 pub ordered-after : (job : Job) (core : Core) (entry : Entry) → IsAllowed job core entry → IsOrdered job core → IsOrdered job (after job core entry)
-ordered-after job core (Take driver replica thread) may h = ordered-take job core driver replica thread may h
-ordered-after job core (Put driver replica thread count hit) may h = ordered-put job core driver replica thread count hit may h
+ordered-after job core (Take lease) may h = ordered-take job core lease may h
+ordered-after job core (Put lease count hit) may h = ordered-put job core lease count hit may h
 ordered-after job core (Vote thread count won lost did) may h = ordered-vote job core thread count won lost did may h
 ordered-after job core (Free thread) may h = ordered-free job core thread may h
 ordered-after job core (Scrub won lost) may h = ordered-scrub job core won lost may h

@@ -2,6 +2,7 @@
 use Rattle.std.proofs.Common.{◌≡◌, ℕ, true, List, [], ◌∷◌, Option, Some, None, refl, sym, ap, ◌∙◌}
 use Rattle.ro_journal.specs.Losers.{numbers}
 use Rattle.ro_journal.specs.declared.How.{How}
+use Rattle.ro_journal.specs.declared.Lease.{Lease}
 use Rattle.ro_journal.specs.declared.Entry.{Entry}
 use Rattle.ro_journal.specs.declared.Entry.TheVariants.{Take, Put, Vote, Free, Scrub, End}
 use Rattle.ro_journal.specs.Plan.{outcome_of}
@@ -16,17 +17,17 @@ event_ended : (core : Core) (thread count : ℕ) (replicas : List Replica) (even
 event_ended core thread count replicas None = refl
 event_ended core thread count replicas (Some event) = refl
 
-put_ended : (job : Job) (core : Core) (driver replica thread count : ℕ) (ran : Option RanTo) → (core_after_put job core driver replica thread count ran).ended ≡ core.ended
-put_ended job core driver replica thread count None = refl
-put_ended job core driver replica thread count (Some ran) = refl
+put_ended : (job : Job) (core : Core) (lease : Lease) (count : ℕ) (ran : Option RanTo) → (core_after_put job core lease count ran).ended ≡ core.ended
+put_ended job core lease count None = refl
+put_ended job core lease count (Some ran) = refl
 
 not_going_over : (core : Core) (how : How) → core.ended ≡ Some how → is_going core ≡ true → ⊥
 not_going_over core how e going = let f : None ≡ Some how = sym (going-parts core going).1 ∙ e in cc
 
 -- nothing is allowed behind the end
 nothing_behind : (job : Job) (core : Core) (how : How) (entry : Entry) → core.ended ≡ Some how → IsAllowed job core entry → ⊥
-nothing_behind job core how (Take driver replica thread) e m = not_going_over core how e m.going
-nothing_behind job core how (Put driver replica thread count hit) e m = let f : None ≡ Some how = sym m.not_ended ∙ e in cc
+nothing_behind job core how (Take lease) e m = not_going_over core how e m.going
+nothing_behind job core how (Put lease count hit) e m = let f : None ≡ Some how = sym m.not_ended ∙ e in cc
 nothing_behind job core how (Vote thread count won lost did) e m = not_going_over core how e (vote-parts core thread m.may).going
 nothing_behind job core how (Free thread) e m = not_going_over core how e (free-parts job core thread m.may).going
 nothing_behind job core how (Scrub won lost) e m = not_going_over core how e (scrub-parts core m.may).going
@@ -39,9 +40,9 @@ over_from job core how (entry ∷ journal) e legal = absurd (nothing_behind job 
 ended_from : (job : Job) (core : Core) (journal : List Entry) → core.ended ≡ None → LegalFrom job core journal → (replay_from job core journal).ended ≡ outcome_of journal
 unfolding after
 ended_from job core [] e legal = e
-ended_from job core (Take driver replica thread ∷ journal) e legal = ended_from job (after job core (Take driver replica thread)) journal e legal.1
-ended_from job core (Put driver replica thread count hit ∷ journal) e legal =
-    ended_from job (after job core (Put driver replica thread count hit)) journal (put_ended job core driver replica thread count (lease_run job core replica thread count) ∙ e) legal.1
+ended_from job core (Take lease ∷ journal) e legal = ended_from job (after job core (Take lease)) journal e legal.1
+ended_from job core (Put lease count hit ∷ journal) e legal =
+    ended_from job (after job core (Put lease count hit)) journal (put_ended job core lease count (lease_run job core lease count) ∙ e) legal.1
 ended_from job core (Vote thread count won lost did ∷ journal) e legal =
     ended_from job (after job core (Vote thread count won lost did)) journal (event_ended core thread count (with_recovered won (numbers lost) core.replicas) (event_in job core thread won) ∙ e) legal.1
 ended_from job core (Free thread ∷ journal) e legal =

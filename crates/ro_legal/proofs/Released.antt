@@ -63,8 +63,8 @@ released core thread count replicas event own releases number replica e = by (ge
 -- in the core behind the entry that answers it
 goes-on : (job : Job) (core : Core) (entry : Entry) → IsAllowed job core entry → (thread : ℕ) → Answers entry thread → (after job core entry).due ≡ None → (number : ℕ) (replica : Replica) → slice_get (after job core entry).replicas number ≡ Some replica → stop_of replica thread ≡ None
 unfolding after
-goes-on job core (Take driver lent ran) may thread answers due number replica e = absurd answers
-goes-on job core (Put driver lent ran count hit) may thread answers due number replica e = absurd answers
+goes-on job core (Take lease) may thread answers due number replica e = absurd answers
+goes-on job core (Put lease count hit) may thread answers due number replica e = absurd answers
 goes-on job core (Scrub won lost) may thread answers due number replica e = absurd answers
 goes-on job core (End how) may thread answers due number replica e = absurd answers
 goes-on job core (Vote voted count won lost did) may thread answers due number replica e =

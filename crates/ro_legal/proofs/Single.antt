@@ -136,18 +136,18 @@ module _ (job : Job) (core : Core) (thread : ℕ) where
       let there : MayVote job core thread count' won' lost' did' = subst (λ (x : ℕ). MayVote job core x count' won' lost' did') e n in
       ap (λ (x : ℕ). Vote x count won lost did) d ∙ one-vote count count' won won' lost lost' did did' here there ∙ ap (λ (x : ℕ). Vote x count' won' lost' did') (sym e)
   one-decides (Vote t count won lost did) (End how) m d n e = absurd (no-end count won lost did (subst (λ (x : ℕ). MayVote job core x count won lost did) d m) how e)
-  one-decides (Vote t count won lost did) (Take driver replica lent) m d n e = absurd e
-  one-decides (Vote t count won lost did) (Put driver replica lent ran hit) m d n e = absurd e
+  one-decides (Vote t count won lost did) (Take lease) m d n e = absurd e
+  one-decides (Vote t count won lost did) (Put lease ran hit) m d n e = absurd e
   one-decides (Vote t count won lost did) (Free freed) m d n e = absurd e
   one-decides (Vote t count won lost did) (Scrub winner losers) m d n e = absurd e
   one-decides (End how) (Vote t count won lost did) m d n e = absurd (no-end count won lost did (subst (λ (x : ℕ). MayVote job core x count won lost did) e n) how d)
   one-decides (End how) (End other) m d n e = ap End (one-end how other d e)
-  one-decides (End how) (Take driver replica lent) m d n e = absurd e
-  one-decides (End how) (Put driver replica lent ran hit) m d n e = absurd e
+  one-decides (End how) (Take lease) m d n e = absurd e
+  one-decides (End how) (Put lease ran hit) m d n e = absurd e
   one-decides (End how) (Free freed) m d n e = absurd e
   one-decides (End how) (Scrub winner losers) m d n e = absurd e
-  one-decides (Take driver replica lent) other m d n e = absurd d
-  one-decides (Put driver replica lent ran hit) other m d n e = absurd d
+  one-decides (Take lease) other m d n e = absurd d
+  one-decides (Put lease ran hit) other m d n e = absurd d
   one-decides (Free freed) other m d n e = absurd d
   one-decides (Scrub winner losers) other m d n e = absurd d
 
@@ -183,18 +183,18 @@ module _ (job : Job) (core : Core) (thread : ℕ) where
   pub one-frees : (entry other : Entry) → IsAllowed job core entry → DecidesFree job core thread entry → IsAllowed job core other → DecidesFree job core thread other → entry ≡ other
   one-frees (Free t) (Free t') m d n e = ap Free (d ∙ sym e)
   one-frees (Free t) (End how) m d n e = absurd (free-no-end (subst (MayFree job core) d m) how e)
-  one-frees (Free t) (Take driver replica lent) m d n e = absurd e
-  one-frees (Free t) (Put driver replica lent ran hit) m d n e = absurd e
+  one-frees (Free t) (Take lease) m d n e = absurd e
+  one-frees (Free t) (Put lease ran hit) m d n e = absurd e
   one-frees (Free t) (Vote voted count won lost did) m d n e = absurd e
   one-frees (Free t) (Scrub winner losers) m d n e = absurd e
   one-frees (End how) (Free t) m d n e = absurd (free-no-end (subst (MayFree job core) e n) how d)
   one-frees (End how) (End other) m d n e = ap End (one-free-end how other d e)
-  one-frees (End how) (Take driver replica lent) m d n e = absurd e
-  one-frees (End how) (Put driver replica lent ran hit) m d n e = absurd e
+  one-frees (End how) (Take lease) m d n e = absurd e
+  one-frees (End how) (Put lease ran hit) m d n e = absurd e
   one-frees (End how) (Vote voted count won lost did) m d n e = absurd e
   one-frees (End how) (Scrub winner losers) m d n e = absurd e
-  one-frees (Take driver replica lent) other m d n e = absurd d
-  one-frees (Put driver replica lent ran hit) other m d n e = absurd d
+  one-frees (Take lease) other m d n e = absurd d
+  one-frees (Put lease ran hit) other m d n e = absurd d
   one-frees (Vote voted count won lost did) other m d n e = absurd d
   one-frees (Scrub winner losers) other m d n e = absurd d
 
@@ -242,17 +242,17 @@ module _ (job : Job) (core : Core) where
   pub one-scrubs : (entry other : Entry) → IsAllowed job core entry → DecidesScrub core entry → IsAllowed job core other → DecidesScrub core other → entry ≡ other
   one-scrubs (Scrub won lost) (Scrub won' lost') m d n e = one-scrub won won' lost lost' m n
   one-scrubs (Scrub won lost) (End how) m d n e = absurd (scrub-no-end won lost m how e)
-  one-scrubs (Scrub won lost) (Take driver replica lent) m d n e = absurd e
-  one-scrubs (Scrub won lost) (Put driver replica lent ran hit) m d n e = absurd e
+  one-scrubs (Scrub won lost) (Take lease) m d n e = absurd e
+  one-scrubs (Scrub won lost) (Put lease ran hit) m d n e = absurd e
   one-scrubs (Scrub won lost) (Vote voted count winner losers did) m d n e = absurd e
   one-scrubs (Scrub won lost) (Free freed) m d n e = absurd e
   one-scrubs (End how) (Scrub won lost) m d n e = absurd (scrub-no-end won lost n how d)
   one-scrubs (End how) (End other) m d n e = ap End (one-scrub-end how other d e)
-  one-scrubs (End how) (Take driver replica lent) m d n e = absurd e
-  one-scrubs (End how) (Put driver replica lent ran hit) m d n e = absurd e
+  one-scrubs (End how) (Take lease) m d n e = absurd e
+  one-scrubs (End how) (Put lease ran hit) m d n e = absurd e
   one-scrubs (End how) (Vote voted count winner losers did) m d n e = absurd e
   one-scrubs (End how) (Free freed) m d n e = absurd e
-  one-scrubs (Take driver replica lent) other m d n e = absurd d
-  one-scrubs (Put driver replica lent ran hit) other m d n e = absurd d
+  one-scrubs (Take lease) other m d n e = absurd d
+  one-scrubs (Put lease ran hit) other m d n e = absurd d
   one-scrubs (Vote voted count winner losers did) other m d n e = absurd d
   one-scrubs (Free freed) other m d n e = absurd d

@@ -3,6 +3,7 @@ use Rattle.std.proofs.Common.{◌≡◌, ◌≢◌, ◌⊎◌, inl, inr, ℕ, su
 use Rattle.std.specs.Prelude.{◌==◌, nat_le, nat_lt, if◌then◌else◌}
 use Rattle.std.proofs.lemmas.Bool.{and_from, eq-eqb, ltb-false, le-leb}
 use Rattle.ro_journal.specs.Losers.{numbers}
+use Rattle.ro_journal.specs.declared.Lease.{Lease}
 use Rattle.ro_journal.specs.declared.Entry.{Entry}
 use Rattle.ro_journal.specs.declared.Entry.TheVariants.{Take, Put, Vote, Free, Scrub, End}
 use Rattle.ro_replica.specs.Runs.{RanTo}
@@ -19,14 +20,14 @@ use Rattle.ro_legal.proofs.Ordered.{vote-parts, free-parts, freed-is}
 
 -- ---- the core's streak is the journal's
 
-put-streak : (job : Job) (core : Core) (driver replica thread count : ℕ) (o : Option RanTo) → (core_after_put job core driver replica thread count o).streak ≡ core.streak
-put-streak job core driver replica thread count None = refl
-put-streak job core driver replica thread count (Some ran) = refl
+put-streak : (job : Job) (core : Core) (lease : Lease) (count : ℕ) (o : Option RanTo) → (core_after_put job core lease count o).streak ≡ core.streak
+put-streak job core lease count None = refl
+put-streak job core lease count (Some ran) = refl
 
 entry-streak : (job : Job) (core : Core) (entry : Entry) → IsAllowed job core entry → (after job core entry).streak ≡ streak_after core.streak entry
 unfolding after
-entry-streak job core (Take driver replica thread) may = refl
-entry-streak job core (Put driver replica thread count hit) may = put-streak job core driver replica thread count (lease_run job core replica thread count)
+entry-streak job core (Take lease) may = refl
+entry-streak job core (Put lease count hit) may = put-streak job core lease count (lease_run job core lease count)
 entry-streak job core (Vote thread count won lost did) may =
     ap (λ (o : Option Event). (core_after_event core thread count (with_recovered won (numbers lost) core.replicas) o).streak) may.comes
     ∙ ap (after_event core.streak thread) (vote-parts core thread may.may).unblocked
@@ -79,8 +80,8 @@ row-grows thread k streak (Vote voted count won lost did ∷ row) own h =
     (subst (λ (t : ℕ). IsRow thread (suc k + votes_in row) (streak_from (after_vote streak t) row)) (sym own.0) (row-grows thread (suc k) (after_vote streak thread) row own.1 (one-more thread k streak h)))
 row-grows thread k streak (Free freed ∷ row) own h =
     subst (λ (t : ℕ). IsRow thread (k + votes_in row) (streak_from (after_free streak t) row)) (sym own.0) (row-grows thread k (after_free streak thread) row own.1 (freed-own thread k streak h))
-row-grows thread k streak (Take driver replica ran ∷ row) own h = row-grows thread k streak row own h
-row-grows thread k streak (Put driver replica ran count hit ∷ row) own h = row-grows thread k streak row own h
+row-grows thread k streak (Take lease ∷ row) own h = row-grows thread k streak row own h
+row-grows thread k streak (Put lease count hit ∷ row) own h = row-grows thread k streak row own h
 row-grows thread k streak (Scrub won lost ∷ row) own h = row-grows thread k streak row own h
 row-grows thread k streak (End how ∷ row) own h = row-grows thread k streak row own h
 
@@ -105,8 +106,8 @@ row-begins thread streak (Vote voted count won lost did ∷ row) own some =
     subst (λ (n : ℕ). IsRow thread n (streak_from (after_vote streak voted) row)) (let e : 1 + votes_in row ≡ suc (votes_in row) = omega arith in e)
     (subst (λ (t : ℕ). IsRow thread (1 + votes_in row) (streak_from (after_vote streak t) row)) (sym own.0) (row-grows thread 1 (after_vote streak thread) row own.1 (first-vote thread streak)))
 row-begins thread streak (Free freed ∷ row) own some = row-begins thread (after_free streak freed) row own.1 some
-row-begins thread streak (Take driver replica ran ∷ row) own some = row-begins thread streak row own some
-row-begins thread streak (Put driver replica ran count hit ∷ row) own some = row-begins thread streak row own some
+row-begins thread streak (Take lease ∷ row) own some = row-begins thread streak row own some
+row-begins thread streak (Put lease count hit ∷ row) own some = row-begins thread streak row own some
 row-begins thread streak (Scrub won lost ∷ row) own some = row-begins thread streak row own some
 row-begins thread streak (End how ∷ row) own some = row-begins thread streak row own some
 

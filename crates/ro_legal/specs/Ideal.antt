@@ -1,6 +1,7 @@
 -- The unreplicated machine that a journal names, and replicas that agree with it.
 use Rattle.std.specs.Prelude.{◌≡◌, ℕ, suc, ◌<◌, false, IsTrue, List, [], ◌∷◌, ◌++◌, replicate, Option, Some, None, slice_get}
 use Rattle.ro_event.specs.declared.stops.Stop.{Stop}
+use Rattle.ro_journal.specs.declared.Lease.{Lease}
 use Rattle.ro_journal.specs.declared.Entry.{Entry}
 use Rattle.ro_journal.specs.declared.Entry.TheVariants.{Put}
 use Rattle.ro_journal.specs.Plan.{plan_of}
@@ -50,5 +51,5 @@ pub record StrikesApart (job : Job) (before : List Entry) (struck : ℕ) : Type 
 -- faults strike no replica while so many others differ from the ideal that with it they would be more than half
 abbrev pub StaysApart : Job → List Entry → Type 0
 StaysApart job journal =
-    (before rest : List Entry) (driver replica thread count hit : ℕ) →
-    journal ≡ before ++ Put driver replica thread count hit ∷ rest → 0 < hit → StrikesApart job before replica
+    (before rest : List Entry) (lease : Lease) (count hit : ℕ) →
+    journal ≡ before ++ Put lease count hit ∷ rest → 0 < hit → StrikesApart job before lease.replica

@@ -1,18 +1,10 @@
-//! What the core does next, the leases that it gives out, and whose turn to be voted on is over.
+//! What the core does next, and whose turn to be voted on is over.
 ghost use Rattle.std.specs.Prelude.{◌≡◌};
 ghost use Rattle.ro_legal.specs.Streaks.{no_streak, after_vote, after_free, after_event, is_long, comes_last};
 
 use ro_event::Call;
 use ro_journal::How;
 use ro_limits::VOTES_IN_A_ROW;
-
-/// A replica's thread that a driver runs outside.
-#[derive(Clone, Copy, PartialEq, Eq, Debug)]
-pub struct Lease {
-    pub driver: u32,
-    pub replica: u32,
-    pub thread: u32,
-}
 
 /// What the core does next.
 #[derive(Clone, Copy, PartialEq, Eq, Debug)]

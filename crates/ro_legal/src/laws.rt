@@ -11,7 +11,7 @@ ghost use Rattle.ro_journal.specs.declared.Entry.{Entry};
 ghost use Rattle.ro_journal.specs.declared.Entry.TheVariants.{Put, End};
 ghost use Rattle.ro_journal.specs.declared.How.{How};
 ghost use Rattle.ro_legal.specs.declared.actions.Action.TheVariants as act;
-ghost use Rattle.ro_legal.specs.declared.actions.Lease.{Lease};
+ghost use Rattle.ro_journal.specs.declared.Lease.{Lease};
 ghost use Rattle.ro_legal.specs.Core.{Job, Core, opening_core, is_going, is_idle, is_lendable, may_vote, may_free, nothing_lent};
 ghost use Rattle.ro_legal.specs.Legal.{Legal, MayEnd, may_scrub, replay};
 ghost use Rattle.ro_legal.specs.Streaks.{AreOfThread, votes_in, streak_of};
@@ -78,7 +78,7 @@ pub fn leases_last()
 
 /// A driver holds one lease at the most: behind its put it holds none.
 pub fn leases_come_back()
-    ensures { (job : Job) (journal : List Entry) (driver replica thread count hit : ℕ) → Legal job (journal ++ Put driver replica thread count hit ∷ []) → is_idle (replay job (journal ++ Put driver replica thread count hit ∷ [])) driver ≡ true }
+    ensures { (job : Job) (journal : List Entry) (lease : Lease) (count hit : ℕ) → Legal job (journal ++ Put lease count hit ∷ []) → is_idle (replay job (journal ++ Put lease count hit ∷ [])) lease.driver ≡ true }
 {}
 
 /// Where no driver holds a lease, nothing is lent.

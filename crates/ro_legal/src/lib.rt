@@ -5,7 +5,7 @@
 mod actions;
 mod laws;
 
-pub use actions::{Action, Lease, Streak};
+pub use actions::{Action, Streak};
 pub use laws::{
     end_is_last, granted_everywhere, idle_drivers_hold_nothing, leases_come_back, leases_last,
     next_may_be_done, no_other_flip, one_driver_takes_turns, one_grant_order, others_come_first,

@@ -35,6 +35,6 @@ fn entry_steps(entry: &Entry) -> u64
     match entry {
         Entry::Vote { count, did, .. } => u64::from(*count) + did.steps(),
         Entry::Free { .. } => 1,
-        Entry::Take { .. } | Entry::Put { .. } | Entry::Scrub { .. } | Entry::End { .. } => 0,
+        Entry::Take(_) | Entry::Put { .. } | Entry::Scrub { .. } | Entry::End { .. } => 0,
     }
 }

@@ -134,7 +134,7 @@ fn play_entry<K: Sink>(
             ..
         } => play_vote(plain, *thread, *count, did.steps(), progress, out),
         Entry::Free { thread } => play_one(plain, *thread, progress, out),
-        Entry::Take { .. } | Entry::Put { .. } | Entry::Scrub { .. } | Entry::End { .. } => {
+        Entry::Take(_) | Entry::Put { .. } | Entry::Scrub { .. } | Entry::End { .. } => {
             Ok(progress)
         }
     }

@@ -8,7 +8,7 @@ use Rattle.ro_journal.specs.declared.Entry.{Entry}
 use Rattle.ro_journal.specs.declared.Entry.TheVariants.{End}
 use Rattle.ro_replica.specs.Replica.{Replica}
 use Rattle.ro_replica.specs.Seen.{ReplicaOf}
-use Rattle.ro_legal.specs.declared.actions.Lease.{Lease}
+use Rattle.ro_journal.specs.declared.Lease.{Lease}
 use Rattle.ro_legal.specs.declared.actions.Action.TheVariants.{End as DoEnd, Over}
 use Rattle.ro_legal.specs.Core.{Job, Core, is_going, may_vote, may_free}
 use Rattle.ro_legal.specs.Legal.{MayTake, EndsAlone, after, may_scrub, replay, replay_with, cut_output, output_of}
@@ -77,10 +77,10 @@ module _ (f : Fields) (failed : Option ℕ) where
   pub scrub-calm : may_scrub now ≡ true → (failed ≡ None) × (may_scrub (core_in f) ≡ true)
   scrub-calm e = calm failed (may_scrub (core_in f)) (sym (with-scrub f.job f.journal failed) ∙ e)
 
-  pub take-calm : (driver replica thread : ℕ) → MayTake f.job now driver replica thread → (failed ≡ None) × MayTake f.job (core_in f) driver replica thread
-  take-calm driver replica thread m = by failed refl m
+  pub take-calm : (lease : Lease) → MayTake f.job now lease → (failed ≡ None) × MayTake f.job (core_in f) lease
+  take-calm lease m = by failed refl m
     where
-      by : (o : Option ℕ) → failed ≡ o → MayTake f.job (replay_with f.job f.journal o) driver replica thread → (failed ≡ None) × MayTake f.job (core_in f) driver replica thread
+      by : (o : Option ℕ) → failed ≡ o → MayTake f.job (replay_with f.job f.journal o) lease → (failed ≡ None) × MayTake f.job (core_in f) lease
       by None e m = (e, m)
       by (Some n) e m = absurd (true≢false (sym m.going))
 

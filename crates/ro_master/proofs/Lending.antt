@@ -11,7 +11,7 @@ use Rattle.ro_thread.specs.declared.Thread.{Thread}
 use Rattle.ro_replica.specs.Replica.{Replica, changed_at}
 use Rattle.ro_replica.specs.Runs.{RanTo, run_of, with_stop}
 use Rattle.ro_replica.specs.Seen.{ReplicaOf, replica_of, SameProgram, Runs}
-use Rattle.ro_legal.specs.declared.actions.Lease.{Lease}
+use Rattle.ro_journal.specs.declared.Lease.{Lease}
 use Rattle.ro_legal.specs.Core.{Job, Core, lease_of}
 use Rattle.ro_legal.specs.Legal.{MayPut, arrived, arrival, lease_run, after}
 use Rattle.ro_legal.specs.Laws.{HasLease}
@@ -23,23 +23,23 @@ abbrev with_threads : List Thread → Replica → Replica
 with_threads threads replica = record replica { threads = threads }
 
 -- a run is of a replica that is there
-run_there : (job : Job) (core : Core) (replica thread count : ℕ) (ran : RanTo) → lease_run job core replica thread count ≡ Some ran → (r : Replica) × (slice_get core.replicas replica ≡ Some r)
-run_there job core replica thread count ran e = by (slice_get core.replicas replica) refl e
+run_there : (job : Job) (core : Core) (lease : Lease) (count : ℕ) (ran : RanTo) → lease_run job core lease count ≡ Some ran → (r : Replica) × (slice_get core.replicas lease.replica ≡ Some r)
+run_there job core lease count ran e = by (slice_get core.replicas lease.replica) refl e
   where
-    by : (o : Option Replica) → slice_get core.replicas replica ≡ o → option_and_then (λ r. run_of (layout_of job.program) job.settings.watchdog count r thread) o ≡ Some ran → (r : Replica) × (slice_get core.replicas replica ≡ Some r)
+    by : (o : Option Replica) → slice_get core.replicas lease.replica ≡ o → option_and_then (λ r. run_of (layout_of job.program) job.settings.watchdog count r lease.thread) o ≡ Some ran → (r : Replica) × (slice_get core.replicas lease.replica ≡ Some r)
     by None f g = absurd (let h : None ≡ Some ran = g in cc)
     by (Some r) f g = (r, f)
 
 -- the run of the same replica
-same_run : (job : Job) (one other : Core) (replica thread count : ℕ) → slice_get one.replicas replica ≡ slice_get other.replicas replica → lease_run job one replica thread count ≡ lease_run job other replica thread count
-same_run job one other replica thread count e = ap (option_and_then (λ r. run_of (layout_of job.program) job.settings.watchdog count r thread)) e
+same_run : (job : Job) (one other : Core) (lease : Lease) (count : ℕ) → slice_get one.replicas lease.replica ≡ slice_get other.replicas lease.replica → lease_run job one lease count ≡ lease_run job other lease count
+same_run job one other lease count e = ap (option_and_then (λ r. run_of (layout_of job.program) job.settings.watchdog count r lease.thread)) e
 
 -- ---- it stays so while others take their turns
 
 -- what may be given back is of a lease that is out
 pub returns_out : (core : CoreOf) (driver count hit : ℕ) (value : ReplicaOf) (m : MayReturn core driver value count hit) → (r : Replica) × HasLease (state core) driver m.lease r
 returns_out core driver count hit value m =
-    let there = run_there core.job (state core) m.lease.replica m.lease.thread count m.allowed.ran m.allowed.runs in
+    let there = run_there core.job (state core) m.lease count m.allowed.ran m.allowed.runs in
     (there.0, record { held = m.held; there = there.1; not_ended = m.allowed.not_ended })
 
 -- and may be given back to any core in which the lease is out with that replica
@@ -49,14 +49,14 @@ out_returns one other driver count hit value m r job there out = (
   record {
     lease = lease;
     held = out.held;
-    allowed = subst (λ (j : Job). MayPut j (state other) driver lease.replica lease.thread count hit) (sym job) may;
+    allowed = subst (λ (j : Job). MayPut j (state other) lease count hit) (sym job) may;
     program = record {
       layout = m.program.layout ∙ sym (ap (λ (j : Job). layout_of j.program) job);
       watchdog = m.program.watchdog ∙ sym (ap (λ (j : Job). j.settings.watchdog) job);
     };
-    became = ap (λ (j : Job). slice_get (after j (state other) (Put driver lease.replica lease.thread count hit)).replicas lease.replica) job
-        ∙ put_became one.job (state other) driver lease.replica lease.thread count hit r m.allowed.ran out.there runs
-        ∙ sym (put_became one.job (state one) driver lease.replica lease.thread count hit r m.allowed.ran there m.allowed.runs)
+    became = ap (λ (j : Job). slice_get (after j (state other) (Put lease count hit)).replicas lease.replica) job
+        ∙ put_became one.job (state other) lease count hit r m.allowed.ran out.there runs
+        ∙ sym (put_became one.job (state one) lease count hit r m.allowed.ran there m.allowed.runs)
         ∙ m.became;
   },
   refl,
@@ -65,10 +65,10 @@ out_returns one other driver count hit value m r job there out = (
     lease : Lease
     lease = m.lease
 
-    runs : lease_run one.job (state other) lease.replica lease.thread count ≡ Some m.allowed.ran
-    runs = same_run one.job (state other) (state one) lease.replica lease.thread count (out.there ∙ sym there) ∙ m.allowed.runs
+    runs : lease_run one.job (state other) lease count ≡ Some m.allowed.ran
+    runs = same_run one.job (state other) (state one) lease count (out.there ∙ sym there) ∙ m.allowed.runs
 
-    may : MayPut one.job (state other) driver lease.replica lease.thread count hit
+    may : MayPut one.job (state other) lease count hit
     may = record {
       not_ended = out.not_ended;
       out = out_found driver lease (state other).leases out.held;
@@ -81,64 +81,60 @@ out_returns one other driver count hit value m r job there out = (
 -- ---- a fresh lease
 
 -- the core while a replica is lent
-abbrev pub lending : Core → (driver replica thread : ℕ) → Core
-lending core driver replica thread = record core { leases = record { driver = driver; replica = replica; thread = thread } ∷ core.leases; wrote = 0 }
+abbrev pub lending : Core → Lease → Core
+lending core lease = record core { leases = lease ∷ core.leases; wrote = 0 }
 
-module _ (job : Job) (start : Core) (driver replica thread quantum count hit : ℕ) (lent value : ReplicaOf) (stop : Option Stop)
-    (alive : start.ended ≡ None) (there : slice_get start.replicas replica ≡ Some (replica_of lent)) (program : IsOfJob job lent)
+module _ (job : Job) (start : Core) (lease : Lease) (quantum count hit : ℕ) (lent value : ReplicaOf) (stop : Option Stop)
+    (alive : start.ended ≡ None) (there : slice_get start.replicas lease.replica ≡ Some (replica_of lent)) (program : IsOfJob job lent)
     (same : SameProgram value lent) (quantum_is : quantum ≡ job.settings.quantum)
-    (runs : Runs lent.layout lent.watchdog quantum thread (replica_of lent) (replica_of value) count hit stop) where
-  job_runs : Runs (layout_of job.program) job.settings.watchdog job.settings.quantum thread (replica_of lent) (replica_of value) count hit stop
+    (runs : Runs lent.layout lent.watchdog quantum lease.thread (replica_of lent) (replica_of value) count hit stop) where
+  job_runs : Runs (layout_of job.program) job.settings.watchdog job.settings.quantum lease.thread (replica_of lent) (replica_of value) count hit stop
   job_runs =
-      subst (λ (n : ℕ). Runs (layout_of job.program) job.settings.watchdog n thread (replica_of lent) (replica_of value) count hit stop) quantum_is
-      (subst (λ (w : ℕ). Runs (layout_of job.program) w quantum thread (replica_of lent) (replica_of value) count hit stop) program.watchdog
-      (subst (λ (l : Layout). Runs l lent.watchdog quantum thread (replica_of lent) (replica_of value) count hit stop) program.layout runs))
+      subst (λ (n : ℕ). Runs (layout_of job.program) job.settings.watchdog n lease.thread (replica_of lent) (replica_of value) count hit stop) quantum_is
+      (subst (λ (w : ℕ). Runs (layout_of job.program) w quantum lease.thread (replica_of lent) (replica_of value) count hit stop) program.watchdog
+      (subst (λ (l : Layout). Runs l lent.watchdog quantum lease.thread (replica_of lent) (replica_of value) count hit stop) program.layout runs))
 
-  lease_runs : lease_run job (lending start driver replica thread) replica thread count ≡ Some job_runs.end
-  lease_runs = ap (option_and_then (λ r. run_of (layout_of job.program) job.settings.watchdog count r thread)) there ∙ job_runs.runs
+  lease_runs : lease_run job (lending start lease) lease count ≡ Some job_runs.end
+  lease_runs = ap (option_and_then (λ r. run_of (layout_of job.program) job.settings.watchdog count r lease.thread)) there ∙ job_runs.runs
 
-  abbrev pub its_lease : Lease
-  its_lease = record { driver = driver; replica = replica; thread = thread }
+  pub lent_held : lease_of (lending start lease) lease.driver ≡ Some lease
+  lent_held = ap (λ (b : Bool). cond b (Some lease) (find (λ (l : Lease). l.driver == lease.driver) start.leases)) (eq-eqb lease.driver lease.driver refl)
 
-  pub lent_held : lease_of (lending start driver replica thread) driver ≡ Some its_lease
-  lent_held = ap (λ (b : Bool). cond b (Some its_lease) (find (λ (l : Lease). l.driver == driver) start.leases)) (eq-eqb driver driver refl)
-
-  pub lent_may_put : MayPut job (lending start driver replica thread) driver replica thread count hit
+  pub lent_may_put : MayPut job (lending start lease) lease count hit
   lent_may_put = record {
     not_ended = alive;
-    out = out_found driver its_lease (its_lease ∷ start.leases) lent_held;
+    out = out_found lease.driver lease (lease ∷ start.leases) lent_held;
     ran = job_runs.end;
     runs = lease_runs;
     struck = job_runs.hit_is;
     arrives = by job_runs.arrives;
   }
     where
-      by : (count ≡ job.settings.quantum) ⊎ ((count < job.settings.quantum) × IsSome stop) → (count ≡ job.settings.quantum) ⊎ ((count < job.settings.quantum) × IsSome (arrival job thread count job_runs.end.replica))
+      by : (count ≡ job.settings.quantum) ⊎ ((count < job.settings.quantum) × IsSome stop) → (count ≡ job.settings.quantum) ⊎ ((count < job.settings.quantum) × IsSome (arrival job lease.thread count job_runs.end.replica))
       by (inl whole) = inl whole
       by (inr early) = inr (early.0, subst (λ (o : Option Stop). IsSome o) job_runs.stop_is early.1)
 
-  pub lent_became : slice_get (after job (lending start driver replica thread) (Put driver replica thread count hit)).replicas replica ≡ Some (replica_of value)
+  pub lent_became : slice_get (after job (lending start lease) (Put lease count hit)).replicas lease.replica ≡ Some (replica_of value)
   lent_became =
-      put_became job (lending start driver replica thread) driver replica thread count hit (replica_of lent) job_runs.end there lease_runs ∙ ap (λ (r : Replica). Some r) (sym arrived_is)
+      put_became job (lending start lease) lease count hit (replica_of lent) job_runs.end there lease_runs ∙ ap (λ (r : Replica). Some r) (sym arrived_is)
     where
-      arrived_is : replica_of value ≡ arrived job thread count job_runs.end.replica
-      arrived_is = job_runs.new_is ∙ ap (λ (o : Option Stop). with_threads (changed_at (with_stop o) job_runs.end.replica.threads thread) job_runs.end.replica) job_runs.stop_is
+      arrived_is : replica_of value ≡ arrived job lease.thread count job_runs.end.replica
+      arrived_is = job_runs.new_is ∙ ap (λ (o : Option Stop). with_threads (changed_at (with_stop o) job_runs.end.replica.threads lease.thread) job_runs.end.replica) job_runs.stop_is
 
   -- to a core that has just lent it
-  pub lent_returns : (core : CoreOf) → core.job ≡ job → state core ≡ lending start driver replica thread → (k : MayReturn core driver value count hit) × (k.lease.replica ≡ replica) × (k.lease.thread ≡ thread)
+  pub lent_returns : (core : CoreOf) → core.job ≡ job → state core ≡ lending start lease → (k : MayReturn core lease.driver value count hit) × (k.lease ≡ lease)
   lent_returns core job_is at = (
     record {
-      lease = its_lease;
-      held = ap (λ (c : Core). lease_of c driver) at ∙ lent_held;
-      allowed = subst (λ (j : Job). MayPut j (state core) driver replica thread count hit) (sym job_is) (subst (λ (c : Core). MayPut job c driver replica thread count hit) (sym at) lent_may_put);
+      lease = lease;
+      held = ap (λ (c : Core). lease_of c lease.driver) at ∙ lent_held;
+      allowed = subst (λ (j : Job). MayPut j (state core) lease count hit) (sym job_is) (subst (λ (c : Core). MayPut job c lease count hit) (sym at) lent_may_put);
       program = record {
         layout = same.layout ∙ program.layout ∙ sym (ap (λ (j : Job). layout_of j.program) job_is);
         watchdog = same.watchdog ∙ program.watchdog ∙ sym (ap (λ (j : Job). j.settings.watchdog) job_is);
       };
-      became = ap (λ (j : Job). slice_get (after j (state core) (Put driver replica thread count hit)).replicas replica) job_is
-          ∙ ap (λ (c : Core). slice_get (after job c (Put driver replica thread count hit)).replicas replica) at
+      became = ap (λ (j : Job). slice_get (after j (state core) (Put lease count hit)).replicas lease.replica) job_is
+          ∙ ap (λ (c : Core). slice_get (after job c (Put lease count hit)).replicas lease.replica) at
           ∙ lent_became;
     },
-    refl,
     refl,
   )

@@ -1,6 +1,7 @@
 -- How many bytes the writes of a run have in all.
 use Rattle.std.proofs.Common.{◌≡◌, ◌≢◌, ◌⊎◌, inl, inr, ℕ, ◌+◌, ◌<◌, ◌≤◌, List, [], ◌∷◌, ◌++◌, length, Option, Some, None, refl, sym, ap, ◌∙◌, arith, length-append}
 use Rattle.ro_journal.specs.declared.How.{How}
+use Rattle.ro_journal.specs.declared.Lease.{Lease}
 use Rattle.ro_journal.specs.declared.Entry.{Entry}
 use Rattle.ro_journal.specs.declared.Entry.TheVariants.{Take, Put, Vote, Free, Scrub, End}
 use Rattle.ro_journal.specs.Plan.{outcome_of}
@@ -22,9 +23,9 @@ use Rattle.ro_core.proofs.Held.{fields-outcome}
 abbrev AtMost : Core → Core → Type 0
 AtMost core after = length core.output ≤ length after.output
 
-put_grows : (job : Job) (core : Core) (driver replica thread count : ℕ) (ran : Option RanTo) → AtMost core (core_after_put job core driver replica thread count ran)
-put_grows job core driver replica thread count None = omega arith
-put_grows job core driver replica thread count (Some ran) = omega arith
+put_grows : (job : Job) (core : Core) (lease : Lease) (count : ℕ) (ran : Option RanTo) → AtMost core (core_after_put job core lease count ran)
+put_grows job core lease count None = omega arith
+put_grows job core lease count (Some ran) = omega arith
 
 event_grows : (core : Core) (thread count : ℕ) (replicas : List Replica) (event : Option Event) → AtMost core (core_after_event core thread count replicas event)
 event_grows core thread count replicas None = omega arith
@@ -32,8 +33,8 @@ event_grows core thread count replicas (Some event) = omega (arith, length-appen
 
 entry_grows : (job : Job) (core : Core) (entry : Entry) → ((how : How) → entry ≢ End how) → AtMost core (after job core entry)
 unfolding after
-entry_grows job core (Take driver replica thread) other = omega arith
-entry_grows job core (Put driver replica thread count hit) other = put_grows job core driver replica thread count (lease_run job core replica thread count)
+entry_grows job core (Take lease) other = omega arith
+entry_grows job core (Put lease count hit) other = put_grows job core lease count (lease_run job core lease count)
 entry_grows job core (Vote thread count won lost did) other = event_grows core thread count (with_recovered won (numbers lost) core.replicas) (event_in job core thread won)
 entry_grows job core (Free thread) other = event_grows core thread 0 core.replicas (freed_event job core thread)
 entry_grows job core (Scrub won lost) other = omega arith
@@ -48,8 +49,8 @@ Comes journal entry =
     ⊎ (((how : How) → entry ≢ End how) × (before_end (journal ++ entry ∷ []) ≡ before_end journal ++ entry ∷ []))
 
 comes : (journal : List Entry) (entry : Entry) → Comes journal entry
-comes [] (Take driver replica thread) = inr ((λ how e. let f : Take driver replica thread ≡ End how = e in cc), refl)
-comes [] (Put driver replica thread count hit) = inr ((λ how e. let f : Put driver replica thread count hit ≡ End how = e in cc), refl)
+comes [] (Take lease) = inr ((λ how e. let f : Take lease ≡ End how = e in cc), refl)
+comes [] (Put lease count hit) = inr ((λ how e. let f : Put lease count hit ≡ End how = e in cc), refl)
 comes [] (Vote thread count won lost did) = inr ((λ how e. let f : Vote thread count won lost did ≡ End how = e in cc), refl)
 comes [] (Free thread) = inr ((λ how e. let f : Free thread ≡ End how = e in cc), refl)
 comes [] (Scrub won lost) = inr ((λ how e. let f : Scrub won lost ≡ End how = e in cc), refl)

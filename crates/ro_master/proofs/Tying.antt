@@ -10,7 +10,8 @@ use Rattle.ro_journal.specs.declared.Entry.TheVariants.{Take, Put, Vote, Free, S
 use Rattle.ro_journal.specs.Plan.{outcome_of}
 use Rattle.ro_replica.specs.Seen.{replica_of, Runs}
 use Rattle.ro_legal.specs.declared.actions.Action.TheVariants as act
-use Rattle.ro_legal.specs.declared.actions.Lease.{Lease}
+use Rattle.ro_journal.specs.declared.Lease.{Lease}
+use Rattle.ro_journal.specs.Leases.{lease_to}
 use Rattle.ro_legal.specs.Core.{Job, Core, is_going, is_idle, is_lendable, lease_of, views_of}
 use Rattle.ro_legal.specs.Legal.{IsAllowed, MayTake, after, Legal, replay, replay_with}
 use Rattle.ro_legal.specs.Action.{next_action, IsNext}
@@ -74,11 +75,11 @@ seen_shown start core count p t = ap (replay core.job) t.journal
 
 -- ---- what is next may be done
 
-pub lend_ok : (start core core' : CoreOf) (count : CountOf) (p : PassOf) (replica thread : ℕ) → Tied start core count → Stays core core' → Knew p count → AtRest start.job p → next_action core.job (state core) ≡ act.Lend replica thread → MayTake core'.job (state core') p.number replica thread
+pub lend_ok : (start core core' : CoreOf) (count : CountOf) (p : PassOf) (replica thread : ℕ) → Tied start core count → Stays core core' → Knew p count → AtRest start.job p → next_action core.job (state core) ≡ act.Lend replica thread → MayTake core'.job (state core') (lease_to p.number replica thread)
 lend_ok start core core' count p replica thread t s k rest next =
     let parts = lend_is_next core.job (state core) replica thread next in
-    subst (λ (j : Job). MayTake j (state core') p.number replica thread) (sym s.job)
-    (subst (λ (c : Core). MayTake core.job c p.number replica thread) (sym (stays_state core core' s)) (record {
+    subst (λ (j : Job). MayTake j (state core') (lease_to p.number replica thread)) (sym s.job)
+    (subst (λ (c : Core). MayTake core.job c (lease_to p.number replica thread)) (sym (stays_state core core' s)) (record {
       going = parts.0;
       driver_exists = subst (λ (n : ℕ). p.number < n) t.given k.number;
       driver_is_idle = ap (λ (c : Core). is_idle c p.number) (calm_state core (lend_calm core replica thread next)) ∙ none_now start core count p t k rest;
@@ -115,17 +116,17 @@ tied_stay start core core' count count' t s none c =
     })
 
 -- a take, after room was made
-pub tied_take : (start core mid new : CoreOf) (count count' : CountOf) (number driver replica thread : ℕ) → Tied start core count → Stays core mid → Appends mid new (Take driver replica thread) → Quiet mid new → MayTake mid.job (state mid) driver replica thread
-    → next_action core.job (state core) ≡ act.Lend replica thread → driver ≡ number → number < count.given → count' ≡ counted count number (Take driver replica thread) → Tied start new count'
-tied_take start core mid new count count' number driver replica thread t s a q may next same less c =
-    let next' = stays_next core mid replica thread s next in
-    let calm = lend_calm mid replica thread next' in
+pub tied_take : (start core mid new : CoreOf) (count count' : CountOf) (number : ℕ) (lease : Lease) → Tied start core count → Stays core mid → Appends mid new (Take lease) → Quiet mid new → MayTake mid.job (state mid) lease
+    → next_action core.job (state core) ≡ act.Lend lease.replica lease.thread → lease.driver ≡ number → number < count.given → count' ≡ counted count number (Take lease) → Tied start new count'
+tied_take start core mid new count count' number lease t s a q may next same less c =
+    let next' = stays_next core mid lease.replica lease.thread s next in
+    let calm = lend_calm mid lease.replica lease.thread next' in
     let at = calm_state mid calm in
-    let open_ = stays_open core mid (going_open core t.driven (lend_is_next core.job (state core) replica thread next).0) s in
-    tied_more start core new count count' number (Take driver replica thread) t (record { job = a.job ∙ s.job; journal = a.journal ∙ ap (λ (js : List Entry). js ++ Take driver replica thread ∷ []) s.journal }) c same less
-    (driven_more mid new (Take driver replica thread) (stays_driven core mid s t.driven) a (subst (λ (x : Core). MayTake mid.job x driver replica thread) at may) (ap (next_action mid.job) (sym at) ∙ next'))
-    (goes_on core mid new (stays_goes core mid s) (goes_quiet mid new (Take driver replica thread) a q (λ taken e. absurd (let f : None ≡ Some (Sink taken) = e in cc)) (λ failed. absurd (not_failed mid calm open_ failed))))
-    (none_last new.job new.journal new.views (more_open mid new (Take driver replica thread) open_ a refl))
+    let open_ = stays_open core mid (going_open core t.driven (lend_is_next core.job (state core) lease.replica lease.thread next).0) s in
+    tied_more start core new count count' number (Take lease) t (record { job = a.job ∙ s.job; journal = a.journal ∙ ap (λ (js : List Entry). js ++ Take lease ∷ []) s.journal }) c same less
+    (driven_more mid new (Take lease) (stays_driven core mid s t.driven) a (subst (λ (x : Core). MayTake mid.job x lease) at may) (ap (next_action mid.job) (sym at) ∙ next'))
+    (goes_on core mid new (stays_goes core mid s) (goes_quiet mid new (Take lease) a q (λ taken e. absurd (let f : None ≡ Some (Sink taken) = e in cc)) (λ failed. absurd (not_failed mid calm open_ failed))))
+    (none_last new.job new.journal new.views (more_open mid new (Take lease) open_ a refl))
 
 -- a vote
 pub tied_vote : (start core new : CoreOf) (count count' : CountOf) (number thread : ℕ) (entry : Entry) (bytes : List ℕ) → Tied start core count → next_action core.job (state core) ≡ act.Vote thread → IsAllowed core.job (state core) entry → DecidesVote core.job (state core) thread entry → Appends core new entry → Sends core new bytes
@@ -139,8 +140,8 @@ tied_vote start core new count count' number thread entry bytes t next allowed d
     (voted_last core new thread entry (going_open core t.driven (vote_going core thread next)) (calm_state core calm) next decides a shown)
   where
     named : (e : Entry) → DecidesVote core.job (state core) thread e → Names number e
-    named (Take d r t) h = absurd h
-    named (Put d r t n k) h = absurd h
+    named (Take l) h = absurd h
+    named (Put l n k) h = absurd h
     named (Vote v n w l d) h = tt
     named (Free f) h = absurd h
     named (Scrub w l) h = absurd h
@@ -158,8 +159,8 @@ tied_free start core new count count' number thread entry t next allowed decides
     (freed_last core new thread entry (going_open core t.driven (free_going core thread next)) decides a)
   where
     named : (e : Entry) → DecidesFree core.job (state core) thread e → Names number e
-    named (Take d r t) h = absurd h
-    named (Put d r t n k) h = absurd h
+    named (Take l) h = absurd h
+    named (Put l n k) h = absurd h
     named (Vote v n w l d) h = absurd h
     named (Free f) h = tt
     named (Scrub w l) h = absurd h
@@ -177,8 +178,8 @@ tied_scrub start core new count count' number entry t next allowed decides a qui
     (scrubbed_last core new entry (going_open core t.driven (scrub_going core next)) (calm_state core calm) next decides a no_views)
   where
     named : (e : Entry) → DecidesScrub (state core) e → Names number e
-    named (Take d r t) h = absurd h
-    named (Put d r t n k) h = absurd h
+    named (Take l) h = absurd h
+    named (Put l n k) h = absurd h
     named (Vote v n w l d) h = absurd h
     named (Free f) h = absurd h
     named (Scrub w l) h = tt
@@ -213,27 +214,23 @@ module _ (start core : CoreOf) (count : CountOf) (p : PassOf) (back : BackOf) (t
   here = still_returns start.job p count core back t.goes.job t.journal put_at k legal t.owned may
 
   -- what the core asks
-  pub put_returns : MayReturn core back.driver back.replica back.ran.count back.ran.hit
+  pub put_returns : MayReturn core back.lease.driver back.replica back.ran.count back.ran.hit
   put_returns = subst (λ (d : ℕ). MayReturn core d back.replica back.ran.count back.ran.hit) (sym may.driver) here.0
 
   -- the entry
   abbrev pub put_entry : Entry
-  put_entry = Put back.driver back.number back.thread back.ran.count back.ran.hit
+  put_entry = Put back.lease back.ran.count back.ran.hit
 
-  module _ (new : CoreOf) (returned : ReturnIs core new back.driver back.ran.count back.ran.hit) (q : Quiet core new) where
+  module _ (new : CoreOf) (returned : ReturnIs core new back.lease.driver back.ran.count back.ran.hit) (q : Quiet core new) where
     pub put_appends : Appends core new put_entry
     put_appends =
-        let held : lease_of (state core) back.driver ≡ Some here.0.lease = ap (lease_of (state core)) may.driver ∙ here.0.held in
-        let one : Appends core new (Put back.driver here.0.lease.replica here.0.lease.thread back.ran.count back.ran.hit) = returned here.0.lease held in
-        subst (λ (n : ℕ). Appends core new (Put back.driver n back.thread back.ran.count back.ran.hit)) (ap (λ (l : Lease). l.replica) here.1 ∙ may.number)
-        (subst (λ (n : ℕ). Appends core new (Put back.driver here.0.lease.replica n back.ran.count back.ran.hit)) (ap (λ (l : Lease). l.thread) here.1 ∙ may.thread) one)
+        let held : lease_of (state core) back.lease.driver ≡ Some here.0.lease = ap (lease_of (state core)) may.driver ∙ here.0.held in
+        subst (λ (l : Lease). Appends core new (Put l back.ran.count back.ran.hit)) (here.1 ∙ may.lease) (returned here.0.lease held)
 
     put_allowed : IsAllowed core.job (replay core.job core.journal) put_entry
     put_allowed =
         subst (λ (c : Core). IsAllowed core.job c put_entry) put_at
-        (subst (λ (d : ℕ). IsAllowed core.job (state core) (Put d back.number back.thread back.ran.count back.ran.hit)) (sym may.driver)
-        (subst (λ (n : ℕ). IsAllowed core.job (state core) (Put p.number n back.thread back.ran.count back.ran.hit)) (ap (λ (l : Lease). l.replica) here.1 ∙ may.number)
-        (subst (λ (n : ℕ). IsAllowed core.job (state core) (Put p.number here.0.lease.replica n back.ran.count back.ran.hit)) (ap (λ (l : Lease). l.thread) here.1 ∙ may.thread) here.0.allowed)))
+        (subst (λ (l : Lease). IsAllowed core.job (state core) (Put l back.ran.count back.ran.hit)) (here.1 ∙ may.lease) here.0.allowed)
 
     put_open : outcome_of core.journal ≡ None
     put_open = sym (ended_is_outcome core.job core.journal legal) ∙ ap (λ (c : Core). c.ended) (sym put_at) ∙ here.0.allowed.not_ended
@@ -245,28 +242,31 @@ module _ (start core : CoreOf) (count : CountOf) (p : PassOf) (back : BackOf) (t
         (goes_quiet core new put_entry put_appends q (λ taken e. absurd (let f : None ≡ Some (Sink taken) = e in cc)) (λ failed. absurd (not_failed core put_calm put_open failed)))
         (none_last new.job new.journal new.views (more_open core new put_entry put_open put_appends refl))
 
-    -- what the put did, told by the pass's number
+    -- what the put did
     pub put_is : (count' : CountOf) → count' ≡ counted count p.number put_entry → (q' : PassOf) → q' ≡ added p count put_entry → PutIs (record { core = core; count = count }) (record { core = new; count = count' }) p q' back
-    put_is count' c q' e =
-        subst (λ (d : ℕ). Moved (Put d back.number back.thread back.ran.count back.ran.hit) (record { core = core; count = count }) (record { core = new; count = count' }) p q') may.driver
-        (record { core = put_appends; history = ap (λ (x : CountOf). x.history) c; pass = e; knew = k })
+    put_is count' c q' e = record { core = put_appends; history = ap (λ (x : CountOf). x.history) c; pass = e; knew = k }
 
 -- ---- what the pass knows afterwards
 
 -- a pass with a fresh lease may give back what becomes of it
-pub lease_rests : (start : CoreOf) (old new : DeskOf) (p q : PassOf) (replica thread : ℕ) (lent : LentOf) → Tied start old.core old.count → next_action old.core.job (state old.core) ≡ act.Lend replica thread → Moved (Take p.number replica thread) old new p q → IsLoan old p replica thread lent
+pub lease_rests : (start : CoreOf) (old new : DeskOf) (p q : PassOf) (replica thread : ℕ) (lent : LentOf) → Tied start old.core old.count → next_action old.core.job (state old.core) ≡ act.Lend replica thread → Moved (Take (lease_to p.number replica thread)) old new p q → IsLoan old p replica thread lent
     → (back : BackOf) → Gives lent back → MayGiveBack start.job q back
 unfolding after
 lease_rests start old new p q replica thread lent t next m is back gives =
     subst (λ (x : PassOf). MayGiveBack start.job x back) (sym m.pass)
-    (subst (λ (j : Job). MayGiveBack j q' back) t.goes.job
-    (record { driver = gives.driver ∙ is.driver; returns = all.0; number = all.1 ∙ sym (gives.number ∙ is.number); thread = all.2 ∙ sym (gives.thread ∙ is.thread_is) }))
+    (subst (λ (j : Job). MayGiveBack j q' back) t.goes.job (record { driver = ap (λ (l : Lease). l.driver) own; returns = all.0; lease = all.1 ∙ sym own }))
   where
     core : CoreOf
     core = old.core
 
+    lease : Lease
+    lease = lease_to p.number replica thread
+
+    own : back.lease ≡ lease
+    own = gives.lease ∙ is.lease
+
     q' : PassOf
-    q' = added p old.count (Take p.number replica thread)
+    q' = added p old.count (Take lease)
 
     parts : (is_going (state core) ≡ true) × (is_lendable (state core) replica thread ≡ true)
     parts = lend_is_next core.job (state core) replica thread next
@@ -274,16 +274,16 @@ lease_rests start old new p q replica thread lent t next m is back gives =
     at : state core ≡ replay core.job core.journal
     at = calm_state core (lend_calm core replica thread next)
 
-    seen : state (seen_core core.job q') ≡ lending (replay core.job core.journal) p.number replica thread
-    seen = seen_added start core old.count p (Take p.number replica thread) t
+    seen : state (seen_core core.job q') ≡ lending (replay core.job core.journal) lease
+    seen = seen_added start core old.count p (Take lease) t
 
-    all : (k : MayReturn (seen_core core.job q') p.number back.replica back.ran.count back.ran.hit) × (k.lease.replica ≡ replica) × (k.lease.thread ≡ thread)
+    all : (k : MayReturn (seen_core core.job q') p.number back.replica back.ran.count back.ran.hit) × (k.lease ≡ lease)
     all =
-        lent_returns core.job (replay core.job core.journal) p.number replica thread lent.quantum back.ran.count back.ran.hit lent.replica back.replica back.ran.stop
+        lent_returns core.job (replay core.job core.journal) lease lent.quantum back.ran.count back.ran.hit lent.replica back.replica back.ran.stop
         (ap (λ (c : Core). c.ended) (sym at) ∙ (going-parts (state core) parts.0).1)
         (ap (λ (c : Core). slice_get c.replicas replica) (sym at) ∙ is.lends.replica)
         is.lends.program gives.program is.quantum
-        (subst (λ (n : ℕ). Runs lent.replica.layout lent.replica.watchdog lent.quantum n (replica_of lent.replica) (replica_of back.replica) back.ran.count back.ran.hit back.ran.stop) is.thread_is gives.runs)
+        (subst (λ (l : Lease). Runs lent.replica.layout lent.replica.watchdog lent.quantum l.thread (replica_of lent.replica) (replica_of back.replica) back.ran.count back.ran.hit back.ran.stop) is.lease gives.runs)
         (seen_core core.job q') refl seen
 
 -- where the entry is a vote, a free, a scrub or an end, the pass stays at rest
@@ -291,14 +291,14 @@ idle_decided : (job : Job) (core : Core) (driver : ℕ) (c : CoreOf) (entry : En
 idle_decided job core driver c entry d idle = by entry d idle
   where
     keeps : (e : Entry) → Decides c e → Names (suc driver) e
-    keeps (Take d r t) (votes th n h) = absurd h
-    keeps (Take d r t) (frees th n h) = absurd h
-    keeps (Take d r t) (scrubs n h) = absurd h
-    keeps (Take d r t) (ends how n h) = absurd (let f : Take d r t ≡ End how = h in cc)
-    keeps (Put d r t n k) (votes th x h) = absurd h
-    keeps (Put d r t n k) (frees th x h) = absurd h
-    keeps (Put d r t n k) (scrubs x h) = absurd h
-    keeps (Put d r t n k) (ends how x h) = absurd (let f : Put d r t n k ≡ End how = h in cc)
+    keeps (Take l) (votes th n h) = absurd h
+    keeps (Take l) (frees th n h) = absurd h
+    keeps (Take l) (scrubs n h) = absurd h
+    keeps (Take l) (ends how n h) = absurd (let f : Take l ≡ End how = h in cc)
+    keeps (Put l n k) (votes th x h) = absurd h
+    keeps (Put l n k) (frees th x h) = absurd h
+    keeps (Put l n k) (scrubs x h) = absurd h
+    keeps (Put l n k) (ends how x h) = absurd (let f : Put l n k ≡ End how = h in cc)
     keeps (Vote t n w l i) h = tt
     keeps (Free t) h = tt
     keeps (Scrub w l) h = tt
@@ -383,13 +383,14 @@ put_rests start old new p q back t may m =
     subst (λ (j : Job). AtRest j q) t.goes.job
     (subst (AtRest core.job) (sym m.pass)
     (ap (λ (c : Core). is_idle c p.number) (seen_added start core old.count p entry t)
-    ∙ idle_after_put core.job (replay core.job core.journal) p.number back.number back.thread back.ran.count back.ran.hit (one_each core.job core.journal t.driven.legal) allowed))
+    ∙ ap (is_idle (after core.job (replay core.job core.journal) entry)) (sym may.driver)
+    ∙ idle_after_put core.job (replay core.job core.journal) back.lease back.ran.count back.ran.hit (one_each core.job core.journal t.driven.legal) allowed))
   where
     core : CoreOf
     core = old.core
 
     entry : Entry
-    entry = Put p.number back.number back.thread back.ran.count back.ran.hit
+    entry = Put back.lease back.ran.count back.ran.hit
 
     plain : CoreOf
     plain = record { job = core.job; journal = core.journal; failed = None; room = core.room; views = core.views; held = core.held; failures = core.failures; sure = core.sure }
@@ -398,9 +399,7 @@ put_rests start old new p q back t may m =
     first = still_returns start.job p old.count plain back t.goes.job t.journal refl m.knew t.driven.legal t.owned may
 
     allowed : IsAllowed core.job (replay core.job core.journal) entry
-    allowed =
-        subst (λ (n : ℕ). IsAllowed core.job (replay core.job core.journal) (Put p.number n back.thread back.ran.count back.ran.hit)) (ap (λ (l : Lease). l.replica) first.1 ∙ may.number)
-        (subst (λ (n : ℕ). IsAllowed core.job (replay core.job core.journal) (Put p.number first.0.lease.replica n back.ran.count back.ran.hit)) (ap (λ (l : Lease). l.thread) first.1 ∙ may.thread) first.0.allowed)
+    allowed = subst (λ (l : Lease). IsAllowed core.job (replay core.job core.journal) (Put l back.ran.count back.ran.hit)) (first.1 ∙ may.lease) first.0.allowed
 
 -- ---- the opening
 

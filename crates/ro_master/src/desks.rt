@@ -3,6 +3,7 @@ ghost use Rattle.std.specs.Prelude.{◌≡◌, ◌↔◌, [], IfOk, IsSome, IsTr
 ghost use Rattle.ro_post.specs.Turns.{IfOver};
 ghost use Rattle.ro_journal.specs.declared.How.{How as HowOf};
 ghost use Rattle.ro_journal.specs.declared.Entry.{Entry as EntryOf};
+ghost use Rattle.ro_journal.specs.Leases.{lease_to};
 ghost use Rattle.ro_journal.specs.declared.Entry.TheVariants.{Take, End};
 ghost use Rattle.ro_legal.specs.declared.actions.Action.TheVariants as act;
 ghost use Rattle.ro_legal.specs.Action.{next_action as next};
@@ -14,7 +15,7 @@ use crate::seats::Naming;
 use crate::sessions::Session;
 use crate::waking::{Wakes, Waking};
 use ro_io::Sink;
-use ro_journal::{Entry, How};
+use ro_journal::{Entry, How, Lease};
 use ro_lease::{Back, Lent};
 use ro_legal::Action;
 use ro_post::Turn;
@@ -86,7 +87,7 @@ impl<K: Sink, N: Naming> Desk<K, N> {
     fn lend(&mut self, pass: &mut Pass<N>, replica: u32, thread: u32) -> Result<Lent, AllocError>
         requires next { next self.old.core.job (state self.old.core) ≡ act.Lend replica thread }
         requires rest { AtRest N.start.job pass.old }
-        ensures { MatchResult result (λ lent. Moved (Take pass.old.number replica thread) self.old self.new pass.old pass.new × IsLoan self.old pass.old replica thread lent) (λ _. Looked self.old self.new pass.old pass.new) }
+        ensures { MatchResult result (λ lent. Moved (Take (lease_to pass.old.number replica thread)) self.old self.new pass.old pass.new × IsLoan self.old pass.old replica thread lent) (λ _. Looked self.old self.new pass.old pass.new) }
     {
         if self.core.room().is_err() {
             pass.learn(&mut self.count);
@@ -94,17 +95,15 @@ impl<K: Sink, N: Naming> Desk<K, N> {
         }
         let _entries = self.core.entries();
         let driver = pass.number();
-        pass.add(
-            &mut self.count,
-            &Entry::Take {
-                driver,
-                replica,
-                thread,
-            },
-        );
+        let lease = Lease {
+            driver,
+            replica,
+            thread,
+        };
+        pass.add(&mut self.count, &Entry::Take(lease));
         let quantum = self.core.settings().quantum;
-        let lent = self.core.take(driver, replica, thread);
-        Ok(Lent::new(driver, replica, thread, quantum, lent))
+        let lent = self.core.take(lease);
+        Ok(Lent::new(lease, quantum, lent))
     }
 
     // Votes.
@@ -294,9 +293,7 @@ impl<K: Sink, N: Naming> Desk<K, N> {
         ensures { PutIs self.old self.new pass.old pass.new back }
     {
         let Back {
-            driver,
-            number,
-            thread,
+            lease,
             replica,
             ran,
         } = back;
@@ -304,14 +301,12 @@ impl<K: Sink, N: Naming> Desk<K, N> {
         pass.add(
             &mut self.count,
             &Entry::Put {
-                driver,
-                replica: number,
-                thread,
+                lease,
                 count: ran.count,
                 hit: ran.hit,
             },
         );
         self.waking.came_back(ran.count);
-        self.core.put(driver, replica, ran);
+        self.core.put(lease.driver, replica, ran);
     }
 }

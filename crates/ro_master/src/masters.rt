@@ -182,7 +182,7 @@ impl<K: Sink, N: Naming> Post for Master<K, N> {
 
     ghost gives = { Gives };
 
-    ghost place_of = { λ l. (l.driver, l.number, l.thread) };
+    ghost place_of = { λ l. (l.lease.driver, l.lease.replica, l.lease.thread) };
 
     ghost is_ours = { λ m p. Unit {0} };
 

@@ -17,7 +17,7 @@ use ro_event::View;
 use ro_faults::Fault;
 use ro_image::Executable;
 use ro_io::{Sink, send};
-use ro_journal::{Entry, How};
+use ro_journal::{Entry, How, Lease};
 use ro_legal::Action;
 use ro_replica::{Ran, ReplicaBox};
 use ro_settings::Settings;
@@ -116,14 +116,14 @@ impl<K: Sink> Session<K> {
     }
 
     /// Lends a replica's thread to a driver.
-    pub fn take(&mut self, driver: u32, replica: u32, thread: u32) -> ReplicaBox
-        requires allowed { IsAllowed self.old.job (state self.old) (Take driver replica thread) }
+    pub fn take(&mut self, lease: Lease) -> ReplicaBox
+        requires allowed { IsAllowed self.old.job (state self.old) (Take lease) }
         requires room { HasRoom self.old }
-        ensures entry { Appends self.old self.new (Take driver replica thread) }
+        ensures entry { Appends self.old self.new (Take lease) }
         ensures quiet { Quiet self.old self.new }
-        ensures lent { IsLent self.old replica thread result }
+        ensures lent { IsLent self.old lease.replica lease.thread result }
     {
-        self.core.take(driver, replica, thread)
+        self.core.take(lease)
     }
 
     /// Puts a replica back that a driver has run.

@@ -16,8 +16,8 @@ few (Two lower higher) = omega arith
 
 of_one : (entry : Entry) → copies_of entry ≤ 2
 of_one (Vote thread count won lost did) = few lost
-of_one (Take driver replica thread) = omega arith
-of_one (Put driver replica thread count hit) = omega arith
+of_one (Take lease) = omega arith
+of_one (Put lease count hit) = omega arith
 of_one (Free thread) = omega arith
 of_one (Scrub won lost) = few lost
 of_one (End how) = omega arith

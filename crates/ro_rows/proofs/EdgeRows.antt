@@ -4,6 +4,7 @@ use Rattle.std.specs.List.{filter}
 use Rattle.std.specs.Option.{option_map}
 use Rattle.std.proofs.Common.{refl, sym, ap, ◌∙◌, inl, inr, arith, ⊎_elim}
 use Rattle.std.proofs.Math.Dec.{lit<, lit≤}
+use Rattle.ro_journal.specs.Leases.{lease_to}
 use Rattle.ro_journal.specs.declared.losers.Lost.TheVariants.{Nobody, One}
 use Rattle.ro_decode.specs.Table.{instruction_of}
 use Rattle.ro_event.specs.declared.stops.Stop.{Stop}
@@ -87,45 +88,45 @@ length-not-two h = let f = h (0 ∷ 0 ∷ 0 ∷ []) (_, refl) in omega arith
 
 -- ---- take_row
 
-pub take-last : IsAllowed exit_job (opening_core exit_job) (Take 2 0 0)
+pub take-last : IsAllowed exit_job (opening_core exit_job) (Take (lease_to 2 0 0))
 unfolding opening_core opening_replica struck execute applied cancelled recovered verdict_of event_of after next_action first_cpu made_cpu next fetch_stop instruction_stop instruction_of call_at permits_of alu_of taken_by meaning serve payload_of
 take-last = record { going = refl; driver_exists = lit< tt; driver_is_idle = refl; lendable = refl }
 
-pub take-no-such : IsAllowed exit_job (opening_core exit_job) (Take 3 0 0) → ⊥
+pub take-no-such : IsAllowed exit_job (opening_core exit_job) (Take (lease_to 3 0 0)) → ⊥
 unfolding opening_core opening_replica struck execute applied cancelled recovered verdict_of event_of after next_action first_cpu made_cpu next fetch_stop instruction_stop instruction_of call_at permits_of alu_of taken_by meaning serve payload_of
 take-no-such h = let f = h.driver_exists in omega arith
 
-pub take-any-first : IsAllowed exit_job (opening_core exit_job) (Take 0 1 0)
+pub take-any-first : IsAllowed exit_job (opening_core exit_job) (Take (lease_to 0 1 0))
 unfolding opening_core opening_replica struck execute applied cancelled recovered verdict_of event_of after next_action first_cpu made_cpu next fetch_stop instruction_stop instruction_of call_at permits_of alu_of taken_by meaning serve payload_of
 take-any-first = record { going = refl; driver_exists = lit< tt; driver_is_idle = refl; lendable = refl }
 
-pub take-next : IsNext exit_job (opening_core exit_job) (Take 0 0 0)
+pub take-next : IsNext exit_job (opening_core exit_job) (Take (lease_to 0 0 0))
 unfolding opening_core opening_replica struck execute applied cancelled recovered verdict_of event_of after next_action first_cpu made_cpu next fetch_stop instruction_stop instruction_of call_at permits_of alu_of taken_by meaning serve payload_of
 take-next = refl
 
-pub take-not-next : IsNext exit_job (opening_core exit_job) (Take 0 1 0) → ⊥
+pub take-not-next : IsNext exit_job (opening_core exit_job) (Take (lease_to 0 1 0)) → ⊥
 unfolding opening_core opening_replica struck execute applied cancelled recovered verdict_of event_of after next_action first_cpu made_cpu next fetch_stop instruction_stop instruction_of call_at permits_of alu_of taken_by meaning serve payload_of
 take-not-next h = let f : act.Lend 0 0 ≡ act.Lend 1 0 = h in cc
 
 -- ---- put_row
 
-pub put-at-stop : IsAllowed exit_job (replay exit_job (Take 0 0 0 ∷ [])) (Put 0 0 0 2 0)
+pub put-at-stop : IsAllowed exit_job (replay exit_job (Take (lease_to 0 0 0) ∷ [])) (Put (lease_to 0 0 0) 2 0)
 unfolding opening_core opening_replica struck execute applied cancelled recovered verdict_of event_of after next_action first_cpu made_cpu next fetch_stop instruction_stop instruction_of call_at permits_of alu_of taken_by meaning serve payload_of
 put-at-stop = record { not_ended = refl; out = refl; ran = _; runs = refl; struck = refl; arrives = inr (lit< tt, refl) }
 
-pub put-early : IsAllowed exit_job (replay exit_job (Take 0 0 0 ∷ [])) (Put 0 0 0 1 0) → ⊥
+pub put-early : IsAllowed exit_job (replay exit_job (Take (lease_to 0 0 0) ∷ [])) (Put (lease_to 0 0 0) 1 0) → ⊥
 unfolding opening_core opening_replica struck execute applied cancelled recovered verdict_of event_of after next_action first_cpu made_cpu next fetch_stop instruction_stop instruction_of call_at permits_of alu_of taken_by meaning serve payload_of
 put-early h = no-arrival exit_job 0 1 _ h.ran h.runs refl (lit< tt) h.arrives
 
-pub put-late : IsAllowed exit_job (replay exit_job (Take 0 0 0 ∷ [])) (Put 0 0 0 3 0) → ⊥
+pub put-late : IsAllowed exit_job (replay exit_job (Take (lease_to 0 0 0) ∷ [])) (Put (lease_to 0 0 0) 3 0) → ⊥
 unfolding opening_core opening_replica struck execute applied cancelled recovered verdict_of event_of after next_action first_cpu made_cpu next fetch_stop instruction_stop instruction_of call_at permits_of alu_of taken_by meaning serve payload_of
 put-late h = let f : None ≡ Some h.ran = h.runs in cc
 
-pub put-another : IsAllowed exit_job (replay exit_job (Take 0 0 0 ∷ [])) (Put 1 0 0 2 0) → ⊥
+pub put-another : IsAllowed exit_job (replay exit_job (Take (lease_to 0 0 0) ∷ [])) (Put (lease_to 1 0 0) 2 0) → ⊥
 unfolding opening_core opening_replica struck execute applied cancelled recovered verdict_of event_of after next_action first_cpu made_cpu next fetch_stop instruction_stop instruction_of call_at permits_of alu_of taken_by meaning serve payload_of
 put-another h = let f : false ≡ true = h.out in cc
 
-pub put-unstruck : IsAllowed exit_job (replay exit_job (Take 0 0 0 ∷ [])) (Put 0 0 0 2 1) → ⊥
+pub put-unstruck : IsAllowed exit_job (replay exit_job (Take (lease_to 0 0 0) ∷ [])) (Put (lease_to 0 0 0) 2 1) → ⊥
 unfolding opening_core opening_replica struck execute applied cancelled recovered verdict_of event_of after next_action first_cpu made_cpu next fetch_stop instruction_stop instruction_of call_at permits_of alu_of taken_by meaning serve payload_of
 put-unstruck h = let f : h.ran.hit ≡ 0 = hit-is _ h.ran 0 h.runs refl in let g : h.ran.hit ≡ 1 = h.struck in omega arith
 
@@ -154,9 +155,9 @@ pub stuck-not-going : IsAllowed exit_job (replay exit_job exit_runs) (End Deadlo
 unfolding opening_core opening_replica struck execute applied cancelled recovered verdict_of event_of after next_action first_cpu made_cpu next fetch_stop instruction_stop instruction_of call_at permits_of alu_of taken_by meaning serve payload_of
 stuck-not-going h = no-end exit_job (replay exit_job exit_runs) Deadlock refl (λ e. let f : false ≡ true = e in cc) (λ thread e. e) (λ e. e) (λ e. e) h.1
 
-pub stuck-not-lent : IsAllowed exit_job (replay exit_job (Take 0 0 0 ∷ [])) (End Deadlock) → ⊥
+pub stuck-not-lent : IsAllowed exit_job (replay exit_job (Take (lease_to 0 0 0) ∷ [])) (End Deadlock) → ⊥
 unfolding opening_core opening_replica struck execute applied cancelled recovered verdict_of event_of after next_action first_cpu made_cpu next fetch_stop instruction_stop instruction_of call_at permits_of alu_of taken_by meaning serve payload_of
-stuck-not-lent h = no-end exit_job (replay exit_job (Take 0 0 0 ∷ [])) Deadlock refl (λ e. let f : false ≡ true = e in cc) (λ thread e. e) (λ e. e) (λ e. e) h.1
+stuck-not-lent h = no-end exit_job (replay exit_job (Take (lease_to 0 0 0) ∷ [])) Deadlock refl (λ e. let f : false ≡ true = e in cc) (λ thread e. e) (λ e. e) (λ e. e) h.1
 
 pub stuck-not-free : IsAllowed (page_limit_job 1000000000) (replay (page_limit_job 1000000000) before_free) (End Deadlock) → ⊥
 unfolding opening_core opening_replica struck execute applied cancelled recovered verdict_of event_of after next_action first_cpu made_cpu next fetch_stop instruction_stop instruction_of call_at permits_of alu_of taken_by meaning serve payload_of
@@ -264,7 +265,7 @@ pub waiters-then-waits : may_free waiters_job (replay waiters_job (unlocked ++ F
 unfolding opening_core opening_replica struck execute applied cancelled recovered verdict_of event_of after next_action first_cpu made_cpu next fetch_stop instruction_stop instruction_of call_at permits_of alu_of taken_by meaning serve payload_of
 waiters-then-waits = refl
 
-pub waiters-lent : may_free waiters_job (replay waiters_job (unlocked ++ Take 0 0 0 ∷ [])) 1 ≡ false
+pub waiters-lent : may_free waiters_job (replay waiters_job (unlocked ++ Take (lease_to 0 0 0) ∷ [])) 1 ≡ false
 unfolding opening_core opening_replica struck execute applied cancelled recovered verdict_of event_of after next_action first_cpu made_cpu next fetch_stop instruction_stop instruction_of call_at permits_of alu_of taken_by meaning serve payload_of
 waiters-lent = refl
 
@@ -334,9 +335,9 @@ pub sink-all : IsAllowed hello_job (replay hello_job hello_written) (End (Sink 5
 unfolding opening_core opening_replica struck execute applied cancelled recovered verdict_of event_of after next_action first_cpu made_cpu next fetch_stop instruction_stop instruction_of call_at permits_of alu_of taken_by meaning serve payload_of
 sink-all h = no-end hello_job (replay hello_job hello_written) (Sink 5) refl (λ e. let f : 5 < 5 = e.1 in omega arith) (λ thread e. e) (λ e. e) (λ e. e) h.1
 
-pub sink-later : IsAllowed hello_job (replay hello_job (hello_written ++ Take 0 0 0 ∷ [])) (End (Sink 0)) → ⊥
+pub sink-later : IsAllowed hello_job (replay hello_job (hello_written ++ Take (lease_to 0 0 0) ∷ [])) (End (Sink 0)) → ⊥
 unfolding opening_core opening_replica struck execute applied cancelled recovered verdict_of event_of after next_action first_cpu made_cpu next fetch_stop instruction_stop instruction_of call_at permits_of alu_of taken_by meaning serve payload_of
-sink-later h = no-end hello_job (replay hello_job (hello_written ++ Take 0 0 0 ∷ [])) (Sink 0) refl (λ e. let f : 0 < 0 = e.1 in omega arith) (λ thread e. e) (λ e. e) (λ e. e) h.1
+sink-later h = no-end hello_job (replay hello_job (hello_written ++ Take (lease_to 0 0 0) ∷ [])) (Sink 0) refl (λ e. let f : 0 < 0 = e.1 in omega arith) (λ thread e. e) (λ e. e) (λ e. e) h.1
 
 -- ---- watch_row
 

@@ -1,6 +1,7 @@
 -- The first path: a file of 96 bytes whose program exits with 7, and the journal of its default job.
 use Rattle.std.specs.Prelude.{ℕ, true, false, List, [], ◌∷◌, ◌++◌, None, map}
 use Rattle.ro_event.specs.Functions.{functions}
+use Rattle.ro_journal.specs.Leases.{lease_to}
 use Rattle.ro_journal.specs.declared.losers.Lost.TheVariants.{Nobody}
 use Rattle.ro_image.specs.Image.{Image, ranges_with}
 use Rattle.ro_journal.specs.declared.Did.TheVariants.{Served}
@@ -34,4 +35,4 @@ exit_job = default_job exit_image
 
 -- each replica runs two instructions up to the call, and the vote serves it
 abbrev pub exit_journal : List Entry
-exit_journal = Take 0 0 0 ∷ Put 0 0 0 2 0 ∷ Take 0 1 0 ∷ Put 0 1 0 2 0 ∷ Take 0 2 0 ∷ Put 0 2 0 2 0 ∷ Vote 0 2 0 Nobody Served ∷ End (Exit 7) ∷ []
+exit_journal = Take (lease_to 0 0 0) ∷ Put (lease_to 0 0 0) 2 0 ∷ Take (lease_to 0 1 0) ∷ Put (lease_to 0 1 0) 2 0 ∷ Take (lease_to 0 2 0) ∷ Put (lease_to 0 2 0) 2 0 ∷ Vote 0 2 0 Nobody Served ∷ End (Exit 7) ∷ []

@@ -1,6 +1,7 @@
 //! Rows at the edges of what is allowed, and of what comes next.
 ghost use Rattle.std.specs.Prelude.{◌≡◌, suc, Bool, true, false, [], ◌∷◌, ◌++◌, length, Some, None};
 ghost use Rattle.std.specs.List.{filter};
+ghost use Rattle.ro_journal.specs.Leases.{lease_to};
 ghost use Rattle.ro_journal.specs.declared.Did.TheVariants.{Served, Blocked};
 ghost use Rattle.ro_journal.specs.declared.How.TheVariants.{Exit, Deadlock, Differ, NoMajority, Limit, Sink};
 ghost use Rattle.ro_journal.specs.declared.Entry.TheVariants.{Take, Put, Vote, Free, End};
@@ -31,21 +32,21 @@ pub fn length_row()
 /// A row: of three drivers number 2 may take a lease, and there is no number 3; and replica 1 may be taken first, but the core
 /// takes replica 0.
 pub fn take_row()
-    ensures last { IsAllowed exit_job (opening_core exit_job) (Take 2 0 0) }
-    ensures no_such { IsAllowed exit_job (opening_core exit_job) (Take 3 0 0) → ⊥ }
-    ensures any_first { IsAllowed exit_job (opening_core exit_job) (Take 0 1 0) }
-    ensures next { IsNext exit_job (opening_core exit_job) (Take 0 0 0) }
-    ensures not_next { IsNext exit_job (opening_core exit_job) (Take 0 1 0) → ⊥ }
+    ensures last { IsAllowed exit_job (opening_core exit_job) (Take (lease_to 2 0 0)) }
+    ensures no_such { IsAllowed exit_job (opening_core exit_job) (Take (lease_to 3 0 0)) → ⊥ }
+    ensures any_first { IsAllowed exit_job (opening_core exit_job) (Take (lease_to 0 1 0)) }
+    ensures next { IsNext exit_job (opening_core exit_job) (Take (lease_to 0 0 0)) }
+    ensures not_next { IsNext exit_job (opening_core exit_job) (Take (lease_to 0 1 0)) → ⊥ }
 {}
 
 /// A row: a run that came back at no stop before its quantum was over is not allowed, nor one of more instructions than
 /// there are before the stop, nor one that another driver gives back, nor one that says that a fault was struck.
 pub fn put_row()
-    ensures at_stop { IsAllowed exit_job (replay exit_job (Take 0 0 0 ∷ [])) (Put 0 0 0 2 0) }
-    ensures early { IsAllowed exit_job (replay exit_job (Take 0 0 0 ∷ [])) (Put 0 0 0 1 0) → ⊥ }
-    ensures late { IsAllowed exit_job (replay exit_job (Take 0 0 0 ∷ [])) (Put 0 0 0 3 0) → ⊥ }
-    ensures another { IsAllowed exit_job (replay exit_job (Take 0 0 0 ∷ [])) (Put 1 0 0 2 0) → ⊥ }
-    ensures unstruck { IsAllowed exit_job (replay exit_job (Take 0 0 0 ∷ [])) (Put 0 0 0 2 1) → ⊥ }
+    ensures at_stop { IsAllowed exit_job (replay exit_job (Take (lease_to 0 0 0) ∷ [])) (Put (lease_to 0 0 0) 2 0) }
+    ensures early { IsAllowed exit_job (replay exit_job (Take (lease_to 0 0 0) ∷ [])) (Put (lease_to 0 0 0) 1 0) → ⊥ }
+    ensures late { IsAllowed exit_job (replay exit_job (Take (lease_to 0 0 0) ∷ [])) (Put (lease_to 0 0 0) 3 0) → ⊥ }
+    ensures another { IsAllowed exit_job (replay exit_job (Take (lease_to 0 0 0) ∷ [])) (Put (lease_to 1 0 0) 2 0) → ⊥ }
+    ensures unstruck { IsAllowed exit_job (replay exit_job (Take (lease_to 0 0 0) ∷ [])) (Put (lease_to 0 0 0) 2 1) → ⊥ }
 {}
 
 /// A row: three replicas cannot come to a difference of two, and two of them can only where there is a fault.
@@ -61,7 +62,7 @@ pub fn stuck_row()
     ensures stuck { IsAllowed deadlock_job (replay deadlock_job deadlock_before) (End Deadlock) }
     ensures not_opening { IsAllowed deadlock_job (opening_core deadlock_job) (End Deadlock) → ⊥ }
     ensures not_going { IsAllowed exit_job (replay exit_job exit_runs) (End Deadlock) → ⊥ }
-    ensures not_lent { IsAllowed exit_job (replay exit_job (Take 0 0 0 ∷ [])) (End Deadlock) → ⊥ }
+    ensures not_lent { IsAllowed exit_job (replay exit_job (Take (lease_to 0 0 0) ∷ [])) (End Deadlock) → ⊥ }
     ensures not_free { IsAllowed (page_limit_job 1000000000) (replay (page_limit_job 1000000000) before_free) (End Deadlock) → ⊥ }
     ensures not_last { IsAllowed exit_job (replay exit_job last_lent) (End Deadlock) → ⊥ }
 {}
@@ -100,7 +101,7 @@ pub fn waiters_row()
     ensures may_too { may_free waiters_job (replay waiters_job unlocked) 2 ≡ true }
     ensures lowest { next_action waiters_job (replay waiters_job unlocked) ≡ act.Free 1 }
     ensures then_waits { may_free waiters_job (replay waiters_job (unlocked ++ Free 1 ∷ [])) 2 ≡ false }
-    ensures lent { may_free waiters_job (replay waiters_job (unlocked ++ Take 0 0 0 ∷ [])) 1 ≡ false }
+    ensures lent { may_free waiters_job (replay waiters_job (unlocked ++ Take (lease_to 0 0 0) ∷ [])) 1 ≡ false }
 {}
 
 /// A row: a vote on a thread that stands in every replica waits until no lease is out, also none of another thread. Where two
@@ -130,7 +131,7 @@ pub fn sink_row()
     ensures none { IsAllowed hello_job (replay hello_job hello_written) (End (Sink 0)) }
     ensures all_but_one { IsAllowed hello_job (replay hello_job hello_written) (End (Sink 4)) }
     ensures all { IsAllowed hello_job (replay hello_job hello_written) (End (Sink 5)) → ⊥ }
-    ensures later { IsAllowed hello_job (replay hello_job (hello_written ++ Take 0 0 0 ∷ [])) (End (Sink 0)) → ⊥ }
+    ensures later { IsAllowed hello_job (replay hello_job (hello_written ++ Take (lease_to 0 0 0) ∷ [])) (End (Sink 0)) → ⊥ }
 {}
 
 /// A row: a vote on the watchdog's turn lets its thread run on in every replica.

@@ -28,21 +28,21 @@ at-most-three job (inr three) = omega arith
 
 -- of at most three replicas, no other differs at a strike
 pub apart-before : (job : Job) (journal : List Entry) → job.settings.replicas ≤ 3 → StaysApart job journal → StrikesAlone job journal
-apart-before job journal three apart before rest driver replica thread count hit whole some other r d there = by s.others s.few s.alike
+apart-before job journal three apart before rest lease count hit whole some other r d there = by s.others s.few s.alike
   where
-    s : StrikesApart job before replica
-    s = apart before rest driver replica thread count hit whole some
+    s : StrikesApart job before lease.replica
+    s = apart before rest lease count hit whole some
 
-    by : (others : List ℕ) → AtMostHalf job.settings.replicas (replica ∷ others) → AllAlikeBut job before (replica ∷ others) → IsAlike job before r
-    by [] few alike = alike other r (not-only replica other (λ e. d (sym e))) there
+    by : (others : List ℕ) → AtMostHalf job.settings.replicas (lease.replica ∷ others) → AllAlikeBut job before (lease.replica ∷ others) → IsAlike job before r
+    by [] few alike = alike other r (not-only lease.replica other (λ e. d (sym e))) there
     by (x ∷ others) few alike = absurd (omega arith)
 
 -- where none does, of two or more, faults stay apart
 pub apart-after : (job : Job) (journal : List Entry) → 2 ≤ job.settings.replicas → StrikesAlone job journal → StaysApart job journal
-apart-after job journal two apart before rest driver replica thread count hit whole some = record {
+apart-after job journal two apart before rest lease count hit whole some = record {
   others = [];
   few = omega arith;
-  alike = λ number r d there. apart before rest driver replica thread count hit whole some number r (λ e. true≢false (sym (only replica number (sym e)) ∙ d)) there;
+  alike = λ number r d there. apart before rest lease count hit whole some number r (λ e. true≢false (sym (only lease.replica number (sym e)) ∙ d)) there;
 }
 
 -- so both say the same

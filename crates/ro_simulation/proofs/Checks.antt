@@ -6,6 +6,7 @@ use Rattle.ro_journal.specs.declared.Did.{Did}
 use Rattle.ro_journal.specs.declared.Did.TheVariants.{Served, Blocked, Parked, PageBacked, Watch, Trapped}
 use Rattle.ro_journal.specs.declared.How.{How}
 use Rattle.ro_journal.specs.declared.How.TheVariants.{Exit}
+use Rattle.ro_journal.specs.declared.Lease.{Lease}
 use Rattle.ro_journal.specs.declared.Entry.{Entry}
 use Rattle.ro_journal.specs.declared.Entry.TheVariants.{Take, Put, Vote, Free, Scrub, End}
 use Rattle.ro_journal.specs.declared.losers.Lost.{Lost}
@@ -20,8 +21,8 @@ use Rattle.ro_legal.specs.Event.{Event}
 use Rattle.ro_legal.specs.Legal.{arrival, lease_run, since_in, event_in, HasArrived, MayPut, MayVote, MayEnd, due, IsAllowed, after, LegalFrom}
 
 -- whether a take is allowed
-abbrev pub test_take : Job → Core → (driver replica thread : ℕ) → Bool
-test_take job core driver replica thread = is_going core && nat_lt driver job.settings.drivers && is_idle core driver && is_lendable core replica thread
+abbrev pub test_take : Job → Core → Lease → Bool
+test_take job core lease = is_going core && nat_lt lease.driver job.settings.drivers && is_idle core lease.driver && is_lendable core lease.replica lease.thread
 
 -- whether a run struck so many faults and arrived
 abbrev pub test_ran : Job → (thread count hit : ℕ) → Option RanTo → Bool
@@ -30,8 +31,8 @@ test_ran job thread count hit (Some ran) =
     (ran.hit == hit) && ((count == job.settings.quantum) || (nat_lt count job.settings.quantum && is_some (arrival job thread count ran.replica)))
 
 -- whether a put is allowed
-abbrev pub test_put : Job → Core → (driver replica thread count hit : ℕ) → Bool
-test_put job core driver replica thread count hit = is_none core.ended && is_out core driver replica thread && test_ran job thread count hit (lease_run job core replica thread count)
+abbrev pub test_put : Job → Core → Lease → (count hit : ℕ) → Bool
+test_put job core lease count hit = is_none core.ended && is_out core lease && test_ran job lease.thread count hit (lease_run job core lease count)
 
 -- whether two optional numbers are the same
 abbrev pub same_number : Option ℕ → Option ℕ → Bool
@@ -78,8 +79,8 @@ test_end _ _ = false
 
 -- whether an entry is allowed
 abbrev pub test_entry : Job → Core → Entry → Bool
-test_entry job core (Take driver replica thread) = test_take job core driver replica thread
-test_entry job core (Put driver replica thread count hit) = test_put job core driver replica thread count hit
+test_entry job core (Take lease) = test_take job core lease
+test_entry job core (Put lease count hit) = test_put job core lease count hit
 test_entry job core (Vote thread count won lost did) = test_vote job core thread count won lost did
 test_entry job core (Free thread) = may_free job core thread && nat_le (core.steps + 1) job.settings.limit
 test_entry job core (Scrub won lost) = false
@@ -121,13 +122,13 @@ verdict-is Split won lost e = absurd (false≢true e)
 verdict-is (Won w l) won lost e = let p = and_parts _ _ e in let a = eqb-true w won p.0 in let b = same-list l lost p.1 in λ i. Won (a i) (b i)
 
 -- a put that passes is allowed
-put-allowed : (job : Job) (core : Core) (driver replica thread count hit : ℕ) → core.ended ≡ None → is_out core driver replica thread ≡ true → (o : Option RanTo) → lease_run job core replica thread count ≡ o → test_ran job thread count hit o ≡ true → MayPut job core driver replica thread count hit
-put-allowed job core driver replica thread count hit on out None e f = absurd (false≢true f)
-put-allowed job core driver replica thread count hit on out (Some ran) e f =
+put-allowed : (job : Job) (core : Core) (lease : Lease) (count hit : ℕ) → core.ended ≡ None → is_out core lease ≡ true → (o : Option RanTo) → lease_run job core lease count ≡ o → test_ran job lease.thread count hit o ≡ true → MayPut job core lease count hit
+put-allowed job core lease count hit on out None e f = absurd (false≢true f)
+put-allowed job core lease count hit on out (Some ran) e f =
     let p = and_parts _ _ f in
     record { not_ended = on; out = out; ran = ran; runs = e; struck = eqb-true ran.hit hit p.0; arrives = by (or-cases _ _ p.1) }
   where
-    by : ((count == job.settings.quantum) ≡ true) ⊎ ((nat_lt count job.settings.quantum && is_some (arrival job thread count ran.replica)) ≡ true) → HasArrived job thread count ran.replica
+    by : ((count == job.settings.quantum) ≡ true) ⊎ ((nat_lt count job.settings.quantum && is_some (arrival job lease.thread count ran.replica)) ≡ true) → HasArrived job lease.thread count ran.replica
     by (inl g) = inl (eqb-true count job.settings.quantum g)
     by (inr g) = let q = and_parts _ _ g in inr (ltb-true count job.settings.quantum q.0, q.1)
 
@@ -144,12 +145,12 @@ end-allowed job core o how e f = absurd (false≢true f)
 
 -- an entry that passes is allowed
 pub entry-allowed : (job : Job) (core : Core) (entry : Entry) → test_entry job core entry ≡ true → IsAllowed job core entry
-entry-allowed job core (Take driver replica thread) e =
+entry-allowed job core (Take lease) e =
     let a = and_parts _ _ e in let b = and_parts _ _ a.0 in let c = and_parts _ _ b.0 in
-    record { going = c.0; driver_exists = ltb-true driver job.settings.drivers c.1; driver_is_idle = b.1; lendable = a.1 }
-entry-allowed job core (Put driver replica thread count hit) e =
+    record { going = c.0; driver_exists = ltb-true lease.driver job.settings.drivers c.1; driver_is_idle = b.1; lendable = a.1 }
+entry-allowed job core (Put lease count hit) e =
     let a = and_parts _ _ e in let b = and_parts _ _ a.0 in
-    put-allowed job core driver replica thread count hit (is-none-from core.ended b.0) b.1 _ refl a.1
+    put-allowed job core lease count hit (is-none-from core.ended b.0) b.1 _ refl a.1
 entry-allowed job core (Vote thread count won lost did) e =
     let a = and_parts _ _ e in let b = and_parts _ _ a.0 in let c = and_parts _ _ b.0 in let d = and_parts _ _ c.0 in
     vote-allowed job core thread count won lost did d.0 (verdict-is _ won (numbers lost) d.1) (same-number _ _ c.1) _ refl b.1 (leb-true _ _ a.1)

@@ -5,6 +5,7 @@ use Rattle.std.proofs.Common.{refl, sym, ap, ◌∙◌, subst, arith, append_ass
 use Rattle.ro_event.specs.declared.calls.Call.{Call}
 use Rattle.ro_journal.specs.declared.Did.{Did}
 use Rattle.ro_journal.specs.declared.How.{How}
+use Rattle.ro_journal.specs.declared.Lease.{Lease}
 use Rattle.ro_journal.specs.declared.Entry.{Entry}
 use Rattle.ro_journal.specs.declared.Entry.TheVariants.{Take, Put, Vote, Free, Scrub, End}
 use Rattle.ro_journal.specs.declared.losers.Lost.{Lost}
@@ -42,8 +43,8 @@ payloads-append job core (x ∷ xs) ys =
 
 -- an entry is allowed only in a run that has not ended
 pub allowed-not-ended : (job : Job) (core : Core) (entry : Entry) → IsAllowed job core entry → core.ended ≡ None
-allowed-not-ended job core (Take driver replica thread) h = (going-from core h.going).not_ended
-allowed-not-ended job core (Put driver replica thread count hit) h = h.not_ended
+allowed-not-ended job core (Take lease) h = (going-from core h.going).not_ended
+allowed-not-ended job core (Put lease count hit) h = h.not_ended
 allowed-not-ended job core (Vote thread count won lost did) h = (vote-parts core thread h.may).going.not_ended
 allowed-not-ended job core (Free thread) h = (free-parts job core thread h.may).going.not_ended
 allowed-not-ended job core (Scrub won lost) h = (scrub-parts core h.may).not_ended
@@ -63,8 +64,8 @@ after-end-ended job core how = refl
 
 -- an entry that is no end
 pub data IsStep : Entry → Type 0 where
-  takes : {driver replica thread : ℕ} → IsStep (Take driver replica thread)
-  puts : {driver replica thread count hit : ℕ} → IsStep (Put driver replica thread count hit)
+  takes : {lease : Lease} → IsStep (Take lease)
+  puts : {lease : Lease} {count hit : ℕ} → IsStep (Put lease count hit)
   votes : {thread count won : ℕ} {lost : Lost} {did : Did} → IsStep (Vote thread count won lost did)
   frees : {thread : ℕ} → IsStep (Free thread)
   scrubs : {won : ℕ} {lost : Lost} → IsStep (Scrub won lost)
@@ -75,9 +76,9 @@ pub record Leaves (core other : Core) (payload : List ℕ) : Type 0 where
   pub ended : other.ended ≡ core.ended
 
 -- a put writes nothing
-put-leaves : (job : Job) (core : Core) (driver replica thread count : ℕ) (o : Option RanTo) → Leaves core (core_after_put job core driver replica thread count o) []
-put-leaves job core driver replica thread count None = record { output = sym (append-nil core.output); ended = refl }
-put-leaves job core driver replica thread count (Some ran) = record { output = sym (append-nil core.output); ended = refl }
+put-leaves : (job : Job) (core : Core) (lease : Lease) (count : ℕ) (o : Option RanTo) → Leaves core (core_after_put job core lease count o) []
+put-leaves job core lease count None = record { output = sym (append-nil core.output); ended = refl }
+put-leaves job core lease count (Some ran) = record { output = sym (append-nil core.output); ended = refl }
 
 -- an event writes its payload
 event-leaves : (core : Core) (thread count : ℕ) (replicas : List Replica) (o : Option Event) → Leaves core (core_after_event core thread count replicas o) (event_payload o)
@@ -99,8 +100,8 @@ free-no-payload job core thread (Some call) = call-no-payload core.kernel thread
 -- what an entry leaves
 pub step-leaves : (job : Job) (core : Core) (entry : Entry) → IsStep entry → Leaves core (after job core entry) (payload_by job core entry)
 unfolding after
-step-leaves job core (Take driver replica thread) takes = record { output = sym (append-nil core.output); ended = refl }
-step-leaves job core (Put driver replica thread count hit) puts = put-leaves job core driver replica thread count (lease_run job core replica thread count)
+step-leaves job core (Take lease) takes = record { output = sym (append-nil core.output); ended = refl }
+step-leaves job core (Put lease count hit) puts = put-leaves job core lease count (lease_run job core lease count)
 step-leaves job core (Vote thread count won lost did) votes = event-leaves core thread count (with_recovered won (numbers lost) core.replicas) (event_in job core thread won)
 step-leaves job core (Free thread) frees =
     subst (Leaves core (core_after_event core thread 0 core.replicas (freed_event job core thread))) (free-no-payload job core thread (core.blocked thread))
@@ -119,8 +120,8 @@ pub outcome-ended : (job : Job) (core : Core) (journal : List Entry) (how : How)
 outcome-ended job core [] how h e = absurd (let f : None ≡ Some how = e in cc)
 outcome-ended job core (End other ∷ rest) how h e =
     end-nothing job core other rest (nothing-after job (after job core (End other)) other rest (after-end-ended job core other) h.1) ∙ e
-outcome-ended job core (Take driver replica thread ∷ rest) how h e = outcome-ended job (after job core (Take driver replica thread)) rest how h.1 e
-outcome-ended job core (Put driver replica thread count hit ∷ rest) how h e = outcome-ended job (after job core (Put driver replica thread count hit)) rest how h.1 e
+outcome-ended job core (Take lease ∷ rest) how h e = outcome-ended job (after job core (Take lease)) rest how h.1 e
+outcome-ended job core (Put lease count hit ∷ rest) how h e = outcome-ended job (after job core (Put lease count hit)) rest how h.1 e
 outcome-ended job core (Vote thread count won lost did ∷ rest) how h e = outcome-ended job (after job core (Vote thread count won lost did)) rest how h.1 e
 outcome-ended job core (Free thread ∷ rest) how h e = outcome-ended job (after job core (Free thread)) rest how h.1 e
 outcome-ended job core (Scrub won lost ∷ rest) how h e = outcome-ended job (after job core (Scrub won lost)) rest how h.1 e
@@ -130,8 +131,8 @@ pub ended-outcome : (job : Job) (core : Core) (journal : List Entry) (how : How)
 ended-outcome job core [] how on h e = absurd (let f : None ≡ Some how = sym on ∙ e in cc)
 ended-outcome job core (End other ∷ rest) how on h e =
     sym (end-nothing job core other rest (nothing-after job (after job core (End other)) other rest (after-end-ended job core other) h.1)) ∙ e
-ended-outcome job core (Take driver replica thread ∷ rest) how on h e = ended-outcome job (after job core (Take driver replica thread)) rest how ((step-leaves job core (Take driver replica thread) takes).ended ∙ on) h.1 e
-ended-outcome job core (Put driver replica thread count hit ∷ rest) how on h e = ended-outcome job (after job core (Put driver replica thread count hit)) rest how ((step-leaves job core (Put driver replica thread count hit) puts).ended ∙ on) h.1 e
+ended-outcome job core (Take lease ∷ rest) how on h e = ended-outcome job (after job core (Take lease)) rest how ((step-leaves job core (Take lease) takes).ended ∙ on) h.1 e
+ended-outcome job core (Put lease count hit ∷ rest) how on h e = ended-outcome job (after job core (Put lease count hit)) rest how ((step-leaves job core (Put lease count hit) puts).ended ∙ on) h.1 e
 ended-outcome job core (Vote thread count won lost did ∷ rest) how on h e = ended-outcome job (after job core (Vote thread count won lost did)) rest how ((step-leaves job core (Vote thread count won lost did) votes).ended ∙ on) h.1 e
 ended-outcome job core (Free thread ∷ rest) how on h e = ended-outcome job (after job core (Free thread)) rest how ((step-leaves job core (Free thread) frees).ended ∙ on) h.1 e
 ended-outcome job core (Scrub won lost ∷ rest) how on h e = ended-outcome job (after job core (Scrub won lost)) rest how ((step-leaves job core (Scrub won lost) scrubs).ended ∙ on) h.1 e
@@ -171,8 +172,8 @@ pub record Struck (job : Job) (Q : List ℕ → Type 0) (struck : ℕ) (core : C
 
 -- an entry behind which the same replicas may be odd
 pub data IsCalm : Entry → Type 0 where
-  takes_calm : {driver replica thread : ℕ} → IsCalm (Take driver replica thread)
-  puts_calm : {driver replica thread count hit : ℕ} → hit ≡ 0 → IsCalm (Put driver replica thread count hit)
+  takes_calm : {lease : Lease} → IsCalm (Take lease)
+  puts_calm : {lease : Lease} {count hit : ℕ} → hit ≡ 0 → IsCalm (Put lease count hit)
   votes_calm : {thread count won : ℕ} {lost : Lost} {did : Did} → IsCalm (Vote thread count won lost did)
   frees_calm : {thread : ℕ} → IsCalm (Free thread)
 
@@ -184,9 +185,9 @@ pub record Scrubbed (job : Job) (Q : List ℕ → Type 0) : Type 0 where
 
 -- Which replicas may be odd behind which journal, and why the others agree where faults are struck.
 pub record Policy (job : Job) (Q : List Entry → List ℕ → Type 0) (whole : List Entry) : Type 0 where
-  pub strikes : (odds : List ℕ) (before rest : List Entry) → Q before odds → (driver replica thread count hit : ℕ) → whole ≡ before ++ Put driver replica thread count hit ∷ rest →
-      (core : Core) (reached : Reached job odds before core) → MayPut job core driver replica thread count hit → 0 < hit →
-      Struck job (Q (before ++ Put driver replica thread count hit ∷ [])) replica core reached.holds.machine
+  pub strikes : (odds : List ℕ) (before rest : List Entry) → Q before odds → (lease : Lease) (count hit : ℕ) → whole ≡ before ++ Put lease count hit ∷ rest →
+      (core : Core) (reached : Reached job odds before core) → MayPut job core lease count hit → 0 < hit →
+      Struck job (Q (before ++ Put lease count hit ∷ [])) lease.replica core reached.holds.machine
   pub calm : (odds : List ℕ) (before : List Entry) (entry : Entry) → IsCalm entry → Q before odds → Q (before ++ entry ∷ []) odds
   pub scrubbed : (odds : List ℕ) (before : List Entry) (won : ℕ) (lost : Lost) → Q before odds → AtMostHalf job.settings.replicas odds → Scrubbed job (Q (before ++ Scrub won lost ∷ []))
 
@@ -202,17 +203,17 @@ pub data AfterEntry (job : Job) (Q : List Entry → List ℕ → Type 0) (journa
 
 module _ (job : Job) (free : RaceFree job.program) (Q : List Entry → List ℕ → Type 0) (whole : List Entry) (policy : Policy job Q whole) where
   -- the invariant after a put, with or without a strike
-  after-put : (odds : List ℕ) (journal rest : List Entry) (q : Q journal odds) (driver replica thread count hit : ℕ) → whole ≡ journal ++ Put driver replica thread count hit ∷ rest → (core : Core) (reached : Reached job odds journal core) → MayPut job core driver replica thread count hit → AfterEntry job Q journal core (Put driver replica thread count hit)
-  after-put odds journal rest q driver replica thread count zero whole_is core reached may =
-      is_step odds (policy.calm odds journal (Put driver replica thread count 0) (puts_calm refl) q) puts (after-calm-put job odds journal core reached.holds driver replica thread count 0 may free refl)
-  after-put odds journal rest q driver replica thread count (suc hit) whole_is core reached may =
-      let s = policy.strikes odds journal rest q driver replica thread count (suc hit) whole_is core reached may (omega arith) in
-      is_step s.odds s.allows puts (after-struck-put job odds journal core reached.holds driver replica thread count (suc hit) may s.odds s.few s.is_odd s.others)
+  after-put : (odds : List ℕ) (journal rest : List Entry) (q : Q journal odds) (lease : Lease) (count hit : ℕ) → whole ≡ journal ++ Put lease count hit ∷ rest → (core : Core) (reached : Reached job odds journal core) → MayPut job core lease count hit → AfterEntry job Q journal core (Put lease count hit)
+  after-put odds journal rest q lease count zero whole_is core reached may =
+      is_step odds (policy.calm odds journal (Put lease count 0) (puts_calm refl) q) puts (after-calm-put job odds journal core reached.holds lease count 0 may free refl)
+  after-put odds journal rest q lease count (suc hit) whole_is core reached may =
+      let s = policy.strikes odds journal rest q lease count (suc hit) whole_is core reached may (omega arith) in
+      is_step s.odds s.allows puts (after-struck-put job odds journal core reached.holds lease count (suc hit) may s.odds s.few s.is_odd s.others)
 
   -- the invariant after an entry
   after-entry : (odds : List ℕ) (journal rest : List Entry) (q : Q journal odds) (entry : Entry) → whole ≡ journal ++ entry ∷ rest → (core : Core) (reached : Reached job odds journal core) → IsAllowed job core entry → AfterEntry job Q journal core entry
-  after-entry odds journal rest q (Take driver replica thread) whole_is core reached h = is_step odds (policy.calm odds journal (Take driver replica thread) takes_calm q) takes (after-take job odds journal core reached.holds driver replica thread h)
-  after-entry odds journal rest q (Put driver replica thread count hit) whole_is core reached h = after-put odds journal rest q driver replica thread count hit whole_is core reached h
+  after-entry odds journal rest q (Take lease) whole_is core reached h = is_step odds (policy.calm odds journal (Take lease) takes_calm q) takes (after-take job odds journal core reached.holds lease h)
+  after-entry odds journal rest q (Put lease count hit) whole_is core reached h = after-put odds journal rest q lease count hit whole_is core reached h
   after-entry odds journal rest q (Vote thread count won lost did) whole_is core reached h = is_step odds (policy.calm odds journal (Vote thread count won lost did) votes_calm q) votes (after-vote job free odds journal core reached.holds thread count won did lost h).holds
   after-entry odds journal rest q (Free thread) whole_is core reached h = is_step odds (policy.calm odds journal (Free thread) frees_calm q) frees (after-free job free odds journal core reached.holds thread h)
   after-entry odds journal rest q (Scrub won lost) whole_is core reached h =

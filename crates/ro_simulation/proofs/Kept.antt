@@ -18,8 +18,8 @@ use Rattle.ro_replica.specs.Replica.{Replica, applied, cancelled}
 use Rattle.ro_plain.specs.Machine.{layout_of, Machine, opening, run, BackedRun}
 use Rattle.ro_plain.proofs.Ahead.{is-none-from}
 use Rattle.ro_plain.proofs.Swap.{run-append}
-use Rattle.ro_legal.specs.declared.actions.Lease.{Lease}
-use Rattle.ro_legal.specs.Core.{Job, Core, is_going, nothing_lent, is_out}
+use Rattle.ro_journal.specs.declared.Lease.{Lease}
+use Rattle.ro_legal.specs.Core.{Job, Core, is_going, nothing_lent, is_lease, is_out}
 use Rattle.ro_legal.specs.Event.{Event, core_after}
 use Rattle.ro_legal.specs.Ideal.{ideal}
 use Rattle.ro_legal.specs.Sound.{IsSound}
@@ -69,9 +69,9 @@ pub none-lent : (core : Core) → nothing_lent core ≡ true → core.leases ≡
 none-lent core h = nil_from_length core.leases (eqb-true (length core.leases) 0 h)
 
 -- where nothing is lent no lease is out
-none-out : (leases : List Lease) (core : Core) (driver replica thread : ℕ) → core.leases ≡ leases → leases ≡ [] → is_out core driver replica thread ≡ false
-none-out leases core driver replica thread e f =
-    ap (list_any (λ (lease : Lease). (lease.driver == driver) && (lease.replica == replica) && (lease.thread == thread))) (e ∙ f)
+none-out : (leases : List Lease) (core : Core) (lease : Lease) → core.leases ≡ leases → leases ≡ [] → is_out core lease ≡ false
+none-out leases core lease e f =
+    ap (list_any (is_lease lease)) (e ∙ f)
 
 -- ---- the invariant after the event
 
@@ -156,7 +156,7 @@ module _ (job : Job) (odds : List ℕ) (journal : List Entry) (core : Core) (h :
     replica_count = length-mapped _ replicas ∙ (as_many ∙ h.replica_count);
     backed = backed_after event.effect h.backed;
     sound = λ number r e. sound_after number r (get-map _ replicas number r e);
-    lent_live = λ driver replica thread e. absurd (true≢false (sym e ∙ none-out core.leases core driver replica thread refl no_lease));
+    lent_live = λ lease e. absurd (true≢false (sym e ∙ none-out core.leases core lease refl no_lease));
     blocked_stands = λ u call e on. blocked_after u call (u == t) refl e on;
     others_agree = λ on number r d e. agrees_after meets on number r d (get-map _ replicas number r e);
   }

@@ -7,6 +7,7 @@ use Rattle.std.proofs.lemmas.Option.{option_and_then_some, slice_get_within}
 use Rattle.ro_journal.specs.declared.Did.{Did}
 use Rattle.ro_journal.specs.declared.How.{How}
 use Rattle.ro_journal.specs.declared.How.TheVariants.{Exit, Trap, Deadlock, Limit, Differ, NoMajority, Sink}
+use Rattle.ro_journal.specs.declared.Lease.{Lease}
 use Rattle.ro_journal.specs.declared.Entry.{Entry}
 use Rattle.ro_journal.specs.declared.Entry.TheVariants.{Put, Vote, Scrub}
 use Rattle.ro_journal.specs.declared.losers.Lost.{Lost}
@@ -70,38 +71,38 @@ module _ (job : Job) (journal : List Entry) (names : NamesFew job) where
   -- the named replicas are the odd ones throughout
   pub named-policy : Policy job (λ before odds. odds ≡ names.named) journal
   named-policy = record {
-    strikes = λ odds before rest q driver replica thread count hit whole core reached may some. record {
+    strikes = λ odds before rest q lease count hit whole core reached may some. record {
       odds = names.named;
       allows = refl;
       few = names.few;
-      is_odd = one-of-named replica (put-fault job odds before core reached.holds driver replica thread count hit may some);
-      others = λ number r d e. reached.holds.others_agree (put-going job odds before core reached.holds driver replica thread count hit may).0 number r (ap (λ (l : List ℕ). is_among l number) q ∙ d) e;
+      is_odd = one-of-named lease.replica (put-fault job odds before core reached.holds lease count hit may some);
+      others = λ number r d e. reached.holds.others_agree (put-going job odds before core reached.holds lease count hit may).0 number r (ap (λ (l : List ℕ). is_among l number) q ∙ d) e;
     };
     calm = λ odds before entry calm q. q;
     scrubbed = λ odds before won lost q few. record { odds = odds; allows = q; few = few };
   }
 
   -- where a fault strikes, all but the named replicas are alike
-  pub at-strike : RaceFree job.program → Legal job journal → (before rest : List Entry) (driver replica thread count hit : ℕ) →
-      journal ≡ before ++ Put driver replica thread count hit ∷ rest → 0 < hit → IsTrue (is_among names.named replica) × AllAlikeBut job before names.named
-  at-strike free legal before rest driver replica thread count hit whole some = at
-      (reach-before job free (λ before odds. odds ≡ names.named) journal named-policy names.named names.few refl legal before rest (Put driver replica thread count hit) whole)
+  pub at-strike : RaceFree job.program → Legal job journal → (before rest : List Entry) (lease : Lease) (count hit : ℕ) →
+      journal ≡ before ++ Put lease count hit ∷ rest → 0 < hit → IsTrue (is_among names.named lease.replica) × AllAlikeBut job before names.named
+  at-strike free legal before rest lease count hit whole some = at
+      (reach-before job free (λ before odds. odds ≡ names.named) journal named-policy names.named names.few refl legal before rest (Put lease count hit) whole)
     where
-      at : Before job free (λ before odds. odds ≡ names.named) journal named-policy before (Put driver replica thread count hit) → IsTrue (is_among names.named replica) × AllAlikeBut job before names.named
+      at : Before job free (λ before odds. odds ≡ names.named) journal named-policy before (Put lease count hit) → IsTrue (is_among names.named lease.replica) × AllAlikeBut job before names.named
       at h =
-          let going = (put-going job h.odds before (replay job before) h.reached.holds driver replica thread count hit h.allowed).0 in (
-            one-of-named replica (put-fault job h.odds before (replay job before) h.reached.holds driver replica thread count hit h.allowed some),
+          let going = (put-going job h.odds before (replay job before) h.reached.holds lease count hit h.allowed).0 in (
+            one-of-named lease.replica (put-fault job h.odds before (replay job before) h.reached.holds lease count hit h.allowed some),
             λ number r d there. agrees-is-alike job before h.reached.holds.machine r h.reached.holds.ideal_is going
                 (h.reached.holds.others_agree going number r (ap (λ (l : List ℕ). is_among l number) h.allows ∙ d) there),
           )
 
   -- so faults stay apart
   pub few-struck-apart : RaceFree job.program → Legal job journal → StaysApart job journal
-  few-struck-apart free legal before rest driver replica thread count hit whole some =
-      let s = at-strike free legal before rest driver replica thread count hit whole some in
-      let short = without-shorter replica names.named s.0 in
+  few-struck-apart free legal before rest lease count hit whole some =
+      let s = at-strike free legal before rest lease count hit whole some in
+      let short = without-shorter lease.replica names.named s.0 in
       record {
-        others = without replica names.named;
+        others = without lease.replica names.named;
         few = let f = names.few in omega arith;
         alike = λ number r d there.
             let p = neither (replica == number) (is_among (without replica names.named) number) d in
@@ -134,30 +135,30 @@ pub one-struck-apart : (job : Job) (journal : List Entry) → 2 ≤ job.settings
 one-struck-apart job journal two free one legal = few-struck-apart job journal (one-is-few job two one) free legal
 
 -- a replica that is struck is there
-struck-there : (job : Job) (journal : List Entry) → Legal job journal → (before rest : List Entry) (driver replica thread count hit : ℕ) →
-    journal ≡ before ++ Put driver replica thread count hit ∷ rest → replica < length (replay job before).replicas
-struck-there job journal legal before rest driver replica thread count hit whole =
-    let parts = LegalFrom-parts job (opening_core job) before (Put driver replica thread count hit ∷ rest) (subst (Legal job) whole legal) in
-    let may : MayPut job (replay job before) driver replica thread count hit = parts.1.0 in
-    let p = put-parts job (replay job before) replica thread count may.ran may.runs in
-    slice_get_within (replay job before).replicas replica p.lent p.there
+struck-there : (job : Job) (journal : List Entry) → Legal job journal → (before rest : List Entry) (lease : Lease) (count hit : ℕ) →
+    journal ≡ before ++ Put lease count hit ∷ rest → lease.replica < length (replay job before).replicas
+struck-there job journal legal before rest lease count hit whole =
+    let parts = LegalFrom-parts job (opening_core job) before (Put lease count hit ∷ rest) (subst (Legal job) whole legal) in
+    let may : MayPut job (replay job before) lease count hit = parts.1.0 in
+    let p = put-parts job (replay job before) lease count may.ran may.runs in
+    slice_get_within (replay job before).replicas lease.replica p.lent p.there
 
 -- they strike it while every other is alike, however many replicas there are
 pub one-struck-alone : (job : Job) (journal : List Entry) → RaceFree job.program → AllOfOne job.faults → Legal job journal → StrikesAlone job journal
 unfolding one-is-few
-one-struck-alone job journal free one legal before rest driver replica thread count hit whole some other r d there = by (cases_lt job.settings.replicas 2)
+one-struck-alone job journal free one legal before rest lease count hit whole some other r d there = by (cases_lt job.settings.replicas 2)
   where
     by : (job.settings.replicas < 2) ⊎ (2 ≤ job.settings.replicas) → IsAlike job before r
     by (inr two) =
-        let s = at-strike job journal (one-is-few job two one) free legal before rest driver replica thread count hit whole some in
-        let same = is-only (named job.faults) replica s.0 in
+        let s = at-strike job journal (one-is-few job two one) free legal before rest lease count hit whole some in
+        let same = is-only (named job.faults) lease.replica s.0 in
         s.1 other r (not-only (named job.faults) other (λ e. d (sym e ∙ same))) there
     by (inl few) =
-        let parts = LegalFrom-parts job (opening_core job) before (Put driver replica thread count hit ∷ rest) (subst (Legal job) whole legal) in
+        let parts = LegalFrom-parts job (opening_core job) before (Put lease count hit ∷ rest) (subst (Legal job) whole legal) in
         let many = (ordered job before parts.0).replica_count in
-        let struck = struck-there job journal legal before rest driver replica thread count hit whole in
+        let struck = struck-there job journal legal before rest lease count hit whole in
         let within = slice_get_within (replay job before).replicas other r there in
-        absurd (d (let a : other ≡ 0 = omega arith in let b : replica ≡ 0 = omega arith in a ∙ sym b))
+        absurd (d (let a : other ≡ 0 = omega arith in let b : lease.replica ≡ 0 = omega arith in a ∙ sym b))
 
 -- ---- no fault
 

@@ -78,7 +78,7 @@ opening-holds job odds few = record {
   replica_count = length-opening job job.settings.replicas;
   backed = holds_file_byte job.program.image.pieces;
   sound = λ number r e. subst (IsSound job _ (holds_file_byte job.program.image.pieces) number) (get-opening job job.settings.replicas number r e) (opening-sound job _ number refl);
-  lent_live = λ driver replica thread e. absurd (false≢true e);
+  lent_live = λ lease e. absurd (false≢true e);
   blocked_stands = λ thread call (e : None ≡ Some call) on. absurd cc;
   others_agree = λ on number r d e. subst (Agrees job (opening job.program)) (get-opening job job.settings.replicas number r e) (opening-agrees job number);
 }

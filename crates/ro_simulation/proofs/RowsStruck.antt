@@ -3,6 +3,7 @@ use Rattle.std.specs.Prelude.{◌≡◌, ◌≢◌, ℕ, zero, suc, ◌≤◌, t
 use Rattle.std.specs.Option.{option_map}
 use Rattle.std.proofs.Common.{inl, refl, sym, ap, ◌∙◌, arith, inr}
 use Rattle.std.proofs.Math.Dec.{lit<, lit≤}
+use Rattle.ro_journal.specs.Leases.{lease_to}
 use Rattle.ro_journal.specs.declared.losers.Lost.TheVariants.{One}
 use Rattle.ro_decode.specs.Table.{instruction_of}
 use Rattle.ro_event.specs.Table.{call_at}
@@ -157,7 +158,7 @@ legal-two = (
 
 -- before the second strike
 abbrev first_part : List Entry
-first_part = Take 0 0 0 ∷ Put 0 0 0 2 1 ∷ Take 0 1 0 ∷ []
+first_part = Take (lease_to 0 0 0) ∷ Put (lease_to 0 0 0) 2 1 ∷ Take (lease_to 0 1 0) ∷ []
 
 -- a0 of thread 0
 abbrev a0 : Machine → Option ℕ
@@ -188,4 +189,4 @@ six-not-alike r thread steps there six h =
 pub not-apart : StaysApart (usual_job exit_guest (flip_a0 0 ∷ flip_a0 1 ∷ [])) two_struck → ⊥
 unfolding opening opening_core opening_replica struck execute applied cancelled recovered verdict_of event_of after first_cpu made_cpu steppable step next fetch_stop instruction_stop instruction_of call_at permits_of alu_of meaning serve payload_of
 not-apart apart =
-    six-not-alike _ _ refl refl refl (apart-before (usual_job exit_guest (flip_a0 0 ∷ flip_a0 1 ∷ [])) two_struck (lit< tt) apart first_part (Take 0 2 0 ∷ Put 0 2 0 2 0 ∷ Vote 0 2 0 (One 2) Served ∷ End (Exit 6) ∷ []) 0 1 0 2 1 refl (lit< tt) 0 _ (λ (e : 0 ≡ 1). omega arith) refl)
+    six-not-alike _ _ refl refl refl (apart-before (usual_job exit_guest (flip_a0 0 ∷ flip_a0 1 ∷ [])) two_struck (lit< tt) apart first_part (Take (lease_to 0 2 0) ∷ Put (lease_to 0 2 0) 2 0 ∷ Vote 0 2 0 (One 2) Served ∷ End (Exit 6) ∷ []) (lease_to 0 1 0) 2 1 refl (lit< tt) 0 _ (λ (e : 0 ≡ 1). omega arith) refl)

@@ -110,8 +110,8 @@ each-strike = (nearly-first, (nearly-second, tt))
 
 -- faults stay nearly apart
 pub nearly-apart : StaysNearlyApart (usual_job loading_guest slipping) slipped
-nearly-apart before rest driver replica thread count hit e some other r d there =
-    strike-at (λ past replica. (other : ℕ) (r : Replica) → other ≢ replica → slice_get (replay slip past).replicas other ≡ Some r → IsNearlyAlike slip past r) [] slipped before rest driver replica thread count hit each-strike e some other r d there
+nearly-apart before rest lease count hit e some other r d there =
+    strike-at (λ past replica. (other : ℕ) (r : Replica) → other ≢ replica → slice_get (replay slip past).replicas other ≡ Some r → IsNearlyAlike slip past r) [] slipped before rest lease count hit each-strike e some other r d there
 
 -- the guest has no races
 pub loading-free : RaceFree loading_guest

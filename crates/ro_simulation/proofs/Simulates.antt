@@ -80,13 +80,13 @@ module _ (job : Job) (free : RaceFree job.program) (odds : List ℕ) (journal be
 -- the others are alike where faults are struck
 pub apart-policy : (job : Job) (journal : List Entry) → StaysApart job journal → Policy job (λ before odds. Unit {0}) journal
 apart-policy job journal apart = record {
-  strikes = λ odds before rest q driver replica thread count hit whole core reached may some.
-      let s = apart before rest driver replica thread count hit whole some in
+  strikes = λ odds before rest q lease count hit whole core reached may some.
+      let s = apart before rest lease count hit whole some in
       record {
-        odds = replica ∷ s.others;
+        odds = lease.replica ∷ s.others;
         allows = tt;
         few = s.few;
-        is_odd = ap (λ (b : Bool). b || is_among s.others replica) (eq-eqb replica replica refl);
+        is_odd = ap (λ (b : Bool). b || is_among s.others lease.replica) (eq-eqb lease.replica lease.replica refl);
         others = λ number r d e. alike-agrees job before reached.holds.machine r reached.holds.ideal_is (s.alike number r d (ap (λ (c : Core). slice_get c.replicas number) reached.is_replay ∙ e));
       };
   calm = λ odds before entry calm q. tt;

@@ -1,6 +1,7 @@
 -- What the theorem says of two or three replicas, of which at most one differs.
 use Rattle.std.specs.Prelude.{◌≡◌, ◌≢◌, ℕ, ◌<◌, ◌⊎◌, List, [], ◌∷◌, ◌++◌, Some, None, slice_get}
 use Rattle.ro_journal.specs.declared.Did.{Did}
+use Rattle.ro_journal.specs.declared.Lease.{Lease}
 use Rattle.ro_journal.specs.declared.Entry.{Entry}
 use Rattle.ro_journal.specs.declared.Entry.TheVariants.{Put, Vote}
 use Rattle.ro_journal.specs.declared.losers.Lost.TheVariants.{One}
@@ -17,9 +18,9 @@ TwoOrThree job = (job.settings.replicas ≡ 2) ⊎ (job.settings.replicas ≡ 3)
 -- Faults strike no replica while another is not alike.
 abbrev pub StrikesAlone : Job → List Entry → Type 0
 StrikesAlone job journal =
-    (before rest : List Entry) (driver replica thread count hit : ℕ) →
-    journal ≡ before ++ Put driver replica thread count hit ∷ rest → 0 < hit →
-    (other : ℕ) (r : Replica) → other ≢ replica → slice_get (replay job before).replicas other ≡ Some r → IsAlike job before r
+    (before rest : List Entry) (lease : Lease) (count hit : ℕ) →
+    journal ≡ before ++ Put lease count hit ∷ rest → 0 < hit →
+    (other : ℕ) (r : Replica) → other ≢ lease.replica → slice_get (replay job before).replicas other ≡ Some r → IsAlike job before r
 
 -- At most one replica, of this number, is not alike.
 pub record AtMostOneDiffers (job : Job) (journal : List Entry) : Type 0 where

@@ -6,6 +6,7 @@ use Rattle.ro_event.specs.declared.functions.Function.TheVariants.{Wait}
 use Rattle.ro_event.specs.declared.stops.Stop.{Stop}
 use Rattle.ro_event.specs.declared.stops.Stop.TheVariants.{Calls}
 use Rattle.ro_journal.specs.declared.How.{How}
+use Rattle.ro_journal.specs.declared.Lease.{Lease}
 use Rattle.ro_journal.specs.declared.Entry.{Entry}
 use Rattle.ro_journal.specs.Plan.{plan_of}
 use Rattle.ro_pages.specs.Bytes.{Memory}
@@ -62,6 +63,6 @@ pub record TracksIdeal (job : Job) (odds : List ℕ) (journal : List Entry) (cor
   pub replica_count : length core.replicas ≡ job.settings.replicas
   pub backed : Backed
   pub sound : (number : ℕ) (replica : Replica) → slice_get core.replicas number ≡ Some replica → IsSound job core backed number replica
-  pub lent_live : (driver replica thread : ℕ) → IsTrue (is_out core driver replica thread) → (machine.ended ≡ None) × IsTrue (lives_on machine.kernel thread)
+  pub lent_live : (lease : Lease) → IsTrue (is_out core lease) → (machine.ended ≡ None) × IsTrue (lives_on machine.kernel lease.thread)
   pub blocked_stands : (thread : ℕ) (call : Call) → core.blocked thread ≡ Some call → machine.ended ≡ None → StandsAtCall job.program machine thread call
   pub others_agree : machine.ended ≡ None → (number : ℕ) (replica : Replica) → is_among odds number ≡ false → slice_get core.replicas number ≡ Some replica → Agrees job machine replica

@@ -1,5 +1,6 @@
 -- Worked rows: journals of small guests.
 use Rattle.std.specs.Prelude.{◌≡◌, ℕ, List, [], ◌∷◌, Some}
+use Rattle.ro_journal.specs.Leases.{lease_to}
 use Rattle.ro_journal.specs.declared.losers.Lost.TheVariants.{One}
 use Rattle.ro_journal.specs.declared.Did.TheVariants.{Served}
 use Rattle.ro_journal.specs.declared.How.{How}
@@ -19,11 +20,11 @@ flip_a0 replica = record { replica = replica; thread = 0; at = 1; target = Regis
 
 -- replica 1 is struck, loses the vote, and the program exits with 7
 abbrev pub one_struck : List Entry
-one_struck = Take 0 0 0 ∷ Put 0 0 0 2 0 ∷ Take 0 1 0 ∷ Put 0 1 0 2 1 ∷ Take 0 2 0 ∷ Put 0 2 0 2 0 ∷ Vote 0 2 0 (One 1) Served ∷ End (Exit 7) ∷ []
+one_struck = Take (lease_to 0 0 0) ∷ Put (lease_to 0 0 0) 2 0 ∷ Take (lease_to 0 1 0) ∷ Put (lease_to 0 1 0) 2 1 ∷ Take (lease_to 0 2 0) ∷ Put (lease_to 0 2 0) 2 0 ∷ Vote 0 2 0 (One 1) Served ∷ End (Exit 7) ∷ []
 
 -- replicas 0 and 1 are struck alike, replica 2 loses the vote, and the program exits with 6
 abbrev pub two_struck : List Entry
-two_struck = Take 0 0 0 ∷ Put 0 0 0 2 1 ∷ Take 0 1 0 ∷ Put 0 1 0 2 1 ∷ Take 0 2 0 ∷ Put 0 2 0 2 0 ∷ Vote 0 2 0 (One 2) Served ∷ End (Exit 6) ∷ []
+two_struck = Take (lease_to 0 0 0) ∷ Put (lease_to 0 0 0) 2 1 ∷ Take (lease_to 0 1 0) ∷ Put (lease_to 0 1 0) 2 1 ∷ Take (lease_to 0 2 0) ∷ Put (lease_to 0 2 0) 2 0 ∷ Vote 0 2 0 (One 2) Served ∷ End (Exit 6) ∷ []
 
 -- The premises of the simulation theorem hold, and the ideal machine ends so and writes this.
 pub record IsCovered (job : Job) (journal : List Entry) (how : How) (output : List ℕ) : Type 0 where

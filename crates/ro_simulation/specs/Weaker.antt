@@ -1,9 +1,11 @@
 -- A weaker form of alike, and the run that shows that it is too weak: a struck replica slips past a page fault.
 use Rattle.std.specs.Prelude.{◌≡◌, ◌≢◌, ℕ, ◌<◌, IsTrue, false, List, [], ◌∷◌, ◌++◌, Some, None, slice_get}
+use Rattle.ro_journal.specs.Leases.{lease_to}
 use Rattle.ro_journal.specs.declared.losers.Lost.TheVariants.{Nobody}
 use Rattle.ro_event.specs.declared.stops.Stop.{Stop}
 use Rattle.ro_journal.specs.declared.Did.TheVariants.{PageBacked}
 use Rattle.ro_journal.specs.declared.How.TheVariants.{NoMajority}
+use Rattle.ro_journal.specs.declared.Lease.{Lease}
 use Rattle.ro_journal.specs.declared.Entry.{Entry}
 use Rattle.ro_journal.specs.declared.Entry.TheVariants.{Take, Put, Vote, End}
 use Rattle.ro_faults.specs.declared.Fault.{Fault}
@@ -32,9 +34,9 @@ pub record IsNearlyAlike (job : Job) (journal : List Entry) (replica : Replica) 
 -- Faults strike no replica while another is not even nearly alike.
 abbrev pub StaysNearlyApart : Job → List Entry → Type 0
 StaysNearlyApart job journal =
-    (before rest : List Entry) (driver replica thread count hit : ℕ) →
-    journal ≡ before ++ Put driver replica thread count hit ∷ rest → 0 < hit →
-    (other : ℕ) (r : Replica) → other ≢ replica → slice_get (replay job before).replicas other ≡ Some r → IsNearlyAlike job before r
+    (before rest : List Entry) (lease : Lease) (count hit : ℕ) →
+    journal ≡ before ++ Put lease count hit ∷ rest → 0 < hit →
+    (other : ℕ) (r : Replica) → other ≢ lease.replica → slice_get (replay job before).replicas other ≡ Some r → IsNearlyAlike job before r
 
 -- it loads from page 17, then from page 19, and exits with 7
 abbrev pub loading_guest : Program
@@ -46,12 +48,12 @@ slipping = record { replica = 0; thread = 0; at = 3; target = Register 6 13 } �
 
 -- before each of the two strikes
 abbrev pub until_first : List Entry
-until_first = Take 0 0 0 ∷ Put 0 0 0 1 0 ∷ Take 0 1 0 ∷ Put 0 1 0 1 0 ∷ Take 0 2 0 ∷ Put 0 2 0 1 0 ∷ Vote 0 1 0 Nobody PageBacked ∷ Take 0 0 0 ∷ []
+until_first = Take (lease_to 0 0 0) ∷ Put (lease_to 0 0 0) 1 0 ∷ Take (lease_to 0 1 0) ∷ Put (lease_to 0 1 0) 1 0 ∷ Take (lease_to 0 2 0) ∷ Put (lease_to 0 2 0) 1 0 ∷ Vote 0 1 0 Nobody PageBacked ∷ Take (lease_to 0 0 0) ∷ []
 
 -- before the second strike
 abbrev pub until_second : List Entry
-until_second = Take 0 0 0 ∷ Put 0 0 0 1 0 ∷ Take 0 1 0 ∷ Put 0 1 0 1 0 ∷ Take 0 2 0 ∷ Put 0 2 0 1 0 ∷ Vote 0 1 0 Nobody PageBacked ∷ Take 0 0 0 ∷ Put 0 0 0 6 1 ∷ Take 0 1 0 ∷ []
+until_second = Take (lease_to 0 0 0) ∷ Put (lease_to 0 0 0) 1 0 ∷ Take (lease_to 0 1 0) ∷ Put (lease_to 0 1 0) 1 0 ∷ Take (lease_to 0 2 0) ∷ Put (lease_to 0 2 0) 1 0 ∷ Vote 0 1 0 Nobody PageBacked ∷ Take (lease_to 0 0 0) ∷ Put (lease_to 0 0 0) 6 1 ∷ Take (lease_to 0 1 0) ∷ []
 
 -- three different views
 abbrev pub slipped : List Entry
-slipped = Take 0 0 0 ∷ Put 0 0 0 1 0 ∷ Take 0 1 0 ∷ Put 0 1 0 1 0 ∷ Take 0 2 0 ∷ Put 0 2 0 1 0 ∷ Vote 0 1 0 Nobody PageBacked ∷ Take 0 0 0 ∷ Put 0 0 0 6 1 ∷ Take 0 1 0 ∷ Put 0 1 0 2 1 ∷ Take 0 2 0 ∷ Put 0 2 0 2 0 ∷ End NoMajority ∷ []
+slipped = Take (lease_to 0 0 0) ∷ Put (lease_to 0 0 0) 1 0 ∷ Take (lease_to 0 1 0) ∷ Put (lease_to 0 1 0) 1 0 ∷ Take (lease_to 0 2 0) ∷ Put (lease_to 0 2 0) 1 0 ∷ Vote 0 1 0 Nobody PageBacked ∷ Take (lease_to 0 0 0) ∷ Put (lease_to 0 0 0) 6 1 ∷ Take (lease_to 0 1 0) ∷ Put (lease_to 0 1 0) 2 1 ∷ Take (lease_to 0 2 0) ∷ Put (lease_to 0 2 0) 2 0 ∷ End NoMajority ∷ []

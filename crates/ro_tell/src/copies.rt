@@ -69,12 +69,9 @@ impl Copies<'_> {
         ensures { OnOk result (map copied_of self.new.made.items ≡ map copied_of self.old.made.items ++ copies_at place entry.now) }
     {
         match *entry {
-            Entry::Put {
-                replica,
-                thread,
-                count,
-                ..
-            } => self.strikes.count(replica, thread, count),
+            Entry::Put { lease, count, .. } => {
+                self.strikes.count(lease.replica, lease.thread, count)
+            }
             Entry::Vote { thread, lost, .. } => self.push_all(place, Some(thread), lost),
             Entry::Scrub { lost, .. } => self.push_all(place, None, lost),
             _ => Ok(()),

@@ -1,7 +1,8 @@
 //! The texts of journals, written, read and refused.
 ghost use Rattle.std.specs.Prelude.{◌≡◌};
+ghost use Rattle.ro_journal.specs.Leases.{lease_to};
 
-use ro_journal::{Did, Entry, How, Lost};
+use ro_journal::{Did, Entry, How, Lease, Lost};
 use ro_journal_text::{JournalError, entry_text, journal_text, read_journal};
 use std::alloc::Global;
 
@@ -41,23 +42,27 @@ fn first_run(rt: HostRuntime) -> Result<(), JournalError> {
     Ok(())
 }
 
-fn take(replica: u32) -> Entry
-    ensures { result ≡ Entry.Take 0 replica 0 }
+fn lease(replica: u32) -> Lease
+    ensures { result ≡ lease_to 0 replica 0 }
 {
-    Entry::Take {
+    Lease {
         driver: 0,
         replica,
         thread: 0,
     }
 }
 
+fn take(replica: u32) -> Entry
+    ensures { result ≡ Entry.Take (lease_to 0 replica 0) }
+{
+    Entry::Take(lease(replica))
+}
+
 fn put(replica: u32) -> Entry
-    ensures { result ≡ Entry.Put 0 replica 0 2 0 }
+    ensures { result ≡ Entry.Put (lease_to 0 replica 0) 2 0 }
 {
     Entry::Put {
-        driver: 0,
-        replica,
-        thread: 0,
+        lease: lease(replica),
         count: 2,
         hit: 0,
     }

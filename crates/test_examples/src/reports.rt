@@ -1,8 +1,9 @@
 //! Lines against the text that they are to be.
 ghost use Rattle.std.specs.Prelude.{◌≡◌};
+ghost use Rattle.ro_journal.specs.Leases.{lease_to};
 
 use ro_faults::FaultsCode;
-use ro_journal::{Did, Entry, How, Lost};
+use ro_journal::{Did, Entry, How, Lease, Lost};
 use ro_journal_text::{JournalCode, entry_text, header};
 use ro_report::{Answer, FileKind, answer_line, bench_line, plain_line, summary};
 use std::alloc::AllocError;
@@ -145,23 +146,27 @@ fn nothing_yet(rt: HostRuntime) {
     assert_eq!(rt; line.as_bytes(), want.as_bytes());
 }
 
-fn take(replica: u32) -> Entry
-    ensures { result ≡ Entry.Take 0 replica 0 }
+fn lease(replica: u32) -> Lease
+    ensures { result ≡ lease_to 0 replica 0 }
 {
-    Entry::Take {
+    Lease {
         driver: 0,
         replica,
         thread: 0,
     }
 }
 
+fn take(replica: u32) -> Entry
+    ensures { result ≡ Entry.Take (lease_to 0 replica 0) }
+{
+    Entry::Take(lease(replica))
+}
+
 fn put(replica: u32, hit: u32) -> Entry
-    ensures { result ≡ Entry.Put 0 replica 0 2 hit }
+    ensures { result ≡ Entry.Put (lease_to 0 replica 0) 2 hit }
 {
     Entry::Put {
-        driver: 0,
-        replica,
-        thread: 0,
+        lease: lease(replica),
         count: 2,
         hit,
     }

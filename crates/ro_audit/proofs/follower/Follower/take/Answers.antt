@@ -14,13 +14,13 @@ returns-clause-followed c =
     let mid = fields_of c.room.new.self in
     let new = fields_of c.take-taken.new.self in
     let stays = c.room.ensures.stays in
-    let may' = to-new core mid stays.job stays.journal (λ j k. MayTake j k c.args.driver c.args.replica c.args.thread) (c.may_take.ensures.0 c.if-not-may_take.false) in
+    let may' = to-new core mid stays.job stays.journal (λ j k. MayTake j k c.args.lease) (c.may_take.ensures.0 c.if-not-may_take.false) in
     let f = same-follows core mid stays.job stays.journal c.args.self.now.lent.items c.args.self.now.output.items c.room.ensures.holds c.requires in
-    let items = with_items_is c.args.self.now.lent c.lend.new.lent (ap length c.lend.ensures ∙ length-set c.as_mut_slice.result.now c.args.driver (Some c.new-lent.result) ∙ c.as_mut_slice.ensures.len) in
-    same-followed core mid stays.job stays.journal (Take c.args.driver c.args.replica c.args.thread) None new _ c.args.self.now.output.items (
+    let items = with_items_is c.args.self.now.lent c.lend.new.lent (ap length c.lend.ensures ∙ length-set c.as_mut_slice.result.now c.args.lease.driver (Some c.new-lent.result) ∙ c.as_mut_slice.ensures.len) in
+    same-followed core mid stays.job stays.journal (Take c.args.lease) None new _ c.args.self.now.output.items (
       may',
       c.take-taken.ensures.entry,
-      take-follows mid new c.args.driver c.args.replica c.args.thread c.args.self.now.lent.items _ c.args.self.now.output.items c.settings-quantum.result.quantum c.take-taken.result f may' c.take-taken.ensures.entry c.take-taken.ensures.holds c.take-taken.ensures.output c.take-taken.ensures.lent
+      take-follows mid new c.args.lease c.args.self.now.lent.items _ c.args.self.now.output.items c.settings-quantum.result.quantum c.take-taken.result f may' c.take-taken.ensures.entry c.take-taken.ensures.holds c.take-taken.ensures.output c.take-taken.ensures.lent
           (ap (λ (s : Settings). s.quantum) c.settings-quantum.ensures)
-          (items ∙ c.lend.ensures ∙ ap (λ (xs : List (Option LentOf)). set xs c.args.driver (Some c.new-lent.result)) c.as_mut_slice.ensures.value ∙ ap (λ (l : LentOf). set c.args.self.now.lent.items c.args.driver (Some l)) c.new-lent.ensures),
+          (items ∙ c.lend.ensures ∙ ap (λ (xs : List (Option LentOf)). set xs c.args.lease.driver (Some c.new-lent.result)) c.as_mut_slice.ensures.value ∙ ap (λ (l : LentOf). set c.args.self.now.lent.items c.args.lease.driver (Some l)) c.new-lent.ensures),
     )

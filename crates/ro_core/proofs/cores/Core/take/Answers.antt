@@ -12,7 +12,7 @@ pub lend-requires : goal.lend-requires
 lend-requires c = let f = fields_of c.args.self.now in let parts = spare_parts _ f.places f.lease_places c.requires.room in omega (arith, parts.1)
 
 pub leave-requires : goal.leave-requires
-leave-requires c = take-seat (fields_of c.args.self.now) c.requires.holds c.args.driver c.args.replica c.args.thread c.requires.allowed
+leave-requires c = take-seat (fields_of c.args.self.now) c.requires.holds c.args.lease c.requires.allowed
 
 pub returns-clause-holds : goal.returns-clause-holds
 returns-clause-holds c =
@@ -20,24 +20,24 @@ returns-clause-holds c =
     let h = c.requires.holds in
     let parts = spare_parts _ f.places f.lease_places c.requires.room in
     let same = ap length h.leases_are in
-    take-holds f h c.args.driver c.args.replica c.args.thread c.requires.allowed _ (record { job = refl; kernel = refl; blocked = refl; unblocked = refl; steps = refl; scrubbed = refl; streak = refl; sent = refl; due = refl; ended = refl; views = refl }) refl
+    take-holds f h c.args.lease c.requires.allowed _ (record { job = refl; kernel = refl; blocked = refl; unblocked = refl; steps = refl; scrubbed = refl; streak = refl; sent = refl; due = refl; ended = refl; views = refl }) refl
     c.push_reserved.ensures.items c.lend.ensures.items c.leave.ensures.homes c.leave.ensures.groups
     (omega (arith, parts.0, same, c.push_reserved.ensures.len, c.push_reserved.ensures.capacity))
 
 pub returns-clause-output : goal.returns-clause-output
 returns-clause-output c =
     let f : Fields = fields_of c.args.self.now in
-    ap (output_of f.job) c.push_reserved.ensures.items ∙ take-output f.job f.journal c.args.driver c.args.replica c.args.thread
+    ap (output_of f.job) c.push_reserved.ensures.items ∙ take-output f.job f.journal c.args.lease
 
 pub returns-clause-lent : goal.returns-clause-lent
 returns-clause-lent c =
     let f : Fields = fields_of c.args.self.now in
     let h = c.requires.holds in
     let there = c.leave.ensures.replica in
-    let lent = take-lent f h c.args.driver c.args.replica c.args.thread c.requires.allowed c.leave.result there in
+    let lent = take-lent f h c.args.lease c.requires.allowed c.leave.result there in
     record {
       program = lent.0;
       replica = lent.1;
-      going = take-going f h c.args.driver c.args.replica c.args.thread c.requires.allowed c.leave.result there;
-      countable = take-countable f h c.args.driver c.args.replica c.args.thread c.requires.allowed c.leave.result there (omega (arith, c.args.self.now.journal.ok.0));
+      going = take-going f h c.args.lease c.requires.allowed c.leave.result there;
+      countable = take-countable f h c.args.lease c.requires.allowed c.leave.result there (omega (arith, c.args.self.now.journal.ok.0));
     }

@@ -3,10 +3,10 @@ after the definitions and for no speed, so that one shows an error of the other.
 import dataclasses
 
 from auditing.jobs import Entry, Fault, Job
-from auditing.kernel import Blocked, Call, Done, Effect, Ends, Kernel, Parked, Served, opening_kernel
 from auditing.replicas import Change, PageFault, Replica, Stands, Stop, Trap, View
 from fuzzing.machine import PAGE
 from journals import Free, Put, Scrub, Take, Vote
+from kernel import Blocked, Call, Done, Effect, Ends, Kernel, Parked, Served, opening_kernel
 
 
 class Illegal(Exception):

@@ -3,8 +3,8 @@ faults that wait. What an instruction does is told by the machine that tools/fuz
 import dataclasses
 
 from auditing.jobs import Fault, Job
-from auditing.kernel import Call, Effect, Goes, Kernel, is_good_write, moved
-from fuzzing.machine import EBREAK, ECALL, PAGE, WORD, Machine, low_bytes
+from fuzzing.machine import EBREAK, ECALL, PAGE, Machine
+from kernel import WORD, Call, Effect, Kernel, is_good_write, low_bytes, moved
 from racing.machine import made_registers
 
 
@@ -170,9 +170,7 @@ class Replica(Machine):
     def apply(self, effect: Effect):
         """What an event changes; and page faults that are settled by it are forgotten."""
         thread = self.threads[effect.thread]
-        thread.pc = {Goes.STAYS: thread.pc, Goes.NEXT: thread.pc + 4 & WORD, Goes.RETURNS: thread.registers[1]}[effect.goes]
-        if effect.answer is not None:
-            thread.registers[10] = effect.answer
+        effect.move(thread)
         thread.since = 0
         if effect.releases:
             thread.stop = None

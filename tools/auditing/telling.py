@@ -2,11 +2,11 @@
 from auditing.cores import Copy, Core, Judged, Whole, unlike, unlike_whole
 from auditing.drawing import line_of
 from auditing.jobs import Entry, Fault
-from auditing.kernel import Call
 from auditing.reasons import core_behind, reason_of
 from auditing.replicas import PageFault, Stop, Trap, Watchdog
 from fuzzing import readers
 from journals import Vote
+from kernel import Call
 from racing.symbols import REGISTERS
 
 LEFT_OUT = "function", "instruction"  # what a file's symbols of functions and its words tell

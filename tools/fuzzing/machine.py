@@ -1,16 +1,13 @@
 """The machine of docs/GUESTS.md for programs with one thread, written after that page: what a program writes, how it ends and
 after how many votes and steps."""
 from fuzzing import readers
+from kernel import (EXECUTE, HEAP_SIZE, READ, THREADS, WORD, WRITE, Call, Done, Ends, is_good_write, low_bytes, moved,
+                    opening_kernel)
 
-WORD = 0xFFFFFFFF
 PAGE = 4096
-HEAP_SIZE = 1 << 20
-STACKS, STACK_SIZE, STACK_STEP, THREADS = 0x70000000, 0x10000, 0x20000, 16
+STACKS, STACK_SIZE, STACK_STEP = 0x70000000, 0x10000, 0x20000
 RETURN = 0x7FFFFFF0
-MOST_MUTEXES, MOST_BYTES = 256, 4096
-READ, WRITE, EXECUTE = 4, 2, 1
 ECALL, EBREAK = 0x00000073, 0x00100073
-EPERM, ESRCH, EBADF, EAGAIN, EFAULT, EBUSY, EINVAL, EDEADLK, ENOSYS = 1, 3, 9, 11, 14, 16, 22, 35, 38
 
 
 class Ended(Exception):
@@ -28,11 +25,6 @@ def signed(value):
 def extended(value, bits):
     """A field's value with its sign."""
     return (value ^ 1 << bits - 1) - (1 << bits - 1)
-
-
-def low_bytes(value, size):
-    """So many bytes of a number, the lowest first."""
-    return (value & (1 << 8 * size) - 1).to_bytes(size, "little")
 
 
 def quotient(a, b):
@@ -67,10 +59,10 @@ class Machine:
         self.calls = {address: name for name, address in functions.items()}
         self.input, self.output = data, bytearray()
         self.pages, self.ranges = {}, []
-        self.owners = {}
         self.watchdog, self.limit = watchdog, limit
         self.since, self.steps, self.votes = 0, 0, 0
         self.load(file)
+        self.kernel = opening_kernel(self)
         self.registers[2] = STACKS + STACK_SIZE - 16
 
     def load(self, file):
@@ -80,7 +72,7 @@ class Machine:
                 self.ranges.append((segment.address, segment.end, segment.flags))
                 top = max(top, segment.end)
                 self.fill(segment.address, file[segment.offset:segment.offset + segment.file_size])
-        self.heap = self.broken = -(-top // PAGE) * PAGE
+        self.heap = -(-top // PAGE) * PAGE
         self.ranges.append((self.heap, self.heap + HEAP_SIZE, READ | WRITE))
         self.ranges += [(STACKS + STACK_STEP * i, STACKS + STACK_STEP * i + STACK_SIZE, READ | WRITE) for i in range(THREADS)]
 
@@ -127,73 +119,22 @@ class Machine:
 
     # ---- Calls
 
-    def system_call(self, number, a0, a1, a2):
-        """What it answers; an error is negative."""
-        if number in (63, 64):
-            fits, kind = (a0 == 0, WRITE) if number == 63 else (a0 in (1, 2), READ)
-            size = min(a2, MOST_BYTES)
-            if not fits:
-                return -EBADF
-            if size == 0:
-                return 0
-            if not self.permits(a1, size, kind):
-                return -EFAULT
-            if number == 64:
-                self.output += self.bytes_at(a1, size)
-                return size
-            came, self.input = self.input[:size], self.input[size:]
-            self.fill(a1, came)
-            return len(came)
-        if number in (93, 94):
-            raise Ended(f"exit {a0 & 255}")
-        if number == 214:
-            self.broken = a0 if self.heap <= a0 <= self.heap + HEAP_SIZE else self.broken
-            return self.broken
-        return -ENOSYS
-
-    def room(self, place):
-        return place % 4 == 0 and self.permits(place, 4, WRITE)
-
-    def thread_call(self, name, a0, a1, a2):
-        """What it answers to the one thread there is."""
-        if name == b"pthread_exit":
-            raise Ended("exit 0")
-        if name == b"pthread_self":
-            return 0
-        if name == b"pthread_join":
-            return EDEADLK if a0 == 0 else ESRCH
-        if name == b"pthread_create":
-            if a1 or a2 % 4:
-                return EINVAL
-            if not self.room(a0):
-                return EFAULT
+    def call(self, which):
+        """A call of the one thread there is: the number of a system call, or a function's name."""
+        self.vote(1)
+        call = Call(which, *self.registers[10:14])
+        served = self.kernel.serve(0, call)
+        if isinstance(served, Ends):
+            raise Ended(f"exit {served.status}")
+        if not isinstance(served, Done):
+            raise Ended("deadlock")
+        if served.effect.made:
             raise Several
-        if not self.room(a0):
-            return EFAULT
-        if name.startswith(b"pthread_cond_"):
-            return self.condition_call(name, a1)
-        held = self.owners.get(a0, False)
-        if name in (b"pthread_mutex_lock", b"pthread_mutex_trylock"):
-            if held:
-                return EDEADLK if name == b"pthread_mutex_lock" else EBUSY
-            if a0 not in self.owners and len(self.owners) == MOST_MUTEXES:
-                return EAGAIN
-            self.owners[a0] = True
-        elif name == b"pthread_mutex_unlock":
-            if not held:
-                return EPERM
-            self.owners[a0] = False
-        return 0
-
-    def condition_call(self, name, mutex):
-        """The same of a condition variable: nobody waits for it, and whoever does waits for ever."""
-        if name != b"pthread_cond_wait":
-            return 0
-        if not self.room(mutex):
-            return EFAULT
-        if not self.owners.get(mutex, False):
-            return EPERM
-        raise Ended("deadlock")
+        self.kernel = served.kernel
+        if is_good_write(self, call):
+            self.output += self.bytes_at(call.a1, moved(call))
+        self.fill(served.effect.place, served.effect.data)
+        served.effect.move(self)
 
     # ---- Steps
 
@@ -224,15 +165,8 @@ class Machine:
     def step(self):
         pc, x = self.pc, self.registers
         name, word = self.fetched(pc)
-        if name:
-            self.vote(1)
-            x[10] = self.thread_call(name, x[10], x[11], x[12])
-            self.pc = x[1]
-            return
-        if word == ECALL:
-            self.vote(1)
-            x[10] = self.system_call(x[17], x[10], x[11], x[12]) & WORD
-            self.pc = (pc + 4) & WORD
+        if name or word == ECALL:
+            self.call(name.decode() if name else x[17])
             return
         if word == EBREAK:
             self.trap(9)

@@ -5,8 +5,8 @@ import dataclasses
 import enum
 
 from fuzzing import readers
-from fuzzing.machine import (EAGAIN, EBREAK, EBUSY, ECALL, EDEADLK, EFAULT, EINVAL, EPERM, ESRCH, HEAP_SIZE, MOST_MUTEXES,
-                             RETURN, STACKS, STACK_SIZE, STACK_STEP, THREADS, WORD, Ended, Machine)
+from fuzzing.machine import EBREAK, ECALL, RETURN, STACKS, STACK_SIZE, STACK_STEP, Ended, Machine
+from kernel import HEAP_SIZE, THREADS, WORD, Blocked, Call, Effect, Ends, Parked, Served, is_good_write, moved
 
 NONE = range(0)  # no bytes
 SYSTEM_CALLS = {63: "read", 64: "write", 93: "exit", 94: "exit", 214: "brk"}
@@ -22,26 +22,10 @@ class Relation(enum.Enum):
     EXITS = "exits"
 
 
-class Life(enum.Enum):
-    LIVE = "live"
-    EXITED = "exited"
-    JOINED = "joined"
-
-
 @dataclasses.dataclass
 class Thread:
     registers: list[int]
     pc: int
-    life: Life = Life.LIVE
-    value: int = 0  # that it exited with
-
-
-@dataclasses.dataclass
-class Waiter:
-    """A thread between the two steps of a wait for a condition variable."""
-    thread: int
-    condition: int
-    signalled: bool = False
 
 
 @dataclasses.dataclass
@@ -95,7 +79,6 @@ class Replay(Machine):
             raise Refused(f"exe {code}")
         super().__init__(file, functions, data, watchdog=0, limit=0)
         self.threads = [Thread(self.registers, self.pc)]
-        self.waiters: list[Waiter] = []  # in the order of their first steps
         self.ended: str | None = None
         self.now = Step(0, self.pc, ())
 
@@ -113,13 +96,13 @@ class Replay(Machine):
         return self.heap <= address < self.heap + HEAP_SIZE
 
     def held_by(self, thread: int) -> tuple[int, ...]:
-        return tuple(sorted(mutex for mutex, owner in self.owners.items() if owner == thread))
+        return tuple(sorted(mutex for mutex, owner in self.kernel.owners.items() if owner == thread))
 
     # ---- Steps
 
     def has_step(self, thread: int) -> bool:
         """Whether the thread could go on; a call of it that waits is found only by `take`."""
-        return self.ended is None and thread < len(self.threads) and self.threads[thread].life is Life.LIVE
+        return self.ended is None and self.kernel.lives_on(thread)
 
     def take(self, number: int) -> Step:
         """Takes a step of a thread."""
@@ -137,13 +120,13 @@ class Replay(Machine):
         pc, x = thread.pc, thread.registers
         name, word = self.fetched(pc)
         if name:
-            self.pthread(thread, name.decode(), x)
+            self.now.call, self.now.caller = name.decode(), x[1] - 4 & WORD
+            self.serve(thread, Call(name.decode(), *x[10:14]))
             return
         self.now.word, self.now.code = word, range(pc, pc + 4)
         if word == ECALL:
             self.now.call = SYSTEM_CALLS.get(x[17], f"system call {x[17]}")
-            x[10] = self.system_call(x[17], x[10], x[11], x[12]) & WORD
-            thread.pc = (pc + 4) & WORD
+            self.serve(thread, Call(x[17], *x[10:14]))
             return
         if word == EBREAK:
             self.trap(9)
@@ -163,122 +146,46 @@ class Replay(Machine):
         super().store(address, size, value)
         self.now.stored = range(address, address + size)
 
-    def store_word(self, address: int, value: int):
-        self.fill(address, value.to_bytes(4, "little"))
-        self.now.stored = range(address, address + 4)
+    # ---- Calls
 
-    def system_call(self, number, a0, a1, a2):
-        answer = super().system_call(number, a0, a1, a2)
-        if number == 63 and answer > 0:
-            self.now.stored = range(a1, a1 + answer)
-        if number == 64 and answer > 0:
-            self.now.loaded = range(a1, a1 + answer)
-        return answer
-
-    # ---- Threads
-
-    def pthread(self, thread: Thread, name: str, x: list[int]):
-        """A call of a function of POSIX threads."""
-        self.now.call, self.now.caller = name, x[1] - 4 & WORD
-        number = self.now.thread
-        if name == "pthread_exit":
-            self.now.relation, thread.life, thread.value = Relation.EXITS, Life.EXITED, x[10]
-            if all(other.life is not Life.LIVE for other in self.threads):
-                raise Ended("exit 0")
-            return
-        if name == "pthread_self":
-            answer = number
-        elif name == "pthread_create":
-            answer = self.create(x, *x[10:14])
-        elif name == "pthread_join":
-            answer = self.join(number, *x[10:12])
-        elif not self.room(x[10]):
-            answer = EFAULT
-        elif name.startswith("pthread_cond_"):
-            answer = self.on_condition(name.removeprefix("pthread_cond_"), number, *x[10:12])
-        else:
-            answer = self.on_mutex(name.removeprefix("pthread_mutex_"), number, x[10])
-        if answer is not None:
-            x[10], thread.pc = answer, x[1]
-
-    def means(self, relation: Relation, subject: int) -> int:
-        """The answer 0, of a step that means this for the order."""
-        self.now.relation, self.now.subject = relation, subject
-        return 0
-
-    def create(self, creator: list[int], place, attributes, start, argument) -> int:
-        number = len(self.threads)
-        if attributes or start % 4:
-            return EINVAL
-        if not self.room(place):
-            return EFAULT
-        if number == THREADS:
-            return EAGAIN
-        self.threads.append(Thread(made_registers(creator, number, argument), start))
-        self.store_word(place, number)
-        return self.means(Relation.MAKES, number)
-
-    def join(self, caller: int, number: int, place: int) -> int:
-        if number >= len(self.threads):
-            return ESRCH
-        if number == caller:
-            return EDEADLK
-        other = self.threads[number]
-        if other.life is Life.JOINED:
-            return ESRCH
-        if place and not self.room(place):
-            return EFAULT
-        if other.life is Life.LIVE:
+    def serve(self, thread: Thread, call: Call):
+        """A call of a thread: what the kernel says of it, and what that changes."""
+        served = self.kernel.serve(self.now.thread, call)
+        if isinstance(served, Blocked):
             raise NoStep
-        other.life = Life.JOINED
-        if place:
-            self.store_word(place, other.value)
-        return self.means(Relation.JOINS, number)
+        self.now.relation, self.now.subject = meaning(call, served)
+        self.kernel = served.kernel
+        if isinstance(served, Ends):
+            raise Ended(f"exit {served.status}")
+        if not isinstance(served, Parked):
+            self.apply(thread, call, served.effect)
 
-    def on_mutex(self, what: str, caller: int, mutex: int) -> int:
-        if what in ("init", "destroy"):
-            return 0
-        owner = self.owners.get(mutex)
-        if what == "unlock":
-            if owner != caller:
-                return EPERM
-            self.owners[mutex] = None
-            return self.means(Relation.UNLOCKS, mutex)
-        if owner is not None:
-            if what == "trylock":
-                return EBUSY
-            if owner == caller:
-                return EDEADLK
-            raise NoStep
-        if mutex not in self.owners and len(self.owners) == MOST_MUTEXES:
-            return EAGAIN
-        self.owners[mutex] = caller
-        return self.means(Relation.LOCKS, mutex)
+    def apply(self, thread: Thread, call: Call, effect: Effect):
+        if is_good_write(self, call):
+            self.now.loaded = range(call.a1, call.a1 + moved(call))
+            self.output += self.bytes_at(call.a1, moved(call))
+        if effect.data:
+            self.now.stored = range(effect.place, effect.place + len(effect.data))
+            self.fill(effect.place, effect.data)
+        if effect.made:
+            self.threads.append(Thread(made_registers(thread.registers, len(self.threads), effect.made.argument),
+                                       effect.made.start))
+        effect.move(thread)
 
-    def on_condition(self, what: str, caller: int, condition: int, mutex: int) -> int | None:
-        """What it answers; of the first step of a wait None, which leaves the thread at its call."""
-        if what == "wait":
-            return self.wait(caller, condition, mutex) if self.room(mutex) else EFAULT
-        waiting = [waiter for waiter in self.waiters if waiter.condition == condition and not waiter.signalled]
-        for waiter in {"signal": waiting[:1], "broadcast": waiting}.get(what, []):
-            waiter.signalled = True
-        return 0
 
-    def wait(self, caller: int, condition: int, mutex: int) -> int | None:
-        waiter = next((waiter for waiter in self.waiters if waiter.thread == caller), None)
-        owner = self.owners.get(mutex)
-        if waiter is None:
-            if owner != caller:
-                return EPERM
-            self.owners[mutex] = None
-            self.waiters.append(Waiter(caller, condition))
-            self.means(Relation.UNLOCKS, mutex)
-            return None
-        if not waiter.signalled or owner is not None:
-            raise NoStep
-        self.waiters.remove(waiter)
-        self.owners[mutex] = caller
-        return self.means(Relation.LOCKS, mutex)
+def meaning(call: Call, served: Served) -> tuple[Relation, int]:
+    """What a call means for the order, by what came of it."""
+    if call.which == "pthread_exit":
+        return Relation.EXITS, 0
+    if isinstance(served, Parked):
+        return Relation.UNLOCKS, call.a1
+    if isinstance(served, Ends) or served.effect.answer != 0:
+        return Relation.NOTHING, 0
+    if call.which == "pthread_create":
+        return Relation.MAKES, len(served.kernel.lives) - 1
+    return {"pthread_join": (Relation.JOINS, call.a0), "pthread_mutex_unlock": (Relation.UNLOCKS, call.a0),
+            "pthread_mutex_lock": (Relation.LOCKS, call.a0), "pthread_mutex_trylock": (Relation.LOCKS, call.a0),
+            "pthread_cond_wait": (Relation.LOCKS, call.a1)}.get(call.which, (Relation.NOTHING, 0))
 
 
 # ---- Plans

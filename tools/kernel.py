@@ -1,11 +1,33 @@
-"""The kernel of a run, after crates/ro_kernel/specs: what comes of a call. It changes no replica; what is to be changed in each
-of them is an effect (crates/ro_event/specs/Effects.antt)."""
+"""What comes of a call of a program, after docs/GUESTS.md and crates/ro_kernel/specs; for all machines and judges in Python. It
+changes no memory and no thread; what is to be changed there is an effect (crates/ro_event/specs/Effects.antt)."""
 import dataclasses
 import enum
+import typing
 
-from fuzzing.machine import (EAGAIN, EBADF, EBUSY, EDEADLK, EFAULT, EINVAL, ENOSYS, EPERM, ESRCH, HEAP_SIZE, MOST_BYTES,
-                             MOST_MUTEXES, READ, THREADS, WORD, WRITE, Machine, low_bytes)
-from racing.machine import Life
+WORD = 0xFFFFFFFF
+HEAP_SIZE, THREADS, MOST_MUTEXES, MOST_BYTES = 1 << 20, 16, 256, 4096
+READ, WRITE, EXECUTE = 4, 2, 1
+EPERM, ESRCH, EBADF, EAGAIN, EFAULT, EBUSY, EINVAL, EDEADLK, ENOSYS = 1, 3, 9, 11, 14, 16, 22, 35, 38
+
+
+def low_bytes(value: int, size: int) -> bytes:
+    """So many bytes of a number, the lowest first."""
+    return (value & (1 << 8 * size) - 1).to_bytes(size, "little")
+
+
+class Place(typing.Protocol):
+    """What the kernel looks at of the machine that calls; it never changes."""
+    heap: int  # where it begins
+    input: bytes
+
+    def permits(self, address: int, size: int, kind: int) -> bool:
+        """Whether each of the bytes may be read, written or executed."""
+
+
+class Life(enum.Enum):
+    LIVE = "live"
+    EXITED = "exited"
+    JOINED = "joined"
 
 
 @dataclasses.dataclass(frozen=True)
@@ -44,6 +66,12 @@ class Effect:
     page: int | None = None  # a page to back
     made: Made | None = None
     releases: bool = False  # whether the thread's stop goes
+
+    def move(self, thread):
+        """The registers and the pc of its thread behind it."""
+        thread.pc = {Goes.STAYS: thread.pc, Goes.NEXT: thread.pc + 4 & WORD, Goes.RETURNS: thread.registers[1]}[self.goes]
+        if self.answer is not None:
+            thread.registers[10] = self.answer
 
 
 @dataclasses.dataclass
@@ -86,14 +114,19 @@ def moved(call: Call) -> int:
     return min(call.a2, MOST_BYTES)
 
 
-def is_good_write(machine: Machine, call: Call) -> bool:
+def has_room(machine: Place, address: int) -> bool:
+    """Whether a word can be stored there."""
+    return address % 4 == 0 and machine.permits(address, 4, WRITE)
+
+
+def is_good_write(machine: Place, call: Call) -> bool:
     """Whether it is a write that passes its checks."""
     return call.which == 64 and call.a0 in (1, 2) and moved(call) > 0 and machine.permits(call.a1, moved(call), READ)
 
 
 @dataclasses.dataclass
 class Kernel:
-    machine: Machine  # of which ranges, heap and input are looked at, which never change
+    machine: Place
     lives: list[Life]  # one for each thread that was made
     values: dict[int, int]  # by thread, what it exited with
     owners: dict[int, int | None]  # of each mutex that was ever locked
@@ -125,7 +158,7 @@ class Kernel:
                 "pthread_self": lambda: calling.answers(thread)}[call.which]()
 
 
-def opening_kernel(machine: Machine) -> Kernel:
+def opening_kernel(machine: Place) -> Kernel:
     return Kernel(machine, [Life.LIVE], {}, {}, machine.heap)
 
 
@@ -188,7 +221,7 @@ class Calling:
         call, kernel = self.call, self.kernel
         if call.a1 != 0 or call.a2 % 4 != 0:
             return self.answers(EINVAL)
-        if not kernel.machine.room(call.a0):
+        if not has_room(kernel.machine, call.a0):
             return self.answers(EFAULT)
         number = len(kernel.lives)
         if number >= THREADS:
@@ -205,7 +238,7 @@ class Calling:
         life = self.kernel.lives[other]
         if life is Life.JOINED:
             return self.answers(ESRCH)
-        if place != 0 and not self.kernel.machine.room(place):
+        if place != 0 and not has_room(self.kernel.machine, place):
             return self.answers(EFAULT)
         if life is Life.LIVE:
             return Blocked()
@@ -225,7 +258,7 @@ class Calling:
     def on_mutex(self, what: str) -> Served:
         """A mutex is its address; its word must be one that can be stored."""
         mutex, owners = self.call.a0, self.kernel.owners
-        if not self.kernel.machine.room(mutex):
+        if not has_room(self.kernel.machine, mutex):
             return self.answers(EFAULT)
         if what in ("init", "destroy"):
             return self.answers(0)
@@ -244,7 +277,7 @@ class Calling:
 
     def on_condition(self, what: str) -> Served:
         """A condition variable is its address, too."""
-        if not self.kernel.machine.room(self.call.a0):
+        if not has_room(self.kernel.machine, self.call.a0):
             return self.answers(EFAULT)
         if what == "wait":
             return self.wait()
@@ -259,7 +292,7 @@ class Calling:
     def wait(self) -> Served:
         """Two steps: the mutex becomes free and the thread waits; later, signalled, it takes the mutex."""
         kernel, condition, mutex, waiter = self.kernel, self.call.a0, self.call.a1, self.kernel.waiter(self.thread)
-        if not kernel.machine.room(mutex):
+        if not has_room(kernel.machine, mutex):
             return self.answers(EFAULT)
         owner = kernel.owners.get(mutex)
         if waiter is None:

@@ -3,6 +3,7 @@ use Rattle.std.specs.Prelude.{◌≡◌, ℕ, ◌%◌, Bool, true, not, ◌==◌
 use Rattle.std.specs.Option.{option_map}
 use Rattle.std.proofs.Common.{sym, ap, ◌∙◌}
 use Rattle.ro_event.specs.declared.stops.Stop.TheVariants.{Trap, PageFault}
+use Rattle.ro_event.specs.declared.traps.TrapCause.TheVariants.{ForbiddenFetch, MisalignedPc}
 use Rattle.ro_event.specs.declared.calls.Which.TheVariants.{Function}
 use Rattle.ro_event.specs.declared.functions.Function.TheVariants.{Exit}
 use Rattle.ro_event.specs.Table.{call_at}
@@ -21,10 +22,10 @@ use Rattle.ro_exec.specs.Stretches.{IsClear, AreOpenTo, IsLearnt}
 fetch-same : (layout : Layout) (backed more : Backed) (cpu : Cpu) → backed (page_of cpu.pc) ≡ more (page_of cpu.pc) → fetch_stop layout backed cpu ≡ fetch_stop layout more cpu
 unfolding fetch_stop
 fetch-same layout backed more cpu same = ap (λ (b : Bool). first
-    (stop_if (not (cpu.pc % 4 == 0)) (Trap 1)
+    (stop_if (not (cpu.pc % 4 == 0)) (Trap MisalignedPc)
     ∷ stop_if (cpu.pc == exit_place) (call_of cpu (Function Exit))
     ∷ option_map (call_of cpu) (call_at layout.calls cpu.pc)
-    ∷ stop_if (not (permits_of layout.ranges Execute cpu.pc 4)) (Trap 2)
+    ∷ stop_if (not (permits_of layout.ranges Execute cpu.pc 4)) (Trap ForbiddenFetch)
     ∷ stop_if (not b) (PageFault (page_of cpu.pc))
     ∷ [])) same
 

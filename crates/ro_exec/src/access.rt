@@ -3,7 +3,7 @@ ghost use Rattle.std.specs.Prelude.{◌≡◌, ◌/◌, ◌%◌, true, IfOk, Mat
 ghost use Rattle.ro_pages.specs.Bytes.{IsSize};
 ghost use Rattle.ro_exec.specs.Next.{access_stop};
 
-use ro_event::Stop;
+use ro_event::{Stop, TrapCause};
 use ro_limits::PAGE_SIZE;
 use ro_pages::Memory;
 use ro_region::{Kind, Regions};
@@ -17,8 +17,8 @@ pub fn check_access<M: Memory>(
     kind: Kind,
     address: u32,
     size: u32,
-    misaligned: u8,
-    forbidden: u8,
+    misaligned: TrapCause,
+    forbidden: TrapCause,
 ) -> Result<(), Stop>
     requires { IsSize size }
     ensures stop { MatchResult result (λ _. access_stop regions.now (M.backing memory.now) kind (record { place = address; count = size }) misaligned forbidden ≡ None) (λ stop. access_stop regions.now (M.backing memory.now) kind (record { place = address; count = size }) misaligned forbidden ≡ Some stop) }

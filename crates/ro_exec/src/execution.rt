@@ -10,10 +10,10 @@ ghost use Rattle.ro_exec.specs.Steps.{IsStep, IsJump};
 use crate::access::check_access;
 use crate::fetching::call;
 use crate::outcome::Step;
-use crate::{Cpu, traps};
+use crate::Cpu;
 use ro_alu::{alu, muldiv, taken};
 use ro_decode::{Instr, LoadOp, StoreOp};
-use ro_event::{Stop, Which};
+use ro_event::{Stop, TrapCause, Which};
 use ro_pages::Memory;
 use ro_region::{Kind, Regions};
 
@@ -112,7 +112,7 @@ fn jump(cpu: &mut Cpu, rd: u8, target: u32) -> Step
     ensures { IsJump target result cpu.old cpu.new (jumps cpu.old rd target).cpu }
 {
     if target % 4 != 0 {
-        return Step::Stopped(Stop::Trap(traps::MISALIGNED_TARGET));
+        return Step::Stopped(Stop::Trap(TrapCause::MisalignedTarget));
     }
     cpu.set(rd, cpu.pc.wrapping_add(4));
     cpu.pc = target;
@@ -125,7 +125,7 @@ fn branch(cpu: &mut Cpu, target: u32) -> Step
     ensures { IsJump target result cpu.old cpu.new (goes_to cpu.old target).cpu }
 {
     if target % 4 != 0 {
-        return Step::Stopped(Stop::Trap(traps::MISALIGNED_TARGET));
+        return Step::Stopped(Stop::Trap(TrapCause::MisalignedTarget));
     }
     cpu.pc = target;
     Step::Did
@@ -154,8 +154,8 @@ fn execute_load<M: Memory>(
         Kind::Read,
         address,
         load_size(op),
-        traps::MISALIGNED_LOAD,
-        traps::LOAD_FORBIDDEN,
+        TrapCause::MisalignedLoad,
+        TrapCause::ForbiddenLoad,
     ) {
         Ok(()) => give(cpu, rd, load(memory, op, address)),
         Err(stop) => Step::Stopped(stop),
@@ -187,8 +187,8 @@ fn execute_store<M: Memory>(
         Kind::Write,
         address,
         store_size(op),
-        traps::MISALIGNED_STORE,
-        traps::STORE_FORBIDDEN,
+        TrapCause::MisalignedStore,
+        TrapCause::ForbiddenStore,
     ) {
         Ok(()) => {
             store(memory, op, address, cpu.get(rs2));
@@ -237,6 +237,6 @@ pub fn execute<M: Memory>(instr: Instr, cpu: &mut Cpu, memory: &mut M, regions: 
         }
         Instr::Fence { .. } => go_on(cpu),
         Instr::Ecall => Step::Stopped(call(cpu, Which::System(cpu.get(17)))),
-        Instr::Ebreak => Step::Stopped(Stop::Trap(traps::BREAKPOINT)),
+        Instr::Ebreak => Step::Stopped(Stop::Trap(TrapCause::Breakpoint)),
     }
 }

@@ -3,8 +3,8 @@ ghost use Rattle.std.specs.Prelude.{◌≡◌, IfOk, MatchResult, Some, None};
 ghost use Rattle.ro_pages.specs.Bytes.{number_at};
 ghost use Rattle.ro_exec.specs.Next.{call_of, fetch_stop};
 
-use crate::{Cpu, EXIT_PLACE, traps};
-use ro_event::{Call, CallTable, Function, Stop, Which};
+use crate::{Cpu, EXIT_PLACE};
+use ro_event::{Call, CallTable, Function, Stop, TrapCause, Which};
 use ro_limits::PAGE_SIZE;
 use ro_pages::Memory;
 use ro_region::{Kind, Regions};
@@ -23,7 +23,7 @@ pub fn fetch<M: Memory>(
 {
     let pc = cpu.pc;
     if pc % 4 != 0 {
-        return Err(Stop::Trap(traps::MISALIGNED_PC));
+        return Err(Stop::Trap(TrapCause::MisalignedPc));
     }
     if pc == EXIT_PLACE {
         return Err(call(cpu, Which::Function(Function::Exit)));
@@ -32,7 +32,7 @@ pub fn fetch<M: Memory>(
         return Err(call(cpu, which));
     }
     if !regions.permits(pc, 4, Kind::Execute) {
-        return Err(Stop::Trap(traps::FETCH_FORBIDDEN));
+        return Err(Stop::Trap(TrapCause::ForbiddenFetch));
     }
     if !memory.backed(pc / PAGE_SIZE) {
         return Err(Stop::PageFault(pc / PAGE_SIZE));

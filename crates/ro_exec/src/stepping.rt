@@ -6,9 +6,9 @@ ghost use Rattle.ro_exec.specs.Steps.{IsStep};
 use crate::execution::execute;
 use crate::fetching::fetch;
 use crate::outcome::Step;
-use crate::{Cpu, traps};
+use crate::Cpu;
 use ro_decode::decode;
-use ro_event::{CallTable, Stop};
+use ro_event::{CallTable, Stop, TrapCause};
 use ro_pages::Memory;
 use ro_region::Regions;
 
@@ -24,7 +24,7 @@ pub fn step<M: Memory>(cpu: &mut Cpu, memory: &mut M, regions: &Regions, calls: 
     match fetch(cpu, memory, regions, calls) {
         Ok(word) => match decode(word) {
             Some(instr) => execute(instr, cpu, memory, regions),
-            None => Step::Stopped(Stop::Trap(traps::ILLEGAL_INSTRUCTION)),
+            None => Step::Stopped(Stop::Trap(TrapCause::NoInstruction)),
         },
         Err(stop) => Step::Stopped(stop),
     }

@@ -1,6 +1,6 @@
 //! What an audit finds, as data.
 use ro_audit::Why;
-use ro_event::Stop;
+use ro_event::{Stop, TrapCause};
 use ro_faults::Fault;
 use ro_journal::Entry;
 use serde::Serialize;
@@ -45,7 +45,7 @@ pub enum Ended {
     Deadlock(Vec<Waiting>),
     /// The program trapped by this cause, there.
     Trap {
-        cause: u8,
+        cause: TrapCause,
         at: Option<Trapped>,
     },
     /// The plan's steps, how many more would pass the limit, and where each thread stands.

@@ -117,7 +117,7 @@ impl Serialize for Ended {
                 write_named("how", "deadlock", &Member("threads", threads), out)
             }
             Ended::Trap { cause, at } => {
-                let cause = *cause;
+                let cause = cause.number();
                 write_named("how", "trap", &Trap { cause, at }, out)
             }
             Ended::Limit {

@@ -10,7 +10,7 @@ use crate::findings::{
 use crate::lines::WithoutEnd;
 use crate::registers::Named;
 use ro_audit::Why;
-use ro_event::Stop;
+use ro_event::{Stop, TrapCause};
 use ro_faults::fault_text;
 use ro_journal::Entry;
 use ro_journal_text::entry_text;
@@ -176,9 +176,13 @@ fn tell_limit(
 }
 
 // Where the program trapped, and the registers there.
-fn tell_trap(text: &mut String, cause: u8, at: &Option<Trapped>) -> Result<(), AllocError> {
-    let name = trap_name(cause);
-    writeln!(text, "The program trapped by cause {cause}: {name}.")?;
+fn tell_trap(
+    text: &mut String,
+    cause: TrapCause,
+    at: &Option<Trapped>,
+) -> Result<(), AllocError> {
+    let (number, name) = (cause.number(), trap_name(cause));
+    writeln!(text, "The program trapped by cause {number}: {name}.")?;
     let Some(trapped) = at else {
         return Ok(());
     };
@@ -232,18 +236,17 @@ fn stop_name(stop: &Stop) -> &'static str {
     }
 }
 
-fn trap_name(cause: u8) -> &'static str {
+fn trap_name(cause: TrapCause) -> &'static str {
     match cause {
-        1 => "the pc is no multiple of 4",
-        2 => "an instruction is fetched where nothing may be executed",
-        3 => "the word is no instruction",
-        4 => "a jump to no multiple of 4",
-        5 => "a load at an address that is no multiple of its size",
-        6 => "a load where it is not permitted",
-        7 => "a store at an address that is no multiple of its size",
-        8 => "a store where it is not permitted",
-        9 => "EBREAK",
-        _ => "no cause is known",
+        TrapCause::MisalignedPc => "the pc is no multiple of 4",
+        TrapCause::ForbiddenFetch => "an instruction is fetched where nothing may be executed",
+        TrapCause::NoInstruction => "the word is no instruction",
+        TrapCause::MisalignedTarget => "a jump to no multiple of 4",
+        TrapCause::MisalignedLoad => "a load at an address that is no multiple of its size",
+        TrapCause::ForbiddenLoad => "a load where it is not permitted",
+        TrapCause::MisalignedStore => "a store at an address that is no multiple of its size",
+        TrapCause::ForbiddenStore => "a store where it is not permitted",
+        TrapCause::Breakpoint => "EBREAK",
     }
 }
 

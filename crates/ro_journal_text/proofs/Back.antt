@@ -9,6 +9,8 @@ use Rattle.ro_text.specs.Numbers.{are_digits, is_number, value_of, within}
 use Rattle.ro_text.specs.Lines.{spaced, is_plain, parts_of}
 use Rattle.ro_text.proofs.Spellings.{number_spelled, number_value}
 use Rattle.ro_text.proofs.Plain.{number_plain, words_back, line_back}
+use Rattle.ro_event.specs.Traps.{number_of}
+use Rattle.ro_event.proofs.Numbered.{trap-back, number-within}
 use Rattle.ro_journal.specs.declared.Did.{Did}
 use Rattle.ro_journal.specs.declared.Did.TheVariants.{Served, Blocked, Parked, PageBacked, Watch, Trapped}
 use Rattle.ro_journal.specs.declared.How.{How}
@@ -125,7 +127,7 @@ lost_back Second (Two lower higher) h =
 how_back : (how : How) → is_how how ≡ true → Back (how_words how) how_of how
 how_back (Exit status) h = let s = spelled 0 255 status (omega arith) h in (rw (s.plain) refl, rw (s.spells, s.value) refl)
 how_back Deadlock h = (refl, refl)
-how_back (Trap cause) h = let k = spelled 1 9 cause (omega arith) h in (rw (k.plain) refl, rw (k.spells, k.value) refl)
+how_back (Trap cause) h = let k = spelled 1 9 (number_of cause) (omega arith) (number-within cause) in (rw (k.plain) refl, rw (k.spells, k.value, trap-back cause) refl)
 how_back (Limit steps next) h =
     let parts = and_parts (within 0 (10 ^ 12) steps) (within 0 (10 ^ 12) next) h in
     let p = spelled 0 (10 ^ 12) steps (omega arith) parts.0 in

@@ -7,6 +7,9 @@ use Rattle.std.proofs.lemmas.List.Splits.{join_with_byte-slice_split}
 use Rattle.std.proofs.lemmas.Slice.Eq.{bytes_eq-Decides}
 use Rattle.ro_text.specs.Numbers.{is_number, value_of, within}
 use Rattle.ro_text.proofs.Spellings.{number_once}
+use Rattle.ro_event.specs.Traps.{trap_of}
+use Rattle.ro_event.specs.declared.traps.TrapCause.{TrapCause}
+use Rattle.ro_event.proofs.Numbered.{trap-once, number-within}
 use Rattle.ro_journal.specs.declared.Did.{Did}
 use Rattle.ro_journal.specs.declared.Did.TheVariants.{Served, Blocked, Parked, PageBacked, Watch, Trapped}
 use Rattle.ro_journal.specs.declared.How.{How}
@@ -16,7 +19,7 @@ use Rattle.ro_journal.specs.declared.losers.Lost.TheVariants.{Nobody, One, Two}
 use Rattle.ro_journal_text.specs.declared.versions.Version.{Version}
 use Rattle.ro_journal_text.specs.declared.versions.Version.TheVariants.{First, Second}
 use Rattle.ro_journal_text.specs.Texts.{did_word, lost_word, how_words}
-use Rattle.ro_journal_text.specs.Reading.{parked_in, did_of, listed, several_of, several_in, lost_of, how_of, most_replica, is_lost, is_how}
+use Rattle.ro_journal_text.specs.Reading.{parked_in, did_of, listed, several_of, several_in, lost_of, how_of, trapped_by, most_replica, is_lost, is_how}
 
 pub same : (word text : List ℕ) → bytes_eq word text ≡ true → word ≡ text
 same word text e = (bytes_eq-Decides word text).0 e
@@ -113,15 +116,21 @@ bare_once kind how h = elim (pick (bytes_eq kind (codes "deadlock")) (Some Deadl
   ]
 ]
 
+trap_once : (number : List ℕ) (how : How) → is_number number ≡ true → (found : Option TrapCause) → trap_of (value_of number) ≡ found → trapped_by found ≡ how → is_how how ≡ true → how_words how ≡ codes "trap" ∷ number ∷ []
+trap_once number how plain (Some cause) found e fits =
+    let s = trap-once (value_of number) cause found in
+    ap how_words (sym e) ∙ (ap (λ n. codes "trap" ∷ decimal n ∷ []) s ∙ ap (λ w. codes "trap" ∷ w ∷ []) (once 1 9 number (omega arith) plain (ap (within 1 9) (sym s) ∙ number-within cause)))
+trap_once number how plain None found e fits = absurd (false≢true (ap is_how e ∙ fits))
+
 numbered_once : (kind number : List ℕ) (how : How) → how_of (kind ∷ number ∷ []) ≡ Some how → is_how how ≡ true → how_words how ≡ kind ∷ number ∷ []
 numbered_once kind number how h fits =
     let n = chosen (is_number number) _ how h in
     elim (pick (bytes_eq kind (codes "exit")) (Some (Exit (value_of number))) _ how n.1) [
       | inl p ↦ let e = inner (Exit (value_of number)) how p.1 in
           ap how_words (sym e) ∙ rw (same kind (codes "exit") p.0, once 0 255 number (omega arith) n.0 (ap is_how e ∙ fits)) refl
-      | inr q ↦ elim (pick (bytes_eq kind (codes "trap")) (Some (Trap (value_of number))) _ how q.1) [
-        | inl p ↦ let e = inner (Trap (value_of number)) how p.1 in
-            ap how_words (sym e) ∙ rw (same kind (codes "trap") p.0, once 1 9 number (omega arith) n.0 (ap is_how e ∙ fits)) refl
+      | inr q ↦ elim (pick (bytes_eq kind (codes "trap")) (Some (trapped_by (trap_of (value_of number)))) _ how q.1) [
+        | inl p ↦ let e = inner (trapped_by (trap_of (value_of number))) how p.1 in
+            trap_once number how n.0 (trap_of (value_of number)) refl e fits ∙ ap (λ k. k ∷ number ∷ []) (sym (same kind (codes "trap") p.0))
         | inr q ↦ let p = chosen (bytes_eq kind (codes "sink")) (Some (Sink (value_of number))) how q.1 in
             let e = inner (Sink (value_of number)) how p.1 in
             ap how_words (sym e) ∙ rw (same kind (codes "sink") p.0, once 0 4095 number (omega arith) n.0 (ap is_how e ∙ fits)) refl

@@ -138,7 +138,7 @@ fn add_how(text: &mut Text, how: How)
     match how {
         How::Exit(status) => add_numbered(text, "exit", u64::from(status)),
         How::Deadlock => text.add_word("deadlock"),
-        How::Trap(cause) => add_numbered(text, "trap", u64::from(cause)),
+        How::Trap(cause) => add_numbered(text, "trap", u64::from(cause.number())),
         How::Limit { steps, next } => {
             add_numbered(text, "limit", steps);
             text.add_number(next);

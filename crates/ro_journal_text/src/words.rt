@@ -6,6 +6,7 @@ ghost use Rattle.ro_journal_text.specs.Reading.{did_of, has_did, listed, several
 
 use crate::errors::JournalCode;
 use crate::versions::Version;
+use ro_event::TrapCause;
 use ro_journal::{Did, How, Lost};
 use ro_limits::MOST_STEPS;
 use ro_text::{cut_at, is_number, value_within};
@@ -136,8 +137,8 @@ fn read_numbered(kind: &[u8], number: &[u8]) -> Result<How, JournalCode>
             None => Err(JournalCode::Range),
         }
     } else if kind == b"trap".as_slice() {
-        match value_within(number, 1, 9) {
-            Some(cause) => Ok(How::Trap(cause as u8)),
+        match value_within(number, 1, 9).and_then(TrapCause::of_number) {
+            Some(cause) => Ok(How::Trap(cause)),
             None => Err(JournalCode::Range),
         }
     } else if kind == b"sink".as_slice() {

@@ -13,6 +13,8 @@ use Rattle.ro_decode.specs.Table.{instruction_of}
 use Rattle.ro_event.specs.declared.calls.Call.{Call}
 use Rattle.ro_event.specs.declared.stops.Stop.{Stop}
 use Rattle.ro_event.specs.declared.stops.Stop.TheVariants.{Calls, Trap, PageFault, Watchdog}
+use Rattle.ro_event.specs.declared.traps.TrapCause.{TrapCause}
+use Rattle.ro_event.specs.declared.traps.TrapCause.TheVariants.{ForbiddenLoad, ForbiddenStore, MisalignedLoad, MisalignedStore}
 use Rattle.ro_event.specs.declared.calls.Which.{Which}
 use Rattle.ro_event.specs.Table.{call_at}
 use Rattle.ro_region.specs.declared.Range.{Range}
@@ -33,7 +35,7 @@ fault-row backed (Some stop) rows h k = h
 fault-none : (backed : Backed) → IsFault backed None
 fault-none backed page e = absurd cc
 
-fault-trap : (backed : Backed) (b : Bool) (code : ℕ) → IsFault backed (stop_if b (Trap code))
+fault-trap : (backed : Backed) (b : Bool) (code : TrapCause) → IsFault backed (stop_if b (Trap code))
 fault-trap backed true code page e = absurd (let f : Some (Trap code) ≡ Some (PageFault page) = e in cc)
 fault-trap backed false code page e = absurd (let f : None ≡ Some (PageFault page) = e in cc)
 
@@ -60,7 +62,7 @@ fault-last ranges kind place count code backed some true false e k = λ page f.
     let same : page_of place ≡ page = (let g : Some (PageFault (page_of place)) ≡ Some (PageFault page) = f in cc) in
     (subst (λ (n : ℕ). n < 2 ^ 20) same (low-permitted ranges kind place count some e), subst (λ (n : ℕ). backed n ≡ false) same k)
 
-fault-access : (ranges : List Range) (backed : Backed) (kind : Kind) (span : Span) (m f : ℕ) → 0 < span.count → IsFault backed (access_stop ranges backed kind span m f)
+fault-access : (ranges : List Range) (backed : Backed) (kind : Kind) (span : Span) (m f : TrapCause) → 0 < span.count → IsFault backed (access_stop ranges backed kind span m f)
 fault-access ranges backed kind span m f some =
     fault-row backed _ _ (fault-trap backed (not (span.place % span.count == 0)) m)
     (fault-last ranges kind span.place span.count f backed some (permits_of ranges kind span.place span.count) (backed (page_of span.place)) refl refl)
@@ -68,7 +70,7 @@ fault-access ranges backed kind span m f some =
 fault-fetch : (layout : Layout) (backed : Backed) (cpu : Cpu) → IsFault backed (fetch_stop layout backed cpu)
 unfolding fetch_stop
 fault-fetch layout backed cpu =
-    fault-row backed _ _ (fault-trap backed (not (cpu.pc % 4 == 0)) 1)
+    fault-row backed _ _ (fault-trap backed (not (cpu.pc % 4 == 0)) _)
     (fault-row backed _ _ (fault-exit backed (cpu.pc == exit_place) _)
     (fault-row backed _ _ (fault-call backed cpu (call_at layout.calls cpu.pc))
     (fault-last layout.ranges Execute cpu.pc 4 2 backed (omega arith) (permits_of layout.ranges Execute cpu.pc 4) (backed (page_of cpu.pc)) refl refl)))
@@ -89,24 +91,24 @@ fault-instruction : (ranges : List Range) (backed : Backed) (cpu : Cpu) (instr :
 unfolding instruction_stop
 fault-instruction ranges backed cpu (Lui rd imm) = fault-none backed
 fault-instruction ranges backed cpu (Auipc rd imm) = fault-none backed
-fault-instruction ranges backed cpu (Jal rd imm) = fault-trap backed _ 4
-fault-instruction ranges backed cpu (Jalr rd rs1 imm) = fault-trap backed _ 4
-fault-instruction ranges backed cpu (Branch op rs1 rs2 imm) = fault-trap backed _ 4
-fault-instruction ranges backed cpu (Load op rd rs1 imm) = fault-access ranges backed Read (loads (Load op rd rs1 imm) cpu) 5 6 (some-load op)
-fault-instruction ranges backed cpu (Store op rs1 rs2 imm) = fault-access ranges backed Write (stores (Store op rs1 rs2 imm) cpu) 7 8 (some-store op)
+fault-instruction ranges backed cpu (Jal rd imm) = fault-trap backed _ _
+fault-instruction ranges backed cpu (Jalr rd rs1 imm) = fault-trap backed _ _
+fault-instruction ranges backed cpu (Branch op rs1 rs2 imm) = fault-trap backed _ _
+fault-instruction ranges backed cpu (Load op rd rs1 imm) = fault-access ranges backed Read (loads (Load op rd rs1 imm) cpu) MisalignedLoad ForbiddenLoad (some-load op)
+fault-instruction ranges backed cpu (Store op rs1 rs2 imm) = fault-access ranges backed Write (stores (Store op rs1 rs2 imm) cpu) MisalignedStore ForbiddenStore (some-store op)
 fault-instruction ranges backed cpu (AluImm op rd rs1 imm) = fault-none backed
 fault-instruction ranges backed cpu (Alu op rd rs1 rs2) = fault-none backed
 fault-instruction ranges backed cpu (MulDiv op rd rs1 rs2) = fault-none backed
 fault-instruction ranges backed cpu (Fence rd rs1 bits) = fault-none backed
 fault-instruction ranges backed cpu Ecall = fault-exit backed true _
-fault-instruction ranges backed cpu Ebreak = fault-trap backed true 9
+fault-instruction ranges backed cpu Ebreak = fault-trap backed true _
 
 fault-unless : (backed : Backed) (o : Option Stop) (n : Next) → IsFault backed o → IsFault backed (stop_in n) → IsFault backed (stop_in (unless_stop o n))
 fault-unless backed None n h k = k
 fault-unless backed (Some stop) n h k = h
 
 fault-next_at : (ranges : List Range) (backed : Backed) (cpu : Cpu) (o : Option Instr) → IsFault backed (stop_in (next_at ranges backed cpu o))
-fault-next_at ranges backed cpu None = fault-trap backed true 3
+fault-next_at ranges backed cpu None = fault-trap backed true _
 fault-next_at ranges backed cpu (Some instr) = fault-unless backed _ (Executes instr) (fault-instruction ranges backed cpu instr) (fault-none backed)
 
 fault-next : (layout : Layout) (backed : Backed) (m : Memory) (cpu : Cpu) → IsFault backed (stop_in (next layout backed m cpu))

@@ -13,6 +13,8 @@ use Rattle.ro_decode.specs.Table.{instruction_of}
 use Rattle.ro_event.specs.declared.calls.Call.{Call}
 use Rattle.ro_event.specs.declared.stops.Stop.{Stop}
 use Rattle.ro_event.specs.declared.stops.Stop.TheVariants.{Calls, Trap, PageFault, Watchdog}
+use Rattle.ro_event.specs.declared.traps.TrapCause.{TrapCause}
+use Rattle.ro_event.specs.declared.traps.TrapCause.TheVariants.{ForbiddenLoad, ForbiddenStore, MisalignedLoad, MisalignedStore}
 use Rattle.ro_event.specs.declared.calls.Which.{Which}
 use Rattle.ro_event.specs.Table.{call_at}
 use Rattle.ro_region.specs.declared.Range.{Range}
@@ -66,7 +68,7 @@ module _ (backed : Backed) (one other : ℕ) where
   fault-none : IsFault backed one other None
   fault-none page e = absurd (let f : None ≡ Some (PageFault page) = e in cc)
 
-  fault-trap : (b : Bool) (code : ℕ) → IsFault backed one other (stop_if b (Trap code))
+  fault-trap : (b : Bool) (code : TrapCause) → IsFault backed one other (stop_if b (Trap code))
   fault-trap true code page e = absurd (let f : Some (Trap code) ≡ Some (PageFault page) = e in cc)
   fault-trap false code page e = absurd (let f : None ≡ Some (PageFault page) = e in cc)
 
@@ -86,7 +88,7 @@ module _ (backed : Backed) (one other : ℕ) where
       let same : page_of place ≡ page = (let g : Some (PageFault (page_of place)) ≡ Some (PageFault page) = f in cc) in
       (subst (λ (n : ℕ). n < 2 ^ 20) same (low-permitted ranges kind place count some e), subst (λ (n : ℕ). backed n ≡ false) same k, subst (λ (n : ℕ). (n ≡ one) ⊎ (n ≡ other)) same named)
 
-  fault-access : (ranges : List Range) (kind : Kind) (span : Span) (m f : ℕ) → 0 < span.count → (page_of span.place ≡ one) ⊎ (page_of span.place ≡ other) → IsFault backed one other (access_stop ranges backed kind span m f)
+  fault-access : (ranges : List Range) (kind : Kind) (span : Span) (m f : TrapCause) → 0 < span.count → (page_of span.place ≡ one) ⊎ (page_of span.place ≡ other) → IsFault backed one other (access_stop ranges backed kind span m f)
   fault-access ranges kind span m f some named =
       fault-row _ _ (fault-trap (not (span.place % span.count == 0)) m)
       (fault-last ranges kind span.place span.count f some named (permits_of ranges kind span.place span.count) (backed (page_of span.place)) refl refl)
@@ -94,7 +96,7 @@ module _ (backed : Backed) (one other : ℕ) where
   fault-fetch : (layout : Layout) (cpu : Cpu) → page_of cpu.pc ≡ one → IsFault backed one other (fetch_stop layout backed cpu)
   unfolding fetch_stop
   fault-fetch layout cpu here =
-      fault-row _ _ (fault-trap (not (cpu.pc % 4 == 0)) 1)
+      fault-row _ _ (fault-trap (not (cpu.pc % 4 == 0)) _)
       (fault-row _ _ (fault-exit (cpu.pc == exit_place) _)
       (fault-row _ _ (fault-call cpu (call_at layout.calls cpu.pc))
       (fault-last layout.ranges Execute cpu.pc 4 2 (omega arith) (inl here) (permits_of layout.ranges Execute cpu.pc 4) (backed (page_of cpu.pc)) refl refl)))
@@ -103,24 +105,24 @@ module _ (backed : Backed) (one other : ℕ) where
   unfolding instruction_stop
   fault-instruction ranges cpu (Lui rd imm) there = fault-none
   fault-instruction ranges cpu (Auipc rd imm) there = fault-none
-  fault-instruction ranges cpu (Jal rd imm) there = fault-trap _ 4
-  fault-instruction ranges cpu (Jalr rd rs1 imm) there = fault-trap _ 4
-  fault-instruction ranges cpu (Branch op rs1 rs2 imm) there = fault-trap _ 4
-  fault-instruction ranges cpu (Load op rd rs1 imm) there = fault-access ranges Read (loads (Load op rd rs1 imm) cpu) 5 6 (some-load op) (inr there)
-  fault-instruction ranges cpu (Store op rs1 rs2 imm) there = fault-access ranges Write (stores (Store op rs1 rs2 imm) cpu) 7 8 (some-store op) (inr there)
+  fault-instruction ranges cpu (Jal rd imm) there = fault-trap _ _
+  fault-instruction ranges cpu (Jalr rd rs1 imm) there = fault-trap _ _
+  fault-instruction ranges cpu (Branch op rs1 rs2 imm) there = fault-trap _ _
+  fault-instruction ranges cpu (Load op rd rs1 imm) there = fault-access ranges Read (loads (Load op rd rs1 imm) cpu) MisalignedLoad ForbiddenLoad (some-load op) (inr there)
+  fault-instruction ranges cpu (Store op rs1 rs2 imm) there = fault-access ranges Write (stores (Store op rs1 rs2 imm) cpu) MisalignedStore ForbiddenStore (some-store op) (inr there)
   fault-instruction ranges cpu (AluImm op rd rs1 imm) there = fault-none
   fault-instruction ranges cpu (Alu op rd rs1 rs2) there = fault-none
   fault-instruction ranges cpu (MulDiv op rd rs1 rs2) there = fault-none
   fault-instruction ranges cpu (Fence rd rs1 bits) there = fault-none
   fault-instruction ranges cpu Ecall there = fault-exit true _
-  fault-instruction ranges cpu Ebreak there = fault-trap true 9
+  fault-instruction ranges cpu Ebreak there = fault-trap true _
 
   fault-unless : (o : Option Stop) (n : Next) → IsFault backed one other o → IsFault backed one other (stop_in n) → IsFault backed one other (stop_in (unless_stop o n))
   fault-unless None n h k = k
   fault-unless (Some stop) n h k = h
 
   fault-next_at : (ranges : List Range) (cpu : Cpu) (o : Option Instr) → page_of (data_place cpu o) ≡ other → IsFault backed one other (stop_in (next_at ranges backed cpu o))
-  fault-next_at ranges cpu None there = fault-trap true 3
+  fault-next_at ranges cpu None there = fault-trap true _
   fault-next_at ranges cpu (Some instr) there = fault-unless _ (Executes instr) (fault-instruction ranges cpu instr there) fault-none
 
 -- the two pages that a thread's next step may need

@@ -9,6 +9,7 @@ use Rattle.ro_event.specs.declared.calls.Which.{Which}
 use Rattle.ro_event.specs.declared.calls.Call.{Call}
 use Rattle.ro_event.specs.declared.stops.Stop.{Stop}
 use Rattle.ro_event.specs.declared.stops.Stop.TheVariants.{Calls, Trap, PageFault, Watchdog}
+use Rattle.ro_event.specs.declared.traps.TrapCause.TheVariants.{NoInstruction}
 use Rattle.ro_event.specs.Table.{call_at}
 use Rattle.ro_region.specs.declared.Range.{Range}
 use Rattle.ro_region.specs.declared.Kind.TheVariants.{Execute}
@@ -48,7 +49,7 @@ pub was-read : (layout : Layout) (memory : Memory) (cpu : Cpu) (instr : Instr) �
 was-read layout memory cpu instr e = by (fetch_stop layout all_backed cpu) refl
   where
     word : (o : Option Instr) → next_at layout.ranges all_backed cpu o ≡ Executes instr → o ≡ Some instr
-    word None f = absurd (let g : Stands (Trap 3) ≡ Executes instr = f in cc)
+    word None f = absurd (let g : Stands (Trap NoInstruction) ≡ Executes instr = f in cc)
     word (Some other) f = at (instruction_stop layout.ranges all_backed cpu other) f
       where
         at : (o : Option Stop) → unless_stop o (Executes other) ≡ Executes instr → Some other ≡ Some instr

@@ -3,6 +3,7 @@ ghost use Rattle.std.specs.Prelude.{◌≡◌, ℕ, true, false, not, List, [], 
 ghost use Rattle.ro_event.specs.declared.calls.Which.TheVariants.{System, Function};
 ghost use Rattle.ro_event.specs.declared.functions.Function.TheVariants.{Create, Lock, TryLock, Unlock, Wait};
 ghost use Rattle.ro_event.specs.declared.stops.Stop.TheVariants.{Calls, Trap};
+ghost use Rattle.ro_event.specs.declared.traps.TrapCause.TheVariants.{NoInstruction};
 ghost use Rattle.ro_decode.specs.declared.Instr.TheVariants.{Ecall};
 ghost use Rattle.ro_exec.specs.Next.{all_backed, Stands, Executes};
 ghost use Rattle.ro_kernel.specs.Kernel.{opening_kernel};
@@ -48,7 +49,7 @@ pub fn turn_row()
     ensures first_unlock { turn_by two_locks in_table (opening_kernel 0x11000) 0 (Stands (Calls (call_on (Function Unlock) its_mutex))) ≡ Serves }
     ensures trylock { turn_by two_locks in_table (kernel_with None) 1 (Stands (Calls (call_on (Function TryLock) its_mutex))) ≡ Serves }
     ensures others { map (λ which. turn_by two_locks in_table (kernel_with None) 1 (Stands (Calls (call_on which its_mutex)))) ((Function Create) ∷ (Function Wait) ∷ System 64 ∷ []) ≡ replicate 3 Serves }
-    ensures trap { turn_by two_locks in_table (kernel_with None) 1 (Stands (Trap 3)) ≡ Serves }
+    ensures trap { turn_by two_locks in_table (kernel_with None) 1 (Stands (Trap NoInstruction)) ≡ Serves }
     ensures mutex { map (λ turn. takes turn (OfMutex its_mutex)) (Gets its_mutex ∷ Gets 0x100B8 ∷ Alone ∷ Serves ∷ []) ≡ true ∷ replicate 3 false }
     ensures kernel { map (λ turn. takes turn OfKernel) (Serves ∷ Gets its_mutex ∷ Alone ∷ []) ≡ true ∷ replicate 2 false }
 {}

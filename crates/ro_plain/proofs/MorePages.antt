@@ -8,6 +8,8 @@ use Rattle.ro_decode.specs.declared.Instr.TheVariants.{Lui, Auipc, Jal, Jalr, Br
 use Rattle.ro_decode.specs.Table.{instruction_of}
 use Rattle.ro_event.specs.declared.stops.Stop.{Stop}
 use Rattle.ro_event.specs.declared.stops.Stop.TheVariants.{Trap, PageFault}
+use Rattle.ro_event.specs.declared.traps.TrapCause.{TrapCause}
+use Rattle.ro_event.specs.declared.traps.TrapCause.TheVariants.{ForbiddenFetch, ForbiddenLoad, ForbiddenStore, MisalignedLoad, MisalignedPc, MisalignedStore}
 use Rattle.ro_event.specs.declared.calls.Which.TheVariants.{Function}
 use Rattle.ro_event.specs.declared.functions.Function.TheVariants.{Exit}
 use Rattle.ro_event.specs.Table.{call_at}
@@ -48,7 +50,7 @@ row more (Some stop) xs ys h = same_stop
 
 module _ (backed more : Backed) (h : IsMore backed more) where
   -- a load or a store
-  access-more : (ranges : List Range) (kind : Kind) (span : Span) (m f : ℕ) → MoreStop more (access_stop ranges backed kind span m f) (access_stop ranges more kind span m f)
+  access-more : (ranges : List Range) (kind : Kind) (span : Span) (m f : TrapCause) → MoreStop more (access_stop ranges backed kind span m f) (access_stop ranges more kind span m f)
   access-more ranges kind span m f =
       row more (stop_if (not (span.place % span.count == 0)) (Trap m)) _ _
       (row more (stop_if (not (permits_of ranges kind span.place span.count)) (Trap f)) _ _
@@ -58,10 +60,10 @@ module _ (backed more : Backed) (h : IsMore backed more) where
   pub fetch-more : (layout : Layout) (cpu : Cpu) → MoreStop more (fetch_stop layout backed cpu) (fetch_stop layout more cpu)
   unfolding fetch_stop
   fetch-more layout cpu =
-      row more (stop_if (not (cpu.pc % 4 == 0)) (Trap 1)) _ _
+      row more (stop_if (not (cpu.pc % 4 == 0)) (Trap MisalignedPc)) _ _
       (row more (stop_if (cpu.pc == exit_place) (call_of cpu (Function Exit))) _ _
       (row more (option_map (call_of cpu) (call_at layout.calls cpu.pc)) _ _
-      (row more (stop_if (not (permits_of layout.ranges Execute cpu.pc 4)) (Trap 2)) _ _
+      (row more (stop_if (not (permits_of layout.ranges Execute cpu.pc 4)) (Trap ForbiddenFetch)) _ _
       (last-row more (page_of cpu.pc) (backed (page_of cpu.pc)) (more (page_of cpu.pc)) (h.keeps (page_of cpu.pc)) refl))))
 
   -- a stop at the instruction
@@ -72,8 +74,8 @@ module _ (backed more : Backed) (h : IsMore backed more) where
   instruction-more ranges cpu (Jal rd imm) = same_stop
   instruction-more ranges cpu (Jalr rd rs1 imm) = same_stop
   instruction-more ranges cpu (Branch op rs1 rs2 imm) = same_stop
-  instruction-more ranges cpu (Load op rd rs1 imm) = access-more ranges Read (loads (Load op rd rs1 imm) cpu) 5 6
-  instruction-more ranges cpu (Store op rs1 rs2 imm) = access-more ranges Write (stores (Store op rs1 rs2 imm) cpu) 7 8
+  instruction-more ranges cpu (Load op rd rs1 imm) = access-more ranges Read (loads (Load op rd rs1 imm) cpu) MisalignedLoad ForbiddenLoad
+  instruction-more ranges cpu (Store op rs1 rs2 imm) = access-more ranges Write (stores (Store op rs1 rs2 imm) cpu) MisalignedStore ForbiddenStore
   instruction-more ranges cpu (AluImm op rd rs1 imm) = same_stop
   instruction-more ranges cpu (Alu op rd rs1 rs2) = same_stop
   instruction-more ranges cpu (MulDiv op rd rs1 rs2) = same_stop

@@ -5,7 +5,7 @@ ghost use Rattle.ro_faults.specs.Texts.{is_target};
 ghost use Rattle.ro_replica.specs.Seen.{AreFaults, CanCount};
 
 use super::*;
-use ro_event::{Call, Stop, Which};
+use ro_event::{Call, Stop, TrapCause, Which};
 use ro_faults::{Fault, Target};
 use ro_image::{Executable, read_executable};
 use ro_region::Regions;
@@ -167,7 +167,7 @@ fn byte(address: u32, bit: u8) -> Target {
 enum End {
     // The exit, with what is in x10.
     Exit,
-    Trap(u8),
+    Trap(TrapCause),
 }
 
 fn stop_of(end: End, x10: u32) -> Stop {
@@ -269,7 +269,7 @@ const STRIKES: &[Strike] = &[
         at: 1,
         target: Target::Pc { bit: 0 },
         count: 1,
-        end: End::Trap(1),
+        end: End::Trap(TrapCause::MisalignedPc),
         x10: 7,
         x31: 0,
         pc: 0x1_0059,
@@ -301,7 +301,7 @@ const STRIKES: &[Strike] = &[
             address: 0x1_0066,
             bit: 4,
         },
-        end: End::Trap(9),
+        end: End::Trap(TrapCause::Breakpoint),
         ..STRIKE
     },
     // of no permitted range, and of an unbacked page

@@ -2,6 +2,7 @@
 ghost use Rattle.std.specs.Prelude.{◌≡◌, ◌≤◌, ◌++◌, length, codes, decimal};
 ghost use Rattle.ro_report.specs.Report.{answer_text};
 
+use ro_event::TrapCause;
 use ro_faults::FaultsCode;
 use ro_journal_text::JournalCode;
 use ro_text::{Line, Text};
@@ -27,7 +28,7 @@ pub enum Answer {
     /// No thread of the program could go on.
     Deadlock,
     /// The program could not go on, for the cause of this number.
-    Trap(u8),
+    Trap(TrapCause),
     /// The plan was run, and the program has not ended and could go on.
     Unended,
     /// Two replicas differed.
@@ -68,7 +69,7 @@ pub fn answer_line(answer: &Answer) -> Line
     match *answer {
         Answer::Exit(status) => numbered("answer exit ", u64::from(status)),
         Answer::Deadlock => fixed("answer deadlock"),
-        Answer::Trap(cause) => numbered("answer trap ", u64::from(cause)),
+        Answer::Trap(cause) => numbered("answer trap ", u64::from(cause.number())),
         Answer::Unended => fixed("answer unended"),
         Answer::Differ => fixed("answer differ"),
         Answer::NoMajority => fixed("answer no-majority"),

@@ -4,6 +4,7 @@ ghost use Rattle.ro_decode.specs.Table.{instruction_of, word_of};
 ghost use Rattle.ro_event.specs.declared.calls.Which.TheVariants.{System, Function};
 ghost use Rattle.ro_event.specs.declared.functions.Function.TheVariants.{Create, Join, Exit, ThreadSelf, MutexInit, MutexDestroy, Lock, TryLock, Unlock, ConditionInit, ConditionDestroy, Wait, Signal, Broadcast};
 ghost use Rattle.ro_event.specs.declared.stops.Stop.TheVariants.{Trap};
+ghost use Rattle.ro_event.specs.Traps.{number_of, causes};
 ghost use Rattle.ro_event.specs.Functions.{names};
 ghost use Rattle.ro_event.specs.Table.{call_at};
 ghost use Rattle.ro_region.specs.declared.Kind.TheVariants.{Write, Execute};
@@ -67,10 +68,11 @@ pub fn errors_row()
     ensures full { answer (kernel_with four (unheld 256)) (Function Lock) 0x100E0 0 0 ∷ answer (kernel_with four (unheld 256)) (Function TryLock) 0x100E0 0 0 ∷ answer (kernel_with four (unheld 255)) (Function Lock) 0x100E0 0 0 ∷ [] ≡ Some 11 ∷ Some 11 ∷ Some 0 ∷ [] }
 {}
 
-/// A row: the nine traps: a misaligned pc, a fetch that is not permitted, no instruction, a misaligned target, a
+/// A row: the nine traps, in the order of their numbers: a misaligned pc, a fetch that is not permitted, no instruction, a misaligned target, a
 /// misaligned and a forbidden load, a misaligned and a forbidden store, EBREAK.
 pub fn traps_row()
-    ensures traps { next_of 0 0x10002 ∷ next_of 0 0x70000000 ∷ next_of 0 0x10000 ∷ next_of 0x0020006F 0x10000 ∷ next_of 0x00102283 0x10000 ∷ next_of 0x00002283 0x10000 ∷ next_of 0x00002123 0x10000 ∷ next_of 0x00002023 0x10000 ∷ next_of 0x00100073 0x10000 ∷ [] ≡ map (λ code. Stands (Trap code)) (1 ∷ 2 ∷ 3 ∷ 4 ∷ 5 ∷ 6 ∷ 7 ∷ 8 ∷ 9 ∷ []) }
+    ensures traps { next_of 0 0x10002 ∷ next_of 0 0x70000000 ∷ next_of 0 0x10000 ∷ next_of 0x0020006F 0x10000 ∷ next_of 0x00102283 0x10000 ∷ next_of 0x00002283 0x10000 ∷ next_of 0x00002123 0x10000 ∷ next_of 0x00002023 0x10000 ∷ next_of 0x00100073 0x10000 ∷ [] ≡ map (λ cause. Stands (Trap cause)) causes }
+    ensures numbers { map number_of causes ≡ 1 ∷ 2 ∷ 3 ∷ 4 ∷ 5 ∷ 6 ∷ 7 ∷ 8 ∷ 9 ∷ [] }
 {}
 
 /// A row: thread 0 begins with its stack, and a thread that is made with its stack, its creator's gp, its number, its argument

@@ -9,6 +9,7 @@ use Rattle.ro_event.specs.declared.calls.Call.{Call}
 use Rattle.ro_event.specs.declared.effects.Made.{Made}
 use Rattle.ro_event.specs.declared.stops.Stop.{Stop}
 use Rattle.ro_event.specs.declared.stops.Stop.TheVariants.{Calls, Trap, PageFault, Watchdog}
+use Rattle.ro_event.specs.declared.traps.TrapCause.{TrapCause}
 use Rattle.ro_event.specs.Effects.{Effect}
 use Rattle.ro_journal.specs.declared.Did.{Did}
 use Rattle.ro_journal.specs.declared.Did.TheVariants.{Blocked as WasBlocked, Parked as WasParked, PageBacked, Watch, Trapped}
@@ -226,7 +227,7 @@ module _ (job : Job) (free : RaceFree job.program) (before : List ℕ) (backed :
     step-of-call = call-step _ refl (serve-own (setup_of job.program) middle.kernel t call) (serve-tidy (setup_of job.program) middle.kernel t call)
 
   -- the event of a trap
-  trap-step : (code : ℕ) → next_of job.program middle cpu ≡ Stands (Trap code) → HasEvent job backed machine middle t (record { did = Trapped; kernel = middle.kernel; effect = quiet_effect t None false; payload = []; blocked = None; due = Some (TrapHow code) })
+  trap-step : (code : TrapCause) → next_of job.program middle cpu ≡ Stands (Trap code) → HasEvent job backed machine middle t (record { did = Trapped; kernel = middle.kernel; effect = quiet_effect t None false; payload = []; blocked = None; due = Some (TrapHow code) })
   trap-step code stands = (
     record middle { ended = Some (TrapHow code) },
     record {

@@ -1,7 +1,7 @@
 //! Places and variables of a program, with what its executable and its memory say of them.
 use ro_assembly::{address_touched, instruction_text};
 use ro_audit::Trail;
-use ro_event::{Stop, View};
+use ro_event::{Stop, TrapCause, View};
 use ro_findings::{Instruction, Place, Symbol, Variable};
 use ro_image::{Within, function_at, object_at};
 use std::alloc::{AllocError, Global};
@@ -68,7 +68,10 @@ pub(crate) fn instruction_at(
 
 // Whether a trap is that of a pc at no multiple of 4, or of a fetch that is not permitted.
 fn is_unfetched(stop: &Stop) -> bool {
-    matches!(stop, Stop::Trap(1 | 2))
+    matches!(
+        stop,
+        Stop::Trap(TrapCause::MisalignedPc | TrapCause::ForbiddenFetch)
+    )
 }
 
 // A word of the first replica's memory.

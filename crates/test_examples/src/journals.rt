@@ -2,6 +2,7 @@
 ghost use Rattle.std.specs.Prelude.{◌≡◌};
 ghost use Rattle.ro_journal.specs.Leases.{lease_to};
 
+use ro_event::TrapCause;
 use ro_journal::{Did, Entry, How, Lease, Lost};
 use ro_journal_text::{JournalError, entry_text, journal_text, read_journal};
 use std::alloc::Global;
@@ -134,7 +135,7 @@ const WRITTEN: &[Written] = &[
         line: "end deadlock\n",
     },
     Written {
-        entry: Entry::End { how: How::Trap(9) },
+        entry: Entry::End { how: How::Trap(TrapCause::Breakpoint) },
         line: "end trap 9\n",
     },
     Written {

@@ -2,6 +2,7 @@
 ghost use Rattle.std.specs.Prelude.{◌≡◌};
 ghost use Rattle.ro_journal.specs.Leases.{lease_to};
 
+use ro_event::TrapCause;
 use ro_faults::FaultsCode;
 use ro_journal::{Did, Entry, How, Lease, Lost};
 use ro_journal_text::{JournalCode, entry_text, header};
@@ -14,7 +15,7 @@ fn answers(rt: HostRuntime) {
         (Answer::Exit(7), "answer exit 7\n"),
         (Answer::Exit(255), "answer exit 255\n"),
         (Answer::Deadlock, "answer deadlock\n"),
-        (Answer::Trap(2), "answer trap 2\n"),
+        (Answer::Trap(TrapCause::ForbiddenFetch), "answer trap 2\n"),
         (Answer::Differ, "answer differ\n"),
         (Answer::NoMajority, "answer no-majority\n"),
         (

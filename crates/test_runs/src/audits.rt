@@ -2,6 +2,7 @@
 ghost use Rattle.ro_replica.specs.Seen.{AreFaults};
 
 use ro_audit::{AuditError, audit};
+use ro_event::TrapCause;
 use ro_faults::{Fault, Target};
 use ro_image::{Executable, read_executable};
 use ro_journal::How;
@@ -142,7 +143,7 @@ const LEGAL: &[Row] = &[
     Row { title: "two that differ at a scrub", of: Of::Unread, lines: &["take 0 0 0", "put 0 0 0 2 0", "take 0 1 0", "put 0 1 0 2 1", "end differ"], want: Want::Legal(Some(How::Differ), 0, "", 0) },
     Row { title: "a difference that no vote sees", of: Of::Unread, lines: &["take 0 0 0", "put 0 0 0 2 0", "take 0 1 0", "put 0 1 0 2 1", "vote 0 2 0 - served", "end exit 7"], want: Want::Legal(Some(How::Exit(7)), 3, "", 0) },
     Row { title: "a write", of: Of::Hello, lines: FRONT, want: Want::Legal(None, 6, "hello", 0) },
-    Row { title: "a trap", of: Of::Broken, lines: &["take 0 0 0", "put 0 0 0 0 0", "take 0 1 0", "put 0 1 0 0 0", "vote 0 0 0 - trapped", "end trap 3"], want: Want::Legal(Some(How::Trap(3)), 1, "", 0) },
+    Row { title: "a trap", of: Of::Broken, lines: &["take 0 0 0", "put 0 0 0 0 0", "take 0 1 0", "put 0 1 0 0 0", "vote 0 0 0 - trapped", "end trap 3"], want: Want::Legal(Some(How::Trap(TrapCause::NoInstruction)), 1, "", 0) },
 ];
 
 // One entry of `EXIT` changed, dropped, doubled or swapped with the next.

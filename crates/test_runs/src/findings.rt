@@ -1,6 +1,6 @@
 //! What is told of findings, in sentences and as JSON; and what is found of some journals.
 use ro_audit::Why;
-use ro_event::{Call, Function, Stop, Which};
+use ro_event::{Call, Function, Stop, TrapCause, Which};
 use ro_findings::{
     Ended, Field, Findings, Instruction, Place, Split, Standing, State, Symbol, Trapped, Variable,
     Verdict, Waiting,
@@ -242,7 +242,7 @@ fn standing(alloc: Global) -> Result<Vec<Standing>, AllocError> {
     let mut threads = Vec::new(alloc);
     let stops = [
         Stop::Calls(LOCK),
-        Stop::Trap(3),
+        Stop::Trap(TrapCause::NoInstruction),
         Stop::PageFault(16),
         Stop::Watchdog,
     ];

@@ -1,5 +1,5 @@
 //! Runs of a thread over a small loop: three turns of a store, a count down and a branch, and then a word that stops.
-use ro_event::{Call, CallTable, FUNCTIONS, Function, Stop, Which};
+use ro_event::{Call, CallTable, FUNCTIONS, Function, Stop, TrapCause, Which};
 use ro_exec::{Cpu, Learnt};
 use ro_pages::{Memory, Pages};
 use ro_region::{Range, Regions};
@@ -159,12 +159,12 @@ fn stops(rt: HostRuntime) -> Result<(), Fail> {
     let mut pages = memory(&rt, rt.alloc(), ECALL)?;
     for (word, x7, stop) in [
         (ECALL, 0, Stop::Calls(call(Which::System(93)))),
-        (EBREAK, 0, Stop::Trap(9)),
-        (0, 0, Stop::Trap(3)),
-        (LOAD, DATA + 1, Stop::Trap(5)),
-        (LOAD, DATA + 4, Stop::Trap(6)),
+        (EBREAK, 0, Stop::Trap(TrapCause::Breakpoint)),
+        (0, 0, Stop::Trap(TrapCause::NoInstruction)),
+        (LOAD, DATA + 1, Stop::Trap(TrapCause::MisalignedLoad)),
+        (LOAD, DATA + 4, Stop::Trap(TrapCause::ForbiddenLoad)),
         (LOAD, UNBACKED + 8, Stop::PageFault(0x12)),
-        (JUMP, 2, Stop::Trap(4)),
+        (JUMP, 2, Stop::Trap(TrapCause::MisalignedTarget)),
     ] {
         put(&rt, &mut pages, CODE + 12, word);
         put(&rt, &mut pages, DATA, 77);
@@ -200,7 +200,7 @@ fn stops_where_it_jumps(rt: HostRuntime) -> Result<(), Fail> {
             0x7FFF_FFF0,
             Stop::Calls(call(Which::Function(Function::Exit))),
         ),
-        (DATA, Stop::Trap(2)),
+        (DATA, Stop::Trap(TrapCause::ForbiddenFetch)),
         (UNBACKED, Stop::PageFault(0x12)),
     ] {
         let mut thread = thread(0, x7);
@@ -232,7 +232,7 @@ fn counts(rt: HostRuntime) -> Result<(), Fail> {
         (0, 4, 10_000, 4, None, 2, CODE + 4, 2),
         // all of the loop, where a stop stands then, and one more
         (0, 9, 10_000, 9, None, 0, CODE + 12, 1),
-        (0, 10, 10_000, 9, Some(Stop::Trap(9)), 0, CODE + 12, 1),
+        (0, 10, 10_000, 9, Some(Stop::Trap(TrapCause::Breakpoint)), 0, CODE + 12, 1),
         // the watchdog before the first instruction, with nothing to do and with all
         (7, 0, 7, 0, None, 3, CODE, 77),
         (7, 9, 7, 0, Some(Stop::Watchdog), 3, CODE, 77),
@@ -243,7 +243,7 @@ fn counts(rt: HostRuntime) -> Result<(), Fail> {
         (3, 9, 7, 4, Some(Stop::Watchdog), 2, CODE + 4, 2),
         // at the place of another stop it is the watchdog's
         (1, 4096, 10, 9, Some(Stop::Watchdog), 0, CODE + 12, 1),
-        (1, 4096, 11, 9, Some(Stop::Trap(9)), 0, CODE + 12, 1),
+        (1, 4096, 11, 9, Some(Stop::Trap(TrapCause::Breakpoint)), 0, CODE + 12, 1),
         (0, 9, 4_294_967_295, 9, None, 0, CODE + 12, 1),
         (
             4_294_967_294,
@@ -280,9 +280,9 @@ fn quanta(rt: HostRuntime) -> Result<(), Fail> {
     let guest = small_guest(rt.alloc())?;
     let mut pages = memory(&rt, rt.alloc(), EBREAK)?;
     for (quantum, watchdog, count, stop, x6, pc, stored) in [
-        (1, 10_000, 9, Stop::Trap(9), 0, CODE + 12, 1),
-        (2, 10_000, 9, Stop::Trap(9), 0, CODE + 12, 1),
-        (4096, 10_000, 9, Stop::Trap(9), 0, CODE + 12, 1),
+        (1, 10_000, 9, Stop::Trap(TrapCause::Breakpoint), 0, CODE + 12, 1),
+        (2, 10_000, 9, Stop::Trap(TrapCause::Breakpoint), 0, CODE + 12, 1),
+        (4096, 10_000, 9, Stop::Trap(TrapCause::Breakpoint), 0, CODE + 12, 1),
         (1, 8, 8, Stop::Watchdog, 0, CODE + 8, 1),
         (2, 8, 8, Stop::Watchdog, 0, CODE + 8, 1),
         (4096, 8, 8, Stop::Watchdog, 0, CODE + 8, 1),

@@ -1,7 +1,9 @@
 //! Reading the headers of a file.
 ghost use Rattle.std.specs.Prelude.{◌≡◌, ◌<◌, ◌≤◌, IfOk, IfErr, Some, None, All, AllPairs, length};
+ghost use Rattle.ro_elf.specs.Errors.{number_of};
 ghost use Rattle.ro_elf.specs.Elf.{memory_of, bad_headers, elf_of, IsLoaded, SharesNone};
 
+use crate::errors::ExeError;
 use crate::header::{
     E_ENTRY, E_PHNUM, E_PHOFF, MOST_PROGRAM_HEADERS, SectionTable, bad_header, section_table,
 };
@@ -12,12 +14,6 @@ use std::marker::Model;
 
 /// How many segments an executable may have.
 pub const MOST_SEGMENTS: usize = MOST_PROGRAM_HEADERS;
-
-/// A file is no executable that is accepted: the code of the first check that it fails.
-#[derive(Clone, Copy, Debug, PartialEq, Eq)]
-pub struct BadExe {
-    pub code: u8,
-}
 
 /// What the headers of an accepted executable say.
 #[derive(Drop)]
@@ -62,11 +58,11 @@ impl Elf {
 /// linked (ELF32; RISC-V psABI). Section headers aren't looked at.
 ///
 /// # Errors
-/// The code, 1 to 15, of the first check that the file fails, exactly where it fails one.
-pub fn read_elf(bytes: &[u8]) -> Result<Elf, BadExe>
+/// The first check that the file fails, of those with the numbers 1 to 15, exactly where it fails one.
+pub fn read_elf(bytes: &[u8]) -> Result<Elf, ExeError>
     ensures accepted { IfOk result (λ elf. bad_headers bytes.now ≡ None) }
     ensures read { IfOk result (λ elf. elf ≡ elf_of bytes.now) }
-    ensures refused { IfErr result (λ bad. bad_headers bytes.now ≡ Some bad.code) }
+    ensures refused { IfErr result (λ error. bad_headers bytes.now ≡ Some (number_of error)) }
 
     // Each segment has its bytes in the file, and its place in memory, which is its own.
     ensures loaded { IfOk result (λ elf. All (IsLoaded (length bytes.now)) elf.segments) }
@@ -76,8 +72,8 @@ pub fn read_elf(bytes: &[u8]) -> Result<Elf, BadExe>
     ensures some { IfOk result (λ elf. 0 < memory_of elf.segments) }
     ensures few { IfOk result (λ elf. memory_of elf.segments ≤ 4194304) }
 {
-    if let Some(code) = bad_header(bytes) {
-        return Err(BadExe { code });
+    if let Some(error) = bad_header(bytes) {
+        return Err(error);
     }
     let headers = headers_at(
         bytes,
@@ -92,7 +88,7 @@ pub fn read_elf(bytes: &[u8]) -> Result<Elf, BadExe>
         headers.as_slice(),
         segments.as_slice(),
     ) {
-        Some(code) => Err(BadExe { code }),
+        Some(error) => Err(error),
         None => Ok(Elf {
             entry,
             sections: section_table(bytes),

@@ -1,8 +1,11 @@
 //! The header of a file.
 ghost use Rattle.std.specs.Prelude.{◌≡◌, ◌≤◌, IfNone, length};
+ghost use Rattle.std.specs.Option.{option_map};
 ghost use Rattle.ro_elf.specs.Checks.{first_failing};
+ghost use Rattle.ro_elf.specs.Errors.{number_of};
 ghost use Rattle.ro_elf.specs.Header.{header_checks, has_version_one as version_one, has_header_sizes, holds_headers, HoldsHeaders, section_table_of};
 
+use crate::errors::ExeError;
 use crate::numbers::{half_at, word_at};
 
 /// The size of the header, in bytes.
@@ -80,31 +83,31 @@ pub(crate) fn section_table(bytes: &[u8]) -> SectionTable
     }
 }
 
-// The code of the first check of the header that the file fails.
-pub(crate) fn bad_header(bytes: &[u8]) -> Option<u8>
-    ensures first { result ≡ first_failing (header_checks bytes.now) }
+// The first check of the header that the file fails.
+pub(crate) fn bad_header(bytes: &[u8]) -> Option<ExeError>
+    ensures first { option_map number_of result ≡ first_failing (header_checks bytes.now) }
     ensures whole { IfNone result (HoldsHeaders bytes.now) }
 {
     if bytes.len() < HEADER_SIZE {
-        Some(1)
+        Some(ExeError::Short)
     } else if !bytes.starts_with(&MAGIC) {
-        Some(2)
+        Some(ExeError::Magic)
     } else if bytes[EI_CLASS] != ELFCLASS32 {
-        Some(3)
+        Some(ExeError::Class)
     } else if bytes[EI_DATA] != ELFDATA2LSB {
-        Some(4)
+        Some(ExeError::Encoding)
     } else if !has_version_one(bytes) {
-        Some(5)
+        Some(ExeError::Version)
     } else if half_at(bytes, E_TYPE) != ET_EXEC {
-        Some(6)
+        Some(ExeError::FileType)
     } else if half_at(bytes, E_MACHINE) != EM_RISCV {
-        Some(7)
+        Some(ExeError::Machine)
     } else if word_at(bytes, E_FLAGS) & REFUSED_FLAGS != 0 {
-        Some(8)
+        Some(ExeError::Flags)
     } else if !has_program_headers(bytes) {
-        Some(9)
+        Some(ExeError::ProgramHeaders)
     } else if !holds_program_headers(bytes) {
-        Some(10)
+        Some(ExeError::HeadersCut)
     } else {
         None
     }

@@ -3,11 +3,13 @@
 #![tactic(auto)]
 
 mod elf;
+mod errors;
 mod header;
 mod numbers;
 mod segments;
 
-pub use elf::{BadExe, Elf, MOST_SEGMENTS, read_elf};
+pub use elf::{Elf, MOST_SEGMENTS, read_elf};
+pub use errors::ExeError;
 pub use header::SectionTable;
 pub use numbers::{half_at, word_at};
 pub use segments::Segment;

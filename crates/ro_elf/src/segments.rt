@@ -1,9 +1,12 @@
 //! Program headers and the segments that they load.
 ghost use Rattle.std.specs.Prelude.{◌≡◌, ◌+◌, ◌*◌, ◌^◌, ◌≤◌, ◌<◌, length, sum_by};
 ghost use Rattle.std.specs.List.{list_all};
+ghost use Rattle.std.specs.Option.{option_map};
 ghost use Rattle.ro_elf.specs.Checks.{first_failing};
+ghost use Rattle.ro_elf.specs.Errors.{number_of};
 ghost use Rattle.ro_elf.specs.Segments.{header_in, headers_from, is_static, is_load, has_bytes, loaded_size, is_segment, segment_of, segments_of, end_of, is_within, is_apart, are_apart, lie_among, executes_at, executes, starts_at, fits_memory, segment_checks};
 
+use crate::errors::ExeError;
 use crate::header::{MOST_PROGRAM_HEADERS, PROGRAM_HEADER_SIZE};
 use crate::numbers::word_at;
 use arrayvec::ArrayVec;
@@ -237,27 +240,27 @@ pub(crate) fn segments_in(headers: &[ProgramHeader]) -> ArrayVec<Segment, MOST_P
     segments
 }
 
-// The code of the first check of the program headers that a file of so many bytes fails.
+// The first check of the program headers that a file of so many bytes fails.
 pub(crate) fn bad_segments(
     size: u64,
     entry: u32,
     headers: &[ProgramHeader],
     segments: &[Segment],
-) -> Option<u8>
+) -> Option<ExeError>
     requires few { length headers.now ≤ 32 }
     requires given { segments.now ≡ segments_of headers.now }
-    ensures { result ≡ first_failing (segment_checks size entry headers.now) }
+    ensures { option_map number_of result ≡ first_failing (segment_checks size entry headers.now) }
 {
     if !need_no_linker(headers) {
-        Some(11)
+        Some(ExeError::Dynamic)
     } else if !find_bytes(headers, size) {
-        Some(12)
+        Some(ExeError::SegmentCut)
     } else if !lie_well(segments) {
-        Some(13)
+        Some(ExeError::Addresses)
     } else if !can_start(segments, entry) {
-        Some(14)
+        Some(ExeError::Entry)
     } else if !fit_memory(headers) {
-        Some(15)
+        Some(ExeError::Memory)
     } else {
         None
     }

@@ -2,6 +2,8 @@
 use Rattle.std.specs.Prelude.{◌≡◌, ◌⊎◌, ⊤, ℕ, ◌<◌, ◌≤◌, true, List, [], ◌∷◌, ◌++◌, length, Option, Some, None, Err}
 use Rattle.ro_io.specs.Outside.{Asks, Call, Calls, Files, Rose, unfailed}
 use Rattle.ro_make.specs.Bench.{bench_file}
+use Rattle.ro_elf.specs.Errors.{number_of}
+use Rattle.ro_elf.specs.declared.errors.ExeError.{ExeError}
 use Rattle.ro_image.specs.Executable.{bad_code}
 use Rattle.ro_faults.specs.declared.errors.FaultsCode.{FaultsCode}
 use Rattle.ro_faults.specs.declared.errors.FaultsError.TheVariants.{Bad}
@@ -64,11 +66,11 @@ abbrev pub IsExe : Option Files → Asked → (content : List ℕ) → Type 0
 IsExe files (to_bench bench) content = content ≡ bench_file bench.seed bench.size
 IsExe files asked content = IsContent files Exe (name_in asked Exe) content
 
--- it is refused by this code
-pub record IsBadExe (files : Option Files) (asked : Asked) (code : ℕ) : Type 0 where
+-- this check is the first that it fails
+pub record IsBadExe (files : Option Files) (asked : Asked) (error : ExeError) : Type 0 where
   pub content : List ℕ
   pub file : IsExe files asked content
-  pub bad : bad_code content ≡ Some code
+  pub bad : bad_code content ≡ Some (number_of error)
 
 -- for how many replicas a command's list of faults is
 abbrev pub replicas_in : Asked → ℕ
@@ -97,7 +99,7 @@ pub record IsBadPlan (files : Option Files) (asked : Asked) (line : ℕ) (code :
 -- Why nothing is done of a command, where the store's count of failures was the one and is the other. There is no memory only by chance.
 abbrev pub JobCause : Option Files → Asked → (before after : ℕ) → Answer → Type 0
 JobCause files asked before after StoreFailed = Rose before after
-JobCause files asked before after (BadExe code) = IsBadExe files asked code
+JobCause files asked before after (BadExe error) = IsBadExe files asked error
 JobCause files asked before after (BadFaults line code) = IsBadList files asked line code
 JobCause files asked before after (BadPlan line code) = IsBadPlan files asked line code
 JobCause files asked before after (TooLong kind) = IsTooLong files asked kind

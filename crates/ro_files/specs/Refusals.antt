@@ -1,6 +1,7 @@
 -- Why one file of a command is refused.
 use Rattle.std.specs.Prelude.{◌≡◌, ⊤, ℕ, ◌<◌, true, List, [], ◌∷◌, length, Option, Some, None, Err}
 use Rattle.ro_io.specs.Outside.{Asks, Calls, Files, Rose, unfailed}
+use Rattle.ro_elf.specs.Errors.{number_of}
 use Rattle.ro_image.specs.Executable.{bad_code}
 use Rattle.ro_faults.specs.declared.errors.FaultsError.TheVariants.{Bad}
 use Rattle.ro_faults.specs.Texts.{file_faults}
@@ -26,7 +27,7 @@ RefusesContent files kind (Some name) before after old new answer = RefusesFile 
 
 -- it is no executable that is accepted
 abbrev pub RefusesExe : (bytes : List ℕ) → Answer → Type 0
-RefusesExe bytes (BadExe code) = bad_code bytes ≡ Some code
+RefusesExe bytes (BadExe error) = bad_code bytes ≡ Some (number_of error)
 RefusesExe bytes NoMemory = ⊤
 RefusesExe bytes answer = ⊥
 

@@ -87,7 +87,7 @@ pub fn image(alloc: Global, bytes: &[u8]) -> Result<Executable, Answer>
 {
     match read_executable(alloc, bytes) {
         Ok(image) => Ok(image),
-        Err(ImageError::Bad(bad)) => Err(Answer::BadExe(bad.code)),
+        Err(ImageError::Bad(error)) => Err(Answer::BadExe(error)),
         Err(ImageError::NoMemory) => Err(Answer::NoMemory),
     }
 }

@@ -1,5 +1,6 @@
 -- The image of an executable file, or the code by which it is refused.
 use Rattle.std.specs.Prelude.{◌≡◌, ◌≤◌, ℕ, ◌+◌, ◌*◌, ◌/◌, true, false, max, List, [], ◌∷◌, Option, Some, None, Result, Ok, Err, fold, map, slice_range, is_none, if◌then◌else◌}
+use Rattle.ro_elf.specs.Errors.{number_of}
 use Rattle.ro_elf.specs.Header.{section_table_of}
 use Rattle.ro_elf.specs.Segments.{end_of, is_readable, is_writable, is_executable}
 use Rattle.ro_elf.specs.Elf.{Elf, elf_of, bad_headers}
@@ -84,7 +85,7 @@ image_of bytes = image_from bytes (elf_of bytes) (table_of (calls_of bytes (sect
 
 -- the refusal of a file; there is no memory only by chance
 abbrev pub Refuses : List ℕ → ImageError → Type 0
-Refuses bytes (Bad exe) = bad_code bytes ≡ Some exe.code
+Refuses bytes (Bad error) = bad_code bytes ≡ Some (number_of error)
 Refuses bytes NoMemory = Unit {0}
 
 -- where an address lies in the functions of a file whose headers are accepted

@@ -1,22 +1,22 @@
 //! Why a file gives no image.
 
-use ro_elf::BadExe;
+use ro_elf::ExeError;
 use std::alloc::AllocError;
 
 /// Why there is no image of a file.
 #[derive(Clone, Copy, Debug, PartialEq, Eq)]
 pub enum ImageError {
-    Bad(BadExe),
+    Bad(ExeError),
     NoMemory,
 }
 
-impl From<BadExe> for ImageError {
+impl From<ExeError> for ImageError {
     ghost use Rattle.std.specs.Prelude.{◌≡◌};
     ghost use Rattle.ro_image.specs.declared.errors.ImageError.TheVariants.{Bad};
 
     ghost from_gives = { λ exe error. error ≡ Bad exe };
 
-    fn from(exe: BadExe) -> Self {
+    fn from(exe: ExeError) -> Self {
         ImageError::Bad(exe)
     }
 }

@@ -84,10 +84,10 @@ impl Executable {
     }
 }
 
-/// Reads an ELF32 executable for RISC-V: its image, or the code of the first check that it fails.
+/// Reads an ELF32 executable for RISC-V: its image, or the first check that it fails.
 ///
 /// # Errors
-/// `Bad` with a code of 1 to 17 exactly where the file isn't accepted, and `NoMemory` where there is no memory for the
+/// `Bad` exactly where the file isn't accepted, and `NoMemory` where there is no memory for the
 /// image.
 pub fn read_executable(alloc: Global, bytes: &[u8]) -> Result<Executable, ImageError>
     ensures accepted { IfOk result (λ image. bad_code bytes.now ≡ None) }

@@ -8,8 +8,8 @@ use Rattle.ro_journal.specs.Plan.{entry_plan, plan_of}
 use Rattle.ro_io.specs.Outside.{Rose, more}
 use Rattle.ro_plain.specs.Machine.{run}
 use Rattle.ro_plain.proofs.Swap.{run-append}
-use Rattle.ro_machine.specs.declared.errors.PlanErr.{PlanErr}
-use Rattle.ro_machine.specs.declared.errors.PlanErr.TheVariants.{NoStep, SinkFailed, NoMemory}
+use Rattle.ro_machine.specs.declared.errors.PlanError.{PlanError}
+use Rattle.ro_machine.specs.declared.errors.PlanError.TheVariants.{NoStep, SinkFailed, NoMemory}
 use Rattle.ro_machine.specs.Seen.{PlainOf, machine_of, Steps, HasNoStep}
 use Rattle.ro_machine.specs.Parts.{Plays, Played, LacksOne, BreaksIn, StopsIn, Halts}
 use Rattle.ro_io.proofs.Sends.{more-more, more-none}
@@ -60,7 +60,7 @@ module _ (old mid : PlainOf) (xs ys : List ℕ) (h g k : Option (List ℕ)) (s t
   }
 
   -- a part was run, and the next one halts
-  pub halts-later : (before between after : ℕ) (e : PlanErr) → between ≡ before → Halts mid ys g k t between after e → Halts old (xs ++ ys) h k s before after e
+  pub halts-later : (before between after : ℕ) (e : PlanError) → between ≡ before → Halts mid ys g k t between after e → Halts old (xs ++ ys) h k s before after e
   halts-later before between after (NoStep place) same (q, calm) = (
     record {
       played = xs ++ q.played;
@@ -106,7 +106,7 @@ module _ (old mid : PlainOf) (xs ys : List ℕ) (h g k : Option (List ℕ)) (s t
   )
 
 -- a part halts, whatever comes after it
-pub halts-sooner : (old : PlainOf) (xs ys : List ℕ) (h k : Option (List ℕ)) (s before after : ℕ) (e : PlanErr) → Halts old xs h k s before after e → Halts old (xs ++ ys) h k s before after e
+pub halts-sooner : (old : PlainOf) (xs ys : List ℕ) (h k : Option (List ℕ)) (s before after : ℕ) (e : PlanError) → Halts old xs h k s before after e → Halts old (xs ++ ys) h k s before after e
 halts-sooner old xs ys h k s before after (NoStep place) (q, calm) = (
   record {
     played = q.played;
@@ -162,7 +162,7 @@ pub breaks-first : (old after : PlainOf) (thread taken : ℕ) (h k : Option (Lis
 breaks-first old after thread taken h k steps short held = record { played = []; thread = thread; rest = []; mid = old; after = after; bytes = []; all = refl; plays = plays-none old; steps = steps; short = short; held = held }
 
 -- one of a thread's many steps halts
-pub halts-all : (old : PlainOf) (thread done count : ℕ) (h k : Option (List ℕ)) (s before after : ℕ) (e : PlanErr) → done < count → Halts old (replicate done thread ++ thread ∷ []) h k s before after e → Halts old (replicate count thread) h k s before after e
+pub halts-all : (old : PlainOf) (thread done count : ℕ) (h k : Option (List ℕ)) (s before after : ℕ) (e : PlanError) → done < count → Halts old (replicate done thread ++ thread ∷ []) h k s before after e → Halts old (replicate count thread) h k s before after e
 halts-all old thread done count h k s before after e less q =
     let one : replicate done thread ++ thread ∷ [] ≡ replicate (done + 1) thread = replicate-append-replicate done 1 thread in
     let whole : replicate (done + 1) thread ++ replicate (count - (done + 1)) thread ≡ replicate count thread =
@@ -177,7 +177,7 @@ part-counted old new thread ran h k s t a b p =
     subst (λ (xs : List ℕ). Played old xs new h k s t a b) (one ∙ ap (λ n. replicate n thread) count) p
 
 -- the part that was run, by the counts of steps, and what is left of all steps
-pub halts-left : (old mid : PlainOf) (thread count : ℕ) (h g k : Option (List ℕ)) (s t a b before between after : ℕ) (e : PlanErr) → s ≤ t → t ≤ s + count
+pub halts-left : (old mid : PlainOf) (thread count : ℕ) (h g k : Option (List ℕ)) (s t a b before between after : ℕ) (e : PlanError) → s ≤ t → t ≤ s + count
     → Played old (replicate (t - s) thread) mid h g s t a b → between ≡ before → Halts mid (replicate ((s + count) - t) thread) g k t between after e → Halts old (replicate count thread) h k s before after e
 halts-left old mid thread count h g k s t a b before between after e one other p same q =
     let whole : replicate (t - s) thread ++ replicate ((s + count) - t) thread ≡ replicate count thread =
@@ -215,7 +215,7 @@ plan-room journal i d most steps h few is =
     omega (arith, ap length (plan-split journal i d h), length-append (plan_of (take i journal)) (entry_plan (get_or journal i d) ++ plan_of (drop (suc i) journal)), length-append (entry_plan (get_or journal i d)) (plan_of (drop (suc i) journal)))
 
 -- an entry halts, and so does the plan
-pub halts-plan : (old : PlainOf) (journal : List Entry) (i : ℕ) (d : Entry) (h k : Option (List ℕ)) (s before after : ℕ) (e : PlanErr) → i < length journal → Halts old (plan_of (take i journal) ++ entry_plan (get_or journal i d)) h k s before after e → Halts old (plan_of journal) h k s before after e
+pub halts-plan : (old : PlainOf) (journal : List Entry) (i : ℕ) (d : Entry) (h k : Option (List ℕ)) (s before after : ℕ) (e : PlanError) → i < length journal → Halts old (plan_of (take i journal) ++ entry_plan (get_or journal i d)) h k s before after e → Halts old (plan_of journal) h k s before after e
 halts-plan old journal i d h k s before after e less q =
     subst (λ (xs : List ℕ). Halts old xs h k s before after e) (append_assoc (plan_of (take i journal)) (entry_plan (get_or journal i d)) (plan_of (drop (suc i) journal)) ∙ sym (plan-split journal i d less))
     (halts-sooner old (plan_of (take i journal) ++ entry_plan (get_or journal i d)) (plan_of (drop (suc i) journal)) h k s before after e q)

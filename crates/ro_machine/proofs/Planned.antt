@@ -9,8 +9,8 @@ use Rattle.ro_journal.specs.declared.How.TheVariants.{Deadlock}
 use Rattle.ro_kernel.specs.Kernel.{lives_on}
 use Rattle.ro_plain.specs.Machine.{Program, Machine, opening, run, step, step_by, next_of, steppable}
 use Rattle.ro_io.specs.Outside.{more}
-use Rattle.ro_machine.specs.declared.errors.PlanErr.{PlanErr}
-use Rattle.ro_machine.specs.declared.errors.PlanErr.TheVariants.{NoStep, SinkFailed, NoMemory}
+use Rattle.ro_machine.specs.declared.errors.PlanError.{PlanError}
+use Rattle.ro_machine.specs.declared.errors.PlanError.TheVariants.{NoStep, SinkFailed, NoMemory}
 use Rattle.ro_machine.specs.Seen.{PlainOf, machine_of, Steps, HasNoStep, SameMachine}
 use Rattle.ro_machine.specs.Parts.{Plays, Played, Halts}
 use Rattle.ro_machine.specs.Plans.{Reaches, EndsAs, RunsPlan, LacksStep, StopsShort, Fails}
@@ -46,7 +46,7 @@ module _ (program : Program) (old : PlainOf) (same : old.program ≡ program) (s
   within-there plan played rest thread e = omega (arith, ap length e, length-append played (thread ∷ rest))
 
   -- why the plan was not run to its end
-  pub fails : (plan : List ℕ) (h k : Option (List ℕ)) (before after : ℕ) (e : PlanErr) → Halts old plan h k 0 before after e → Fails program plan h k before after e
+  pub fails : (plan : List ℕ) (h k : Option (List ℕ)) (before after : ℕ) (e : PlanError) → Halts old plan h k 0 before after e → Fails program plan h k before after e
   fails plan h k before after (NoStep place) (q, calm) =
       let at : length q.played ≡ place = omega (arith, q.place_is) in (
         subst (LacksStep program plan h k) at (record {

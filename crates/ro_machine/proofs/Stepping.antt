@@ -23,8 +23,8 @@ use Rattle.ro_kernel.specs.Serve.{serve, payload_of}
 use Rattle.ro_plain.specs.Machine.{Program, layout_of, setup_of, Machine, called, step_by, next_of, steppable, step}
 use Rattle.ro_plain.proofs.Calls.{steppable-from, step-at}
 use Rattle.ro_replica.proofs.Elements.{set_itself}
-use Rattle.ro_machine.specs.declared.errors.StepErr.{StepErr}
-use Rattle.ro_machine.specs.declared.errors.StepErr.TheVariants.{NoStep, NoMemory}
+use Rattle.ro_machine.specs.declared.errors.StepError.{StepError}
+use Rattle.ro_machine.specs.declared.errors.StepError.TheVariants.{NoStep, NoMemory}
 use Rattle.ro_machine.specs.Seen.{PlainOf, machine_with, machine_of, Steps, StepsFrom, Refuses, RefusesAt, SameMachine}
 
 pub on-ok : {T E : Type 0} (r : Result T E) (P Q : Type 0) → (P → Q) → OnOk r P → OnOk r Q
@@ -85,7 +85,7 @@ module _ (old mid : PlainOf) (thread : ℕ) (cpu : Cpu) (stop : Stop) (program :
   pub steps-there : (new : PlainOf) → StepsFrom mid thread stop new → Steps old thread new
   steps-there new h output = step-of output ∙ h output cpu there-too
 
-  pub refuses-there : (e : StepErr) → RefusesAt mid thread stop e → Refuses old thread e
+  pub refuses-there : (e : StepError) → RefusesAt mid thread stop e → Refuses old thread e
   refuses-there NoStep h = λ output. step-of output ∙ h output cpu there-too
   refuses-there NoMemory h = tt
 
@@ -163,5 +163,5 @@ module _ (old : PlainOf) (program : Program) (held new : Held) (cpus : List Cpu)
   pub found-steps : (last : PlainOf) → StepsFrom (record { program = program; held = new; cpus = slice_set cpus thread next_cpu; kernel = kernel; ended = ended; written = written }) thread stop last → Steps old thread last
   found-steps = steps-there old (record { program = program; held = new; cpus = slice_set cpus thread next_cpu; kernel = kernel; ended = ended; written = written }) thread cpu stop (ap (λ v. v.program) view_is) found-same in-old (λ output. may (machine_of old output) thread cpu going live in-old) stands-in-old
 
-  pub found-refuses : (e : StepErr) → RefusesAt (record { program = program; held = new; cpus = slice_set cpus thread next_cpu; kernel = kernel; ended = ended; written = written }) thread stop e → Refuses old thread e
+  pub found-refuses : (e : StepError) → RefusesAt (record { program = program; held = new; cpus = slice_set cpus thread next_cpu; kernel = kernel; ended = ended; written = written }) thread stop e → Refuses old thread e
   found-refuses = refuses-there old (record { program = program; held = new; cpus = slice_set cpus thread next_cpu; kernel = kernel; ended = ended; written = written }) thread cpu stop (ap (λ v. v.program) view_is) found-same in-old (λ output. may (machine_of old output) thread cpu going live in-old) stands-in-old

@@ -2,8 +2,8 @@
 use Rattle.std.specs.Prelude.{◌≡◌, ℕ, ◌+◌, ◌<◌, List, ◌∷◌, ◌++◌, length, take, Option, Some}
 use Rattle.ro_io.specs.Outside.{Rose, more}
 use Rattle.ro_plain.specs.Machine.{run}
-use Rattle.ro_machine.specs.declared.errors.PlanErr.{PlanErr}
-use Rattle.ro_machine.specs.declared.errors.PlanErr.TheVariants.{NoStep, SinkFailed, NoMemory}
+use Rattle.ro_machine.specs.declared.errors.PlanError.{PlanError}
+use Rattle.ro_machine.specs.declared.errors.PlanError.TheVariants.{NoStep, SinkFailed, NoMemory}
 use Rattle.ro_machine.specs.Seen.{PlainOf, machine_of, Steps, HasNoStep}
 
 -- The machine runs these steps, whatever was written before, writes these bytes, and is then that one.
@@ -54,7 +54,7 @@ pub record StopsIn (old : PlainOf) (threads : List ℕ) (held_before held_after 
   pub held : held_after ≡ more held_before bytes
 
 -- Why these steps were not all run, where the sink's count of failures went from one number to the other: it stays where the sink didn't fail.
-abbrev pub Halts : (old : PlainOf) → (threads : List ℕ) → (held_before held_after : Option (List ℕ)) → (steps before after : ℕ) → PlanErr → Type 0
+abbrev pub Halts : (old : PlainOf) → (threads : List ℕ) → (held_before held_after : Option (List ℕ)) → (steps before after : ℕ) → PlanError → Type 0
 Halts old threads h g steps before after (NoStep place) = LacksOne old threads h g steps place × (after ≡ before)
 Halts old threads h g steps before after (SinkFailed taken) = BreaksIn old threads h g taken × Rose before after
 Halts old threads h g steps before after NoMemory = StopsIn old threads h g × (after ≡ before)

@@ -4,8 +4,8 @@ use Rattle.ro_journal.specs.declared.How.{How}
 use Rattle.ro_journal.specs.declared.How.TheVariants.{Deadlock}
 use Rattle.ro_io.specs.Outside.{Rose, more}
 use Rattle.ro_plain.specs.Machine.{Program, Machine, opening, step, run}
-use Rattle.ro_machine.specs.declared.errors.PlanErr.{PlanErr}
-use Rattle.ro_machine.specs.declared.errors.PlanErr.TheVariants.{NoStep, SinkFailed, NoMemory}
+use Rattle.ro_machine.specs.declared.errors.PlanError.{PlanError}
+use Rattle.ro_machine.specs.declared.errors.PlanError.TheVariants.{NoStep, SinkFailed, NoMemory}
 
 -- the machine after so many steps of the plan
 pub record Reaches (program : Program) (plan : List ℕ) (count : ℕ) (machine : Machine) : Type 0 where
@@ -68,7 +68,7 @@ pub record StopsShort (program : Program) (plan : List ℕ) (old new : Option (L
 
 -- Why a plan was not run to its end, where the sink's count of failures went from one number to the other: it stays where the sink
 -- didn't fail.
-abbrev pub Fails : Program → (plan : List ℕ) → (old new : Option (List ℕ)) → (before after : ℕ) → PlanErr → Type 0
+abbrev pub Fails : Program → (plan : List ℕ) → (old new : Option (List ℕ)) → (before after : ℕ) → PlanError → Type 0
 Fails program plan old new before after (NoStep place) = LacksStep program plan old new place × (after ≡ before)
 Fails program plan old new before after (SinkFailed taken) = BreaksOff program plan old new taken × Rose before after
 Fails program plan old new before after NoMemory = StopsShort program plan old new × (after ≡ before)

@@ -11,8 +11,8 @@ use Rattle.ro_kernel.specs.Kernel.{Kernel}
 use Rattle.ro_kernel.specs.State.{State}
 use Rattle.ro_kernel.specs.Serve.{Served, Blocked}
 use Rattle.ro_plain.specs.Machine.{Program, Machine, step_by, step}
-use Rattle.ro_machine.specs.declared.errors.StepErr.{StepErr}
-use Rattle.ro_machine.specs.declared.errors.StepErr.TheVariants.{NoStep, NoMemory}
+use Rattle.ro_machine.specs.declared.errors.StepError.{StepError}
+use Rattle.ro_machine.specs.declared.errors.StepError.TheVariants.{NoStep, NoMemory}
 
 pub record PlainOf : Type 0 where
   pub program : Program
@@ -50,7 +50,7 @@ abbrev pub HasNoStep : PlainOf → (thread : ℕ) → Type 0
 HasNoStep value thread = (output : List ℕ) → step value.program (machine_of value output) thread ≡ None
 
 -- why there was no step; want of memory may come at any
-abbrev pub Refuses : PlainOf → (thread : ℕ) → StepErr → Type 0
+abbrev pub Refuses : PlainOf → (thread : ℕ) → StepError → Type 0
 Refuses value thread NoStep = HasNoStep value thread
 Refuses value thread NoMemory = Unit {0}
 
@@ -59,7 +59,7 @@ abbrev pub SameMachine : (one other : PlainOf) → Type 0
 SameMachine one other = (output : List ℕ) → machine_of one output ≡ machine_of other output
 
 -- why a call was not served
-abbrev pub RefusesCall : Served → StepErr → Type 0
+abbrev pub RefusesCall : Served → StepError → Type 0
 RefusesCall served NoStep = served ≡ Blocked
 RefusesCall served NoMemory = Unit {0}
 
@@ -68,7 +68,7 @@ abbrev pub StepsFrom : PlainOf → (thread : ℕ) → Stop → PlainOf → Type 
 StepsFrom old thread stop new = (output : List ℕ) → (cpu : Cpu) → slice_get old.cpus thread ≡ Some cpu →
     step_by old.program (machine_of old output) thread cpu (Stands stop) ≡ Some (machine_of new (output ++ new.written))
 
-abbrev pub RefusesAt : PlainOf → (thread : ℕ) → Stop → StepErr → Type 0
+abbrev pub RefusesAt : PlainOf → (thread : ℕ) → Stop → StepError → Type 0
 RefusesAt value thread stop NoStep = (output : List ℕ) → (cpu : Cpu) → slice_get value.cpus thread ≡ Some cpu →
     step_by value.program (machine_of value output) thread cpu (Stands stop) ≡ None
 RefusesAt value thread stop NoMemory = Unit {0}

@@ -10,7 +10,7 @@ ghost use Rattle.ro_plain.specs.Machine.{with_made, called};
 ghost use Rattle.ro_machine.specs.Seen.{machine_with, RefusesCall};
 ghost use Rattle.ro_machine.specs.Watched.{Tells};
 
-use crate::errors::StepErr;
+use crate::errors::StepError;
 use crate::plain::MOST_WRITTEN;
 use crate::watching::{NO_BYTES, Stretch};
 use ro_event::{Call, Effect, Made};
@@ -53,7 +53,7 @@ pub(crate) fn serve(
     regions: &Regions,
     thread: u32,
     call: Call,
-) -> Result<Came, StepErr>
+) -> Result<Came, StepError>
     requires live { lives_on kernel.old.kernel thread ≡ true }
     requires regions { regions.now ≡ kernel.old.setup.ranges }
     requires made { length cpus.old.items ≡ length kernel.old.kernel.lives }
@@ -96,7 +96,7 @@ pub(crate) fn serve(
             stored: NO_BYTES,
             parked: true,
         }),
-        Served::Blocked => Err(StepErr::NoStep),
+        Served::Blocked => Err(StepError::NoStep),
         Served::Ends(how) => Ok(Came {
             call,
             how: Some(how),

@@ -5,21 +5,21 @@ use std::alloc::AllocError;
 
 /// Why a thread makes no step.
 #[derive(Clone, Copy, Debug, PartialEq, Eq)]
-pub enum StepErr {
+pub enum StepError {
     /// The machine has no step of this thread: the program has ended, the thread does not live, or its call blocks.
     NoStep,
     /// There is no memory for a page, or for the bytes that a call stores.
     NoMemory,
 }
 
-impl From<AllocError> for StepErr {
+impl From<AllocError> for StepError {
     ghost use Rattle.std.specs.Prelude.{◌≡◌};
-    ghost use Rattle.ro_machine.specs.declared.errors.StepErr.TheVariants.{NoMemory};
+    ghost use Rattle.ro_machine.specs.declared.errors.StepError.TheVariants.{NoMemory};
 
     ghost from_gives = { λ _ error. error ≡ NoMemory };
 
     fn from(_: AllocError) -> Self {
-        StepErr::NoMemory
+        StepError::NoMemory
     }
 }
 
@@ -35,7 +35,7 @@ pub struct PlainEnd {
 
 /// Why a plan is not run to its end.
 #[derive(Clone, Copy, Debug, PartialEq, Eq)]
-pub enum PlanErr {
+pub enum PlanError {
     /// The plan's step at this place, counted from 0, does not exist.
     NoStep { place: u64 },
     /// The sink failed, and took so many bytes of the last write.

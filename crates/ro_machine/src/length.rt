@@ -1,6 +1,5 @@
 //! How long a journal's plan is.
-ghost use Rattle.std.specs.Prelude.{◌≡◌, ◌≤◌, ◌<◌, IfOk, IfErr, length};
-ghost use Rattle.ro_journal.specs.Plan.{entry_plan, plan_of};
+ghost use Rattle.std.specs.Prelude.{IfOk, IfErr};
 ghost use Rattle.ro_machine.specs.Lengths.{IsLength, IsTooLong};
 
 use crate::errors::TooLong;
@@ -19,22 +18,11 @@ pub fn plan_steps(journal: &[Entry]) -> Result<u64, TooLong>
 {
     let mut steps = 0;
     for entry in journal {
-        let next = entry_steps(entry);
+        let next = entry.steps();
         if next > MOST_STEPS - steps {
             return Err(TooLong { steps, next });
         }
         steps += next;
     }
     Ok(steps)
-}
-
-/// How many steps an entry adds to the plan.
-fn entry_steps(entry: &Entry) -> u64
-    ensures { result ≡ length (entry_plan entry.now) }
-{
-    match entry {
-        Entry::Vote { count, did, .. } => u64::from(*count) + did.steps(),
-        Entry::Free { .. } => 1,
-        Entry::Take(_) | Entry::Put { .. } | Entry::Scrub { .. } | Entry::End { .. } => 0,
-    }
 }

@@ -12,7 +12,7 @@ mod playing;
 mod running;
 mod watching;
 
-pub use errors::{PlainEnd, PlanErr, StepErr, TooLong};
+pub use errors::{PlainEnd, PlanError, StepError, TooLong};
 pub use lane::Lane;
 pub use length::{MOST_STEPS, plan_steps};
 pub use plain::Plain;

@@ -13,7 +13,7 @@ ghost use Rattle.ro_machine.specs.Lanes.{IsOpen, closed};
 
 use crate::backing::execute;
 use crate::calls::serve;
-use crate::errors::StepErr;
+use crate::errors::StepError;
 use crate::lane::{Lane, look_quickly};
 use crate::looking::{Look, NOTHING_SEEN, look_ahead};
 use crate::watching::{Relation, Watched, Went, told_of};
@@ -121,7 +121,7 @@ impl Plain {
     /// # Errors
     /// `NoStep` where there is no such step: the program has ended, the thread does not live, or its call blocks; and
     /// `NoMemory`. It is the same machine then.
-    pub fn step(&mut self, thread: u32) -> Result<(), StepErr>
+    pub fn step(&mut self, thread: u32) -> Result<(), StepError>
         ensures program { self.new.program ≡ self.old.program }
         ensures steps { OnOk result (Steps self.old thread self.new) }
         ensures refused { IfErr result (Refuses self.old thread) }
@@ -137,7 +137,7 @@ impl Plain {
     ///
     /// # Errors
     /// As of `step`.
-    pub fn watch(&mut self, thread: u32) -> Result<Watched, StepErr>
+    pub fn watch(&mut self, thread: u32) -> Result<Watched, StepError>
         ensures program { self.new.program ≡ self.old.program }
         ensures steps { OnOk result (Steps self.old thread self.new) }
         ensures sees { IfOk result (λ watched. (output : List ℕ) → Sees self.old.program (machine_of self.old output) thread watched) }
@@ -249,7 +249,7 @@ impl Plain {
     }
 
     // A step, and what it was.
-    fn go(&mut self, thread: u32) -> Result<Went, StepErr>
+    fn go(&mut self, thread: u32) -> Result<Went, StepError>
         ensures program { self.new.program ≡ self.old.program }
         ensures steps { OnOk result (Steps self.old thread self.new) }
         ensures told { IfOk result (λ went. (cpu : CpuSeen) → slice_get self.old.cpus thread ≡ Some cpu → TellsNext self.old.program self.old.kernel thread (next_of self.old.program (machine_of self.old []) cpu) went) }
@@ -259,7 +259,7 @@ impl Plain {
     {
         self.written.truncate(0);
         if self.ended.is_some() || !self.kernel.lives_on(thread) {
-            return Err(StepErr::NoStep);
+            return Err(StepError::NoStep);
         }
         self.go_on(thread)
     }
@@ -304,7 +304,7 @@ impl Plain {
     }
 
     // A step where the program has not ended and the thread lives.
-    fn go_on(&mut self, thread: u32) -> Result<Went, StepErr>
+    fn go_on(&mut self, thread: u32) -> Result<Went, StepError>
         requires going { self.old.ended ≡ None }
         requires live { lives_on self.old.kernel thread ≡ true }
         requires empty { self.old.written ≡ [] }
@@ -328,7 +328,7 @@ impl Plain {
     }
 
     // The step of a thread that stands at this stop.
-    fn stand(&mut self, thread: u32, stop: Stop) -> Result<Went, StepErr>
+    fn stand(&mut self, thread: u32, stop: Stop) -> Result<Went, StepError>
         requires going { self.old.ended ≡ None }
         requires live { lives_on self.old.kernel thread ≡ true }
         requires empty { self.old.written ≡ [] }
@@ -358,7 +358,7 @@ impl Plain {
                 Ok(Went::Trapped)
             }
             // The machine has neither of these.
-            Stop::PageFault(_) | Stop::Watchdog => Err(StepErr::NoStep),
+            Stop::PageFault(_) | Stop::Watchdog => Err(StepError::NoStep),
         }
     }
 }

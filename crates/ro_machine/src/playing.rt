@@ -3,7 +3,7 @@ ghost use Rattle.std.specs.Prelude.{ℕ, ◌≡◌, ◌+◌, ◌-◌, ◌*◌, �
 ghost use Rattle.ro_journal.specs.Plan.{entry_plan, plan_of};
 ghost use Rattle.ro_machine.specs.Parts.{Played, Halts};
 
-use crate::errors::{PlanErr, StepErr};
+use crate::errors::{PlanError, StepError};
 use crate::plain::Plain;
 use ro_io::{Sink, send};
 use ro_journal::Entry;
@@ -23,7 +23,7 @@ pub(crate) fn play_one<K: Sink>(
     thread: u32,
     progress: Progress,
     out: &mut K,
-) -> Result<Progress, PlanErr>
+) -> Result<Progress, PlanError>
     requires unfailed { K.failures out.old ≡ 0 }
     requires steps { progress.steps + 1 ≤ 1000000000 }
     requires bytes { progress.bytes ≤ 4096 * progress.steps }
@@ -35,16 +35,16 @@ pub(crate) fn play_one<K: Sink>(
 {
     match plain.step(thread) {
         Ok(()) => {}
-        Err(StepErr::NoStep) => {
-            return Err(PlanErr::NoStep {
+        Err(StepError::NoStep) => {
+            return Err(PlanError::NoStep {
                 place: progress.steps,
             });
         }
-        Err(StepErr::NoMemory) => return Err(PlanErr::NoMemory),
+        Err(StepError::NoMemory) => return Err(PlanError::NoMemory),
     }
     let written = plain.written();
     if let Some(taken) = send(out, written) {
-        return Err(PlanErr::SinkFailed { taken });
+        return Err(PlanError::SinkFailed { taken });
     }
     Ok(Progress {
         steps: progress.steps + 1,
@@ -60,7 +60,7 @@ fn play_part<K: Sink>(
     most: u32,
     progress: Progress,
     out: &mut K,
-) -> Result<Progress, PlanErr>
+) -> Result<Progress, PlanError>
     requires unfailed { K.failures out.old ≡ 0 }
     requires some { 0 < most }
     requires steps { progress.steps + most ≤ 1000000000 }
@@ -91,7 +91,7 @@ fn play<K: Sink>(
     count: u64,
     progress: Progress,
     out: &mut K,
-) -> Result<Progress, PlanErr>
+) -> Result<Progress, PlanError>
     requires unfailed { K.failures out.old ≡ 0 }
     requires steps { progress.steps + count ≤ 1000000000 }
     requires bytes { progress.bytes ≤ 4096 * progress.steps }
@@ -116,7 +116,7 @@ fn play_entry<K: Sink>(
     entry: &Entry,
     progress: Progress,
     out: &mut K,
-) -> Result<Progress, PlanErr>
+) -> Result<Progress, PlanError>
     requires unfailed { K.failures out.old ≡ 0 }
     requires steps { progress.steps + length (entry_plan entry.now) ≤ 1000000000 }
     requires bytes { progress.bytes ≤ 4096 * progress.steps }
@@ -148,7 +148,7 @@ fn play_vote<K: Sink>(
     event: u64,
     progress: Progress,
     out: &mut K,
-) -> Result<Progress, PlanErr>
+) -> Result<Progress, PlanError>
     requires unfailed { K.failures out.old ≡ 0 }
     requires steps { progress.steps + (count + event) ≤ 1000000000 }
     requires bytes { progress.bytes ≤ 4096 * progress.steps }
@@ -167,7 +167,7 @@ pub(crate) fn play_all<K: Sink>(
     plain: &mut Plain,
     journal: &[Entry],
     out: &mut K,
-) -> Result<Progress, PlanErr>
+) -> Result<Progress, PlanError>
     requires unfailed { K.failures out.old ≡ 0 }
     requires length { length (plan_of journal.now) ≤ 1000000000 }
     ensures failures { K.failures out.old ≤ K.failures out.new }

@@ -5,7 +5,7 @@ ghost use Rattle.ro_journal.specs.Plan.{plan_of};
 ghost use Rattle.ro_machine.specs.Seen.{machine_of};
 ghost use Rattle.ro_machine.specs.Plans.{RunsPlan, Fails, EndsAs};
 
-use crate::errors::{PlainEnd, PlanErr, StepErr};
+use crate::errors::{PlainEnd, PlanError, StepError};
 use crate::plain::Plain;
 use crate::playing::play_all;
 use ro_image::Executable;
@@ -26,7 +26,7 @@ pub fn run_plan<K: Sink>(
     input: &[u8],
     journal: &[Entry],
     out: &mut K,
-) -> Result<PlainEnd, PlanErr>
+) -> Result<PlainEnd, PlanError>
     requires length { length (plan_of journal.now) ≤ 1000000000 }
     requires unfailed { K.failures out.old ≡ 0 }
     ensures runs { IfOk result (λ end. RunsPlan (record { image = arc_value image.now; input = input.now }) (plan_of journal.now) (K.held out.old) (K.held out.new) end.how end.bytes) }
@@ -35,7 +35,7 @@ pub fn run_plan<K: Sink>(
     ensures failures { K.failures out.old ≤ K.failures out.new }
 {
     let Ok(mut plain) = Plain::begin(alloc, image, input) else {
-        return Err(PlanErr::NoMemory);
+        return Err(PlanError::NoMemory);
     };
     let progress = play_all(&mut plain, journal, out)?;
     match end_of(plain) {
@@ -43,7 +43,7 @@ pub fn run_plan<K: Sink>(
             how,
             bytes: progress.bytes,
         }),
-        Err(AllocError) => Err(PlanErr::NoMemory),
+        Err(AllocError) => Err(PlanError::NoMemory),
     }
 }
 
@@ -57,8 +57,8 @@ fn end_of(mut plain: Plain) -> Result<Option<How>, AllocError>
     for thread in 0..plain.made() {
         match plain.step(thread) {
             Ok(()) => return Ok(None),
-            Err(StepErr::NoStep) => {}
-            Err(StepErr::NoMemory) => return Err(AllocError),
+            Err(StepError::NoStep) => {}
+            Err(StepError::NoMemory) => return Err(AllocError),
         }
     }
     Ok(Some(How::Deadlock))

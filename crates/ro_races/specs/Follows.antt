@@ -12,8 +12,8 @@ use Rattle.ro_races.specs.declared.shadows.Hit.{Hit}
 use Rattle.ro_races.specs.declared.sources.Source.{Source}
 use Rattle.ro_races.specs.declared.found.Found.{Found}
 use Rattle.ro_races.specs.declared.found.Found.TheVariants.{NoRace, Pair}
-use Rattle.ro_races.specs.declared.found.RacesErr.{RacesErr}
-use Rattle.ro_races.specs.declared.found.RacesErr.TheVariants.{NoStep, NoMemory}
+use Rattle.ro_races.specs.declared.found.RacesError.{RacesError}
+use Rattle.ro_races.specs.declared.found.RacesError.TheVariants.{NoStep, NoMemory}
 use Rattle.ro_races.specs.Clocks.{Clock as ClockOf, Knows, Past}
 use Rattle.ro_races.specs.Seen.{known_by}
 use Rattle.ro_races.specs.Shadows.{marks_at}
@@ -62,7 +62,7 @@ pub record LacksStep (program : Program) (threads : List ℕ) (place : ℕ) : Ty
   pub none : step program machine (slice_index threads place) ≡ None
 
 -- why a run was not checked to its end; want of memory may come at any
-abbrev pub Lacks : Program → List ℕ → RacesErr → Type 0
+abbrev pub Lacks : Program → List ℕ → RacesError → Type 0
 Lacks program threads (NoStep place) = LacksStep program threads place
 Lacks program threads NoMemory = Unit {0}
 

@@ -8,11 +8,11 @@ ghost use Rattle.ro_races.specs.Seen.{seen_by, IsPast, PassesOn, IsOwn};
 ghost use Rattle.ro_races.specs.Shadows.{IsTable, IsFirstOf, AnyHit, MarksAll};
 ghost use Rattle.ro_races.specs.Follows.{Follows, Lacks, notes, put_back};
 
-use crate::found::{Found, RacesErr};
+use crate::found::{Found, RacesError};
 use crate::marks::Clock;
 use crate::shadows::{Hit, Table, better, first_hit, is_quiet, mark};
 use crate::sources::{Row, Source, keep, known, learns_from, pass, passes_to};
-use ro_machine::{Lane, Plain, Relation, StepErr, Watched};
+use ro_machine::{Lane, Plain, Relation, StepError, Watched};
 use std::alloc::{AllocError, Global};
 
 /// A run that is watched: its machine, what is known of the order of its steps, and who accessed what.
@@ -79,7 +79,11 @@ pub(crate) fn check_quickly(
 ///
 /// # Errors
 /// `NoStep` where there is no such step, and `NoMemory`.
-pub(crate) fn check_step(alloc: Global, checker: &mut Checker, thread: u32) -> Result<(), RacesErr>
+pub(crate) fn check_step(
+    alloc: Global,
+    checker: &mut Checker,
+    thread: u32,
+) -> Result<(), RacesError>
     requires steps { checker.old.steps + 1 < 2 ^ 32 }
     requires reads { IsTable checker.old.reads.items }
     requires writes { IsTable checker.old.writes.items }
@@ -91,12 +95,12 @@ pub(crate) fn check_step(alloc: Global, checker: &mut Checker, thread: u32) -> R
 {
     let watched = match checker.plain.watch(thread) {
         Ok(watched) => watched,
-        Err(StepErr::NoStep) => {
-            return Err(RacesErr::NoStep {
+        Err(StepError::NoStep) => {
+            return Err(RacesError::NoStep {
                 place: u64::from(checker.steps),
             });
         }
-        Err(StepErr::NoMemory) => return Err(RacesErr::NoMemory),
+        Err(StepError::NoMemory) => return Err(RacesError::NoMemory),
     };
     let mut past = past_of(checker.rows.as_slice(), thread, watched.relation);
     let hit = hit_of(&checker.reads, &checker.writes, &watched, &past);

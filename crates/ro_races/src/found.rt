@@ -13,20 +13,20 @@ pub enum Found {
 
 /// Why a run was not checked to its end.
 #[derive(Clone, Copy, Debug, PartialEq, Eq)]
-pub enum RacesErr {
+pub enum RacesError {
     /// The plan's step at this place, counted from 0, does not exist.
     NoStep { place: u64 },
     /// There is no memory.
     NoMemory,
 }
 
-impl From<AllocError> for RacesErr {
+impl From<AllocError> for RacesError {
     ghost use Rattle.std.specs.Prelude.{◌≡◌};
-    ghost use Rattle.ro_races.specs.declared.found.RacesErr.TheVariants.{NoMemory};
+    ghost use Rattle.ro_races.specs.declared.found.RacesError.TheVariants.{NoMemory};
 
     ghost from_gives = { λ _ error. error ≡ NoMemory };
 
     fn from(_: AllocError) -> Self {
-        RacesErr::NoMemory
+        RacesError::NoMemory
     }
 }

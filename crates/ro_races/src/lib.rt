@@ -11,6 +11,6 @@ mod running;
 mod shadows;
 mod sources;
 
-pub use found::{Found, RacesErr};
+pub use found::{Found, RacesError};
 pub use laws::{known_is_before, one_race_is_first, races_of_executions};
 pub use running::check;

@@ -9,7 +9,7 @@ ghost use Rattle.ro_races.specs.Seen.{IsOwn};
 ghost use Rattle.ro_races.specs.Follows.{Follows, Lacks, StandsAt, Checks, put_back};
 
 use crate::checking::{Checker, check_quickly, check_step};
-use crate::found::{Found, RacesErr};
+use crate::found::{Found, RacesError};
 use crate::shadows::new_table;
 use crate::sources::own_place;
 use ro_image::Executable;
@@ -30,13 +30,13 @@ pub fn check(
     image: &Arc<Executable>,
     input: &[u8],
     journal: &[Entry],
-) -> Result<Found, RacesErr>
+) -> Result<Found, RacesError>
     requires { length (plan_of journal.now) ≤ 1000000000 }
     ensures checks { IfOk result (Checks (record { image = arc_value image.now; input = input.now }) (plan_of journal.now)) }
     ensures lacks { IfErr result (Lacks (record { image = arc_value image.now; input = input.now }) (plan_of journal.now)) }
 {
     let Ok(mut checker) = begin(alloc, image, input) else {
-        return Err(RacesErr::NoMemory);
+        return Err(RacesError::NoMemory);
     };
     check_all(alloc, &mut checker, journal)?;
     Ok(checker.found)
@@ -117,7 +117,12 @@ fn check_row(
 
 /// Takes steps of a thread, at least one and at most so many: the plain ones in a row, and the one behind them; tells how many
 /// there were.
-fn check_part(alloc: Global, checker: &mut Checker, thread: u32, most: u64) -> Result<u64, RacesErr>
+fn check_part(
+    alloc: Global,
+    checker: &mut Checker,
+    thread: u32,
+    most: u64,
+) -> Result<u64, RacesError>
     requires some { 0 < most }
     requires steps { checker.old.steps + most ≤ 1000000000 }
     requires reads { IsTable checker.old.reads.items }
@@ -144,7 +149,7 @@ fn check_steps(
     checker: &mut Checker,
     thread: u32,
     count: u64,
-) -> Result<(), RacesErr>
+) -> Result<(), RacesError>
     requires steps { checker.old.steps + count ≤ 1000000000 }
     requires reads { IsTable checker.old.reads.items }
     requires writes { IsTable checker.old.writes.items }
@@ -168,7 +173,7 @@ fn check_vote(
     thread: u32,
     count: u32,
     event: u64,
-) -> Result<(), RacesErr>
+) -> Result<(), RacesError>
     requires steps { checker.old.steps + (count + event) ≤ 1000000000 }
     requires reads { IsTable checker.old.reads.items }
     requires writes { IsTable checker.old.writes.items }
@@ -184,7 +189,7 @@ fn check_vote(
 
 /// Takes the steps of a journal's entry: those that a vote's thread had retired, and one where its event was served or a trap
 /// taken; and one where a call was freed.
-fn check_entry(alloc: Global, checker: &mut Checker, entry: &Entry) -> Result<(), RacesErr>
+fn check_entry(alloc: Global, checker: &mut Checker, entry: &Entry) -> Result<(), RacesError>
     requires steps { checker.old.steps + length (entry_plan entry.now) ≤ 1000000000 }
     requires reads { IsTable checker.old.reads.items }
     requires writes { IsTable checker.old.writes.items }
@@ -207,7 +212,7 @@ fn check_entry(alloc: Global, checker: &mut Checker, entry: &Entry) -> Result<()
 }
 
 /// Takes the steps of all entries.
-fn check_all(alloc: Global, checker: &mut Checker, journal: &[Entry]) -> Result<(), RacesErr>
+fn check_all(alloc: Global, checker: &mut Checker, journal: &[Entry]) -> Result<(), RacesError>
     requires start { checker.old.steps ≡ 0 }
     requires steps { length (plan_of journal.now) ≤ 1000000000 }
     requires reads { IsTable checker.old.reads.items }

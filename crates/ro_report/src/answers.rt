@@ -2,6 +2,7 @@
 ghost use Rattle.std.specs.Prelude.{◌≡◌, ◌≤◌, ◌++◌, length, codes, decimal};
 ghost use Rattle.ro_report.specs.Report.{answer_text};
 
+use ro_elf::ExeError;
 use ro_event::TrapCause;
 use ro_faults::FaultsCode;
 use ro_journal_text::JournalCode;
@@ -42,8 +43,8 @@ pub enum Answer {
     SinkFailed { taken: u32 },
     /// A file could not be fetched.
     StoreFailed,
-    /// The file is not an executable; the code says why.
-    BadExe(u8),
+    /// The file is not an executable that is accepted.
+    BadExe(ExeError),
     /// The list of faults is bad in this line.
     BadFaults { line: u32, code: FaultsCode },
     /// The journal of a plan is bad in this line.
@@ -76,7 +77,7 @@ pub fn answer_line(answer: &Answer) -> Line
         Answer::Limit { steps, next } => twice_numbered("answer limit ", steps, next),
         Answer::SinkFailed { taken } => numbered("answer sink ", u64::from(taken)),
         Answer::StoreFailed => fixed("answer store"),
-        Answer::BadExe(code) => numbered("answer exe ", u64::from(code)),
+        Answer::BadExe(error) => numbered("answer exe ", u64::from(error.number())),
         Answer::BadFaults { line, code } => {
             twice_numbered("answer faults ", u64::from(line), u64::from(code.code()))
         }

@@ -8,6 +8,7 @@ mod summaries;
 
 pub use answers::{Answer, FileKind, answer_line};
 pub use laws::shown_line_by_line;
+pub use ro_elf::ExeError;
 pub use ro_journal_text::{JournalCode, entry_text, header};
 pub use ro_text::Line;
 pub use summaries::{bench_line, plain_line, summary};

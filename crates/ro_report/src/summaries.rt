@@ -1,9 +1,9 @@
 //! The summary of a run's journal.
 ghost use Rattle.std.specs.Prelude.{◌≡◌, ◌+◌, ◌*◌, ◌%◌, ◌^◌, ◌<◌, ◌≤◌, ◌++◌, length, decimal};
-ghost use Rattle.ro_journal.specs.Plan.{entry_plan};
-ghost use Rattle.ro_report.specs.Report.{is_vote, copies_of, hits_of, votes_in, copies_in, struck_in, steps_in, summary_text, plain_text, bench_text, weighed};
+ghost use Rattle.ro_journal.specs.Counts.{struck_in, steps_in};
+ghost use Rattle.ro_report.specs.Report.{summary_text, plain_text, bench_text, weighed};
 
-use ro_journal::Entry;
+use ro_journal::{Entry, copies, steps, struck, votes};
 use ro_text::{Line, ROOM, Text};
 
 /// Sums of bytes are numbers below this one.
@@ -80,65 +80,4 @@ fn push_field(text: &mut Text, name: &str, number: u64)
 {
     text.push(name);
     text.push_number(number);
-}
-
-fn votes(journal: &[Entry]) -> u64
-    ensures { result ≡ votes_in journal.now }
-{
-    journal.iter().filter(|entry| is_vote(entry)).count() as u64
-}
-
-fn copies(journal: &[Entry]) -> u64
-    ensures { result ≡ copies_in journal.now }
-{
-    journal.iter().map(|entry| copies_of(entry)).sum()
-}
-
-fn struck(journal: &[Entry]) -> u64
-    requires { struck_in journal.now < 2 ^ 64 }
-    ensures { result ≡ struck_in journal.now }
-{
-    journal.iter().map(|entry| hits(entry)).sum()
-}
-
-fn steps(journal: &[Entry]) -> u64
-    requires { steps_in journal.now < 2 ^ 64 }
-    ensures { result ≡ steps_in journal.now }
-{
-    journal.iter().map(|entry| entry_steps(entry)).sum()
-}
-
-fn is_vote(entry: &Entry) -> bool
-    ensures { result ≡ is_vote entry.now }
-{
-    matches!(entry, Entry::Vote { .. })
-}
-
-fn copies_of(entry: &Entry) -> u64
-    ensures { result ≡ copies_of entry.now }
-{
-    match *entry {
-        Entry::Vote { lost, .. } | Entry::Scrub { lost, .. } => lost.count() as u64,
-        _ => 0,
-    }
-}
-
-fn hits(entry: &Entry) -> u64
-    ensures { result ≡ hits_of entry.now }
-{
-    match *entry {
-        Entry::Put { hit, .. } => u64::from(hit),
-        _ => 0,
-    }
-}
-
-// How many steps the entry adds to the plan.
-fn entry_steps(entry: &Entry) -> u64
-    ensures { result ≡ length (entry_plan entry.now) }
-{
-    match *entry {
-        Entry::Vote { count, did, .. } => u64::from(count) + did.steps(),
-        Entry::Free { .. } => 1,
-        _ => 0,
-    }
 }

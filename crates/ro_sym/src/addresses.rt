@@ -38,12 +38,7 @@ pub fn object_at(bytes: &[u8], sections: SectionTable, address: u32) -> Option<W
 
 // The first symbol of a kind whose bytes hold an address.
 #[tactic(auto, unfolding(crate::specs::Addresses::symbol_over))]
-fn symbol_at(
-    bytes: &[u8],
-    sections: SectionTable,
-    kind: Kind,
-    address: u32,
-) -> Option<Within<'_>>
+fn symbol_at(bytes: &[u8], sections: SectionTable, kind: Kind, address: u32) -> Option<Within<'_>>
     ensures { option_map position_of result ≡ symbol_over kind bytes.now sections address }
 {
     let found = find_symbols(bytes, sections).ok()?;

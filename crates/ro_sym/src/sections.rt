@@ -1,8 +1,9 @@
 //! Sections: which holds the symbols, and which their names.
 ghost use Rattle.std.specs.Prelude.{◌≡◌, ◌+◌, ◌*◌, ◌≤◌, IfOk, IfErr, Ok, Err, length, map, find};
+ghost use Rattle.ro_elf.specs.Errors.{number_of};
 ghost use Rattle.ro_sym.specs.Sections.{section_in, holds_sections as holds_headers, section_headers, is_symbol_table, is_strings, is_held, content_of, holds_symbols as holds_table, symbols_with, symbols_among as among, symbols_of};
 
-use ro_elf::{BadExe, SectionTable, word_at};
+use ro_elf::{ExeError, SectionTable, word_at};
 
 /// The size of a section header, in bytes.
 const HEADER_SIZE: usize = 40;
@@ -23,8 +24,6 @@ const SH_LINK: usize = 24;
 const SHT_SYMTAB: u32 = 2;
 
 const SHT_STRTAB: u32 = 3;
-
-const BAD_SYMBOLS: BadExe = BadExe { code: 16 };
 
 /// A section header: its type, where its bytes stand in the file and how many there are, and the number of the section
 /// that it is linked to.
@@ -89,10 +88,10 @@ impl Section {
 /// The symbols of a file, and the bytes that their names stand in: those of its first symbol table.
 ///
 /// # Errors
-/// Code 16, where the section headers, the symbols or their strings aren't as they must be (ELF32).
-pub(crate) fn find_symbols(bytes: &[u8], table: SectionTable) -> Result<SymbolTable<'_>, BadExe>
+/// `Symbols`, where the section headers, the symbols or their strings aren't as they must be (ELF32).
+pub(crate) fn find_symbols(bytes: &[u8], table: SectionTable) -> Result<SymbolTable<'_>, ExeError>
     ensures found { IfOk result (λ f. symbols_of bytes.now table ≡ Ok (record { symbols = f.symbols.now; strings = f.strings.now })) }
-    ensures refused { IfErr result (λ bad. symbols_of bytes.now table ≡ Err bad.code) }
+    ensures refused { IfErr result (λ error. symbols_of bytes.now table ≡ Err (number_of error)) }
 {
     if table.offset == 0 || table.count == 0 {
         return Ok(SymbolTable {
@@ -101,7 +100,7 @@ pub(crate) fn find_symbols(bytes: &[u8], table: SectionTable) -> Result<SymbolTa
         });
     }
     if !holds_sections(bytes, table) {
-        return Err(BAD_SYMBOLS);
+        return Err(ExeError::Symbols);
     }
     symbols_among(bytes, headers_of(bytes, table))
 }
@@ -138,9 +137,9 @@ fn find_symbol_table(headers: &[[u8; HEADER_SIZE]]) -> Option<Section>
 fn symbols_among<'a>(
     bytes: &'a [u8],
     headers: &[[u8; HEADER_SIZE]],
-) -> Result<SymbolTable<'a>, BadExe>
+) -> Result<SymbolTable<'a>, ExeError>
     ensures found { IfOk result (λ f. among bytes.now headers.now ≡ Ok (record { symbols = f.symbols.now; strings = f.strings.now })) }
-    ensures refused { IfErr result (λ bad. among bytes.now headers.now ≡ Err bad.code) }
+    ensures refused { IfErr result (λ error. among bytes.now headers.now ≡ Err (number_of error)) }
 {
     let Some(symbols) = find_symbol_table(headers) else {
         return Ok(SymbolTable {
@@ -149,7 +148,7 @@ fn symbols_among<'a>(
         });
     };
     if !holds_symbols(bytes, headers.len(), symbols) {
-        return Err(BAD_SYMBOLS);
+        return Err(ExeError::Symbols);
     }
     symbols_in(
         bytes,
@@ -172,13 +171,13 @@ fn symbols_in<'a>(
     bytes: &'a [u8],
     symbols: Section,
     strings: Section,
-) -> Result<SymbolTable<'a>, BadExe>
+) -> Result<SymbolTable<'a>, ExeError>
     requires { symbols.offset + symbols.size ≤ length bytes.now }
     ensures found { IfOk result (λ f. symbols_with bytes.now symbols strings ≡ Ok (record { symbols = f.symbols.now; strings = f.strings.now })) }
-    ensures refused { IfErr result (λ bad. symbols_with bytes.now symbols strings ≡ Err bad.code) }
+    ensures refused { IfErr result (λ error. symbols_with bytes.now symbols strings ≡ Err (number_of error)) }
 {
     if !strings.has_strings() || !strings.lies_in(bytes) {
-        return Err(BAD_SYMBOLS);
+        return Err(ExeError::Symbols);
     }
     let (symbols, _) = symbols.content(bytes).as_chunks();
     Ok(SymbolTable {

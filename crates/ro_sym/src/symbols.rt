@@ -221,11 +221,7 @@ pub(crate) fn find_place(symbols: &[[u8; SYMBOL_SIZE]], strings: &[u8], name: &s
 }
 
 // The first symbol of a kind whose bytes hold an address.
-pub(crate) fn find_around(
-    symbols: &[[u8; SYMBOL_SIZE]],
-    kind: Kind,
-    address: u32,
-) -> Option<Symbol>
+pub(crate) fn find_around(symbols: &[[u8; SYMBOL_SIZE]], kind: Kind, address: u32) -> Option<Symbol>
     ensures found { result ≡ find (is_around kind address) (map symbol_in symbols.now) }
     ensures starts { IfSome result (λ symbol. symbol.value ≤ address) }
 {

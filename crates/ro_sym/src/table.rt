@@ -1,12 +1,13 @@
 //! The call table.
 ghost use Rattle.std.specs.Prelude.{◌≡◌, IfOk, IfErr, Ok, Err, map, length};
 ghost use Rattle.std.specs.List.{list_all};
+ghost use Rattle.ro_elf.specs.Errors.{number_of};
 ghost use Rattle.ro_sym.specs.Symbols.{symbol_in};
 ghost use Rattle.ro_sym.specs.Calls.{places_of, is_one, differs, are_different, are_clear, address_of, table_of, table_with, calls_of};
 
 use crate::sections::{SYMBOL_SIZE, find_symbols};
 use crate::symbols::{Place, find_place, names_end};
-use ro_elf::{BadExe, Elf};
+use ro_elf::{Elf, ExeError};
 use ro_event::{CallTable, FUNCTIONS, Function};
 
 impl Place {
@@ -50,27 +51,27 @@ impl Place {
 /// at.
 ///
 /// # Errors
-/// Code 16, exactly where the section headers, the symbols or their names aren't as they must be (ELF32); else code 17,
-/// exactly where one of the names has two values or two of them have one.
-pub fn calls(bytes: &[u8], elf: &Elf) -> Result<CallTable, BadExe>
+/// `Symbols`, exactly where the section headers, the symbols or their names aren't as they must be (ELF32); else
+/// `Functions`, exactly where one of the names has two values or two of them have one.
+pub fn calls(bytes: &[u8], elf: &Elf) -> Result<CallTable, ExeError>
     ensures found { IfOk result (λ table. calls_of bytes.now elf.now.sections ≡ Ok table) }
-    ensures refused { IfErr result (λ bad. calls_of bytes.now elf.now.sections ≡ Err bad.code) }
+    ensures refused { IfErr result (λ error. calls_of bytes.now elf.now.sections ≡ Err (number_of error)) }
 {
     let found = find_symbols(bytes, elf.sections())?;
     table_in(found.symbols, found.strings)
 }
 
 // The call table of the functions among symbols.
-fn table_in(symbols: &[[u8; SYMBOL_SIZE]], strings: &[u8]) -> Result<CallTable, BadExe>
+fn table_in(symbols: &[[u8; SYMBOL_SIZE]], strings: &[u8]) -> Result<CallTable, ExeError>
     ensures found { IfOk result (λ table. table_with strings.now (map symbol_in symbols.now) ≡ Ok table) }
-    ensures refused { IfErr result (λ bad. table_with strings.now (map symbol_in symbols.now) ≡ Err bad.code) }
+    ensures refused { IfErr result (λ error. table_with strings.now (map symbol_in symbols.now) ≡ Err (number_of error)) }
 {
     if !names_end(symbols, strings) {
-        return Err(BadExe { code: 16 });
+        return Err(ExeError::Symbols);
     }
     let places = find_places(symbols, strings);
     if !clear(&places) {
-        return Err(BadExe { code: 17 });
+        return Err(ExeError::Functions);
     }
     Ok(call_table(&places))
 }

@@ -6,7 +6,7 @@ use crate::running::answer_of;
 use ro_files::Replay;
 use ro_io::Sink;
 use ro_journal::How;
-use ro_machine::{PlainEnd, PlanErr, TooLong, plan_steps, run_plan};
+use ro_machine::{PlainEnd, PlanError, TooLong, plan_steps, run_plan};
 use ro_report::Answer;
 use std::alloc::Global;
 use std::sync::Arc;
@@ -53,9 +53,9 @@ pub(crate) fn play<K: Sink>(alloc: Global, replay: Replay, out: &mut K) -> Playe
             steps,
             bytes,
         },
-        Err(PlanErr::NoStep { place }) => unplayed(Answer::NoStep { place }),
-        Err(PlanErr::SinkFailed { taken }) => unplayed(Answer::SinkFailed { taken }),
-        Err(PlanErr::NoMemory) => unplayed(Answer::NoMemory),
+        Err(PlanError::NoStep { place }) => unplayed(Answer::NoStep { place }),
+        Err(PlanError::SinkFailed { taken }) => unplayed(Answer::SinkFailed { taken }),
+        Err(PlanError::NoMemory) => unplayed(Answer::NoMemory),
     }
 }
 

@@ -7,7 +7,7 @@ use ro_files::Replay;
 use ro_image::Executable;
 use ro_journal::Entry;
 use ro_machine::{TooLong, plan_steps};
-use ro_races::{Found, RacesErr, check};
+use ro_races::{Found, RacesError, check};
 use ro_report::Answer;
 use std::alloc::Global;
 use std::sync::Arc;
@@ -38,7 +38,7 @@ fn first_race(alloc: Global, image: Executable, input: &[u8], journal: &[Entry])
     match check(alloc, &image, input, journal) {
         Ok(Found::NoRace) => Answer::NoRace,
         Ok(Found::Pair { i, j, byte }) => Answer::Race { i, j, byte },
-        Err(RacesErr::NoStep { place }) => Answer::NoStep { place },
-        Err(RacesErr::NoMemory) => Answer::NoMemory,
+        Err(RacesError::NoStep { place }) => Answer::NoStep { place },
+        Err(RacesError::NoMemory) => Answer::NoMemory,
     }
 }

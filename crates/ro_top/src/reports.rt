@@ -3,7 +3,8 @@
 ghost use Rattle.std.specs.Prelude.{◌≡◌, ◌<◌, ◌≤◌, ◌^◌, OnOk, OnErr};
 ghost use Rattle.ro_io.specs.Outside.{Rose, more};
 ghost use Rattle.ro_journal_text.specs.Texts.{entries_text};
-ghost use Rattle.ro_report.specs.Report.{answer_text, struck_in, steps_in, journal_part, report_text, report_of};
+ghost use Rattle.ro_journal.specs.Counts.{struck_in, steps_in};
+ghost use Rattle.ro_report.specs.Report.{answer_text, journal_part, report_text, report_of};
 ghost use Rattle.ro_top.specs.Top.{TakesFront, IsTold, is_whole, plain_part, plain_report, summary_part};
 ghost use Rattle.ro_top.specs.declared.done.Told.TheVariants as told;
 

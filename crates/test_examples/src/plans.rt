@@ -4,7 +4,9 @@ ghost use Rattle.std.specs.Prelude.{◌≡◌};
 use ro_image::{Executable, read_executable};
 use ro_io::{Act, MemSink};
 use ro_journal::{Did, Entry, How, Lost};
-use ro_machine::{MOST_STEPS, Plain, PlainEnd, PlanErr, StepErr, TooLong, plan_steps, run_plan};
+use ro_machine::{
+    MOST_STEPS, Plain, PlainEnd, PlanError, StepError, TooLong, plan_steps, run_plan,
+};
 use ro_make::{bench_image, image_bytes};
 use std::alloc::{AllocError, Global};
 use std::process::Abort;
@@ -113,14 +115,14 @@ fn run(
     image: Executable,
     journal: &[Entry],
     out: &mut MemSink,
-) -> Result<PlainEnd, PlanErr>
+) -> Result<PlainEnd, PlanError>
     requires { out.old.failures ≡ 0 }
 {
     let Ok(_) = plan_steps(journal) else {
         panic!(rt; "it is short");
     };
     let Ok(image) = Arc::new(alloc, image) else {
-        return Err(PlanErr::NoMemory);
+        return Err(PlanError::NoMemory);
     };
     run_plan(alloc, &image, &[], journal, out)
 }
@@ -139,8 +141,11 @@ fn short_plans(rt: HostRuntime) -> Result<(), Fail> {
         (vote(0, 2, Did::Served), Ok(exit)),
         (vote(0, 3, Did::Watch), Ok(exit)),
         (vote(0, 2, Did::Blocked), Ok(unended)),
-        (vote(0, 3, Did::Served), Err(PlanErr::NoStep { place: 3 })),
-        (Entry::Free { thread: 1 }, Err(PlanErr::NoStep { place: 0 })),
+        (vote(0, 3, Did::Served), Err(PlanError::NoStep { place: 3 })),
+        (
+            Entry::Free { thread: 1 },
+            Err(PlanError::NoStep { place: 0 }),
+        ),
         (Entry::End { how: How::Deadlock }, Ok(unended)),
     ] {
         let mut out = MemSink::new(rt.alloc(), 0, Vec::new(rt.alloc()))?;
@@ -200,8 +205,8 @@ fn written_in_turns(
             for _ in 0..1_000 {
                 match plain.step(thread) {
                     Ok(()) => text.extend_from_slice(plain.written())?,
-                    Err(StepErr::NoStep) => break,
-                    Err(StepErr::NoMemory) => return Err(AllocError),
+                    Err(StepError::NoStep) => break,
+                    Err(StepError::NoMemory) => return Err(AllocError),
                 }
             }
         }
@@ -243,7 +248,7 @@ fn failing_sinks(rt: HostRuntime) -> Result<(), Fail> {
         let mut out = MemSink::new(rt.alloc(), 8, acts)?;
         let image = image(&rt, rt.alloc(), &HELLO)?;
         let came = run(&rt, rt.alloc(), image, &whole, &mut out);
-        assert_eq!(rt; came, Err(PlanErr::SinkFailed { taken: want }));
+        assert_eq!(rt; came, Err(PlanError::SinkFailed { taken: want }));
         assert_eq!(rt; out.bytes(), bytes);
     }
     Ok(())

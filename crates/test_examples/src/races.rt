@@ -3,7 +3,7 @@ use ro_image::{Executable, read_executable};
 use ro_journal::{Did, Entry, Lost};
 use ro_machine::plan_steps;
 use ro_make::image_bytes;
-use ro_races::{Found, RacesErr, check};
+use ro_races::{Found, RacesError, check};
 use std::alloc::{AllocError, Global};
 use std::process::Abort;
 use std::sync::Arc;
@@ -246,7 +246,7 @@ fn run(
     words: &[u32],
     names: Names,
     journal: &[Entry],
-) -> Result<Result<Found, RacesErr>, AllocError> {
+) -> Result<Result<Found, RacesError>, AllocError> {
     let Ok(_) = plan_steps(journal) else {
         panic!(rt; "it is short");
     };
@@ -307,7 +307,7 @@ fn a_missing_step_is_told_behind_a_race(rt: HostRuntime) -> Result<(), Fail> {
         Entry::Free { thread: 2 },
     ];
     let missing = run(&rt, rt.alloc(), &RACING, Names::Create, &journal)?;
-    assert_eq!(rt; missing, Err(RacesErr::NoStep { place: 7 }));
+    assert_eq!(rt; missing, Err(RacesError::NoStep { place: 7 }));
     Ok(())
 }
 

@@ -6,7 +6,7 @@ use ro_event::TrapCause;
 use ro_faults::FaultsCode;
 use ro_journal::{Did, Entry, How, Lease, Lost};
 use ro_journal_text::{JournalCode, entry_text, header};
-use ro_report::{Answer, FileKind, answer_line, bench_line, plain_line, summary};
+use ro_report::{Answer, ExeError, FileKind, answer_line, bench_line, plain_line, summary};
 use std::alloc::AllocError;
 
 #[test]
@@ -27,7 +27,7 @@ fn answers(rt: HostRuntime) {
         ),
         (Answer::SinkFailed { taken: 2 }, "answer sink 2\n"),
         (Answer::StoreFailed, "answer store\n"),
-        (Answer::BadExe(17), "answer exe 17\n"),
+        (Answer::BadExe(ExeError::Functions), "answer exe 17\n"),
         (
             Answer::BadFaults {
                 line: 257,

@@ -3,7 +3,7 @@
 use ro_image::{Executable, read_executable};
 use ro_io::MemSink;
 use ro_journal::{Did, Entry, How, Lost};
-use ro_machine::{PlainEnd, PlanErr, plan_steps, run_plan};
+use ro_machine::{PlainEnd, PlanError, plan_steps, run_plan};
 use ro_make::image_bytes;
 use ro_races::{Found, check};
 use std::alloc::{AllocError, Global};
@@ -97,7 +97,7 @@ fn run(
     alloc: Global,
     words: &[u32],
     journal: &[Entry],
-) -> Result<Result<PlainEnd, PlanErr>, AllocError> {
+) -> Result<Result<PlainEnd, PlanError>, AllocError> {
     let Ok(_) = plan_steps(journal) else {
         panic!(rt; "it is short");
     };
@@ -164,7 +164,7 @@ fn waits_for_signal_and_mutex(rt: HostRuntime) -> Result<(), Fail> {
         }
         journal.push(Entry::Free { thread: 0 })?;
         let came = run(&rt, rt.alloc(), &QUEUE, journal.as_slice())?;
-        assert_eq!(rt; came, Err(PlanErr::NoStep { place }), "{count}");
+        assert_eq!(rt; came, Err(PlanError::NoStep { place }), "{count}");
     }
     Ok(())
 }

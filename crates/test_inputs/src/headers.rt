@@ -58,7 +58,7 @@ fn changed_bytes(rt: HostRuntime) {
         file[at] = value;
         match read_elf(&file) {
             Ok(_) => assert_eq!(rt; 0, code, "with byte {at} {value}"),
-            Err(bad) => assert_eq!(rt; bad.code, code, "with byte {at} {value}"),
+            Err(error) => assert_eq!(rt; error.number(), code, "with byte {at} {value}"),
         }
     }
 }

@@ -43,7 +43,7 @@ const THREADS: [u8; 540] = [
 fn code_of(rt: &impl Abort, alloc: Global, file: &[u8]) -> u8 {
     match read_executable(alloc, file) {
         Ok(_) => 0,
-        Err(ImageError::Bad(bad)) => bad.code,
+        Err(ImageError::Bad(error)) => error.number(),
         Err(ImageError::NoMemory) => panic!(rt; "there is memory"),
     }
 }

@@ -37,7 +37,7 @@ fn code_of(rt: &impl Abort, file: &[u8]) -> u8 {
     };
     match calls(file, &elf) {
         Ok(_) => 0,
-        Err(bad) => bad.code,
+        Err(error) => error.number(),
     }
 }
 
@@ -304,12 +304,26 @@ const OBJECTS: &[Row] = &[
     },
     // the first has eight bytes up to the end of the addresses and past it
     Row {
-        changes: &[(260, 0xFC), (261, 0xFF), (262, 0xFF), (263, 0xFF), (264, 8), (268, 0x11)],
+        changes: &[
+            (260, 0xFC),
+            (261, 0xFF),
+            (262, 0xFF),
+            (263, 0xFF),
+            (264, 8),
+            (268, 0x11),
+        ],
         address: 0xFFFF_FFFF,
         want: Some(("pthread_create", 3)),
     },
     Row {
-        changes: &[(260, 0xFC), (261, 0xFF), (262, 0xFF), (263, 0xFF), (264, 8), (268, 0x11)],
+        changes: &[
+            (260, 0xFC),
+            (261, 0xFF),
+            (262, 0xFF),
+            (263, 0xFF),
+            (264, 8),
+            (268, 0x11),
+        ],
         address: 0,
         want: None,
     },

@@ -7,7 +7,7 @@ use ro_image::read_executable;
 use ro_io::{Act, Gate, MemSink, MemStore, OpenGate, Place};
 use ro_journal::{Entry, How};
 use ro_make::image_bytes;
-use ro_report::{Answer, FileKind, JournalCode};
+use ro_report::{Answer, ExeError, FileKind, JournalCode};
 use ro_settings::Settings;
 use ro_top::{Done, romain, run_job, without_words};
 use std::alloc::Global;
@@ -193,7 +193,7 @@ const PLANS: &[Plan] = &[
     Plan {
         words: &["plain", "journal", "--plan", "header"],
         acts: &[],
-        answer: Answer::BadExe(2),
+        answer: Answer::BadExe(ExeError::Magic),
         status: 247,
         held: "",
         reported: "answer exe 2\n",
@@ -367,7 +367,7 @@ const TOLD: &[Plan] = &[
     Plan {
         words: &["inject", "42", "1", "one"],
         acts: &[],
-        answer: Answer::BadExe(1),
+        answer: Answer::BadExe(ExeError::Short),
         status: 247,
         held: "",
         reported: "answer exe 1\n",

@@ -166,38 +166,37 @@ fn a_trap(rt: HostRuntime) -> Result<(), Fail> {
 
 // A thread of each state; of those that wait for variables one whose names are known, and one whose names are not.
 fn waiting(alloc: Global) -> Result<Vec<Waiting>, AllocError> {
+    let states = [
+        State::Exited,
+        State::Locks {
+            mutex: variable(alloc, 0x10100, "guard", 0)?,
+            owner: Some(4),
+        },
+        State::Locks {
+            mutex: nameless(0x10100),
+            owner: None,
+        },
+        State::Waits {
+            condition: variable(alloc, 0x10104, "ready", 0)?,
+            signalled: false,
+            mutex: variable(alloc, 0x10114, "queue", 12)?,
+            owner: None,
+        },
+        State::Waits {
+            condition: nameless(0x10104),
+            signalled: true,
+            mutex: nameless(0x10100),
+            owner: Some(4),
+        },
+        State::Joins(1),
+        State::Blocked,
+        State::Unblocked,
+    ];
     let mut threads = Vec::new(alloc);
-    add(&mut threads, State::Exited)?;
-    add(&mut threads, State::Locks {
-        mutex: variable(alloc, 0x10100, "guard", 0)?,
-        owner: Some(4),
-    })?;
-    add(&mut threads, State::Locks {
-        mutex: nameless(0x10100),
-        owner: None,
-    })?;
-    add(&mut threads, State::Waits {
-        condition: variable(alloc, 0x10104, "ready", 0)?,
-        signalled: false,
-        mutex: variable(alloc, 0x10114, "queue", 12)?,
-        owner: None,
-    })?;
-    add(&mut threads, State::Waits {
-        condition: nameless(0x10104),
-        signalled: true,
-        mutex: nameless(0x10100),
-        owner: Some(4),
-    })?;
-    add(&mut threads, State::Joins(1))?;
-    add(&mut threads, State::Blocked)?;
-    add(&mut threads, State::Unblocked)?;
+    for (thread, state) in (0..8).zip(states) {
+        threads.push(Waiting { thread, state })?;
+    }
     Ok(threads)
-}
-
-// One more thread.
-fn add(threads: &mut Vec<Waiting>, state: State) -> Result<(), AllocError> {
-    let thread = threads.len() as u32;
-    threads.push(Waiting { thread, state })
 }
 
 #[test]
@@ -629,7 +628,7 @@ fn the_instruction_that_trapped(rt: HostRuntime) -> Result<(), Fail> {
 }
 
 // A guest that locks a mutex, signals a condition variable and then waits for it, and its journal.
-const SIGNALS_THEN_WAITS: &[u32] = &[
+const SIGNALS_THEN_WAITS: [u32; 11] = [
     0x0001_1437,
     0x0004_0513,
     0x0180_00EF,
@@ -677,7 +676,7 @@ const NAMES: [(&str, u32); 4] = [
 ];
 
 // Where the size and the type of its first symbol stand.
-const SIZE: usize = 84 + 4 * 11 + 16 + 8;
+const SIZE: usize = 84 + 4 * SIGNALS_THEN_WAITS.len() + 16 + 8;
 
 const TYPE: usize = SIZE + 4;
 
@@ -691,7 +690,7 @@ fn a_thread_that_waits_for_ever(rt: HostRuntime) -> Result<(), Fail> {
     ];
     let json =
         r#"{"copies":[],"end":{"how":"deadlock","threads":[{"condition":69636,"condition_object":{"name":"queue","offset":4},"mutex":69632,"mutex_object":{"name":"queue","offset":0},"owner":null,"signalled":false,"state":"waits","thread":0}]},"entries":22,"steps":11,"verdict":"legal"}"#;
-    let mut file = image_bytes(rt.alloc(), SIGNALS_THEN_WAITS, 5, &NAMES)?;
+    let mut file = image_bytes(rt.alloc(), &SIGNALS_THEN_WAITS, 5, &NAMES)?;
     assert!(rt; TYPE < file.len());
     file[SIZE] = 8;
     file[TYPE] = 0x11;

@@ -1,6 +1,8 @@
 use Rattle.std.proofs.Common.{◌≡◌, ◌<◌, ◌≤◌, List, None, length, sym, ap, ◌∙◌, subst}
 use Rattle.std.specs.List.{All, AllPairs}
+use Rattle.std.specs.Option.{option_map}
 use Rattle.ro_elf.specs.Checks.{first_failing}
+use Rattle.ro_elf.specs.Errors.{number_of}
 use Rattle.ro_elf.specs.Header.{header_checks}
 use Rattle.ro_elf.specs.Segments.{headers_of, segments_of}
 use Rattle.ro_elf.specs.Elf.{IsLoaded, SharesNone, memory_of}
@@ -10,26 +12,26 @@ use Rattle.ro_elf.proofs.Loading.{checked_loaded, checked_apart, checked_memory}
 use Rattle.ro_elf.proofs.elf.read_elf.Goals as goal
 
 pub returns-in-Some-clause-refused : goal.returns-in-Some-clause-refused
-returns-in-Some-clause-refused c = bad_headers_first c.args.bytes.now c.in-Some.code (sym c.in-Some.ensures.first)
+returns-in-Some-clause-refused c = bad_headers_first c.args.bytes.now (number_of c.in-Some.error) (sym c.in-Some.ensures.first)
 
 pub returns-in-Some-bad_segments-clause-refused : goal.returns-in-Some-bad_segments-clause-refused
 returns-in-Some-bad_segments-clause-refused c =
     let bytes = c.args.bytes.now in
-    let passed : first_failing (header_checks bytes) ≡ None = sym c.bad_header.ensures.first ∙ c.in_default.is in
+    let passed : first_failing (header_checks bytes) ≡ None = sym c.bad_header.ensures.first ∙ ap (option_map number_of) c.in_default.is in
     let headers_are : c.headers_at-headers.result.items ≡ headers_of bytes = headers_of_is bytes c.word_at.result c.half_at.result _ c.word_at.ensures c.half_at.ensures c.headers_at-headers.ensures in
     bad_headers_second bytes c.word_at-entry.result _ _ c.word_at-entry.ensures headers_are c.as_slice-2.ensures.value passed _ (c.in-Some-bad_segments.ensures)
 
 pub returns-in-None-clause-accepted : goal.returns-in-None-clause-accepted
 returns-in-None-clause-accepted c =
     let bytes = c.args.bytes.now in
-    let passed : first_failing (header_checks bytes) ≡ None = sym c.bad_header.ensures.first ∙ c.in_default.is in
+    let passed : first_failing (header_checks bytes) ≡ None = sym c.bad_header.ensures.first ∙ ap (option_map number_of) c.in_default.is in
     let headers_are : c.headers_at-headers.result.items ≡ headers_of bytes = headers_of_is bytes c.word_at.result c.half_at.result _ c.word_at.ensures c.half_at.ensures c.headers_at-headers.ensures in
     bad_headers_second bytes c.word_at-entry.result _ _ c.word_at-entry.ensures headers_are c.as_slice-2.ensures.value passed _ (c.in-None.ensures)
 
 pub returns-in-None-clause-read : goal.returns-in-None-clause-read
 returns-in-None-clause-read c =
     let bytes = c.args.bytes.now in
-    let passed : first_failing (header_checks bytes) ≡ None = sym c.bad_header.ensures.first ∙ c.in_default.is in
+    let passed : first_failing (header_checks bytes) ≡ None = sym c.bad_header.ensures.first ∙ ap (option_map number_of) c.in_default.is in
     let headers_are : c.headers_at-headers.result.items ≡ headers_of bytes = headers_of_is bytes c.word_at.result c.half_at.result _ c.word_at.ensures c.half_at.ensures c.headers_at-headers.ensures in
     elf_is bytes c.word_at-entry.result _ _ c.word_at-entry.ensures headers_are c.as_slice.ensures.value passed _ _ c.segments_in-segments.ensures c.section_table.ensures
 

@@ -5,8 +5,8 @@ use Rattle.ro_journal.specs.declared.losers.Lost.{Lost}
 use Rattle.ro_journal.specs.declared.losers.Lost.TheVariants.{Nobody, One, Two}
 use Rattle.ro_journal.specs.Losers.{numbers}
 use Rattle.ro_journal.specs.declared.Entry.{Entry}
-use Rattle.ro_journal.specs.declared.Entry.TheVariants.{Take, Put, Vote, Free, Scrub, End}
-use Rattle.ro_report.specs.Report.{copies_of, copies_in}
+use Rattle.ro_journal.specs.declared.Entry.TheVariants.{Vote, Scrub}
+use Rattle.ro_journal.specs.Counts.{copies_of, copies_in}
 
 -- at most two lose
 few : (lost : Lost) → length (numbers lost) ≤ 2
@@ -16,11 +16,8 @@ few (Two lower higher) = omega arith
 
 of_one : (entry : Entry) → copies_of entry ≤ 2
 of_one (Vote thread count won lost did) = few lost
-of_one (Take lease) = omega arith
-of_one (Put lease count hit) = omega arith
-of_one (Free thread) = omega arith
 of_one (Scrub won lost) = few lost
-of_one (End how) = omega arith
+of_one _ = omega arith
 
 -- at most two an entry
 pub few_copies : (journal : List Entry) → copies_in journal ≤ 2 * length journal

@@ -1,9 +1,9 @@
 -- At most two copies for each entry.
 use Rattle.std.proofs.Common.{◌<◌, ◌^◌, arith, rules}
 use Rattle.std.specs.List.{sum_by}
-use Rattle.ro_report.specs.Report.{copies_of}
-use Rattle.ro_report.proofs.Copies.{few_copies}
-use Rattle.ro_report.proofs.summaries.copies.Goals as goal
+use Rattle.ro_journal.specs.Counts.{copies_of}
+use Rattle.ro_journal.proofs.CopyCounts.{few_copies}
+use Rattle.ro_journal.proofs.counts.copies.Goals as goal
 
 pub sum-requires-clause-fits : goal.sum-requires-clause-fits
 sum-requires-clause-fits c =

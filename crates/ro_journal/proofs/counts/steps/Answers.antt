@@ -2,8 +2,8 @@
 use Rattle.std.proofs.Common.{◌≡◌, ◌<◌, ◌^◌, ℕ, length, rules, subst, sym, ◌∙◌}
 use Rattle.std.specs.List.{sum_by}
 use Rattle.ro_journal.specs.Plan.{entry_plan}
-use Rattle.ro_report.proofs.Steps.{length-plan_of}
-use Rattle.ro_report.proofs.summaries.steps.Goals as goal
+use Rattle.ro_journal.proofs.StepCounts.{length-plan_of}
+use Rattle.ro_journal.proofs.counts.steps.Goals as goal
 
 pub sum-requires-clause-fits : goal.sum-requires-clause-fits
 sum-requires-clause-fits c =

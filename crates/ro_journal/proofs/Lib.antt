@@ -1,0 +1,2 @@
+mod CopyCounts
+mod StepCounts

@@ -2,25 +2,20 @@
 use Rattle.std.proofs.Common.{◌≡◌, ℕ, ◌+◌, List, [], ◌∷◌, length, Option, Some, None, refl, ap, ◌∙◌, arith, length-append}
 use Rattle.std.specs.Prelude.{replicate}
 use Rattle.std.proofs.lemmas.List.{length-replicate}
-use Rattle.ro_journal.specs.declared.Lease.{Lease}
 use Rattle.ro_journal.specs.declared.Entry.{Entry}
 use Rattle.ro_journal.specs.declared.Entry.TheVariants.{Take, Put, Vote, Free, Scrub, End}
 use Rattle.ro_journal.specs.Losers.{numbers}
 use Rattle.ro_journal.specs.Plan.{entry_plan, event_steps, plan_of}
-use Rattle.ro_replica.specs.Runs.{RanTo}
 use Rattle.ro_legal.specs.Core.{Job, Core, opening_core}
 use Rattle.ro_legal.specs.Event.{Event, with_recovered}
-use Rattle.ro_legal.specs.Legal.{after, lease_run, core_after_put, core_after_event, event_in, IsAllowed, LegalFrom, Legal, replay_from, replay}
+use Rattle.ro_legal.specs.Legal.{after, lease_run, core_after_event, event_in, IsAllowed, LegalFrom, Legal, replay_from, replay}
+use Rattle.ro_legal.proofs.Leases.{put-only}
 use Rattle.ro_legal.proofs.Ordered.{free-parts, freed-is, freed-steps}
-
-put-steps : (job : Job) (core : Core) (lease : Lease) (count : ℕ) (o : Option RanTo) → (core_after_put job core lease count o).steps ≡ core.steps
-put-steps job core lease count None = refl
-put-steps job core lease count (Some ran) = refl
 
 entry-steps : (job : Job) (core : Core) (entry : Entry) → IsAllowed job core entry → (after job core entry).steps ≡ core.steps + length (entry_plan entry)
 unfolding after
 entry-steps job core (Take lease) m = omega arith
-entry-steps job core (Put lease count hit) m = let same = put-steps job core lease count (lease_run job core lease count) in omega arith
+entry-steps job core (Put lease count hit) m = let same = ap (λ (c : Core). c.steps) (put-only job core lease count (lease_run job core lease count)) in omega arith
 entry-steps job core (Vote thread count won lost did) m =
     let comes : (core_after_event core thread count (with_recovered won (numbers lost) core.replicas) (event_in job core thread won)).steps ≡ core.steps + count + event_steps m.event.did =
     ap (λ (o : Option Event). (core_after_event core thread count (with_recovered won (numbers lost) core.replicas) o).steps) m.comes

@@ -116,7 +116,7 @@ module _ (job : Job) (core : Core) (driver : ℕ) (lent : LentOf) (back : BackOf
       (one.0, sym runs.hit_is ∙ one.1 ∙ m.struck)
 
 -- what the driver may put back
-pub may-return : (core : Fields) (driver : ℕ) (lent : LentOf) (back : BackOf) → Lends core.job (core_in core) driver lent → Gives lent back → (m : MayReturn (seen core) driver back.replica back.ran.count back.ran.hit) × (m.lease ≡ its_lease driver lent)
+pub may-return : (core : Fields) (driver : ℕ) (lent : LentOf) (back : BackOf) → Lends core.job (core_in core) driver lent → Gives lent back → (m : MayReturn (seen core) driver back.replica back.ran.count back.ran.hit) × (m.lease ≡ lent.lease)
 may-return core driver lent back s g = (
   record {
     lease = lent.lease;

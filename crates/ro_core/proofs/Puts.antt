@@ -10,7 +10,6 @@ use Rattle.ro_journal.specs.Plan.{outcome_of}
 use Rattle.ro_event.specs.declared.calls.Call.{Call}
 use Rattle.ro_kernel.specs.State.{State}
 use Rattle.ro_replica.specs.Replica.{stop_of}
-use Rattle.ro_replica.specs.Runs.{RanTo}
 use Rattle.ro_replica.specs.Seen.{ReplicaOf, replica_of}
 use Rattle.ro_journal.specs.declared.Lease.{Lease}
 use Rattle.ro_legal.specs.Core.{Job, Core, is_lease, is_out, lease_of}
@@ -19,7 +18,7 @@ use Rattle.ro_core.specs.Seen.{IsOfJob}
 use Rattle.ro_core.specs.Fields.{AreSeated, one_end, Fields, core_in, blocked_at, Holds}
 use Rattle.ro_legal.proofs.Journals.{replay_more, outcome_of-append}
 use Rattle.ro_core.proofs.Homes.{put_seated, seat_within}
-use Rattle.ro_legal.proofs.Leases.{fewer, leases_apart}
+use Rattle.ro_legal.proofs.Leases.{fewer, put-only, leases_apart}
 use Rattle.ro_core.specs.Grouped.{Returns}
 use Rattle.std.proofs.lemmas.Option.{slice_get_within}
 use Rattle.ro_legal.proofs.Grants.{lent-go, lent-thread}
@@ -35,15 +34,11 @@ held-lease f h driver lease e = ap (find (λ (l : Lease). l.driver == driver)) h
 pub same-lease : (f : Fields) → Holds f → (driver : ℕ) (held found : Lease) → lease_of (core_in f) driver ≡ Some held → find (λ l. l.driver == driver) f.leases ≡ Some found → held ≡ found
 same-lease f h driver held found e g = let k : Some held ≡ Some found = sym (held-lease f h driver held e) ∙ g in cc
 
-put-sends : (job : Job) (core : Core) (lease : Lease) (count : ℕ) (ran : Option RanTo) → (core_after_put job core lease count ran).output ≡ core.output
-put-sends job core lease count None = refl
-put-sends job core lease count (Some ran) = refl
-
 -- a put sends nothing
 pub put-output : (job : Job) (journal : List Entry) (lease : Lease) (count hit : ℕ) → output_of job (journal ++ Put lease count hit ∷ []) ≡ output_of job journal
 unfolding after
 put-output job journal lease count hit =
-    ap (λ (c : Core). c.output) (replay_more job journal (Put lease count hit)) ∙ put-sends job (replay job journal) lease count (lease_run job (replay job journal) lease count)
+    ap (λ (c : Core). c.output) (replay_more job journal (Put lease count hit)) ∙ ap (λ (c : Core). c.output) (put-only job (replay job journal) lease count (lease_run job (replay job journal) lease count))
 
 -- no end is due while a lease is out
 out-going : (f : Fields) → Holds f → (lease : Lease) → is_out (core_in f) lease ≡ true → f.due ≡ None

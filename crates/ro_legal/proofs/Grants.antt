@@ -40,6 +40,7 @@ use Rattle.ro_legal.proofs.Happens.{Happens, event-happens, call-happens}
 use Rattle.ro_legal.proofs.Journals.{LegalFrom-parts, legal-keeps, replay_more}
 use Rattle.ro_legal.proofs.Leases.{Apart, has_replica, same-lease, out_has, gone, event_leases, apart_after}
 use Rattle.ro_legal.proofs.Ordered.{going-parts, put-parts, vote-parts, free-parts, scrub-parts, event-parts, freed-is}
+use Rattle.ro_legal.proofs.Outcomes.{over_from}
 use Rattle.ro_legal.proofs.Retired.{RunMeets, meets}
 
 -- ---- what is lent can go on
@@ -52,7 +53,7 @@ abbrev pub LentGo : Core → Type 0
 LentGo core = (lease : Lease) → is_out core lease ≡ true → goes_in core lease.replica lease.thread ≡ true
 
 -- what is in a filtered list is in the list
-any-filter : {X : Type 0} (p q : X → Bool) (xs : List X) → list_any p (filter q xs) ≡ true → list_any p xs ≡ true
+pub any-filter : {X : Type 0} (p q : X → Bool) (xs : List X) → list_any p (filter q xs) ≡ true → list_any p xs ≡ true
 any-filter p q [] e = e
 any-filter p q (x ∷ xs) e = by (any-filter p q xs) (q x) e
   where
@@ -367,19 +368,6 @@ one-grant job journal entry legal replica thread stands call e at =
     subst (λ (c : Core). Goes c entry replica thread stands) (sym (replay_more job journal entry))
     (entry-keeps job (replay job journal) entry p.allowed (lent-go job journal p.legal) replica thread stands call (found (replay job journal) replica thread stands e) at)
 
--- nothing is allowed behind an end
-pub ended-none : (job : Job) (core : Core) (entry : Entry) → IsAllowed job core entry → core.ended ≡ None
-ended-none job core (Take lease) may = (going-parts core may.going).1
-ended-none job core (Put lease count hit) may = may.not_ended
-ended-none job core (Vote thread count won lost did) may = (vote-parts core thread may.may).not_ended
-ended-none job core (Free thread) may = (free-parts job core thread may.may).not_ended
-ended-none job core (Scrub won lost) may = (scrub-parts core may.may).not_ended
-ended-none job core (End how) may = may.0
-
-end-last : (job : Job) (core : Core) (how : How) (behind : List Entry) → LegalFrom job (after job core (End how)) behind → behind ≡ []
-unfolding after
-end-last job core how [] legal = refl
-end-last job core how (entry ∷ behind) legal = absurd (let e : Some how ≡ None = ended-none job (after job core (End how)) entry legal.0 in cc)
-
 pub is-last : (job : Job) (before behind : List Entry) (how : How) → Legal job (before ++ End how ∷ behind) → behind ≡ []
-is-last job before behind how legal = end-last job (replay job before) how behind (LegalFrom-parts job (opening_core job) before (End how ∷ behind) legal).1.1
+unfolding after
+is-last job before behind how legal = over_from job (after job (replay job before) (End how)) how behind refl (LegalFrom-parts job (opening_core job) before (End how ∷ behind) legal).1.1

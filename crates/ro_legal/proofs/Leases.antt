@@ -116,6 +116,12 @@ pub event_leases : (core : Core) (thread count : ℕ) (replicas : List Replica) 
 event_leases core thread count replicas None = refl
 event_leases core thread count replicas (Some event) = refl
 
+-- a put changes no more than the replicas, the leases, and how much the last entry wrote
+pub put-only : (job : Job) (core : Core) (lease : Lease) (count : ℕ) (ran : Option RanTo)
+    → core_after_put job core lease count ran ≡ record core { replicas = (core_after_put job core lease count ran).replicas; leases = (core_after_put job core lease count ran).leases; wrote = (core_after_put job core lease count ran).wrote }
+put-only job core lease count None = refl
+put-only job core lease count (Some ran) = refl
+
 -- what fewer leases keep, and a take keeps, each entry keeps
 pub leases_keep : (job : Job) (Q : List Lease → Type 0) → ((p : Lease → Bool) (leases : List Lease) → Q leases → Q (filter p leases))
     → ((core : Core) (lease : Lease) → MayTake job core lease → Q core.leases → Q (lease ∷ core.leases))

@@ -3,31 +3,26 @@ use Rattle.std.proofs.Common.{◌≡◌, ◌≢◌, ◌⊎◌, inl, inr, ℕ, su
 use Rattle.std.specs.Prelude.{◌==◌, nat_le, nat_lt, if◌then◌else◌}
 use Rattle.std.proofs.lemmas.Bool.{and_from, eq-eqb, ltb-false, le-leb}
 use Rattle.ro_journal.specs.Losers.{numbers}
-use Rattle.ro_journal.specs.declared.Lease.{Lease}
 use Rattle.ro_journal.specs.declared.Entry.{Entry}
 use Rattle.ro_journal.specs.declared.Entry.TheVariants.{Take, Put, Vote, Free, Scrub, End}
-use Rattle.ro_replica.specs.Runs.{RanTo}
 use Rattle.ro_legal.specs.declared.actions.Streak.{Streak}
 use Rattle.ro_legal.specs.declared.actions.Action.TheVariants as act
 use Rattle.ro_legal.specs.Streaks.{AreOfThread, votes_in, no_streak, after_vote, after_free, after_event, comes_last, streak_after, streak_from, streak_of}
 use Rattle.ro_legal.specs.Core.{Job, Core, opening_core}
 use Rattle.ro_legal.specs.Event.{Event, with_recovered}
-use Rattle.ro_legal.specs.Legal.{core_after_put, core_after_event, lease_run, after, IsAllowed, LegalFrom, Legal, replay_from, replay}
+use Rattle.ro_legal.specs.Legal.{core_after_event, lease_run, after, IsAllowed, LegalFrom, Legal, replay_from, replay}
 use Rattle.ro_legal.specs.Action.{threads_made, next_action}
 use Rattle.ro_legal.specs.Laws.{NothingFor, NotLendable}
+use Rattle.ro_legal.proofs.Leases.{put-only}
 use Rattle.ro_legal.proofs.Nexts.{last_voted, last_lent}
 use Rattle.ro_legal.proofs.Ordered.{vote-parts, free-parts, freed-is}
 
 -- ---- the core's streak is the journal's
 
-put-streak : (job : Job) (core : Core) (lease : Lease) (count : ℕ) (o : Option RanTo) → (core_after_put job core lease count o).streak ≡ core.streak
-put-streak job core lease count None = refl
-put-streak job core lease count (Some ran) = refl
-
 entry-streak : (job : Job) (core : Core) (entry : Entry) → IsAllowed job core entry → (after job core entry).streak ≡ streak_after core.streak entry
 unfolding after
 entry-streak job core (Take lease) may = refl
-entry-streak job core (Put lease count hit) may = put-streak job core lease count (lease_run job core lease count)
+entry-streak job core (Put lease count hit) may = ap (λ (c : Core). c.streak) (put-only job core lease count (lease_run job core lease count))
 entry-streak job core (Vote thread count won lost did) may =
     ap (λ (o : Option Event). (core_after_event core thread count (with_recovered won (numbers lost) core.replicas) o).streak) may.comes
     ∙ ap (after_event core.streak thread) (vote-parts core thread may.may).unblocked

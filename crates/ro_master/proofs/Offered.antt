@@ -1,17 +1,16 @@
 -- How many bytes the writes of a run have in all.
 use Rattle.std.proofs.Common.{◌≡◌, ◌≢◌, ◌⊎◌, inl, inr, ℕ, ◌+◌, ◌<◌, ◌≤◌, List, [], ◌∷◌, ◌++◌, length, Option, Some, None, refl, sym, ap, ◌∙◌, arith, length-append}
 use Rattle.ro_journal.specs.declared.How.{How}
-use Rattle.ro_journal.specs.declared.Lease.{Lease}
 use Rattle.ro_journal.specs.declared.Entry.{Entry}
 use Rattle.ro_journal.specs.declared.Entry.TheVariants.{Take, Put, Vote, Free, Scrub, End}
 use Rattle.ro_journal.specs.Plan.{outcome_of}
 use Rattle.ro_journal.specs.Losers.{numbers}
 use Rattle.ro_replica.specs.Replica.{Replica}
-use Rattle.ro_replica.specs.Runs.{RanTo}
 use Rattle.ro_legal.specs.Core.{Job, Core}
 use Rattle.ro_legal.specs.Event.{Event, with_recovered}
-use Rattle.ro_legal.specs.Legal.{lease_run, core_after_put, core_after_event, event_in, freed_event, after, replay, output_of}
+use Rattle.ro_legal.specs.Legal.{lease_run, core_after_event, event_in, freed_event, after, replay, output_of}
 use Rattle.ro_legal.proofs.Journals.{replay_more}
+use Rattle.ro_legal.proofs.Leases.{put-only}
 use Rattle.ro_legal.proofs.Ordered.{going-parts}
 use Rattle.ro_core.specs.Seen.{before_end, offered_by}
 use Rattle.ro_core.specs.Fields.{Fields, core_in, Holds}
@@ -23,10 +22,6 @@ use Rattle.ro_core.proofs.Held.{fields-outcome}
 abbrev AtMost : Core → Core → Type 0
 AtMost core after = length core.output ≤ length after.output
 
-put_grows : (job : Job) (core : Core) (lease : Lease) (count : ℕ) (ran : Option RanTo) → AtMost core (core_after_put job core lease count ran)
-put_grows job core lease count None = omega arith
-put_grows job core lease count (Some ran) = omega arith
-
 event_grows : (core : Core) (thread count : ℕ) (replicas : List Replica) (event : Option Event) → AtMost core (core_after_event core thread count replicas event)
 event_grows core thread count replicas None = omega arith
 event_grows core thread count replicas (Some event) = omega (arith, length-append core.output event.payload)
@@ -34,7 +29,7 @@ event_grows core thread count replicas (Some event) = omega (arith, length-appen
 entry_grows : (job : Job) (core : Core) (entry : Entry) → ((how : How) → entry ≢ End how) → AtMost core (after job core entry)
 unfolding after
 entry_grows job core (Take lease) other = omega arith
-entry_grows job core (Put lease count hit) other = put_grows job core lease count (lease_run job core lease count)
+entry_grows job core (Put lease count hit) other = let same = ap (λ (c : Core). c.output) (put-only job core lease count (lease_run job core lease count)) in let long = ap length same in omega arith
 entry_grows job core (Vote thread count won lost did) other = event_grows core thread count (with_recovered won (numbers lost) core.replicas) (event_in job core thread won)
 entry_grows job core (Free thread) other = event_grows core thread 0 core.replicas (freed_event job core thread)
 entry_grows job core (Scrub won lost) other = omega arith

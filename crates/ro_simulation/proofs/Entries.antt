@@ -1,38 +1,30 @@
 -- The invariant after a take and after a put.
-use Rattle.std.specs.Prelude.{◌≡◌, ◌≢◌, ℕ, ◌<◌, ◌⊎◌, Bool, true, false, not, IsTrue, cond, ◌&&◌, ◌||◌, ◌==◌, List, [], ◌∷◌, ◌++◌, length, Some, None, slice_get, slice_set}
-use Rattle.std.specs.List.{list_any, filter}
+use Rattle.std.specs.Prelude.{◌≡◌, ◌≢◌, ℕ, ◌<◌, ◌⊎◌, Bool, true, false, not, IsTrue, ◌||◌, List, [], ◌∷◌, ◌++◌, length, Some, None, slice_get, slice_set}
+use Rattle.std.specs.List.{filter}
 use Rattle.std.proofs.Common.{refl, sym, ap, ap₂, ◌∙◌, subst, inl, inr}
-use Rattle.std.proofs.lemmas.Bool.{true≢false, false≢true, eqb-true, and_parts}
+use Rattle.std.proofs.lemmas.Bool.{true≢false, false≢true, and_parts}
 use Rattle.std.proofs.lemmas.List.{length-set}
-use Rattle.std.proofs.lemmas.Option.{option_and_then_some}
 use Rattle.ro_journal.specs.declared.Entry.{Entry}
 use Rattle.ro_journal.specs.declared.Entry.TheVariants.{Take, Put}
 use Rattle.ro_journal.specs.Plan.{plan_of}
 use Rattle.ro_kernel.specs.Kernel.{Kernel, lives_on}
-use Rattle.ro_exec.specs.Next.{Backed}
 use Rattle.ro_replica.specs.Replica.{Replica}
-use Rattle.ro_replica.specs.Runs.{RanTo, run_of, with_stop}
+use Rattle.ro_replica.specs.Runs.{with_stop}
 use Rattle.ro_plain.specs.Machine.{layout_of}
 use Rattle.ro_plain.specs.Order.{RaceFree}
 use Rattle.ro_journal.specs.declared.Lease.{Lease}
 use Rattle.ro_legal.specs.Core.{Job, Core, is_lease, is_out}
-use Rattle.ro_legal.specs.Legal.{arrived, arrival, core_after_put, after, lease_run, MayTake, MayPut}
+use Rattle.ro_legal.specs.Legal.{arrived, arrival, core_after_put, after, MayTake, MayPut}
 use Rattle.ro_legal.specs.Sound.{IsSound}
 use Rattle.ro_vote.specs.Numbers.{is_among, AtMostHalf}
 use Rattle.ro_simulation.specs.Invariant.{Agrees, TracksIdeal}
 use Rattle.ro_legal.proofs.Lists.{get-set-cases}
+use Rattle.ro_legal.proofs.Leases.{same-lease}
+use Rattle.ro_legal.proofs.Ordered.{sound-with, PutParts, put-parts}
+use Rattle.ro_legal.proofs.Grants.{any-filter}
 use Rattle.ro_legal.proofs.Sound.{HasFault, StruckWell, run-well, sound-changed}
 use Rattle.ro_simulation.proofs.Put.{agrees-after-lease}
 use Rattle.ro_simulation.proofs.Kept.{going-from, ideal-same, plan-same}
-
--- what holds of a replica depends on the kernel's lives alone
-sound-with : (job : Job) (core other : Core) (backed : Backed) (number : ℕ) (r : Replica) → core.kernel ≡ other.kernel → IsSound job core backed number r → IsSound job other backed number r
-sound-with job core other backed number r e h = record {
-  same_backed = h.same_backed;
-  all_made = h.all_made ∙ ap (λ (k : Kernel). length k.lives) e;
-  within_watch = h.within_watch;
-  own_faults = h.own_faults;
-}
 
 -- one of two tests passed
 pub or-cases : (b c : Bool) → (b || c) ≡ true → (b ≡ true) ⊎ (c ≡ true)
@@ -48,20 +40,6 @@ or-left false c e = absurd (false≢true e)
 pub or-right : (b c : Bool) → c ≡ true → (b || c) ≡ true
 or-right true c e = refl
 or-right false c e = e
-
--- a test of a filtered list with one more
-any-filter-cons : {X : Type 0} (p q : X → Bool) (x : X) (xs : List X) → (list_any p (filter q xs) ≡ true → list_any p xs ≡ true) → (b : Bool) → list_any p (cond b (x ∷ filter q xs) (filter q xs)) ≡ true → (p x || list_any p xs) ≡ true
-any-filter-cons p q x xs rec false e = or-right (p x) (list_any p xs) (rec e)
-any-filter-cons p q x xs rec true e = by (or-cases (p x) (list_any p (filter q xs)) e)
-  where
-    by : (p x ≡ true) ⊎ (list_any p (filter q xs) ≡ true) → (p x || list_any p xs) ≡ true
-    by (inl f) = or-left (p x) (list_any p xs) f
-    by (inr f) = or-right (p x) (list_any p xs) (rec f)
-
--- what is found in a filtered list is in the list
-any-filter : {X : Type 0} (p q : X → Bool) (xs : List X) → list_any p (filter q xs) ≡ true → list_any p xs ≡ true
-any-filter p q [] e = e
-any-filter p q (x ∷ xs) e = any-filter-cons p q x xs (any-filter p q xs) (q x) e
 
 -- ---- take
 

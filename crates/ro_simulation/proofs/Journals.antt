@@ -14,14 +14,14 @@ use Rattle.ro_journal.specs.Plan.{outcome_of}
 use Rattle.ro_kernel.specs.Serve.{Served, Done, Parked, Blocked, Ends, serve}
 use Rattle.ro_kernel.specs.Kernel.{Kernel}
 use Rattle.ro_replica.specs.Replica.{Replica}
-use Rattle.ro_replica.specs.Runs.{RanTo}
 use Rattle.ro_plain.specs.Machine.{Machine, setup_of}
 use Rattle.ro_plain.specs.Order.{RaceFree}
 use Rattle.ro_legal.proofs.Journals.{LegalFrom-parts, replay_from-append}
 use Rattle.ro_legal.specs.Core.{Job, Core, opening_core}
 use Rattle.ro_legal.specs.Event.{Event, call_event, with_recovered}
-use Rattle.ro_legal.specs.Legal.{lease_run, core_after_put, event_in, freed_event, core_after_event, after, MayPut, MayEnd, IsAllowed, LegalFrom, Legal, replay_from, replay}
-use Rattle.ro_legal.proofs.Ordered.{scrub-parts}
+use Rattle.ro_legal.specs.Legal.{lease_run, event_in, freed_event, core_after_event, after, MayPut, MayEnd, IsAllowed, LegalFrom, Legal, replay_from, replay}
+use Rattle.ro_legal.proofs.Leases.{put-only}
+use Rattle.ro_legal.proofs.Outcomes.{ended-none, over_from}
 use Rattle.ro_vote.specs.Numbers.{is_among, AtMostHalf}
 use Rattle.ro_simulation.specs.Invariant.{Agrees, TracksIdeal}
 use Rattle.ro_simulation.specs.Theorem.{event_payload, payload_by, payloads_from, payloads_of}
@@ -40,20 +40,6 @@ payloads-append job core [] ys = refl
 payloads-append job core (x ∷ xs) ys =
     ap (λ (r : List ℕ). payload_by job core x ++ r) (payloads-append job (after job core x) xs ys)
     ∙ sym (append_assoc (payload_by job core x) (payloads_from job (after job core x) xs) (payloads_from job (replay_from job (after job core x) xs) ys))
-
--- an entry is allowed only in a run that has not ended
-pub allowed-not-ended : (job : Job) (core : Core) (entry : Entry) → IsAllowed job core entry → core.ended ≡ None
-allowed-not-ended job core (Take lease) h = (going-from core h.going).not_ended
-allowed-not-ended job core (Put lease count hit) h = h.not_ended
-allowed-not-ended job core (Vote thread count won lost did) h = (vote-parts core thread h.may).going.not_ended
-allowed-not-ended job core (Free thread) h = (free-parts job core thread h.may).going.not_ended
-allowed-not-ended job core (Scrub won lost) h = (scrub-parts core h.may).not_ended
-allowed-not-ended job core (End how) h = h.0
-
--- after an end comes nothing
-pub nothing-after : (job : Job) (core : Core) (how : How) (rest : List Entry) → core.ended ≡ Some how → LegalFrom job core rest → rest ≡ []
-nothing-after job core how [] e h = refl
-nothing-after job core how (entry ∷ rest) e h = absurd (let f : None ≡ Some how = sym (allowed-not-ended job core entry h.0) ∙ e in cc)
 
 -- after an end the core has ended
 pub after-end-ended : (job : Job) (core : Core) (how : How) → (after job core (End how)).ended ≡ Some how
@@ -74,11 +60,6 @@ pub data IsStep : Entry → Type 0 where
 pub record Leaves (core other : Core) (payload : List ℕ) : Type 0 where
   pub output : other.output ≡ core.output ++ payload
   pub ended : other.ended ≡ core.ended
-
--- a put writes nothing
-put-leaves : (job : Job) (core : Core) (lease : Lease) (count : ℕ) (o : Option RanTo) → Leaves core (core_after_put job core lease count o) []
-put-leaves job core lease count None = record { output = sym (append-nil core.output); ended = refl }
-put-leaves job core lease count (Some ran) = record { output = sym (append-nil core.output); ended = refl }
 
 -- an event writes its payload
 event-leaves : (core : Core) (thread count : ℕ) (replicas : List Replica) (o : Option Event) → Leaves core (core_after_event core thread count replicas o) (event_payload o)
@@ -101,41 +82,15 @@ free-no-payload job core thread (Some call) = call-no-payload core.kernel thread
 pub step-leaves : (job : Job) (core : Core) (entry : Entry) → IsStep entry → Leaves core (after job core entry) (payload_by job core entry)
 unfolding after
 step-leaves job core (Take lease) takes = record { output = sym (append-nil core.output); ended = refl }
-step-leaves job core (Put lease count hit) puts = put-leaves job core lease count (lease_run job core lease count)
+step-leaves job core (Put lease count hit) puts =
+    let is = put-only job core lease count (lease_run job core lease count) in
+    record { output = ap (λ (c : Core). c.output) is ∙ sym (append-nil core.output); ended = ap (λ (c : Core). c.ended) is }
 step-leaves job core (Vote thread count won lost did) votes = event-leaves core thread count (with_recovered won (numbers lost) core.replicas) (event_in job core thread won)
 step-leaves job core (Free thread) frees =
     subst (Leaves core (core_after_event core thread 0 core.replicas (freed_event job core thread))) (free-no-payload job core thread (core.blocked thread))
     (event-leaves core thread 0 core.replicas (freed_event job core thread))
 step-leaves job core (Scrub won lost) scrubs = record { output = sym (append-nil core.output); ended = refl }
 step-leaves job core (End how) kind = elim kind [ ]
-
--- ---- the outcome and the end of the core
-
--- the core after an end and nothing
-end-nothing : (job : Job) (core : Core) (how : How) (rest : List Entry) → rest ≡ [] → (replay_from job (after job core (End how)) rest).ended ≡ Some how
-end-nothing job core how rest e = ap (λ (r : List Entry). (replay_from job (after job core (End how)) r).ended) e ∙ after-end-ended job core how
-
--- the core has ended as the journal's end says
-pub outcome-ended : (job : Job) (core : Core) (journal : List Entry) (how : How) → LegalFrom job core journal → outcome_of journal ≡ Some how → (replay_from job core journal).ended ≡ Some how
-outcome-ended job core [] how h e = absurd (let f : None ≡ Some how = e in cc)
-outcome-ended job core (End other ∷ rest) how h e =
-    end-nothing job core other rest (nothing-after job (after job core (End other)) other rest (after-end-ended job core other) h.1) ∙ e
-outcome-ended job core (Take lease ∷ rest) how h e = outcome-ended job (after job core (Take lease)) rest how h.1 e
-outcome-ended job core (Put lease count hit ∷ rest) how h e = outcome-ended job (after job core (Put lease count hit)) rest how h.1 e
-outcome-ended job core (Vote thread count won lost did ∷ rest) how h e = outcome-ended job (after job core (Vote thread count won lost did)) rest how h.1 e
-outcome-ended job core (Free thread ∷ rest) how h e = outcome-ended job (after job core (Free thread)) rest how h.1 e
-outcome-ended job core (Scrub won lost ∷ rest) how h e = outcome-ended job (after job core (Scrub won lost)) rest how h.1 e
-
--- and the other way round
-pub ended-outcome : (job : Job) (core : Core) (journal : List Entry) (how : How) → core.ended ≡ None → LegalFrom job core journal → (replay_from job core journal).ended ≡ Some how → outcome_of journal ≡ Some how
-ended-outcome job core [] how on h e = absurd (let f : None ≡ Some how = sym on ∙ e in cc)
-ended-outcome job core (End other ∷ rest) how on h e =
-    sym (end-nothing job core other rest (nothing-after job (after job core (End other)) other rest (after-end-ended job core other) h.1)) ∙ e
-ended-outcome job core (Take lease ∷ rest) how on h e = ended-outcome job (after job core (Take lease)) rest how ((step-leaves job core (Take lease) takes).ended ∙ on) h.1 e
-ended-outcome job core (Put lease count hit ∷ rest) how on h e = ended-outcome job (after job core (Put lease count hit)) rest how ((step-leaves job core (Put lease count hit) puts).ended ∙ on) h.1 e
-ended-outcome job core (Vote thread count won lost did ∷ rest) how on h e = ended-outcome job (after job core (Vote thread count won lost did)) rest how ((step-leaves job core (Vote thread count won lost did) votes).ended ∙ on) h.1 e
-ended-outcome job core (Free thread ∷ rest) how on h e = ended-outcome job (after job core (Free thread)) rest how ((step-leaves job core (Free thread) frees).ended ∙ on) h.1 e
-ended-outcome job core (Scrub won lost ∷ rest) how on h e = ended-outcome job (after job core (Scrub won lost)) rest how ((step-leaves job core (Scrub won lost) scrubs).ended ∙ on) h.1 e
 
 -- ---- the invariant along a journal
 
@@ -242,7 +197,7 @@ module _ (job : Job) (free : RaceFree job.program) (Q : List Entry → List ℕ 
       after-reach odds journal rest tail q core entry whole_is reached legal (is_end how same may) later =
           subst (λ (e : Entry). Stage job Q (journal ++ e ∷ rest) (replay_from job (after job core e) rest)) (sym same)
           (stage-end odds journal rest q core how reached may
-          (nothing-after job (after job core (End how)) how rest (after-end-ended job core how) (subst (λ (e : Entry). LegalFrom job (after job core e) rest) same legal)))
+          (over_from job (after job core (End how)) how rest (after-end-ended job core how) (subst (λ (e : Entry). LegalFrom job (after job core e) rest) same legal)))
 
   -- before an entry that is allowed the journal goes on
   pub record Before (journal : List Entry) (entry : Entry) : Type 0 where
@@ -260,4 +215,4 @@ module _ (job : Job) (free : RaceFree job.program) (Q : List Entry → List ℕ 
       by : IsAllowed job (replay job journal) entry → Stage job Q journal (replay job journal) → Before journal entry
       by allowed (goes_on o q' r) = record { odds = o; allows = q'; reached = r; allowed = allowed }
       by allowed (has_ended before how o last q' same r may e) =
-          absurd (let f : None ≡ Some how = sym (allowed-not-ended job (replay job journal) entry allowed) ∙ (ap (λ (c : Core). c.ended) e ∙ after-end-ended job last how) in cc)
+          absurd (let f : None ≡ Some how = sym (ended-none job (replay job journal) entry allowed) ∙ (ap (λ (c : Core). c.ended) e ∙ after-end-ended job last how) in cc)

@@ -20,6 +20,7 @@ use Rattle.ro_plain.specs.Order.{RaceFree}
 use Rattle.ro_plain.proofs.Calls.{some-injective, steppable-parts, step-opens}
 use Rattle.ro_plain.proofs.Swap.{run-append}
 use Rattle.ro_legal.proofs.Journals.{LegalFrom-parts}
+use Rattle.ro_legal.proofs.Outcomes.{ended_is_outcome}
 use Rattle.ro_legal.specs.Core.{Job, Core, opening_core}
 use Rattle.ro_legal.specs.Legal.{MayEnd, due, alone, for_vote, for_free, for_scrub, after, Legal, MayPut, replay}
 use Rattle.ro_legal.specs.Ideal.{IsAlike, AllAlikeBut, StaysApart}
@@ -37,7 +38,7 @@ use Rattle.ro_simulation.proofs.Entries.{put-fault, put-going}
 use Rattle.ro_simulation.proofs.Ends.{never-differ, never-differ-still}
 use Rattle.ro_simulation.proofs.Scrubs.{going as going-still, after-scrub}
 use Rattle.ro_simulation.proofs.Votes.{after-vote}
-use Rattle.ro_simulation.proofs.Journals.{outcome-ended, after-end-ended, Reached, Policy, Stage, goes_on, has_ended, Before, reach-before}
+use Rattle.ro_simulation.proofs.Journals.{after-end-ended, Reached, Policy, Stage, goes_on, has_ended, Before, reach-before}
 use Rattle.ro_simulation.proofs.Simulates.{stage}
 
 -- ---- the headline
@@ -220,7 +221,7 @@ module _ (job : Job) (journal : List Entry) (free : RaceFree job.program) (none 
   no-differ e = by (stage job free (λ before odds. odds ≡ []) journal (named-policy job journal (none-listed job none)) [] (omega arith) refl legal)
     where
       ended : (replay job journal).ended ≡ Some Differ
-      ended = outcome-ended job (opening_core job) journal Differ legal e
+      ended = ended_is_outcome job journal legal ∙ e
 
       by : Stage job (λ before odds. odds ≡ []) journal (replay job journal) → ⊥
       by (goes_on odds q reached) = let f : None ≡ Some Differ = sym reached.holds.not_ended ∙ ended in cc

@@ -10,6 +10,7 @@ use Rattle.ro_journal.specs.Plan.{event_steps, plan_of, outcome_of}
 use Rattle.ro_plain.specs.Machine.{IsExecution, AllEnd}
 use Rattle.ro_plain.specs.Order.{RaceFree}
 use Rattle.ro_plain.proofs.Calls.{some-injective}
+use Rattle.ro_legal.proofs.Outcomes.{ended_is_outcome}
 use Rattle.ro_legal.specs.Core.{Job, Core, opening_core}
 use Rattle.ro_legal.specs.Legal.{MayEnd, due, alone, for_vote, for_free, for_scrub, Legal, replay}
 use Rattle.ro_legal.specs.Ideal.{StaysApart}
@@ -19,7 +20,7 @@ use Rattle.ro_simulation.specs.Theorem.{TwoThreeOrFive, IsComplete, by_exit, by_
 use Rattle.ro_simulation.proofs.Kept.{plan-same}
 use Rattle.ro_simulation.proofs.Votes.{vote-parts, vote-runs}
 use Rattle.ro_simulation.proofs.Frees.{free-parts, free-runs}
-use Rattle.ro_simulation.proofs.Journals.{outcome-ended, after-end-ended, Reached, Stage, goes_on, has_ended}
+use Rattle.ro_simulation.proofs.Journals.{after-end-ended, Reached, Stage, goes_on, has_ended}
 use Rattle.ro_simulation.proofs.Simulates.{simulates, stage, apart-policy}
 use Rattle.ro_simulation.proofs.Laws.{never-differs}
 
@@ -78,7 +79,7 @@ module _ (job : Job) (journal : List Entry) (free : RaceFree job.program) (legal
   ends-by how e = by (stage job free (λ before odds. Unit {0}) journal (apart-policy job journal apart) [] (omega arith) tt legal)
     where
       ended : (replay job journal).ended ≡ Some how
-      ended = outcome-ended job (opening_core job) journal how legal e
+      ended = ended_is_outcome job journal legal ∙ e
 
       by : Stage job (λ before odds. Unit {0}) journal (replay job journal) → EndsBy how
       by (goes_on odds q reached) = absurd (let f : None ≡ Some how = sym reached.holds.not_ended ∙ ended in cc)

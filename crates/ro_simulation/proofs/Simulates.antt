@@ -13,6 +13,7 @@ use Rattle.ro_plain.specs.Machine.{Machine}
 use Rattle.ro_plain.specs.Order.{RaceFree}
 use Rattle.ro_plain.proofs.Calls.{some-injective}
 use Rattle.ro_legal.proofs.Journals.{replay_from-append}
+use Rattle.ro_legal.proofs.Outcomes.{ended_is_outcome}
 use Rattle.ro_legal.specs.Core.{Job, Core, opening_core}
 use Rattle.ro_legal.specs.Legal.{cut_output, after, MayVote, MayScrub, MayEnd, Legal, replay, output_of}
 use Rattle.ro_legal.specs.Ideal.{ideal, IsAlike, StaysApart}
@@ -28,7 +29,7 @@ use Rattle.ro_simulation.proofs.Kept.{ideal-same}
 use Rattle.ro_simulation.proofs.Votes.{stopped-in, vote-parts, AfterVote, after-vote}
 use Rattle.ro_simulation.proofs.Scrubs.{going as going-still, scrub-replicas, AfterScrub, after-scrub}
 use Rattle.ro_simulation.proofs.Ends.{end-as}
-use Rattle.ro_simulation.proofs.Journals.{payloads-append, outcome-ended, ended-outcome, after-end-ended, Reached, opening-reached, Policy, Stage, goes_on, has_ended, reach, reach-before}
+use Rattle.ro_simulation.proofs.Journals.{payloads-append, after-end-ended, Reached, opening-reached, Policy, Stage, goes_on, has_ended, reach, reach-before}
 
 -- ---- what the invariant says of a journal with the same machine, replicas and kernel
 
@@ -154,10 +155,6 @@ module _ (job : Job) (free : RaceFree job.program) (Q : List Entry → List ℕ 
           scrubbed : AfterScrub job before (replay job before) reached.holds.machine won lost
           scrubbed = after-scrub job free odds before (replay job before) reached.holds won lost may
 
-  -- the opening has not ended
-  opening_not_ended : (opening_core job).ended ≡ None
-  opening_not_ended = (opening-reached job start start_few).holds.not_ended
-
   -- ---- a journal that goes on
 
   module _ (odds : List ℕ) (reached : Reached job odds journal (replay job journal)) where
@@ -181,7 +178,7 @@ module _ (job : Job) (free : RaceFree job.program) (Q : List Entry → List ℕ 
       equal_pages = equal-pages job free odds journal journal (replay job journal) reached.holds same_state;
       copies = copies-well;
       scrubs = scrubs-well;
-      ends_as = λ how e. absurd (let f : None ≡ Some how = sym reached.holds.not_ended ∙ outcome-ended job (opening_core job) journal how legal e in cc);
+      ends_as = λ how e. absurd (let f : None ≡ Some how = sym reached.holds.not_ended ∙ ended_is_outcome job journal legal ∙ e in cc);
     }
 
   -- ---- a journal that has ended
@@ -193,7 +190,7 @@ module _ (job : Job) (free : RaceFree job.program) (Q : List Entry → List ℕ 
 
     -- the journal's outcome
     outcome_is : outcome_of journal ≡ Some how
-    outcome_is = ended-outcome job (opening_core job) journal how opening_not_ended legal ended_is
+    outcome_is = sym (ended_is_outcome job journal legal) ∙ ended_is
 
     -- an end leaves machine, replicas and kernel
     ended_state : SameState job journal before last

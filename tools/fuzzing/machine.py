@@ -168,12 +168,17 @@ class Machine:
         if name or word == ECALL:
             self.call(name.decode() if name else x[17])
             return
+        self.carry_out(self, word)
+        self.since += 1
+
+    def carry_out(self, thread, word):
+        """An instruction of what has registers and a pc: the machine itself, or one of its threads."""
         if word == EBREAK:
             self.trap(9)
-        register, value, after = self.instruction(word, pc, x) or self.trap(3)
+        register, value, after = self.instruction(word, thread.pc, thread.registers) or self.trap(3)
         if register:
-            x[register] = value & WORD
-        self.pc, self.since = after & WORD, self.since + 1
+            thread.registers[register] = value & WORD
+        thread.pc = after & WORD
 
     def instruction(self, word, pc, x):
         """The register that gets a value, the value, and the next pc; None where the word is no instruction."""

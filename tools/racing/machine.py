@@ -5,7 +5,7 @@ import dataclasses
 import enum
 
 from fuzzing import readers
-from fuzzing.machine import EBREAK, ECALL, RETURN, STACKS, STACK_SIZE, STACK_STEP, Ended, Machine
+from fuzzing.machine import ECALL, RETURN, STACKS, STACK_SIZE, STACK_STEP, Ended, Machine
 from kernel import HEAP_SIZE, THREADS, WORD, Blocked, Call, Effect, Ends, Parked, Served, is_good_write, moved
 
 NONE = range(0)  # no bytes
@@ -128,12 +128,7 @@ class Replay(Machine):
             self.now.call = SYSTEM_CALLS.get(x[17], f"system call {x[17]}")
             self.serve(thread, Call(x[17], *x[10:14]))
             return
-        if word == EBREAK:
-            self.trap(9)
-        register, value, after = self.instruction(word, pc, x) or self.trap(3)
-        if register:
-            x[register] = value & WORD
-        thread.pc = after & WORD
+        self.carry_out(thread, word)
 
     # ---- Accesses
 

@@ -1,7 +1,7 @@
 -- Each cause of a trap has a number of its own.
 use Rattle.std.specs.Prelude.{◌≡◌, ℕ, Bool, true, false, cond, ◌&&◌, ◌==◌, nat_le, List, [], ◌∷◌, Option, Some, None, find}
 use Rattle.std.proofs.Common.{refl, sym, ap, ◌∙◌, subst}
-use Rattle.std.proofs.lemmas.Bool.{eqb-true}
+use Rattle.std.proofs.lemmas.Bool.{eqb-true, true≢false}
 use Rattle.ro_event.specs.declared.traps.TrapCause.{TrapCause}
 use Rattle.ro_event.specs.declared.traps.TrapCause.TheVariants.{MisalignedPc}
 use Rattle.ro_event.specs.Traps.{number_of, causes, trap_of}
@@ -28,5 +28,13 @@ trap-once number cause e = found-once number cause causes e
 pub number-within : (cause : TrapCause) → (nat_le 1 (number_of cause) && nat_le (number_of cause) 9) ≡ true
 number-within MisalignedPc = refl
 number-within cause = refl
+
+-- and no other number has a cause
+pub none-beyond : (number : ℕ) → (nat_le 1 number && nat_le number 9) ≡ false → trap_of number ≡ None
+none-beyond number beyond = by (trap_of number) refl
+  where
+    by : (found : Option TrapCause) → trap_of number ≡ found → found ≡ None
+    by None e = refl
+    by (Some cause) e = absurd (true≢false (sym (subst (λ n. (nat_le 1 n && nat_le n 9) ≡ true) (trap-once number cause e) (number-within cause)) ∙ beyond))
 
 pub ruleset trap_laws = (trap-back, trap-once)

@@ -7,10 +7,10 @@ ghost use Rattle.ro_exec.specs.Meaning.{with_value, jumps, goes_to, load_size as
 ghost use Rattle.ro_exec.specs.Next.{Executes, instruction_stop, unless_stop};
 ghost use Rattle.ro_exec.specs.Steps.{IsStep, IsJump};
 
+use crate::Cpu;
 use crate::access::check_access;
 use crate::fetching::call;
 use crate::outcome::Step;
-use crate::Cpu;
 use ro_alu::{alu, muldiv, taken};
 use ro_decode::{Instr, LoadOp, StoreOp};
 use ro_event::{Stop, TrapCause, Which};

@@ -3,10 +3,10 @@ ghost use Rattle.std.specs.Prelude.{◌≡◌};
 ghost use Rattle.ro_exec.specs.Next.{next};
 ghost use Rattle.ro_exec.specs.Steps.{IsStep};
 
+use crate::Cpu;
 use crate::execution::execute;
 use crate::fetching::fetch;
 use crate::outcome::Step;
-use crate::Cpu;
 use ro_decode::decode;
 use ro_event::{CallTable, Stop, TrapCause};
 use ro_pages::Memory;

@@ -176,11 +176,7 @@ fn tell_limit(
 }
 
 // Where the program trapped, and the registers there.
-fn tell_trap(
-    text: &mut String,
-    cause: TrapCause,
-    at: &Option<Trapped>,
-) -> Result<(), AllocError> {
+fn tell_trap(text: &mut String, cause: TrapCause, at: &Option<Trapped>) -> Result<(), AllocError> {
     let (number, name) = (cause.number(), trap_name(cause));
     writeln!(text, "The program trapped by cause {number}: {name}.")?;
     let Some(trapped) = at else {

@@ -2,7 +2,8 @@
 ghost use Rattle.std.specs.Prelude.{◌≡◌, [], ◌∷◌, Some, true, map, IfOk, IfSome};
 ghost use Rattle.std.specs.List.{list_all};
 ghost use Rattle.ro_text.specs.Numbers.{is_number, value_of};
-ghost use Rattle.ro_journal_text.specs.Reading.{did_of, has_did, listed, several_of, lost_of, how_of, is_lost, is_how, ranged};
+ghost use Rattle.ro_journal_text.specs.Reading.{did_of, has_did, listed, several_of, lost_of, how_of, is_lost, is_how, trapped_by, ranged};
+ghost use Rattle.ro_event.specs.Traps.{trap_of};
 
 use crate::errors::JournalCode;
 use crate::versions::Version;
@@ -137,10 +138,7 @@ fn read_numbered(kind: &[u8], number: &[u8]) -> Result<How, JournalCode>
             None => Err(JournalCode::Range),
         }
     } else if kind == b"trap".as_slice() {
-        match value_within(number, 1, 9).and_then(TrapCause::of_number) {
-            Some(cause) => Ok(How::Trap(cause)),
-            None => Err(JournalCode::Range),
-        }
+        read_cause(number)
     } else if kind == b"sink".as_slice() {
         match value_within(number, 0, 4095) {
             Some(taken) => Ok(How::Sink(taken as u32)),
@@ -148,6 +146,22 @@ fn read_numbered(kind: &[u8], number: &[u8]) -> Result<How, JournalCode>
         }
     } else {
         Err(JournalCode::Form)
+    }
+}
+
+// The end by the trap that has a number.
+fn read_cause(number: &[u8]) -> Result<How, JournalCode>
+    requires { is_number number.now ≡ true }
+    ensures read { result ≡ ranged is_how (Some (trapped_by (trap_of (value_of number.now)))) }
+    ensures given { IfOk result (λ how. trapped_by (trap_of (value_of number.now)) ≡ how) }
+    ensures inside { IfOk result (λ how. is_how how ≡ true) }
+{
+    let Some(value) = value_within(number, 1, 9) else {
+        return Err(JournalCode::Range);
+    };
+    match TrapCause::of_number(value) {
+        Some(cause) => Ok(How::Trap(cause)),
+        None => Err(JournalCode::Range),
     }
 }
 

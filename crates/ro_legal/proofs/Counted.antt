@@ -135,10 +135,10 @@ counted-event most core thread count replicas (Some event) each h = λ number r 
 counted-put : (most : ℕ) (job : Job) (core : Core) (lease : Lease) (count : ℕ) (ran : RanTo) → Counts (most + job.settings.quantum) ran.replica → AreCounted most core → AreCounted (most + job.settings.quantum) (core_after_put job core lease count (Some ran))
 counted-put most job core lease count ran came h = λ number r e. by number r (get-set-cases core.replicas lease.replica number (arrived job lease.thread count ran.replica) r e)
   where
-    by : (number : ℕ) (r : Replica) → ((number ≢ replica) × (slice_get core.replicas number ≡ Some r)) ⊎ ((number ≡ replica) × (arrived job thread count ran.replica ≡ r)) → Counts (most + job.settings.quantum) r
+    by : (number : ℕ) (r : Replica) → ((number ≢ lease.replica) × (slice_get core.replicas number ≡ Some r)) ⊎ ((number ≡ lease.replica) × (arrived job lease.thread count ran.replica ≡ r)) → Counts (most + job.settings.quantum) r
     by number r (inl e) = counts-more most (most + job.settings.quantum) r (omega arith) (h number r e.1)
     by number r (inr e) = subst (Counts (most + job.settings.quantum)) e.1
-        (counts-changed (most + job.settings.quantum) (with_stop (arrival job thread count ran.replica)) (λ x. refl) ran.replica.threads thread came)
+        (counts-changed (most + job.settings.quantum) (with_stop (arrival job lease.thread count ran.replica)) (λ x. refl) ran.replica.threads lease.thread came)
 
 few-arrive : (job : Job) (thread count : ℕ) (replica : Replica) → HasArrived job thread count replica → count ≤ job.settings.quantum
 few-arrive job thread count replica (inl e) = omega arith

@@ -55,7 +55,7 @@ low-permitted ranges kind place count some e =
     let within : place + count ≤ 2 ^ 32 = leb-true _ _ parts.0 in omega arith
 
 -- a page fault comes behind the test of permission
-fault-last : (ranges : List Range) (kind : Kind) (place count code : ℕ) (backed : Backed) → 0 < count → (b c : Bool) → permits_of ranges kind place count ≡ b → backed (page_of place) ≡ c → IsFault backed (first (stop_if (not b) (Trap code) ∷ stop_if (not c) (PageFault (page_of place)) ∷ []))
+fault-last : (ranges : List Range) (kind : Kind) (place count : ℕ) (code : TrapCause) (backed : Backed) → 0 < count → (b c : Bool) → permits_of ranges kind place count ≡ b → backed (page_of place) ≡ c → IsFault backed (first (stop_if (not b) (Trap code) ∷ stop_if (not c) (PageFault (page_of place)) ∷ []))
 fault-last ranges kind place count code backed some false c e k = fault-trap backed true code
 fault-last ranges kind place count code backed some true true e k = fault-none backed
 fault-last ranges kind place count code backed some true false e k = λ page f.
@@ -73,7 +73,7 @@ fault-fetch layout backed cpu =
     fault-row backed _ _ (fault-trap backed (not (cpu.pc % 4 == 0)) _)
     (fault-row backed _ _ (fault-exit backed (cpu.pc == exit_place) _)
     (fault-row backed _ _ (fault-call backed cpu (call_at layout.calls cpu.pc))
-    (fault-last layout.ranges Execute cpu.pc 4 2 backed (omega arith) (permits_of layout.ranges Execute cpu.pc 4) (backed (page_of cpu.pc)) refl refl)))
+    (fault-last layout.ranges Execute cpu.pc 4 _ backed (omega arith) (permits_of layout.ranges Execute cpu.pc 4) (backed (page_of cpu.pc)) refl refl)))
 
 some-load : (op : LoadOp) → 0 < load_size op
 some-load Lb = omega arith

@@ -140,4 +140,4 @@ unfolding event_of
 event-happens setup kernel thread (Calls call) payload = call-happens setup kernel thread call payload
 event-happens setup kernel thread (PageFault page) payload = quiet kernel thread _ refl refl refl refl refl no-end (λ c f. absurd (let g : None ≡ Some c = f in cc))
 event-happens setup kernel thread Watchdog payload = quiet kernel thread _ refl refl refl refl refl no-end (λ c f. absurd (let g : None ≡ Some c = f in cc))
-event-happens setup kernel thread (Trap code) payload = quiet kernel thread _ refl refl refl refl refl (λ how e. subst IsOver (let g : Some (TrapHow code) ≡ Some how = e in cc) (traps {code = code})) (λ c f. absurd (let g : None ≡ Some c = f in cc))
+event-happens setup kernel thread (Trap code) payload = quiet kernel thread _ refl refl refl refl refl (λ how e. subst IsOver (let g : Some (TrapHow code) ≡ Some how = e in cc) (traps {cause = code})) (λ c f. absurd (let g : None ≡ Some c = f in cc))

@@ -1,6 +1,7 @@
 -- What legal journals keep, struck or not.
 use Rattle.std.specs.Prelude.{◌≡◌, ◌≤◌, ◌<◌, ◌^◌, ℕ, true, false, List, [], length, Option, Some, None, is_some, slice_get}
 use Rattle.ro_event.specs.Effects.{Effect}
+use Rattle.ro_event.specs.declared.traps.TrapCause.{TrapCause}
 use Rattle.ro_event.specs.declared.stops.Stop.{Stop}
 use Rattle.ro_event.specs.declared.stops.Stop.TheVariants.{PageFault}
 use Rattle.ro_event.specs.declared.calls.Call.{Call}
@@ -30,7 +31,7 @@ pub record IsSound (job : Job) (core : Core) (backed : Backed) (number : ℕ) (r
 -- The program ended by an exit or a trap.
 pub data IsOver : How → Type 0 where
   exits : {status : ℕ} → IsOver (Exit status)
-  traps : {code : ℕ} → IsOver (Trap code)
+  traps : {cause : TrapCause} → IsOver (Trap cause)
 
 -- What every legal journal keeps of its core.
 pub record IsOrdered (job : Job) (core : Core) : Type 0 where

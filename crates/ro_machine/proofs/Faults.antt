@@ -81,7 +81,7 @@ module _ (backed : Backed) (one other : ℕ) where
   fault-call cpu (Some which) page e = absurd (let f : Some (call_of cpu which) ≡ Some (PageFault page) = e in cc)
 
   -- a page fault comes behind the test of permission
-  fault-last : (ranges : List Range) (kind : Kind) (place count code : ℕ) → 0 < count → (page_of place ≡ one) ⊎ (page_of place ≡ other) → (b c : Bool) → permits_of ranges kind place count ≡ b → backed (page_of place) ≡ c → IsFault backed one other (first (stop_if (not b) (Trap code) ∷ stop_if (not c) (PageFault (page_of place)) ∷ []))
+  fault-last : (ranges : List Range) (kind : Kind) (place count : ℕ) (code : TrapCause) → 0 < count → (page_of place ≡ one) ⊎ (page_of place ≡ other) → (b c : Bool) → permits_of ranges kind place count ≡ b → backed (page_of place) ≡ c → IsFault backed one other (first (stop_if (not b) (Trap code) ∷ stop_if (not c) (PageFault (page_of place)) ∷ []))
   fault-last ranges kind place count code some named false c e k = fault-trap true code
   fault-last ranges kind place count code some named true true e k = fault-none
   fault-last ranges kind place count code some named true false e k = λ page f.
@@ -99,7 +99,7 @@ module _ (backed : Backed) (one other : ℕ) where
       fault-row _ _ (fault-trap (not (cpu.pc % 4 == 0)) _)
       (fault-row _ _ (fault-exit (cpu.pc == exit_place) _)
       (fault-row _ _ (fault-call cpu (call_at layout.calls cpu.pc))
-      (fault-last layout.ranges Execute cpu.pc 4 2 (omega arith) (inl here) (permits_of layout.ranges Execute cpu.pc 4) (backed (page_of cpu.pc)) refl refl)))
+      (fault-last layout.ranges Execute cpu.pc 4 _ (omega arith) (inl here) (permits_of layout.ranges Execute cpu.pc 4) (backed (page_of cpu.pc)) refl refl)))
 
   fault-instruction : (ranges : List Range) (cpu : Cpu) (instr : Instr) → page_of (data_place cpu (Some instr)) ≡ other → IsFault backed one other (instruction_stop ranges backed cpu instr)
   unfolding instruction_stop

@@ -6,7 +6,7 @@ use Rattle.ro_alu.specs.Results.{muldiv_of}
 use Rattle.ro_event.specs.declared.calls.Which.TheVariants.{System, Function}
 use Rattle.ro_event.specs.declared.functions.Function.TheVariants.{Create, Join, Exit, ThreadSelf, MutexInit, MutexDestroy, Lock, TryLock, Unlock, ConditionInit, ConditionDestroy, Wait, Signal, Broadcast}
 use Rattle.ro_event.specs.declared.stops.Stop.TheVariants.{Trap}
-use Rattle.ro_event.specs.Traps.{causes}
+use Rattle.ro_event.specs.Traps.{number_of, causes}
 use Rattle.ro_event.specs.Functions.{names}
 use Rattle.ro_event.specs.Table.{call_at}
 use Rattle.ro_region.specs.declared.Kind.TheVariants.{Write, Execute}
@@ -128,6 +128,9 @@ errors-full = refl
 pub traps-traps : next_of 0 0x10002 ∷ next_of 0 0x70000000 ∷ next_of 0 0x10000 ∷ next_of 0x0020006F 0x10000 ∷ next_of 0x00102283 0x10000 ∷ next_of 0x00002283 0x10000 ∷ next_of 0x00002123 0x10000 ∷ next_of 0x00002023 0x10000 ∷ next_of 0x00100073 0x10000 ∷ [] ≡ map (λ cause. Stands (Trap cause)) causes
 unfolding next fetch_stop instruction_stop instruction_of call_at permits_of meaning
 traps-traps = refl
+
+pub traps-numbers : map number_of causes ≡ 1 ∷ 2 ∷ 3 ∷ 4 ∷ 5 ∷ 6 ∷ 7 ∷ 8 ∷ 9 ∷ []
+traps-numbers = refl
 
 -- ---- threads_row
 

@@ -106,8 +106,8 @@ module _ (job : Job) (journal : List Entry) (names : NamesFew job) where
         others = without lease.replica names.named;
         few = let f = names.few in omega arith;
         alike = λ number r d there.
-            let p = neither (replica == number) (is_among (without replica names.named) number) d in
-            s.1 number r (without-other replica names.named number p.1 (λ e. true≢false (sym (eq-eqb replica number e) ∙ p.0))) there;
+            let p = neither (lease.replica == number) (is_among (without lease.replica names.named) number) d in
+            s.1 number r (without-other lease.replica names.named number p.1 (λ e. true≢false (sym (eq-eqb lease.replica number e) ∙ p.0))) there;
       }
 
 -- ---- one struck replica

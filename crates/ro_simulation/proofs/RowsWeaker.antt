@@ -97,11 +97,19 @@ nearly-first (suc (suc zero)) r d e = subst (IsNearlyAlike slip until_first) (so
 nearly-first (suc (suc (suc number))) r d e = absurd (let f : None ≡ Some r = e in cc)
 
 -- and at the second
+nearly-struck : (r : Replica) → slice_get (replay slip until_second).replicas 0 ≡ Some r → IsNearlyAlike slip until_second r
+unfolding opening opening_core opening_replica struck execute applied cancelled recovered verdict_of event_of after first_cpu made_cpu steppable step next fetch_stop instruction_stop instruction_of call_at permits_of alu_of meaning serve payload_of
+nearly-struck r e = subst (IsNearlyAlike slip until_second) (some-injective e) (nearly-by slip until_second _ _ _ _ refl refl (then_plain (record { cpu = _; instr = _; live = refl; executes = refl }) refl (then_plain (record { cpu = _; instr = _; live = refl; executes = refl }) refl (then_plain (record { cpu = _; instr = _; live = refl; executes = refl }) refl (then_plain (record { cpu = _; instr = _; live = refl; executes = refl }) refl (then_plain (record { cpu = _; instr = _; live = refl; executes = refl }) refl (then_plain (record { cpu = _; instr = _; live = refl; executes = refl }) refl (done))))))) refl refl refl (λ stop f. f))
+
+nearly-third : (r : Replica) → slice_get (replay slip until_second).replicas 2 ≡ Some r → IsNearlyAlike slip until_second r
+unfolding opening opening_core opening_replica struck execute applied cancelled recovered verdict_of event_of after first_cpu made_cpu steppable step next fetch_stop instruction_stop instruction_of call_at permits_of alu_of meaning serve payload_of
+nearly-third r e = subst (IsNearlyAlike slip until_second) (some-injective e) (nearly-by slip until_second _ _ _ _ refl refl done refl refl refl (λ stop (f : None ≡ Some stop). absurd cc))
+
 nearly-second : (number : ℕ) (r : Replica) → number ≢ 1 → slice_get (replay slip until_second).replicas number ≡ Some r → IsNearlyAlike slip until_second r
 unfolding opening opening_core opening_replica struck execute applied cancelled recovered verdict_of event_of after first_cpu made_cpu steppable step next fetch_stop instruction_stop instruction_of call_at permits_of alu_of meaning serve payload_of
-nearly-second zero r d e = subst (IsNearlyAlike slip until_second) (some-injective e) (nearly-by slip until_second _ _ _ _ refl refl (then_plain (record { cpu = _; instr = _; live = refl; executes = refl }) refl (then_plain (record { cpu = _; instr = _; live = refl; executes = refl }) refl (then_plain (record { cpu = _; instr = _; live = refl; executes = refl }) refl (then_plain (record { cpu = _; instr = _; live = refl; executes = refl }) refl (then_plain (record { cpu = _; instr = _; live = refl; executes = refl }) refl (then_plain (record { cpu = _; instr = _; live = refl; executes = refl }) refl (done))))))) refl refl refl (λ stop f. f))
+nearly-second zero r d e = nearly-struck r e
 nearly-second (suc zero) r d e = absurd (d refl)
-nearly-second (suc (suc zero)) r d e = subst (IsNearlyAlike slip until_second) (some-injective e) (nearly-by slip until_second _ _ _ _ refl refl done refl refl refl (λ stop (f : None ≡ Some stop). absurd cc))
+nearly-second (suc (suc zero)) r d e = nearly-third r e
 nearly-second (suc (suc (suc number))) r d e = absurd (let f : None ≡ Some r = e in cc)
 
 -- these are the strikes

@@ -53,7 +53,7 @@ module _ (program : Program) (machine after : Machine) (thread : ℕ) (well : En
       by_called cpu (payload_of program.image.ranges machine.memory call) (serve (setup_of program) machine.kernel thread call) (serve-tidy (setup_of program) machine.kernel thread call) e
   by_next cpu (Stands (AtTrap code)) e = λ other is.
       let ended : Some (ByTrap code) ≡ after.ended = ended_by (record machine { ended = Some (ByTrap code) }) after e in
-      subst IsOver (let f : Some (ByTrap code) ≡ Some other = ended ∙ is in cc) (traps {code = code})
+      subst IsOver (let f : Some (ByTrap code) ≡ Some other = ended ∙ is in cc) (traps {cause = code})
   by_next cpu (Stands (PageFault page)) e = absurd (let f : None ≡ Some after = e in cc)
   by_next cpu (Stands Watchdog) e = absurd (let f : None ≡ Some after = e in cc)
 

@@ -135,7 +135,9 @@ const WRITTEN: &[Written] = &[
         line: "end deadlock\n",
     },
     Written {
-        entry: Entry::End { how: How::Trap(TrapCause::Breakpoint) },
+        entry: Entry::End {
+            how: How::Trap(TrapCause::Breakpoint),
+        },
         line: "end trap 9\n",
     },
     Written {

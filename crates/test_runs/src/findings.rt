@@ -96,7 +96,10 @@ fn plain_ends(rt: HostRuntime) -> Result<(), Fail> {
             r#"{"copies":[],"end":{"how":"sink","taken":4},"entries":8,"steps":3,"verdict":"legal"}"#,
         ),
         (
-            Some(Ended::Trap { cause: 2, at: None }),
+            Some(Ended::Trap {
+                cause: TrapCause::ForbiddenFetch,
+                at: None,
+            }),
             "The program trapped by cause 2: an instruction is fetched where nothing may be executed.",
             r#"{"copies":[],"end":{"at":null,"cause":2,"how":"trap"},"entries":8,"steps":3,"verdict":"legal"}"#,
         ),
@@ -154,7 +157,10 @@ fn a_trap(rt: HostRuntime) -> Result<(), Fail> {
     let json =
         r#"{"copies":[],"end":{"at":{"abi_names":["ra","sp","gp","tp","t0","t1","t2","s0","s1","a0","a1","a2","a3","a4","a5","a6","a7","s2","s3","s4","s5","s6","s7","s8","s9","s10","s11","t3","t4","t5","t6"],"function":{"name":"main","offset":32},"instruction":{"text":"sw zero, 216(s0)","touched":65752,"word":201600035},"pc":65652,"registers":[1,2,3,4,5,6,7,8,9,10,11,12,13,14,15,16,17,18,19,20,21,22,23,24,25,26,27,28,29,30,31],"thread":1},"cause":8,"how":"trap"},"entries":8,"steps":3,"verdict":"legal"}"#;
     let at = Some(trapped(alloc)?);
-    let end = Ended::Trap { cause: 8, at };
+    let end = Ended::Trap {
+        cause: TrapCause::ForbiddenStore,
+        at,
+    };
     assert_told(
         &rt,
         alloc,

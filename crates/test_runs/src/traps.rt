@@ -1,42 +1,46 @@
 //! What is told of each trap.
+use ro_event::TrapCause;
 use ro_findings::{Ended, Findings, Verdict};
 use std::test::Fail;
 
 /// The causes of traps, and how an audit tells them.
-const TRAPS: &[(u8, &str)] = &[
+const TRAPS: &[(TrapCause, &str)] = &[
     (
-        1,
+        TrapCause::MisalignedPc,
         "The program trapped by cause 1: the pc is no multiple of 4.",
     ),
     (
-        2,
+        TrapCause::ForbiddenFetch,
         "The program trapped by cause 2: an instruction is fetched where nothing may be executed.",
     ),
     (
-        3,
+        TrapCause::NoInstruction,
         "The program trapped by cause 3: the word is no instruction.",
     ),
     (
-        4,
+        TrapCause::MisalignedTarget,
         "The program trapped by cause 4: a jump to no multiple of 4.",
     ),
     (
-        5,
+        TrapCause::MisalignedLoad,
         "The program trapped by cause 5: a load at an address that is no multiple of its size.",
     ),
     (
-        6,
+        TrapCause::ForbiddenLoad,
         "The program trapped by cause 6: a load where it is not permitted.",
     ),
     (
-        7,
+        TrapCause::MisalignedStore,
         "The program trapped by cause 7: a store at an address that is no multiple of its size.",
     ),
     (
-        8,
+        TrapCause::ForbiddenStore,
         "The program trapped by cause 8: a store where it is not permitted.",
     ),
-    (9, "The program trapped by cause 9: EBREAK."),
+    (
+        TrapCause::Breakpoint,
+        "The program trapped by cause 9: EBREAK.",
+    ),
 ];
 
 #[test]

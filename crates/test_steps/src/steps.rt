@@ -76,7 +76,14 @@ const EXECUTED: &[Row] = &[
     (0x0002_9383, DATA, 0, Step::Did, 0x7F01, CODE + 4),
     (0x0002_A383, DATA, 0, Step::Did, 0x80FF_7F01, CODE + 4),
     // lh from an odd address, lw from a forbidden and from an unbacked page
-    (0x0012_9383, DATA, 0, Step::Stopped(Stop::Trap(TrapCause::MisalignedLoad)), 7, CODE),
+    (
+        0x0012_9383,
+        DATA,
+        0,
+        Step::Stopped(Stop::Trap(TrapCause::MisalignedLoad)),
+        7,
+        CODE,
+    ),
     (
         0x0002_A383,
         FORBIDDEN,
@@ -94,8 +101,22 @@ const EXECUTED: &[Row] = &[
         CODE,
     ),
     // sw to an address that is no multiple of 4, to the code, and to an unbacked page
-    (0x0062_A123, DATA, 9, Step::Stopped(Stop::Trap(TrapCause::MisalignedStore)), 7, CODE),
-    (0x0062_A023, CODE, 9, Step::Stopped(Stop::Trap(TrapCause::ForbiddenStore)), 7, CODE),
+    (
+        0x0062_A123,
+        DATA,
+        9,
+        Step::Stopped(Stop::Trap(TrapCause::MisalignedStore)),
+        7,
+        CODE,
+    ),
+    (
+        0x0062_A023,
+        CODE,
+        9,
+        Step::Stopped(Stop::Trap(TrapCause::ForbiddenStore)),
+        7,
+        CODE,
+    ),
     (
         0x0062_A023,
         UNBACKED,
@@ -106,7 +127,14 @@ const EXECUTED: &[Row] = &[
     ),
     // jalr to 1(x5), to 2(x5), and with rd = rs1; jal back by 4
     (0x0012_83E7, DATA, 0, Step::Did, CODE + 4, DATA),
-    (0x0022_83E7, DATA, 0, Step::Stopped(Stop::Trap(TrapCause::MisalignedTarget)), 7, CODE),
+    (
+        0x0022_83E7,
+        DATA,
+        0,
+        Step::Stopped(Stop::Trap(TrapCause::MisalignedTarget)),
+        7,
+        CODE,
+    ),
     (0x0002_82E7, DATA, 0, Step::Did, 7, DATA),
     (0xFFDF_F3EF, 0, 0, Step::Did, CODE + 4, CODE - 4),
     // beq, blt and bltu by 8, and beq by 6
@@ -114,7 +142,14 @@ const EXECUTED: &[Row] = &[
     (0x0062_8463, 3, 4, Step::Did, 7, CODE + 4),
     (0x0062_C463, 0xFFFF_FFFF, 1, Step::Did, 7, CODE + 8),
     (0x0062_E463, 0xFFFF_FFFF, 1, Step::Did, 7, CODE + 4),
-    (0x0062_8363, 3, 3, Step::Stopped(Stop::Trap(TrapCause::MisalignedTarget)), 7, CODE),
+    (
+        0x0062_8363,
+        3,
+        3,
+        Step::Stopped(Stop::Trap(TrapCause::MisalignedTarget)),
+        7,
+        CODE,
+    ),
     (0x0062_8363, 3, 4, Step::Did, 7, CODE + 4),
     // addi to x0, addi -1, sra, auipc, lui, mulhsu, div, fence
     (0x0012_8013, 5, 0, Step::Did, 7, CODE + 4),
@@ -147,9 +182,30 @@ const EXECUTED: &[Row] = &[
     ),
     (0x0FF0_000F, 0, 0, Step::Did, 7, CODE + 4),
     // ebreak, fence.i and a word of zeros
-    (0x0010_0073, 0, 0, Step::Stopped(Stop::Trap(TrapCause::Breakpoint)), 7, CODE),
-    (0x0000_100F, 0, 0, Step::Stopped(Stop::Trap(TrapCause::NoInstruction)), 7, CODE),
-    (0x0000_0000, 0, 0, Step::Stopped(Stop::Trap(TrapCause::NoInstruction)), 7, CODE),
+    (
+        0x0010_0073,
+        0,
+        0,
+        Step::Stopped(Stop::Trap(TrapCause::Breakpoint)),
+        7,
+        CODE,
+    ),
+    (
+        0x0000_100F,
+        0,
+        0,
+        Step::Stopped(Stop::Trap(TrapCause::NoInstruction)),
+        7,
+        CODE,
+    ),
+    (
+        0x0000_0000,
+        0,
+        0,
+        Step::Stopped(Stop::Trap(TrapCause::NoInstruction)),
+        7,
+        CODE,
+    ),
 ];
 
 #[test]

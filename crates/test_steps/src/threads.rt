@@ -232,7 +232,16 @@ fn counts(rt: HostRuntime) -> Result<(), Fail> {
         (0, 4, 10_000, 4, None, 2, CODE + 4, 2),
         // all of the loop, where a stop stands then, and one more
         (0, 9, 10_000, 9, None, 0, CODE + 12, 1),
-        (0, 10, 10_000, 9, Some(Stop::Trap(TrapCause::Breakpoint)), 0, CODE + 12, 1),
+        (
+            0,
+            10,
+            10_000,
+            9,
+            Some(Stop::Trap(TrapCause::Breakpoint)),
+            0,
+            CODE + 12,
+            1,
+        ),
         // the watchdog before the first instruction, with nothing to do and with all
         (7, 0, 7, 0, None, 3, CODE, 77),
         (7, 9, 7, 0, Some(Stop::Watchdog), 3, CODE, 77),
@@ -243,7 +252,16 @@ fn counts(rt: HostRuntime) -> Result<(), Fail> {
         (3, 9, 7, 4, Some(Stop::Watchdog), 2, CODE + 4, 2),
         // at the place of another stop it is the watchdog's
         (1, 4096, 10, 9, Some(Stop::Watchdog), 0, CODE + 12, 1),
-        (1, 4096, 11, 9, Some(Stop::Trap(TrapCause::Breakpoint)), 0, CODE + 12, 1),
+        (
+            1,
+            4096,
+            11,
+            9,
+            Some(Stop::Trap(TrapCause::Breakpoint)),
+            0,
+            CODE + 12,
+            1,
+        ),
         (0, 9, 4_294_967_295, 9, None, 0, CODE + 12, 1),
         (
             4_294_967_294,
@@ -280,9 +298,33 @@ fn quanta(rt: HostRuntime) -> Result<(), Fail> {
     let guest = small_guest(rt.alloc())?;
     let mut pages = memory(&rt, rt.alloc(), EBREAK)?;
     for (quantum, watchdog, count, stop, x6, pc, stored) in [
-        (1, 10_000, 9, Stop::Trap(TrapCause::Breakpoint), 0, CODE + 12, 1),
-        (2, 10_000, 9, Stop::Trap(TrapCause::Breakpoint), 0, CODE + 12, 1),
-        (4096, 10_000, 9, Stop::Trap(TrapCause::Breakpoint), 0, CODE + 12, 1),
+        (
+            1,
+            10_000,
+            9,
+            Stop::Trap(TrapCause::Breakpoint),
+            0,
+            CODE + 12,
+            1,
+        ),
+        (
+            2,
+            10_000,
+            9,
+            Stop::Trap(TrapCause::Breakpoint),
+            0,
+            CODE + 12,
+            1,
+        ),
+        (
+            4096,
+            10_000,
+            9,
+            Stop::Trap(TrapCause::Breakpoint),
+            0,
+            CODE + 12,
+            1,
+        ),
         (1, 8, 8, Stop::Watchdog, 0, CODE + 8, 1),
         (2, 8, 8, Stop::Watchdog, 0, CODE + 8, 1),
         (4096, 8, 8, Stop::Watchdog, 0, CODE + 8, 1),

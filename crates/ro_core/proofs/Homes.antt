@@ -7,7 +7,7 @@ use Rattle.std.proofs.lemmas.List.{length-set}
 use Rattle.std.proofs.lemmas.Option.{slice_get_within, slice_get-get_or}
 use Rattle.ro_journal.specs.declared.Entry.TheVariants.{Take, Put}
 use Rattle.ro_kernel.proofs.Kept.{slice_get-set_other}
-use Rattle.ro_plain.specs.Machine.{layout_of}
+use Rattle.ro_plain.specs.Machine.{layout_in}
 use Rattle.ro_replica.specs.Replica.{Replica}
 use Rattle.ro_replica.specs.Runs.{RanTo, run_of}
 use Rattle.ro_replica.specs.Seen.{ReplicaOf, replica_of}
@@ -66,7 +66,7 @@ take_seated job core seats lease value seated there = record {
 run_there : (job : Job) (core : Core) (lease : Lease) (count : ℕ) (ran : RanTo) → lease_run job core lease count ≡ Some ran → (r : Replica) × (slice_get core.replicas lease.replica ≡ Some r)
 run_there job core lease count ran e = by (slice_get core.replicas lease.replica) refl e
   where
-    by : (o : Option Replica) → slice_get core.replicas lease.replica ≡ o → option_and_then (λ r. run_of (layout_of job.program) job.settings.watchdog count r lease.thread) o ≡ Some ran → (r : Replica) × (slice_get core.replicas lease.replica ≡ Some r)
+    by : (o : Option Replica) → slice_get core.replicas lease.replica ≡ o → option_and_then (λ r. run_of (layout_in job.program core.kernel) job.settings.watchdog count r lease.thread) o ≡ Some ran → (r : Replica) × (slice_get core.replicas lease.replica ≡ Some r)
     by None f g = absurd (let h : None ≡ Some ran = g in cc)
     by (Some r) f g = (r, f)
 
@@ -87,7 +87,7 @@ put_seated job core seats lease count hit value apart seated m program became =
     let new : Core = core_after_put job core lease count (Some m.ran) in
     let is : core_after_put job core lease count (lease_run job core lease count) ≡ new = ap (core_after_put job core lease count) m.runs in
     subst (λ (c : Core). AreSeated job c (slice_set seats lease.replica (Some value))) (sym is) (record {
-      count = length-set seats lease.replica (Some value) ∙ seated.count ∙ sym (length-set core.replicas lease.replica (arrived job lease.thread count m.ran.replica));
+      count = length-set seats lease.replica (Some value) ∙ seated.count ∙ sym (length-set core.replicas lease.replica (arrived job core.kernel lease.thread count m.ran.replica));
       each = λ number. by number (sym (ap (λ (c : Core). slice_get c.replicas lease.replica) is) ∙ became) (lease.replica == number) refl;
     })
   where

@@ -14,11 +14,11 @@ use Rattle.ro_legal.proofs.Lists.{get-set-same}
 
 -- what a put makes of the replica
 pub put_became : (job : Job) (core : Core) (lease : Lease) (count hit : ℕ) (r : Replica) (ran : RanTo) → slice_get core.replicas lease.replica ≡ Some r → lease_run job core lease count ≡ Some ran
-    → slice_get (after job core (Put lease count hit)).replicas lease.replica ≡ Some (arrived job lease.thread count ran.replica)
+    → slice_get (after job core (Put lease count hit)).replicas lease.replica ≡ Some (arrived job core.kernel lease.thread count ran.replica)
 unfolding after
 put_became job core lease count hit r ran there runs =
     ap (λ (o : Option RanTo). slice_get (core_after_put job core lease count o).replicas lease.replica) runs
-    ∙ get-set-same core.replicas lease.replica r (arrived job lease.thread count ran.replica) there
+    ∙ get-set-same core.replicas lease.replica r (arrived job core.kernel lease.thread count ran.replica) there
 
 -- a lease that is found is out
 pub out_found : (driver : ℕ) (lease : Lease) (leases : List Lease) → find (λ l. l.driver == driver) leases ≡ Some lease → list_any (is_lease lease) leases ≡ true

@@ -47,11 +47,12 @@ pub struct Effect {
 }
 
 impl Model for Effect {
+    ghost use Rattle.std.specs.Prelude.{None};
     ghost use Rattle.ro_event.specs.Effects.{Effect as EffectOf};
 
     ghost Value = { EffectOf };
 
-    ghost view = { λ e. record { thread = e.thread; answer = e.answer; goes = e.goes; place = e.place; bytes = e.bytes.items; page = e.page; made = e.made; releases = e.releases } };
+    ghost view = { λ e. record { thread = e.thread; answer = e.answer; goes = e.goes; place = e.place; bytes = e.bytes.items; page = e.page; made = e.made; range = None; releases = e.releases } };
 }
 
 impl Effect {

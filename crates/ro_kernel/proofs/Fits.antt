@@ -56,7 +56,7 @@ module _ (setup : Setup) (kernel : Kernel) (u : ℕ) (call : Call) where
   fit-of (says value) = fit-answers kernel value refl
   fit-of (reads number e xs h) = fit_done (record { one_life_each = add-none (length kernel.lives); few = omega (arith, length-take (capped call.a2) xs); place_left = tt; backs_none = refl })
   fit-of (breaks e end) = fit-answers (record kernel { heap_end = end }) end refl
-  fit-of (owns on owner) = fit-answers (record kernel { owners = with_owner kernel.owners call.a0 owner }) 0 refl
+  fit-of (owns on fit owner) = fit-answers (record kernel { owners = with_owner kernel.owners call.a0 owner }) 0 refl
   fit-of (wakes ws w) = fit-answers (record kernel { waiters = ws }) 0 refl
   fit-of (parks_at w e h) = fit_parked refl
   fit-of (resumes w waiter e h) = fit-answers (record kernel { owners = with_owner kernel.owners call.a1 (Some u); waiters = without kernel.waiters u }) 0 refl

@@ -47,7 +47,7 @@ module _ (setup : Setup) (kernel : Kernel) (u : ℕ) (call : Call) where
   after-of (says value) = as_before refl
   after-of (reads number e xs h) = as_before refl
   after-of (breaks e end) = as_before refl
-  after-of (owns on owner) = one_set owner on refl
+  after-of (owns on fit owner) = one_set owner on refl
   after-of (wakes ws w) = as_before refl
   after-of (parks_at w e h) = one_freed w refl
   after-of (resumes w waiter e h) = one_back (Some u) w refl

@@ -45,7 +45,7 @@ module _ (setup : Setup) (kernel : Kernel) (thread : ℕ) (call : Call) where
   refuses-of (says value) = done (λ v (e : Some value ≡ Some v) h. let same : value ≡ v = cc in (refl, ap (answer_effect thread call) same))
   refuses-of (reads number e xs h) = fine _ _ _ refl (ap (λ (w : Which). is_error w (length (take (capped call.a2) xs))) e ∙ moved-few number call xs)
   refuses-of (breaks e end) = fine end _ _ refl (ap (λ (w : Which). is_error w end) e)
-  refuses-of (owns on owner) = fine 0 _ _ refl (no-error call.which)
+  refuses-of (owns on fit owner) = fine 0 _ _ refl (no-error call.which)
   refuses-of (wakes ws w) = fine 0 _ _ refl (no-error call.which)
   refuses-of (parks_at w e h) = parked
   refuses-of (resumes w waiter e h) = fine 0 _ _ refl (no-error call.which)

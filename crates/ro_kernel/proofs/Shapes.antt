@@ -17,7 +17,7 @@ use Rattle.ro_condition.specs.declared.waiters.Waiter.{Waiter}
 use Rattle.ro_condition.specs.Waiters.{wait_of, with_signal, with_broadcast}
 use Rattle.ro_kernel.specs.declared.Life.{Life}
 use Rattle.ro_kernel.specs.declared.Life.TheVariants.{Live, Exited, Joined}
-use Rattle.ro_kernel.specs.Kernel.{Setup, Kernel}
+use Rattle.ro_kernel.specs.Kernel.{Setup, Kernel, ranges_in}
 use Rattle.ro_kernel.specs.Serve.{Served, Done, Parked, Blocked, Ends, answers, stores_effect, minus, capped, fits, is_owner, is_free, begins_wait, ends_wait, wait_at, signals, serve_read, serve_write, serve_brk, serve_system, serve_create, joined, serve_join_at, serve_exit, lock_at, trylock_at, unlock_at, on_word, serve_which, serve}
 
 -- a call that may set the owner of a mutex
@@ -41,11 +41,11 @@ pub data Shape (setup : Setup) (kernel : Kernel) (u : ℕ) (call : Call) : Serve
   -- a value, and nothing else
   says : (value : ℕ) → Shape setup kernel u call (answers kernel u call value)
   -- the next bytes of the input, where they may be stored
-  reads : (number : ℕ) → call.which ≡ System number → (xs : List ℕ) → permits_of setup.ranges Write call.a1 (capped call.a2) ≡ true → Shape setup kernel u call (Done (record kernel { taken = kernel.taken + length (take (capped call.a2) xs) }) (stores_effect u call (length (take (capped call.a2) xs)) call.a1 (take (capped call.a2) xs)))
+  reads : (number : ℕ) → call.which ≡ System number → (xs : List ℕ) → permits_of (ranges_in setup kernel) Write call.a1 (capped call.a2) ≡ true → Shape setup kernel u call (Done (record kernel { taken = kernel.taken + length (take (capped call.a2) xs) }) (stores_effect u call (length (take (capped call.a2) xs)) call.a1 (take (capped call.a2) xs)))
   -- the break
   breaks : call.which ≡ System 214 → (end : ℕ) → Shape setup kernel u call (answers (record kernel { heap_end = end }) u call end)
-  -- a mutex has another owner, or none
-  owns : IsOnMutex call.which → (owner : Option ℕ) → Shape setup kernel u call (answers (record kernel { owners = with_owner kernel.owners call.a0 owner }) u call 0)
+  -- a mutex has another owner, or none: its word can be stored
+  owns : IsOnMutex call.which → fits (ranges_in setup kernel) call.a0 ≡ true → (owner : Option ℕ) → Shape setup kernel u call (answers (record kernel { owners = with_owner kernel.owners call.a0 owner }) u call 0)
   -- those who wait on a condition variable are signalled, or one of them is
   wakes : (after : List Waiter) → IsWaking kernel.waiters call.a0 call.which after → Shape setup kernel u call (signals kernel u call after)
   -- a wait begins, and gives its mutex up
@@ -53,13 +53,13 @@ pub data Shape (setup : Setup) (kernel : Kernel) (u : ℕ) (call : Call) : Serve
   -- a wait ends, and has its mutex back
   resumes : call.which ≡ Function Wait → (waiter : Waiter) → wait_of kernel.waiters u ≡ Some waiter → (waiter.signalled && is_free (owner_of kernel.owners call.a1)) ≡ true → Shape setup kernel u call (ends_wait kernel u call)
   -- a thread is made
-  makes : fits setup.ranges call.a0 ≡ true → nat_le 16 (length kernel.lives) ≡ false → Shape setup kernel u call (Done (record kernel { lives = kernel.lives ++ Live ∷ [] }) (record (storing u call.a0 (bytes_of 4 (length kernel.lives))) {
+  makes : fits (ranges_in setup kernel) call.a0 ≡ true → nat_le 16 (length kernel.lives) ≡ false → Shape setup kernel u call (Done (record kernel { lives = kernel.lives ++ Live ∷ [] }) (record (storing u call.a0 (bytes_of 4 (length kernel.lives))) {
     answer = Some 0;
     goes = Returns;
     made = Some (record { start = call.a2; argument = call.a3; creator = u });
   }))
   -- a thread that has exited is joined
-  joins : (value : ℕ) → slice_get kernel.lives call.a0 ≡ Some (Exited value) → (not (call.a1 == 0) && not (fits setup.ranges call.a1)) ≡ false → Shape setup kernel u call (joined setup kernel u call value)
+  joins : (value : ℕ) → slice_get kernel.lives call.a0 ≡ Some (Exited value) → (not (call.a1 == 0) && not (fits (ranges_in setup kernel) call.a1)) ≡ false → Shape setup kernel u call (joined setup kernel u call value)
   -- the thread exits, and others live on
   leaves : Shape setup kernel u call (Done (record kernel { lives = slice_set kernel.lives u (Exited call.a0) }) (quiet u))
   -- it blocks
@@ -83,7 +83,7 @@ module _ (setup : Setup) (kernel : Kernel) (u : ℕ) (call : Call) where
 
   of-read : (number : ℕ) → call.which ≡ System number → Shape setup kernel u call (serve_read setup kernel u call)
   of-read number e =
-      let l = tested (not (permits_of setup.ranges Write call.a1 (capped call.a2))) _ _ (λ h. says (minus 14)) (λ h. reads number e (drop kernel.taken setup.input) (set-by _ h)) in
+      let l = tested (not (permits_of (ranges_in setup kernel) Write call.a1 (capped call.a2))) _ _ (λ h. says (minus 14)) (λ h. reads number e (drop kernel.taken setup.input) (set-by _ h)) in
       search (l, either, says)
 
   of-write : Shape setup kernel u call (serve_write setup kernel u call)
@@ -100,7 +100,7 @@ module _ (setup : Setup) (kernel : Kernel) (u : ℕ) (call : Call) where
 
   of-create : Shape setup kernel u call (serve_create setup kernel u call)
   of-create =
-      let l = tested (not (fits setup.ranges call.a0)) _ _ (λ h. says 14) (λ h. tested (nat_le 16 (length kernel.lives)) _ _ (λ k. says 11) (λ k. makes (set-by _ h) k)) in
+      let l = tested (not (fits (ranges_in setup kernel) call.a0)) _ _ (λ h. says 14) (λ h. tested (nat_le 16 (length kernel.lives)) _ _ (λ k. says 11) (λ k. makes (set-by _ h) k)) in
       search (l, either, says)
 
   of-join_at : (o : Option Life) → slice_get kernel.lives call.a0 ≡ o → IsWaiting kernel u call.which → Shape setup kernel u call (serve_join_at setup kernel u call o)
@@ -108,14 +108,14 @@ module _ (setup : Setup) (kernel : Kernel) (u : ℕ) (call : Call) where
   of-join_at (Some Joined) e w = search (either, says)
   of-join_at (Some Live) e w = search (either, says, waits, w)
   of-join_at (Some (Exited value)) e w =
-      let l = tested (not (call.a1 == 0) && not (fits setup.ranges call.a1)) _ _ (λ h. says 14) (λ h. joins value e h) in search (l, either, says)
+      let l = tested (not (call.a1 == 0) && not (fits (ranges_in setup kernel) call.a1)) _ _ (λ h. says 14) (λ h. joins value e h) in search (l, either, says)
 
   of-exit : Shape setup kernel u call (serve_exit kernel u call)
   of-exit = search (either, leaves, stops_last)
 
-  module _ (on : IsOnMutex call.which) where
+  module _ (on : IsOnMutex call.which) (fit : fits (ranges_in setup kernel) call.a0 ≡ true) where
     sets : (owner : Option ℕ) → Shape setup kernel u call (answers (record kernel { owners = with_owner kernel.owners call.a0 owner }) u call 0)
-    sets owner = owns on owner
+    sets owner = owns on fit owner
 
     of-lock_at : (o : Option (Option ℕ)) → IsWaiting kernel u call.which → Shape setup kernel u call (lock_at kernel u call o)
     of-lock_at None w = search (either, says, sets)
@@ -145,6 +145,9 @@ module _ (setup : Setup) (kernel : Kernel) (u : ℕ) (call : Call) where
   of-word : (served : Served) → Shape setup kernel u call served → Shape setup kernel u call (on_word setup kernel u call served)
   of-word served h = search (either, says, h)
 
+  of-fit : (served : Served) → (fits (ranges_in setup kernel) call.a0 ≡ true → Shape setup kernel u call served) → Shape setup kernel u call (on_word setup kernel u call served)
+  of-fit served h = tested (not (fits (ranges_in setup kernel) call.a0)) _ _ (λ e. says 14) (λ e. h (set-by _ e))
+
   of-which : (which : Which) → call.which ≡ which → Shape setup kernel u call (serve_which setup kernel u call which)
   of-which (System number) e = of-system number e
   of-which (Function Create) e = of-create
@@ -153,9 +156,9 @@ module _ (setup : Setup) (kernel : Kernel) (u : ℕ) (call : Call) where
   of-which (Function ThreadSelf) e = says u
   of-which (Function MutexInit) e = of-word _ (says 0)
   of-which (Function MutexDestroy) e = of-word _ (says 0)
-  of-which (Function Lock) e = of-word _ (of-lock_at (subst IsOnMutex (sym e) on_lock) (owner_of kernel.owners call.a0) (subst (IsWaiting kernel u) (sym e) for_mutex))
-  of-which (Function TryLock) e = of-word _ (of-trylock_at (subst IsOnMutex (sym e) on_trylock) (owner_of kernel.owners call.a0))
-  of-which (Function Unlock) e = of-word _ (of-unlock_at (subst IsOnMutex (sym e) on_unlock) (owner_of kernel.owners call.a0))
+  of-which (Function Lock) e = of-fit _ (λ fit. of-lock_at (subst IsOnMutex (sym e) on_lock) fit (owner_of kernel.owners call.a0) (subst (IsWaiting kernel u) (sym e) for_mutex))
+  of-which (Function TryLock) e = of-fit _ (λ fit. of-trylock_at (subst IsOnMutex (sym e) on_trylock) fit (owner_of kernel.owners call.a0))
+  of-which (Function Unlock) e = of-fit _ (λ fit. of-unlock_at (subst IsOnMutex (sym e) on_unlock) fit (owner_of kernel.owners call.a0))
   of-which (Function ConditionInit) e = of-word _ (says 0)
   of-which (Function ConditionDestroy) e = of-word _ (says 0)
   of-which (Function Wait) e = of-word _ (of-wait_at (wait_of kernel.waiters u) refl e)

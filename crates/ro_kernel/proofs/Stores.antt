@@ -9,7 +9,7 @@ use Rattle.ro_region.specs.declared.Kind.TheVariants.{Write}
 use Rattle.ro_region.specs.declared.Range.{Range}
 use Rattle.ro_region.specs.Permission.{permits_byte, permits_each, permits_of}
 use Rattle.ro_pages.specs.Bytes.{bytes_of}
-use Rattle.ro_kernel.specs.Kernel.{Setup, Kernel}
+use Rattle.ro_kernel.specs.Kernel.{Setup, Kernel, ranges_in}
 use Rattle.ro_kernel.specs.Serve.{Served, Done, capped, fits, serve}
 use Rattle.ro_kernel.proofs.Yields.{Yields, done, parked, blocked, ends, yields-done}
 use Rattle.ro_kernel.proofs.Shapes.{set-by, Shape, says, reads, breaks, owns, wakes, parks_at, resumes, makes, joins, leaves, waits, stops, stops_last, shape-of}
@@ -38,30 +38,30 @@ abbrev pub Stores : List Range → Kernel → Effect → Type 0
 Stores ranges after effect = permits_of ranges Write effect.place (length effect.bytes) ≡ true
 
 module _ (setup : Setup) (kernel : Kernel) (thread : ℕ) (call : Call) where
-  fits-permits : (p : ℕ) → fits setup.ranges p ≡ true → permits_of setup.ranges Write p 4 ≡ true
-  fits-permits p h = (and_parts (p % 4 == 0) (permits_of setup.ranges Write p 4) h).1
+  fits-permits : (p : ℕ) → fits (ranges_in setup kernel) p ≡ true → permits_of (ranges_in setup kernel) Write p 4 ≡ true
+  fits-permits p h = (and_parts (p % 4 == 0) (permits_of (ranges_in setup kernel) Write p 4) h).1
 
   -- the exit value is stored, unless p is 0
-  value-fits : (value : ℕ) (b : Bool) → (call.a1 == 0) ≡ b → (not b && not (fits setup.ranges call.a1)) ≡ false → permits_of setup.ranges Write call.a1 (length (cond b [] (bytes_of 4 value))) ≡ true
-  value-fits value true e h = subst (λ (a : ℕ). permits_of setup.ranges Write a 0 ≡ true) (sym (eqb-true call.a1 0 e)) (permits-none setup.ranges Write)
+  value-fits : (value : ℕ) (b : Bool) → (call.a1 == 0) ≡ b → (not b && not (fits (ranges_in setup kernel) call.a1)) ≡ false → permits_of (ranges_in setup kernel) Write call.a1 (length (cond b [] (bytes_of 4 value))) ≡ true
+  value-fits value true e h = subst (λ (a : ℕ). permits_of (ranges_in setup kernel) Write a 0 ≡ true) (sym (eqb-true call.a1 0 e)) (permits-none (ranges_in setup kernel) Write)
   value-fits value false e h = fits-permits call.a1 (set-by _ h)
 
-  stores-of : {served : Served} → Shape setup kernel thread call served → Yields (Stores setup.ranges) served
-  stores-of (says value) = done (permits-none setup.ranges Write)
-  stores-of (reads number e xs h) = done (permits-fewer setup.ranges Write call.a1 (capped call.a2) (length (take (capped call.a2) xs)) (grind (arith, length-take)) h)
-  stores-of (breaks e end) = done (permits-none setup.ranges Write)
-  stores-of (owns on owner) = done (permits-none setup.ranges Write)
-  stores-of (wakes ws w) = done (permits-none setup.ranges Write)
+  stores-of : {served : Served} → Shape setup kernel thread call served → Yields (Stores (ranges_in setup kernel)) served
+  stores-of (says value) = done (permits-none (ranges_in setup kernel) Write)
+  stores-of (reads number e xs h) = done (permits-fewer (ranges_in setup kernel) Write call.a1 (capped call.a2) (length (take (capped call.a2) xs)) (grind (arith, length-take)) h)
+  stores-of (breaks e end) = done (permits-none (ranges_in setup kernel) Write)
+  stores-of (owns on fit owner) = done (permits-none (ranges_in setup kernel) Write)
+  stores-of (wakes ws w) = done (permits-none (ranges_in setup kernel) Write)
   stores-of (parks_at w e h) = parked
-  stores-of (resumes w waiter e h) = done (permits-none setup.ranges Write)
+  stores-of (resumes w waiter e h) = done (permits-none (ranges_in setup kernel) Write)
   stores-of (makes f n) = done (fits-permits call.a0 f)
   stores-of (joins value e h) = done (value-fits value (call.a1 == 0) refl h)
-  stores-of leaves = done (permits-none setup.ranges Write)
+  stores-of leaves = done (permits-none (ranges_in setup kernel) Write)
   stores-of (waits w) = blocked
   stores-of (stops status) = ends
   stores-of stops_last = ends
 
-  pub stores-permitted : (after : Kernel) (effect : Effect) → serve setup kernel thread call ≡ Done after effect → permits_of setup.ranges Write effect.place (length effect.bytes) ≡ true
-  stores-permitted after effect e = yields-done (Stores setup.ranges) _ after effect (stores-of (shape-of setup kernel thread call)) e
+  pub stores-permitted : (after : Kernel) (effect : Effect) → serve setup kernel thread call ≡ Done after effect → permits_of (ranges_in setup kernel) Write effect.place (length effect.bytes) ≡ true
+  stores-permitted after effect e = yields-done (Stores (ranges_in setup kernel)) _ after effect (stores-of (shape-of setup kernel thread call)) e
 
 pub ruleset stores_law = (stores-permitted)

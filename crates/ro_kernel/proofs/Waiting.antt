@@ -33,7 +33,7 @@ module _ (setup : Setup) (kernel : Kernel) (u : ℕ) (call : Call) where
   others-of (says value) = wait_done (λ t h. refl)
   others-of (reads number e xs h) = wait_done (λ t k. refl)
   others-of (breaks e end) = wait_done (λ t h. refl)
-  others-of (owns on owner) = wait_done (λ t h. refl)
+  others-of (owns on fit owner) = wait_done (λ t h. refl)
   others-of (wakes ws w) = wait_done (λ t h. woken-waits w t)
   others-of (parks_at w e h) =
       let mine : Waiter = record { thread = u; condition = call.a0; signalled = false } in
@@ -125,7 +125,7 @@ module _ (setup : Setup) (kernel : Kernel) (u : ℕ) (call : Call) where
   parks-so (says value) h = absurd (false≢true h)
   parks-so (reads number e xs p) h = absurd (false≢true h)
   parks-so (breaks e end) h = absurd (false≢true h)
-  parks-so (owns on owner) h = absurd (false≢true h)
+  parks-so (owns on fit owner) h = absurd (false≢true h)
   parks-so (wakes ws w) h = absurd (false≢true h)
   parks-so (parks_at w e o) h = w
   parks-so (resumes w waiter e o) h = absurd (false≢true h)
@@ -147,7 +147,7 @@ module _ (setup : Setup) (kernel : Kernel) (u : ℕ) (call : Call) where
   blocked-of (says value) h = absurd (false≢true h)
   blocked-of (reads number e xs p) h = absurd (false≢true h)
   blocked-of (breaks e end) h = absurd (false≢true h)
-  blocked-of (owns on owner) h = absurd (false≢true h)
+  blocked-of (owns on fit owner) h = absurd (false≢true h)
   blocked-of (wakes ws w) h = absurd (false≢true h)
   blocked-of (parks_at w e o) h = absurd (false≢true h)
   blocked-of (resumes w waiter e o) h = absurd (false≢true h)

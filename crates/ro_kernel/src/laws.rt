@@ -9,7 +9,7 @@ ghost use Rattle.ro_event.specs.Effects.{Effect};
 ghost use Rattle.ro_condition.specs.declared.waiters.Waiter.{Waiter};
 ghost use Rattle.ro_condition.specs.Waiters.{wait_of};
 ghost use Rattle.ro_mutex.specs.Owners.{owner_of};
-ghost use Rattle.ro_kernel.specs.Kernel.{Setup, Kernel, lives_on};
+ghost use Rattle.ro_kernel.specs.Kernel.{Setup, Kernel, ranges_in, lives_on};
 ghost use Rattle.ro_kernel.specs.Serve.{serve, blocks, parks, Done, Parked, Blocked, answer_effect};
 ghost use Rattle.ro_kernel.specs.Errors.{is_error};
 
@@ -60,5 +60,5 @@ pub fn errors_change_nothing()
 /// What a served call stores, the guest could have stored itself.
 #[tactic(auto, using(crate::proofs::Stores::stores_law))]
 pub fn effects_store_where_the_guest_may()
-    ensures { (setup : Setup) (kernel after : Kernel) (thread : ℕ) (call : Call) (effect : Effect) → serve setup kernel thread call ≡ Done after effect → permits_of setup.ranges Write effect.place (length effect.bytes) ≡ true }
+    ensures { (setup : Setup) (kernel after : Kernel) (thread : ℕ) (call : Call) (effect : Effect) → serve setup kernel thread call ≡ Done after effect → permits_of (ranges_in setup kernel) Write effect.place (length effect.bytes) ≡ true }
 {}

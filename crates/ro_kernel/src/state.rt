@@ -2,7 +2,7 @@
 ghost use Rattle.std.specs.Prelude.{◌≡◌, ◌∷◌, [], ◌≤◌, length, IfOk};
 ghost use Rattle.std.specs.Arc.{arc_value};
 ghost use Rattle.ro_condition.specs.Waiters.{wait_of};
-ghost use Rattle.ro_kernel.specs.Kernel.{is_live, lives_on, any_live, opening_kernel};
+ghost use Rattle.ro_kernel.specs.Kernel.{ranges_in, is_live, lives_on, any_live, opening_kernel};
 ghost use Rattle.ro_kernel.specs.Serve.{fits};
 
 use crate::Life;
@@ -33,13 +33,13 @@ pub struct Kernel {
 }
 
 impl Model for Kernel {
-    ghost use Rattle.std.specs.Prelude.{◌≤◌, vec_len};
+    ghost use Rattle.std.specs.Prelude.{◌≤◌, vec_len, []};
     ghost use Rattle.std.specs.Arc.{arc_value};
     ghost use Rattle.ro_kernel.specs.State.{State};
 
     ghost Value = { State };
 
-    ghost view = { λ k. record { setup = record { ranges = arc_value k.regions; heap = k.heap; input = k.input.items }; kernel = record { lives = k.lives.items; owners = k.mutexes; waiters = k.waiters; heap_end = k.heap_end; taken = k.taken } } };
+    ghost view = { λ k. record { setup = record { ranges = arc_value k.regions; heap = k.heap; input = k.input.items }; kernel = record { lives = k.lives.items; owners = k.mutexes; waiters = k.waiters; heap_end = k.heap_end; taken = k.taken; given = [] } } };
 
     ghost invariant = { λ k. (k.taken ≤ vec_len k.input) × (vec_len k.lives ≤ 16) };
 }
@@ -110,7 +110,7 @@ impl Kernel {
 
     /// Whether a word can be stored at an address.
     pub(crate) fn fits(&self, address: u32) -> bool
-        ensures { result ≡ fits self.now.setup.ranges address }
+        ensures { result ≡ fits (ranges_in self.now.setup self.now.kernel) address }
     {
         address % 4 == 0 && self.regions.permits(address, 4, Kind::Write)
     }

@@ -17,7 +17,7 @@ use Rattle.ro_faults.specs.declared.Target.{Target}
 use Rattle.ro_faults.specs.declared.Target.TheVariants.{Register, Pc, Byte}
 use Rattle.ro_replica.specs.Replica.{Replica, unstopped, changed_at, thread_after, creator_of, with_made, without_cancelled, applied, cancelled, copied_threads, recovered, opening_replica}
 use Rattle.ro_replica.specs.Runs.{is_due, struck_by, RanTo, strike_in, struck, run_of, with_stop}
-use Rattle.ro_plain.specs.Machine.{layout_of}
+use Rattle.ro_plain.specs.Machine.{layout_in}
 use Rattle.ro_plain.proofs.Calls.{some-injective}
 use Rattle.ro_legal.specs.Core.{Job, Core, opening_core}
 use Rattle.ro_legal.specs.Event.{Event, with_copy, with_recovered}
@@ -28,6 +28,7 @@ use Rattle.ro_legal.proofs.Sound.{Instructs, instructs, instructed, RunParts, ru
 use Rattle.ro_legal.proofs.Copies.{AfterCopy, not_lost, is_copy, after-copy, still-there}
 use Rattle.ro_legal.proofs.Effects.{backed_after, threads_after}
 use Rattle.ro_legal.proofs.Ordered.{put-parts, get-opening, one-thread, event-parts, scrub-winner}
+use Rattle.ro_kernel.specs.Kernel.{Kernel}
 
 -- more are counted too
 counts-more : (less more : ℕ) (replica : Replica) → less ≤ more → Counts less replica → Counts more replica
@@ -133,16 +134,16 @@ counted-event most core thread count replicas (Some event) each h = λ number r 
     by r number m = subst (Counts most) m.gives (counts-applied most event.effect m.from (each number m.from m.there))
 
 counted-put : (most : ℕ) (job : Job) (core : Core) (lease : Lease) (count : ℕ) (ran : RanTo) → Counts (most + job.settings.quantum) ran.replica → AreCounted most core → AreCounted (most + job.settings.quantum) (core_after_put job core lease count (Some ran))
-counted-put most job core lease count ran came h = λ number r e. by number r (get-set-cases core.replicas lease.replica number (arrived job lease.thread count ran.replica) r e)
+counted-put most job core lease count ran came h = λ number r e. by number r (get-set-cases core.replicas lease.replica number (arrived job core.kernel lease.thread count ran.replica) r e)
   where
-    by : (number : ℕ) (r : Replica) → ((number ≢ lease.replica) × (slice_get core.replicas number ≡ Some r)) ⊎ ((number ≡ lease.replica) × (arrived job lease.thread count ran.replica ≡ r)) → Counts (most + job.settings.quantum) r
+    by : (number : ℕ) (r : Replica) → ((number ≢ lease.replica) × (slice_get core.replicas number ≡ Some r)) ⊎ ((number ≡ lease.replica) × (arrived job core.kernel lease.thread count ran.replica ≡ r)) → Counts (most + job.settings.quantum) r
     by number r (inl e) = counts-more most (most + job.settings.quantum) r (omega arith) (h number r e.1)
     by number r (inr e) = subst (Counts (most + job.settings.quantum)) e.1
-        (counts-changed (most + job.settings.quantum) (with_stop (arrival job lease.thread count ran.replica)) (λ x. refl) ran.replica.threads lease.thread came)
+        (counts-changed (most + job.settings.quantum) (with_stop (arrival job core.kernel lease.thread count ran.replica)) (λ x. refl) ran.replica.threads lease.thread came)
 
-few-arrive : (job : Job) (thread count : ℕ) (replica : Replica) → HasArrived job thread count replica → count ≤ job.settings.quantum
-few-arrive job thread count replica (inl e) = omega arith
-few-arrive job thread count replica (inr e) = let less : count < job.settings.quantum = e.0 in omega arith
+few-arrive : (job : Job) (kernel : Kernel) (thread count : ℕ) (replica : Replica) → HasArrived job kernel thread count replica → count ≤ job.settings.quantum
+few-arrive job kernel thread count replica (inl e) = omega arith
+few-arrive job kernel thread count replica (inr e) = let less : count < job.settings.quantum = e.0 in omega arith
 
 more-counted : (less more : ℕ) (core : Core) → less ≤ more → AreCounted less core → AreCounted more core
 more-counted less more core h counts = λ number r e. counts-more less more r h (counts number r e)
@@ -152,8 +153,8 @@ unfolding after
 counted-after most job core (Take lease) may h = more-counted most (most + job.settings.quantum) (after job core (Take lease)) (omega arith) h
 counted-after most job core (Put lease count hit) may h =
     let parts = put-parts job core lease count may.ran may.runs in
-    let few = few-arrive job lease.thread count may.ran.replica may.arrives in
-    let came = counts-run most (layout_of job.program) job.settings.watchdog count lease.thread parts.lent may.ran parts.runs (h lease.replica parts.lent parts.there) in
+    let few = few-arrive job core.kernel lease.thread count may.ran.replica may.arrives in
+    let came = counts-run most (layout_in job.program core.kernel) job.settings.watchdog count lease.thread parts.lent may.ran parts.runs (h lease.replica parts.lent parts.there) in
     subst (λ (o : Option RanTo). AreCounted (most + job.settings.quantum) (core_after_put job core lease count o)) (sym may.runs)
     (counted-put most job core lease count may.ran (counts-more (most + count) (most + job.settings.quantum) may.ran.replica (omega arith) came) h)
 counted-after most job core (Vote thread count won lost did) may h =

@@ -21,7 +21,7 @@ use Rattle.ro_faults.specs.declared.Target.{Target}
 use Rattle.ro_faults.specs.declared.Target.TheVariants.{Register, Pc, Byte}
 use Rattle.ro_replica.specs.Replica.{Replica, unstopped, changed_at, thread_after, creator_of, with_made, is_cancelled, without_cancelled, is_page, applied, cancelled, copied_threads, recovered, stop_of, opening_replica}
 use Rattle.ro_replica.specs.Runs.{is_due, struck_by, RanTo, strike_in, struck, run_of, with_stop, standing_in}
-use Rattle.ro_plain.specs.Machine.{layout_of}
+use Rattle.ro_plain.specs.Machine.{layout_in}
 use Rattle.ro_plain.proofs.Calls.{some-injective}
 use Rattle.ro_legal.specs.Core.{Job, Core, opening_core}
 use Rattle.ro_legal.specs.Event.{Event, with_copy, with_recovered}
@@ -34,6 +34,7 @@ use Rattle.ro_legal.proofs.Copies.{AfterCopy, not_lost, is_copy, after-copy, sti
 use Rattle.ro_legal.proofs.Effects.{backed_after, threads_after}
 use Rattle.ro_legal.proofs.Ordered.{put-parts, get-opening, one-thread, event-parts, scrub-winner}
 use Rattle.ro_legal.proofs.FaultPages.{fault-standing}
+use Rattle.ro_kernel.specs.Kernel.{Kernel}
 
 fault-changed : (backed : Backed) (f : Thread → Thread) → ((x : Thread) → IsFault backed x.stop → IsFault backed (f x).stop) → (threads : List Thread) (t : ℕ) → ((place : ℕ) (x : Thread) → slice_get threads place ≡ Some x → IsFault backed x.stop) → (place : ℕ) (x : Thread) → slice_get (changed_at f threads t) place ≡ Some x → IsFault backed x.stop
 fault-changed backed f keeps threads t low place x e = by (get-changed f threads t place x e)
@@ -78,17 +79,17 @@ fault-run layout watchdog (suc n) t replica ran e h =
     subst (λ (r : RanTo). HasFaults r.replica) parts.sum (fault-run layout watchdog n t parts.after parts.rest parts.runs one)
 
 -- the stop at which a run arrives
-fault-arrival : (job : Job) (thread count : ℕ) (replica : Replica) → IsFault replica.backed (arrival job thread count replica)
-fault-arrival job thread count replica = by (count == job.settings.quantum)
+fault-arrival : (job : Job) (kernel : Kernel) (thread count : ℕ) (replica : Replica) → IsFault replica.backed (arrival job kernel thread count replica)
+fault-arrival job kernel thread count replica = by (count == job.settings.quantum)
   where
     none : IsFault replica.backed None
     none page e = absurd (let f : None ≡ Some (PageFault page) = e in cc)
 
-    at : (o : Option Thread) → IsFault replica.backed (option_and_then (standing_in (layout_of job.program) job.settings.watchdog replica) o)
+    at : (o : Option Thread) → IsFault replica.backed (option_and_then (standing_in (layout_in job.program kernel) job.settings.watchdog replica) o)
     at None = none
-    at (Some t) = fault-standing (layout_of job.program) job.settings.watchdog replica.backed replica.memory t.cpu t.since
+    at (Some t) = fault-standing (layout_in job.program kernel) job.settings.watchdog replica.backed replica.memory t.cpu t.since
 
-    by : (b : Bool) → IsFault replica.backed (cond b None (option_and_then (standing_in (layout_of job.program) job.settings.watchdog replica) (slice_get replica.threads thread)))
+    by : (b : Bool) → IsFault replica.backed (cond b None (option_and_then (standing_in (layout_in job.program kernel) job.settings.watchdog replica) (slice_get replica.threads thread)))
     by true = none
     by false = at (slice_get replica.threads thread)
 
@@ -197,18 +198,18 @@ fault-event core thread count replicas (Some event) each h = λ number r e. by r
     by r number m = subst HasFaults m.gives (fault-applied event.effect m.from (each number m.from m.there))
 
 fault-put : (job : Job) (core : Core) (lease : Lease) (count : ℕ) (ran : RanTo) → HasFaults ran.replica → FaultsWait core.replicas → FaultsWait (core_after_put job core lease count (Some ran)).replicas
-fault-put job core lease count ran came h = λ number r e. by number r (get-set-cases core.replicas lease.replica number (arrived job lease.thread count ran.replica) r e)
+fault-put job core lease count ran came h = λ number r e. by number r (get-set-cases core.replicas lease.replica number (arrived job core.kernel lease.thread count ran.replica) r e)
   where
-    by : (number : ℕ) (r : Replica) → ((number ≢ lease.replica) × (slice_get core.replicas number ≡ Some r)) ⊎ ((number ≡ lease.replica) × (arrived job lease.thread count ran.replica ≡ r)) → HasFaults r
+    by : (number : ℕ) (r : Replica) → ((number ≢ lease.replica) × (slice_get core.replicas number ≡ Some r)) ⊎ ((number ≡ lease.replica) × (arrived job core.kernel lease.thread count ran.replica ≡ r)) → HasFaults r
     by number r (inl e) = h number r e.1
-    by number r (inr e) = subst HasFaults e.1 (fault-changed ran.replica.backed (with_stop (arrival job lease.thread count ran.replica)) (λ x k. fault-arrival job lease.thread count ran.replica) ran.replica.threads lease.thread came)
+    by number r (inr e) = subst HasFaults e.1 (fault-changed ran.replica.backed (with_stop (arrival job core.kernel lease.thread count ran.replica)) (λ x k. fault-arrival job core.kernel lease.thread count ran.replica) ran.replica.threads lease.thread came)
 
 fault-after : (job : Job) (core : Core) (entry : Entry) → IsAllowed job core entry → FaultsWait core.replicas → FaultsWait (after job core entry).replicas
 unfolding after
 fault-after job core (Take lease) may h = h
 fault-after job core (Put lease count hit) may h =
     let parts = put-parts job core lease count may.ran may.runs in
-    let came = fault-run (layout_of job.program) job.settings.watchdog count lease.thread parts.lent may.ran parts.runs (h lease.replica parts.lent parts.there) in
+    let came = fault-run (layout_in job.program core.kernel) job.settings.watchdog count lease.thread parts.lent may.ran parts.runs (h lease.replica parts.lent parts.there) in
     subst (λ (o : Option RanTo). FaultsWait (core_after_put job core lease count o).replicas) (sym may.runs) (fault-put job core lease count may.ran came h)
 fault-after job core (Vote thread count won lost did) may h =
     let e = event-parts job core thread won may.event may.comes in

@@ -26,7 +26,7 @@ use Rattle.ro_thread.specs.declared.Thread.{Thread}
 use Rattle.ro_replica.specs.Replica.{Replica, changed_at, thread_after, with_made, without_cancelled, is_cancelled, applied, cancelled}
 use Rattle.ro_replica.specs.Runs.{RanTo, run_of, with_stop}
 use Rattle.ro_replica.specs.Views.{is_unstopped}
-use Rattle.ro_plain.specs.Machine.{layout_of, setup_of}
+use Rattle.ro_plain.specs.Machine.{setup_of, layout_in}
 use Rattle.ro_plain.proofs.Calls.{some-injective, slice_get-append}
 use Rattle.ro_journal.specs.declared.Lease.{Lease}
 use Rattle.ro_legal.specs.Core.{Job, Core, opening_core, is_home, is_lease, is_out, is_lendable}
@@ -91,7 +91,7 @@ go-put job core lease count hit may apart h =
     there : LentGo (core_after_put job core lease count (Some may.ran))
     there other e =
         let apart_from : other.replica ≢ lease.replica = λ same. true≢false (sym (out_has other left e) ∙ ap (λ (n : ℕ). has_replica n left) same ∙ gone lease core.leases apart may.out) in
-        ap (λ (o : Option Replica). option_map_or (is_unstopped other.thread) o false) (slice_get-set_other core.replicas lease.replica other.replica (arrived job lease.thread count may.ran.replica) (λ k. apart_from (sym k)))
+        ap (λ (o : Option Replica). option_map_or (is_unstopped other.thread) o false) (slice_get-set_other core.replicas lease.replica other.replica (arrived job core.kernel lease.thread count may.ran.replica) (λ k. apart_from (sym k)))
         ∙ h other (any-filter (is_lease other) (λ l. not (is_lease lease l)) core.leases e)
 
 -- where nothing is lent
@@ -142,8 +142,8 @@ lent-thread core replica thread e = by (slice_get core.replicas replica) refl e
 pub lent-meets : (job : Job) (core : Core) (lease : Lease) (count : ℕ) (ran : RanTo) (lent : LentThread core lease.replica lease.thread) → lease_run job core lease count ≡ Some ran → RunMeets lease.thread count lent.went lent.lent ran
 lent-meets job core lease count ran lent runs =
     let parts = put-parts job core lease count ran runs in
-    meets (layout_of job.program) job.settings.watchdog count lease.thread lent.went lent.lent ran lent.in_lent
-    (ap (λ (r : Replica). run_of (layout_of job.program) job.settings.watchdog count r lease.thread) (some-injective (sym lent.in_core ∙ parts.there)) ∙ parts.runs)
+    meets (layout_in job.program core.kernel) job.settings.watchdog count lease.thread lent.went lent.lent ran lent.in_lent
+    (ap (λ (r : Replica). run_of (layout_in job.program core.kernel) job.settings.watchdog count r lease.thread) (some-injective (sym lent.in_core ∙ parts.there)) ∙ parts.runs)
 
 -- ---- what stands at a call
 
@@ -264,15 +264,15 @@ put-keeps job core lease count hit may go replica thread stands call f at =
         (let g : None ≡ Some (Calls call) = sym lent.goes ∙ ap (λ (x : Thread). x.stop) both ∙ at in cc)
         in
         found-is new replica thread stands (record {
-          value = arrived job lease.thread count may.ran.replica;
-          in_core = ap (slice_get new.replicas) same ∙ get-set-same core.replicas lease.replica lent.lent (arrived job lease.thread count may.ran.replica) lent.in_core;
-          there = changed-other (with_stop (arrival job lease.thread count may.ran.replica)) may.ran.replica.threads lease.thread thread other ∙ (lent-meets job core lease count may.ran lent may.runs).only.others thread other ∙ there;
+          value = arrived job core.kernel lease.thread count may.ran.replica;
+          in_core = ap (slice_get new.replicas) same ∙ get-set-same core.replicas lease.replica lent.lent (arrived job core.kernel lease.thread count may.ran.replica) lent.in_core;
+          there = changed-other (with_stop (arrival job core.kernel lease.thread count may.ran.replica)) may.ran.replica.threads lease.thread thread other ∙ (lent-meets job core lease count may.ran lent may.runs).only.others thread other ∙ there;
         })
 
     away : replica ≢ lease.replica → thread_in new replica thread ≡ Some stands
     away differs = found-is new replica thread stands (record {
       value = f.value;
-      in_core = slice_get-set_other core.replicas lease.replica replica (arrived job lease.thread count may.ran.replica) (λ k. differs (sym k)) ∙ f.in_core;
+      in_core = slice_get-set_other core.replicas lease.replica replica (arrived job core.kernel lease.thread count may.ran.replica) (λ k. differs (sym k)) ∙ f.in_core;
       there = f.there;
     })
 

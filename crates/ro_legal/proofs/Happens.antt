@@ -11,9 +11,10 @@ use Rattle.ro_event.specs.declared.stops.Stop.TheVariants.{Calls, Trap, PageFaul
 use Rattle.ro_event.specs.Effects.{Effect}
 use Rattle.ro_region.specs.declared.Kind.TheVariants.{Write}
 use Rattle.ro_region.specs.Permission.{permits_each, permits_of}
+use Rattle.ro_region.specs.declared.Range.{Range}
 use Rattle.ro_journal.specs.declared.How.{How}
 use Rattle.ro_journal.specs.declared.How.TheVariants.{Trap as TrapHow}
-use Rattle.ro_kernel.specs.Kernel.{Setup, Kernel, lives_on}
+use Rattle.ro_kernel.specs.Kernel.{Setup, Kernel, lives_on, ranges_in}
 use Rattle.ro_kernel.specs.Serve.{Served, Done, Parked, Blocked, Ends, serve}
 use Rattle.ro_kernel.proofs.Kept.{IsOwn, Own, done, serve-own}
 use Rattle.ro_kernel.proofs.Stores.{stores-permitted}
@@ -63,10 +64,10 @@ no-end : (how : How) → None ≡ Some how → IsOver how
 no-end how e = absurd cc
 
 -- bytes that may be written lie below the end of the addresses
-within-permits : (setup : Setup) (place count : ℕ) → permits_of setup.ranges Write place count ≡ true → place + count ≤ 2 ^ 32
+within-permits : (ranges : List Range) (place count : ℕ) → permits_of ranges Write place count ≡ true → place + count ≤ 2 ^ 32
 unfolding permits_of
-within-permits setup place count e =
-    let parts = and_parts (nat_le (place + count) (2 ^ 32)) (permits_each setup.ranges Write place count) e in leb-true _ _ parts.0
+within-permits ranges place count e =
+    let parts = and_parts (nat_le (place + count) (2 ^ 32)) (permits_each ranges Write place count) e in leb-true _ _ parts.0
 
 module _ (setup : Setup) (kernel : Kernel) (thread : ℕ) (call : Call) (payload : List ℕ) where
   tidy-of : (after : Kernel) (effect : Effect) → Tidy kernel thread (Done after effect) → IsTidy kernel thread after effect
@@ -96,7 +97,7 @@ module _ (setup : Setup) (kernel : Kernel) (thread : ℕ) (call : Call) (payload
         thread_is = own.thread_is;
         creator_is = own.creator_is;
         few = fit.few;
-        within = within-permits setup effect.place (length effect.bytes) (stores-permitted setup kernel thread call after effect e);
+        within = within-permits (ranges_in setup kernel) effect.place (length effect.bytes) (stores-permitted setup kernel thread call after effect e);
         place_left = fit.place_left;
         ends_well = no-end;
       }

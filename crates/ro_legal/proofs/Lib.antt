@@ -55,3 +55,5 @@ pub mod OneDriver
 pub mod Streaks
 -- scrubs come in time
 pub mod InTime
+-- what is given to the program: nothing
+pub mod Ungiven

@@ -373,19 +373,19 @@ meets-same job journal entry core quiet h number r e = meets-quiet job journal e
 
 meets-ran : (job : Job) (journal : List Entry) (core : Core) (lease : Lease) (count hit : ℕ) → (may : MayPut job core lease count hit) → LentGo core → AllMeet job journal core
     → AllMeet job (journal ++ Put lease count hit ∷ []) (core_after_put job core lease count (Some may.ran))
-meets-ran job journal core lease count hit may go h number r e = by (get-set-cases core.replicas lease.replica number (arrived job lease.thread count may.ran.replica) r e)
+meets-ran job journal core lease count hit may go h number r e = by (get-set-cases core.replicas lease.replica number (arrived job core.kernel lease.thread count may.ran.replica) r e)
   where
     lent : LentThread core lease.replica lease.thread
     lent = lent-thread core lease.replica lease.thread (go lease may.out)
 
-    came : Meets job (journal ++ Put lease count hit ∷ []) lease.replica (arrived job lease.thread count may.ran.replica)
-    came = meets-put job journal lease count hit lent.lent (arrived job lease.thread count may.ran.replica) may.ran lent.went (with_stop (arrival job lease.thread count may.ran.replica)) (λ x. refl)
+    came : Meets job (journal ++ Put lease count hit ∷ []) lease.replica (arrived job core.kernel lease.thread count may.ran.replica)
+    came = meets-put job journal lease count hit lent.lent (arrived job core.kernel lease.thread count may.ran.replica) may.ran lent.went (with_stop (arrival job core.kernel lease.thread count may.ran.replica)) (λ x. refl)
         lent.in_lent (lent-meets job core lease count may.ran lent may.runs) may.struck refl refl (h lease.replica lent.lent lent.in_core)
 
     quiet : number ≢ lease.replica → IsQuiet number (Put lease count hit)
     quiet d = ((λ t. and_left (lease.replica == number) (lease.thread == t) (ne_eqb lease.replica number (λ (k : lease.replica ≡ number). d (sym k)))), ap (λ (b : Bool). cond b hit 0) (ne_eqb lease.replica number (λ (k : lease.replica ≡ number). d (sym k))))
 
-    by : ((number ≢ lease.replica) × (slice_get core.replicas number ≡ Some r)) ⊎ ((number ≡ lease.replica) × (arrived job lease.thread count may.ran.replica ≡ r)) → Meets job (journal ++ Put lease count hit ∷ []) number r
+    by : ((number ≢ lease.replica) × (slice_get core.replicas number ≡ Some r)) ⊎ ((number ≡ lease.replica) × (arrived job core.kernel lease.thread count may.ran.replica ≡ r)) → Meets job (journal ++ Put lease count hit ∷ []) number r
     by (inl f) = meets-quiet job journal (Put lease count hit) number r r (quiet f.0) (same-replica r) (h number r f.1)
     by (inr f) = subst (λ (n : ℕ). Meets job (journal ++ Put lease count hit ∷ []) n r) (sym f.0) (subst (Meets job (journal ++ Put lease count hit ∷ []) lease.replica) f.1 came)
 

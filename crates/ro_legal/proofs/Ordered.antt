@@ -29,7 +29,7 @@ use Rattle.ro_thread.specs.declared.Thread.{Thread}
 use Rattle.ro_replica.specs.Replica.{Replica, opening_replica, applied, cancelled, stop_of}
 use Rattle.ro_replica.specs.Runs.{RanTo, run_of, with_stop}
 use Rattle.ro_replica.specs.Snapshots.{snapshot_of}
-use Rattle.ro_plain.specs.Machine.{layout_of, setup_of}
+use Rattle.ro_plain.specs.Machine.{setup_of, layout_in}
 use Rattle.ro_plain.proofs.Ahead.{is-none-from}
 use Rattle.ro_plain.proofs.Calls.{some-injective}
 use Rattle.ro_journal.specs.declared.Lease.{Lease}
@@ -78,11 +78,11 @@ ordered-take job core lease may h = record {
 pub record PutParts (job : Job) (core : Core) (lease : Lease) (count : ℕ) (ran : RanTo) : Type 0 where
   pub lent : Replica
   pub there : slice_get core.replicas lease.replica ≡ Some lent
-  pub runs : run_of (layout_of job.program) job.settings.watchdog count lent lease.thread ≡ Some ran
+  pub runs : run_of (layout_in job.program core.kernel) job.settings.watchdog count lent lease.thread ≡ Some ran
 
 pub put-parts : (job : Job) (core : Core) (lease : Lease) (count : ℕ) (ran : RanTo) → lease_run job core lease count ≡ Some ran → PutParts job core lease count ran
 put-parts job core lease count ran e =
-    option_and_then_some (λ r. run_of (layout_of job.program) job.settings.watchdog count r lease.thread) (slice_get core.replicas lease.replica) ran e (λ lent there runs. record { lent = lent; there = there; runs = runs })
+    option_and_then_some (λ r. run_of (layout_in job.program core.kernel) job.settings.watchdog count r lease.thread) (slice_get core.replicas lease.replica) ran e (λ lent there runs. record { lent = lent; there = there; runs = runs })
 
 -- no lease is left where none was
 none-left : (p : Lease → Bool) (leases : List Lease) → leases ≡ [] → filter p leases ≡ []
@@ -92,7 +92,7 @@ ordered-ran : (job : Job) (core : Core) (lease : Lease) (count hit : ℕ) (may :
 ordered-ran job core lease count hit may h = record {
   replica_count = length-set core.replicas lease.replica _ ∙ h.replica_count;
   backed = h.backed;
-  sound = λ number r e. by number r (get-set-cases core.replicas lease.replica number (arrived job lease.thread count may.ran.replica) r e);
+  sound = λ number r e. by number r (get-set-cases core.replicas lease.replica number (arrived job core.kernel lease.thread count may.ran.replica) r e);
   some_life = h.some_life;
   few_lives = h.few_lives;
   within_limit = h.within_limit;
@@ -109,13 +109,13 @@ ordered-ran job core lease count hit may h = record {
     new : Core
     new = core_after_put job core lease count (Some may.ran)
 
-    came : IsSound job core h.backed lease.replica (arrived job lease.thread count may.ran.replica)
-    came = sound-changed job core h.backed lease.replica may.ran.replica (with_stop (arrival job lease.thread count may.ran.replica)) lease.thread (λ x k. k)
-        (run-well job core h.backed lease.replica (layout_of job.program) count lease.thread parts.lent may.ran parts.runs (h.sound lease.replica parts.lent parts.there)).sound
+    came : IsSound job core h.backed lease.replica (arrived job core.kernel lease.thread count may.ran.replica)
+    came = sound-changed job core h.backed lease.replica may.ran.replica (with_stop (arrival job core.kernel lease.thread count may.ran.replica)) lease.thread (λ x k. k)
+        (run-well job core h.backed lease.replica (layout_in job.program core.kernel) count lease.thread parts.lent may.ran parts.runs (h.sound lease.replica parts.lent parts.there)).sound
 
-    by : (number : ℕ) (r : Replica) → ((number ≢ lease.replica) × (slice_get core.replicas number ≡ Some r)) ⊎ ((number ≡ lease.replica) × (arrived job lease.thread count may.ran.replica ≡ r)) → IsSound job new h.backed number r
+    by : (number : ℕ) (r : Replica) → ((number ≢ lease.replica) × (slice_get core.replicas number ≡ Some r)) ⊎ ((number ≡ lease.replica) × (arrived job core.kernel lease.thread count may.ran.replica ≡ r)) → IsSound job new h.backed number r
     by number r (inl e) = sound-with job core new h.backed number r refl (h.sound number r e.1)
-    by number r (inr e) = subst (λ (n : ℕ). IsSound job new h.backed n r) (sym e.0) (subst (IsSound job new h.backed lease.replica) e.1 (sound-with job core new h.backed lease.replica (arrived job lease.thread count may.ran.replica) refl came))
+    by number r (inr e) = subst (λ (n : ℕ). IsSound job new h.backed n r) (sym e.0) (subst (IsSound job new h.backed lease.replica) e.1 (sound-with job core new h.backed lease.replica (arrived job core.kernel lease.thread count may.ran.replica) refl came))
 
 ordered-put : (job : Job) (core : Core) (lease : Lease) (count hit : ℕ) → MayPut job core lease count hit → IsOrdered job core → IsOrdered job (after job core (Put lease count hit))
 unfolding after

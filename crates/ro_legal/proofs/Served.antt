@@ -74,7 +74,7 @@ module _ (setup : Setup) (kernel : Kernel) (u : ℕ) (call : Call) where
   tidy-of (says value) = tidy-answers kernel kernel u call value refl
   tidy-of (reads number e xs h) = tidy_done (record { one_life_each = add-none (length kernel.lives); stays_dead = λ t d short h. h; goes_on = refl; backs_none = refl })
   tidy-of (breaks e end) = tidy-answers kernel (record kernel { heap_end = end }) u call end refl
-  tidy-of (owns on owner) = tidy-answers kernel (record kernel { owners = with_owner kernel.owners call.a0 owner }) u call 0 refl
+  tidy-of (owns on fit owner) = tidy-answers kernel (record kernel { owners = with_owner kernel.owners call.a0 owner }) u call 0 refl
   tidy-of (wakes ws w) = tidy-answers kernel (record kernel { waiters = ws }) u call 0 refl
   tidy-of (parks_at w e h) = tidy_parked
   tidy-of (resumes w waiter e h) = tidy-answers kernel (record kernel { owners = with_owner kernel.owners call.a1 (Some u); waiters = without kernel.waiters u }) u call 0 refl

@@ -12,6 +12,7 @@ use Rattle.ro_event.specs.Views.{View}
 use Rattle.ro_region.specs.declared.Range.{Range}
 use Rattle.ro_pages.specs.Bytes.{Memory, bytes_at}
 use Rattle.ro_kernel.specs.Serve.{capped, is_write, is_good_write, payload_of}
+use Rattle.ro_kernel.specs.Kernel.{ranges_in}
 use Rattle.ro_thread.specs.declared.Thread.{Thread}
 use Rattle.ro_vote.specs.Verdict.{verdict_of, Won}
 use Rattle.ro_vote.specs.Numbers.{is_among}
@@ -90,19 +91,19 @@ all-viewed ranges thread (r ∷ replicas) e =
 
 -- the views of all, one for each replica
 pub views-count : (job : Job) (core : Core) (thread : ℕ) → list_all (λ replica. is_some (stop_of replica thread)) core.replicas ≡ true → length (views_of job core thread) ≡ length core.replicas
-views-count job core thread all = length-filter-map (view_of job.program.image.ranges thread) core.replicas (all-viewed job.program.image.ranges thread core.replicas all)
+views-count job core thread all = length-filter-map (view_of (ranges_in (setup_of job.program) core.kernel) thread) core.replicas (all-viewed (ranges_in (setup_of job.program) core.kernel) thread core.replicas all)
 
 -- the replica of a view
 pub record Showing (job : Job) (core : Core) (thread number : ℕ) (view : View) : Type 0 where
   pub replica : Replica
   pub there : slice_get core.replicas number ≡ Some replica
-  pub shown : ShownBy job.program.image.ranges thread replica view
+  pub shown : ShownBy (ranges_in (setup_of job.program) core.kernel) thread replica view
 
 pub showing : (job : Job) (core : Core) (thread number : ℕ) (view : View) → list_all (λ replica. is_some (stop_of replica thread)) core.replicas ≡ true → number < length core.replicas → slice_get (views_of job core thread) number ≡ Some view → Showing job core thread number view
 showing job core thread number view all less e =
     let r = get-within core.replicas number less in
-    let v = get-filter-map (view_of job.program.image.ranges thread) core.replicas (all-viewed job.program.image.ranges thread core.replicas all) number r.0 r.1 in
-    record { replica = r.0; there = r.1; shown = shown-by job.program.image.ranges thread r.0 view (sym v ∙ e) }
+    let v = get-filter-map (view_of (ranges_in (setup_of job.program) core.kernel) thread) core.replicas (all-viewed (ranges_in (setup_of job.program) core.kernel) thread core.replicas all) number r.0 r.1 in
+    record { replica = r.0; there = r.1; shown = shown-by (ranges_in (setup_of job.program) core.kernel) thread r.0 view (sym v ∙ e) }
 
 -- the event that it comes to, and its count
 pub showing-event : (job : Job) (core : Core) (thread won : ℕ) (view : View) → Showing job core thread won view → event_in job core thread won ≡ Some (event_of (setup_of job.program) core.kernel thread view.stop view.payload)
@@ -137,4 +138,4 @@ short-at ranges memory (PageFault page) = omega arith
 short-at ranges memory Watchdog = omega arith
 
 pub showing-short : (job : Job) (core : Core) (thread won : ℕ) (view : View) → Showing job core thread won view → length view.payload ≤ 4096
-showing-short job core thread won view s = subst (λ (xs : List ℕ). length xs ≤ 4096) s.shown.payload_is (short-at job.program.image.ranges s.replica.memory view.stop)
+showing-short job core thread won view s = subst (λ (xs : List ℕ). length xs ≤ 4096) s.shown.payload_is (short-at (ranges_in (setup_of job.program) core.kernel) s.replica.memory view.stop)

@@ -9,7 +9,7 @@ use Rattle.ro_kernel.specs.Kernel.{lives_on}
 use Rattle.ro_thread.specs.declared.Thread.{Thread}
 use Rattle.ro_replica.specs.Replica.{Replica}
 use Rattle.ro_replica.specs.Runs.{standing_in}
-use Rattle.ro_plain.specs.Machine.{layout_of, Machine, opening, BackedRun, run}
+use Rattle.ro_plain.specs.Machine.{layout_in, Machine, opening, BackedRun, run}
 use Rattle.ro_vote.specs.Numbers.{is_among, AtMostHalf}
 use Rattle.ro_legal.specs.Core.{Job}
 use Rattle.ro_legal.specs.Legal.{replay}
@@ -36,7 +36,7 @@ pub record IsAlike (job : Job) (journal : List Entry) (replica : Replica) : Type
   pub runs : BackedRun job.program replica.backed machine (ahead replica) end
   pub same_memory : replica.memory ≡ end.memory
   pub same_cpus : (number : ℕ) (thread : Thread) → IsTrue (lives_on machine.kernel number) → slice_get replica.threads number ≡ Some thread → slice_get end.cpus number ≡ Some thread.cpu
-  pub stops_stand : (number : ℕ) (thread : Thread) (stop : Stop) → IsTrue (lives_on machine.kernel number) → slice_get replica.threads number ≡ Some thread → thread.stop ≡ Some stop → standing_in (layout_of job.program) job.settings.watchdog replica thread ≡ Some stop
+  pub stops_stand : (number : ℕ) (thread : Thread) (stop : Stop) → IsTrue (lives_on machine.kernel number) → slice_get replica.threads number ≡ Some thread → thread.stop ≡ Some stop → standing_in (layout_in job.program machine.kernel) job.settings.watchdog replica thread ≡ Some stop
 
 -- every replica but those of these numbers is alike
 abbrev pub AllAlikeBut : Job → List Entry → List ℕ → Type 0

@@ -19,14 +19,15 @@ use Rattle.ro_exec.specs.declared.Cpu.{Cpu}
 use Rattle.ro_exec.specs.Meaning.{loads, stores}
 use Rattle.ro_exec.specs.Next.{Layout, all_backed, exit_place, Next, Stands, Executes, first, stop_if, fetch_stop, instruction_stop, unless_stop, next_at, next}
 use Rattle.ro_exec.proofs.Frame.{next-fetched, next-stopped}
-use Rattle.ro_kernel.specs.Kernel.{Kernel}
+use Rattle.ro_kernel.specs.Kernel.{Kernel, ranges_in}
 use Rattle.ro_kernel.specs.Serve.{Served, Done, Parked, Blocked, Ends, serve, payload_of, is_write, is_good_write, capped}
+use Rattle.ro_kernel.proofs.Given.{range-none, none-given, given-parked, given-ended}
 use Rattle.std.proofs.lemmas.Option.{option_and_then_some}
-use Rattle.ro_plain.specs.Machine.{Program, layout_of, setup_of, Machine, next_of, steppable, step, step_by}
+use Rattle.ro_plain.specs.Machine.{Program, setup_of, Machine, next_of, steppable, step, step_by, layout_in, called, payload_in}
 use Rattle.ro_event.specs.Effects.{Effect}
-use Rattle.ro_plain.specs.Accesses.{Accesses, fetches, accesses, accesses_by, touches, payload_span, stored_span}
+use Rattle.ro_plain.specs.Accesses.{Accesses, fetches, accesses, accesses_by, touches, payload_span, stored_span, given_span}
 use Rattle.ro_plain.specs.Order.{Nothing, sync_of, sync_next, sync_served}
-use Rattle.ro_plain.proofs.Calls.{accesses-at, step-opens}
+use Rattle.ro_plain.proofs.Calls.{accesses-at, step-opens, some-injective}
 use Rattle.ro_machine.specs.declared.calls.Came.{Came}
 use Rattle.ro_machine.specs.declared.watching.Stretch.{Stretch}
 use Rattle.ro_machine.specs.declared.watching.Went.TheVariants.{Executed, Trapped, Called}
@@ -198,7 +199,7 @@ payload-stretch ranges call n h a = by (is_write call.which && is_good_write ran
 
 -- ---- what a step did
 
-module _ (program : Program) (machine : Machine) (thread : ℕ) (cpu : Cpu) (live : steppable machine thread ≡ Some cpu) (look : Look) (looks : LooksAt (layout_of program) machine.memory cpu look) (known : thread < 16) where
+module _ (program : Program) (machine : Machine) (thread : ℕ) (cpu : Cpu) (live : steppable machine thread ≡ Some cpu) (look : Look) (looks : LooksAt (layout_in program machine.kernel) machine.memory cpu look) (known : thread < 16) where
   accesses-are : (n : Next) → next_of program machine cpu ≡ n → accesses program machine thread ≡ accesses_by program machine thread cpu n
   accesses-are n e = accesses-at program machine thread cpu live ∙ ap (accesses_by program machine thread cpu) e
 
@@ -208,7 +209,7 @@ module _ (program : Program) (machine : Machine) (thread : ℕ) (cpu : Cpu) (liv
       ap (λ o. option_map_or (λ cpu. sync_next program machine thread (next_of program machine cpu)) o Nothing) live
       ∙ ap (sync_next program machine thread) e
 
-  fetches-are : (a : ℕ) → touches (fetches program cpu) a ≡ within (span_of look.code) a
+  fetches-are : (a : ℕ) → touches (fetches (layout_in program machine.kernel) cpu) a ≡ within (span_of look.code) a
   fetches-are a = sym (looks.code a)
 
   code-little : look.code.count ≤ 4096
@@ -250,11 +251,13 @@ module _ (program : Program) (machine : Machine) (thread : ℕ) (cpu : Cpu) (liv
       by (Stands (PageFault page)) e h = absurd h
       by (Stands Watchdog) e h = absurd h
 
-  stored-are : (served : Served) (call : Call) (came : Came) → Tells served call came → (a : ℕ) → touches (stored_span served) a ≡ within (span_of came.stored) a
-  stored-are (Done kernel effect) call came h a = touches-one (record { place = effect.place; count = length effect.bytes }) a ∙ ap₂ (λ (p c : ℕ). within (record { place = p; count = c }) a) (sym h.3) (sym h.4)
-  stored-are (Parked kernel) call came h a = sym (ap (λ (c : ℕ). within (record { place = came.stored.place; count = c }) a) h.2 ∙ in-none came.stored.place a)
-  stored-are Blocked call came h a = absurd h
-  stored-are (Ends kernel how) call came h a = sym (ap (λ (c : ℕ). within (record { place = came.stored.place; count = c }) a) h.2 ∙ in-none came.stored.place a)
+  stored-are : (served : Served) (call : Call) → serve (setup_of program) machine.kernel thread call ≡ served → (came : Came) → Tells served call came → (a : ℕ) → touches (stored_span served) a ≡ within (span_of came.stored) a
+  stored-are (Done kernel effect) call e came h a =
+      ap (λ (range : Option Range). touches (record { place = effect.place; count = length effect.bytes } ∷ given_span range) a) (range-none (setup_of program) machine.kernel thread call kernel effect e)
+      ∙ touches-one (record { place = effect.place; count = length effect.bytes }) a ∙ ap₂ (λ (p c : ℕ). within (record { place = p; count = c }) a) (sym h.3) (sym h.4)
+  stored-are (Parked kernel) call e came h a = sym (ap (λ (c : ℕ). within (record { place = came.stored.place; count = c }) a) h.2 ∙ in-none came.stored.place a)
+  stored-are Blocked call e came h a = absurd h
+  stored-are (Ends kernel how) call e came h a = sym (ap (λ (c : ℕ). within (record { place = came.stored.place; count = c }) a) h.2 ∙ in-none came.stored.place a)
 
   stored-few : (served : Served) (call : Call) (came : Came) → Tells served call came → came.stored.count ≤ 4096
   stored-few (Done kernel effect) call came h = h.5
@@ -268,15 +271,15 @@ module _ (program : Program) (machine : Machine) (thread : ℕ) (cpu : Cpu) (liv
   call-same Blocked call came h = absurd h
   call-same (Ends kernel how) call came h = h.0
 
-  pub sees-called : (came : Came) (loaded : Stretch) (relation : Relation) → TellsNext program machine.kernel thread (next_of program machine cpu) (Called came) → ((a : ℕ) → within (span_of loaded) a ≡ touches (payload_span program.image.ranges came.call) a) → loaded.count ≤ 4096
+  pub sees-called : (came : Came) (loaded : Stretch) (relation : Relation) → TellsNext program machine.kernel thread (next_of program machine cpu) (Called came) → ((a : ℕ) → within (span_of loaded) a ≡ touches (payload_span (ranges_in (setup_of program) machine.kernel) came.call) a) → loaded.count ≤ 4096
       → ((served : Served) → Tells served came.call came → sync_of_relation relation ≡ sync_served machine came.call served)
       → Sees program machine thread (record { loaded = loaded; code = look.code; stored = came.stored; relation = relation })
   sees-called came loaded relation told pays few means = by (next_of program machine cpu) refl told
     where
       at : (call : Call) → next_of program machine cpu ≡ Stands (Calls call) → Tells (serve (setup_of program) machine.kernel thread call) call came → came.call ≡ call → Sees program machine thread (record { loaded = loaded; code = look.code; stored = came.stored; relation = relation })
       at call e h same = record {
-        reads = λ a. ap (λ (x : Accesses). touches x.reads a) (accesses-are (Stands (Calls call)) e) ∙ (touches-both (payload_span program.image.ranges call) (fetches program cpu) a ∙ ap₂ (λ (x y : Bool). x || y) (ap (λ (c : Call). touches (payload_span program.image.ranges c) a) (sym same) ∙ sym (pays a)) (fetches-are a));
-        writes = λ a. ap (λ (x : Accesses). touches x.writes a) (accesses-are (Stands (Calls call)) e) ∙ stored-are (serve (setup_of program) machine.kernel thread call) call came h a;
+        reads = λ a. ap (λ (x : Accesses). touches x.reads a) (accesses-are (Stands (Calls call)) e) ∙ (touches-both (payload_span (ranges_in (setup_of program) machine.kernel) call) (fetches (layout_in program machine.kernel) cpu) a ∙ ap₂ (λ (x y : Bool). x || y) (ap (λ (c : Call). touches (payload_span (ranges_in (setup_of program) machine.kernel) c) a) (sym same) ∙ sym (pays a)) (fetches-are a));
+        writes = λ a. ap (λ (x : Accesses). touches x.writes a) (accesses-are (Stands (Calls call)) e) ∙ stored-are (serve (setup_of program) machine.kernel thread call) call refl came h a;
         means = sync-is (Stands (Calls call)) e ∙ (ap (λ (c : Call). sync_served machine c (serve (setup_of program) machine.kernel thread call)) (sym same) ∙ sym (means (serve (setup_of program) machine.kernel thread call) (subst (λ (c : Call). Tells (serve (setup_of program) machine.kernel thread call) c came) (sym same) h)));
         loaded_few = few;
         code_few = code-little;
@@ -295,3 +298,22 @@ module _ (program : Program) (machine : Machine) (thread : ℕ) (cpu : Cpu) (liv
 pub from-step : (program : Program) (machine : Machine) (thread : ℕ) (after : Machine) (P : Type 0) → step program machine thread ≡ Some after → ((cpu : Cpu) → steppable machine thread ≡ Some cpu → P) → P
 from-step program machine thread after P e f =
     option_and_then_some (λ cpu. step_by program machine thread cpu (next_of program machine cpu)) (steppable machine thread) after (step-opens program machine thread after e) (λ cpu live g. f cpu live)
+
+-- a step gives nothing
+called-given : (program : Program) (machine after : Machine) (thread : ℕ) (cpu : Cpu) (call : Call) (payload : List ℕ) (served : Served) → serve (setup_of program) machine.kernel thread call ≡ served → called machine cpu payload served ≡ Some after → after.kernel.given ≡ machine.kernel.given
+called-given program machine after thread cpu call payload (Done kernel effect) e f = ap (λ (m : Machine). m.kernel.given) (sym (some-injective f)) ∙ none-given (setup_of program) machine.kernel thread call kernel effect e
+called-given program machine after thread cpu call payload (Parked kernel) e f = ap (λ (m : Machine). m.kernel.given) (sym (some-injective f)) ∙ given-parked (setup_of program) machine.kernel thread call kernel e
+called-given program machine after thread cpu call payload Blocked e f = absurd (let g : None ≡ Some after = f in cc)
+called-given program machine after thread cpu call payload (Ends kernel how) e f = ap (λ (m : Machine). m.kernel.given) (sym (some-injective f)) ∙ given-ended (setup_of program) machine.kernel thread call kernel how e
+
+step_by-given : (program : Program) (machine after : Machine) (thread : ℕ) (cpu : Cpu) (n : Next) → step_by program machine thread cpu n ≡ Some after → after.kernel.given ≡ machine.kernel.given
+step_by-given program machine after thread cpu (Executes instr) e = ap (λ (m : Machine). m.kernel.given) (sym (some-injective e))
+step_by-given program machine after thread cpu (Stands (Calls call)) e = called-given program machine after thread cpu call (payload_in program machine call) (serve (setup_of program) machine.kernel thread call) refl e
+step_by-given program machine after thread cpu (Stands (Trap code)) e = ap (λ (m : Machine). m.kernel.given) (sym (some-injective e))
+step_by-given program machine after thread cpu (Stands (PageFault page)) e = absurd (let f : None ≡ Some after = e in cc)
+step_by-given program machine after thread cpu (Stands Watchdog) e = absurd (let f : None ≡ Some after = e in cc)
+
+pub step-given : (program : Program) (machine : Machine) (thread : ℕ) (after : Machine) → step program machine thread ≡ Some after → after.kernel.given ≡ machine.kernel.given
+step-given program machine thread after e =
+    option_and_then_some (λ cpu. step_by program machine thread cpu (next_of program machine cpu)) (steppable machine thread) after (step-opens program machine thread after e)
+    (λ cpu live f. step_by-given program machine after thread cpu (next_of program machine cpu) f)

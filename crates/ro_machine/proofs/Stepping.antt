@@ -17,10 +17,10 @@ use Rattle.ro_exec.specs.declared.outcome.Step.TheVariants.{Did, Stopped}
 use Rattle.ro_exec.specs.Next.{Layout, all_backed, Next, Stands, Executes, next}
 use Rattle.ro_exec.specs.Steps.{IsStep}
 use Rattle.ro_image.specs.Image.{Image}
-use Rattle.ro_kernel.specs.Kernel.{Kernel, lives_on}
+use Rattle.ro_kernel.specs.Kernel.{Kernel, lives_on, ranges_in}
 use Rattle.ro_kernel.specs.State.{State}
 use Rattle.ro_kernel.specs.Serve.{serve, payload_of}
-use Rattle.ro_plain.specs.Machine.{Program, layout_of, setup_of, Machine, called, step_by, next_of, steppable, step}
+use Rattle.ro_plain.specs.Machine.{Program, setup_of, Machine, called, step_by, next_of, steppable, step, layout_in}
 use Rattle.ro_plain.proofs.Calls.{steppable-from, step-at}
 use Rattle.ro_replica.proofs.Elements.{set_itself}
 use Rattle.ro_machine.specs.declared.errors.StepError.{StepError}
@@ -48,7 +48,7 @@ did : (program : Program) (machine : Machine) (thread : ℕ) (cpu new : Cpu) (af
 did program machine thread cpu new after (Executes instr) h = λ i. Some (record machine { memory = sym h.2 i; cpus = slice_set machine.cpus thread (sym h.1 i) })
 did program machine thread cpu new after (Stands stop) h = absurd (let e : Did ≡ Stopped stop = h.0 in cc)
 
-pub step-did : (program : Program) (layout : Layout) (machine : Machine) (thread : ℕ) (cpu new : Cpu) (after : Memory) → layout ≡ layout_of program → steppable machine thread ≡ Some cpu → IsStep (next layout all_backed machine.memory cpu) Did cpu new machine.memory after → step program machine thread ≡ Some (record machine { memory = after; cpus = slice_set machine.cpus thread new })
+pub step-did : (program : Program) (layout : Layout) (machine : Machine) (thread : ℕ) (cpu new : Cpu) (after : Memory) → layout ≡ layout_in program machine.kernel → steppable machine thread ≡ Some cpu → IsStep (next layout all_backed machine.memory cpu) Did cpu new machine.memory after → step program machine thread ≡ Some (record machine { memory = after; cpus = slice_set machine.cpus thread new })
 step-did program layout machine thread cpu new after same live h =
     step-at program machine thread cpu live
     ∙ did program machine thread cpu new after (next_of program machine cpu) (subst (λ (l : Layout). IsStep (next l all_backed machine.memory cpu) Did cpu new machine.memory after) same h)
@@ -72,7 +72,7 @@ stands-still layout m after cpu new stop h = by (next layout all_backed m cpu) r
 step-stands : (program : Program) (machine : Machine) (thread : ℕ) (cpu : Cpu) (stop : Stop) → steppable machine thread ≡ Some cpu → next_of program machine cpu ≡ Stands stop → step program machine thread ≡ step_by program machine thread cpu (Stands stop)
 step-stands program machine thread cpu stop live e = step-at program machine thread cpu live ∙ ap (step_by program machine thread cpu) e
 
-module _ (old mid : PlainOf) (thread : ℕ) (cpu : Cpu) (stop : Stop) (program : mid.program ≡ old.program) (same : SameMachine mid old) (there : slice_get old.cpus thread ≡ Some cpu) (live : (output : List ℕ) → steppable (machine_of old output) thread ≡ Some cpu) (stands : next (layout_of old.program) all_backed (memory_of old.held.pages) cpu ≡ Stands stop) where
+module _ (old mid : PlainOf) (thread : ℕ) (cpu : Cpu) (stop : Stop) (program : mid.program ≡ old.program) (same : SameMachine mid old) (there : slice_get old.cpus thread ≡ Some cpu) (live : (output : List ℕ) → steppable (machine_of old output) thread ≡ Some cpu) (stands : next (layout_in old.program old.kernel) all_backed (memory_of old.held.pages) cpu ≡ Stands stop) where
   there-too : slice_get mid.cpus thread ≡ Some cpu
   there-too = ap (λ m. slice_get m.cpus thread) (same []) ∙ there
 
@@ -110,7 +110,7 @@ no-step program machine thread h = ap (option_and_then (λ cpu. step_by program 
 
 -- a call of a thread
 pub stand-call : (image : Image) (state : State) (old : Held) (cpus : List Cpu) (written : List ℕ) (regions : List Range) (ended : Option How) (thread : ℕ) (call : Call) (stop : Stop) (new : PlainOf)
-    → stop ≡ Calls call → ended ≡ None → regions ≡ image.ranges → state.setup.ranges ≡ image.ranges → state.setup.heap ≡ image.heap
+    → stop ≡ Calls call → ended ≡ None → regions ≡ state.kernel.given ++ image.ranges → state.setup.ranges ≡ image.ranges → state.setup.heap ≡ image.heap
     → ((cpu : Cpu) (output : List ℕ) → slice_get cpus thread ≡ Some cpu → called (machine_with old cpus state.kernel output None) cpu (payload_of regions (memory_of old.pages) call) (serve state.setup state.kernel thread call) ≡ Some (machine_of new (output ++ new.written)))
     → StepsFrom (record { program = record { image = image; input = state.setup.input }; held = old; cpus = cpus; kernel = state.kernel; ended = ended; written = written }) thread stop new
 stand-call image state old cpus written regions ended thread call stop new is going here ranges heap h output cpu there =
@@ -131,23 +131,23 @@ stays old new program cpus kernel ended written thread cpu next_cpu there same m
     λ i. record { memory = memory i; cpus = threads i; kernel = kernel; output = output; ended = ended }
 
 -- the step of a thread that executed an instruction, over the machine's parts
-pub go-did : (program : Program) (old new : Held) (cpus : List Cpu) (kernel : Kernel) (written : List ℕ) (regions : List Range) (calls : CallTable) (ended : Option How) (thread : ℕ) (cpu next_cpu : Cpu) (done : Step) → done ≡ Did → ended ≡ None → lives_on kernel thread ≡ true → slice_get cpus thread ≡ Some cpu → written ≡ [] → regions ≡ program.image.ranges → calls ≡ program.image.calls
+pub go-did : (program : Program) (old new : Held) (cpus : List Cpu) (kernel : Kernel) (written : List ℕ) (regions : List Range) (calls : CallTable) (ended : Option How) (thread : ℕ) (cpu next_cpu : Cpu) (done : Step) → done ≡ Did → ended ≡ None → lives_on kernel thread ≡ true → slice_get cpus thread ≡ Some cpu → written ≡ [] → regions ≡ ranges_in (setup_of program) kernel → calls ≡ program.image.calls
     → IsStep (next (record { ranges = regions; calls = calls }) all_backed (memory_of old.pages) cpu) done cpu next_cpu (memory_of old.pages) (memory_of new.pages)
     → Steps (record { program = program; held = old; cpus = cpus; kernel = kernel; ended = ended; written = written }) thread (record { program = program; held = new; cpus = slice_set cpus thread next_cpu; kernel = kernel; ended = ended; written = written })
 go-did program old new cpus kernel written regions calls ended thread cpu next_cpu done is going live there empty here table h output =
-    let layout : ◌≡◌ {A = Layout} (record { ranges = regions; calls = calls }) (layout_of program) = λ i. record { ranges = here i; calls = table i } in
+    let layout : ◌≡◌ {A = Layout} (record { ranges = regions; calls = calls }) (layout_in program kernel) = λ i. record { ranges = here i; calls = table i } in
     step-did program (record { ranges = regions; calls = calls }) (machine_with old cpus kernel output ended) thread cpu next_cpu (memory_of new.pages) layout (may (machine_with old cpus kernel output ended) thread cpu going live there)
     (subst (λ (s : Step). IsStep (next (record { ranges = regions; calls = calls }) all_backed (memory_of old.pages) cpu) s cpu next_cpu (memory_of old.pages) (memory_of new.pages)) is h)
     ∙ (λ i. Some (machine_with new (slice_set cpus thread next_cpu) kernel ((sym (append-nil output) ∙ ap (λ w. output ++ w) (sym empty)) i) ended))
 
 -- the parts of a machine, of which a thread stands at a stop, and the parts after it was found to
 module _ (old : PlainOf) (program : Program) (held new : Held) (cpus : List Cpu) (kernel : Kernel) (ended : Option How) (written : List ℕ) (view_is : ◌≡◌ {A = PlainOf} (record { program = program; held = held; cpus = cpus; kernel = kernel; ended = ended; written = written }) old)
-    (regions : List Range) (calls : CallTable) (thread : ℕ) (cpu next_cpu : Cpu) (done : Step) (stop : Stop) (is : done ≡ Stopped stop) (going : old.ended ≡ None) (live : lives_on old.kernel thread ≡ true) (there : slice_get cpus thread ≡ Some cpu) (here : regions ≡ program.image.ranges) (table : calls ≡ program.image.calls)
+    (regions : List Range) (calls : CallTable) (thread : ℕ) (cpu next_cpu : Cpu) (done : Step) (stop : Stop) (is : done ≡ Stopped stop) (going : old.ended ≡ None) (live : lives_on old.kernel thread ≡ true) (there : slice_get cpus thread ≡ Some cpu) (here : regions ≡ ranges_in (setup_of program) kernel) (table : calls ≡ program.image.calls)
     (h : IsStep (next (record { ranges = regions; calls = calls }) all_backed (memory_of held.pages) cpu) done cpu next_cpu (memory_of held.pages) (memory_of new.pages)) where
-  still : StandsStill (layout_of program) (memory_of held.pages) (memory_of new.pages) cpu next_cpu stop
+  still : StandsStill (layout_in program kernel) (memory_of held.pages) (memory_of new.pages) cpu next_cpu stop
   still =
-      let layout : ◌≡◌ {A = Layout} (record { ranges = regions; calls = calls }) (layout_of program) = λ i. record { ranges = here i; calls = table i } in
-      stands-still (layout_of program) (memory_of held.pages) (memory_of new.pages) cpu next_cpu stop
+      let layout : ◌≡◌ {A = Layout} (record { ranges = regions; calls = calls }) (layout_in program kernel) = λ i. record { ranges = here i; calls = table i } in
+      stands-still (layout_in program kernel) (memory_of held.pages) (memory_of new.pages) cpu next_cpu stop
       (subst (λ (l : Layout). IsStep (next l all_backed (memory_of held.pages) cpu) (Stopped stop) cpu next_cpu (memory_of held.pages) (memory_of new.pages)) layout
       (subst (λ (s : Step). IsStep (next (record { ranges = regions; calls = calls }) all_backed (memory_of held.pages) cpu) s cpu next_cpu (memory_of held.pages) (memory_of new.pages)) is h))
 
@@ -157,8 +157,8 @@ module _ (old : PlainOf) (program : Program) (held new : Held) (cpus : List Cpu)
   in-old : slice_get old.cpus thread ≡ Some cpu
   in-old = ap (λ v. slice_get v.cpus thread) (sym view_is) ∙ there
 
-  stands-in-old : next (layout_of old.program) all_backed (memory_of old.held.pages) cpu ≡ Stands stop
-  stands-in-old = subst (λ (v : PlainOf). next (layout_of v.program) all_backed (memory_of v.held.pages) cpu ≡ Stands stop) view_is still.stands
+  stands-in-old : next (layout_in old.program old.kernel) all_backed (memory_of old.held.pages) cpu ≡ Stands stop
+  stands-in-old = subst (λ (v : PlainOf). next (layout_in v.program v.kernel) all_backed (memory_of v.held.pages) cpu ≡ Stands stop) view_is still.stands
 
   pub found-steps : (last : PlainOf) → StepsFrom (record { program = program; held = new; cpus = slice_set cpus thread next_cpu; kernel = kernel; ended = ended; written = written }) thread stop last → Steps old thread last
   found-steps = steps-there old (record { program = program; held = new; cpus = slice_set cpus thread next_cpu; kernel = kernel; ended = ended; written = written }) thread cpu stop (ap (λ v. v.program) view_is) found-same in-old (λ output. may (machine_of old output) thread cpu going live in-old) stands-in-old

@@ -7,9 +7,9 @@ use Rattle.ro_pages.specs.Held.{has_page}
 use Rattle.ro_exec.specs.declared.Cpu.{Cpu}
 use Rattle.ro_exec.specs.Meaning.{loads, stores}
 use Rattle.ro_exec.specs.Stretches.{IsClear, IsKept, AreOpenTo}
-use Rattle.ro_kernel.specs.Kernel.{lives_on}
+use Rattle.ro_kernel.specs.Kernel.{lives_on, ranges_in}
 use Rattle.ro_region.specs.declared.Kind.TheVariants.{Read, Write}
-use Rattle.ro_plain.specs.Machine.{layout_of}
+use Rattle.ro_plain.specs.Machine.{setup_of, layout_in}
 use Rattle.ro_machine.specs.declared.lane.Lane.{Lane}
 use Rattle.ro_machine.specs.declared.looking.Look.{Look}
 use Rattle.ro_machine.specs.Seen.{PlainOf}
@@ -31,10 +31,10 @@ pub record IsOpen (plain : PlainOf) (lane : Lane) : Type 0 where
   pub there : lane.thread < length plain.cpus
   pub aligned : lane.code.from % 4 ≡ 0
   pub bounded : lane.code.from + 4 * lane.code.words ≤ 2 ^ 32
-  pub clear : IsClear (layout_of plain.program) (has_page plain.held.pages) lane.code
+  pub clear : IsClear (layout_in plain.program plain.kernel) (has_page plain.held.pages) lane.code
   pub kept : IsKept (slice_get plain.held.numbers) lane.code
-  pub reads : AreOpenTo plain.program.image.ranges (has_page plain.held.pages) (slice_get plain.held.numbers) Read lane.reads.stretches
-  pub writes : AreOpenTo plain.program.image.ranges (has_page plain.held.pages) (slice_get plain.held.numbers) Write lane.writes.stretches
+  pub reads : AreOpenTo (ranges_in (setup_of plain.program) plain.kernel) (has_page plain.held.pages) (slice_get plain.held.numbers) Read lane.reads.stretches
+  pub writes : AreOpenTo (ranges_in (setup_of plain.program) plain.kernel) (has_page plain.held.pages) (slice_get plain.held.numbers) Write lane.writes.stretches
 
 -- what the word at pc, if it spells an instruction, makes it access
 pub record Spells (memory : Memory) (cpu : Cpu) (look : Look) : Type 0 where

@@ -33,7 +33,7 @@ machine_of value output = machine_with value.held value.cpus value.kernel output
 
 -- what holds of the parts of every machine, with places for so many threads and bytes
 pub record IsWhole (image : Image) (regions : List Range) (state : State) (cpus : List Cpu) (written : List ℕ) (threads bytes : ℕ) : Type 0 where
-  pub regions_are : regions ≡ image.ranges
+  pub regions_are : regions ≡ state.kernel.given ++ image.ranges
   pub ranges_are : state.setup.ranges ≡ image.ranges
   pub heap_is : state.setup.heap ≡ image.heap
   pub all_made : length cpus ≡ length state.kernel.lives

@@ -4,7 +4,7 @@ ghost use Rattle.ro_pages.specs.Bytes.{bytes_at, stored};
 ghost use Rattle.ro_pages.specs.Held.{memory_of};
 ghost use Rattle.ro_exec.specs.declared.Cpu.{Cpu as CpuSeen};
 ghost use Rattle.ro_exec.specs.Threads.{cpu_after};
-ghost use Rattle.ro_kernel.specs.Kernel.{lives_on};
+ghost use Rattle.ro_kernel.specs.Kernel.{ranges_in, lives_on};
 ghost use Rattle.ro_kernel.specs.Serve.{serve as serve_of, payload_of};
 ghost use Rattle.ro_plain.specs.Machine.{with_made, called};
 ghost use Rattle.ro_machine.specs.Seen.{machine_with, RefusesCall};
@@ -55,12 +55,13 @@ pub(crate) fn serve(
     call: Call,
 ) -> Result<Came, StepError>
     requires live { lives_on kernel.old.kernel thread ≡ true }
-    requires regions { regions.now ≡ kernel.old.setup.ranges }
+    requires regions { regions.now ≡ ranges_in kernel.old.setup kernel.old.kernel }
     requires made { length cpus.old.items ≡ length kernel.old.kernel.lives }
     requires threads { 16 ≤ vec_capacity cpus.old }
     requires room { 4096 ≤ vec_capacity written.old }
     requires empty { written.old.items ≡ [] }
     ensures setup { kernel.new.setup ≡ kernel.old.setup }
+    ensures given { kernel.new.kernel.given ≡ kernel.old.kernel.given }
     ensures made { length cpus.new.items ≡ length kernel.new.kernel.lives }
     ensures threads { vec_capacity cpus.old ≤ vec_capacity cpus.new }
     ensures room { vec_capacity written.old ≤ vec_capacity written.new }

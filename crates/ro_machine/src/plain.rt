@@ -4,7 +4,7 @@ ghost use Rattle.std.specs.Arc.{arc_value};
 ghost use Rattle.ro_exec.specs.declared.Cpu.{Cpu as CpuSeen};
 ghost use Rattle.ro_exec.specs.Threads.{first_cpu as first};
 ghost use Rattle.ro_kernel.specs.Kernel.{lives_on};
-ghost use Rattle.ro_plain.specs.Machine.{opening, layout_of, next_of};
+ghost use Rattle.ro_plain.specs.Machine.{opening, layout_in, next_of};
 ghost use Rattle.ro_machine.specs.declared.watching.Relation.TheVariants.{Nothing};
 ghost use Rattle.ro_machine.specs.Parts.{Plays};
 ghost use Rattle.ro_machine.specs.Seen.{machine_of, Steps, Refuses, SameMachine, StepsFrom, RefusesAt};
@@ -240,7 +240,7 @@ impl Plain {
 
     // What is known of the next step of a thread.
     fn look_at(&self, thread: u32) -> Look
-        ensures { (cpu : CpuSeen) → slice_get self.now.cpus thread ≡ Some cpu → LooksAt (layout_of self.now.program) (machine_of self.now []).memory cpu result }
+        ensures { (cpu : CpuSeen) → slice_get self.now.cpus thread ≡ Some cpu → LooksAt (layout_in self.now.program self.now.kernel) (machine_of self.now []).memory cpu result }
     {
         match self.cpus.get(thread as usize) {
             Some(cpu) => look_ahead(cpu, &self.pages, &self.regions, self.image.calls()),

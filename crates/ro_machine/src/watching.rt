@@ -1,10 +1,11 @@
 //! What a step did: which bytes it accessed, and what it means for the order of the threads' steps.
 ghost use Rattle.std.specs.Prelude.{ℕ, ◌≡◌, ◌≤◌, Some, length};
 ghost use Rattle.ro_exec.specs.declared.Cpu.{Cpu as CpuSeen};
+ghost use Rattle.ro_kernel.specs.Kernel.{ranges_in};
 ghost use Rattle.ro_kernel.specs.Serve.{Served};
 ghost use Rattle.ro_plain.specs.Accesses.{touches, payload_span};
 ghost use Rattle.ro_plain.specs.Order.{sync_served};
-ghost use Rattle.ro_plain.specs.Machine.{Program, Machine, layout_of, next_of, steppable};
+ghost use Rattle.ro_plain.specs.Machine.{Program, Machine, setup_of, layout_in, next_of, steppable};
 ghost use Rattle.ro_pages.specs.Bytes.{within};
 ghost use Rattle.ro_machine.specs.Watched.{span_of, sync_of_relation, Tells, LooksAt, TellsNext, Sees};
 
@@ -69,7 +70,7 @@ pub(crate) enum Went {
 /// What a step did, by what was known of it before and what it was.
 pub(crate) fn told_of(look: Look, went: Went, made: u32, regions: &Regions) -> Watched
     requires made { made ≤ 16 }
-    ensures sees { (program : Program) (machine : Machine) (thread : ℕ) (cpu : CpuSeen) → regions.now ≡ program.image.ranges → length machine.kernel.lives ≡ made → steppable machine thread ≡ Some cpu → LooksAt (layout_of program) machine.memory cpu look → TellsNext program machine.kernel thread (next_of program machine cpu) went → Sees program machine thread result }
+    ensures sees { (program : Program) (machine : Machine) (thread : ℕ) (cpu : CpuSeen) → regions.now ≡ ranges_in (setup_of program) machine.kernel → length machine.kernel.lives ≡ made → steppable machine thread ≡ Some cpu → LooksAt (layout_in program machine.kernel) machine.memory cpu look → TellsNext program machine.kernel thread (next_of program machine cpu) went → Sees program machine thread result }
 {
     match went {
         Went::Executed => Watched {

@@ -1,20 +1,21 @@
 -- What a driver that holds a lease may give back.
-use Rattle.std.proofs.Common.{◌≡◌, ◌⊎◌, inl, inr, ℕ, ◌<◌, Bool, cond, List, ◌∷◌, Option, Some, None, refl, sym, ap, ◌∙◌, subst, eq-eqb}
+use Rattle.std.proofs.Common.{◌≡◌, ◌⊎◌, inl, inr, ℕ, ◌<◌, Bool, cond, List, ◌∷◌, Option, Some, None, refl, sym, ap, ◌∙◌, subst, eq-eqb, ap₂}
 use Rattle.std.specs.Prelude.{◌==◌, IsSome, slice_get}
 use Rattle.std.specs.List.{find}
 use Rattle.std.specs.Option.{option_and_then}
 use Rattle.ro_journal.specs.declared.Entry.TheVariants.{Put}
 use Rattle.ro_event.specs.declared.stops.Stop.{Stop}
-use Rattle.ro_plain.specs.Machine.{layout_of}
+use Rattle.ro_plain.specs.Machine.{layout_in}
 use Rattle.ro_exec.specs.Next.{Layout}
 use Rattle.ro_thread.specs.declared.Thread.{Thread}
 use Rattle.ro_replica.specs.Replica.{Replica, changed_at}
-use Rattle.ro_replica.specs.Runs.{RanTo, run_of, with_stop}
-use Rattle.ro_replica.specs.Seen.{ReplicaOf, replica_of, SameProgram, Runs}
+use Rattle.ro_replica.specs.Runs.{RanTo, run_of, with_stop, standing_at}
+use Rattle.ro_replica.specs.Seen.{ReplicaOf, replica_of, SameProgram, Runs, first_layout}
 use Rattle.ro_journal.specs.declared.Lease.{Lease}
 use Rattle.ro_legal.specs.Core.{Job, Core, lease_of}
 use Rattle.ro_legal.specs.Legal.{MayPut, arrived, arrival, lease_run, after}
 use Rattle.ro_legal.specs.Laws.{HasLease}
+use Rattle.ro_legal.proofs.Ungiven.{layout-first-with}
 use Rattle.ro_core.specs.Seen.{CoreOf, state, IsOfJob, MayReturn}
 use Rattle.ro_core.proofs.Lending.{put_became, out_found}
 
@@ -26,13 +27,17 @@ with_threads threads replica = record replica { threads = threads }
 run_there : (job : Job) (core : Core) (lease : Lease) (count : ℕ) (ran : RanTo) → lease_run job core lease count ≡ Some ran → (r : Replica) × (slice_get core.replicas lease.replica ≡ Some r)
 run_there job core lease count ran e = by (slice_get core.replicas lease.replica) refl e
   where
-    by : (o : Option Replica) → slice_get core.replicas lease.replica ≡ o → option_and_then (λ r. run_of (layout_of job.program) job.settings.watchdog count r lease.thread) o ≡ Some ran → (r : Replica) × (slice_get core.replicas lease.replica ≡ Some r)
+    by : (o : Option Replica) → slice_get core.replicas lease.replica ≡ o → option_and_then (λ r. run_of (layout_in job.program core.kernel) job.settings.watchdog count r lease.thread) o ≡ Some ran → (r : Replica) × (slice_get core.replicas lease.replica ≡ Some r)
     by None f g = absurd (let h : None ≡ Some ran = g in cc)
     by (Some r) f g = (r, f)
 
 -- the run of the same replica
-same_run : (job : Job) (one other : Core) (lease : Lease) (count : ℕ) → slice_get one.replicas lease.replica ≡ slice_get other.replicas lease.replica → lease_run job one lease count ≡ lease_run job other lease count
-same_run job one other lease count e = ap (option_and_then (λ r. run_of (layout_of job.program) job.settings.watchdog count r lease.thread)) e
+same_run : (job : Job) (one other : Core) (lease : Lease) (count : ℕ) → layout_in job.program one.kernel ≡ layout_in job.program other.kernel → slice_get one.replicas lease.replica ≡ slice_get other.replicas lease.replica → lease_run job one lease count ≡ lease_run job other lease count
+same_run job one other lease count laid e = ap₂ (λ (l : Layout) (o : Option Replica). option_and_then (λ r. run_of l job.settings.watchdog count r lease.thread) o) laid e
+
+-- the stop at which a thread arrives, by what addresses mean
+abbrev stop_by : Job → (thread count : ℕ) → Replica → Layout → Option Stop
+stop_by job thread count replica layout = cond (count == job.settings.quantum) None (standing_at layout job.settings.watchdog replica thread)
 
 -- ---- it stays so while others take their turns
 
@@ -51,11 +56,12 @@ out_returns one other driver count hit value m r job there out = (
     held = out.held;
     allowed = subst (λ (j : Job). MayPut j (state other) lease count hit) (sym job) may;
     program = record {
-      layout = m.program.layout ∙ sym (ap (λ (j : Job). layout_of j.program) job);
+      layout = m.program.layout ∙ sym (ap (λ (j : Job). first_layout j.program.image) job);
       watchdog = m.program.watchdog ∙ sym (ap (λ (j : Job). j.settings.watchdog) job);
     };
     became = ap (λ (j : Job). slice_get (after j (state other) (Put lease count hit)).replicas lease.replica) job
         ∙ put_became one.job (state other) lease count hit r m.allowed.ran out.there runs
+        ∙ ap (λ (l : Layout). Some (with_threads (changed_at (with_stop (stop_by one.job lease.thread count m.allowed.ran.replica l)) m.allowed.ran.replica.threads lease.thread) m.allowed.ran.replica)) laid
         ∙ sym (put_became one.job (state one) lease count hit r m.allowed.ran there m.allowed.runs)
         ∙ m.became;
   },
@@ -65,8 +71,14 @@ out_returns one other driver count hit value m r job there out = (
     lease : Lease
     lease = m.lease
 
+    -- what addresses mean is what it was when the lease went out
+    laid : layout_in one.job.program (state other).kernel ≡ layout_in one.job.program (state one).kernel
+    laid =
+        subst (λ (j : Job). layout_in j.program (state other).kernel ≡ first_layout j.program.image) job (layout-first-with other.job other.journal other.failed)
+        ∙ sym (layout-first-with one.job one.journal one.failed)
+
     runs : lease_run one.job (state other) lease count ≡ Some m.allowed.ran
-    runs = same_run one.job (state other) (state one) lease count (out.there ∙ sym there) ∙ m.allowed.runs
+    runs = same_run one.job (state other) (state one) lease count laid (out.there ∙ sym there) ∙ m.allowed.runs
 
     may : MayPut one.job (state other) lease count hit
     may = record {
@@ -75,7 +87,7 @@ out_returns one other driver count hit value m r job there out = (
       ran = m.allowed.ran;
       runs = runs;
       struck = m.allowed.struck;
-      arrives = m.allowed.arrives;
+      arrives = subst (λ (l : Layout). (count ≡ one.job.settings.quantum) ⊎ ((count < one.job.settings.quantum) × IsSome (stop_by one.job lease.thread count m.allowed.ran.replica l))) (sym laid) m.allowed.arrives;
     }
 
 -- ---- a fresh lease
@@ -85,17 +97,17 @@ abbrev pub lending : Core → Lease → Core
 lending core lease = record core { leases = lease ∷ core.leases; wrote = 0 }
 
 module _ (job : Job) (start : Core) (lease : Lease) (quantum count hit : ℕ) (lent value : ReplicaOf) (stop : Option Stop)
-    (alive : start.ended ≡ None) (there : slice_get start.replicas lease.replica ≡ Some (replica_of lent)) (program : IsOfJob job lent)
+    (alive : start.ended ≡ None) (there : slice_get start.replicas lease.replica ≡ Some (replica_of lent)) (program : IsOfJob job lent) (laid : lent.layout ≡ layout_in job.program start.kernel)
     (same : SameProgram value lent) (quantum_is : quantum ≡ job.settings.quantum)
     (runs : Runs lent.layout lent.watchdog quantum lease.thread (replica_of lent) (replica_of value) count hit stop) where
-  job_runs : Runs (layout_of job.program) job.settings.watchdog job.settings.quantum lease.thread (replica_of lent) (replica_of value) count hit stop
+  job_runs : Runs (layout_in job.program start.kernel) job.settings.watchdog job.settings.quantum lease.thread (replica_of lent) (replica_of value) count hit stop
   job_runs =
-      subst (λ (n : ℕ). Runs (layout_of job.program) job.settings.watchdog n lease.thread (replica_of lent) (replica_of value) count hit stop) quantum_is
-      (subst (λ (w : ℕ). Runs (layout_of job.program) w quantum lease.thread (replica_of lent) (replica_of value) count hit stop) program.watchdog
-      (subst (λ (l : Layout). Runs l lent.watchdog quantum lease.thread (replica_of lent) (replica_of value) count hit stop) program.layout runs))
+      subst (λ (n : ℕ). Runs (layout_in job.program start.kernel) job.settings.watchdog n lease.thread (replica_of lent) (replica_of value) count hit stop) quantum_is
+      (subst (λ (w : ℕ). Runs (layout_in job.program start.kernel) w quantum lease.thread (replica_of lent) (replica_of value) count hit stop) program.watchdog
+      (subst (λ (l : Layout). Runs l lent.watchdog quantum lease.thread (replica_of lent) (replica_of value) count hit stop) laid runs))
 
   lease_runs : lease_run job (lending start lease) lease count ≡ Some job_runs.end
-  lease_runs = ap (option_and_then (λ r. run_of (layout_of job.program) job.settings.watchdog count r lease.thread)) there ∙ job_runs.runs
+  lease_runs = ap (option_and_then (λ r. run_of (layout_in job.program start.kernel) job.settings.watchdog count r lease.thread)) there ∙ job_runs.runs
 
   pub lent_held : lease_of (lending start lease) lease.driver ≡ Some lease
   lent_held = ap (λ (b : Bool). cond b (Some lease) (find (λ (l : Lease). l.driver == lease.driver) start.leases)) (eq-eqb lease.driver lease.driver refl)
@@ -110,7 +122,7 @@ module _ (job : Job) (start : Core) (lease : Lease) (quantum count hit : ℕ) (l
     arrives = by job_runs.arrives;
   }
     where
-      by : (count ≡ job.settings.quantum) ⊎ ((count < job.settings.quantum) × IsSome stop) → (count ≡ job.settings.quantum) ⊎ ((count < job.settings.quantum) × IsSome (arrival job lease.thread count job_runs.end.replica))
+      by : (count ≡ job.settings.quantum) ⊎ ((count < job.settings.quantum) × IsSome stop) → (count ≡ job.settings.quantum) ⊎ ((count < job.settings.quantum) × IsSome (arrival job start.kernel lease.thread count job_runs.end.replica))
       by (inl whole) = inl whole
       by (inr early) = inr (early.0, subst (λ (o : Option Stop). IsSome o) job_runs.stop_is early.1)
 
@@ -118,7 +130,7 @@ module _ (job : Job) (start : Core) (lease : Lease) (quantum count hit : ℕ) (l
   lent_became =
       put_became job (lending start lease) lease count hit (replica_of lent) job_runs.end there lease_runs ∙ ap (λ (r : Replica). Some r) (sym arrived_is)
     where
-      arrived_is : replica_of value ≡ arrived job lease.thread count job_runs.end.replica
+      arrived_is : replica_of value ≡ arrived job start.kernel lease.thread count job_runs.end.replica
       arrived_is = job_runs.new_is ∙ ap (λ (o : Option Stop). with_threads (changed_at (with_stop o) job_runs.end.replica.threads lease.thread) job_runs.end.replica) job_runs.stop_is
 
   -- to a core that has just lent it
@@ -129,7 +141,7 @@ module _ (job : Job) (start : Core) (lease : Lease) (quantum count hit : ℕ) (l
       held = ap (λ (c : Core). lease_of c lease.driver) at ∙ lent_held;
       allowed = subst (λ (j : Job). MayPut j (state core) lease count hit) (sym job_is) (subst (λ (c : Core). MayPut job c lease count hit) (sym at) lent_may_put);
       program = record {
-        layout = same.layout ∙ program.layout ∙ sym (ap (λ (j : Job). layout_of j.program) job_is);
+        layout = same.layout ∙ program.layout ∙ sym (ap (λ (j : Job). first_layout j.program.image) job_is);
         watchdog = same.watchdog ∙ program.watchdog ∙ sym (ap (λ (j : Job). j.settings.watchdog) job_is);
       };
       became = ap (λ (j : Job). slice_get (after j (state core) (Put lease count hit)).replicas lease.replica) job_is

@@ -20,7 +20,7 @@ use Rattle.ro_kernel.specs.Kernel.{Setup, Kernel}
 use Rattle.ro_kernel.specs.Serve.{Served, Done, Parked, Blocked, Ends, serve, payload_of}
 use Rattle.ro_kernel.proofs.Shapes.{IsWaking, wakes_first, wakes_all, Shape, says, reads, breaks, owns, wakes, parks_at, resumes, makes, joins, leaves, waits, stops, stops_last, shape-of}
 use Rattle.ro_kernel.proofs.Waiting.{wait-ended-well}
-use Rattle.ro_plain.specs.Machine.{Program, setup_of, Machine, opening, called, step_by, next_of, steppable, step, run}
+use Rattle.ro_plain.specs.Machine.{Program, setup_of, Machine, opening, called, step_by, next_of, steppable, step, run, payload_in}
 use Rattle.ro_plain.proofs.Calls.{some-injective, slice_get-append}
 use Rattle.ro_plain.proofs.Swap.{run-append, take-seam}
 use Rattle.ro_orders.specs.Waits.{served_next, served_in, BeginsWait, Wakes, Began, BeganAndWoken}
@@ -117,7 +117,7 @@ module _ (setup : Setup) (kernel : Kernel) (u : ℕ) (call : Call) where
   waiters-of (says value) = same_waiters refl
   waiters-of (reads number e xs h) = same_waiters refl
   waiters-of (breaks e end) = same_waiters refl
-  waiters-of (owns on owner) = same_waiters refl
+  waiters-of (owns on fit owner) = same_waiters refl
   waiters-of (wakes ws w) = woken_waiters w
   waiters-of (parks_at w e h) = one_more refl
   waiters-of (resumes w waiter e h) = one_less refl
@@ -229,7 +229,7 @@ module _ (program : Program) where
     next-told cpu (Stands (Calls call)) live e after g =
         let served : Served = serve (setup_of program) machine.kernel x call in
         let is : served_in program machine x ≡ Some (call, served) = ap (option_and_then (λ c. served_next program machine x (next_of program machine c))) live ∙ ap (served_next program machine x) e in
-        called-told call served is cpu (payload_of program.image.ranges machine.memory call) served refl (waiters-of (setup_of program) machine.kernel x call (shape-of (setup_of program) machine.kernel x call)) after g
+        called-told call served is cpu (payload_in program machine call) served refl (waiters-of (setup_of program) machine.kernel x call (shape-of (setup_of program) machine.kernel x call)) after g
     next-told cpu (Stands (Trap code)) live e after g = subst (λ (m : Machine). AreTold program (done ++ x ∷ []) m.kernel.waiters) (some-injective g) (same-told machine.kernel.waiters refl)
     next-told cpu (Stands (PageFault page)) live e after g = absurd (let f : None ≡ Some after = g in cc)
     next-told cpu (Stands Watchdog) live e after g = absurd (let f : None ≡ Some after = g in cc)

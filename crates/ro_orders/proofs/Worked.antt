@@ -169,11 +169,11 @@ same-between =
 
 pub has-trylock : TakesByLocks two_trylocks → ⊥
 unfolding first_cpu next fetch_stop call_at
-has-trylock h = true≢false (h (λ a. 0) (first_cpu 0x100A8) (call_on (Function TryLock) 0) refl)
+has-trylock h = true≢false (h (opening_kernel 0) (λ a. 0) (first_cpu 0x100A8) (call_on (Function TryLock) 0) refl)
 
 pub has-wait : TakesByLocks two_waits → ⊥
 unfolding first_cpu next fetch_stop call_at
-has-wait h = true≢false (h (λ a. 0) (first_cpu 0x100A8) (call_on (Function Wait) 0) refl)
+has-wait h = true≢false (h (opening_kernel 0) (λ a. 0) (first_cpu 0x100A8) (call_on (Function Wait) 0) refl)
 
 -- ---- copies
 

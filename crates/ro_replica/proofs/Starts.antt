@@ -20,7 +20,7 @@ use Rattle.ro_image.specs.Image.{Piece, Image, LiesLow, memory_of, holds_file_by
 use Rattle.ro_image.specs.Pieces.{piece_of, pieces_in}
 use Rattle.ro_image.specs.declared.pieces.FilePiece.{FilePiece}
 use Rattle.ro_replica.specs.Replica.{opening_replica, unstopped}
-use Rattle.ro_replica.specs.Seen.{ReplicaOf, SameProgram, AreFaults, AreTwins, IsReplica, IsOpening, layout_in}
+use Rattle.ro_replica.specs.Seen.{ReplicaOf, SameProgram, AreFaults, AreTwins, IsReplica, IsOpening, first_layout}
 
 split : (pieces : List FilePiece) (i : ℕ) (p d : FilePiece) → i < length pieces → p ≡ get_or pieces i d → drop i (pieces_in pieces) ≡ piece_of p ∷ drop (i + 1) (pieces_in pieces)
 split pieces i p d l e =
@@ -82,7 +82,7 @@ first_holds watchdog places thread threads waiting zero e room faults =
     }
 
 -- a replica of such parts stands at the opening
-pub opens : (image : Image) (number : ℕ) (faults : List Fault) (watchdog : ℕ) (value : ReplicaOf) → value.layout ≡ layout_in image → value.watchdog ≡ watchdog → memory_in value.held.pages ≡ memory_of image.pieces → has_page value.held.pages ≡ holds_file_byte image.pieces
+pub opens : (image : Image) (number : ℕ) (faults : List Fault) (watchdog : ℕ) (value : ReplicaOf) → value.layout ≡ first_layout image → value.watchdog ≡ watchdog → memory_in value.held.pages ≡ memory_of image.pieces → has_page value.held.pages ≡ holds_file_byte image.pieces
     → value.threads ≡ unstopped (first_cpu image.entry) ∷ [] → value.waiting ≡ filter (λ fault. fault.replica == number) faults → IsOpening image number faults watchdog value
 unfolding opening_replica
 opens image number faults watchdog value layout watchdog_is memory backed threads waiting =

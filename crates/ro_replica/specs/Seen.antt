@@ -23,8 +23,8 @@ pub record ReplicaOf : Type 0 where
 abbrev pub replica_of : ReplicaOf → Replica
 replica_of value = record { memory = memory_in value.held.pages; backed = has_page value.held.pages; threads = value.threads; waiting = value.waiting }
 
-abbrev pub layout_in : Image → Layout
-layout_in image = record { ranges = image.ranges; calls = image.calls }
+abbrev pub first_layout : Image → Layout
+first_layout image = record { ranges = image.ranges; calls = image.calls }
 
 -- what never changes is the same
 pub record SameProgram (one other : ReplicaOf) : Type 0 where
@@ -33,7 +33,7 @@ pub record SameProgram (one other : ReplicaOf) : Type 0 where
 
 -- the replica of this number at the opening
 pub record IsOpening (image : Image) (number : ℕ) (faults : List Fault) (watchdog : ℕ) (value : ReplicaOf) : Type 0 where
-  pub layout : value.layout ≡ layout_in image
+  pub layout : value.layout ≡ first_layout image
   pub watchdog_is : value.watchdog ≡ watchdog
   pub opening : replica_of value ≡ opening_replica image faults number
 

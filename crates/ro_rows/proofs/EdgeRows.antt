@@ -15,6 +15,7 @@ use Rattle.ro_exec.specs.Meaning.{meaning}
 use Rattle.ro_exec.specs.Next.{fetch_stop, instruction_stop, next}
 use Rattle.ro_exec.specs.Threads.{first_cpu, made_cpu}
 use Rattle.ro_kernel.specs.Serve.{serve, payload_of}
+use Rattle.ro_kernel.specs.Kernel.{Kernel}
 use Rattle.ro_journal.specs.declared.Did.TheVariants.{Served, Blocked}
 use Rattle.ro_journal.specs.declared.How.{How}
 use Rattle.ro_journal.specs.declared.How.TheVariants.{Exit, Deadlock, Differ, NoMajority, Limit, Sink}
@@ -60,10 +61,10 @@ no-stop None e s = let f : false ≡ true = s in cc
 no-stop (Some stop) e s = absurd (let f : false ≡ true = e in cc)
 
 -- a run of so many instructions, fewer than a quantum, that comes to no stop
-no-arrival : (job : Job) (thread count : ℕ) (o : Option RanTo) (ran : RanTo) → o ≡ Some ran → option_map (λ (r : RanTo). is_none (arrival job thread count r.replica)) o ≡ Some true → count < job.settings.quantum → HasArrived job thread count ran.replica → ⊥
-no-arrival job thread count o ran e f low (inl whole) = omega arith
-no-arrival job thread count o ran e f low (inr g) =
-    no-stop (arrival job thread count ran.replica) (some-injective (sym (ap (option_map (λ (r : RanTo). is_none (arrival job thread count r.replica))) e) ∙ f)) g.1
+no-arrival : (job : Job) (kernel : Kernel) (thread count : ℕ) (o : Option RanTo) (ran : RanTo) → o ≡ Some ran → option_map (λ (r : RanTo). is_none (arrival job kernel thread count r.replica)) o ≡ Some true → count < job.settings.quantum → HasArrived job kernel thread count ran.replica → ⊥
+no-arrival job kernel thread count o ran e f low (inl whole) = omega arith
+no-arrival job kernel thread count o ran e f low (inr g) =
+    no-stop (arrival job kernel thread count ran.replica) (some-injective (sym (ap (option_map (λ (r : RanTo). is_none (arrival job kernel thread count r.replica))) e) ∙ f)) g.1
 
 -- how many faults a run struck
 hit-is : (o : Option RanTo) (ran : RanTo) (hit : ℕ) → o ≡ Some ran → option_map (λ (r : RanTo). r.hit) o ≡ Some hit → ran.hit ≡ hit
@@ -116,7 +117,7 @@ put-at-stop = record { not_ended = refl; out = refl; ran = _; runs = refl; struc
 
 pub put-early : IsAllowed exit_job (replay exit_job (Take (lease_to 0 0 0) ∷ [])) (Put (lease_to 0 0 0) 1 0) → ⊥
 unfolding opening_core opening_replica struck execute applied cancelled recovered verdict_of event_of after next_action first_cpu made_cpu next fetch_stop instruction_stop instruction_of call_at permits_of alu_of taken_by meaning serve payload_of
-put-early h = no-arrival exit_job 0 1 _ h.ran h.runs refl (lit< tt) h.arrives
+put-early h = no-arrival exit_job (replay exit_job (Take (lease_to 0 0 0) ∷ [])).kernel 0 1 _ h.ran h.runs refl (lit< tt) h.arrives
 
 pub put-late : IsAllowed exit_job (replay exit_job (Take (lease_to 0 0 0) ∷ [])) (Put (lease_to 0 0 0) 3 0) → ⊥
 unfolding opening_core opening_replica struck execute applied cancelled recovered verdict_of event_of after next_action first_cpu made_cpu next fetch_stop instruction_stop instruction_of call_at permits_of alu_of taken_by meaning serve payload_of

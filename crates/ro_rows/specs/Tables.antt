@@ -20,9 +20,10 @@ use Rattle.ro_kernel.specs.Kernel.{Kernel}
 use Rattle.ro_kernel.specs.Serve.{Served, Done, serve}
 use Rattle.ro_exec.specs.declared.Cpu.{Cpu}
 use Rattle.ro_exec.specs.Next.{Next, all_backed, next}
-use Rattle.ro_plain.specs.Machine.{layout_of, setup_of}
+use Rattle.ro_plain.specs.Machine.{setup_of}
 use Rattle.ro_simulation.specs.Guests.{locking_guest}
 use Rattle.ro_rows.specs.Exit.{exit_file}
+use Rattle.ro_replica.specs.Seen.{first_layout}
 
 -- ---- instructions
 
@@ -165,7 +166,7 @@ abbrev pub four : List Life
 four = Live ∷ Live ∷ Exited 5 ∷ Joined ∷ []
 
 abbrev pub kernel_with : List Life → Owners → Kernel
-kernel_with lives owners = record { lives = lives; owners = owners; waiters = []; heap_end = 0x11000; taken = 0 }
+kernel_with lives owners = record { lives = lives; owners = owners; waiters = []; heap_end = 0x11000; taken = 0; given = [] }
 
 -- the mutexes at 100E0, which thread 1 holds, and at 100E4, which thread 0 holds
 abbrev pub two_held : Owners
@@ -192,4 +193,4 @@ cpu_at pc = record { registers = replicate 31 0; pc = pc }
 
 -- what it does next there, where one word stands at 10000 and zeros elsewhere
 abbrev pub next_of : (word pc : ℕ) → Next
-next_of word pc = next (layout_of locking_guest) all_backed (stored (λ a. 0) 0x10000 (bytes_of 4 word)) (cpu_at pc)
+next_of word pc = next (first_layout locking_guest.image) all_backed (stored (λ a. 0) 0x10000 (bytes_of 4 word)) (cpu_at pc)

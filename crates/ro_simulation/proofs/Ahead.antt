@@ -7,7 +7,7 @@ use Rattle.ro_decode.specs.declared.Instr.{Instr}
 use Rattle.ro_exec.specs.declared.Cpu.{Cpu}
 use Rattle.ro_exec.specs.Next.{Backed, Executes, next}
 use Rattle.ro_exec.proofs.Backing.{executes-backed}
-use Rattle.ro_plain.specs.Machine.{Program, layout_of, Machine, opening, executed, next_of, steppable, step, IsPlain, run, BackedRun, nothing_left, then_backed}
+use Rattle.ro_plain.specs.Machine.{Program, Machine, opening, executed, next_of, steppable, step, IsPlain, run, BackedRun, nothing_left, then_backed, layout_in}
 use Rattle.ro_plain.specs.Order.{RaceFree}
 use Rattle.ro_plain.proofs.Commute.{steppable-other, plain-step}
 use Rattle.ro_plain.proofs.Calls.{some-injective}
@@ -22,16 +22,16 @@ pub record StepsBacked (program : Program) (backed : Backed) (machine : Machine)
   pub cpu : Cpu
   pub instr : Instr
   pub live : steppable machine t ≡ Some cpu
-  pub executes : next (layout_of program) backed machine.memory cpu ≡ Executes instr
+  pub executes : next (layout_in program machine.kernel) backed machine.memory cpu ≡ Executes instr
 
 -- such a step is a plain instruction
 pub plain-of : (program : Program) (backed : Backed) (machine : Machine) (t : ℕ) → StepsBacked program backed machine t → IsPlain program machine t
 plain-of program backed machine t h =
-    record { cpu = h.cpu; instr = h.instr; live = h.live; executes = executes-backed (layout_of program) backed machine.memory h.cpu h.instr h.executes }
+    record { cpu = h.cpu; instr = h.instr; live = h.live; executes = executes-backed (layout_in program machine.kernel) backed machine.memory h.cpu h.instr h.executes }
 
 -- its instruction is what the thread does next
 pub plain-executes : (program : Program) (backed : Backed) (machine : Machine) (t : ℕ) (h : StepsBacked program backed machine t) → next_of program machine h.cpu ≡ Executes h.instr
-plain-executes program backed machine t h = executes-backed (layout_of program) backed machine.memory h.cpu h.instr h.executes
+plain-executes program backed machine t h = executes-backed (layout_in program machine.kernel) backed machine.memory h.cpu h.instr h.executes
 
 -- the step is its instruction's change
 pub backed-step : (program : Program) (backed : Backed) (machine : Machine) (t : ℕ) (h : StepsBacked program backed machine t) → step program machine t ≡ Some (executed machine t h.cpu h.instr)
@@ -84,7 +84,7 @@ BackedRun-run program backed (then_backed {thread = x} {threads = xs} cpu instr 
 pub BackedRun-more : (program : Program) (backed more : Backed) → IsMore backed more → {machine end : Machine} {xs : List ℕ} → BackedRun program backed machine xs end → BackedRun program more machine xs end
 BackedRun-more program backed more h nothing_left = nothing_left
 BackedRun-more program backed more h (then_backed {machine = machine} cpu instr live ex e rest) =
-    then_backed cpu instr live (executes-more backed more h (layout_of program) machine.memory cpu instr ex) e (BackedRun-more program backed more h rest)
+    then_backed cpu instr live (executes-more backed more h (layout_in program machine.kernel) machine.memory cpu instr ex) e (BackedRun-more program backed more h rest)
 
 -- plain steps change neither the kernel nor the output, make no thread, and do not end the program
 pub record KeepsRest (machine end : Machine) : Type 0 where

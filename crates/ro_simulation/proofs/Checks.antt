@@ -19,20 +19,21 @@ use Rattle.ro_simulation.proofs.Entries.{or-cases}
 use Rattle.ro_legal.specs.Core.{Job, Core, is_going, is_idle, is_out, is_lendable, may_vote, may_free, views_of}
 use Rattle.ro_legal.specs.Event.{Event}
 use Rattle.ro_legal.specs.Legal.{arrival, lease_run, since_in, event_in, HasArrived, MayPut, MayVote, MayEnd, due, IsAllowed, after, LegalFrom}
+use Rattle.ro_kernel.specs.Kernel.{Kernel}
 
 -- whether a take is allowed
 abbrev pub test_take : Job → Core → Lease → Bool
 test_take job core lease = is_going core && nat_lt lease.driver job.settings.drivers && is_idle core lease.driver && is_lendable core lease.replica lease.thread
 
 -- whether a run struck so many faults and arrived
-abbrev pub test_ran : Job → (thread count hit : ℕ) → Option RanTo → Bool
-test_ran job thread count hit None = false
-test_ran job thread count hit (Some ran) =
-    (ran.hit == hit) && ((count == job.settings.quantum) || (nat_lt count job.settings.quantum && is_some (arrival job thread count ran.replica)))
+abbrev pub test_ran : Job → Kernel → (thread count hit : ℕ) → Option RanTo → Bool
+test_ran job kernel thread count hit None = false
+test_ran job kernel thread count hit (Some ran) =
+    (ran.hit == hit) && ((count == job.settings.quantum) || (nat_lt count job.settings.quantum && is_some (arrival job kernel thread count ran.replica)))
 
 -- whether a put is allowed
 abbrev pub test_put : Job → Core → Lease → (count hit : ℕ) → Bool
-test_put job core lease count hit = is_none core.ended && is_out core lease && test_ran job lease.thread count hit (lease_run job core lease count)
+test_put job core lease count hit = is_none core.ended && is_out core lease && test_ran job core.kernel lease.thread count hit (lease_run job core lease count)
 
 -- whether two optional numbers are the same
 abbrev pub same_number : Option ℕ → Option ℕ → Bool
@@ -122,13 +123,13 @@ verdict-is Split won lost e = absurd (false≢true e)
 verdict-is (Won w l) won lost e = let p = and_parts _ _ e in let a = eqb-true w won p.0 in let b = same-list l lost p.1 in λ i. Won (a i) (b i)
 
 -- a put that passes is allowed
-put-allowed : (job : Job) (core : Core) (lease : Lease) (count hit : ℕ) → core.ended ≡ None → is_out core lease ≡ true → (o : Option RanTo) → lease_run job core lease count ≡ o → test_ran job lease.thread count hit o ≡ true → MayPut job core lease count hit
+put-allowed : (job : Job) (core : Core) (lease : Lease) (count hit : ℕ) → core.ended ≡ None → is_out core lease ≡ true → (o : Option RanTo) → lease_run job core lease count ≡ o → test_ran job core.kernel lease.thread count hit o ≡ true → MayPut job core lease count hit
 put-allowed job core lease count hit on out None e f = absurd (false≢true f)
 put-allowed job core lease count hit on out (Some ran) e f =
     let p = and_parts _ _ f in
     record { not_ended = on; out = out; ran = ran; runs = e; struck = eqb-true ran.hit hit p.0; arrives = by (or-cases _ _ p.1) }
   where
-    by : ((count == job.settings.quantum) ≡ true) ⊎ ((nat_lt count job.settings.quantum && is_some (arrival job lease.thread count ran.replica)) ≡ true) → HasArrived job lease.thread count ran.replica
+    by : ((count == job.settings.quantum) ≡ true) ⊎ ((nat_lt count job.settings.quantum && is_some (arrival job core.kernel lease.thread count ran.replica)) ≡ true) → HasArrived job core.kernel lease.thread count ran.replica
     by (inl g) = inl (eqb-true count job.settings.quantum g)
     by (inr g) = let q = and_parts _ _ g in inr (ltb-true count job.settings.quantum q.0, q.1)
 

@@ -4,7 +4,7 @@ use Rattle.std.proofs.Common.{refl, sym, ap, ◌∙◌, subst, arith}
 use Rattle.ro_thread.specs.declared.Thread.{Thread}
 use Rattle.ro_replica.specs.Replica.{Replica, copied_threads, recovered}
 use Rattle.ro_replica.specs.Runs.{standing_in}
-use Rattle.ro_plain.specs.Machine.{layout_of, Machine, BackedRun}
+use Rattle.ro_plain.specs.Machine.{Machine, BackedRun, layout_in}
 use Rattle.ro_legal.specs.Core.{Job}
 use Rattle.ro_simulation.specs.Invariant.{Agrees}
 use Rattle.ro_simulation.proofs.Counts.{counts, same-counts-ahead}
@@ -29,6 +29,6 @@ agrees-recovered job machine winner loser n h = record {
   };
   stops = λ number. record {
     stands = λ thread stop alive e stopped. let c = copied-from winner.threads loser.threads number thread e in
-        subst (λ (y : Thread). y.stop ≡ Some stop → standing_in (layout_of job.program) job.settings.watchdog winner y ≡ Some stop) c.is ((h.stops number).stands c.from stop alive c.there) stopped;
+        subst (λ (y : Thread). y.stop ≡ Some stop → standing_in (layout_in job.program machine.kernel) job.settings.watchdog winner y ≡ Some stop) c.is ((h.stops number).stands c.from stop alive c.there) stopped;
   };
 }

@@ -15,7 +15,7 @@ use Rattle.ro_exec.specs.Threads.{made_cpu}
 use Rattle.ro_thread.specs.declared.Thread.{Thread}
 use Rattle.ro_thread.specs.Stops.{standing}
 use Rattle.ro_replica.specs.Replica.{Replica, unstopped, changed_at, thread_after, with_made, is_page, applied, is_cancelled, without_cancelled, cancelled}
-use Rattle.ro_plain.specs.Machine.{layout_of, Machine, BackedRun}
+use Rattle.ro_plain.specs.Machine.{Machine, BackedRun, layout_in}
 use Rattle.ro_plain.specs.Order.{RaceFree}
 use Rattle.ro_plain.proofs.Calls.{some-injective}
 use Rattle.ro_legal.specs.Core.{Job}
@@ -133,7 +133,7 @@ module _ (job : Job) (free : RaceFree job.program) (backed : Backed) (machine mi
   pub agrees-applied : (after last : Machine) → BackedRun job.program backed after (comes.among.front ++ comes.among.back) last
       → stored replica.memory effect.place effect.bytes ≡ last.memory
       → ((number : ℕ) (other : Thread) → IsTrue (lives_on after.kernel number) → ThreadAfter effect replica.threads t thread number other → slice_get last.cpus number ≡ Some other.cpu)
-      → ((number : ℕ) (other : Thread) (stop : Stop) → IsTrue (lives_on after.kernel number) → ThreadAfter effect replica.threads t thread number other → KeptStop (backed_after effect replica.backed) other.stop stop → standing (layout_of job.program) job.settings.watchdog (backed_after effect replica.backed) last.memory other.cpu other.since ≡ Some stop)
+      → ((number : ℕ) (other : Thread) (stop : Stop) → IsTrue (lives_on after.kernel number) → ThreadAfter effect replica.threads t thread number other → KeptStop (backed_after effect replica.backed) other.stop stop → standing (layout_in job.program after.kernel) job.settings.watchdog (backed_after effect replica.backed) last.memory other.cpu other.since ≡ Some stop)
       → Agrees job after (cancelled (applied effect replica))
   unfolding applied cancelled
   agrees-applied after last runs memory cpus stops = record {
@@ -147,8 +147,8 @@ module _ (job : Job) (free : RaceFree job.program) (backed : Backed) (machine mi
     };
     stops = λ number. record {
       stands = λ other stop alive e stopped. let m = get-map (without_cancelled (backed_after effect replica.backed)) (threads_after effect replica.threads) number other e in
-          ap (λ (y : Memory). standing (layout_of job.program) job.settings.watchdog (backed_after effect replica.backed) y other.cpu other.since) memory
-          ∙ (ap (λ (y : Thread). standing (layout_of job.program) job.settings.watchdog (backed_after effect replica.backed) last.memory y.cpu y.since) (sym m.gives)
+          ap (λ (y : Memory). standing (layout_in job.program after.kernel) job.settings.watchdog (backed_after effect replica.backed) y other.cpu other.since) memory
+          ∙ (ap (λ (y : Thread). standing (layout_in job.program after.kernel) job.settings.watchdog (backed_after effect replica.backed) last.memory y.cpu y.since) (sym m.gives)
           ∙ stops number m.from stop alive (thread-cases effect replica.threads t thread number m.from own there m.there) (kept-stop (backed_after effect replica.backed) m.from.stop stop (ap (λ (y : Thread). y.stop) m.gives ∙ stopped)));
     };
   }
@@ -156,13 +156,13 @@ module _ (job : Job) (free : RaceFree job.program) (backed : Backed) (machine mi
       ahead_is : ahead_from 0 (map (without_cancelled (backed_after effect replica.backed)) (threads_after effect replica.threads)) ≡ comes.among.front ++ comes.among.back
       ahead_is = same-counts-ahead _ _ (counts-mapped (without_cancelled (backed_after effect replica.backed)) (λ x. refl) (threads_after effect replica.threads)) ∙ ahead-after effect replica.threads t thread comes.among own there
 
--- a stop stands with more pages and other bytes, where the thread does next what it did
-pub stands-later : (layout : Layout) (watchdog : ℕ) (backed more : Backed) (m n : Memory) (cpu : Cpu) (since : ℕ) (stop : Stop) → IsMore backed more → next layout backed m cpu ≡ next layout backed n cpu → ((page : ℕ) → stop ≡ PageFault page → more page ≡ false) → standing layout watchdog backed m cpu since ≡ Some stop → standing layout watchdog more n cpu since ≡ Some stop
-stands-later layout watchdog backed more m n cpu since stop h stays none e = by (since == watchdog) e
+-- a stop stands with more pages and other bytes, and a range more, where the thread does next what it did
+pub stands-later : (layout wider : Layout) (watchdog : ℕ) (backed more : Backed) (m n : Memory) (cpu : Cpu) (since : ℕ) (stop : Stop) → IsMore backed more → next layout backed m cpu ≡ next wider backed n cpu → ((page : ℕ) → stop ≡ PageFault page → more page ≡ false) → standing layout watchdog backed m cpu since ≡ Some stop → standing wider watchdog more n cpu since ≡ Some stop
+stands-later layout wider watchdog backed more m n cpu since stop h stays none e = by (since == watchdog) e
   where
-    by : (b : Bool) → cond b (Some Watchdog) (stop_in (next layout backed m cpu)) ≡ Some stop → cond b (Some Watchdog) (stop_in (next layout more n cpu)) ≡ Some stop
+    by : (b : Bool) → cond b (Some Watchdog) (stop_in (next layout backed m cpu)) ≡ Some stop → cond b (Some Watchdog) (stop_in (next wider more n cpu)) ≡ Some stop
     by true f = f
-    by false f = ap stop_in (stands-more backed more h layout n cpu stop (sym stays ∙ (at (next layout backed m cpu) refl f)) none)
+    by false f = ap stop_in (stands-more backed more h wider n cpu stop (sym stays ∙ (at (next layout backed m cpu) refl f)) none)
       where
         at : (o : Next) → next layout backed m cpu ≡ o → stop_in o ≡ Some stop → next layout backed m cpu ≡ Stands stop
         at (Stands other) g k = g ∙ ap Stands (some-injective k)

@@ -19,7 +19,7 @@ use Rattle.ro_exec.specs.declared.Cpu.{Cpu}
 use Rattle.ro_thread.specs.declared.Thread.{Thread}
 use Rattle.ro_vote.specs.Verdict.{Split, verdict_of}
 use Rattle.ro_replica.specs.Replica.{Replica, stop_of}
-use Rattle.ro_plain.specs.Machine.{Program, setup_of, Machine, called, step_by, next_of, steppable, step}
+use Rattle.ro_plain.specs.Machine.{Program, setup_of, Machine, called, step_by, next_of, steppable, step, payload_in}
 use Rattle.ro_plain.specs.Order.{RaceFree}
 use Rattle.ro_plain.proofs.Calls.{steppable-parts, step-at}
 use Rattle.ro_journal.specs.declared.Lease.{Lease}
@@ -187,7 +187,7 @@ module _ (job : Job) (odds : List ℕ) (journal : List Entry) (core : Core) (h :
     stuck-step =
         step-at job.program h.machine u stands.cpu stands.live
         ∙ (ap (step_by job.program h.machine u stands.cpu) stands.stands
-        ∙ ap (called h.machine stands.cpu (payload_of job.program.image.ranges h.machine.memory call.0)) call_blocks)
+        ∙ ap (called h.machine stands.cpu (payload_in job.program h.machine call.0)) call_blocks)
 
   -- no thread of the machine has a step where the core is stuck
   pub deadlocked : is_stuck job core ≡ true → EndsAs job.program h.machine Deadlock

@@ -9,8 +9,8 @@ use Rattle.ro_journal.specs.declared.Entry.TheVariants.{Take, Put}
 use Rattle.ro_journal.specs.Plan.{plan_of}
 use Rattle.ro_kernel.specs.Kernel.{Kernel, lives_on}
 use Rattle.ro_replica.specs.Replica.{Replica}
-use Rattle.ro_replica.specs.Runs.{with_stop}
-use Rattle.ro_plain.specs.Machine.{layout_of}
+use Rattle.ro_replica.specs.Runs.{with_stop, run_of}
+use Rattle.ro_plain.specs.Machine.{layout_in}
 use Rattle.ro_plain.specs.Order.{RaceFree}
 use Rattle.ro_journal.specs.declared.Lease.{Lease}
 use Rattle.ro_legal.specs.Core.{Job, Core, is_lease, is_out}
@@ -88,7 +88,7 @@ module _ (job : Job) (odds : List ℕ) (journal : List Entry) (core : Core) (h :
 
   -- the run keeps what holds of every replica
   well : StruckWell job core h.backed lease.replica may.ran
-  well = run-well job core h.backed lease.replica (layout_of job.program) count lease.thread parts.lent may.ran parts.runs (h.sound lease.replica parts.lent parts.there)
+  well = run-well job core h.backed lease.replica (layout_in job.program core.kernel) count lease.thread parts.lent may.ran parts.runs (h.sound lease.replica parts.lent parts.there)
 
   -- a fault that strikes is one that names this replica
   pub put-fault : 0 < hit → HasFault job lease.replica
@@ -99,19 +99,19 @@ module _ (job : Job) (odds : List ℕ) (journal : List Entry) (core : Core) (h :
   put-going = h.lent_live lease may.out
 
   -- what holds of every replica after the put
-  sound-at : (number : ℕ) (r : Replica) → ((number ≢ lease.replica) × (slice_get core.replicas number ≡ Some r)) ⊎ ((number ≡ lease.replica) × (arrived job lease.thread count may.ran.replica ≡ r)) → IsSound job core h.backed number r
+  sound-at : (number : ℕ) (r : Replica) → ((number ≢ lease.replica) × (slice_get core.replicas number ≡ Some r)) ⊎ ((number ≡ lease.replica) × (arrived job core.kernel lease.thread count may.ran.replica ≡ r)) → IsSound job core h.backed number r
   sound-at number r (inl e) = h.sound number r e.1
   sound-at number r (inr e) =
       subst (λ (n : ℕ). IsSound job core h.backed n r) (sym e.0)
-      (subst (IsSound job core h.backed lease.replica) e.1 (sound-changed job core h.backed lease.replica may.ran.replica (with_stop (arrival job lease.thread count may.ran.replica)) lease.thread (λ x k. k) well.sound))
+      (subst (IsSound job core h.backed lease.replica) e.1 (sound-changed job core h.backed lease.replica may.ran.replica (with_stop (arrival job core.kernel lease.thread count may.ran.replica)) lease.thread (λ x k. k) well.sound))
 
   -- the core after the put
-  after-put-is : record core { replicas = slice_set core.replicas lease.replica (arrived job lease.thread count may.ran.replica); leases = filter (λ l. not (is_lease lease l)) core.leases; wrote = 0 } ≡ after job core (Put lease count hit)
+  after-put-is : record core { replicas = slice_set core.replicas lease.replica (arrived job core.kernel lease.thread count may.ran.replica); leases = filter (λ l. not (is_lease lease l)) core.leases; wrote = 0 } ≡ after job core (Put lease count hit)
   unfolding after
   after-put-is = ap (core_after_put job core lease count) (sym may.runs)
 
   -- the invariant, where the replicas but one agree after the put
-  put-with : (odds' : List ℕ) → AtMostHalf job.settings.replicas odds' → ((number : ℕ) (r : Replica) → is_among odds' number ≡ false → ((number ≢ lease.replica) × (slice_get core.replicas number ≡ Some r)) ⊎ ((number ≡ lease.replica) × (arrived job lease.thread count may.ran.replica ≡ r)) → Agrees job h.machine r) → TracksIdeal job odds' (journal ++ Put lease count hit ∷ []) (after job core (Put lease count hit))
+  put-with : (odds' : List ℕ) → AtMostHalf job.settings.replicas odds' → ((number : ℕ) (r : Replica) → is_among odds' number ≡ false → ((number ≢ lease.replica) × (slice_get core.replicas number ≡ Some r)) ⊎ ((number ≡ lease.replica) × (arrived job core.kernel lease.thread count may.ran.replica ≡ r)) → Agrees job h.machine r) → TracksIdeal job odds' (journal ++ Put lease count hit ∷ []) (after job core (Put lease count hit))
   put-with odds' few' agree = subst (TracksIdeal job odds' (journal ++ Put lease count hit ∷ [])) after-put-is (record {
     machine = h.machine;
     ideal_is = ideal-same job journal (Put lease count hit) refl ∙ h.ideal_is;
@@ -125,28 +125,30 @@ module _ (job : Job) (odds : List ℕ) (journal : List Entry) (core : Core) (h :
     few = few';
     replica_count = length-set core.replicas lease.replica _ ∙ h.replica_count;
     backed = h.backed;
-    sound = λ number r e. sound-with job core (record core { replicas = slice_set core.replicas lease.replica (arrived job lease.thread count may.ran.replica); leases = filter (λ l. not (is_lease lease l)) core.leases; wrote = 0 }) h.backed number r refl
-        (sound-at number r (get-set-cases core.replicas lease.replica number (arrived job lease.thread count may.ran.replica) r e));
+    sound = λ number r e. sound-with job core (record core { replicas = slice_set core.replicas lease.replica (arrived job core.kernel lease.thread count may.ran.replica); leases = filter (λ l. not (is_lease lease l)) core.leases; wrote = 0 }) h.backed number r refl
+        (sound-at number r (get-set-cases core.replicas lease.replica number (arrived job core.kernel lease.thread count may.ran.replica) r e));
     lent_live = λ other e. h.lent_live other (any-filter (is_lease other) (λ l. not (is_lease lease l)) core.leases e);
     blocked_stands = h.blocked_stands;
-    others_agree = λ on number r d e. agree number r d (get-set-cases core.replicas lease.replica number (arrived job lease.thread count may.ran.replica) r e);
+    others_agree = λ on number r d e. agree number r d (get-set-cases core.replicas lease.replica number (arrived job core.kernel lease.thread count may.ran.replica) r e);
   })
 
   -- no fault was struck
   pub after-calm-put : RaceFree job.program → hit ≡ 0 → TracksIdeal job odds (journal ++ Put lease count hit ∷ []) (after job core (Put lease count hit))
   after-calm-put free none = put-with odds h.few by
     where
-      by : (number : ℕ) (r : Replica) → is_among odds number ≡ false → ((number ≢ lease.replica) × (slice_get core.replicas number ≡ Some r)) ⊎ ((number ≡ lease.replica) × (arrived job lease.thread count may.ran.replica ≡ r)) → Agrees job h.machine r
+      by : (number : ℕ) (r : Replica) → is_among odds number ≡ false → ((number ≢ lease.replica) × (slice_get core.replicas number ≡ Some r)) ⊎ ((number ≡ lease.replica) × (arrived job core.kernel lease.thread count may.ran.replica ≡ r)) → Agrees job h.machine r
       by number r d (inl e) = h.others_agree put-going.0 number r d e.1
       by number r d (inr e) =
           subst (Agrees job h.machine) e.1
-          (agrees-after-lease job free (plan_of journal) h.machine h.ideal_is put-going.0 lease.thread put-going.1 count parts.lent may.ran parts.runs (may.struck ∙ none)
-          (h.others_agree put-going.0 lease.replica parts.lent (ap (is_among odds) (sym e.0) ∙ d) parts.there))
+          (subst (λ (k : Kernel). Agrees job h.machine (arrived job k lease.thread count may.ran.replica)) (sym h.same_kernel)
+          (agrees-after-lease job free (plan_of journal) h.machine h.ideal_is put-going.0 lease.thread put-going.1 count parts.lent may.ran
+          (ap (λ (k : Kernel). run_of (layout_in job.program k) job.settings.watchdog count parts.lent lease.thread) (sym h.same_kernel) ∙ parts.runs) (may.struck ∙ none)
+          (h.others_agree put-going.0 lease.replica parts.lent (ap (is_among odds) (sym e.0) ∙ d) parts.there)))
 
   -- faults were struck while all replicas but a few, of which the struck one is, agreed
   pub after-struck-put : (odds' : List ℕ) → AtMostHalf job.settings.replicas odds' → is_among odds' lease.replica ≡ true → ((number : ℕ) (r : Replica) → is_among odds' number ≡ false → slice_get core.replicas number ≡ Some r → Agrees job h.machine r) → TracksIdeal job odds' (journal ++ Put lease count hit ∷ []) (after job core (Put lease count hit))
   after-struck-put odds' few' struck others = put-with odds' few' by
     where
-      by : (number : ℕ) (r : Replica) → is_among odds' number ≡ false → ((number ≢ lease.replica) × (slice_get core.replicas number ≡ Some r)) ⊎ ((number ≡ lease.replica) × (arrived job lease.thread count may.ran.replica ≡ r)) → Agrees job h.machine r
+      by : (number : ℕ) (r : Replica) → is_among odds' number ≡ false → ((number ≢ lease.replica) × (slice_get core.replicas number ≡ Some r)) ⊎ ((number ≡ lease.replica) × (arrived job core.kernel lease.thread count may.ran.replica ≡ r)) → Agrees job h.machine r
       by number r d (inl e) = others number r d e.1
       by number r d (inr e) = absurd (true≢false (sym struck ∙ (ap (is_among odds') (sym e.0) ∙ d)))

@@ -14,13 +14,14 @@ use Rattle.ro_kernel.specs.declared.Life.{Life}
 use Rattle.ro_kernel.specs.Kernel.{Kernel, live_option, lives_on}
 use Rattle.ro_kernel.specs.Serve.{Done, Parked, serve, payload_of}
 use Rattle.ro_kernel.proofs.Kept.{IsOwn, slice_get-set_other}
+use Rattle.ro_kernel.proofs.Given.{given-parked}
 use Rattle.ro_exec.specs.declared.Cpu.{Cpu}
-use Rattle.ro_exec.specs.Next.{Backed, all_backed, Stands, next}
+use Rattle.ro_exec.specs.Next.{Backed, all_backed, Stands, next, Layout}
 use Rattle.ro_exec.specs.Threads.{made_cpu, cpu_after}
 use Rattle.ro_thread.specs.declared.Thread.{Thread}
 use Rattle.ro_thread.specs.Stops.{standing}
 use Rattle.ro_replica.specs.Replica.{Replica, applied, cancelled}
-use Rattle.ro_plain.specs.Machine.{layout_of, setup_of, Machine, opening, with_made, affected, called, step_by, next_of, steppable, step, run}
+use Rattle.ro_plain.specs.Machine.{setup_of, Machine, opening, with_made, affected, called, step_by, next_of, steppable, step, run, layout_in, payload_in}
 use Rattle.ro_plain.specs.Order.{RaceFree}
 use Rattle.ro_plain.proofs.Backed.{backed-is-plain}
 use Rattle.ro_plain.proofs.Calls.{some-injective, slice_get-append, steppable-from, step-at}
@@ -29,6 +30,7 @@ use Rattle.ro_legal.specs.Core.{Job}
 use Rattle.ro_legal.specs.Event.{quiet_effect}
 use Rattle.ro_simulation.specs.Invariant.{StopStands, Agrees}
 use Rattle.ro_plain.proofs.StaysAfter.{Stays, stays}
+use Rattle.ro_plain.proofs.Wider.{layout-same}
 use Rattle.ro_simulation.proofs.Ahead.{KeepsRest, BackedRun-keeps, reach-run, TakenAfter, take-after, stays-along}
 use Rattle.ro_legal.proofs.Lists.{get-set-same, get-append-last}
 use Rattle.ro_legal.proofs.Served.{IsTidy}
@@ -60,7 +62,7 @@ module _ (job : Job) (free : RaceFree job.program) (before : List ℕ) (backed :
 
   -- ---- nothing is stored and no register changes
 
-  module _ (page : Option ℕ) (releases : Bool) (own_stop : (stop : Stop) → releases ≡ false → thread.stop ≡ Some stop → standing (layout_of job.program) job.settings.watchdog replica.backed replica.memory thread.cpu 0 ≡ Some stop) where
+  module _ (page : Option ℕ) (releases : Bool) (own_stop : (stop : Stop) → releases ≡ false → thread.stop ≡ Some stop → standing (layout_in job.program machine.kernel) job.settings.watchdog replica.backed replica.memory thread.cpu 0 ≡ Some stop) where
     -- registers after a quiet effect
     quiet-cpus : (number : ℕ) (other : Thread) → IsTrue (lives_on middle.kernel number) → ThreadAfter (quiet_effect t page releases) replica.threads t thread number other → slice_get comes.end.cpus number ≡ Some other.cpu
     quiet-cpus number other alive (as_before d e) = comes.same_cpus number other (live-machine number alive) e
@@ -69,15 +71,15 @@ module _ (job : Job) (free : RaceFree job.program) (before : List ℕ) (backed :
 
     -- stops after a quiet effect
     quiet-stops : (number : ℕ) (other : Thread) (stop : Stop) → IsTrue (lives_on middle.kernel number) → ThreadAfter (quiet_effect t page releases) replica.threads t thread number other → KeptStop (backed_after (quiet_effect t page releases) replica.backed) other.stop stop
-        → standing (layout_of job.program) job.settings.watchdog (backed_after (quiet_effect t page releases) replica.backed) comes.end.memory other.cpu other.since ≡ Some stop
+        → standing (layout_in job.program middle.kernel) job.settings.watchdog (backed_after (quiet_effect t page releases) replica.backed) comes.end.memory other.cpu other.since ≡ Some stop
     quiet-stops number other stop alive (as_before d e) kept =
-        stands-later (layout_of job.program) job.settings.watchdog replica.backed _ replica.memory comes.end.memory other.cpu other.since stop (more-after (quiet_effect t page releases) replica.backed)
-        (ap (λ (m : Memory). next (layout_of job.program) replica.backed m other.cpu) comes.same_memory) kept.unbacked ((stops number).stands other stop (live-machine number alive) e kept.was)
+        stands-later (layout_in job.program machine.kernel) (layout_in job.program middle.kernel) job.settings.watchdog replica.backed _ replica.memory comes.end.memory other.cpu other.since stop (more-after (quiet_effect t page releases) replica.backed)
+        (ap₂ (λ (k : Kernel) (m : Memory). next (layout_in job.program k) replica.backed m other.cpu) (sym own_kept.same_kernel) comes.same_memory) kept.unbacked ((stops number).stands other stop (live-machine number alive) e kept.was)
     quiet-stops number other stop alive (its_own d g) kept =
         let parts = if-released releases thread.stop stop (ap (λ (y : Thread). y.stop) g ∙ kept.was) in
-        ap (λ (y : Thread). standing (layout_of job.program) job.settings.watchdog (backed_after (quiet_effect t page releases) replica.backed) comes.end.memory y.cpu y.since) (sym g)
-        ∙ stands-later (layout_of job.program) job.settings.watchdog replica.backed _ replica.memory comes.end.memory thread.cpu 0 stop (more-after (quiet_effect t page releases) replica.backed)
-        (ap (λ (m : Memory). next (layout_of job.program) replica.backed m thread.cpu) comes.same_memory) kept.unbacked (own_stop stop parts.0 parts.1)
+        ap (λ (y : Thread). standing (layout_in job.program middle.kernel) job.settings.watchdog (backed_after (quiet_effect t page releases) replica.backed) comes.end.memory y.cpu y.since) (sym g)
+        ∙ stands-later (layout_in job.program machine.kernel) (layout_in job.program middle.kernel) job.settings.watchdog replica.backed _ replica.memory comes.end.memory thread.cpu 0 stop (more-after (quiet_effect t page releases) replica.backed)
+        (ap₂ (λ (k : Kernel) (m : Memory). next (layout_in job.program k) replica.backed m thread.cpu) (sym own_kept.same_kernel) comes.same_memory) kept.unbacked (own_stop stop parts.0 parts.1)
     quiet-stops number other stop alive (newly_made made e n g) kept = absurd (let f : None ≡ Some made = e in cc)
 
     -- a replica that agreed agrees after a quiet effect
@@ -87,7 +89,7 @@ module _ (job : Job) (free : RaceFree job.program) (before : List ℕ) (backed :
   -- ---- the first step of a call
 
   module _ (call : Call) (kernel : Kernel) (stands : next_of job.program middle thread.cpu ≡ Stands (Calls call)) (parks : serve (setup_of job.program) middle.kernel t call ≡ Parked kernel) (same_lives : kernel.lives ≡ middle.kernel.lives)
-      (own_stop : (stop : Stop) → false ≡ false → thread.stop ≡ Some stop → standing (layout_of job.program) job.settings.watchdog replica.backed replica.memory thread.cpu 0 ≡ Some stop) where
+      (own_stop : (stop : Stop) → false ≡ false → thread.stop ≡ Some stop → standing (layout_in job.program machine.kernel) job.settings.watchdog replica.backed replica.memory thread.cpu 0 ≡ Some stop) where
     -- the machine after the step
     parked : Machine
     parked = record middle { kernel = kernel }
@@ -102,7 +104,7 @@ module _ (job : Job) (free : RaceFree job.program) (before : List ℕ) (backed :
     taken_parked = take-after job.program free backed (before ++ replicate thread.since t) t _ (comes.reached_middle before reached) comes.back comes.apart
         (step-at job.program middle t thread.cpu comes.live
         ∙ (ap (step_by job.program middle t thread.cpu) stands
-        ∙ ap (called middle thread.cpu (payload_of job.program.image.ranges middle.memory call)) parks)) parked_going
+        ∙ ap (called middle thread.cpu (payload_in job.program middle call)) parks)) parked_going
 
     -- the thread stands at the same call at the end, which does its first step there
     end_is : taken_parked.last ≡ record comes.end { kernel = kernel }
@@ -110,7 +112,7 @@ module _ (job : Job) (free : RaceFree job.program) (before : List ℕ) (backed :
         ∙ (step-at job.program comes.end t thread.cpu (steppable-along job.program t (backed-is-plain comes.back) comes.apart ∙ comes.live)
         ∙ (ap (step_by job.program comes.end t thread.cpu)
         (sym ((stays-along job.program free backed (before ++ replicate thread.since t) t thread.cpu (comes.reached_middle before reached) comes.back comes.apart comes.live).next_stays all_backed) ∙ stands)
-        ∙ ap (called comes.end thread.cpu (payload_of job.program.image.ranges comes.end.memory call))
+        ∙ ap (called comes.end thread.cpu (payload_in job.program comes.end call))
         (ap (λ (k : Kernel). serve (setup_of job.program) k t call) back_kept.same_kernel ∙ parks))))
 
     -- who lives after the step lived before it
@@ -124,8 +126,9 @@ module _ (job : Job) (free : RaceFree job.program) (before : List ℕ) (backed :
         (comes.same_memory ∙ ap (λ (m : Machine). m.memory) (sym end_is))
         (λ number other alive h. ap (λ (m : Machine). slice_get m.cpus number) end_is ∙ quiet-cpus None false own_stop number other (lived number alive) h)
         (λ number other stop alive h kept.
-        ap (λ (m : Machine). standing (layout_of job.program) job.settings.watchdog (backed_after (quiet_effect t None false) replica.backed) m.memory other.cpu other.since) end_is
-        ∙ quiet-stops None false own_stop number other stop (lived number alive) h kept)
+        ap (λ (m : Machine). standing (layout_in job.program kernel) job.settings.watchdog (backed_after (quiet_effect t None false) replica.backed) m.memory other.cpu other.since) end_is
+        ∙ (ap (λ (l : Layout). standing l job.settings.watchdog (backed_after (quiet_effect t None false) replica.backed) comes.end.memory other.cpu other.since) (layout-same job.program kernel middle.kernel (given-parked (setup_of job.program) middle.kernel t call kernel parks))
+        ∙ quiet-stops None false own_stop number other stop (lived number alive) h kept))
 
   -- ---- a served call
 
@@ -135,10 +138,10 @@ module _ (job : Job) (free : RaceFree job.program) (before : List ℕ) (backed :
     is_of = record { thread_is = own.thread_is; creator_is = own.creator_is }
 
     -- the call's step in the middle machine
-    step-middle : step job.program middle t ≡ Some (affected middle thread.cpu kernel effect (payload_of job.program.image.ranges middle.memory call))
+    step-middle : step job.program middle t ≡ Some (affected middle thread.cpu kernel effect (payload_in job.program middle call))
     step-middle = step-at job.program middle t thread.cpu comes.live
         ∙ (ap (step_by job.program middle t thread.cpu) stands
-        ∙ ap (called middle thread.cpu (payload_of job.program.image.ranges middle.memory call)) served)
+        ∙ ap (called middle thread.cpu (payload_in job.program middle call)) served)
 
     -- the program goes on in the middle
     going_middle : middle.ended ≡ None
@@ -149,7 +152,7 @@ module _ (job : Job) (free : RaceFree job.program) (before : List ℕ) (backed :
     reached_middle = comes.reached_middle before reached
 
     -- the call's step behind what others ran ahead
-    taken : TakenAfter job.program free backed (affected middle thread.cpu kernel effect (payload_of job.program.image.ranges middle.memory call)) t (comes.among.front ++ comes.among.back) comes.end
+    taken : TakenAfter job.program free backed (affected middle thread.cpu kernel effect (payload_in job.program middle call)) t (comes.among.front ++ comes.among.back) comes.end
     taken = take-after job.program free backed (before ++ replicate thread.since t) t _ reached_middle comes.back comes.apart step-middle going_middle
 
     -- the thread may step at the end
@@ -165,11 +168,11 @@ module _ (job : Job) (free : RaceFree job.program) (before : List ℕ) (backed :
     served_end = ap (λ (k : Kernel). serve (setup_of job.program) k t call) back_kept.same_kernel ∙ served
 
     -- the machine after the call at the end
-    last_is : taken.last ≡ affected comes.end thread.cpu kernel effect (payload_of job.program.image.ranges comes.end.memory call)
+    last_is : taken.last ≡ affected comes.end thread.cpu kernel effect (payload_in job.program comes.end call)
     last_is = some-injective (sym taken.step_t
         ∙ (step-at job.program comes.end t thread.cpu live_end
         ∙ (ap (step_by job.program comes.end t thread.cpu) stands_end
-        ∙ ap (called comes.end thread.cpu (payload_of job.program.image.ranges comes.end.memory call)) served_end)))
+        ∙ ap (called comes.end thread.cpu (payload_in job.program comes.end call)) served_end)))
 
     -- another thread that lives after the call lived before it
     alive-before : (number : ℕ) (other : Thread) → number ≢ t → slice_get replica.threads number ≡ Some other → IsTrue (lives_on kernel number) → IsTrue (lives_on machine.kernel number)
@@ -228,11 +231,13 @@ module _ (job : Job) (free : RaceFree job.program) (before : List ℕ) (backed :
 
     -- stops after the call
     served-stops : (number : ℕ) (other : Thread) (stop : Stop) → IsTrue (lives_on kernel number) → ThreadAfter effect replica.threads t thread number other → KeptStop (backed_after effect replica.backed) other.stop stop
-        → standing (layout_of job.program) job.settings.watchdog (backed_after effect replica.backed) taken.last.memory other.cpu other.since ≡ Some stop
+        → standing (layout_in job.program kernel) job.settings.watchdog (backed_after effect replica.backed) taken.last.memory other.cpu other.since ≡ Some stop
     served-stops number other stop alive (as_before d e) kept =
         let alive_before = alive-before number other d e alive in
-        stands-later (layout_of job.program) job.settings.watchdog replica.backed _ replica.memory taken.last.memory other.cpu other.since stop (more-after effect replica.backed)
-        (ap (λ (m : Memory). next (layout_of job.program) replica.backed m other.cpu) comes.same_memory ∙ (other-stays number other d e alive_before).next_stays replica.backed)
+        stands-later (layout_in job.program machine.kernel) (layout_in job.program kernel) job.settings.watchdog replica.backed _ replica.memory taken.last.memory other.cpu other.since stop (more-after effect replica.backed)
+        (ap₂ (λ (k : Kernel) (m : Memory). next (layout_in job.program k) replica.backed m other.cpu) (sym (back_kept.same_kernel ∙ own_kept.same_kernel)) comes.same_memory
+        ∙ ((other-stays number other d e alive_before).next_stays replica.backed
+        ∙ ap (λ (m : Machine). next (layout_in job.program m.kernel) replica.backed taken.last.memory other.cpu) last_is))
         kept.unbacked ((stops number).stands other stop alive_before e kept.was)
     served-stops number other stop alive (its_own d g) kept =
         let parts = if-released effect.releases thread.stop stop (ap (λ (y : Thread). y.stop) g ∙ kept.was) in absurd (true≢false (sym tidy.goes_on ∙ parts.0))
@@ -240,7 +245,7 @@ module _ (job : Job) (free : RaceFree job.program) (before : List ℕ) (backed :
         absurd (let f : None ≡ Some stop = ap (λ (y : Thread). y.stop) g ∙ kept.was in cc)
 
     -- a replica that agreed agrees after a served call
-    pub agrees-served : Agrees job (affected middle thread.cpu kernel effect (payload_of job.program.image.ranges middle.memory call)) (cancelled (applied effect replica))
+    pub agrees-served : Agrees job (affected middle thread.cpu kernel effect (payload_in job.program middle call)) (cancelled (applied effect replica))
     agrees-served = agrees-applied job free backed machine middle replica same t thread there comes effect is_of _ taken.last taken.runs
         (ap (λ (m : Memory). stored m effect.place effect.bytes) comes.same_memory ∙ ap (λ (m : Machine). m.memory) (sym last_is))
         served-cpus served-stops

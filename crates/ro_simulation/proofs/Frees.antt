@@ -14,7 +14,7 @@ use Rattle.ro_exec.specs.Next.{Stands, Executes}
 use Rattle.ro_thread.specs.declared.Thread.{Thread}
 use Rattle.ro_thread.specs.Stops.{standing}
 use Rattle.ro_replica.specs.Replica.{Replica}
-use Rattle.ro_plain.specs.Machine.{layout_of, setup_of, Machine, next_of, IsExecution, BackedRun, nothing_left}
+use Rattle.ro_plain.specs.Machine.{setup_of, Machine, next_of, IsExecution, BackedRun, nothing_left, layout_in}
 use Rattle.ro_plain.specs.Order.{RaceFree}
 use Rattle.ro_plain.proofs.Calls.{some-injective, steppable-parts}
 use Rattle.ro_legal.specs.Core.{Job, Core, may_free}
@@ -74,7 +74,7 @@ module _ (job : Job) (free : RaceFree job.program) (odds : List ℕ) (journal : 
 
   -- the event of the call
   has-event : HasEvent job h.backed h.machine h.machine t (call_event h.machine.kernel t parts.call [] (serve (setup_of job.program) h.machine.kernel t parts.call))
-  has-event = step-of-call job free (plan_of journal) h.backed h.machine h.machine h.ideal_is going t 0 live nothing_left stands.cpu stands.live h.as_many parts.call stands.stands [] (sym (stands.writes_nothing h.machine.memory))
+  has-event = step-of-call job free (plan_of journal) h.backed h.machine h.machine h.ideal_is going t 0 live nothing_left stands.cpu stands.live h.as_many parts.call stands.stands [] (sym (stands.writes_nothing _ h.machine.memory))
 
   -- the core's event is that one
   freed-is : freed_event job core t ≡ Some (call_event h.machine.kernel t parts.call [] (serve (setup_of job.program) h.machine.kernel t parts.call))
@@ -110,7 +110,7 @@ module _ (job : Job) (free : RaceFree job.program) (odds : List ℕ) (journal : 
           there = there;
           comes = subst (λ (m : Machine). Comes job h.backed h.machine m r t thread) (sym none.1) by.1;
           own_stop = λ stop released stopped.
-              ap (λ (n : ℕ). standing (layout_of job.program) job.settings.watchdog r.backed r.memory thread.cpu n) (sym none.0)
+              ap (λ (n : ℕ). standing (layout_in job.program h.machine.kernel) job.settings.watchdog r.backed r.memory thread.cpu n) (sym none.0)
               ∙ (agree.stops t).stands thread stop live there stopped;
         }
 

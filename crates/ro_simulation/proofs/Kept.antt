@@ -15,7 +15,7 @@ use Rattle.ro_exec.specs.Next.{Backed}
 use Rattle.ro_thread.specs.declared.Thread.{Thread}
 use Rattle.ro_thread.specs.Stops.{standing}
 use Rattle.ro_replica.specs.Replica.{Replica, applied, cancelled}
-use Rattle.ro_plain.specs.Machine.{layout_of, Machine, opening, run, BackedRun}
+use Rattle.ro_plain.specs.Machine.{Machine, opening, run, BackedRun, layout_in}
 use Rattle.ro_plain.proofs.Ahead.{is-none-from}
 use Rattle.ro_plain.proofs.Swap.{run-append}
 use Rattle.ro_journal.specs.declared.Lease.{Lease}
@@ -81,7 +81,7 @@ pub record Meets (job : Job) (machine middle : Machine) (backed : Backed) (t : �
   pub thread : Thread
   pub there : slice_get r.threads t ≡ Some thread
   pub comes : Comes job backed machine middle r t thread
-  pub own_stop : (stop : Stop) → event.effect.releases ≡ false → thread.stop ≡ Some stop → standing (layout_of job.program) job.settings.watchdog r.backed r.memory thread.cpu 0 ≡ Some stop
+  pub own_stop : (stop : Stop) → event.effect.releases ≡ false → thread.stop ≡ Some stop → standing (layout_in job.program machine.kernel) job.settings.watchdog r.backed r.memory thread.cpu 0 ≡ Some stop
 
 module _ (job : Job) (odds : List ℕ) (journal : List Entry) (core : Core) (h : TracksIdeal job odds journal core) (going : h.machine.ended ≡ None) (no_lease : core.leases ≡ []) (t count : ℕ) (live : IsTrue (lives_on h.machine.kernel t)) (middle : Machine) (own : BackedRun job.program h.backed h.machine (replicate count t) middle) (event : Event) (after : Machine) (step : EventStep job h.backed h.machine middle t event after)
     (entry : Entry) (plan_is : entry_plan entry ≡ replicate count t ++ replicate (event_steps event.did) t) (replicas : List Replica) (as_many : length replicas ≡ length core.replicas) (sound : (number : ℕ) (r : Replica) → slice_get replicas number ≡ Some r → IsSound job core h.backed number r) (odds' : List ℕ) (few' : AtMostHalf job.settings.replicas odds') where

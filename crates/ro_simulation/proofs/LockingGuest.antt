@@ -15,26 +15,29 @@ use Rattle.ro_event.specs.declared.effects.Made.{Made}
 use Rattle.ro_event.specs.declared.stops.Stop.TheVariants.{Calls, Trap, PageFault, Watchdog}
 use Rattle.ro_event.specs.Effects.{Effect}
 use Rattle.ro_event.specs.Table.{call_at}
-use Rattle.ro_region.specs.Permission.{permits_of}
+use Rattle.ro_region.specs.Permission.{permits_of, with_range}
+use Rattle.ro_region.specs.declared.Range.{Range}
 use Rattle.ro_pages.specs.Bytes.{Memory, Span, within, stored}
 use Rattle.ro_pages.proofs.Frame.{stored-outside}
 use Rattle.ro_alu.specs.Results.{alu_of}
 use Rattle.ro_image.specs.Image.{memory_of}
 use Rattle.ro_kernel.specs.declared.Life.{Life}
 use Rattle.ro_kernel.specs.declared.Life.TheVariants.{Live, Exited, Joined}
-use Rattle.ro_kernel.specs.Kernel.{Kernel}
+use Rattle.ro_kernel.specs.Kernel.{Kernel, ranges_in}
 use Rattle.ro_kernel.specs.Serve.{Served, Done, Parked, Blocked, Ends, answer_effect, answers, serve_join_at, lock_at, unlock_at, serve, payload_of}
+use Rattle.ro_kernel.proofs.Given.{Gives, serve-gives}
 use Rattle.ro_journal.specs.declared.How.{How}
 use Rattle.ro_exec.specs.declared.Cpu.{Cpu}
 use Rattle.ro_exec.specs.Meaning.{loads, stores, meaning}
-use Rattle.ro_exec.specs.Next.{all_backed, Next, Stands, Executes, fetch_stop, instruction_stop, next, change_of}
+use Rattle.ro_exec.specs.Next.{all_backed, Next, Stands, Executes, fetch_stop, instruction_stop, next, change_of, Layout}
 use Rattle.ro_exec.specs.Threads.{first_cpu, made_cpu, cpu_after}
 use Rattle.ro_exec.proofs.Frame.{next-agree}
-use Rattle.ro_plain.specs.Machine.{layout_of, setup_of, Machine, opening, executed, with_made, called, step_by, next_of, steppable, step, run}
-use Rattle.ro_plain.specs.Accesses.{Accesses, no_access, fetches, payload_span, stored_span, accesses_by, accesses, touches, conflict_at}
+use Rattle.ro_plain.specs.Machine.{setup_of, Machine, opening, executed, with_made, called, step_by, next_of, steppable, step, run, layout_in, payload_in}
+use Rattle.ro_plain.specs.Accesses.{Accesses, no_access, fetches, payload_span, stored_span, accesses_by, accesses, touches, conflict_at, given_span}
 use Rattle.ro_plain.specs.Order.{machine_at, accesses_at, RaceFree}
 use Rattle.ro_plain.proofs.Calls.{some-injective, steppable-parts, step-opens}
 use Rattle.ro_plain.proofs.Swap.{at-both}
+use Rattle.ro_plain.proofs.Wider.{layout-same}
 use Rattle.ro_simulation.specs.Guests.{locking_guest}
 use Rattle.ro_legal.proofs.Lists.{get-within, get-set-same, get-set-cases, get-append-cases}
 use Rattle.ro_simulation.proofs.Entries.{or-cases, or-left, or-right}
@@ -168,7 +171,7 @@ pc-low (e1 last) = lit≤ tt
 
 -- whatever comes of the call, the thread is where its program goes, and only thread 0 stores, in the shared words
 pub data Fine (b : Bool) (cpu : Cpu) (t : ℕ) : Served → Type 0 where
-  fine_done : {kernel : Kernel} {effect : Effect} → effect.thread ≡ t → At b (cpu_after effect cpu) →
+  fine_done : {kernel : Kernel} {effect : Effect} → effect.thread ≡ t → effect.range ≡ None → At b (cpu_after effect cpu) →
       ((a : ℕ) → within (record { place = effect.place; count = length effect.bytes }) a ≡ true → (b ≡ true) × (shared a ≡ true)) →
       ((made : Made) (n : ℕ) → effect.made ≡ Some made → (made.creator ≡ t) × At false (made_cpu made (cpu_after effect cpu) n)) → Fine b cpu t (Done kernel effect)
   fine_parked : {kernel : Kernel} → Fine b cpu t (Parked kernel)
@@ -182,11 +185,15 @@ fine-cond b cpu t false x y p q = q
 
 -- an answer and nothing else
 fine-answer : (b : Bool) (cpu : Cpu) (t : ℕ) (call : Call) → ((value : ℕ) → At b (cpu_after (answer_effect t call value) cpu)) → (kernel : Kernel) (value : ℕ) → Fine b cpu t (answers kernel t call value)
-fine-answer b cpu t call h kernel value = fine_done refl (h value) (λ a w. absurd (none-within 0 a w)) (λ made n (e : None ≡ Some made). absurd cc)
+fine-answer b cpu t call h kernel value = fine_done refl refl (h value) (λ a w. absurd (none-within 0 a w)) (λ made n (e : None ≡ Some made). absurd cc)
+
+-- the kernel, where it gave nothing
+abbrev ungiven : Kernel → Kernel
+ungiven kernel = record kernel { given = [] }
 
 -- the call is fine, and a made thread's payload is none of the shared words
 pub record IsFine (b : Bool) (cpu : Cpu) (call : Call) : Type 0 where
-  pub served : (kernel : Kernel) (t : ℕ) → Fine b cpu t (serve (setup_of locking_guest) kernel t call)
+  pub served : (kernel : Kernel) (t : ℕ) → Fine b cpu t (serve (setup_of locking_guest) (ungiven kernel) t call)
   pub payload : b ≡ false → (a : ℕ) → touches (payload_span locking_guest.image.ranges call) a ≡ true → shared a ≡ false
 
 -- what a thread does next
@@ -218,7 +225,7 @@ join-fine cpu a0 a2 a3 h kernel t None = fine-answer true cpu t (joins a0 a2 a3)
 join-fine cpu a0 a2 a3 h kernel t (Some Joined) = fine-cond true cpu t _ _ _ (fine-answer true cpu t (joins a0 a2 a3) (λ v. h v t) kernel 35) (fine-answer true cpu t (joins a0 a2 a3) (λ v. h v t) kernel 3)
 join-fine cpu a0 a2 a3 h kernel t (Some Live) = fine-cond true cpu t _ _ _ (fine-answer true cpu t (joins a0 a2 a3) (λ v. h v t) kernel 35) fine_blocked
 join-fine cpu a0 a2 a3 h kernel t (Some (Exited value)) = fine-cond true cpu t _ _ _ (fine-answer true cpu t (joins a0 a2 a3) (λ v. h v t) kernel 35)
-    (fine_done refl (h 0 t) (λ a w. absurd (none-within 0 a w)) (λ made n (e : None ≡ Some made). absurd cc))
+    (fine_done refl refl (h 0 t) (λ a w. absurd (none-within 0 a w)) (λ made n (e : None ≡ Some made). absurd cc))
 
 -- a lock
 lock-fine : (cpu : Cpu) (call : Call) → ((value t : ℕ) → At false (cpu_after (answer_effect t call value) cpu)) → (kernel : Kernel) (t : ℕ) (o : Option (Option ℕ)) → Fine false cpu t (lock_at kernel t call o)
@@ -236,8 +243,12 @@ unlock-fine cpu call h kernel t (Some (Some owner)) = fine-cond false cpu t _ _ 
 abbrev image : Memory
 image = memory_of locking_guest.image.pieces
 
+-- what its addresses mean
+abbrev locking_layout : Layout
+locking_layout = record { ranges = locking_guest.image.ranges; calls = locking_guest.image.calls }
+
 -- each thread does what its program says
-does : {b : Bool} {cpu : Cpu} → At b cpu → Does b cpu (next (layout_of locking_guest) all_backed image cpu)
+does : {b : Bool} {cpu : Cpu} → At b cpu → Does b cpu (next locking_layout all_backed image cpu)
 unfolding next fetch_stop instruction_stop instruction_of call_at permits_of alu_of meaning serve payload_of made_cpu
 does k0 = goes _ (λ found. k1) (λ found. refl) refl refl
 does k1 = goes _ (λ found. k2) (λ found. refl) refl refl
@@ -245,18 +256,18 @@ does k2 = goes _ (λ found. k3) (λ found. refl) refl refl
 does k3 = goes _ (λ found. k4) (λ found. refl) refl refl
 does k4 = goes _ (λ found. k5) (λ found. refl) refl refl
 does k5 = goes _ (λ found. c1) (λ found. refl) refl refl
-does (c1 {sp = sp}) = calls _ (record { served = λ kernel t. fine-cond true _ t _ _ _ (fine-answer true _ t (asks (Function Create) 0x100E0 0 0x10098 0x100EC) (λ value. k6) kernel 11) (fine_done refl k6 (λ a w. (refl, within-shared 0x100E0 4 a (lit≤ tt) (lit≤ tt) w)) (λ made n e. made-fine _ made (cpu_at 0x1006C 0x1006C sp 0 0 0x10000 0 0 0 0x10098 0x100EC 0) t n e refl (w0 false))); payload = λ (f : true ≡ false). absurd (true≢false f) })
+does (c1 {sp = sp}) = calls _ (record { served = λ kernel t. fine-cond true _ t _ _ _ (fine-answer true _ t (asks (Function Create) 0x100E0 0 0x10098 0x100EC) (λ value. k6) (ungiven kernel) 11) (fine_done refl refl k6 (λ a w. (refl, within-shared 0x100E0 4 a (lit≤ tt) (lit≤ tt) w)) (λ made n e. made-fine _ made (cpu_at 0x1006C 0x1006C sp 0 0 0x10000 0 0 0 0x10098 0x100EC 0) t n e refl (w0 false))); payload = λ (f : true ≡ false). absurd (true≢false f) })
 does k6 = goes _ (λ found. k7) (λ found. refl) refl refl
 does k7 = goes _ (λ found. k8) (λ found. refl) refl refl
 does k8 = goes _ (λ found. c2) (λ found. refl) refl refl
-does (c2 {sp = sp}) = calls _ (record { served = λ kernel t. fine-cond true _ t _ _ _ (fine-answer true _ t (asks (Function Create) 0x100E4 0 0x10098 0x100ED) (λ value. k9) kernel 11) (fine_done refl k9 (λ a w. (refl, within-shared 0x100E4 4 a (lit≤ tt) (lit≤ tt) w)) (λ made n e. made-fine _ made (cpu_at 0x10078 0x10078 sp 0 0 0x10000 0 0 0 0x10098 0x100ED 0) t n e refl (w0 true))); payload = λ (f : true ≡ false). absurd (true≢false f) })
+does (c2 {sp = sp}) = calls _ (record { served = λ kernel t. fine-cond true _ t _ _ _ (fine-answer true _ t (asks (Function Create) 0x100E4 0 0x10098 0x100ED) (λ value. k9) (ungiven kernel) 11) (fine_done refl refl k9 (λ a w. (refl, within-shared 0x100E4 4 a (lit≤ tt) (lit≤ tt) w)) (λ made n e. made-fine _ made (cpu_at 0x10078 0x10078 sp 0 0 0x10000 0 0 0 0x10098 0x100ED 0) t n e refl (w0 true))); payload = λ (f : true ≡ false). absurd (true≢false f) })
 does k9 = goes _ (λ found. k10) (λ found. refl) refl refl
 does k10 = goes _ (λ found. k11) (λ found. refl) refl refl
 does k11 = goes _ (λ found. c3) (λ found. refl) refl refl
-does c3 = calls _ (record { served = λ kernel t. join-fine _ 1 0x10098 0x100ED (λ value u. k12) kernel t _; payload = λ (f : true ≡ false). absurd (true≢false f) })
+does c3 = calls _ (record { served = λ kernel t. join-fine _ 1 0x10098 0x100ED (λ value u. k12) (ungiven kernel) t _; payload = λ (f : true ≡ false). absurd (true≢false f) })
 does k12 = goes _ (λ found. k13) (λ found. refl) refl refl
 does k13 = goes _ (λ found. c4) (λ found. refl) refl refl
-does c4 = calls _ (record { served = λ kernel t. join-fine _ 2 0x10098 0x100ED (λ value u. k14) kernel t _; payload = λ (f : true ≡ false). absurd (true≢false f) })
+does c4 = calls _ (record { served = λ kernel t. join-fine _ 2 0x10098 0x100ED (λ value u. k14) (ungiven kernel) t _; payload = λ (f : true ≡ false). absurd (true≢false f) })
 does k14 = goes _ (λ found. k15) (λ found. refl) refl refl
 does k15 = goes _ (λ found. k16) (λ found. refl) refl refl
 does k16 = calls _ (record { served = λ kernel t. fine_ends; payload = λ (f : true ≡ false). absurd (true≢false f) })
@@ -265,20 +276,20 @@ does (w0 false) = goes _ (λ found. w1 false) (λ found. refl) refl refl
 does (w1 last) = goes _ (λ found. w2 last) (λ found. refl) refl refl
 does (w2 last) = goes _ (λ found. w3 last) (λ found. refl) refl refl
 does (w3 last) = goes _ (λ found. l1 last) (λ found. refl) refl refl
-does (l1 last) = calls _ (record { served = λ kernel t. lock-fine _ (asks (Function Lock) 0x100E8 0 0 0) (λ value u. w4 last) kernel t _; payload = λ f a w. absurd (false≢true w) })
+does (l1 last) = calls _ (record { served = λ kernel t. lock-fine _ (asks (Function Lock) 0x100E8 0 0 0) (λ value u. w4 last) (ungiven kernel) t _; payload = λ f a w. absurd (false≢true w) })
 does (w4 last) = goes _ (λ found. w5 last) (λ found. refl) refl refl
 does (w5 true) = goes _ (λ found. w6 true) (λ found. refl) refl refl
 does (w5 false) = goes _ (λ found. w6 false) (λ found. refl) refl refl
 does (w6 last) = goes _ (λ found. w7 last) (λ found. refl) refl refl
 does (w7 last) = goes _ (λ found. w8 last) (λ found. refl) refl refl
-does (w8 true) = calls _ (record { served = λ kernel t. fine-answer false _ t (asks (System 64) 1 0x100ED 1 0) (λ value. w9 true) kernel 1; payload = λ f a w. above-shared 0x100ED 1 a (lit≤ tt) (touch-one _ w) })
-does (w8 false) = calls _ (record { served = λ kernel t. fine-answer false _ t (asks (System 64) 1 0x100EC 1 0) (λ value. w9 false) kernel 1; payload = λ f a w. above-shared 0x100EC 1 a (lit≤ tt) (touch-one _ w) })
+does (w8 true) = calls _ (record { served = λ kernel t. fine-answer false _ t (asks (System 64) 1 0x100ED 1 0) (λ value. w9 true) (ungiven kernel) 1; payload = λ f a w. above-shared 0x100ED 1 a (lit≤ tt) (touch-one _ w) })
+does (w8 false) = calls _ (record { served = λ kernel t. fine-answer false _ t (asks (System 64) 1 0x100EC 1 0) (λ value. w9 false) (ungiven kernel) 1; payload = λ f a w. above-shared 0x100EC 1 a (lit≤ tt) (touch-one _ w) })
 does (w9 last) = goes _ (λ found. w10 last) (λ found. refl) refl refl
 does (w10 last) = goes _ (λ found. u1 last) (λ found. refl) refl refl
-does (u1 last) = calls _ (record { served = λ kernel t. unlock-fine _ (asks (Function Unlock) 0x100E8 (letter last) 1 0) (λ value u. w11 last) kernel t _; payload = λ f a w. absurd (false≢true w) })
+does (u1 last) = calls _ (record { served = λ kernel t. unlock-fine _ (asks (Function Unlock) 0x100E8 (letter last) 1 0) (λ value u. w11 last) (ungiven kernel) t _; payload = λ f a w. absurd (false≢true w) })
 does (w11 last) = goes _ (λ found. w12 last) (λ found. refl) refl refl
 does (w12 last) = goes _ (λ found. e1 last) (λ found. refl) refl refl
-does (e1 last) = calls _ (record { served = λ kernel t. fine-cond false _ t _ _ _ (fine_done refl (e1 last) (λ a w. absurd (none-within 0 a w)) (λ made n (e : None ≡ Some made). absurd cc)) fine_ends; payload = λ f a w. absurd (false≢true w) })
+does (e1 last) = calls _ (record { served = λ kernel t. fine-cond false _ t _ _ _ (fine_done refl refl (e1 last) (λ a w. absurd (none-within 0 a w)) (λ made n (e : None ≡ Some made). absurd cc)) fine_ends; payload = λ f a w. absurd (false≢true w) })
 
 -- ---- the machine
 
@@ -286,13 +297,15 @@ does (e1 last) = calls _ (record { served = λ kernel t. fine-cond false _ t _ _
 record Quiet (machine : Machine) : Type 0 where
   pub code : (a : ℕ) → shared a ≡ false → machine.memory a ≡ image a
   pub threads : (t : ℕ) (cpu : Cpu) → slice_get machine.cpus t ≡ Some cpu → At (t == 0) cpu
+  pub nothing_given : machine.kernel.given ≡ []
 
 -- what a thread of such a machine does next is what it does in the image
 does-in : (machine : Machine) → Quiet machine → {b : Bool} (cpu : Cpu) → At b cpu → Does b cpu (next_of locking_guest machine cpu)
 does-in machine q {b} cpu h = subst (Does b cpu) (sym same) (does h)
   where
-    same : next_of locking_guest machine cpu ≡ next (layout_of locking_guest) all_backed image cpu
-    same = next-agree (layout_of locking_guest) all_backed machine.memory image cpu (record { same = λ a w. q.code a (below-shared cpu.pc 4 a (pc-low h) w) })
+    same : next_of locking_guest machine cpu ≡ next locking_layout all_backed image cpu
+    same = ap (λ (l : Layout). next l all_backed machine.memory cpu) (layout-same locking_guest machine.kernel (ungiven machine.kernel) q.nothing_given)
+        ∙ next-agree locking_layout all_backed machine.memory image cpu (record { same = λ a w. q.code a (below-shared cpu.pc 4 a (pc-low h) w) })
 
 -- ---- each step keeps it
 
@@ -332,32 +345,39 @@ stored-code memory place bytes code h a out = stored-outside memory place bytes 
     by false e = e
     by true e = absurd (true≢false (sym (h a e) ∙ out))
 
+-- what comes of the call in a machine to which nothing was given
+served-fine : (machine : Machine) → machine.kernel.given ≡ [] → (t : ℕ) (b : Bool) (cpu : Cpu) (call : Call) → IsFine b cpu call → Fine b cpu t (serve (setup_of locking_guest) machine.kernel t call)
+served-fine machine none t b cpu call fine =
+    subst (λ (given : List Range). Fine b cpu t (serve (setup_of locking_guest) (record machine.kernel { given = given }) t call)) (sym none) (fine.served machine.kernel t)
+
 module _ (machine : Machine) (q : Quiet machine) (t : ℕ) (cpu : Cpu) (there : slice_get machine.cpus t ≡ Some cpu) where
   -- a call
-  quiet-called : (payload : List ℕ) (served : Served) → Fine (t == 0) cpu t served → (after : Machine) → called machine cpu payload served ≡ Some after → Quiet after
-  quiet-called payload (Done kernel effect) (fine_done own here stores made) after e = subst Quiet (some-injective e) (record {
+  quiet-called : (payload : List ℕ) (served : Served) → Fine (t == 0) cpu t served → Gives machine.kernel served → (after : Machine) → called machine cpu payload served ≡ Some after → Quiet after
+  quiet-called payload (Done kernel effect) (fine_done own none here stores made) gives after e = subst Quiet (some-injective e) (record {
     code = stored-code machine.memory effect.place effect.bytes q.code (λ a w. (stores a w).1);
     threads = made-threads effect.made cpu (slice_set machine.cpus effect.thread (cpu_after effect cpu)) t (cpu_after effect cpu)
         (ap (λ (n : ℕ). slice_get (slice_set machine.cpus n (cpu_after effect cpu)) t) own ∙ get-set-same machine.cpus t cpu (cpu_after effect cpu) there)
         (subst (λ (n : ℕ). (u : ℕ) (c : Cpu) → slice_get (slice_set machine.cpus n (cpu_after effect cpu)) u ≡ Some c → At (u == 0) c) (sym own) (set-threads machine.cpus t (cpu_after effect cpu) q.threads here))
         made;
+    nothing_given = gives ∙ (ap (λ (range : Option Range). with_range range machine.kernel.given) none ∙ q.nothing_given);
   })
-  quiet-called payload (Parked kernel) h after e = subst Quiet (some-injective e) (record { code = q.code; threads = q.threads })
-  quiet-called payload Blocked h after e = absurd (let f : None ≡ Some after = e in cc)
-  quiet-called payload (Ends kernel how) h after e = subst Quiet (some-injective e) (record { code = q.code; threads = q.threads })
+  quiet-called payload (Parked kernel) h gives after e = subst Quiet (some-injective e) (record { code = q.code; threads = q.threads; nothing_given = gives ∙ q.nothing_given })
+  quiet-called payload Blocked h gives after e = absurd (let f : None ≡ Some after = e in cc)
+  quiet-called payload (Ends kernel how) h gives after e = subst Quiet (some-injective e) (record { code = q.code; threads = q.threads; nothing_given = gives ∙ q.nothing_given })
 
   -- a plain instruction
   quiet-executed : (instr : Instr) → ((found : ℕ) → At (t == 0) (meaning instr cpu found).cpu) → ((found : ℕ) → (meaning instr cpu found).bytes ≡ []) → Quiet (executed machine t cpu instr)
   quiet-executed instr here none = record {
     code = λ a out. ap (λ (bytes : List ℕ). stored machine.memory (change_of machine.memory cpu instr).place bytes a) (none _) ∙ q.code a out;
     threads = set-threads machine.cpus t (change_of machine.memory cpu instr).cpu q.threads (here _);
+    nothing_given = q.nothing_given;
   }
 
   -- by what the thread does next
   quiet-by : (n : Next) → Does (t == 0) cpu n → (after : Machine) → step_by locking_guest machine t cpu n ≡ Some after → Quiet after
   quiet-by (Executes instr) (goes other here none l st) after e = subst Quiet (some-injective e) (quiet-executed instr here none)
   quiet-by (Stands (Calls call)) (calls other fine) after e =
-      quiet-called (payload_of locking_guest.image.ranges machine.memory call) (serve (setup_of locking_guest) machine.kernel t call) (fine.served machine.kernel t) after e
+      quiet-called (payload_in locking_guest machine call) (serve (setup_of locking_guest) machine.kernel t call) (served-fine machine q.nothing_given t (t == 0) cpu call fine) (serve-gives (setup_of locking_guest) machine.kernel t call) after e
   quiet-by (Stands (Trap code)) h after e = elim h [ ]
   quiet-by (Stands (PageFault page)) h after e = elim h [ ]
   quiet-by (Stands Watchdog) h after e = elim h [ ]
@@ -389,7 +409,7 @@ first-at (suc t) cpu e = absurd (let f : None ≡ Some cpu = e in cc)
 -- the opening
 quiet-opening : Quiet (opening locking_guest)
 unfolding opening
-quiet-opening = record { code = λ a out. refl; threads = first-at }
+quiet-opening = record { code = λ a out. refl; threads = first-at; nothing_given = refl }
 
 -- ---- what the threads access
 
@@ -416,8 +436,8 @@ touches-append (span ∷ xs) ys x e = append-cases span xs ys x (touches-append 
     append-cases span xs ys x rec (inr f) = ⊎_elim (λ g. inl (or-right (within span x) (touches xs x) g)) (λ g. inr g) (rec f)
 
 -- instructions lie below the shared words
-fetch-apart : {b : Bool} (cpu : Cpu) → At b cpu → (x : ℕ) → touches (fetches locking_guest cpu) x ≡ true → shared x ≡ false
-fetch-apart cpu h x w = by (is_none (fetch_stop (layout_of locking_guest) all_backed cpu)) w
+fetch-apart : (layout : Layout) {b : Bool} (cpu : Cpu) → At b cpu → (x : ℕ) → touches (fetches layout cpu) x ≡ true → shared x ≡ false
+fetch-apart layout cpu h x w = by (is_none (fetch_stop layout all_backed cpu)) w
   where
     by : (b : Bool) → touches (cond b (record { place = cpu.pc; count = 4 } ∷ []) []) x ≡ true → shared x ≡ false
     by true e = below-shared cpu.pc 4 x (pc-low h) (touch-one _ e)
@@ -429,24 +449,29 @@ no-touch span x e w = none-within 0 x (ap (λ (s : Span). within s x) (sym e) �
 
 -- what a served call stores
 stored-apart : (t : ℕ) (cpu : Cpu) (served : Served) → Fine (t == 0) cpu t served → (x : ℕ) → touches (stored_span served) x ≡ true → ((t == 0) ≡ true) × (shared x ≡ true)
-stored-apart t cpu (Done kernel effect) (fine_done own here stores made) x w = stores x (touch-one _ w)
+stored-apart t cpu (Done kernel effect) (fine_done own none here stores made) x w =
+    stores x (touch-one _ (sym (ap (λ (range : Option Range). touches (record { place = effect.place; count = length effect.bytes } ∷ given_span range) x) none) ∙ w))
 stored-apart t cpu (Parked kernel) h x w = absurd (false≢true w)
 stored-apart t cpu Blocked h x w = absurd (false≢true w)
 stored-apart t cpu (Ends kernel how) h x w = absurd (false≢true w)
 
 -- by what the thread does next
-apart-by : (machine : Machine) (t : ℕ) (cpu : Cpu) → At (t == 0) cpu → (n : Next) → Does (t == 0) cpu n → Apart t (accesses_by locking_guest machine t cpu n)
-apart-by machine t cpu h (Executes instr) (goes other here none l st) = record {
+apart-by : (machine : Machine) → machine.kernel.given ≡ [] → (t : ℕ) (cpu : Cpu) → At (t == 0) cpu → (n : Next) → Does (t == 0) cpu n → Apart t (accesses_by locking_guest machine t cpu n)
+apart-by machine nothing t cpu h (Executes instr) (goes other here none l st) = record {
   writes = λ x w. absurd (no-touch (stores instr cpu) x st (touch-one _ w));
-  reads = λ f x w. ⊎_elim (λ g. absurd (no-touch (loads instr cpu) x l g)) (fetch-apart cpu h x) (touches-cases (loads instr cpu) (fetches locking_guest cpu) x w);
+  reads = λ f x w. ⊎_elim (λ g. absurd (no-touch (loads instr cpu) x l g)) (fetch-apart (layout_in locking_guest machine.kernel) cpu h x) (touches-cases (loads instr cpu) (fetches (layout_in locking_guest machine.kernel) cpu) x w);
 }
-apart-by machine t cpu h (Stands (Calls call)) (calls other fine) = record {
-  writes = stored-apart t cpu (serve (setup_of locking_guest) machine.kernel t call) (fine.served machine.kernel t);
-  reads = λ f x w. ⊎_elim (fine.payload f x) (fetch-apart cpu h x) (touches-append (payload_span locking_guest.image.ranges call) (fetches locking_guest cpu) x w);
+apart-by machine nothing t cpu h (Stands (Calls call)) (calls other fine) = record {
+  writes = stored-apart t cpu (serve (setup_of locking_guest) machine.kernel t call) (served-fine machine nothing t (t == 0) cpu call fine);
+  reads = λ f x w.
+      ⊎_elim
+      (λ g. fine.payload f x (sym (ap (λ (given : List Range). touches (payload_span (given ++ locking_guest.image.ranges) call) x) nothing) ∙ g))
+      (fetch-apart (layout_in locking_guest machine.kernel) cpu h x)
+      (touches-append (payload_span (ranges_in (setup_of locking_guest) machine.kernel) call) (fetches (layout_in locking_guest machine.kernel) cpu) x w);
 }
-apart-by machine t cpu h (Stands (Trap code)) d = elim d [ ]
-apart-by machine t cpu h (Stands (PageFault page)) d = elim d [ ]
-apart-by machine t cpu h (Stands Watchdog) d = elim d [ ]
+apart-by machine nothing t cpu h (Stands (Trap code)) d = elim d [ ]
+apart-by machine nothing t cpu h (Stands (PageFault page)) d = elim d [ ]
+apart-by machine nothing t cpu h (Stands Watchdog) d = elim d [ ]
 
 -- what a thread accesses
 apart-at : (machine : Machine) → Quiet machine → (t : ℕ) → Apart t (accesses locking_guest machine t)
@@ -457,7 +482,7 @@ apart-at machine q t = by (steppable machine t) refl
     by None e = apart-none t
     by (Some cpu) e =
         let h = q.threads t cpu (steppable-parts machine t cpu e).there in
-        apart-by machine t cpu h (next_of locking_guest machine cpu) (does-in machine q cpu h)
+        apart-by machine q.nothing_given t cpu h (next_of locking_guest machine cpu) (does-in machine q cpu h)
 
 -- ---- no conflict
 

@@ -17,7 +17,7 @@ use Rattle.ro_vote.specs.Verdict.{verdict_of}
 use Rattle.ro_thread.specs.declared.Thread.{Thread}
 use Rattle.ro_replica.specs.Replica.{Replica, opening_replica, applied, cancelled, recovered}
 use Rattle.ro_replica.specs.Runs.{struck, execute, standing_in}
-use Rattle.ro_plain.specs.Machine.{layout_of, Machine, opening, steppable, step, PlainRun, done, then_plain}
+use Rattle.ro_plain.specs.Machine.{Machine, opening, steppable, step, PlainRun, done, then_plain, layout_in}
 use Rattle.ro_plain.proofs.Calls.{some-injective}
 use Rattle.ro_legal.specs.Core.{Job, opening_core}
 use Rattle.ro_legal.specs.Event.{event_of}
@@ -65,7 +65,7 @@ slipped-legal = (record { going = refl; driver_exists = lit< tt; driver_is_idle 
 
 -- ---- replicas of one thread
 
-module _ (job : Job) (journal : List Entry) (machine end : Machine) (r : Replica) (thread : Thread) (ideal_is : ideal job journal ≡ Some machine) (on : machine.ended ≡ None) (runs : PlainRun job.program machine (ahead r) end) (same_memory : r.memory ≡ end.memory) (one : r.threads ≡ thread ∷ []) (same_cpu : slice_get end.cpus 0 ≡ Some thread.cpu) (stands : (stop : Stop) → thread.stop ≡ Some stop → standing_in (layout_of job.program) job.settings.watchdog r thread ≡ Some stop) where
+module _ (job : Job) (journal : List Entry) (machine end : Machine) (r : Replica) (thread : Thread) (ideal_is : ideal job journal ≡ Some machine) (on : machine.ended ≡ None) (runs : PlainRun job.program machine (ahead r) end) (same_memory : r.memory ≡ end.memory) (one : r.threads ≡ thread ∷ []) (same_cpu : slice_get end.cpus 0 ≡ Some thread.cpu) (stands : (stop : Stop) → thread.stop ≡ Some stop → standing_in (layout_in job.program machine.kernel) job.settings.watchdog r thread ≡ Some stop) where
   -- the only thread
   the-thread : (number : ℕ) (other : Thread) → slice_get (thread ∷ []) number ≡ Some other → (number ≡ 0) × (thread ≡ other)
   the-thread zero other e = (refl, some-injective e)
@@ -83,7 +83,7 @@ module _ (job : Job) (journal : List Entry) (machine end : Machine) (r : Replica
     same_cpus = λ number other alive e. let t = the-thread number other (ap (λ (ts : List Thread). slice_get ts number) (sym one) ∙ e) in
         ap (slice_get end.cpus) t.0 ∙ (same_cpu ∙ ap (λ (x : Thread). Some x.cpu) t.1);
     stops_stand = λ number other stop alive e stopped. let t = the-thread number other (ap (λ (ts : List Thread). slice_get ts number) (sym one) ∙ e) in
-        ap (standing_in (layout_of job.program) job.settings.watchdog r) (sym t.1) ∙ stands stop (ap (λ (x : Thread). x.stop) t.1 ∙ stopped);
+        ap (standing_in (layout_in job.program machine.kernel) job.settings.watchdog r) (sym t.1) ∙ stands stop (ap (λ (x : Thread). x.stop) t.1 ∙ stopped);
   }
 
 -- ---- the others at the first strike, and at the second

@@ -7,9 +7,10 @@ use Rattle.ro_journal.specs.declared.How.TheVariants.{Exit, Trap, Deadlock, Limi
 use Rattle.ro_journal.specs.declared.Entry.{Entry}
 use Rattle.ro_journal.specs.declared.Entry.TheVariants.{Vote, Scrub, End}
 use Rattle.ro_journal.specs.Plan.{outcome_of, plan_of}
-use Rattle.ro_kernel.specs.Kernel.{Kernel, lives_on}
+use Rattle.ro_kernel.specs.Kernel.{Kernel, lives_on, ranges_in}
 use Rattle.ro_replica.specs.Replica.{Replica}
-use Rattle.ro_plain.specs.Machine.{Machine}
+use Rattle.ro_replica.specs.Views.{view_of}
+use Rattle.ro_plain.specs.Machine.{Machine, setup_of}
 use Rattle.ro_plain.specs.Order.{RaceFree}
 use Rattle.ro_plain.proofs.Calls.{some-injective}
 use Rattle.ro_legal.proofs.Journals.{replay_from-append}
@@ -71,10 +72,11 @@ module _ (job : Job) (free : RaceFree job.program) (odds : List ℕ) (journal be
       let at' = stopped-in other t stopped' in
       let agree = alike-agrees job journal h.machine one ideal_is alike in
       let agree' = alike-agrees job journal h.machine other ideal_is alike' in
-      equal-views job free (plan_of before) h.machine h.ideal_is h.backed one other t at.thread at'.thread at.stop at'.stop
+      subst (λ (k : Kernel). view_of (ranges_in (setup_of job.program) k) t one ≡ view_of (ranges_in (setup_of job.program) k) t other) (sym (s.same_kernel ∙ h.same_kernel))
+      (equal-views job free (plan_of before) h.machine h.ideal_is h.backed one other t at.thread at'.thread at.stop at'.stop
       (arrives job free (plan_of before) h.machine h.ideal_is going h.backed one a.same_backed agree.runs_ahead t at.thread at.stop live_machine at.there at.stopped (agree.stops t))
       (arrives job free (plan_of before) h.machine h.ideal_is going h.backed other b.same_backed agree'.runs_ahead t at'.thread at'.stop live_machine at'.there at'.stopped (agree'.stops t))
-      (a.within_watch t at.thread at.there) (b.within_watch t at'.thread at'.there) at.there at.stopped at'.there at'.stopped
+      (a.within_watch t at.thread at.there) (b.within_watch t at'.thread at'.there) at.there at.stopped at'.there at'.stopped)
 
 -- ---- faults stay apart
 

@@ -18,17 +18,18 @@ use Rattle.ro_journal.specs.declared.How.TheVariants.{Trap as TrapHow}
 use Rattle.ro_journal.specs.Plan.{event_steps}
 use Rattle.ro_condition.proofs.Whose.{is_waiting}
 use Rattle.ro_kernel.specs.declared.Life.{Life}
-use Rattle.ro_kernel.specs.Kernel.{Setup, Kernel, live_option, lives_on}
+use Rattle.ro_kernel.specs.Kernel.{Setup, Kernel, live_option, lives_on, ranges_in}
 use Rattle.ro_kernel.specs.Serve.{Served, Done, Parked, Blocked, Ends, serve, payload_of, is_write}
 use Rattle.ro_kernel.proofs.Kept.{Own, done, parked, blocked, ends, serve-own, IsServed, system-served}
 use Rattle.ro_kernel.proofs.Waiting.{served-others, begun-others, begun-now, blocked-waits, parked-waits}
+use Rattle.ro_kernel.proofs.Given.{given-parked}
 use Rattle.ro_exec.specs.declared.Cpu.{Cpu}
-use Rattle.ro_exec.specs.Next.{Backed, all_backed, Stands}
+use Rattle.ro_exec.specs.Next.{Backed, all_backed, Stands, Layout, next}
 use Rattle.ro_exec.proofs.Backing.{IsNoFault, a_call, a_trap}
 use Rattle.ro_thread.specs.declared.Thread.{Thread}
 use Rattle.ro_thread.specs.Stops.{standing}
 use Rattle.ro_replica.specs.Replica.{Replica, applied, cancelled}
-use Rattle.ro_plain.specs.Machine.{layout_of, setup_of, Machine, opening, with_made, affected, called, step_by, next_of, steppable, step, run, BackedRun}
+use Rattle.ro_plain.specs.Machine.{setup_of, Machine, opening, with_made, affected, called, step_by, next_of, steppable, step, run, BackedRun, layout_in, payload_in}
 use Rattle.ro_plain.specs.Order.{RaceFree}
 use Rattle.ro_plain.proofs.Stays.{no-payload}
 use Rattle.ro_plain.proofs.Calls.{some-injective, step-at, steppable-parts, steppable-from}
@@ -38,6 +39,7 @@ use Rattle.ro_legal.specs.Event.{Event, quiet_effect, call_event, event_of}
 use Rattle.ro_legal.specs.Sound.{IsOver, traps}
 use Rattle.ro_simulation.specs.Invariant.{StopStands, Agrees, StandsAtCall}
 use Rattle.ro_plain.proofs.StaysAfter.{Stays, stays}
+use Rattle.ro_plain.proofs.Wider.{layout-same}
 use Rattle.ro_simulation.proofs.Ahead.{KeepsRest, BackedRun-keeps, reach-run, stays-along}
 use Rattle.ro_simulation.proofs.Around.{Without-replicate}
 use Rattle.ro_legal.proofs.Served.{made_count, Tidy, tidy_done, tidy_parked, tidy_blocked, tidy_end, serve-tidy}
@@ -68,7 +70,7 @@ pub record EventStep (job : Job) (backed : Backed) (machine middle : Machine) (t
   pub own_blocked : (call : Call) → event.blocked ≡ Some call → StandsAtCall job.program after t call
   pub others_stand : (u : ℕ) (call : Call) → u ≢ t → StandsAtCall job.program machine u call → after.ended ≡ None → StandsAtCall job.program after u call
   pub agrees : after.ended ≡ None → (replica : Replica) (thread : Thread) → replica.backed ≡ backed → slice_get replica.threads t ≡ Some thread → length replica.threads ≡ length machine.kernel.lives → Comes job backed machine middle replica t thread → ((number : ℕ) → StopStands job machine replica number)
-      → ((stop : Stop) → event.effect.releases ≡ false → thread.stop ≡ Some stop → standing (layout_of job.program) job.settings.watchdog replica.backed replica.memory thread.cpu 0 ≡ Some stop)
+      → ((stop : Stop) → event.effect.releases ≡ false → thread.stop ≡ Some stop → standing (layout_in job.program machine.kernel) job.settings.watchdog replica.backed replica.memory thread.cpu 0 ≡ Some stop)
       → Agrees job after (cancelled (applied event.effect replica))
 
 -- its machine is there
@@ -140,17 +142,17 @@ module _ (job : Job) (free : RaceFree job.program) (before : List ℕ) (backed :
 
   -- ---- a call
 
-  module _ (call : Call) (stands : next_of job.program middle cpu ≡ Stands (Calls call)) (payload : List ℕ) (payload_is : payload ≡ payload_of job.program.image.ranges middle.memory call) where
+  module _ (call : Call) (stands : next_of job.program middle cpu ≡ Stands (Calls call)) (payload : List ℕ) (payload_is : payload ≡ payload_in job.program middle call) where
     -- a call's step
-    step-called : (served : Served) (after : Machine) → serve (setup_of job.program) middle.kernel t call ≡ served → called middle cpu (payload_of job.program.image.ranges middle.memory call) served ≡ Some after → step job.program middle t ≡ Some after
+    step-called : (served : Served) (after : Machine) → serve (setup_of job.program) middle.kernel t call ≡ served → called middle cpu (payload_in job.program middle call) served ≡ Some after → step job.program middle t ≡ Some after
     step-called served after e f = step-at job.program middle t cpu live_middle
         ∙ (ap (step_by job.program middle t cpu) stands
-        ∙ (ap (called middle cpu (payload_of job.program.image.ranges middle.memory call)) e ∙ f))
+        ∙ (ap (called middle cpu (payload_in job.program middle call)) e ∙ f))
 
     -- the event of a call, by what comes of it
     call-step : (served : Served) → serve (setup_of job.program) middle.kernel t call ≡ served → Own middle.kernel t served → Tidy middle.kernel t served → HasEvent job backed machine middle t (call_event middle.kernel t call payload served)
     call-step (Done kernel effect) e (done own_effect) (tidy_done tidy) = (
-      affected middle cpu kernel effect (payload_of job.program.image.ranges middle.memory call),
+      affected middle cpu kernel effect (payload_in job.program middle call),
       record {
         run_event = ap (option_and_then (λ m. run job.program m [])) (step-called (Done kernel effect) _ e refl);
         same_kernel = refl;
@@ -163,7 +165,7 @@ module _ (job : Job) (free : RaceFree job.program) (before : List ℕ) (backed :
         others_stand = λ u other d h on. stands-after _ (step-called (Done kernel effect) _ e refl) going_middle (served-others (setup_of job.program) middle.kernel t call kernel effect e) u other d h;
         agrees = λ on replica thread same there all_made comes stops own_stop.
             let same_cpu : thread.cpu ≡ cpu = some-injective (sym comes.live ∙ live_middle) in
-            subst (λ (c : Cpu). Agrees job (affected middle c kernel effect (payload_of job.program.image.ranges middle.memory call)) (cancelled (applied effect replica))) same_cpu
+            subst (λ (c : Cpu). Agrees job (affected middle c kernel effect (payload_in job.program middle call)) (cancelled (applied effect replica))) same_cpu
             (agrees-served job free before backed machine middle reached going replica same t live thread there comes stops call kernel effect (ap (next_of job.program middle) same_cpu ∙ stands) e own_effect tidy all_made as_many);
       },
     )
@@ -184,8 +186,8 @@ module _ (job : Job) (free : RaceFree job.program) (before : List ℕ) (backed :
             live = ap (λ (l : List Life). live_option (slice_get l t)) same ∙ parts.live;
             there = parts.there;
           });
-          stands = stands;
-          writes_nothing = λ m. no-payload job.program.image.ranges m call (ap is_write (parked-waits (setup_of job.program) middle.kernel t call kernel e));
+          stands = ap (λ (l : Layout). next l all_backed middle.memory cpu) (layout-same job.program kernel middle.kernel (given-parked (setup_of job.program) middle.kernel t call kernel e)) ∙ stands;
+          writes_nothing = λ ranges m. no-payload ranges m call (ap is_write (parked-waits (setup_of job.program) middle.kernel t call kernel e));
           begun = λ w. begun-now (setup_of job.program) middle.kernel t call kernel e;
         });
         others_stand = λ u other d h on. stands-after _ (step-called (Parked kernel) _ e refl) going_middle (begun-others (setup_of job.program) middle.kernel t call kernel e) u other d h;
@@ -201,7 +203,7 @@ module _ (job : Job) (free : RaceFree job.program) (before : List ℕ) (backed :
       middle,
       quiet-step WasBlocked None false _ refl refl (λ other (f : Some call ≡ Some other).
           subst (λ (c : Call). StandsAtCall job.program middle t c) (some-injective f)
-          (record { cpu = cpu; live = live_middle; stands = stands; writes_nothing = λ m. no-payload job.program.image.ranges m call (blocked-no-write (setup_of job.program) middle.kernel t call e); begun = λ w. blocked-waits (setup_of job.program) middle.kernel t call e w })),
+          (record { cpu = cpu; live = live_middle; stands = stands; writes_nothing = λ ranges m. no-payload ranges m call (blocked-no-write (setup_of job.program) middle.kernel t call e); begun = λ w. blocked-waits (setup_of job.program) middle.kernel t call e w })),
     )
     call-step (Ends kernel how) e ends (tidy_end same over) = (
       record middle { kernel = kernel; ended = Some how },
@@ -248,7 +250,7 @@ module _ (job : Job) (free : RaceFree job.program) (before : List ℕ) (backed :
       zero-more n = omega arith
 
   -- the event of a stop that stands at the thread after its own steps
-  pub step-of-stop : (stop : Stop) → (IsNoFault stop → next_of job.program middle cpu ≡ Stands stop) → HasEvent job backed machine middle t (event_of (setup_of job.program) middle.kernel t stop (payload_at job.program.image.ranges middle.memory stop))
+  pub step-of-stop : (stop : Stop) → (IsNoFault stop → next_of job.program middle cpu ≡ Stands stop) → HasEvent job backed machine middle t (event_of (setup_of job.program) middle.kernel t stop (payload_at (ranges_in (setup_of job.program) middle.kernel) middle.memory stop))
   unfolding event_of
   step-of-stop (Calls call) h = step-of-call call (h a_call) _ refl
   step-of-stop (Trap code) h = trap-step code (h a_trap)

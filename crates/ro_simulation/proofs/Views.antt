@@ -9,7 +9,7 @@ use Rattle.ro_event.specs.declared.stops.Stop.TheVariants.{Calls, Trap, PageFaul
 use Rattle.ro_event.specs.Views.{View}
 use Rattle.ro_region.specs.declared.Range.{Range}
 use Rattle.ro_pages.specs.Bytes.{Memory}
-use Rattle.ro_kernel.specs.Kernel.{Kernel, lives_on}
+use Rattle.ro_kernel.specs.Kernel.{Kernel, lives_on, ranges_in}
 use Rattle.ro_kernel.specs.Serve.{payload_of}
 use Rattle.ro_exec.specs.declared.Cpu.{Cpu}
 use Rattle.ro_exec.specs.Next.{Backed, Next, Stands, Executes, next, stop_in}
@@ -17,7 +17,7 @@ use Rattle.ro_exec.proofs.Backing.{IsNoFault, a_call, a_trap, stands-backed}
 use Rattle.ro_thread.specs.declared.Thread.{Thread}
 use Rattle.ro_thread.specs.Stops.{standing}
 use Rattle.ro_replica.specs.Replica.{Replica}
-use Rattle.ro_plain.specs.Machine.{Program, layout_of, Machine, opening, next_of, steppable, run, BackedRun, nothing_left}
+use Rattle.ro_plain.specs.Machine.{Program, Machine, opening, next_of, steppable, run, BackedRun, nothing_left, setup_of, layout_in}
 use Rattle.ro_plain.specs.Order.{RaceFree}
 use Rattle.ro_plain.proofs.Backed.{backed-is-plain}
 use Rattle.ro_plain.proofs.Calls.{some-injective, steppable-from}
@@ -91,7 +91,7 @@ pub record Comes (job : Job) (backed : Backed) (machine middle : Machine) (repli
 pub record Arrives (job : Job) (backed : Backed) (machine : Machine) (replica : Replica) (t : ℕ) (thread : Thread) (stop : Stop) : Type 0 where
   pub middle : Machine
   pub comes : Comes job backed machine middle replica t thread
-  pub stands : standing (layout_of job.program) job.settings.watchdog backed middle.memory thread.cpu thread.since ≡ Some stop
+  pub stands : standing (layout_in job.program middle.kernel) job.settings.watchdog backed middle.memory thread.cpu thread.since ≡ Some stop
 
 -- what was run ahead, round a thread's steps
 pub ahead-is : (replica : Replica) (t : ℕ) (thread : Thread) (there : slice_get replica.threads t ≡ Some thread) (among : Around 0 replica.threads t t) → ahead replica ≡ among.front ++ (replicate thread.since t ++ among.back)
@@ -156,8 +156,9 @@ module _ (job : Job) (free : RaceFree job.program) (before : List ℕ) (machine 
       record {
         middle = by.0;
         comes = by.1;
-        stands = ap (standing_by (thread.since == job.settings.watchdog)) (along.next_stays backed)
-            ∙ (sym (ap₂ (λ (b : Backed) (m : Memory). standing (layout_of job.program) job.settings.watchdog b m thread.cpu thread.since) same by.1.same_memory)
+        stands = ap (standing_by (thread.since == job.settings.watchdog))
+            (along.next_stays backed ∙ ap (λ (k : Kernel). next (layout_in job.program k) backed by.1.end.memory thread.cpu) ((BackedRun-keeps job.program backed by.1.back).same_kernel ∙ (BackedRun-keeps job.program backed by.1.own).same_kernel))
+            ∙ (sym (ap₂ (λ (b : Backed) (m : Memory). standing (layout_in job.program machine.kernel) job.settings.watchdog b m thread.cpu thread.since) same by.1.same_memory)
             ∙ s.stands thread stop live there stopped);
       }
 
@@ -174,19 +175,19 @@ pub record SameCount (m n : ℕ) (middle middle' : Machine) : Type 0 where
 
 module _ (job : Job) (backed : Backed) (t : ℕ) where
   -- a thread that stands goes no further
-  cannot-go-on : (k n : ℕ) (machine middle : Machine) (cpu : Cpu) (stop : Stop) (after end : Machine) → machine ≡ middle → (steppable middle t ≡ Some cpu) × (standing (layout_of job.program) job.settings.watchdog backed middle.memory cpu (k + 0) ≡ Some stop) → k + suc n ≤ job.settings.watchdog → BackedHead job.program backed machine t (replicate n t) end → ⊥
+  cannot-go-on : (k n : ℕ) (machine middle : Machine) (cpu : Cpu) (stop : Stop) (after end : Machine) → machine ≡ middle → (steppable middle t ≡ Some cpu) × (standing (layout_in job.program middle.kernel) job.settings.watchdog backed middle.memory cpu (k + 0) ≡ Some stop) → k + suc n ≤ job.settings.watchdog → BackedHead job.program backed machine t (replicate n t) end → ⊥
   cannot-go-on k n machine middle cpu stop after end here h below head =
       let step_here : steppable middle t ≡ Some head.backed_step.cpu = ap (λ (m : Machine). steppable m t) (sym here) ∙ head.backed_step.live in
       let same : cpu ≡ head.backed_step.cpu = some-injective (sym h.0 ∙ step_here) in
-      executes-not-stands (k + 0 == job.settings.watchdog) (next (layout_of job.program) backed middle.memory cpu) head.backed_step.instr stop
+      executes-not-stands (k + 0 == job.settings.watchdog) (next (layout_in job.program middle.kernel) backed middle.memory cpu) head.backed_step.instr stop
       (not-equal (k + 0) job.settings.watchdog (omega arith))
-      (ap₂ (λ (m : Machine) (c : Cpu). next (layout_of job.program) backed m.memory c) (sym here) same ∙ head.backed_step.executes)
+      (ap₂ (λ (m : Machine) (c : Cpu). next (layout_in job.program m.kernel) backed m.memory c) (sym here) same ∙ head.backed_step.executes)
       h.1
 
   -- two runs to a stop are equally long
   same-counts : (k m n : ℕ) (machine middle middle' : Machine) (cpu cpu' : Cpu) (stop stop' : Stop) → BackedRun job.program backed machine (replicate m t) middle → BackedRun job.program backed machine (replicate n t) middle'
-      → (steppable middle t ≡ Some cpu) × (standing (layout_of job.program) job.settings.watchdog backed middle.memory cpu (k + m) ≡ Some stop)
-      → (steppable middle' t ≡ Some cpu') × (standing (layout_of job.program) job.settings.watchdog backed middle'.memory cpu' (k + n) ≡ Some stop')
+      → (steppable middle t ≡ Some cpu) × (standing (layout_in job.program middle.kernel) job.settings.watchdog backed middle.memory cpu (k + m) ≡ Some stop)
+      → (steppable middle' t ≡ Some cpu') × (standing (layout_in job.program middle'.kernel) job.settings.watchdog backed middle'.memory cpu' (k + n) ≡ Some stop')
       → k + m ≤ job.settings.watchdog → k + n ≤ job.settings.watchdog → SameCount m n middle middle'
   same-counts k zero zero machine middle middle' cpu cpu' stop stop' r r' h h' low low' =
       record { same_count = refl; same_middle = sym (none-left job.program backed r) ∙ none-left job.program backed r' }
@@ -201,8 +202,8 @@ module _ (job : Job) (backed : Backed) (t : ℕ) where
       let one : k + suc m ≡ suc k + m = omega arith in
       let other : k + suc n ≡ suc k + n = omega arith in
       let rest = same-counts (suc k) m n head.after middle middle' cpu cpu' stop stop' head.runs (subst (λ (x : Machine). BackedRun job.program backed x (replicate n t) middle') same head'.runs)
-      (h.0, ap (λ (c : ℕ). standing (layout_of job.program) job.settings.watchdog backed middle.memory cpu c) (sym one) ∙ h.1)
-      (h'.0, ap (λ (c : ℕ). standing (layout_of job.program) job.settings.watchdog backed middle'.memory cpu' c) (sym other) ∙ h'.1)
+      (h.0, ap (λ (c : ℕ). standing (layout_in job.program middle.kernel) job.settings.watchdog backed middle.memory cpu c) (sym one) ∙ h.1)
+      (h'.0, ap (λ (c : ℕ). standing (layout_in job.program middle'.kernel) job.settings.watchdog backed middle'.memory cpu' c) (sym other) ∙ h'.1)
       (omega arith) (omega arith) in
       record { same_count = ap suc rest.same_count; same_middle = rest.same_middle }
 
@@ -221,52 +222,53 @@ zero-plus n = omega arith
 pub same-arrival : (job : Job) (backed : Backed) (machine : Machine) (one other : Replica) (t : ℕ) (thread thread' : Thread) (stop stop' : Stop) (a : Arrives job backed machine one t thread stop) (b : Arrives job backed machine other t thread' stop') → thread.since ≤ job.settings.watchdog → thread'.since ≤ job.settings.watchdog → SameArrival job backed machine one other t thread thread' stop stop' a b
 same-arrival job backed machine one other t thread thread' stop stop' a b low low' =
     let s = same-counts job backed t 0 thread.since thread'.since machine a.middle b.middle thread.cpu thread'.cpu stop stop' a.comes.own b.comes.own
-    (a.comes.live, ap (λ (c : ℕ). standing (layout_of job.program) job.settings.watchdog backed a.middle.memory thread.cpu c) (sym (zero-plus thread.since)) ∙ a.stands)
-    (b.comes.live, ap (λ (c : ℕ). standing (layout_of job.program) job.settings.watchdog backed b.middle.memory thread'.cpu c) (sym (zero-plus thread'.since)) ∙ b.stands)
+    (a.comes.live, ap (λ (c : ℕ). standing (layout_in job.program a.middle.kernel) job.settings.watchdog backed a.middle.memory thread.cpu c) (sym (zero-plus thread.since)) ∙ a.stands)
+    (b.comes.live, ap (λ (c : ℕ). standing (layout_in job.program b.middle.kernel) job.settings.watchdog backed b.middle.memory thread'.cpu c) (sym (zero-plus thread'.since)) ∙ b.stands)
     (omega arith) (omega arith) in
     let same_cpus : thread.cpu ≡ thread'.cpu = some-injective (sym a.comes.live ∙ (ap (λ (m : Machine). steppable m t) s.same_middle ∙ b.comes.live)) in
     record {
       same_since = s.same_count;
       same_middle = s.same_middle;
       same_cpu = same_cpus;
-      same_stop = some-injective (sym a.stands ∙ ((λ i. standing (layout_of job.program) job.settings.watchdog backed (s.same_middle i).memory (same_cpus i) (s.same_count i)) ∙ b.stands));
+      same_stop = some-injective (sym a.stands ∙ ((λ i. standing (layout_in job.program (s.same_middle i).kernel) job.settings.watchdog backed (s.same_middle i).memory (same_cpus i) (s.same_count i)) ∙ b.stands));
     }
 
 -- ---- the view
 
 -- the view that the machine itself gives
-abbrev pub machine_view : List Range → Machine → Cpu → (count : ℕ) → Stop → View
-machine_view ranges machine cpu count stop =
-    record { registers = cpu.registers; pc = cpu.pc; since = count; stop = stop; payload = payload_at ranges machine.memory stop }
+abbrev pub machine_view : Program → Machine → Cpu → (count : ℕ) → Stop → View
+machine_view program machine cpu count stop =
+    record { registers = cpu.registers; pc = cpu.pc; since = count; stop = stop; payload = payload_at (ranges_in (setup_of program) machine.kernel) machine.memory stop }
 
 module _ (job : Job) (free : RaceFree job.program) (before : List ℕ) (machine : Machine) (reached : run job.program (opening job.program) before ≡ Some machine) (backed : Backed) (replica : Replica) (t : ℕ) (thread : Thread) where
   -- a call or a trap is what the machine's thread does next after its own steps
   pub next-at-middle : (stop : Stop) → IsNoFault stop → (a : Arrives job backed machine replica t thread stop) → next_of job.program a.middle thread.cpu ≡ Stands stop
   next-at-middle stop kind a =
-      stands-backed (layout_of job.program) backed a.middle.memory thread.cpu stop kind
+      stands-backed (layout_in job.program a.middle.kernel) backed a.middle.memory thread.cpu stop kind
       (stands-next _ _ stop a.stands (no-watchdog stop kind)).next_is
 
   -- the bytes that are about to be written
-  pub same-payload : (stop : Stop) (a : Arrives job backed machine replica t thread stop) → payload_at job.program.image.ranges replica.memory stop ≡ payload_at job.program.image.ranges a.middle.memory stop
+  pub same-payload : (stop : Stop) (a : Arrives job backed machine replica t thread stop) → payload_at (ranges_in (setup_of job.program) machine.kernel) replica.memory stop ≡ payload_at (ranges_in (setup_of job.program) a.middle.kernel) a.middle.memory stop
   same-payload (Calls call) a =
-      ap (λ (m : Memory). payload_of job.program.image.ranges m call) a.comes.same_memory
+      ap₂ (λ (k : Kernel) (m : Memory). payload_of (ranges_in (setup_of job.program) k) m call)
+      (sym ((BackedRun-keeps job.program backed a.comes.back).same_kernel ∙ (BackedRun-keeps job.program backed a.comes.own).same_kernel)) a.comes.same_memory
       ∙ sym (payload-stays job.program free (before ++ replicate thread.since t) t thread.cpu call (a.comes.reached_middle before reached) (backed-is-plain a.comes.back) a.comes.apart a.comes.live (next-at-middle (Calls call) a_call a))
   same-payload (Trap code) a = refl
   same-payload (PageFault page) a = refl
   same-payload Watchdog a = refl
 
   -- the replica's view is the machine's
-  pub view-is : (stop : Stop) (a : Arrives job backed machine replica t thread stop) → slice_get replica.threads t ≡ Some thread → thread.stop ≡ Some stop → view_of job.program.image.ranges t replica ≡ Some (machine_view job.program.image.ranges a.middle thread.cpu thread.since stop)
+  pub view-is : (stop : Stop) (a : Arrives job backed machine replica t thread stop) → slice_get replica.threads t ≡ Some thread → thread.stop ≡ Some stop → view_of (ranges_in (setup_of job.program) machine.kernel) t replica ≡ Some (machine_view job.program a.middle thread.cpu thread.since stop)
   view-is stop a there stopped =
-      ap (option_and_then (λ (u : Thread). option_map (view_with job.program.image.ranges replica u) u.stop)) there
-      ∙ (ap (option_map (view_with job.program.image.ranges replica thread)) stopped
+      ap (option_and_then (λ (u : Thread). option_map (view_with (ranges_in (setup_of job.program) machine.kernel) replica u) u.stop)) there
+      ∙ (ap (option_map (view_with (ranges_in (setup_of job.program) machine.kernel) replica thread)) stopped
       ∙ ap (λ (p : List ℕ). Some (record { registers = thread.cpu.registers; pc = thread.cpu.pc; since = thread.since; stop = stop; payload = p })) (same-payload stop a))
 
 -- replicas that agree have equal views
 pub equal-views : (job : Job) (free : RaceFree job.program) (before : List ℕ) (machine : Machine) (reached : run job.program (opening job.program) before ≡ Some machine) (backed : Backed) (one other : Replica) (t : ℕ) (thread thread' : Thread) (stop stop' : Stop) (a : Arrives job backed machine one t thread stop) (b : Arrives job backed machine other t thread' stop') → thread.since ≤ job.settings.watchdog → thread'.since ≤ job.settings.watchdog
-    → slice_get one.threads t ≡ Some thread → thread.stop ≡ Some stop → slice_get other.threads t ≡ Some thread' → thread'.stop ≡ Some stop' → view_of job.program.image.ranges t one ≡ view_of job.program.image.ranges t other
+    → slice_get one.threads t ≡ Some thread → thread.stop ≡ Some stop → slice_get other.threads t ≡ Some thread' → thread'.stop ≡ Some stop' → view_of (ranges_in (setup_of job.program) machine.kernel) t one ≡ view_of (ranges_in (setup_of job.program) machine.kernel) t other
 equal-views job free before machine reached backed one other t thread thread' stop stop' a b low low' there stopped there' stopped' =
     let s = same-arrival job backed machine one other t thread thread' stop stop' a b low low' in
     view-is job free before machine reached backed one t thread stop a there stopped
-    ∙ ((λ i. Some (machine_view job.program.image.ranges (s.same_middle i) (s.same_cpu i) (s.same_since i) (s.same_stop i)))
+    ∙ ((λ i. Some (machine_view job.program (s.same_middle i) (s.same_cpu i) (s.same_since i) (s.same_stop i)))
     ∙ sym (view-is job free before machine reached backed other t thread' stop' b there' stopped'))

@@ -13,12 +13,12 @@ use Rattle.ro_journal.specs.declared.Did.{Did}
 use Rattle.ro_journal.specs.declared.Entry.{Entry}
 use Rattle.ro_journal.specs.declared.Entry.TheVariants.{Vote}
 use Rattle.ro_journal.specs.Plan.{event_steps, plan_of}
-use Rattle.ro_kernel.specs.Kernel.{Setup, Kernel, lives_on}
+use Rattle.ro_kernel.specs.Kernel.{Setup, Kernel, lives_on, ranges_in}
 use Rattle.ro_exec.specs.Next.{next, stop_in}
 use Rattle.ro_thread.specs.declared.Thread.{Thread}
 use Rattle.ro_thread.specs.Stops.{standing}
 use Rattle.ro_replica.specs.Replica.{Replica, recovered, stop_of}
-use Rattle.ro_plain.specs.Machine.{Program, layout_of, setup_of, Machine, opening, run, IsExecution}
+use Rattle.ro_plain.specs.Machine.{Program, setup_of, Machine, opening, run, IsExecution, layout_in}
 use Rattle.ro_vote.specs.Verdict.{Won, verdict_of}
 use Rattle.ro_plain.specs.Order.{RaceFree}
 use Rattle.ro_plain.proofs.Swap.{run-append}
@@ -143,13 +143,13 @@ module _ (job : Job) (free : RaceFree job.program) (odds : List ℕ) (journal : 
 
   -- one view for each replica
   views-as-long : length (views_of job core t) ≡ length core.replicas
-  views-as-long = length-filter-map (view_of job.program.image.ranges t) core.replicas
-      (all-from _ core.replicas (λ i r e. has-view job.program.image.ranges r t (get-all (λ x. is_some (stop_of x t)) core.replicas parts.stopped i r e)))
+  views-as-long = length-filter-map (view_of (ranges_in (setup_of job.program) core.kernel) t) core.replicas
+      (all-from _ core.replicas (λ i r e. has-view (ranges_in (setup_of job.program) core.kernel) r t (get-all (λ x. is_some (stop_of x t)) core.replicas parts.stopped i r e)))
 
   -- the view of each replica
-  view-at : (i : ℕ) (r : Replica) → slice_get core.replicas i ≡ Some r → slice_get (views_of job core t) i ≡ view_of job.program.image.ranges t r
-  view-at i r e = get-filter-map (view_of job.program.image.ranges t) core.replicas
-      (all-from _ core.replicas (λ i r e. has-view job.program.image.ranges r t (get-all (λ x. is_some (stop_of x t)) core.replicas parts.stopped i r e))) i r e
+  view-at : (i : ℕ) (r : Replica) → slice_get core.replicas i ≡ Some r → slice_get (views_of job core t) i ≡ view_of (ranges_in (setup_of job.program) core.kernel) t r
+  view-at i r e = get-filter-map (view_of (ranges_in (setup_of job.program) core.kernel) t) core.replicas
+      (all-from _ core.replicas (λ i r e. has-view (ranges_in (setup_of job.program) core.kernel) r t (get-all (λ x. is_some (stop_of x t)) core.replicas parts.stopped i r e))) i r e
 
   -- as many views as replicas
   pub as-many-views : length (views_of job core t) ≡ length core.replicas
@@ -162,18 +162,19 @@ module _ (job : Job) (free : RaceFree job.program) (odds : List ℕ) (journal : 
   module _ (good : GoodStop) where
     -- the view that it gives
     abbrev pub good_view : View
-    good_view = machine_view job.program.image.ranges good.arrival.middle good.thread.cpu good.thread.since good.stop
+    good_view = machine_view job.program good.arrival.middle good.thread.cpu good.thread.since good.stop
 
     -- a replica that agrees has that view
     pub same-as-good : (r : Replica) (agree : Agrees job h.machine r) (same : r.backed ≡ h.backed) (s : StoppedIn r t) → s.thread.since ≤ job.settings.watchdog → SameArrival job h.backed h.machine r good.replica t s.thread good.thread s.stop good.stop (arrives-at r agree same s) good.arrival
     same-as-good r agree same s low = same-arrival job h.backed h.machine r good.replica t s.thread good.thread s.stop good.stop (arrives-at r agree same s) good.arrival low good.within
 
     -- each replica that agrees has it
-    good-view-of : (r : Replica) → Agrees job h.machine r → r.backed ≡ h.backed → (s : StoppedIn r t) → s.thread.since ≤ job.settings.watchdog → view_of job.program.image.ranges t r ≡ Some good_view
+    good-view-of : (r : Replica) → Agrees job h.machine r → r.backed ≡ h.backed → (s : StoppedIn r t) → s.thread.since ≤ job.settings.watchdog → view_of (ranges_in (setup_of job.program) core.kernel) t r ≡ Some good_view
     good-view-of r agree same s low =
         let k = same-as-good r agree same s low in
-        view-is job free (plan_of journal) h.machine h.ideal_is h.backed r t s.thread s.stop (arrives-at r agree same s) s.there s.stopped
-        ∙ (λ i. Some (machine_view job.program.image.ranges (k.same_middle i) (k.same_cpu i) (k.same_since i) (k.same_stop i)))
+        ap (λ (k : Kernel). view_of (ranges_in (setup_of job.program) k) t r) h.same_kernel
+        ∙ (view-is job free (plan_of journal) h.machine h.ideal_is h.backed r t s.thread s.stop (arrives-at r agree same s) s.there s.stopped
+        ∙ (λ i. Some (machine_view job.program (k.same_middle i) (k.same_cpu i) (k.same_since i) (k.same_stop i))))
 
     -- each replica but the odd ones has it
     pub all-but-odd : AllBut odds good_view (views_of job core t)
@@ -193,7 +194,7 @@ module _ (job : Job) (free : RaceFree job.program) (odds : List ℕ) (journal : 
       pub shown : StoppedIn winner t
       pub same_since : shown.thread.since ≡ good.thread.since
       pub same_stop : shown.stop ≡ good.stop
-      pub same_payload : payload_at job.program.image.ranges winner.memory shown.stop ≡ payload_at job.program.image.ranges good.arrival.middle.memory good.stop
+      pub same_payload : payload_at (ranges_in (setup_of job.program) core.kernel) winner.memory shown.stop ≡ payload_at (ranges_in (setup_of job.program) good.arrival.middle.kernel) good.arrival.middle.memory good.stop
 
     -- the winner has it
     pub winner-shows : (won : ℕ) → slice_get (views_of job core t) won ≡ Some good_view → WinnerShows won
@@ -201,8 +202,8 @@ module _ (job : Job) (free : RaceFree job.program) (odds : List ℕ) (journal : 
         let short = slice_get_within (views_of job core t) won _ e in
         let at = get-within core.replicas won (let n = views-as-long in omega arith) in
         let s = stops-at won at.0 at.1 in
-        let same : view_with job.program.image.ranges at.0 s.thread s.stop ≡ good_view =
-        some-injective (sym (view-of-stopped job.program.image.ranges at.0 t s) ∙ (sym (view-at won at.0 at.1) ∙ e)) in
+        let same : view_with (ranges_in (setup_of job.program) core.kernel) at.0 s.thread s.stop ≡ good_view =
+        some-injective (sym (view-of-stopped (ranges_in (setup_of job.program) core.kernel) at.0 t s) ∙ (sym (view-at won at.0 at.1) ∙ e)) in
         record {
           winner = at.0;
           winner_there = at.1;
@@ -218,7 +219,7 @@ module _ (job : Job) (free : RaceFree job.program) (odds : List ℕ) (journal : 
 
     -- the event of the winner's stop is that of the machine's
     abbrev pub good_event : Event
-    good_event = event_of (setup_of job.program) good.arrival.middle.kernel t good.stop (payload_at job.program.image.ranges good.arrival.middle.memory good.stop)
+    good_event = event_of (setup_of job.program) good.arrival.middle.kernel t good.stop (payload_at (ranges_in (setup_of job.program) good.arrival.middle.kernel) good.arrival.middle.memory good.stop)
 
     -- the core's event is the machine's
     event-is : (won : ℕ) (w : WinnerShows won) → event_in job core t won ≡ Some good_event
@@ -240,24 +241,24 @@ module _ (job : Job) (free : RaceFree job.program) (odds : List ℕ) (journal : 
         (λ kind. next-at-middle job free (plan_of journal) h.machine h.ideal_is h.backed good.replica t good.thread good.stop kind good.arrival)
 
     -- a stop that is kept stands also at the count 0
-    stands-at-zero : (r : Replica) (agree : Agrees job h.machine r) (s : StoppedIn r t) → s.thread.since ≤ job.settings.watchdog → s.stop ≡ good.stop → (stop : Stop) → good_event.effect.releases ≡ false → s.thread.stop ≡ Some stop → standing (layout_of job.program) job.settings.watchdog r.backed r.memory s.thread.cpu 0 ≡ Some stop
+    stands-at-zero : (r : Replica) (agree : Agrees job h.machine r) (s : StoppedIn r t) → s.thread.since ≤ job.settings.watchdog → s.stop ≡ good.stop → (stop : Stop) → good_event.effect.releases ≡ false → s.thread.stop ≡ Some stop → standing (layout_in job.program h.machine.kernel) job.settings.watchdog r.backed r.memory s.thread.cpu 0 ≡ Some stop
     stands-at-zero r agree s low same stop kept_stop e = by stop (some-injective (sym s.stopped ∙ e))
       where
-        stands : standing (layout_of job.program) job.settings.watchdog r.backed r.memory s.thread.cpu s.thread.since ≡ Some s.stop
+        stands : standing (layout_in job.program h.machine.kernel) job.settings.watchdog r.backed r.memory s.thread.cpu s.thread.since ≡ Some s.stop
         stands = (agree.stops t).stands s.thread s.stop live-in-machine s.there s.stopped
 
-        unwatched : (stop : Stop) → s.stop ≡ stop → stop ≢ Watchdog → standing (layout_of job.program) job.settings.watchdog r.backed r.memory s.thread.cpu 0 ≡ Some stop
+        unwatched : (stop : Stop) → s.stop ≡ stop → stop ≢ Watchdog → standing (layout_in job.program h.machine.kernel) job.settings.watchdog r.backed r.memory s.thread.cpu 0 ≡ Some stop
         unwatched stop f d =
-            let n = stands-next (s.thread.since == job.settings.watchdog) (next (layout_of job.program) r.backed r.memory s.thread.cpu) stop (stands ∙ ap Some f) d in
+            let n = stands-next (s.thread.since == job.settings.watchdog) (next (layout_in job.program h.machine.kernel) r.backed r.memory s.thread.cpu) stop (stands ∙ ap Some f) d in
             let other : s.thread.since ≢ job.settings.watchdog = λ g. true≢false (sym (eq-eqb s.thread.since job.settings.watchdog g) ∙ n.unwatched) in
-            ap (λ (b : Bool). standing_by b (next (layout_of job.program) r.backed r.memory s.thread.cpu)) (not-equal 0 job.settings.watchdog (omega arith))
+            ap (λ (b : Bool). standing_by b (next (layout_in job.program h.machine.kernel) r.backed r.memory s.thread.cpu)) (not-equal 0 job.settings.watchdog (omega arith))
             ∙ ap stop_in n.next_is
 
         released : s.stop ≡ Watchdog → ⊥
         released f =
-            true≢false (sym (watchdog-releases (setup_of job.program) good.arrival.middle.kernel t _) ∙ (ap (λ (x : Stop). (event_of (setup_of job.program) good.arrival.middle.kernel t x (payload_at job.program.image.ranges good.arrival.middle.memory x)).effect.releases) (sym f ∙ same) ∙ kept_stop))
+            true≢false (sym (watchdog-releases (setup_of job.program) good.arrival.middle.kernel t _) ∙ (ap (λ (x : Stop). (event_of (setup_of job.program) good.arrival.middle.kernel t x (payload_at (ranges_in (setup_of job.program) good.arrival.middle.kernel) good.arrival.middle.memory x)).effect.releases) (sym f ∙ same) ∙ kept_stop))
 
-        by : (stop : Stop) → s.stop ≡ stop → standing (layout_of job.program) job.settings.watchdog r.backed r.memory s.thread.cpu 0 ≡ Some stop
+        by : (stop : Stop) → s.stop ≡ stop → standing (layout_in job.program h.machine.kernel) job.settings.watchdog r.backed r.memory s.thread.cpu 0 ≡ Some stop
         by (Calls call) f = unwatched (Calls call) f (λ (g : Calls call ≡ Watchdog). cc)
         by (Trap code) f = unwatched (Trap code) f (λ (g : Trap code ≡ Watchdog). cc)
         by (PageFault page) f = unwatched (PageFault page) f (λ (g : PageFault page ≡ Watchdog). cc)
@@ -431,11 +432,11 @@ module _ (job : Job) (free : RaceFree job.program) (odds : List ℕ) (journal : 
   pub vote-runs : (won : ℕ) (lost : List ℕ) → verdict_of (views_of job core t) ≡ Won won lost → (count : ℕ) → since_in core t won ≡ Some count → (event : Event) → event_in job core t won ≡ Some event → IsExecution job.program (plan_of journal ++ (replicate count t ++ replicate (event_steps event.did) t))
   vote-runs won lost verdict count since event comes =
       let good = some-good job free odds journal core h t parts (some-voted (views_of job core t) core.replicas won lost (as-many-views job free odds journal core h t parts) verdict) in
-      let well = won-well odds (machine_view job.program.image.ranges good.arrival.middle good.thread.cpu good.thread.since good.stop) (views_of job core t) (all-but-odd job free odds journal core h t parts good) won lost (few-views job free odds journal core h t parts) verdict in
+      let well = won-well odds (machine_view job.program good.arrival.middle good.thread.cpu good.thread.since good.stop) (views_of job core t) (all-but-odd job free odds journal core h t parts good) won lost (few-views job free odds journal core h t parts) verdict in
       let shows = winner-shows job free odds journal core h t parts good won well.winner in
       let step = has-good-event job free odds journal core h t parts good in
       let same_count : good.thread.since ≡ count = some-injective (sym (since-is job free odds journal core h t parts good won shows) ∙ since) in
-      let same_event : event_of (setup_of job.program) good.arrival.middle.kernel t good.stop (payload_at job.program.image.ranges good.arrival.middle.memory good.stop) ≡ event = some-injective (sym (event-is job free odds journal core h t parts good won shows) ∙ comes) in
+      let same_event : event_of (setup_of job.program) good.arrival.middle.kernel t good.stop (payload_at (ranges_in (setup_of job.program) good.arrival.middle.kernel) good.arrival.middle.memory good.stop) ≡ event = some-injective (sym (event-is job free odds journal core h t parts good won shows) ∙ comes) in
       subst (λ (threads : List ℕ). IsExecution job.program (plan_of journal ++ threads)) (ap₂ (λ (n : ℕ) (e : Event). replicate n t ++ replicate (event_steps e.did) t) same_count same_event)
       (step.0, run-more job.program (plan_of journal) h.machine good.arrival.middle (replicate good.thread.since t) _ h.ideal_is (BackedRun-run job.program h.backed good.arrival.comes.own) step.1.run_event)
 
@@ -457,7 +458,7 @@ module _ (job : Job) (free : RaceFree job.program) (odds : List ℕ) (journal : 
   after-vote lost may =
       let parts = vote-parts core t may.may in
       let good = some-good job free odds journal core h t parts (some-voted (views_of job core t) core.replicas won (numbers lost) (as-many-views job free odds journal core h t parts) may.verdict) in
-      let well = won-well odds (machine_view job.program.image.ranges good.arrival.middle good.thread.cpu good.thread.since good.stop) (views_of job core t) (all-but-odd job free odds journal core h t parts good) won (numbers lost) (few-views job free odds journal core h t parts) may.verdict in
+      let well = won-well odds (machine_view job.program good.arrival.middle good.thread.cpu good.thread.since good.stop) (views_of job core t) (all-but-odd job free odds journal core h t parts good) won (numbers lost) (few-views job free odds journal core h t parts) may.verdict in
       let voted = voted-with job free odds journal core h t parts good count won lost did may well in
       let fewer = λ (number : ℕ). let l = without-longer number odds in let f = h.few in let g : AtMostHalf job.settings.replicas (without number odds) = omega arith in g in
       record {

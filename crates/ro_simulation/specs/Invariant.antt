@@ -18,11 +18,12 @@ use Rattle.ro_exec.specs.Next.{Backed, Stands}
 use Rattle.ro_thread.specs.declared.Thread.{Thread}
 use Rattle.ro_replica.specs.Replica.{Replica}
 use Rattle.ro_replica.specs.Runs.{standing_in}
-use Rattle.ro_plain.specs.Machine.{Program, layout_of, Machine, BackedRun, next_of, steppable}
+use Rattle.ro_plain.specs.Machine.{Program, Machine, BackedRun, next_of, steppable, layout_in}
 use Rattle.ro_vote.specs.Numbers.{is_among, AtMostHalf}
 use Rattle.ro_legal.specs.Core.{Job, Core, is_out}
 use Rattle.ro_legal.specs.Ideal.{ideal, ahead}
 use Rattle.ro_legal.specs.Sound.{IsSound, IsOver}
+use Rattle.ro_region.specs.declared.Range.{Range}
 
 -- The replica is the machine, run ahead by plain instructions that touch only backed pages.
 pub record RunsAhead (job : Job) (machine : Machine) (replica : Replica) : Type 0 where
@@ -33,7 +34,7 @@ pub record RunsAhead (job : Job) (machine : Machine) (replica : Replica) : Type 
 
 -- A stop of a live thread is the one that stands there.
 pub record StopStands (job : Job) (machine : Machine) (replica : Replica) (number : ℕ) : Type 0 where
-  pub stands : (thread : Thread) (stop : Stop) → IsTrue (lives_on machine.kernel number) → slice_get replica.threads number ≡ Some thread → thread.stop ≡ Some stop → standing_in (layout_of job.program) job.settings.watchdog replica thread ≡ Some stop
+  pub stands : (thread : Thread) (stop : Stop) → IsTrue (lives_on machine.kernel number) → slice_get replica.threads number ≡ Some thread → thread.stop ≡ Some stop → standing_in (layout_in job.program machine.kernel) job.settings.watchdog replica thread ≡ Some stop
 
 -- The replica has run ahead of the machine and nothing else, and each stop in it stands.
 pub record Agrees (job : Job) (machine : Machine) (replica : Replica) : Type 0 where
@@ -45,7 +46,7 @@ pub record StandsAtCall (program : Program) (machine : Machine) (number : ℕ) (
   pub cpu : Cpu
   pub live : steppable machine number ≡ Some cpu
   pub stands : next_of program machine cpu ≡ Stands (Calls call)
-  pub writes_nothing : (memory : Memory) → payload_of program.image.ranges memory call ≡ []
+  pub writes_nothing : (ranges : List Range) (memory : Memory) → payload_of ranges memory call ≡ []
   pub begun : call.which ≡ Function Wait → is_some (wait_of machine.kernel.waiters number) ≡ true
 
 -- The core stands to the ideal machine as it must; every replica but these, at most half, agrees with it.

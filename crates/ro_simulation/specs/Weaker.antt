@@ -14,7 +14,7 @@ use Rattle.ro_kernel.specs.Kernel.{lives_on}
 use Rattle.ro_thread.specs.declared.Thread.{Thread}
 use Rattle.ro_replica.specs.Replica.{Replica}
 use Rattle.ro_replica.specs.Runs.{standing_in}
-use Rattle.ro_plain.specs.Machine.{Program, layout_of, Machine, PlainRun}
+use Rattle.ro_plain.specs.Machine.{Program, Machine, PlainRun, layout_in}
 use Rattle.ro_legal.specs.Core.{Job}
 use Rattle.ro_legal.specs.Legal.{replay}
 use Rattle.ro_legal.specs.Ideal.{ideal, ahead}
@@ -29,7 +29,7 @@ pub record IsNearlyAlike (job : Job) (journal : List Entry) (replica : Replica) 
   pub runs : PlainRun job.program machine (ahead replica) end
   pub same_memory : replica.memory ≡ end.memory
   pub same_cpus : (number : ℕ) (thread : Thread) → IsTrue (lives_on machine.kernel number) → slice_get replica.threads number ≡ Some thread → slice_get end.cpus number ≡ Some thread.cpu
-  pub stops_stand : (number : ℕ) (thread : Thread) (stop : Stop) → IsTrue (lives_on machine.kernel number) → slice_get replica.threads number ≡ Some thread → thread.stop ≡ Some stop → standing_in (layout_of job.program) job.settings.watchdog replica thread ≡ Some stop
+  pub stops_stand : (number : ℕ) (thread : Thread) (stop : Stop) → IsTrue (lives_on machine.kernel number) → slice_get replica.threads number ≡ Some thread → thread.stop ≡ Some stop → standing_in (layout_in job.program machine.kernel) job.settings.watchdog replica thread ≡ Some stop
 
 -- Faults strike no replica while another is not even nearly alike.
 abbrev pub StaysNearlyApart : Job → List Entry → Type 0

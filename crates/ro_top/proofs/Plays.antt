@@ -10,7 +10,7 @@ use Rattle.ro_journal.specs.declared.Entry.{Entry}
 use Rattle.ro_journal.specs.Plan.{plan_of}
 use Rattle.ro_kernel.specs.Serve.{Served, Done, Parked, Blocked, Ends, serve, payload_of}
 use Rattle.ro_kernel.specs.Kernel.{Kernel}
-use Rattle.ro_plain.specs.Machine.{Program, Machine, affected, executed, opening, called, setup_of, step_by, next_of, steppable, step, run}
+use Rattle.ro_plain.specs.Machine.{Program, Machine, affected, executed, opening, called, setup_of, step_by, next_of, steppable, step, run, payload_in}
 use Rattle.ro_legal.specs.Sound.{IsOver, traps}
 use Rattle.ro_legal.proofs.Served.{Tidy, tidy_end, serve-tidy}
 use Rattle.ro_simulation.specs.Theorem.{IsComplete, by_exit, by_trap, by_deadlock}
@@ -50,7 +50,7 @@ module _ (program : Program) (machine after : Machine) (thread : ℕ) (well : En
       let ended : machine.ended ≡ after.ended = ended_by (executed machine thread cpu instr) after e in
       well other (ended ∙ is)
   by_next cpu (Stands (Calls call)) e =
-      by_called cpu (payload_of program.image.ranges machine.memory call) (serve (setup_of program) machine.kernel thread call) (serve-tidy (setup_of program) machine.kernel thread call) e
+      by_called cpu (payload_in program machine call) (serve (setup_of program) machine.kernel thread call) (serve-tidy (setup_of program) machine.kernel thread call) e
   by_next cpu (Stands (AtTrap code)) e = λ other is.
       let ended : Some (ByTrap code) ≡ after.ended = ended_by (record machine { ended = Some (ByTrap code) }) after e in
       subst IsOver (let f : Some (ByTrap code) ≡ Some other = ended ∙ is in cc) (traps {cause = code})

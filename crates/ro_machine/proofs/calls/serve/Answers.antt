@@ -3,7 +3,7 @@ use Rattle.ro_pages.specs.Bytes.{stored}
 use Rattle.ro_pages.specs.Held.{memory_of}
 use Rattle.ro_kernel.specs.Serve.{payload_of}
 use Rattle.ro_machine.proofs.Noted.{tells-done}
-use Rattle.ro_machine.proofs.Serving.{known, ended-lives, parked-lives, threads-after, served-so}
+use Rattle.ro_machine.proofs.Serving.{known, ended-lives, parked-lives, threads-after, served-so, served-given}
 use Rattle.ro_machine.proofs.calls.serve.Goals as goal
 
 pub apply-requires-clause-thread : goal.apply-requires-clause-thread
@@ -50,3 +50,12 @@ pub returns-in-Done-clause-told : goal.returns-in-Done-clause-told
 returns-in-Done-clause-told c =
     let facts = known c.args.kernel.now c.serve.new.self c.args.thread (length c.args.cpus.now.items) c.args.call _ c.in-Done.effect c.requires.live c.requires.made c.in-Done.is c.in_ok-effect.ensures.served in
     tells-done _ c.serve.new.self.kernel c.in-Done.effect c.args.call c.effect.inside.answer c.effect.inside.place (length c.as_slice.result.now) facts.outcome (ap (λ e. e.answer) c.effect.view_is) (ap (λ e. e.place) c.effect.view_is) (ap length c.as_slice.ensures.value ∙ ap (λ e. length e.bytes) c.effect.view_is) facts.few
+
+pub returns-in-Done-clause-given : goal.returns-in-Done-clause-given
+returns-in-Done-clause-given c = served-given c.args.kernel.now c.serve.new.self c.args.thread c.args.call _ c.in_ok-effect.ensures.served
+
+pub returns-in-Ends-clause-given : goal.returns-in-Ends-clause-given
+returns-in-Ends-clause-given c = served-given c.args.kernel.now c.serve.new.self c.args.thread c.args.call _ c.in_ok-effect.ensures.served
+
+pub returns-in-Parked-clause-given : goal.returns-in-Parked-clause-given
+returns-in-Parked-clause-given c = served-given c.args.kernel.now c.serve.new.self c.args.thread c.args.call _ c.in_ok-effect.ensures.served

@@ -4,6 +4,8 @@ import dataclasses
 import re
 import struct
 
+import options
+
 # ---- Executables
 
 LOWEST, HIGHEST = 0x10000, 0x40000000
@@ -187,8 +189,7 @@ def faults_of(data, replicas):
 
 # ---- Words
 
-RANGES = {"replicas": (2, 5, 3), "drivers": (1, 8, 3), "watchdog": (100, 1_000_000, 10_000), "quantum": (1, 65_536, 4_096),
-          "limit": (1, 10**12, 10**9), "scrub": (0, 10**12, 0)}
+RANGES = options.tabled(options.USING.read_text())
 VALUED = ["input", "faults", *RANGES]
 
 

@@ -1,5 +1,5 @@
 -- How many replicas may run.
-use Rattle.std.proofs.Common.{◌≡◌, ◌≤◌, ◌⊎◌, ℕ, arith, inl, inr}
+use Rattle.std.proofs.Common.{◌≤◌, ℕ, arith, inl, inr}
 use Rattle.ro_settings.specs.Ranges.{IsReplicas}
 
 -- at least two and at most five

@@ -1,48 +1,59 @@
 //! What a run is asked for, beside its program: how many replicas and drivers, and its bounds.
 #![tactic(auto)]
 
-ghost use Rattle.ro_settings.specs.Ranges.{InRange, default_settings};
+mod options;
+
+ghost use Rattle.ro_settings.specs.Ranges.{InRange, IsReplicas, default_settings};
 ghost use Rattle.std.specs.Prelude.{IsTrue, ◌≡◌, ◌↔◌};
 
-/// The settings of a run.
+pub use options::{DRIVERS, LIMIT, NumberOption, OPTIONS, QUANTUM, REPLICAS, SCRUB, WATCHDOG};
+
+/// The settings of a run; `OPTIONS` has their ranges.
 #[derive(Clone, Copy, PartialEq, Eq, Debug)]
 pub struct Settings {
     /// How many replicas there are, 2, 3 or 5.
     pub replicas: u32,
-    /// How many drivers, 1 to 8.
+    /// How many drivers.
     pub drivers: u32,
-    /// After how many instructions without a vote a thread is stopped, 100 to 1,000,000.
+    /// After how many instructions without a vote a thread is stopped.
     pub watchdog: u32,
-    /// How many instructions a lease is for, 1 to 65,536.
+    /// How many instructions a lease is for.
     pub quantum: u32,
-    /// How many steps the run may have, 1 to 10^12.
+    /// How many steps the run may have.
     pub limit: u64,
-    /// After how many steps since the last scrub one is due, 0 to 10^12; with 0 none ever is.
+    /// After how many steps since the last scrub one is due; with 0 none ever is.
     pub scrub: u64,
 }
 
 impl Settings {
     /// Three replicas, three drivers, and the usual bounds.
     pub const DEFAULT: Settings = Settings {
-        replicas: 3,
-        drivers: 3,
-        watchdog: 10_000,
-        quantum: 4_096,
-        limit: 1_000_000_000,
-        scrub: 0,
+        replicas: REPLICAS.usual as u32,
+        drivers: DRIVERS.usual as u32,
+        watchdog: WATCHDOG.usual as u32,
+        quantum: QUANTUM.usual as u32,
+        limit: LIMIT.usual,
+        scrub: SCRUB.usual,
     };
 
     /// Whether each number lies in its range.
     pub fn is_in_range(&self) -> bool
         ensures { IsTrue result ↔ InRange self.now }
     {
-        matches!(self.replicas, 2 | 3 | 5)
-            && (1..=8).contains(&self.drivers)
-            && (100..=1_000_000).contains(&self.watchdog)
-            && (1..=65_536).contains(&self.quantum)
-            && (1..=1_000_000_000_000).contains(&self.limit)
-            && self.scrub <= 1_000_000_000_000
+        may_run(self.replicas)
+            && DRIVERS.has(u64::from(self.drivers))
+            && WATCHDOG.has(u64::from(self.watchdog))
+            && QUANTUM.has(u64::from(self.quantum))
+            && LIMIT.has(self.limit)
+            && SCRUB.has(self.scrub)
     }
+}
+
+/// Whether so many replicas may run.
+pub fn may_run(replicas: u32) -> bool
+    ensures { IsTrue result ↔ IsReplicas replicas }
+{
+    matches!(replicas, 2 | 3 | 5)
 }
 
 impl Default for Settings {

@@ -12,8 +12,8 @@ use Rattle.clap.specs.ValueTests.{is_unsigned_in}
 use Rattle.clap.specs.declared.builder.value_parser.ValueParser.TheVariants as vp
 use Rattle.clap.proofs.ValueTestLemmas.{accepts-Accepts}
 use Rattle.ro_settings.specs.declared.Settings.{Settings}
-use Rattle.ro_settings.specs.Ranges.{InRange, IsFrom, IsReplicas}
-use Rattle.ro_words.specs.Commands.{Asked, AskedAudit, AskedPlan, AskedRun, AuditFits, Fits, Spelling, are_replicas, asked_among, asked_in_words, asked_of, asked_run, audit_from, audit_given, audit_of, audit_spellings, bench_from, bench_given, command_of, given_number, inject_from, inject_given, maybe_number, number_in, number_or, plain_given, plan_given, races_given, replicas_only, run_from, run_given, settings_from, settings_of, spelling_of, spellings, to_plain, to_races, to_run, usual_audit, usual_run}
+use Rattle.ro_settings.specs.Ranges.{InRange, IsFrom, IsIn, IsReplicas, Range, drivers_range, limit_range, quantum_range, replicas_range, scrub_range, watchdog_range}
+use Rattle.ro_words.specs.Commands.{Asked, AskedAudit, AskedPlan, AskedRun, AuditFits, Fits, Spelling, are_replicas, asked_among, asked_in_words, asked_of, asked_run, audit_from, audit_given, audit_of, audit_spellings, bench_from, bench_given, command_of, given_number, inject_from, inject_given, maybe_number, number_for, number_in, number_or, plain_given, plan_given, races_given, replicas_only, run_from, run_given, settings_from, settings_of, spelling_of, spellings, to_plain, to_races, to_run, usual_audit, usual_run}
 use Rattle.ro_words.specs.Uses.{Syntax, Text, Use, has_flag, is_argument, is_once, is_used, is_whole, option_uses, required_of, takes_value, text_of, uses_from, with_use}
 use Rattle.ro_words.proofs.Names.{Grammar, IsValued, by_key, flagged, takes_one, unmet}
 use Rattle.ro_words.proofs.Once.{differ_twice, or_true, same_twice, twice, used-append}
@@ -102,13 +102,14 @@ only_fits n fits = ap (λ (b : Bool). if b then Some n else None) (are n fits)
 pub settings_fit : (given : Text → Option Text) (s : Settings) → settings_of given ≡ Some s → InRange s
 settings_fit given s is =
     let parts = made_of _ _ _ _ _ _ s is in
+    let of : (range : Range) (n : ℕ) → IsIn range range.usual → number_for range given ≡ Some n → IsIn range n = λ range n. from_number range.usual range.least range.most n (given range.name) in
     record {
-      replicas = (only_some (number_or 3 2 5 (given (codes "replicas"))) s.replicas parts.0).1;
-      drivers = from_number 3 1 8 s.drivers (given (codes "drivers")) (omega arith, omega arith) parts.1;
-      watchdog = from_number 10000 100 1000000 s.watchdog (given (codes "watchdog")) (omega arith, omega arith) parts.2;
-      quantum = from_number 4096 1 65536 s.quantum (given (codes "quantum")) (omega arith, omega arith) parts.3;
-      limit = from_number 1000000000 1 1000000000000 s.limit (given (codes "limit")) (omega arith, omega arith) parts.4;
-      scrub = (from_number 0 0 1000000000000 s.scrub (given (codes "scrub")) (omega arith, omega arith) parts.5).1;
+      replicas = (only_some (number_for replicas_range given) s.replicas parts.0).1;
+      drivers = of drivers_range s.drivers (omega arith, omega arith) parts.1;
+      watchdog = of watchdog_range s.watchdog (omega arith, omega arith) parts.2;
+      quantum = of quantum_range s.quantum (omega arith, omega arith) parts.3;
+      limit = of limit_range s.limit (omega arith, omega arith) parts.4;
+      scrub = of scrub_range s.scrub (omega arith, omega arith) parts.5;
     }
 
 run_from_fits : (exe : Option Text) (settings : Option Settings) (given : Text → Option Text) (journal : Bool) (asked : AskedRun)

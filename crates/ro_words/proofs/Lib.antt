@@ -11,7 +11,6 @@ pub mod Moves
 pub mod Names
 pub mod Numbers
 pub mod Once
-pub mod Ranged
 pub mod Refused
 pub mod Rows
 pub mod Rules

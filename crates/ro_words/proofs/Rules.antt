@@ -1,9 +1,10 @@
 -- The arguments of a command as `clap` builds them.
-use Rattle.std.proofs.Common.{ℕ, Bool, true, false, List, [], ◌∷◌, ◌++◌, Option, Some, None, codes}
+use Rattle.std.proofs.Common.{ℕ, Bool, true, false, List, [], ◌∷◌, ◌++◌, Option, Some, None, codes, map}
 use Rattle.clap.specs.Walk.{Rule, Text}
 use Rattle.clap.specs.Simple.{Shape, new_rule, new_shape}
 use Rattle.clap.specs.declared.builder.action.ArgAction.TheVariants.{Set, SetTrue}
 use Rattle.clap.specs.declared.builder.value_parser.ValueParser.TheVariants as vp
+use Rattle.ro_words.specs.Commands.{run_options}
 
 -- an argument with one value of any text
 abbrev pub value_rule : Text → Option Text → Option ℕ → Bool → Rule
@@ -37,9 +38,7 @@ flag_built name = record (new_rule name) {
 
 -- the options of a run that have a value
 unfoldable pub options_built : List Rule
-options_built = option_built (codes "input") false ∷ option_built (codes "faults") false
-    ∷ option_built (codes "replicas") false ∷ option_built (codes "drivers") false ∷ option_built (codes "watchdog") false
-    ∷ option_built (codes "quantum") false ∷ option_built (codes "limit") false ∷ option_built (codes "scrub") false ∷ []
+options_built = map (λ name. option_built name false) run_options
 
 unfoldable pub run_values : List Rule
 run_values = place_built (codes "exe") 1 ∷ options_built

@@ -1,13 +1,13 @@
 -- The command that words spell: its name, then its arguments in their order, with its options anywhere among them, each at most
 -- once.
 use Rattle.std.specs.Prelude.{ℕ, ◌-◌, ◌^◌, Bool, false, List, [], ◌∷◌, Option, Some, None, codes}
-use Rattle.std.specs.Prelude.{◌==◌, ◌||◌, if◌then◌else◌, option_and_then, option_map, find, IfSome}
+use Rattle.std.specs.Prelude.{◌==◌, ◌||◌, if◌then◌else◌, option_and_then, option_map, find, map, IfSome}
 use denote.Bor.{Bor}
 use Rattle.std.specs.Str.{bytes_eq}
 use Rattle.std.specs.Str.Parse.{digits_value, without_leading_plus}
 use Rattle.clap.specs.ValueTests.{is_unsigned_in}
 use Rattle.ro_settings.specs.declared.Settings.{Settings}
-use Rattle.ro_settings.specs.Ranges.{InRange, IsFrom, default_settings}
+use Rattle.ro_settings.specs.Ranges.{InRange, IsFrom, Range, default_settings, drivers_range, limit_range, quantum_range, ranges, replicas_range, scrub_range, watchdog_range}
 use Rattle.ro_words.specs.Uses.{Text, Use, Syntax, has_flag, is_whole, text_of, uses_from}
 use Rattle.ro_words.specs.declared.commands.AuditCommand.{AuditCommand}
 use Rattle.ro_words.specs.declared.commands.Command.{Command}
@@ -61,25 +61,19 @@ settings_from (Some replicas) (Some drivers) (Some watchdog) (Some quantum) (Som
 })
 settings_from _ _ _ _ _ _ = None
 
--- the settings, from the texts that are given under the options' names
+-- the number of an option, from the texts that are given under the options' names
+abbrev pub number_for : Range → (Text → Option Text) → Option ℕ
+number_for range given = number_or range.usual range.least range.most (given range.name)
+
+-- the settings of these texts
 abbrev pub settings_of : (Text → Option Text) → Option Settings
 settings_of given = settings_from
-    (replicas_only (number_or default_settings.replicas 2 5 (given (codes "replicas"))))
-    (number_or default_settings.drivers 1 8 (given (codes "drivers")))
-    (number_or default_settings.watchdog 100 1000000 (given (codes "watchdog")))
-    (number_or default_settings.quantum 1 65536 (given (codes "quantum")))
-    (number_or default_settings.limit 1 1000000000000 (given (codes "limit")))
-    (number_or default_settings.scrub 0 1000000000000 (given (codes "scrub")))
-
--- the settings of these texts where each number is one that the code holds, whatever its range
-abbrev pub unranged : (Text → Option Text) → Option Settings
-unranged given = settings_from
-    (number_or default_settings.replicas 0 (2 ^ 32 - 1) (given (codes "replicas")))
-    (number_or default_settings.drivers 0 (2 ^ 32 - 1) (given (codes "drivers")))
-    (number_or default_settings.watchdog 0 (2 ^ 32 - 1) (given (codes "watchdog")))
-    (number_or default_settings.quantum 0 (2 ^ 32 - 1) (given (codes "quantum")))
-    (number_or default_settings.limit 0 (2 ^ 64 - 1) (given (codes "limit")))
-    (number_or default_settings.scrub 0 (2 ^ 64 - 1) (given (codes "scrub")))
+    (replicas_only (number_for replicas_range given))
+    (number_for drivers_range given)
+    (number_for watchdog_range given)
+    (number_for quantum_range given)
+    (number_for limit_range given)
+    (number_for scrub_range given)
 
 -- ---- commands
 
@@ -201,8 +195,7 @@ pub record Spelling (A : Type 0) : Type 0 where
 
 -- the options of a run that have a value
 abbrev pub run_options : List Text
-run_options = codes "input" ∷ codes "faults" ∷ codes "replicas" ∷ codes "drivers" ∷ codes "watchdog" ∷ codes "quantum"
-    ∷ codes "limit" ∷ codes "scrub" ∷ []
+run_options = codes "input" ∷ codes "faults" ∷ map (λ range. range.name) ranges
 
 abbrev pub run_syntax : Syntax
 run_syntax = record { places = codes "exe" ∷ []; needed = []; valued = run_options; flag = Some (codes "journal") }

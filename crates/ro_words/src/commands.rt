@@ -11,7 +11,7 @@ ghost use Rattle.std.specs.List.{list_all};
 ghost use Rattle.std.specs.Prelude.{◌≡◌, ◌≢◌, ◌⊎◌, Bool, List, IfErr, IfOk, IfSome, None, Some, [], codes, drop, false, option_map, true};
 
 use crate::grammar::{audit_line, grammar};
-use crate::settings::{maybe_within, number_in, number_within, settings_of};
+use crate::settings::{maybe_within, number_in, settings_of, small_number_within};
 use crate::shapes::are_words;
 use clap::ArgMatches;
 use clap::error::ErrorKind;
@@ -270,7 +270,7 @@ fn inject_command<'a>(matches: &ArgMatches<'a>) -> Option<Command<'a>>
 {
     Some(Command::Inject(InjectCommand {
         seed: number_in(matches.get_str("seed")?)?,
-        count: number_within(matches.get_str("count")?, 1, 256)?,
+        count: small_number_within(matches.get_str("count")?, 1, 256)?,
         executable: matches.get_str("exe")?,
         replica: maybe_within(matches.get_str("replica"), 0, 4)?,
     }))
@@ -283,6 +283,6 @@ fn bench_command<'a>(matches: &ArgMatches<'a>) -> Option<Command<'a>>
 {
     Some(Command::Bench(BenchCommand {
         seed: number_in(matches.get_str("seed")?)?,
-        size: number_within(matches.get_str("size")?, 1, 2_000)?,
+        size: small_number_within(matches.get_str("size")?, 1, 2_000)?,
     }))
 }

@@ -6,6 +6,7 @@ ghost use Rattle.clap.specs.Simple.{App};
 ghost use Rattle.clap.specs.Words.{rule_of};
 
 use clap::{Arg, ArgAction, Command};
+use ro_settings::{DRIVERS, LIMIT, NumberOption, QUANTUM, REPLICAS, SCRUB, WATCHDOG};
 use std::alloc::{AllocError, Global};
 
 // The whole command line of `romain`.
@@ -62,12 +63,12 @@ fn run_options<'a>(alloc: Global, command: Command<'a>) -> Result<Command<'a>, A
     command
         .arg(option(alloc, "input"))?
         .arg(option(alloc, "faults"))?
-        .arg(option(alloc, "replicas"))?
-        .arg(option(alloc, "drivers"))?
-        .arg(option(alloc, "watchdog"))?
-        .arg(option(alloc, "quantum"))?
-        .arg(option(alloc, "limit"))?
-        .arg(option(alloc, "scrub"))
+        .arg(number(alloc, &REPLICAS))?
+        .arg(number(alloc, &DRIVERS))?
+        .arg(number(alloc, &WATCHDOG))?
+        .arg(number(alloc, &QUANTUM))?
+        .arg(number(alloc, &LIMIT))?
+        .arg(number(alloc, &SCRUB))
 }
 
 // A command `NAME EXE --plan F`, and its option.
@@ -106,6 +107,14 @@ fn option<'a>(alloc: Global, name: &'a str) -> Arg<'a>
     ensures local { result.global ≡ false }
 {
     Arg::new(alloc, name).long(name).action(ArgAction::Set)
+}
+
+// One whose value is a number.
+fn number<'a>(alloc: Global, option: &NumberOption) -> Arg<'a>
+    ensures rule { rule_of result ≡ option_rule option.now.name.now }
+    ensures local { result.global ≡ false }
+{
+    self::option(alloc, option.name)
 }
 
 // One that must be there.

@@ -1,38 +1,63 @@
 //! The settings that options give, and the other numbers of commands.
 ghost use Rattle.clap.specs.Matches.{first_value, found_of};
-ghost use Rattle.ro_words.specs.Commands.{number_in as number_of, maybe_number, number_or, settings_of as settings_in, unranged};
-ghost use Rattle.ro_settings.specs.Ranges.{InRange};
-ghost use Rattle.std.specs.Prelude.{◌≡◌, IfSome, option_map};
+ghost use Rattle.ro_words.specs.Commands.{number_in as number_of, number_for as number_of_option, maybe_number, replicas_only, settings_of as settings_in};
+ghost use Rattle.ro_settings.specs.Ranges.{InRange, IsFrom, IsIn, IsReplicas, range_of, replicas_range};
+ghost use Rattle.std.specs.Prelude.{◌≡◌, ◌<◌, ◌^◌, IfSome, option_map};
 
 use clap::ArgMatches;
-use ro_settings::Settings;
+use ro_settings::{
+    DRIVERS, LIMIT, NumberOption, QUANTUM, REPLICAS, SCRUB, Settings, WATCHDOG, may_run,
+};
 
 // The settings of a run, where each number is one and lies in its range.
 pub(crate) fn settings_of(matches: &ArgMatches<'_>) -> Option<Settings>
     ensures given { result ≡ settings_in (first_value (found_of matches.now)) }
     ensures in_range { IfSome result InRange }
 {
-    let settings = unranged_settings(matches)?;
-    if settings.is_in_range() {
-        Some(settings)
+    Some(Settings {
+        replicas: replicas_of(matches)?,
+        drivers: small_number_for(matches, &DRIVERS)?,
+        watchdog: small_number_for(matches, &WATCHDOG)?,
+        quantum: small_number_for(matches, &QUANTUM)?,
+        limit: number_for(matches, &LIMIT)?,
+        scrub: number_for(matches, &SCRUB)?,
+    })
+}
+
+// How many replicas are asked for.
+fn replicas_of(matches: &ArgMatches<'_>) -> Option<u32>
+    ensures given { result ≡ replicas_only (number_of_option replicas_range (first_value (found_of matches.now))) }
+    ensures in_range { IfSome result IsReplicas }
+{
+    let replicas = small_number_for(matches, &REPLICAS)?;
+    if may_run(replicas) {
+        Some(replicas)
     } else {
         None
     }
 }
 
-// The settings of a run, where each number is one, whatever its range.
-fn unranged_settings(matches: &ArgMatches<'_>) -> Option<Settings>
-    ensures { result ≡ unranged (first_value (found_of matches.now)) }
+// The number that is given for the option, or its usual one.
+fn number_for(matches: &ArgMatches<'_>, option: &NumberOption) -> Option<u64>
+    requires { IsIn (range_of option.now) option.now.usual }
+    ensures given { result ≡ number_of_option (range_of option.now) (first_value (found_of matches.now)) }
+    ensures in_range { IfSome result (IsIn (range_of option.now)) }
 {
-    let usual = Settings::DEFAULT;
-    Some(Settings {
-        replicas: small_number(matches.get_str("replicas"), usual.replicas)?,
-        drivers: small_number(matches.get_str("drivers"), usual.drivers)?,
-        watchdog: small_number(matches.get_str("watchdog"), usual.watchdog)?,
-        quantum: small_number(matches.get_str("quantum"), usual.quantum)?,
-        limit: number(matches.get_str("limit"), usual.limit)?,
-        scrub: number(matches.get_str("scrub"), usual.scrub)?,
-    })
+    match matches.get_str(option.name) {
+        Some(text) => number_within(text, option.least, option.most),
+        None => Some(option.usual),
+    }
+}
+
+// The same of an option whose numbers have 32 bits.
+fn small_number_for(matches: &ArgMatches<'_>, option: &NumberOption) -> Option<u32>
+    requires usual { IsIn (range_of option.now) option.now.usual }
+    requires most { option.now.most < 2 ^ 32 }
+    ensures given { result ≡ number_of_option (range_of option.now) (first_value (found_of matches.now)) }
+    ensures in_range { IfSome result (IsIn (range_of option.now)) }
+{
+    let number = number_for(matches, option)?;
+    Some(number as u32)
 }
 
 // The number that the text writes.
@@ -43,13 +68,22 @@ pub(crate) fn number_in(text: &str) -> Option<u64>
 }
 
 // The number that the text writes, where it lies between the two.
-pub(crate) fn number_within(text: &str, least: u32, most: u32) -> Option<u32>
-    ensures { result ≡ number_of least most text.now }
+fn number_within(text: &str, least: u64, most: u64) -> Option<u64>
+    ensures read { result ≡ number_of least most text.now }
+    ensures in_range { IfSome result (IsFrom least most) }
 {
     let number = number_in(text)?;
-    if number < u64::from(least) || u64::from(most) < number {
+    if number < least || most < number {
         return None;
     }
+    Some(number)
+}
+
+// The same of a number of 32 bits.
+pub(crate) fn small_number_within(text: &str, least: u32, most: u32) -> Option<u32>
+    ensures { result ≡ number_of least most text.now }
+{
+    let number = number_within(text, u64::from(least), u64::from(most))?;
     Some(number as u32)
 }
 
@@ -58,25 +92,7 @@ pub(crate) fn maybe_within(text: Option<&str>, least: u32, most: u32) -> Option<
     ensures { result ≡ maybe_number least most (option_map (λ t. t.now) text.entry) }
 {
     match text {
-        Some(text) => Some(Some(number_within(text, least, most)?)),
+        Some(text) => Some(Some(small_number_within(text, least, most)?)),
         None => Some(None),
     }
-}
-
-// The same, or the usual number where there is no text.
-fn number(text: Option<&str>, usual: u64) -> Option<u64>
-    ensures { result ≡ number_or usual 0 u64.MAX (option_map (λ t. t.now) text.entry) }
-{
-    match text {
-        Some(text) => number_in(text),
-        None => Some(usual),
-    }
-}
-
-// The same of a number of 32 bits.
-fn small_number(text: Option<&str>, usual: u32) -> Option<u32>
-    ensures { result ≡ number_or usual 0 u32.MAX (option_map (λ t. t.now) text.entry) }
-{
-    let number = number(text, u64::from(usual))?;
-    u32::try_from(number).ok()
 }

@@ -6,7 +6,7 @@ ghost use Rattle.clap.specs.Simple.{App};
 ghost use Rattle.clap.specs.Words.{rule_of};
 
 use clap::{Arg, ArgAction, Command};
-use ro_settings::{DRIVERS, LIMIT, NumberOption, QUANTUM, REPLICAS, SCRUB, WATCHDOG};
+use ro_settings::{NumberOption, OPTIONS};
 use std::alloc::{AllocError, Global};
 
 // The whole command line of `romain`.
@@ -60,15 +60,13 @@ fn audit_grammar<'a>(alloc: Global) -> Result<Command<'a>, AllocError>
 fn run_options<'a>(alloc: Global, command: Command<'a>) -> Result<Command<'a>, AllocError>
     ensures { (app : App) → Reads app command.entry → IfOk result (Reads (with_run_options app)) }
 {
-    command
+    let mut whole = command
         .arg(option(alloc, "input"))?
-        .arg(option(alloc, "faults"))?
-        .arg(number(alloc, &REPLICAS))?
-        .arg(number(alloc, &DRIVERS))?
-        .arg(number(alloc, &WATCHDOG))?
-        .arg(number(alloc, &QUANTUM))?
-        .arg(number(alloc, &LIMIT))?
-        .arg(number(alloc, &SCRUB))
+        .arg(option(alloc, "faults"))?;
+    for option in OPTIONS {
+        whole = whole.arg(number(alloc, option))?;
+    }
+    Ok(whole)
 }
 
 // A command `NAME EXE --plan F`, and its option.

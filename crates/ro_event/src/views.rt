@@ -1,9 +1,22 @@
 //! The view of a stopped thread.
-ghost use Rattle.std.specs.Prelude.{◌≡◌, ◌↔◌, ◌≤◌, [], length, IsTrue};
+ghost use Rattle.std.specs.Prelude.{◌≡◌, ◌↔◌, ◌≤◌, ◌+◌, ◌^◌, [], length, IsTrue};
 ghost use Rattle.ro_event.specs.Views.{same_view};
 
 use crate::stops::Stop;
 use std::marker::Model;
+
+/// What payloads are read from.
+pub trait Source {
+    ghost use Rattle.std.specs.Prelude.{ℕ, List};
+
+    // So many bytes from an address on.
+    ghost bytes: { Self → ℕ → ℕ → List ℕ };
+
+    /// Reads the bytes from an address on, as many as there are places for.
+    fn read(&self, address: u32, places: &mut [u8])
+        requires { address + length places.old ≤ 2 ^ 32 }
+        ensures { places.new ≡ bytes self.now address (length places.old) };
+}
 
 /// All of a stopped thread that a vote compares.
 #[derive(Drop)]
@@ -54,23 +67,50 @@ impl View {
         }
     }
 
-    /// Shows another thread, with a payload of at most 4,096 bytes.
-    pub fn show(&mut self, registers: &[u32; 31], pc: u32, since: u32, stop: Stop, payload: &[u8])
-        requires { length payload.now ≤ 4096 }
+    /// Shows another thread, with no payload.
+    pub fn show(&mut self, registers: &[u32; 31], pc: u32, since: u32, stop: Stop)
         ensures { self.new ≡ record {
           registers = registers.now;
           pc = pc;
           since = since;
           stop = stop;
-          payload = payload.now;
+          payload = [];
         } }
     {
         self.registers = *registers;
         self.pc = pc;
         self.since = since;
         self.stop = stop;
-        self.payload[..payload.len()].copy_from_slice(payload);
-        self.payload_len = payload.len();
+        self.payload_len = 0;
+    }
+
+    /// Shows another thread, with a payload of at most 4,096 bytes. They are read to the place where they stay.
+    pub fn show_writing<S: Source>(
+        &mut self,
+        registers: &[u32; 31],
+        pc: u32,
+        since: u32,
+        stop: Stop,
+        source: &S,
+        address: u32,
+        len: usize,
+    )
+        requires most { len ≤ 4096 }
+        requires within { address + len ≤ 2 ^ 32 }
+        ensures { self.new ≡ record {
+          registers = registers.now;
+          pc = pc;
+          since = since;
+          stop = stop;
+          payload = S.bytes source.now address len;
+        } }
+    {
+        self.registers = *registers;
+        self.pc = pc;
+        self.since = since;
+        self.stop = stop;
+        source.read(address, &mut self.payload[..len]);
+        self.payload_len = len;
     }
 
     /// The registers x1 to x31.

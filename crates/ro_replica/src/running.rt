@@ -120,6 +120,8 @@ fn until_due(waiting: &Waiting, thread: u32, done: u128, most: u32) -> u32
 }
 
 // The same, by a look at each fault.
+#[cold]
+#[inline(never)]
 fn until_first(waiting: &[Fault], thread: u32, done: u128, most: u32) -> u32
     ensures most { result ≤ most }
     ensures free { (k : ℕ) → k < result → filter (is_due thread (done + k)) waiting.now ≡ [] }

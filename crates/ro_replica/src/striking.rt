@@ -30,7 +30,9 @@ impl Replica {
         self.strike_due(thread, done)
     }
 
-    // The same, where a fault may be due.
+    // The same, where a fault may be due. It is no part of a run without faults, which so saves no registers for it.
+    #[cold]
+    #[inline(never)]
     fn strike_due(&mut self, thread: u32, done: u128) -> u32
         requires thread { thread < length self.old.threads }
         requires done { option_map (λ x. x.done) (slice_get self.old.threads thread) ≡ Some done }

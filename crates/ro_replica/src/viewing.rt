@@ -1,5 +1,5 @@
 //! What a vote sees of a replica.
-ghost use Rattle.std.specs.Prelude.{◌≡◌, ◌≤◌, ◌+◌, ◌^◌, IsTrue, Some, is_some, length};
+ghost use Rattle.std.specs.Prelude.{◌≡◌, ◌≤◌, ◌+◌, ◌^◌, [], IsTrue, Some, is_some};
 ghost use Rattle.ro_event.specs.declared.stops.Stop.TheVariants.{Calls};
 ghost use Rattle.ro_pages.specs.Bytes.{bytes_at};
 ghost use Rattle.ro_replica.specs.Replica.{stop_of};
@@ -7,16 +7,9 @@ ghost use Rattle.ro_replica.specs.Views.{view_of, view_with};
 ghost use Rattle.ro_replica.specs.Seen.{replica_of};
 
 use crate::replicas::Replica;
-use ro_event::{Call, Stop, View};
+use ro_event::{Call, Source, Stop, View};
 use ro_kernel::payload_len;
-use ro_limits::MOST_BYTES;
 use ro_thread::Thread;
-
-/// How many bytes a call writes at most.
-const MOST_PAYLOAD: usize = MOST_BYTES as usize;
-
-/// How many bytes of a short write there are at most: a place for them is zeroed at once.
-const SHORT_PAYLOAD: usize = 64;
 
 impl Replica {
     /// Shows a thread that stands still.
@@ -32,7 +25,7 @@ impl Replica {
         };
         match stop {
             Stop::Calls(call) => self.show_call(thread, call, view),
-            _ => show(thread, stop, &[], view),
+            _ => show(thread, stop, view),
         }
     }
 
@@ -41,7 +34,7 @@ impl Replica {
         ensures { view.new ≡ view_with self.now.layout.ranges (replica_of self.now) thread.now (Calls call) }
     {
         match payload_len(&self.regions, call) {
-            0 => show(thread, Stop::Calls(call), &[], view),
+            0 => show(thread, Stop::Calls(call), view),
             len => self.show_write(thread, call, len, view),
         }
     }
@@ -52,45 +45,31 @@ impl Replica {
         requires within { call.a1 + len ≤ 2 ^ 32 }
         ensures { view.new ≡ record { registers = thread.now.cpu.registers; pc = thread.now.cpu.pc; since = thread.now.since; stop = Calls call; payload = bytes_at (replica_of self.now).memory call.a1 len } }
     {
-        if len as usize <= SHORT_PAYLOAD {
-            let mut payload = [0; SHORT_PAYLOAD];
-            self.show_payload(thread, call, &mut payload[..len as usize], view);
-        } else {
-            self.show_long_write(thread, call, len, view);
-        }
-    }
-
-    /// The same of any length. It has a place of its own for the bytes, which takes long to zero.
-    #[inline(never)]
-    fn show_long_write(&self, thread: &Thread, call: Call, len: u32, view: &mut View)
-        requires most { len ≤ 4096 }
-        requires within { call.a1 + len ≤ 2 ^ 32 }
-        ensures { view.new ≡ record { registers = thread.now.cpu.registers; pc = thread.now.cpu.pc; since = thread.now.since; stop = Calls call; payload = bytes_at (replica_of self.now).memory call.a1 len } }
-    {
-        let mut payload = [0; MOST_PAYLOAD];
-        self.show_payload(thread, call, &mut payload[..len as usize], view);
-    }
-
-    /// Shows a thread that writes as many bytes as there are places for.
-    fn show_payload(&self, thread: &Thread, call: Call, payload: &mut [u8], view: &mut View)
-        requires most { length payload.old ≤ 4096 }
-        requires within { call.a1 + length payload.old ≤ 2 ^ 32 }
-        ensures { view.new ≡ record { registers = thread.now.cpu.registers; pc = thread.now.cpu.pc; since = thread.now.since; stop = Calls call; payload = bytes_at (replica_of self.now).memory call.a1 (length payload.old) } }
-    {
-        self.pages.read_bytes(call.a1, payload);
-        show(thread, Stop::Calls(call), payload, view);
+        view.show_writing(
+            &thread.cpu.registers,
+            thread.cpu.pc,
+            thread.since,
+            Stop::Calls(call),
+            self,
+            call.a1,
+            len as usize,
+        );
     }
 }
 
-fn show(thread: &Thread, stop: Stop, payload: &[u8], view: &mut View)
-    requires { length payload.now ≤ 4096 }
-    ensures { view.new ≡ record { registers = thread.now.cpu.registers; pc = thread.now.cpu.pc; since = thread.now.since; stop = stop; payload = payload.now } }
+impl Source for Replica {
+    ghost use Rattle.ro_pages.specs.Bytes.{bytes_at};
+    ghost use Rattle.ro_replica.specs.Seen.{replica_of};
+
+    ghost bytes = { λ r address len. bytes_at (replica_of r).memory address len };
+
+    fn read(&self, address: u32, places: &mut [u8]) {
+        self.pages.read_bytes(address, places);
+    }
+}
+
+fn show(thread: &Thread, stop: Stop, view: &mut View)
+    ensures { view.new ≡ record { registers = thread.now.cpu.registers; pc = thread.now.cpu.pc; since = thread.now.since; stop = stop; payload = [] } }
 {
-    view.show(
-        &thread.cpu.registers,
-        thread.cpu.pc,
-        thread.since,
-        stop,
-        payload,
-    );
+    view.show(&thread.cpu.registers, thread.cpu.pc, thread.since, stop);
 }

@@ -1,6 +1,7 @@
 //! Votes of up to five replicas.
-ghost use Rattle.std.specs.Prelude.{◌≡◌, ◌≤◌, ◌↔◌, length, IsNone, IfSome, Some, None, if◌then◌else◌};
+ghost use Rattle.std.specs.Prelude.{◌≡◌, ◌≤◌, ◌↔◌, length, not, slice_get, true, IsNone, IfSome, Some, None, if◌then◌else◌};
 ghost use Rattle.std.specs.Option.{option_map};
+ghost use Rattle.ro_event.specs.Views.{same_view};
 ghost use Rattle.ro_journal.specs.Losers.{numbers};
 ghost use Rattle.ro_vote.specs.Verdict.{most_hold, differing_from, verdict_of};
 ghost use Rattle.ro_vote.specs.Votes.{verdict_by, NoneIsHeld, IsWonBy};
@@ -24,7 +25,7 @@ pub fn verdict(views: &[View]) -> Option<Won>
     ensures majority { IfSome result (λ w. IsWonBy views.now w.won (numbers w.lost)) }
 {
     for (number, view) in views.iter().enumerate() {
-        if let Some(lost) = losers(view, views) {
+        if let Some(lost) = losers(number, view, views) {
             return Some(Won {
                 won: number as u32,
                 lost,
@@ -34,15 +35,16 @@ pub fn verdict(views: &[View]) -> Option<Won>
     None
 }
 
-// Who shows something else than this view, where more than half show it.
+// Who shows something else than this view, which a replica shows, where more than half show it.
 #[tactic(auto, using(crate::proofs::Answered::counts))]
-fn losers(view: &View, views: &[View]) -> Option<Lost>
-    requires { length views.now ≤ 5 }
+fn losers(shower: usize, view: &View, views: &[View]) -> Option<Lost>
+    requires few { length views.now ≤ 5 }
+    requires shown { slice_get views.now shower ≡ Some view.now }
     ensures { option_map numbers result ≡ (if most_hold views.now view.now then Some (differing_from view.now 0 views.now) else None) }
 {
     let mut lost = Lost::Nobody;
     for (number, other) in views.iter().enumerate() {
-        if !view.same(other) {
+        if differs(number == shower, view, other) {
             lost = lost.with(number as u32)?;
         }
     }
@@ -51,4 +53,12 @@ fn losers(view: &View, views: &[View]) -> Option<Lost>
     } else {
         None
     }
+}
+
+// Whether two views differ. Where they are one replica's they are not compared.
+fn differs(is_own: bool, view: &View, other: &View) -> bool
+    requires { is_own ≡ true → other.now ≡ view.now }
+    ensures { result ≡ not (same_view view.now other.now) }
+{
+    !is_own && !view.same(other)
 }

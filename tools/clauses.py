@@ -1,63 +1,77 @@
 #!/usr/bin/env python3
-"""Prints every clause of every public function, a line each, so that two versions can be compared.
+"""The clauses of all public functions, a line each: what they require and what they ensure.
 
-    tools/clauses.py                  of this tree
-    tools/clauses.py COMMIT           what differs from that commit: lines with - are gone, those with + are new
-    tools/clauses.py COMMIT COMMIT    what differs between two
+    tools/clauses.py              prints those of this tree
+    tools/clauses.py OLD [NEW]    prints what differs from the commit OLD in this tree, or in the commit NEW: behind - what is gone,
+                                  behind + what is new
 """
 import difflib
 import pathlib
 import re
+import shutil
 import subprocess
 import sys
 
 ROOT = pathlib.Path(__file__).resolve().parent.parent
-FUNCTION = re.compile(r"\s*(pub(?:\([a-z]+\))? )?(?:const |unsafe )*fn (\w+)")
-OWNER = re.compile(r"(?:impl|pub trait|trait)\b(?:<.*?>)?\s+(?:[\w:<>, ]+ for )?(\w+)")
-CLAUSE = re.compile(r"\s*(requires|ensures|preserves)\b.*[{}].*")
+SOURCE = re.compile(r"crates/(\w+)/src/.*\.rt")
+OWNER = re.compile(r"(?:impl|pub trait)\b(?:<.*?>)?\s+(?:[\w:<>, ]+ for )?(\w+)")
+FUNCTION = re.compile(r"\s*(pub |pub\([a-z]+\) )?(?:const |unsafe )*fn (\w+)")
+CLAUSE = re.compile(r"\s*(requires|ensures)\b")
+
+
+def asked(*words):
+    """What git answers of this repository."""
+    return subprocess.run(["git", "-C", ROOT, *words], check=True, capture_output=True, text=True).stdout
 
 
 def sources(commit):
-    """The files of code, as pairs of a path and its text."""
+    """The files of code of a commit, or of this tree: pairs of a path and its text."""
     if commit is None:
         for path in sorted(ROOT.glob("crates/*/src/**/*.rt")):
             yield path.relative_to(ROOT).as_posix(), path.read_text()
         return
-    listed = subprocess.run(["git", "-C", ROOT, "ls-tree", "-r", "--name-only", commit, "crates"], check=True, capture_output=True, text=True)
-    for path in listed.stdout.split("\n"):
-        if re.fullmatch(r"crates/\w+/src/.*\.rt", path):
-            shown = subprocess.run(["git", "-C", ROOT, "show", f"{commit}:{path}"], check=True, capture_output=True, text=True)
-            yield path, shown.stdout
+    for path in asked("ls-tree", "-r", "--name-only", commit, "--", "crates").splitlines():
+        if SOURCE.fullmatch(path):
+            yield path, asked("show", f"{commit}:{path}")
+
+
+def clauses_of(path, text):
+    """Those of a file; what a trait asks for, and what implements it, is public too."""
+    crate = SOURCE.fullmatch(path)[1]
+    owner, shared, name, clause = "", False, None, ""
+    for line in text.splitlines():
+        if clause or name and CLAUSE.match(line):
+            clause = f"{clause} {line.strip()}".strip()
+            if clause.count("{") == clause.count("}"):
+                yield f"{crate}::{owner}{name}: {clause}"
+                clause = ""
+        elif opened := OWNER.match(line):
+            owner, shared = f"{opened[1]}::", "trait " in line or " for " in line
+        elif line == "}":
+            owner, shared = "", False
+        elif function := FUNCTION.match(line):
+            name = function[2] if shared or function[1] == "pub " else None
 
 
 def clauses(commit):
-    """The clauses of public functions: those of traits and of what implements them too."""
-    found = []
-    for path, text in sources(commit):
-        crate = path.split("/")[1]
-        owner, shared, name = "", False, None
-        for line in text.split("\n"):
-            if opened := OWNER.match(line):
-                owner, shared = opened[1] + "::", "trait " in line or " for " in line
-            elif line == "}":
-                owner, shared = "", False
-            elif function := FUNCTION.match(line):
-                name = function[2] if function[1] == "pub " or shared else None
-            elif name and CLAUSE.match(line):
-                found.append(f"{crate}::{owner}{name}: {line.strip()}\n")
-    return sorted(found)
+    return sorted(line for path, text in sources(commit) for line in clauses_of(path, text))
 
 
 def main(commits):
+    if len(commits) > 2 or any(word.startswith("-") for word in commits):
+        sys.exit(__doc__)
+    if commits and not shutil.which("git"):
+        sys.exit("clauses: the command git isn't on the PATH")
     if not commits:
-        sys.stdout.writelines(clauses(None))
-        return
-    old, new = clauses(commits[0]), clauses(commits[1] if len(commits) > 1 else None)
-    sys.stdout.writelines(line for line in difflib.ndiff(old, new) if line[0] in "-+")
+        lines = clauses(None)
+    else:
+        old, new = clauses(commits[0]), clauses(commits[1] if len(commits) > 1 else None)
+        lines = [line for line in difflib.ndiff(old, new) if line[0] in "-+"]
+    print("\n".join(lines))
 
 
 if __name__ == "__main__":
     try:
         main(sys.argv[1:])
     except subprocess.CalledProcessError as error:
-        sys.exit(error.stderr.strip())
+        sys.exit(f"clauses: {error.stderr.strip().splitlines()[0]}")

@@ -19,7 +19,7 @@ use Rattle.ro_legal.specs.Legal.{core_after_event, after, MayFree, MayEnd, for_f
 use Rattle.ro_core.specs.Fields.{AreSpared, Fields, blocked_at, core_in, Holds}
 use Rattle.ro_core.specs.Grouped.{AreMade}
 use Rattle.ro_core.specs.Seated.{Stands}
-use Rattle.ro_core.specs.Happening.{event_by}
+use Rattle.ro_core.specs.Happening.{event_by, LeavesWaiting}
 use Rattle.ro_core.specs.Runs.{IsAmid, MakesRoom, CanOccur}
 use Rattle.ro_legal.proofs.FaultStops.{fault-stops}
 use Rattle.ro_core.proofs.Held.{Goes, goes}
@@ -105,10 +105,10 @@ module _ (f : Fields) (h : Holds f) (thread : ℕ) (may : may_free f.job (core_i
     free-allowed fits = record { may = may; fits = let e = h.steps_are in omega arith }
 
     -- the event that the code has for it can be done
-    pub free-can : (r : Run) (e : Happening) (threads : ℕ) → the-event ≡ event_by e r.kernel.kernel (if e.writes then [] else []) → f.steps + 1 ≤ f.job.settings.limit → IsAmid f r → Stands f.job r.seats (core_in f).replicas → AreSpared r.seats.homes.items → threads ≡ length f.kernel.kernel.lives
+    pub free-can : (r : Run) (e : Happening) (threads : ℕ) → the-event ≡ event_by e r.kernel.kernel (if e.writes then [] else []) → f.steps + 1 ≤ f.job.settings.limit → IsAmid f r → Stands f.job r.seats (core_in f).replicas → AreSpared r.seats.homes.items → threads ≡ length f.kernel.kernel.lives → (e.moves ≡ false → LeavesWaiting f.kernel.kernel r.kernel.kernel)
         → CanOccur r (record { thread = thread; event = e; entry = Free thread; steps = 1; writer = None; threads = threads })
     unfolding event_of
-    free-can r e threads is fits amid stands spared threads_are = record {
+    free-can r e threads is fits amid stands spared threads_are leaves = record {
       before = f;
       holds = h;
       going = free-going;
@@ -133,6 +133,7 @@ module _ (f : Fields) (h : Holds f) (thread : ℕ) (may : may_free f.job (core_i
       threads_are = threads_are;
       counted = let k : 1 ≡ event_steps e.did = ap event_steps (sym free-did ∙ ap (λ (x : Event). x.did) is) in omega arith;
       writes = tt;
+      leaves = leaves;
     }
       where
         nothing : List ℕ

@@ -1,6 +1,6 @@
 -- An event that is done in every replica and noted, in the fields of a run.
 use Rattle.std.proofs.Common.{◌≡◌, ℕ, ◌+◌, ◌*◌, ◌<◌, ◌≤◌, List, [], ◌∷◌, ◌++◌, length, None, sym, ap, ◌∙◌, subst, arith}
-use Rattle.std.specs.Prelude.{◌^◌, is_none, slice_set}
+use Rattle.std.specs.Prelude.{◌^◌, false, is_none, slice_set}
 use Rattle.std.proofs.lemmas.Bool.{and_from}
 use Rattle.ro_journal.specs.Plan.{event_steps}
 use Rattle.ro_kernel.specs.Kernel.{Kernel, lives_on}
@@ -23,6 +23,7 @@ use Rattle.ro_legal.proofs.Happens.{Happens, event-happens}
 use Rattle.ro_legal.proofs.Ordered.{ordered}
 use Rattle.ro_core.proofs.Sitting.{home-count}
 use Rattle.ro_core.proofs.Behind.{happened-holds, all-can-take}
+use Rattle.ro_core.proofs.Waits.{first-same, still-unblocked}
 use Rattle.ro_core.proofs.Tests.{lives-within}
 use Rattle.ro_core.proofs.Votes.{live-few, payload-due, payload-few, writes-step, length-applied}
 
@@ -105,6 +106,14 @@ module _ (r : Run) (o : Occurrence) (can : CanOccur r o) where
       let same = can.amid.steps in
       let sent = can.amid.sent in
       omega arith
+
+  -- ---- who may go on
+
+  -- the thread that was the lowest to go on still is
+  pub occurs-unblocked : (o.event.moves ≡ false) × (o.event.blocked ≡ None) × (blocked_at r.blocked o.thread ≡ None) → r.unblocked ≡ first_unblocked r.kernel (slice_set r.blocked o.thread o.event.blocked)
+  occurs-unblocked stays =
+      can.amid.unblocked ∙ h.unblocked_is ∙ sym (first-same f.kernel r.kernel f.blocked can.amid.setup (can.leaves stays.0))
+      ∙ ap (first_unblocked r.kernel) (sym can.amid.blocked ∙ sym (still-unblocked r.blocked o.thread o.event.blocked stays.2 stays.1))
 
   -- ---- the fields behind it
 

@@ -23,7 +23,7 @@ use Rattle.ro_legal.specs.declared.actions.Streak.{Streak}
 use Rattle.ro_legal.specs.Streaks.{is_long, comes_last}
 use Rattle.ro_legal.specs.Action.{or_else, lowest_below, map_action, threads_made, is_turn, may_vote_in, may_lend_in, lend_in, lend_turn, turn_next}
 use Rattle.ro_core.specs.Seen.{IsOfJob}
-use Rattle.ro_core.specs.Fields.{Seated, AreSeated, AreHome, seat_unstopped, Fields, core_in, blocked_at, is_unblocked, Holds}
+use Rattle.ro_core.specs.Fields.{Seated, AreSeated, AreHome, seat_unstopped, Fields, core_in, blocked_at, is_unblocked, Holds, Sleeps}
 use Rattle.ro_core.specs.Grouped.{seat_stopped}
 use Rattle.ro_group.specs.Groups.{is_ready}
 use Rattle.ro_core.proofs.Grouped.{ready-all}
@@ -65,7 +65,7 @@ lowest-never test (suc n) never =
     ap (λ (o : Option ℕ). or_else o (cond (test n) (Some n) None)) (lowest-never test n never) ∙ ap (λ (b : Bool). cond b (Some n) None) (never n)
 
 -- of two tests that pass the same numbers
-lowest-same : (test other : ℕ → Bool) (n : ℕ) → ((k : ℕ) → test k ≡ other k) → lowest_below n test ≡ lowest_below n other
+pub lowest-same : (test other : ℕ → Bool) (n : ℕ) → ((k : ℕ) → test k ≡ other k) → lowest_below n test ≡ lowest_below n other
 lowest-same test other zero same = refl
 lowest-same test other (suc n) same =
     ap (λ (o : Option ℕ). or_else o (cond (test n) (Some n) None)) (lowest-same test other n same) ∙ ap (λ (b : Bool). or_else (lowest_below n other) (cond b (Some n) None)) (same n)
@@ -242,6 +242,18 @@ module _ (f : Fields) (h : Holds f) where
       unstopped (r ∷ rs) zero all = one r (and_parts (is_some (stop_of r thread)) (list_all (λ (x : Replica). is_some (stop_of x thread)) rs) all).0
       unstopped (r ∷ rs) (suc n) all = unstopped rs n (and_parts (is_some (stop_of r thread)) (list_all (λ (x : Replica). is_some (stop_of x thread)) rs) all).1
 
+  -- a thread that is blocked, or has exited, can't be voted on
+  pub blocked-unvoted : (thread : ℕ) (call : Call) → (core_in f).blocked thread ≡ Some call → may_vote (core_in f) thread ≡ false
+  blocked-unvoted thread call e =
+      and_left (is_going (core_in f) && nothing_lent (core_in f) && lives_on (core_in f).kernel thread && is_none ((core_in f).blocked thread)) (list_all (λ replica. is_some (stop_of replica thread)) (core_in f).replicas)
+      (and_right (is_going (core_in f) && nothing_lent (core_in f) && lives_on (core_in f).kernel thread) (is_none ((core_in f).blocked thread)) (ap is_none e))
+
+  pub gone-unvoted : (thread : ℕ) → lives_on f.kernel.kernel thread ≡ false → may_vote (core_in f) thread ≡ false
+  gone-unvoted thread dead =
+      and_left (is_going (core_in f) && nothing_lent (core_in f) && lives_on (core_in f).kernel thread && is_none ((core_in f).blocked thread)) (list_all (λ replica. is_some (stop_of replica thread)) (core_in f).replicas)
+      (and_left (is_going (core_in f) && nothing_lent (core_in f) && lives_on (core_in f).kernel thread) (is_none ((core_in f).blocked thread))
+      (and_right (is_going (core_in f) && nothing_lent (core_in f)) (lives_on (core_in f).kernel thread) (ap (λ (k : Kernel). lives_on k thread) kernel-is ∙ dead)))
+
   -- there are as many replicas as settings say
   pub count-is : length (core_in f).replicas ≡ f.job.settings.replicas
   count-is = (ordered f.job f.journal h.legal).replica_count
@@ -326,7 +338,7 @@ lent-made core replica thread e =
     lives-within core.kernel thread (and_parts (is_home core replica) (lives_on core.kernel thread) parts.0).1
 
 -- where each other thread can be lent nowhere
-pub others-unlent : (core : Core) → ((t : ℕ) → t < threads_made core → comes_last core.streak t ≡ false → (r : ℕ) → is_lendable core r t ≡ false) → lend_turn core false ≡ None
+others-unlent : (core : Core) → ((t : ℕ) → t < threads_made core → comes_last core.streak t ≡ false → (r : ℕ) → is_lendable core r t ≡ false) → lend_turn core false ≡ None
 others-unlent core stand =
     ap (lend_in core false) (lowest-never (lend-test core false) (length core.replicas) (λ r.
     lends-none core false r (lowest-none (may_lend_in core false r) (threads_made core) (λ t less. by r t less (comes_last core.streak t) refl))))
@@ -334,3 +346,13 @@ others-unlent core stand =
     by : (r t : ℕ) → t < threads_made core → (b : Bool) → comes_last core.streak t ≡ b → (not (comes_last core.streak t) && is_lendable core r t) ≡ false
     by r t less true e = and_left (not (comes_last core.streak t)) (is_lendable core r t) (ap not e)
     by r t less false e = and_right (not (comes_last core.streak t)) (is_lendable core r t) (stand t less e r)
+
+-- where each other thread sleeps
+pub others-asleep : (core : Core) → ((t : ℕ) → t < threads_made core → comes_last core.streak t ≡ false → Sleeps core t) → turn_next core false ≡ None
+others-asleep core asleep =
+    ap (λ (o : Option ℕ). or_else (map_action DoVote o) (lend_turn core false)) (lowest-none (may_vote_in core false) (threads_made core) (λ t less. by t less (comes_last core.streak t) refl))
+    ∙ others-unlent core (λ t less early. (asleep t less early).unlent)
+  where
+    by : (t : ℕ) → t < threads_made core → (b : Bool) → comes_last core.streak t ≡ b → (not (comes_last core.streak t) && may_vote core t) ≡ false
+    by t less true e = and_left (not (comes_last core.streak t)) (may_vote core t) (ap not e)
+    by t less false e = and_right (not (comes_last core.streak t)) (may_vote core t) (asleep t less e).unvoted

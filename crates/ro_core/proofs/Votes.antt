@@ -36,7 +36,7 @@ use Rattle.ro_legal.specs.Legal.{event_in, core_after_event, after, MayVote, Pas
 use Rattle.ro_core.specs.Seen.{IsOfMajority, KeepsViews}
 use Rattle.ro_legal.specs.Sound.{IsFault}
 use Rattle.ro_core.specs.Fields.{one_end, blocked_at, AreSeated, AreHome, AreSpared, IsSeat, AreAllTwins, AreLosers, Fields, core_in, Holds}
-use Rattle.ro_core.specs.Happening.{event_by}
+use Rattle.ro_core.specs.Happening.{event_by, LeavesWaiting}
 use Rattle.ro_core.specs.Runs.{fields_of, job_of, IsHeld, IsAmid, MakesRoom, CanOccur, payload_by}
 use Rattle.ro_core.specs.Grouped.{AreGrouped, AreMade}
 use Rattle.ro_core.specs.Seated.{Stands}
@@ -242,8 +242,8 @@ module _ (f : Fields) (thread won : ℕ) (lost : Lost) (v : IsHeld f thread won 
 
     -- the event that the code has for it can be done
     pub hold-can : (r : Run) (e : Happening) (did : Did) (count next : ℕ) (threads : ℕ) → hold-event ≡ event_by e r.kernel.kernel (if e.writes then view.payload else []) → hold-event.did ≡ did → count ≡ view.since → next ≡ view.since + event_steps did → f.steps + next ≤ f.job.settings.limit
-        → IsAmid f r → Stands f.job r.seats (with_recovered won (numbers lost) (core_in f).replicas) → AreSpared r.seats.homes.items → threads ≡ length f.kernel.kernel.lives → CanOccur r (record { thread = thread; event = e; entry = Vote thread count won lost did; steps = next; writer = if e.writes then Some won else None; threads = threads })
-    hold-can r e did count next threads is did_is counts steps fits amid stands spared threads_are = record {
+        → IsAmid f r → Stands f.job r.seats (with_recovered won (numbers lost) (core_in f).replicas) → AreSpared r.seats.homes.items → threads ≡ length f.kernel.kernel.lives → (e.moves ≡ false → LeavesWaiting f.kernel.kernel r.kernel.kernel) → CanOccur r (record { thread = thread; event = e; entry = Vote thread count won lost did; steps = next; writer = if e.writes then Some won else None; threads = threads })
+    hold-can r e did count next threads is did_is counts steps fits amid stands spared threads_are leaves = record {
       before = f;
       holds = h;
       going = hold-going;
@@ -268,6 +268,7 @@ module _ (f : Fields) (thread won : ℕ) (lost : Lost) (v : IsHeld f thread won 
       threads_are = threads_are;
       counted = steps ∙ ap (λ (d : Did). view.since + event_steps d) (sym did_is ∙ ap (λ (x : Event). x.did) is);
       writes = writer-there e.writes;
+      leaves = leaves;
     }
       where
         here : slice_get r.views.items won ≡ Some view

@@ -29,3 +29,10 @@ IsEvent setup old new thread stop e = (payload : List ℕ) → event_of setup ol
 abbrev pub IsCallEvent : Setup → (old new : Kernel) → (thread : ℕ) → Asked → Happening → Type 0
 IsCallEvent setup old new thread call e =
     (payload : List ℕ) → call_event old thread call payload (serve setup old thread call) ≡ event_by e new (if e.writes then payload else [])
+
+-- what is left as it was: all on which hangs whether the call of a thread that is blocked would be done
+pub record LeavesWaiting (old new : Kernel) : Type 0 where
+  pub lives : new.lives ≡ old.lives
+  pub owners : new.owners ≡ old.owners
+  pub waiters : new.waiters ≡ old.waiters
+  pub given : new.given ≡ old.given

@@ -6,7 +6,7 @@ ghost use Rattle.ro_legal.specs.Core.{is_going, nothing_lent, is_lendable, may_v
 ghost use Rattle.ro_legal.specs.Legal.{is_stuck, may_scrub};
 ghost use Rattle.ro_legal.specs.Streaks.{is_long};
 ghost use Rattle.ro_legal.specs.Action.{lowest_below, threads_made, may_vote_in, may_lend_in, lend_turn, turn_next, lend_next, first_action, is_scrub_due, scrub_action, next_action as next};
-ghost use Rattle.ro_core.specs.Fields.{first_unblocked, Holds};
+ghost use Rattle.ro_core.specs.Fields.{first_unblocked, Holds, Sleeps};
 ghost use Rattle.ro_core.specs.Runs.{fields_of, job_of, state_of};
 
 use crate::cores::{Core, THREADS};
@@ -84,35 +84,41 @@ impl Core {
         requires holds { Holds (fields_of self.now) }
         ensures { result ≡ turn_next (state_of self.now) false }
     {
+        if self.do_others_sleep() {
+            return None;
+        }
         match self.lowest_to_vote() {
             Some(thread) => Some(Action::Vote(thread)),
-            None if self.do_others_stand() => None,
             None => self.lease_of_others(),
         }
     }
 
-    // Whether a thread comes last, and all others stand still in every replica, so that none of these can be lent.
-    fn do_others_stand(&self) -> bool
+    // Whether a thread comes last, and all others sleep, so that none of these can be voted on or lent.
+    fn do_others_sleep(&self) -> bool
         requires holds { Holds (fields_of self.now) }
-        ensures { result ≡ true → lend_turn (state_of self.now) false ≡ None }
+        ensures { result ≡ true → turn_next (state_of self.now) false ≡ None }
     {
         if !self.streak.is_long() {
             return false;
         }
         for thread in 0..self.kernel.made() {
-            if !self.streak.comes_last(thread) && self.may_run(thread) {
+            if !self.sleeps(thread) && !self.streak.comes_last(thread) {
                 return false;
             }
         }
         true
     }
 
-    // Whether a thread lives, and doesn't stand still in every replica.
-    fn may_run(&self, thread: u32) -> bool
+    // Whether a thread has exited, or is blocked and stands still in every replica.
+    fn sleeps(&self, thread: u32) -> bool
         requires holds { Holds (fields_of self.now) }
-        ensures { result ≡ false → (replica : ℕ) → is_lendable (state_of self.now) replica thread ≡ false }
+        requires thread { thread < 16 }
+        ensures { result ≡ true → Sleeps (state_of self.now) thread }
     {
-        self.kernel.lives_on(thread) && !self.seats.ready(thread)
+        match self.blocked_call(thread) {
+            Some(_) => self.seats.ready(thread),
+            None => !self.kernel.lives_on(thread),
+        }
     }
 
     // The vote or the first lease of the thread that comes last.
@@ -301,8 +307,25 @@ impl Core {
     }
 }
 
-/// The lowest thread whose call, on which it is blocked, would be done now.
-pub(crate) fn lowest_unblocked(kernel: &Kernel, blocked: &[Option<Call>; THREADS]) -> Option<u32>
+/// The lowest thread whose call, on which it is blocked, would be done now: the one that was it, where that stays so.
+pub(crate) fn unblocked_behind(
+    kernel: &Kernel,
+    blocked: &[Option<Call>; THREADS],
+    was: Option<u32>,
+    stays: bool,
+) -> Option<u32>
+    requires { stays ≡ true → was ≡ first_unblocked kernel.now blocked.now }
+    ensures { result ≡ first_unblocked kernel.now blocked.now }
+{
+    if stays {
+        was
+    } else {
+        lowest_unblocked(kernel, blocked)
+    }
+}
+
+// The lowest thread whose call, on which it is blocked, would be done now.
+fn lowest_unblocked(kernel: &Kernel, blocked: &[Option<Call>; THREADS]) -> Option<u32>
     ensures { result ≡ first_unblocked kernel.now blocked.now }
 {
     for thread in 0..kernel.made() {

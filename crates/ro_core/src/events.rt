@@ -1,13 +1,13 @@
 //! The event of a vote: what the winner's stop comes to.
-ghost use Rattle.std.specs.Prelude.{ℕ, ◌≡◌, List, IfOk, OnErr, [], Some, None, true, false, if◌then◌else◌};
+ghost use Rattle.std.specs.Prelude.{ℕ, ◌≡◌, List, IfOk, IsTrue, OnErr, [], Some, None, true, false, if◌then◌else◌};
 ghost use Rattle.ro_kernel.specs.Kernel.{lives_on, Kernel as KernelSeen};
 ghost use Rattle.ro_event.specs.declared.stops.Stop.{Stop as At};
 ghost use Rattle.ro_event.specs.declared.stops.Stop.TheVariants.{Calls};
 ghost use Rattle.ro_legal.specs.Event.{event_of, quiet_effect, call_event};
 ghost use Rattle.ro_core.specs.Fields.{outcome_with};
-ghost use Rattle.ro_core.specs.Happening.{event_by, IsCause, IsEvent, IsCallEvent};
+ghost use Rattle.ro_core.specs.Happening.{event_by, IsCause, IsEvent, IsCallEvent, LeavesWaiting};
 
-use ro_event::{Call, Effect, Stop};
+use ro_event::{Call, Effect, Stop, Which};
 use ro_journal::{Did, How};
 use ro_kernel::{Kernel, Served};
 use std::alloc::{AllocError, Global};
@@ -23,6 +23,8 @@ pub(crate) struct Event {
     pub due: Option<How>,
     /// Whether the payload is written to the output.
     pub writes: bool,
+    /// Whether it may change which of the calls on which threads are blocked would be done.
+    pub moves: bool,
 }
 
 /// What the stop of a thread comes to.
@@ -75,6 +77,7 @@ impl Coming {
     ) -> Result<Event, AllocError>
         requires { lives_on kernel.old.kernel thread ≡ true }
         ensures event { IfOk result (λ e. (stop : At) → IsCause kernel.old.setup kernel.old.kernel thread stop self.now.did self.now.cause → IsEvent kernel.old.setup kernel.old.kernel kernel.new.kernel thread stop e) }
+        ensures leaves { IfOk result (λ e. e.moves ≡ false → LeavesWaiting kernel.old.kernel kernel.new.kernel) }
         ensures setup { kernel.new.setup ≡ kernel.old.setup }
         ensures err { OnErr result (kernel.new ≡ kernel.old) }
     {
@@ -129,6 +132,7 @@ pub(crate) fn serve(
 ) -> Result<Event, AllocError>
     requires { lives_on kernel.old.kernel thread ≡ true }
     ensures event { IfOk result (IsCallEvent kernel.old.setup kernel.old.kernel kernel.new.kernel thread call) }
+    ensures leaves { IfOk result (λ e. e.moves ≡ false → LeavesWaiting kernel.old.kernel kernel.new.kernel) }
     ensures setup { kernel.new.setup ≡ kernel.old.setup }
     ensures err { OnErr result (kernel.new ≡ kernel.old) }
 {
@@ -138,7 +142,8 @@ pub(crate) fn serve(
 
 // The event of a call that came to this.
 fn event_of_call(alloc: Global, thread: u32, call: Call, served: Served) -> Event
-    ensures { (kernel after : KernelSeen) (payload : List ℕ) → (served ≡ Served.Blocked → after ≡ kernel) → call_event kernel thread call payload (outcome_with after served) ≡ event_by result after (if result.writes then payload else []) }
+    ensures moves { result.moves ≡ false → (number : ℕ) × (call.which ≡ Which.System number) }
+    ensures event { (kernel after : KernelSeen) (payload : List ℕ) → (served ≡ Served.Blocked → after ≡ kernel) → call_event kernel thread call payload (outcome_with after served) ≡ event_by result after (if result.writes then payload else []) }
 {
     match served {
         Served::Done(effect) => Event {
@@ -147,16 +152,27 @@ fn event_of_call(alloc: Global, thread: u32, call: Call, served: Served) -> Even
             blocked: None,
             due: None,
             writes: true,
+            moves: !is_system(call),
         },
         Served::Parked => waiting_event(alloc, Did::Parked, thread, call),
         Served::Blocked => waiting_event(alloc, Did::Blocked, thread, call),
-        Served::Ends(how) => quiet_event(alloc, Did::Served, thread, None, false, Some(how)),
+        Served::Ends(how) => Event {
+            moves: true,
+            ..quiet_event(alloc, Did::Served, thread, None, false, Some(how))
+        },
     }
+}
+
+// Whether a call is one of the system: those change nothing that a blocked call waits for.
+fn is_system(call: Call) -> bool
+    ensures { IsTrue result → (number : ℕ) × (call.which ≡ Which.System number) }
+{
+    matches!(call.which, Which::System(_))
 }
 
 // An event that leaves the thread blocked at its call.
 fn waiting_event(alloc: Global, did: Did, thread: u32, call: Call) -> Event
-    ensures { result ≡ record { did = did; effect = quiet_effect thread None false; blocked = Some call; due = None; writes = false } }
+    ensures { result ≡ record { did = did; effect = quiet_effect thread None false; blocked = Some call; due = None; writes = false; moves = true } }
 {
     Event {
         did,
@@ -164,6 +180,7 @@ fn waiting_event(alloc: Global, did: Did, thread: u32, call: Call) -> Event
         blocked: Some(call),
         due: None,
         writes: false,
+        moves: true,
     }
 }
 
@@ -176,7 +193,7 @@ fn quiet_event(
     releases: bool,
     due: Option<How>,
 ) -> Event
-    ensures { result ≡ record { did = did; effect = quiet_effect thread page releases; blocked = None; due = due; writes = false } }
+    ensures { result ≡ record { did = did; effect = quiet_effect thread page releases; blocked = None; due = due; writes = false; moves = false } }
 {
     Event {
         did,
@@ -184,6 +201,7 @@ fn quiet_event(
         blocked: None,
         due,
         writes: false,
+        moves: false,
     }
 }
 

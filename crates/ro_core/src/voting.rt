@@ -1,5 +1,5 @@
 //! Votes, and the calls that are served after one.
-ghost use Rattle.std.specs.Prelude.{◌≡◌, ◌⊎◌, ◌<◌, ◌≤◌, ◌∷◌, ◌++◌, ℕ, List, [], Some, true, IfOk, IfSome, OnErr, OnOk, length};
+ghost use Rattle.std.specs.Prelude.{◌≡◌, ◌⊎◌, ◌<◌, ◌≤◌, ◌∷◌, ◌++◌, ℕ, List, [], Some, None, true, false, IfOk, IfSome, OnErr, OnOk, length};
 ghost use Rattle.ro_vote.specs.Verdict.{verdict_of, Split};
 ghost use Rattle.ro_legal.specs.Core.{may_vote, may_free, views_of};
 ghost use Rattle.ro_legal.specs.Legal.{IsAllowed, output_of};
@@ -8,9 +8,10 @@ ghost use Rattle.ro_core.specs.Seen.{Appends, IsOfMajority, Stays};
 ghost use Rattle.ro_legal.specs.Decides.{DecidesVote, DecidesFree, IsSplit};
 ghost use Rattle.ro_core.specs.Runs.{fields_of, job_of, state_of, silent, payload_by, MakesRoom, IsHeld, CanOccur, LastWrote};
 
-use crate::choosing::lowest_unblocked;
+use crate::choosing::unblocked_behind;
 use crate::cores::Core;
 use crate::events::{Coming, Event, serve};
+use ro_event::Call;
 use ro_journal::{Entry, How};
 use ro_vote::{Won, verdict};
 use std::alloc::AllocError;
@@ -203,19 +204,27 @@ impl Core {
             threads,
         } = occurrence;
         let written = self.payload(writer).len();
-        let streak = self
-            .streak
-            .after_event(thread, self.blocked[thread as usize]);
+        let was = self.blocked[thread as usize];
+        let streak = self.streak.after_event(thread, was);
+        let stays = leaves_blocked(&event, was);
         self.seats.apply(&event.effect, threads);
         self.journal.push_reserved(entry);
         self.streak = streak;
         self.blocked[thread as usize] = event.blocked;
-        self.unblocked = lowest_unblocked(&self.kernel, &self.blocked);
+        self.unblocked = unblocked_behind(&self.kernel, &self.blocked, self.unblocked, stays);
         self.steps += steps;
         self.sent += written as u64;
         self.wrote = written as u32;
         self.due = event.due;
     }
+}
+
+// Whether the calls on which threads are blocked, and which of them would be done, surely stay as they were before an event of a
+// thread that was blocked on this call, if it was.
+fn leaves_blocked(event: &Event, was: Option<Call>) -> bool
+    ensures { result ≡ true → (event.now.moves ≡ false) × (event.now.blocked ≡ None) × (was ≡ None) }
+{
+    !event.moves && event.blocked.is_none() && was.is_none()
 }
 
 /// How a run of so many replicas ends where their views have no majority.

@@ -58,6 +58,7 @@ occur-requires c =
             leases = refl;
             setup = setup;
             blocked = refl;
+            unblocked = refl;
             steps = refl;
             scrubbed = refl;
             streak = refl;
@@ -66,7 +67,7 @@ occur-requires c =
             views = refl;
             room = c.in_ok-prepare.ensures.room;
           })
-          (ready-stands c.prepare.new.self m.holds (free-alone f m.holds c.args.thread may)) c.in_ok-prepare.ensures.spared c.made-threads.ensures.made;
+          (ready-stands c.prepare.new.self m.holds (free-alone f m.holds c.args.thread may)) c.in_ok-prepare.ensures.spared c.made-threads.ensures.made c.in_ok-event.ensures.leaves;
     }
 
 pub returns-clause-entry : goal.returns-clause-entry

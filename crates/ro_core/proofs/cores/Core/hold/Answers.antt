@@ -114,6 +114,7 @@ occur-requires c =
             leases = refl;
             setup = setup;
             blocked = refl;
+            unblocked = refl;
             steps = refl;
             scrubbed = refl;
             streak = refl;
@@ -122,7 +123,7 @@ occur-requires c =
             views = refl;
             room = c.in_ok-prepare.ensures.room;
           })
-          (c.heal.ensures.stands f.job (core_in f).replicas (ready-stands c.prepare.new.self m.holds (hold-alone f c.args.thread c.args.won.won c.args.won.lost v)) made) (c.heal.ensures.spared c.in_ok-prepare.ensures.spared) c.made-threads.ensures.made);
+          (c.heal.ensures.stands f.job (core_in f).replicas (ready-stands c.prepare.new.self m.holds (hold-alone f c.args.thread c.args.won.won c.args.won.lost v)) made) (c.heal.ensures.spared c.in_ok-prepare.ensures.spared) c.made-threads.ensures.made c.in_ok-event.ensures.leaves);
     }
 
 pub returns-clause-entry : goal.returns-clause-entry

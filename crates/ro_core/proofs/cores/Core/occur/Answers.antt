@@ -1,5 +1,5 @@
 use Rattle.std.proofs.Common.{◌+◌, ◌++◌, ◌∷◌, [], length, refl, ap, ◌∙◌, arith}
-use Rattle.ro_core.proofs.Occurring.{occurs-few, occurs-can, occurs-thread, occurs-threads, occurs-seats, occurs-steps, occurs-short, occurs-sent, occurs-holds, occurs-wrote}
+use Rattle.ro_core.proofs.Occurring.{occurs-few, occurs-can, occurs-thread, occurs-threads, occurs-seats, occurs-steps, occurs-short, occurs-sent, occurs-unblocked, occurs-holds, occurs-wrote}
 use Rattle.ro_core.proofs.cores.Core.occur.Goals as goal
 
 pub apply-requires-clause-few : goal.apply-requires-clause-few
@@ -20,6 +20,9 @@ bounds-self-thread c = occurs-few _ _ c.requires.can
 pub bounds-self-thread-2 : goal.bounds-self-thread-2
 bounds-self-thread-2 c = occurs-few _ _ c.requires.can
 
+pub unblocked_behind-self-requires : goal.unblocked_behind-self-requires
+unblocked_behind-self-requires c = λ e. occurs-unblocked _ _ c.requires.can (c.leaves_blocked-stays.ensures e)
+
 pub push_reserved-requires : goal.push_reserved-requires
 push_reserved-requires c = let room = c.requires.can.amid.room in omega arith
 
@@ -37,7 +40,7 @@ returns-clause-holds c =
     let can = c.requires.can in
     let stands = c.apply.ensures.stands can.before.job can.replicas can.stands can.made can.wait in
     occurs-holds _ _ can _ can.amid.job (c.push_reserved.ensures.items ∙ ap (λ js. js ++ c.args.occurrence.entry ∷ []) can.amid.journal) refl
-    stands.home stands.grouped can.amid.leases refl refl c.lowest_unblocked-self.ensures refl refl c.after_event-streak.ensures can.amid.ended can.amid.views (ap (λ xs. c.args.self.now.sent + length xs) c.payload-written.ensures) (ap (λ xs. length xs) c.payload-written.ensures) (let room = can.amid.room in omega (arith, c.push_reserved.ensures.len, c.push_reserved.ensures.capacity))
+    stands.home stands.grouped can.amid.leases refl refl c.unblocked_behind-self.ensures refl refl c.after_event-streak.ensures can.amid.ended can.amid.views (ap (λ xs. c.args.self.now.sent + length xs) c.payload-written.ensures) (ap (λ xs. length xs) c.payload-written.ensures) (let room = can.amid.room in omega (arith, c.push_reserved.ensures.len, c.push_reserved.ensures.capacity))
 
 pub returns-clause-wrote : goal.returns-clause-wrote
 returns-clause-wrote c = let can = c.requires.can in occurs-wrote _ _ can _ can.amid.job (c.push_reserved.ensures.items ∙ ap (λ js. js ++ c.args.occurrence.entry ∷ []) can.amid.journal) refl

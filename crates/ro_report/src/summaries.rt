@@ -3,7 +3,7 @@ ghost use Rattle.std.specs.Prelude.{◌≡◌, ◌+◌, ◌*◌, ◌%◌, ◌^�
 ghost use Rattle.ro_journal.specs.Counts.{struck_in, steps_in};
 ghost use Rattle.ro_report.specs.Report.{summary_text, plain_text, bench_text, weighed};
 
-use ro_journal::{Entry, copies, steps, struck, votes};
+use ro_journal::{Entry, Totals};
 use ro_text::{Line, ROOM, Text};
 
 /// Sums of bytes are numbers below this one.
@@ -16,11 +16,12 @@ pub fn summary(journal: &[Entry], bytes: u64) -> Line
     requires steps { steps_in journal.now < 2 ^ 64 }
     ensures { result ≡ summary_text journal.now bytes }
 {
+    let totals = Totals::of(journal);
     let mut text = Text::new();
-    push_field(&mut text, "votes ", votes(journal));
-    push_field(&mut text, " copies ", copies(journal));
-    push_field(&mut text, " struck ", struck(journal));
-    push_field(&mut text, " steps ", steps(journal));
+    push_field(&mut text, "votes ", totals.votes);
+    push_field(&mut text, " copies ", totals.copies);
+    push_field(&mut text, " struck ", totals.struck);
+    push_field(&mut text, " steps ", totals.steps);
     push_field(&mut text, " bytes ", bytes);
     text.end()
 }

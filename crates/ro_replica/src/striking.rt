@@ -30,7 +30,7 @@ impl Replica {
         self.strike_due(thread, done)
     }
 
-    // The same, where a fault may be due. It is no part of a run without faults, which so saves no registers for it.
+    // The same, where a fault may be due. It stands apart, since in a run without faults none is.
     #[cold]
     #[inline(never)]
     fn strike_due(&mut self, thread: u32, done: u128) -> u32

@@ -1,15 +1,11 @@
 //! Worked rows of whole runs, as tests: each an executable made of words, and what the command that runs it has to write,
-//! report and answer; and of journals: what an audit comes to, and what it tells.
+//! report and answer.
 #![tactic(auto)]
 
-#[cfg(test)]
-mod audits;
 #[cfg(test)]
 mod commands;
 #[cfg(test)]
 mod edges;
-#[cfg(test)]
-mod findings;
 #[cfg(test)]
 mod guests;
 #[cfg(test)]
@@ -20,5 +16,3 @@ mod rows;
 mod scrubs;
 #[cfg(test)]
 mod tests;
-#[cfg(test)]
-mod traps;

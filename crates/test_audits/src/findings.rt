@@ -56,63 +56,68 @@ fn symbol(alloc: Global, name: &str, offset: u32) -> Result<Symbol, AllocError> 
     })
 }
 
-// A variable whose name is not known, and one in an object.
-fn nameless(address: u32) -> Variable {
-    Variable {
-        address,
-        object: None,
-    }
-}
+/// An address, and the object that holds it with the place in it, if one is known.
+type Named = (u32, Option<(&'static str, u32)>);
 
-fn variable(
-    alloc: Global,
-    address: u32,
-    object: &str,
-    offset: u32,
-) -> Result<Variable, AllocError> {
-    Ok(Variable {
-        address,
-        object: Some(symbol(alloc, object, offset)?),
-    })
+fn variable(alloc: Global, named: Named) -> Result<Variable, AllocError> {
+    let (address, object) = named;
+    let object = match object {
+        Some((name, offset)) => Some(symbol(alloc, name, offset)?),
+        None => None,
+    };
+    Ok(Variable { address, object })
 }
 
 #[test]
 fn plain_ends(rt: HostRuntime) -> Result<(), Fail> {
     let alloc = rt.alloc();
-    let rows = [
-        (
-            None,
-            "The run has not ended.",
-            r#"{"copies":[],"end":null,"entries":8,"steps":3,"verdict":"legal"}"#,
-        ),
-        (
-            Some(Ended::Exit(7)),
-            "The program exited with status 7.",
-            r#"{"copies":[],"end":{"how":"exit","status":7},"entries":8,"steps":3,"verdict":"legal"}"#,
-        ),
-        (
-            Some(Ended::Sink(4)),
-            "The output failed, and took 4 bytes of the last write.",
-            r#"{"copies":[],"end":{"how":"sink","taken":4},"entries":8,"steps":3,"verdict":"legal"}"#,
-        ),
-        (
-            Some(Ended::Trap {
-                cause: TrapCause::ForbiddenFetch,
-                at: None,
-            }),
-            "The program trapped by cause 2: an instruction is fetched where nothing may be executed.",
-            r#"{"copies":[],"end":{"at":null,"cause":2,"how":"trap"},"entries":8,"steps":3,"verdict":"legal"}"#,
-        ),
+    assert_end(
+        &rt,
+        alloc,
+        None,
+        "The run has not ended.",
+        r#"{"copies":[],"end":null,"entries":8,"steps":3,"verdict":"legal"}"#,
+    )?;
+    assert_end(
+        &rt,
+        alloc,
+        Some(Ended::Exit(7)),
+        "The program exited with status 7.",
+        r#"{"copies":[],"end":{"how":"exit","status":7},"entries":8,"steps":3,"verdict":"legal"}"#,
+    )?;
+    assert_end(
+        &rt,
+        alloc,
+        Some(Ended::Sink(4)),
+        "The output failed, and took 4 bytes of the last write.",
+        r#"{"copies":[],"end":{"how":"sink","taken":4},"entries":8,"steps":3,"verdict":"legal"}"#,
+    )?;
+    assert_end(
+        &rt,
+        alloc,
+        Some(Ended::Trap {
+            cause: TrapCause::ForbiddenFetch,
+            at: None,
+        }),
+        "The program trapped by cause 2: an instruction is fetched where nothing may be executed.",
+        r#"{"copies":[],"end":{"at":null,"cause":2,"how":"trap"},"entries":8,"steps":3,"verdict":"legal"}"#,
+    )
+}
+
+// What is told of a legal journal with this end, of which one sentence tells.
+fn assert_end(
+    rt: &impl Abort,
+    alloc: Global,
+    end: Option<Ended>,
+    sentence: &str,
+    json: &str,
+) -> Result<(), Fail> {
+    let sentences = [
+        "legal",
+        "The journal has 8 entries, and its plan 3 steps.",
+        sentence,
     ];
-    for (end, sentence, json) in rows {
-        let sentences = [
-            "legal",
-            "The journal has 8 entries, and its plan 3 steps.",
-            sentence,
-        ];
-        assert_told(&rt, alloc, &legal(alloc, end), sentences.as_slice(), json)?;
-    }
-    Ok(())
+    assert_told(rt, alloc, &legal(alloc, end), sentences.as_slice(), json)
 }
 
 // Registers that hold their own numbers.
@@ -123,15 +128,21 @@ const REGISTERS: [u32; 31] = [
 
 // A thread that trapped.
 fn trapped(alloc: Global) -> Result<Trapped, AllocError> {
+    let place = place(alloc, 0x10074, "main", 0x20)?;
+    let instruction = Some(instruction(alloc)?);
     Ok(Trapped {
         thread: 1,
-        place: place(alloc, 0x10074, "main", 0x20)?,
+        place,
         registers: REGISTERS,
-        instruction: Some(Instruction {
-            word: 0x0C04_2C23,
-            text: String::from_str(alloc, "sw zero, 216(s0)")?,
-            touched: Some(0x100D8),
-        }),
+        instruction,
+    })
+}
+
+fn instruction(alloc: Global) -> Result<Instruction, AllocError> {
+    Ok(Instruction {
+        word: 0x0C04_2C23,
+        text: String::from_str(alloc, "sw zero, 216(s0)")?,
+        touched: Some(0x100D8),
     })
 }
 
@@ -170,39 +181,62 @@ fn a_trap(rt: HostRuntime) -> Result<(), Fail> {
     )
 }
 
+const NAMELESS_MUTEX: Named = (0x10100, None);
+
+const NAMELESS_CONDITION: Named = (0x10104, None);
+
+const GUARD: Named = (0x10100, Some(("guard", 0)));
+
+const READY: Named = (0x10104, Some(("ready", 0)));
+
+const IN_QUEUE: Named = (0x10114, Some(("queue", 12)));
+
 // A thread of each state; of those that wait for variables one whose names are known, and one whose names are not.
 fn waiting(alloc: Global) -> Result<Vec<Waiting>, AllocError> {
-    let states = [
-        State::Exited,
-        State::Locks {
-            mutex: variable(alloc, 0x10100, "guard", 0)?,
-            owner: Some(4),
-        },
-        State::Locks {
-            mutex: nameless(0x10100),
-            owner: None,
-        },
-        State::Waits {
-            condition: variable(alloc, 0x10104, "ready", 0)?,
-            signalled: false,
-            mutex: variable(alloc, 0x10114, "queue", 12)?,
-            owner: None,
-        },
-        State::Waits {
-            condition: nameless(0x10104),
-            signalled: true,
-            mutex: nameless(0x10100),
-            owner: Some(4),
-        },
-        State::Joins(1),
-        State::Blocked,
-        State::Unblocked,
-    ];
     let mut threads = Vec::new(alloc);
-    for (thread, state) in (0..8).zip(states) {
-        threads.push(Waiting { thread, state })?;
+    for thread in 0..8 {
+        threads.push(Waiting {
+            thread,
+            state: state_of(alloc, thread)?,
+        })?;
     }
     Ok(threads)
+}
+
+// The state of one of them.
+fn state_of(alloc: Global, thread: u32) -> Result<State, AllocError> {
+    match thread {
+        0 => Ok(State::Exited),
+        1 => locks(alloc, GUARD, Some(4)),
+        2 => locks(alloc, NAMELESS_MUTEX, None),
+        3 => waits(alloc, READY, false, IN_QUEUE, None),
+        4 => waits(alloc, NAMELESS_CONDITION, true, NAMELESS_MUTEX, Some(4)),
+        5 => Ok(State::Joins(1)),
+        6 => Ok(State::Blocked),
+        _ => Ok(State::Unblocked),
+    }
+}
+
+fn locks(alloc: Global, mutex: Named, owner: Option<u32>) -> Result<State, AllocError> {
+    let mutex = variable(alloc, mutex)?;
+    Ok(State::Locks { mutex, owner })
+}
+
+fn waits(
+    alloc: Global,
+    condition: Named,
+    signalled: bool,
+    mutex: Named,
+    owner: Option<u32>,
+) -> Result<State, AllocError> {
+    let condition = variable(alloc, condition)?;
+    let mutex = variable(alloc, mutex)?;
+    Ok(State::Waits {
+        condition,
+        signalled,
+        mutex,
+        owner,
+    })
 }
 
 #[test]
@@ -242,24 +276,30 @@ const LOCK: Call = Call {
     a3: 0,
 };
 
+// A stop of each kind, and none.
+const STOPS: [Option<Stop>; 5] = [
+    Some(Stop::Calls(LOCK)),
+    Some(Stop::Trap(TrapCause::NoInstruction)),
+    Some(Stop::PageFault(16)),
+    Some(Stop::Watchdog),
+    None,
+];
+
 // A thread at each stop, and one that does not stand still.
 fn standing(alloc: Global) -> Result<Vec<Standing>, AllocError> {
     let mut threads = Vec::new(alloc);
-    let stops = [
-        Stop::Calls(LOCK),
-        Stop::Trap(TrapCause::NoInstruction),
-        Stop::PageFault(16),
-        Stop::Watchdog,
-    ];
-    for (thread, stop) in (0..4).zip(stops) {
-        let at = Some((place(alloc, 0x10054, "main", 0)?, stop));
-        threads.push(Standing { thread, at })?;
+    for (thread, stop) in (0..5).zip(STOPS) {
+        threads.push(standing_at(alloc, thread, stop)?)?;
     }
-    threads.push(Standing {
-        thread: 4,
-        at: None,
-    })?;
     Ok(threads)
+}
+
+fn standing_at(alloc: Global, thread: u32, stop: Option<Stop>) -> Result<Standing, AllocError> {
+    let at = match stop {
+        Some(stop) => Some((place(alloc, 0x10054, "main", 0)?, stop)),
+        None => None,
+    };
+    Ok(Standing { thread, at })
 }
 
 #[test]
@@ -351,81 +391,94 @@ fn illegal(alloc: Global, why: Why) -> Findings {
     }
 }
 
+/// A vote that two replicas lose.
+const VOTE: Entry = Entry::Vote {
+    thread: 0,
+    count: 2,
+    won: 0,
+    lost: Lost::Two(1, 2),
+    did: Did::Served,
+};
+
+/// Why an entry is not allowed, and how that is told in both forms.
+const WHYS: &[(Why, &str, &str)] = &[
+    (
+        Why::NotLendable,
+        "The driver holds a lease or is none, or the thread can't be lent in that replica.",
+        r#"{"reason":"not_lendable"}"#,
+    ),
+    (
+        Why::NotOut,
+        "No such lease is out.",
+        r#"{"reason":"not_out"}"#,
+    ),
+    (
+        Why::Ran { count: 5, hit: 1 },
+        "The run of the lease comes back after 5 instructions and 1 faults.",
+        r#"{"count":5,"hit":1,"reason":"ran"}"#,
+    ),
+    (
+        Why::NoVote,
+        "The thread can't be voted on.",
+        r#"{"reason":"no_vote"}"#,
+    ),
+    (
+        Why::NoFree,
+        "The thread has no call that can be served.",
+        r#"{"reason":"no_free"}"#,
+    ),
+    (
+        Why::NoScrub,
+        "No scrub may be made here.",
+        r#"{"reason":"no_scrub"}"#,
+    ),
+    (
+        Why::Comes(VOTE),
+        "What is allowed in its place is: vote 0 2 0 1,2 served",
+        r#"{"entry":"vote 0 2 0 1,2 served","reason":"comes"}"#,
+    ),
+    (
+        Why::NoEnd,
+        "The run does not end so here.",
+        r#"{"reason":"no_end"}"#,
+    ),
+    (
+        Why::Behind,
+        "The run has ended before.",
+        r#"{"reason":"behind"}"#,
+    ),
+];
+
 #[test]
 fn illegal_entries(rt: HostRuntime) -> Result<(), Fail> {
-    let alloc = rt.alloc();
-    let vote = Entry::Vote {
-        thread: 0,
-        count: 2,
-        won: 0,
-        lost: Lost::Two(1, 2),
-        did: Did::Served,
-    };
-    let rows = [
-        (
-            Why::NotLendable,
-            "The driver holds a lease or is none, or the thread can't be lent in that replica.",
-            r#"{"reason":"not_lendable"}"#,
-        ),
-        (
-            Why::NotOut,
-            "No such lease is out.",
-            r#"{"reason":"not_out"}"#,
-        ),
-        (
-            Why::Ran { count: 5, hit: 1 },
-            "The run of the lease comes back after 5 instructions and 1 faults.",
-            r#"{"count":5,"hit":1,"reason":"ran"}"#,
-        ),
-        (
-            Why::NoVote,
-            "The thread can't be voted on.",
-            r#"{"reason":"no_vote"}"#,
-        ),
-        (
-            Why::NoFree,
-            "The thread has no call that can be served.",
-            r#"{"reason":"no_free"}"#,
-        ),
-        (
-            Why::NoScrub,
-            "No scrub may be made here.",
-            r#"{"reason":"no_scrub"}"#,
-        ),
-        (
-            Why::Comes(vote),
-            "What is allowed in its place is: vote 0 2 0 1,2 served",
-            r#"{"entry":"vote 0 2 0 1,2 served","reason":"comes"}"#,
-        ),
-        (
-            Why::NoEnd,
-            "The run does not end so here.",
-            r#"{"reason":"no_end"}"#,
-        ),
-        (
-            Why::Behind,
-            "The run has ended before.",
-            r#"{"reason":"behind"}"#,
-        ),
-    ];
-    for (why, sentence, reason) in rows {
-        let sentences = [
-            "illegal 2",
-            "The first entry that is not allowed is: free 1",
-            sentence,
-        ];
-        let json = format!(in alloc;
-            r#"{{"copies":[],"entries":8,"entry":"free 1","place":2,"verdict":"illegal","why":{reason}}}"#
-        )?;
-        assert_told(
-            &rt,
-            alloc,
-            &illegal(alloc, why),
-            sentences.as_slice(),
-            json.as_str(),
-        )?;
+    for (why, sentence, reason) in WHYS {
+        assert_illegal(&rt, rt.alloc(), *why, sentence, reason)?;
     }
     Ok(())
+}
+
+fn assert_illegal(
+    rt: &impl Abort,
+    alloc: Global,
+    why: Why,
+    sentence: &str,
+    reason: &str,
+) -> Result<(), Fail> {
+    let sentences = [
+        "illegal 2",
+        "The first entry that is not allowed is: free 1",
+        sentence,
+    ];
+    let json = format!(in alloc;
+        r#"{{"copies":[],"entries":8,"entry":"free 1","place":2,"verdict":"illegal","why":{reason}}}"#
+    )?;
+    assert_told(
+        rt,
+        alloc,
+        &illegal(alloc, why),
+        sentences.as_slice(),
+        json.as_str(),
+    )
 }
 
 // A guest that writes `hello` and ends with the status 0.

@@ -18,7 +18,7 @@ use Rattle.ro_condition.specs.Waiters.{wait_of, with_signal, with_broadcast}
 use Rattle.ro_kernel.specs.declared.Life.{Life}
 use Rattle.ro_kernel.specs.declared.Life.TheVariants.{Live, Exited, Joined}
 use Rattle.ro_kernel.specs.Kernel.{Setup, Kernel, ranges_in}
-use Rattle.ro_kernel.specs.Serve.{Served, Done, Parked, Blocked, Ends, answers, stores_effect, minus, capped, fits, is_owner, is_free, begins_wait, ends_wait, wait_at, signals, serve_read, serve_write, serve_brk, serve_system, serve_create, joined, serve_join_at, serve_exit, lock_at, trylock_at, unlock_at, on_word, serve_which, serve}
+use Rattle.ro_kernel.specs.Serve.{Served, Done, Blocked, Ends, answers, stores_effect, minus, capped, fits, is_owner, is_free, begins_wait, ends_wait, wait_at, signals, serve_read, serve_write, serve_brk, serve_system, serve_create, joined, serve_join_at, serve_exit, lock_at, trylock_at, unlock_at, on_word, serve_which, serve}
 
 -- a call that may set the owner of a mutex
 pub data IsOnMutex : Which → Type 0 where

@@ -1,5 +1,5 @@
 -- What a wait comes to, and what each call does to who waits.
-use Rattle.std.specs.Prelude.{◌≡◌, ◌≢◌, ℕ, Bool, true, false, cond, not, ◌&&◌, Option, Some, None, is_some}
+use Rattle.std.specs.Prelude.{◌≡◌, ◌≢◌, ℕ, Bool, true, false, cond, ◌&&◌, Option, Some, None, is_some}
 use Rattle.std.proofs.Common.{refl, sym, ap, ◌∙◌, subst}
 use Rattle.std.proofs.lemmas.Bool.{true≢false, false≢true, eqb-true, and_parts}
 use Rattle.ro_event.specs.declared.calls.Which.{Which}
@@ -8,13 +8,13 @@ use Rattle.ro_event.specs.declared.functions.Function.TheVariants.{Join, Lock, W
 use Rattle.ro_event.specs.declared.calls.Call.{Call}
 use Rattle.ro_event.specs.Effects.{Effect}
 use Rattle.ro_journal.specs.declared.How.{How}
-use Rattle.ro_mutex.specs.Owners.{owner_of, with_owner}
+use Rattle.ro_mutex.specs.Owners.{owner_of}
 use Rattle.ro_mutex.proofs.Given.{owner_of-given}
 use Rattle.ro_condition.specs.declared.waiters.Waiter.{Waiter}
 use Rattle.ro_condition.specs.Waiters.{wait_of}
 use Rattle.ro_condition.proofs.Whose.{is_waiting, signal-waits, broadcast-waits, begun-waits, begun-others as listed-others, ended-others}
 use Rattle.ro_kernel.specs.Kernel.{Setup, Kernel}
-use Rattle.ro_kernel.specs.Serve.{Served, Done, Parked, Blocked, Ends, answers, fits, is_owner, is_free, begins_wait, ends_wait, wait_at, on_word, is_blocked, is_parked, serve_which, serve, parks}
+use Rattle.ro_kernel.specs.Serve.{Served, Done, Parked, Blocked, Ends, answers, is_owner, is_free, begins_wait, ends_wait, wait_at, is_blocked, is_parked, serve_which, serve, parks}
 use Rattle.ro_kernel.proofs.Shapes.{IsWaking, wakes_first, wakes_all, IsWaiting, for_thread, for_mutex, for_signal, Shape, says, reads, breaks, owns, wakes, parks_at, resumes, makes, joins, leaves, waits, stops, stops_last, shape-of}
 
 -- the others who wait go on waiting, whatever comes of a call of thread u

@@ -15,7 +15,6 @@ use Rattle.ro_journal.specs.Losers.{numbers}
 use Rattle.ro_journal.specs.declared.losers.Lost.{Lost}
 use Rattle.ro_vote.specs.Numbers.{is_among}
 use Rattle.ro_journal.specs.declared.Did.{Did}
-use Rattle.ro_journal.specs.declared.Did.TheVariants.{Served, Parked, Blocked, PageBacked, Watch, Trapped}
 use Rattle.ro_journal.specs.declared.How.{How}
 use Rattle.ro_journal.specs.declared.Entry.{Entry}
 use Rattle.ro_journal.specs.declared.Entry.TheVariants.{Take, Put, Vote, Free, Scrub, End}
@@ -31,7 +30,7 @@ use Rattle.ro_plain.proofs.Calls.{some-injective, slice_get-append}
 use Rattle.ro_journal.specs.declared.Lease.{Lease}
 use Rattle.ro_legal.specs.Core.{Job, Core, opening_core, is_home, is_lease, is_out, is_lendable}
 use Rattle.ro_legal.specs.Event.{Event, quiet_effect, call_event, event_of, with_recovered}
-use Rattle.ro_legal.specs.Legal.{lease_run, arrival, arrived, core_after_put, core_after_event, event_in, freed_event, after, IsAllowed, MayPut, MayVote, MayFree, LegalFrom, Legal, replay}
+use Rattle.ro_legal.specs.Legal.{lease_run, arrival, arrived, core_after_put, core_after_event, event_in, freed_event, after, IsAllowed, MayPut, MayVote, MayFree, Legal, replay}
 use Rattle.ro_legal.specs.Laws.{thread_in, leaves_blocked, LeavesBlocked, LetsGoOn}
 use Rattle.ro_legal.proofs.Lists.{get-map-there, get-set-same, changed-is-set}
 use Rattle.ro_legal.proofs.Copies.{copied-other}
@@ -39,7 +38,7 @@ use Rattle.ro_legal.proofs.Effects.{backed_after, threads_after}
 use Rattle.ro_legal.proofs.Happens.{Happens, event-happens, call-happens}
 use Rattle.ro_legal.proofs.Journals.{LegalFrom-parts, legal-keeps, replay_more}
 use Rattle.ro_legal.proofs.Leases.{Apart, has_replica, same-lease, out_has, gone, event_leases, apart_after}
-use Rattle.ro_legal.proofs.Ordered.{going-parts, put-parts, vote-parts, free-parts, scrub-parts, event-parts, freed-is}
+use Rattle.ro_legal.proofs.Ordered.{put-parts, vote-parts, free-parts, scrub-parts, event-parts, freed-is}
 use Rattle.ro_legal.proofs.Outcomes.{over_from}
 use Rattle.ro_legal.proofs.Retired.{RunMeets, meets}
 

@@ -16,12 +16,11 @@ use Rattle.ro_kernel.proofs.Given.{given-parked, given-ended, none-given}
 use Rattle.ro_replica.specs.Replica.{Replica, stop_of}
 use Rattle.ro_replica.specs.Runs.{RanTo}
 use Rattle.ro_replica.specs.Seen.{first_layout}
-use Rattle.ro_exec.specs.Next.{Layout}
 use Rattle.ro_plain.specs.Machine.{setup_of, layout_in}
 use Rattle.ro_plain.proofs.Wider.{layout-same}
 use Rattle.ro_legal.specs.Core.{Job, Core, opening_core}
-use Rattle.ro_legal.specs.Event.{Event, call_event, event_of, with_recovered}
-use Rattle.ro_legal.specs.Legal.{core_after_put, core_after_event, lease_run, event_with, event_in, freed_event, after, replay_from, replay, replay_with}
+use Rattle.ro_legal.specs.Event.{call_event, event_of, with_recovered}
+use Rattle.ro_legal.specs.Legal.{core_after_put, core_after_event, lease_run, event_with, after, replay_from, replay, replay_with}
 
 -- a call
 call-ungiven : (setup : Setup) (kernel : Kernel) (thread : ℕ) (call : Call) (payload : List ℕ) → (call_event kernel thread call payload (serve setup kernel thread call)).kernel.given ≡ kernel.given

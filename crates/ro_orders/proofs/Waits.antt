@@ -1,8 +1,7 @@
 -- A wait ends by a signal or a broadcast behind its beginning.
-use Rattle.std.specs.Prelude.{◌≡◌, ◌⊎◌, ℕ, zero, suc, ◌+◌, ◌<◌, Bool, true, false, cond, List, [], ◌∷◌, ◌++◌, length, take, map, Option, Some, None, slice_get, ◌==◌}
-use Rattle.std.specs.List.{find}
+use Rattle.std.specs.Prelude.{◌≡◌, ◌⊎◌, ℕ, zero, suc, ◌+◌, Bool, true, false, cond, List, [], ◌∷◌, ◌++◌, length, take, Some, None, slice_get, ◌==◌}
 use Rattle.std.specs.Option.{option_and_then}
-use Rattle.std.proofs.Common.{refl, sym, ap, ◌∙◌, subst, arith, inl, inr}
+use Rattle.std.proofs.Common.{refl, sym, ap, ◌∙◌, subst, inl, inr}
 use Rattle.std.proofs.lemmas.Bool.{false≢true, eqb-true, and_parts}
 use Rattle.std.proofs.lemmas.Option.{slice_get_within, option_and_then_some}
 use Rattle.ro_event.specs.declared.calls.Call.{Call}
@@ -15,15 +14,15 @@ use Rattle.ro_exec.specs.declared.Cpu.{Cpu}
 use Rattle.ro_exec.specs.Next.{Next, Stands, Executes}
 use Rattle.ro_journal.specs.declared.How.{How}
 use Rattle.ro_condition.specs.declared.waiters.Waiter.{Waiter}
-use Rattle.ro_condition.specs.Waiters.{wait_of, is_of, waits_for, without, woken, with_signal, heard_of, with_broadcast}
+use Rattle.ro_condition.specs.Waiters.{wait_of, waits_for, without, woken, with_signal, with_broadcast}
 use Rattle.ro_kernel.specs.Kernel.{Setup, Kernel}
-use Rattle.ro_kernel.specs.Serve.{Served, Done, Parked, Blocked, Ends, serve, payload_of}
+use Rattle.ro_kernel.specs.Serve.{Served, Done, Parked, Blocked, Ends, serve}
 use Rattle.ro_kernel.proofs.Shapes.{IsWaking, wakes_first, wakes_all, Shape, says, reads, breaks, owns, wakes, parks_at, resumes, makes, joins, leaves, waits, stops, stops_last, shape-of}
 use Rattle.ro_kernel.proofs.Waiting.{wait-ended-well}
 use Rattle.ro_plain.specs.Machine.{Program, setup_of, Machine, opening, called, step_by, next_of, steppable, step, run, payload_in}
 use Rattle.ro_plain.proofs.Calls.{some-injective, slice_get-append}
 use Rattle.ro_plain.proofs.Swap.{run-append, take-seam}
-use Rattle.ro_orders.specs.Waits.{served_next, served_in, BeginsWait, Wakes, Began, BeganAndWoken}
+use Rattle.ro_orders.specs.Waits.{served_next, served_in, Began, BeganAndWoken}
 
 -- ---- lists
 

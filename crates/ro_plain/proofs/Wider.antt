@@ -1,5 +1,5 @@
 -- With a range more a thread does what it did, but where it stood at a trap; and at a trap too where it touches no byte of that range.
-use Rattle.std.specs.Prelude.{◌≡◌, ℕ, ◌%◌, Bool, true, false, not, ◌==◌, List, [], ◌∷◌, ◌++◌, Option, Some, None, ⊤}
+use Rattle.std.specs.Prelude.{◌≡◌, ℕ, ◌%◌, Bool, true, false, not, ◌==◌, List, ◌∷◌, ◌++◌, Option, Some, None, ⊤}
 use Rattle.std.specs.Option.{option_map}
 use Rattle.std.proofs.Common.{refl, sym, ap, ◌∙◌}
 use Rattle.std.proofs.lemmas.Bool.{true≢false, and_from, le-leb, lt-ltb}
@@ -7,7 +7,7 @@ use Rattle.ro_decode.specs.declared.Instr.{Instr}
 use Rattle.ro_decode.specs.declared.Instr.TheVariants.{Lui, Auipc, Jal, Jalr, Branch, Load, Store, AluImm, Alu, MulDiv, Fence, Ecall, Ebreak}
 use Rattle.ro_decode.specs.Table.{instruction_of}
 use Rattle.ro_event.specs.declared.stops.Stop.{Stop}
-use Rattle.ro_event.specs.declared.stops.Stop.TheVariants.{Trap, PageFault}
+use Rattle.ro_event.specs.declared.stops.Stop.TheVariants.{Trap}
 use Rattle.ro_event.specs.declared.traps.TrapCause.{TrapCause}
 use Rattle.ro_event.specs.declared.traps.TrapCause.TheVariants.{ForbiddenFetch, ForbiddenLoad, ForbiddenStore, MisalignedLoad, MisalignedPc, MisalignedStore}
 use Rattle.ro_event.specs.declared.calls.Which.TheVariants.{Function}
@@ -18,7 +18,7 @@ use Rattle.ro_region.specs.declared.Kind.{Kind}
 use Rattle.ro_region.specs.declared.Kind.TheVariants.{Read, Write, Execute}
 use Rattle.ro_region.specs.Permission.{permits_of, with_range}
 use Rattle.ro_region.proofs.Wider.{lies_in, Reaches, permits-wider, permits-newly}
-use Rattle.ro_pages.specs.Bytes.{Memory, Span, within, number_at, page_of}
+use Rattle.ro_pages.specs.Bytes.{Memory, Span, within, number_at}
 use Rattle.ro_exec.specs.declared.Cpu.{Cpu}
 use Rattle.ro_exec.specs.Meaning.{loads, stores}
 use Rattle.ro_exec.specs.Next.{Layout, Backed, all_backed, exit_place, call_of, Next, Stands, Executes, first, stop_if, access_stop, fetch_stop, instruction_stop, unless_stop, next_at, next}

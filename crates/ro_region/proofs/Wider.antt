@@ -1,5 +1,5 @@
 -- With a range more what was permitted stays so, and a stretch that is permitted only then has a byte in that range.
-use Rattle.std.specs.Prelude.{◌≡◌, ℕ, zero, suc, ◌+◌, ◌<◌, ◌≤◌, ◌^◌, Bool, true, false, ◌&&◌, ◌||◌, List, ◌∷◌, nat_le, nat_lt}
+use Rattle.std.specs.Prelude.{◌≡◌, ℕ, zero, suc, ◌+◌, ◌<◌, ◌≤◌, Bool, true, false, ◌&&◌, ◌||◌, List, ◌∷◌, nat_le, nat_lt}
 use Rattle.std.proofs.Common.{refl, sym, ◌∙◌, arith, ⊎_elim}
 use Rattle.std.proofs.lemmas.Bool.{and_from, and_parts, or_right, true≢false, cases_Bool}
 use Rattle.ro_region.specs.declared.Kind.{Kind}

@@ -13,7 +13,7 @@ use Rattle.ro_journal.specs.declared.How.TheVariants.{Exit, Trap, Deadlock, Limi
 use Rattle.ro_journal.specs.declared.Entry.{Entry}
 use Rattle.ro_condition.specs.Waiters.{wait_of}
 use Rattle.ro_kernel.specs.Kernel.{Setup, Kernel, lives_on}
-use Rattle.ro_kernel.specs.Serve.{Served, Done, Parked, Blocked, Ends, serve, is_served, serves, is_parked, parks, payload_of}
+use Rattle.ro_kernel.specs.Serve.{Served, Done, Parked, Blocked, Ends, serve, is_served, serves, is_parked, parks}
 use Rattle.ro_kernel.proofs.Waiting.{waiter-unparked, parked-waits}
 use Rattle.ro_exec.specs.declared.Cpu.{Cpu}
 use Rattle.ro_thread.specs.declared.Thread.{Thread}

@@ -12,7 +12,7 @@ use Rattle.ro_event.specs.Effects.{Effect}
 use Rattle.ro_pages.specs.Bytes.{Memory, stored}
 use Rattle.ro_kernel.specs.declared.Life.{Life}
 use Rattle.ro_kernel.specs.Kernel.{Kernel, live_option, lives_on}
-use Rattle.ro_kernel.specs.Serve.{Done, Parked, serve, payload_of}
+use Rattle.ro_kernel.specs.Serve.{Done, Parked, serve}
 use Rattle.ro_kernel.proofs.Kept.{IsOwn, slice_get-set_other}
 use Rattle.ro_kernel.proofs.Given.{given-parked}
 use Rattle.ro_exec.specs.declared.Cpu.{Cpu}

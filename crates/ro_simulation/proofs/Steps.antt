@@ -12,14 +12,14 @@ use Rattle.ro_event.specs.declared.stops.Stop.TheVariants.{Calls, Trap, PageFaul
 use Rattle.ro_event.specs.declared.traps.TrapCause.{TrapCause}
 use Rattle.ro_event.specs.Effects.{Effect}
 use Rattle.ro_journal.specs.declared.Did.{Did}
-use Rattle.ro_journal.specs.declared.Did.TheVariants.{Blocked as WasBlocked, Parked as WasParked, PageBacked, Watch, Trapped}
+use Rattle.ro_journal.specs.declared.Did.TheVariants.{Blocked as WasBlocked, PageBacked, Watch, Trapped}
 use Rattle.ro_journal.specs.declared.How.{How}
 use Rattle.ro_journal.specs.declared.How.TheVariants.{Trap as TrapHow}
 use Rattle.ro_journal.specs.Plan.{event_steps}
 use Rattle.ro_condition.proofs.Whose.{is_waiting}
 use Rattle.ro_kernel.specs.declared.Life.{Life}
 use Rattle.ro_kernel.specs.Kernel.{Setup, Kernel, live_option, lives_on, ranges_in}
-use Rattle.ro_kernel.specs.Serve.{Served, Done, Parked, Blocked, Ends, serve, payload_of, is_write}
+use Rattle.ro_kernel.specs.Serve.{Served, Done, Parked, Blocked, Ends, serve, is_write}
 use Rattle.ro_kernel.proofs.Kept.{Own, done, parked, blocked, ends, serve-own, IsServed, system-served}
 use Rattle.ro_kernel.proofs.Waiting.{served-others, begun-others, begun-now, blocked-waits, parked-waits}
 use Rattle.ro_kernel.proofs.Given.{given-parked}

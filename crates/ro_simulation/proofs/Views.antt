@@ -7,7 +7,6 @@ use Rattle.ro_decode.specs.declared.Instr.{Instr}
 use Rattle.ro_event.specs.declared.stops.Stop.{Stop}
 use Rattle.ro_event.specs.declared.stops.Stop.TheVariants.{Calls, Trap, PageFault, Watchdog}
 use Rattle.ro_event.specs.Views.{View}
-use Rattle.ro_region.specs.declared.Range.{Range}
 use Rattle.ro_pages.specs.Bytes.{Memory}
 use Rattle.ro_kernel.specs.Kernel.{Kernel, lives_on, ranges_in}
 use Rattle.ro_kernel.specs.Serve.{payload_of}

@@ -8,7 +8,7 @@ use Rattle.ro_journal.specs.declared.How.{How}
 use Rattle.ro_journal.specs.declared.How.TheVariants.{Exit as ByExit, Deadlock as ByDeadlock, Trap as ByTrap, Limit as ByLimit, Differ as ByDiffer, NoMajority as ByNoMajority, Sink as BySink}
 use Rattle.ro_journal.specs.declared.Entry.{Entry}
 use Rattle.ro_journal.specs.Plan.{plan_of}
-use Rattle.ro_kernel.specs.Serve.{Served, Done, Parked, Blocked, Ends, serve, payload_of}
+use Rattle.ro_kernel.specs.Serve.{Served, Done, Parked, Blocked, Ends, serve}
 use Rattle.ro_kernel.specs.Kernel.{Kernel}
 use Rattle.ro_plain.specs.Machine.{Program, Machine, affected, executed, opening, called, setup_of, step_by, next_of, steppable, step, run, payload_in}
 use Rattle.ro_legal.specs.Sound.{IsOver, traps}

@@ -1,4 +1,4 @@
-use Rattle.std.proofs.Common.{not, sym, ap, ◌∙◌}
+use Rattle.std.proofs.Common.{sym, ◌∙◌}
 use Rattle.std.proofs.lemmas.Bool.{not-true, not_from_true}
 use Rattle.ro_core.specs.Runs.{fields_of}
 use Rattle.ro_core.proofs.Tests.{gone, standing, blocked-unvoted, gone-unvoted}

@@ -6,6 +6,7 @@ use mathlib.Core.Logic.{dite}
 use native.Mathlib.Decide.{ℕ_discrete}
 use Rattle.ro_journal.specs.declared.Entry.{Entry}
 use Rattle.ro_journal.specs.declared.Entry.TheVariants.{Take, Put}
+use Rattle.ro_kernel.specs.Kernel.{Kernel}
 use Rattle.ro_replica.specs.Seen.{replica_of}
 use Rattle.ro_lease.specs.Loans.{LentOf}
 use Rattle.ro_journal.specs.declared.Lease.{Lease}
@@ -15,7 +16,7 @@ use Rattle.ro_core.specs.Seen.{IsOfJob}
 use Rattle.ro_legal.specs.Sound.{IsOrdered}
 use Rattle.ro_legal.specs.Laws.{HasLease, Names}
 use Rattle.ro_legal.proofs.Leases.{Apart, OneEach, has_driver, same-lease, out_number}
-use Rattle.ro_legal.proofs.Lasting.{out_after, idle_after, idle_after_put}
+use Rattle.ro_legal.proofs.Lasting.{out_after, out_kernel, idle_after, idle_after_put}
 use Rattle.ro_legal.proofs.Ordered.{going-parts}
 use Rattle.ro_audit.specs.Following.{Slot}
 
@@ -30,7 +31,8 @@ module _ (job : Job) (core : Core) where
   slot-other driver by entry ordered apart allowed names ne (Some lent) s =
       let out : HasLease core driver lent.lease (replica_of lent.replica) = record { held = s.held; there = s.there; not_ended = s.not_ended } in
       let still = out_after job core driver lent.lease (replica_of lent.replica) by entry ordered apart allowed names ne out in
-      record { quantum_is = s.quantum_is; program = s.program; held = still.held; there = still.there; not_ended = still.not_ended }
+      let kernel = out_kernel job core driver lent.lease (replica_of lent.replica) entry allowed out in
+      record { quantum_is = s.quantum_is; program = subst (λ (k : Kernel). IsOfJob job k lent.replica) (sym kernel) s.program; held = still.held; there = still.there; not_ended = still.not_ended }
 
   -- where one slot changes with its driver's entry
   slot-set : (by : ℕ) (entry : Entry) (lent : List (Option LentOf)) (o : Option LentOf) → IsOrdered job core → Apart core.leases → IsAllowed job core entry → Names by entry → by < length lent → AreSlots job core lent → Slot job (after job core entry) by o
@@ -41,7 +43,7 @@ module _ (job : Job) (core : Core) where
 
   -- a take
   pub slots-take : (lease : Lease) (lent : List (Option LentOf)) (loan : LentOf) → IsOrdered job core → Apart core.leases → MayTake job core lease → length lent ≡ job.settings.drivers → AreSlots job core lent
-      → loan.lease ≡ lease → loan.quantum ≡ job.settings.quantum → IsOfJob job loan.replica → slice_get core.replicas lease.replica ≡ Some (replica_of loan.replica)
+      → loan.lease ≡ lease → loan.quantum ≡ job.settings.quantum → IsOfJob job core.kernel loan.replica → slice_get core.replicas lease.replica ≡ Some (replica_of loan.replica)
       → AreSlots job (after job core (Take lease)) (slice_set lent lease.driver (Some loan))
   unfolding after
   slots-take lease lent loan ordered apart may count slots lease_is quantum_is program there =

@@ -29,7 +29,6 @@ use Rattle.ro_legal.proofs.Journals.{replay_more}
 use Rattle.ro_legal.proofs.Leases.{event_leases, leases_apart, one_each}
 use Rattle.ro_legal.proofs.Ordered.{end-alone, vote-parts, free-parts, scrub-parts, ordered}
 use Rattle.ro_legal.proofs.Single.{one-decides, one-frees, one-scrubs}
-use Rattle.ro_legal.proofs.Ungiven.{layout-first}
 use Rattle.ro_core.proofs.Lending.{put_became, out_found}
 use Rattle.ro_audit.specs.declared.follower.Why.{Why}
 use Rattle.ro_audit.specs.declared.follower.Why.TheVariants.{NotOut, Ran}
@@ -71,12 +70,12 @@ take-follows old new lease lent lent' output quantum value f may a holds same it
 
 -- ---- a put
 
-module _ (job : Job) (core : Core) (driver : ℕ) (lent : LentOf) (back : BackOf) (s : Lends job core driver lent) (g : Gives lent back) (laid : lent.replica.layout ≡ layout_in job.program core.kernel) where
+module _ (job : Job) (core : Core) (driver : ℕ) (lent : LentOf) (back : BackOf) (s : Lends job core driver lent) (g : Gives lent back) where
   runs : Runs (layout_in job.program core.kernel) job.settings.watchdog job.settings.quantum lent.lease.thread (replica_of lent.replica) (replica_of back.replica) back.ran.count back.ran.hit back.ran.stop
   runs =
       subst (λ (n : ℕ). Runs (layout_in job.program core.kernel) job.settings.watchdog n lent.lease.thread (replica_of lent.replica) (replica_of back.replica) back.ran.count back.ran.hit back.ran.stop) s.quantum_is
       (subst (λ (w : ℕ). Runs (layout_in job.program core.kernel) w lent.quantum lent.lease.thread (replica_of lent.replica) (replica_of back.replica) back.ran.count back.ran.hit back.ran.stop) s.program.watchdog
-      (subst (λ (l : Layout). Runs l lent.replica.watchdog lent.quantum lent.lease.thread (replica_of lent.replica) (replica_of back.replica) back.ran.count back.ran.hit back.ran.stop) laid g.runs))
+      (subst (λ (l : Layout). Runs l lent.replica.watchdog lent.quantum lent.lease.thread (replica_of lent.replica) (replica_of back.replica) back.ran.count back.ran.hit back.ran.stop) s.program.layout g.runs))
 
   lease-runs : lease_run job core lent.lease back.ran.count ≡ Some runs.end
   lease-runs = ap (option_and_then (λ (r : Replica). run_of (layout_in job.program core.kernel) job.settings.watchdog back.ran.count r lent.lease.thread)) s.there ∙ runs.runs
@@ -116,19 +115,15 @@ module _ (job : Job) (core : Core) (driver : ℕ) (lent : LentOf) (back : BackOf
       in
       (one.0, sym runs.hit_is ∙ one.1 ∙ m.struck)
 
--- what is lent has the layout of the core
-lays : (core : Fields) (driver : ℕ) (lent : LentOf) → Lends core.job (core_in core) driver lent → lent.replica.layout ≡ layout_in core.job.program (core_in core).kernel
-lays core driver lent s = s.program.layout ∙ sym (layout-first core.job core.journal)
-
 -- what the driver may put back
 pub may-return : (core : Fields) (driver : ℕ) (lent : LentOf) (back : BackOf) → Lends core.job (core_in core) driver lent → Gives lent back → (m : MayReturn (seen core) driver back.replica back.ran.count back.ran.hit) × (m.lease ≡ lent.lease)
 may-return core driver lent back s g = (
   record {
     lease = lent.lease;
     held = s.held;
-    allowed = run-may-put core.job (core_in core) driver lent back s g (lays core driver lent s);
-    program = record { layout = g.program.layout ∙ s.program.layout; watchdog = g.program.watchdog ∙ s.program.watchdog };
-    became = run-became core.job (core_in core) driver lent back s g (lays core driver lent s);
+    allowed = run-may-put core.job (core_in core) driver lent back s g;
+    program = record { layout = g.program.layout ∙ s.program.layout; given = g.program.given ∙ s.program.given; watchdog = g.program.watchdog ∙ s.program.watchdog };
+    became = run-became core.job (core_in core) driver lent back s g;
   },
   refl,
 )
@@ -318,8 +313,8 @@ other-lent core lease count hit lent answer legal s is fails = not-out core leas
 pub other-run : (core : Fields) (lease : Lease) (count hit : ℕ) (lent : LentOf) (back : BackOf) (answer : Bool) → Lends core.job (core_in core) lease.driver lent → Gives lent back → lent.lease ≡ lease
     → IsTrue answer ↔ ((back.ran.count ≡ count) × (back.ran.hit ≡ hit)) → answer ≡ false → Refuses core (Put lease count hit) (Ran back.ran.count back.ran.hit)
 other-run core lease count hit lent back answer s g its is fails = (
-  λ m. true≢false (sym (is.1 (run-is-one core.job (core_in core) lease.driver lent back s g (lays core lease.driver lent s) count hit (subst (λ (l : Lease). MayPut core.job (core_in core) l count hit) (sym its) m))) ∙ fails),
-  (subst (λ (l : Lease). MayPut core.job (core_in core) l back.ran.count back.ran.hit) its (run-may-put core.job (core_in core) lease.driver lent back s g (lays core lease.driver lent s)), λ same. true≢false (sym (is.1 same) ∙ fails)),
+  λ m. true≢false (sym (is.1 (run-is-one core.job (core_in core) lease.driver lent back s g count hit (subst (λ (l : Lease). MayPut core.job (core_in core) l count hit) (sym its) m))) ∙ fails),
+  (subst (λ (l : Lease). MayPut core.job (core_in core) l back.ran.count back.ran.hit) its (run-may-put core.job (core_in core) lease.driver lent back s g), λ same. true≢false (sym (is.1 same) ∙ fails)),
 )
 
 -- a put that was followed
@@ -327,7 +322,7 @@ pub put-followed : (core new : Fields) (lease : Lease) (count hit : ℕ) (lent :
     → lent.lease ≡ lease → (back.ran.count ≡ count) × (back.ran.hit ≡ hit) → ReturnIs (seen core) (seen new) lease.driver back.ran.count back.ran.hit → Holds new → output_of new.job new.journal ≡ output_of core.job core.journal
     → lease.driver < length items → items' ≡ slice_set items lease.driver None → Followed core (Put lease count hit) None new items' output
 put-followed core new lease count hit lent back items items' output f s g its ran r holds same within is =
-    let may = subst (λ (l : Lease). MayPut core.job (core_in core) l back.ran.count back.ran.hit) its (run-may-put core.job (core_in core) lease.driver lent back s g (lays core lease.driver lent s)) in
+    let may = subst (λ (l : Lease). MayPut core.job (core_in core) l back.ran.count back.ran.hit) its (run-may-put core.job (core_in core) lease.driver lent back s g) in
     let appends : Appends (seen core) (seen new) (Put lease back.ran.count back.ran.hit) = r lease (s.held ∙ ap (λ (l : Lease). Some l) its) in
     let done : Followed core (Put lease back.ran.count back.ran.hit) None new items' output = (may, appends, put-follows core new lease back.ran.count back.ran.hit items items' output f may appends holds same within is) in
     let the_same : Put lease back.ran.count back.ran.hit ≡ Put lease count hit = ap (λ (n : ℕ). Put lease n back.ran.hit) ran.0 ∙ ap (Put lease count) ran.1 in

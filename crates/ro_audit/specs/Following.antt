@@ -21,7 +21,7 @@ use Rattle.ro_audit.specs.Audits.{FirstIllegal, IsReason}
 -- what is lent to a driver: its lease is out, and the replica is the core's
 pub record Lends (job : Job) (core : Core) (driver : ℕ) (lent : LentOf) : Type 0 where
   pub quantum_is : lent.quantum ≡ job.settings.quantum
-  pub program : IsOfJob job lent.replica
+  pub program : IsOfJob job core.kernel lent.replica
   pub held : lease_of core driver ≡ Some lent.lease
   pub there : slice_get core.replicas lent.lease.replica ≡ Some (replica_of lent.replica)
   pub not_ended : core.ended ≡ None

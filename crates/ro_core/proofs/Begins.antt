@@ -1,6 +1,6 @@
 -- The fields of a run at its opening.
 use Rattle.std.proofs.Common.{◌≡◌, ◌⊎◌, inl, inr, ℕ, zero, suc, ◌<◌, ◌≤◌, List, [], ◌∷◌, ◌++◌, length, Option, Some, None, refl, sym, ap, ◌∙◌, subst, arith}
-use Rattle.std.specs.Prelude.{false, not, replicate, slice_get}
+use Rattle.std.specs.Prelude.{false, replicate, slice_get}
 use Rattle.std.specs.Option.{option_map_or}
 use Rattle.std.proofs.lemmas.Option.{slice_get_within}
 use Rattle.ro_journal.specs.Plan.{outcome_of}
@@ -48,7 +48,7 @@ first-seated job seats first count = record { count = count ∙ sym (length-open
     by number (Some (Some value)) e =
         let f : IsOpening job.program.image number job.faults job.settings.watchdog value = first number (Some value) e in
         let less : number < length seats = slice_get_within seats number (Some value) e in
-        (refl, record { layout = f.layout; watchdog = f.watchdog_is }, opening-there job job.settings.replicas number (omega arith) ∙ ap (λ (r : Replica). Some r) (sym f.opening))
+        (refl, record { layout = f.layout; given = f.given; watchdog = f.watchdog_is }, opening-there job job.settings.replicas number (omega arith) ∙ ap (λ (r : Replica). Some r) (sym f.opening))
 
 nothing-blocked : (n thread : ℕ) → blocked_at (replicate n None) thread ≡ None
 nothing-blocked zero thread = refl

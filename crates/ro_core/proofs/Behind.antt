@@ -8,13 +8,15 @@ use Rattle.ro_journal.specs.Plan.{event_steps, outcome_of}
 use Rattle.ro_event.specs.declared.calls.Call.{Call}
 use Rattle.ro_event.specs.declared.effects.Made.{Made}
 use Rattle.ro_event.specs.Effects.{Effect}
+use Rattle.ro_region.specs.declared.Range.{Range}
 use Rattle.ro_replica.specs.Replica.{Replica}
-use Rattle.ro_replica.specs.Seen.{ReplicaOf, replica_of, CanApply}
+use Rattle.ro_replica.specs.Seen.{ReplicaOf, CanApply}
 use Rattle.ro_legal.specs.declared.actions.Streak.{Streak}
 use Rattle.ro_legal.specs.Streaks.{after_event}
 use Rattle.ro_legal.specs.Core.{Job, Core}
 use Rattle.ro_legal.specs.Event.{Event, all_applied, core_after}
 use Rattle.ro_legal.specs.Legal.{after, IsAllowed, replay}
+use Rattle.ro_core.specs.Seen.{IsOfJob}
 use Rattle.ro_core.specs.Grouped.{AreGrouped}
 use Rattle.ro_core.specs.Fields.{AreSeated, AreHome, AreSpared, CanTake, one_end, Fields, core_in, blocked_at, first_unblocked, CountsBytes, Holds}
 use Rattle.ro_legal.proofs.Happens.{Happens}
@@ -61,7 +63,7 @@ module _ (f f' : Fields) (h : Holds f) (entry : Entry) (allowed : IsAllowed f.jo
   }
 
   -- the fields behind the event
-  pub happened-holds : f'.job ≡ f.job → AreHome f.job f'.seats (all_applied event.effect replicas) → AreGrouped (all_applied event.effect replicas) f'.groups → f'.leases ≡ f.leases → f'.kernel.setup ≡ f.kernel.setup → f'.kernel.kernel ≡ event.kernel
+  pub happened-holds : f'.job ≡ f.job → AreHome f.job event.kernel f'.seats (all_applied event.effect replicas) → AreGrouped (all_applied event.effect replicas) f'.groups → f'.leases ≡ f.leases → f'.kernel.setup ≡ f.kernel.setup → f'.kernel.kernel ≡ event.kernel
       → f'.blocked ≡ slice_set f.blocked thread event.blocked → f'.unblocked ≡ first_unblocked f'.kernel f'.blocked → f'.steps ≡ f.steps + count + event_steps event.did → f'.scrubbed ≡ f.scrubbed → f'.streak ≡ after_event f.streak thread (blocked_at f.blocked thread) → f'.due ≡ event.due → f'.ended ≡ f.ended → length f'.views ≡ length f'.seats
       → length event.payload ≤ 4096 * event_steps event.did → f'.sent ≡ f.sent + length event.payload → f'.wrote ≡ length event.payload → outcome_of (entry ∷ []) ≡ None → 1 ≤ f'.places → Holds f'
   happened-holds job home groups leases setup kernel blocked unblocked steps scrubbed streak due ended views written sent wrote no_end room = holds-step f f' entry h allowed (record {
@@ -89,26 +91,27 @@ module _ (f f' : Fields) (h : Holds f) (entry : Entry) (allowed : IsAllowed f.jo
 
 -- ---- the event can be given to each replica
 
-can-take : (job : Job) (core : Core) (thread : ℕ) (effect : Effect) (seats : List (Option ReplicaOf)) (replicas : List Replica) → AreHome job seats replicas → AreSpared seats
-    → ((value : ReplicaOf) → replica_of value ≡ replica_of value → length value.threads ≡ length core.kernel.lives → 3 ≤ value.held.spare → CanApply effect value)
+can-take : (job : Job) (core : Core) (thread : ℕ) (effect : Effect) (seats : List (Option ReplicaOf)) (replicas : List Replica) → AreHome job core.kernel seats replicas → AreSpared seats
+    → ((value : ReplicaOf) → IsOfJob job core.kernel value → length value.threads ≡ length core.kernel.lives → 3 ≤ value.held.spare → CanApply effect value)
     → ((number : ℕ) (replica : Replica) → slice_get replicas number ≡ Some replica → length replica.threads ≡ length core.kernel.lives) → CanTake effect seats
 can-take job core thread effect [] [] home spared can made = tt
 can-take job core thread effect (Some value ∷ seats) (r ∷ replicas) home spared can made = (
-  can value refl (ap (λ (x : Replica). length x.threads) home.1 ∙ made 0 r refl) spared.0,
+  can value home.0 (ap (λ (x : Replica). length x.threads) home.1 ∙ made 0 r refl) spared.0,
   can-take job core thread effect seats replicas home.2 spared.1 can (λ n x e. made (suc n) x e),
 )
 can-take job core thread effect seats replicas home spared can made = absurd home
 
 -- the facts of a live thread's event, for each replica
 pub all-can-take : (job : Job) (core : Core) (thread : ℕ) (event : Event) (seats : List (Option ReplicaOf)) (replicas : List Replica) → Happens core.kernel thread event → thread < length core.kernel.lives → IfSome event.effect.page (λ page. page < 2 ^ 20)
-    → AreHome job seats replicas → AreSpared seats → ((number : ℕ) (replica : Replica) → slice_get replicas number ≡ Some replica → length replica.threads ≡ length core.kernel.lives) → CanTake event.effect seats
-all-can-take job core thread event seats replicas happens made low home spared all =
-    can-take job core thread event.effect seats replicas home spared (λ value same count spare. record {
+    → IfSome event.effect.range (λ range. length core.kernel.given < 4096) → AreHome job core.kernel seats replicas → AreSpared seats → ((number : ℕ) (replica : Replica) → slice_get replicas number ≡ Some replica → length replica.threads ≡ length core.kernel.lives) → CanTake event.effect seats
+all-can-take job core thread event seats replicas happens made low room home spared all =
+    can-take job core thread event.effect seats replicas home spared (λ value own count spare. record {
       made = subst (λ (n : ℕ). n < length value.threads) (sym happens.thread_is) (omega arith);
       creator = creator value count event.effect.made refl happens.place_left;
       few = happens.few;
       within = happens.within;
       page = low;
+      room = subst (λ (given : List Range). IfSome event.effect.range (λ range. length given < 4096)) (sym own.given) room;
       spare = spare;
     }) all
   where

@@ -105,10 +105,10 @@ module _ (f : Fields) (h : Holds f) (thread : ℕ) (may : may_free f.job (core_i
     free-allowed fits = record { may = may; fits = let e = h.steps_are in omega arith }
 
     -- the event that the code has for it can be done
-    pub free-can : (r : Run) (e : Happening) (threads : ℕ) → the-event ≡ event_by e r.kernel.kernel (if e.writes then [] else []) → f.steps + 1 ≤ f.job.settings.limit → IsAmid f r → Stands f.job r.seats (core_in f).replicas → AreSpared r.seats.homes.items → threads ≡ length f.kernel.kernel.lives → (e.moves ≡ false → LeavesWaiting f.kernel.kernel r.kernel.kernel)
+    pub free-can : (r : Run) (e : Happening) (threads : ℕ) → the-event ≡ event_by e r.kernel.kernel (if e.writes then [] else []) → f.steps + 1 ≤ f.job.settings.limit → IsAmid f r → IfSome e.effect.range (λ range. length f.kernel.kernel.given < 4096) → Stands f.job (core_in f).kernel r.seats (core_in f).replicas → AreSpared r.seats.homes.items → threads ≡ length f.kernel.kernel.lives → (e.moves ≡ false → LeavesWaiting f.kernel.kernel r.kernel.kernel)
         → CanOccur r (record { thread = thread; event = e; entry = Free thread; steps = 1; writer = None; threads = threads })
     unfolding event_of
-    free-can r e threads is fits amid stands spared threads_are leaves = record {
+    free-can r e threads is fits amid room stands spared threads_are leaves = record {
       before = f;
       holds = h;
       going = free-going;
@@ -126,6 +126,7 @@ module _ (f : Fields) (h : Holds f) (thread : ℕ) (may : may_free f.job (core_i
       live = free-live;
       own = sym (ap (λ (x : Event). x.effect.thread) is) ∙ free-happens.thread_is;
       low = subst (λ (o : Option ℕ). IfSome o (λ page. page < 2 ^ 20)) (ap (λ (x : Event). x.effect.page) is) free-low;
+      room = room;
       stands = stands;
       spared = spared;
       made = λ number replica g. free-made-all number replica g ∙ sym threads_are;

@@ -6,6 +6,7 @@ use Rattle.std.proofs.Common.{refl, sym, ap, ◌∙◌, subst, arith, inl, inr}
 use Rattle.std.proofs.lemmas.Bool.{cases_Bool, cases_eq, cases_lt}
 use Rattle.std.proofs.lemmas.List.{length-set}
 use Rattle.std.proofs.lemmas.Option.{slice_get_within}
+use Rattle.ro_kernel.specs.Kernel.{Kernel}
 use Rattle.ro_kernel.proofs.Kept.{slice_get-set_other}
 use Rattle.ro_event.specs.declared.stops.Stop.{Stop}
 use Rattle.ro_event.specs.Effects.{Effect}
@@ -171,23 +172,23 @@ released-each effect replicas old new h r number thread replica e = by (cases_Bo
     by (inr keeps) (inr other) = ap (λ (g : Groups). stands g number thread) (r.same keeps) ∙ h.each number thread replica e ∙ ap is_some (sym (applied-other effect replica thread other))
 
 -- the seat of a replica that is home
-pub home-seat : (job : Job) (seats : List (Option ReplicaOf)) (replicas : List Replica) (number : ℕ) (replica : Replica) → AreHome job seats replicas → slice_get replicas number ≡ Some replica → (value : ReplicaOf) × (slice_get seats number ≡ Some (Some value)) × (replica_of value ≡ replica)
-home-seat job [] [] number replica h e = absurd (let f : None ≡ Some replica = e in cc)
-home-seat job (Some value ∷ seats) (r ∷ replicas) zero replica h e = (value, refl, h.1 ∙ some-injective e)
-home-seat job (Some value ∷ seats) (r ∷ replicas) (suc number) replica h e = home-seat job seats replicas number replica h.2 e
-home-seat job seats replicas number replica h e = absurd h
+pub home-seat : (job : Job) (kernel : Kernel) (seats : List (Option ReplicaOf)) (replicas : List Replica) (number : ℕ) (replica : Replica) → AreHome job kernel seats replicas → slice_get replicas number ≡ Some replica → (value : ReplicaOf) × (slice_get seats number ≡ Some (Some value)) × (replica_of value ≡ replica)
+home-seat job kernel [] [] number replica h e = absurd (let f : None ≡ Some replica = e in cc)
+home-seat job kernel (Some value ∷ seats) (r ∷ replicas) zero replica h e = (value, refl, h.1 ∙ some-injective e)
+home-seat job kernel (Some value ∷ seats) (r ∷ replicas) (suc number) replica h e = home-seat job kernel seats replicas number replica h.2 e
+home-seat job kernel seats replicas number replica h e = absurd h
 
 -- an effect in every replica keeps the groups
-pub regrouped : (job : Job) (effect : Effect) (before : List Replica) (seats : List (Option ReplicaOf)) (replicas threads : ℕ) (old mid new : Groups) → length old ≡ replicas → length mid ≡ length old → Releases effect old mid → Settles seats replicas threads mid new
-    → AreGrouped before old → AreMade threads before → AreHome job seats (all_applied effect before) → AreGrouped (all_applied effect before) new
-regrouped job effect before seats replicas threads old mid new many same r s h made home = record {
+pub regrouped : (job : Job) (kernel : Kernel) (effect : Effect) (before : List Replica) (seats : List (Option ReplicaOf)) (replicas threads : ℕ) (old mid new : Groups) → length old ≡ replicas → length mid ≡ length old → Releases effect old mid → Settles seats replicas threads mid new
+    → AreGrouped before old → AreMade threads before → AreHome job kernel seats (all_applied effect before) → AreGrouped (all_applied effect before) new
+regrouped job kernel effect before seats replicas threads old mid new many same r s h made home = record {
   count = s.count ∙ same ∙ h.count ∙ sym (length-mapped (λ (x : Replica). cancelled (applied effect x)) before);
   each = λ number thread x e. by number thread x e (get-map (λ (x : Replica). cancelled (applied effect x)) before number x e) (cases_lt thread threads);
 }
   where
     by : (number thread : ℕ) (x : Replica) → slice_get (all_applied effect before) number ≡ Some x → MappedFrom (λ (x : Replica). cancelled (applied effect x)) before number x → (thread < threads) ⊎ (threads ≤ thread) → stands new number thread ≡ is_some (stop_of x thread)
     by number thread x e m (inl less) =
-        let seat = home-seat job seats (all_applied effect before) number x home e in
+        let seat = home-seat job kernel seats (all_applied effect before) number x home e in
         let within : number < replicas = (let w = slice_get_within before number m.from m.there in let n = h.count in omega arith) in
         s.settled number thread (Some seat.0) within seat.1 less
         ∙ ap (λ (b : Bool). b && is_some (stop_of (replica_of seat.0) thread)) (released-each effect before old mid h r number thread m.from m.there)

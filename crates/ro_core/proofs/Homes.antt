@@ -6,6 +6,7 @@ use Rattle.std.specs.Option.{option_and_then}
 use Rattle.std.proofs.lemmas.List.{length-set}
 use Rattle.std.proofs.lemmas.Option.{slice_get_within, slice_get-get_or}
 use Rattle.ro_journal.specs.declared.Entry.TheVariants.{Take, Put}
+use Rattle.ro_kernel.specs.Kernel.{Kernel}
 use Rattle.ro_kernel.proofs.Kept.{slice_get-set_other}
 use Rattle.ro_plain.specs.Machine.{layout_in}
 use Rattle.ro_replica.specs.Replica.{Replica}
@@ -35,11 +36,11 @@ differ_by : (m n : ℕ) → (m == n) ≡ false → m ≡ n → ⊥
 differ_by m n e f = true≢false (sym (eq-eqb m n f) ∙ e)
 
 -- a seat that the entry leaves alone
-same_seat : (job : Job) (old new : Core) (number : ℕ) (seat : Option (Option ReplicaOf)) → is_home new number ≡ is_home old number → slice_get new.replicas number ≡ slice_get old.replicas number
+same_seat : (job : Job) (old new : Core) (number : ℕ) (seat : Option (Option ReplicaOf)) → new.kernel ≡ old.kernel → is_home new number ≡ is_home old number → slice_get new.replicas number ≡ slice_get old.replicas number
     → Seated job old number seat → Seated job new number seat
-same_seat job old new number None h r s = tt
-same_seat job old new number (Some None) h r s = h ∙ s
-same_seat job old new number (Some (Some value)) h r s = (h ∙ s.0, s.1, r ∙ s.2)
+same_seat job old new number None k h r s = tt
+same_seat job old new number (Some None) k h r s = h ∙ s
+same_seat job old new number (Some (Some value)) k h r s = (h ∙ s.0, subst (λ (x : Kernel). IsOfJob job x value) (sym k) s.1, r ∙ s.2)
 
 -- a replica leaves its seat
 pub take_seated : (job : Job) (core : Core) (seats : List (Option ReplicaOf)) (lease : Lease) (value : ReplicaOf) → AreSeated job core seats → slice_get seats lease.replica ≡ Some (Some value)
@@ -60,7 +61,7 @@ take_seated job core seats lease value seated there = record {
         let kept : slice_get (slice_set seats lease.replica None) number ≡ slice_get seats number = slice_get-set_other seats lease.replica number None (differ_by lease.replica number e) in
         let home : not ((lease.replica == number) || has_replica number core.leases) ≡ not (has_replica number core.leases) = ap (λ (b : Bool). not (b || has_replica number core.leases)) e in
         subst (λ (o : Option (Option ReplicaOf)). Seated job (after job core (Take lease)) number o) (sym kept)
-        (same_seat job core (after job core (Take lease)) number (slice_get seats number) home refl (seated.each number))
+        (same_seat job core (after job core (Take lease)) number (slice_get seats number) refl home refl (seated.each number))
 
 -- a run is of a replica that is there
 run_there : (job : Job) (core : Core) (lease : Lease) (count : ℕ) (ran : RanTo) → lease_run job core lease count ≡ Some ran → (r : Replica) × (slice_get core.replicas lease.replica ≡ Some r)
@@ -79,7 +80,7 @@ seat_within job core seats lease count ran seated e =
 
 -- a replica comes back to its seat
 pub put_seated : (job : Job) (core : Core) (seats : List (Option ReplicaOf)) (lease : Lease) (count hit : ℕ) (value : ReplicaOf) → Apart core.leases → AreSeated job core seats
-    → MayPut job core lease count hit → IsOfJob job value
+    → MayPut job core lease count hit → IsOfJob job core.kernel value
     → slice_get (after job core (Put lease count hit)).replicas lease.replica ≡ Some (replica_of value)
     → AreSeated job (after job core (Put lease count hit)) (slice_set seats lease.replica (Some value))
 unfolding after
@@ -109,7 +110,7 @@ put_seated job core seats lease count hit value apart seated m program became =
         let ne : lease.replica ≡ number → ⊥ = differ_by lease.replica number e in
         let kept : slice_get (slice_set seats lease.replica (Some value)) number ≡ slice_get seats number = slice_get-set_other seats lease.replica number (Some value) ne in
         subst (λ (o : Option (Option ReplicaOf)). Seated job (core_after_put job core lease count (Some m.ran)) number o) (sym kept)
-        (same_seat job core (core_after_put job core lease count (Some m.ran)) number (slice_get seats number)
+        (same_seat job core (core_after_put job core lease count (Some m.ran)) number (slice_get seats number) refl
         (ap not (others_stay lease number core.leases (λ f. ne (sym f))))
         (slice_get-set_other core.replicas lease.replica number _ ne)
         (seated.each number))

@@ -1,10 +1,11 @@
 -- An event that is done in every replica and noted, in the fields of a run.
 use Rattle.std.proofs.Common.{◌≡◌, ℕ, ◌+◌, ◌*◌, ◌<◌, ◌≤◌, List, [], ◌∷◌, ◌++◌, length, None, sym, ap, ◌∙◌, subst, arith}
-use Rattle.std.specs.Prelude.{◌^◌, false, is_none, slice_set}
+use Rattle.std.specs.Prelude.{◌^◌, false, is_none, slice_set, IfSome}
 use Rattle.std.proofs.lemmas.Bool.{and_from}
 use Rattle.ro_journal.specs.Plan.{event_steps}
 use Rattle.ro_kernel.specs.Kernel.{Kernel, lives_on}
 use Rattle.ro_kernel.specs.State.{State}
+use Rattle.ro_region.specs.Permission.{with_range}
 use Rattle.ro_settings.proofs.Counts.{few-replicas}
 use Rattle.ro_core.specs.declared.cores.Core.{Core as Run}
 use Rattle.ro_core.specs.declared.voting.Occurrence.{Occurrence}
@@ -48,6 +49,9 @@ module _ (r : Run) (o : Occurrence) (can : CanOccur r o) where
       subst (λ (x : Event). Happens (core_in f).kernel o.thread x) can.event_is
       (subst (λ (k : Kernel). Happens k o.thread (event_of f.kernel.setup f.kernel.kernel o.thread can.stop can.shown)) h.kernel_is (event-happens f.kernel.setup f.kernel.kernel o.thread can.stop can.shown))
 
+  pub occurs-given : r.kernel.kernel.given ≡ with_range o.event.effect.range (core_in f).kernel.given
+  occurs-given = happens.given_are
+
   pub occurs-few : o.thread < 16
   occurs-few = live-few f h o.thread can.live
 
@@ -55,7 +59,7 @@ module _ (r : Run) (o : Occurrence) (can : CanOccur r o) where
 
   pub occurs-can : CanTake o.event.effect r.seats.homes.items
   occurs-can =
-      all-can-take f.job (core_in f) o.thread event r.seats.homes.items can.replicas happens (lives-within (core_in f).kernel o.thread (ap (λ (k : Kernel). lives_on k o.thread) (sym h.kernel_is) ∙ can.live)) can.low can.stands.home can.spared
+      all-can-take f.job (core_in f) o.thread event r.seats.homes.items can.replicas happens (lives-within (core_in f).kernel o.thread (ap (λ (k : Kernel). lives_on k o.thread) (sym h.kernel_is) ∙ can.live)) can.low (subst (λ (k : Kernel). IfSome o.event.effect.range (λ range. length k.given < 4096)) h.kernel_is can.room) can.stands.home can.spared
       (λ number replica g. can.made number replica g ∙ can.threads_are ∙ ap (λ (k : Kernel). length k.lives) h.kernel_is)
 
   pub occurs-thread : o.event.effect.thread < 16
@@ -78,7 +82,7 @@ module _ (r : Run) (o : Occurrence) (can : CanOccur r o) where
   many = sym (length-applied event.effect can.replicas) ∙ ap (λ (c : Core). length c.replicas) (sym new) ∙ order.replica_count
 
   pub occurs-seats : length r.seats.homes.items ≤ 5
-  occurs-seats = let count = home-count f.job r.seats.homes.items can.replicas can.stands.home in let m = many in let range = few-replicas f.job.settings.replicas h.in_range.replicas in omega arith
+  occurs-seats = let count = home-count f.job (core_in f).kernel r.seats.homes.items can.replicas can.stands.home in let m = many in let range = few-replicas f.job.settings.replicas h.in_range.replicas in omega arith
 
   -- ---- its counts
 
@@ -118,7 +122,7 @@ module _ (r : Run) (o : Occurrence) (can : CanOccur r o) where
   -- ---- the fields behind it
 
   module _ (f' : Fields) (job : f'.job ≡ f.job) (journal : f'.journal ≡ f.journal ++ o.entry ∷ []) (due : f'.due ≡ o.event.due) where
-    pub occurs-holds : AreHome f.job f'.seats (all_applied o.event.effect can.replicas) → AreGrouped (all_applied o.event.effect can.replicas) f'.groups → f'.leases ≡ f.leases → f'.kernel ≡ r.kernel → f'.blocked ≡ slice_set r.blocked o.thread o.event.blocked → f'.unblocked ≡ first_unblocked f'.kernel f'.blocked
+    pub occurs-holds : AreHome f.job r.kernel.kernel f'.seats (all_applied o.event.effect can.replicas) → AreGrouped (all_applied o.event.effect can.replicas) f'.groups → f'.leases ≡ f.leases → f'.kernel ≡ r.kernel → f'.blocked ≡ slice_set r.blocked o.thread o.event.blocked → f'.unblocked ≡ first_unblocked f'.kernel f'.blocked
         → f'.steps ≡ r.steps + o.steps → f'.scrubbed ≡ r.scrubbed → f'.streak ≡ after_event r.streak o.thread (blocked_at r.blocked o.thread) → f'.ended ≡ f.ended → f'.views ≡ f.views → f'.sent ≡ r.sent + length payload → f'.wrote ≡ length payload → 1 ≤ f'.places → Holds f'
     occurs-holds home groups leases kernel blocked unblocked counted scrubbed streak ended views sent wrote room =
         happened-holds f f' h o.entry can.allowed o.thread can.count can.replicas event can.came goes-on can.alone happens occurs-few journal
@@ -126,7 +130,7 @@ module _ (r : Run) (o : Occurrence) (can : CanOccur r o) where
         (blocked ∙ ap (λ bs. slice_set bs o.thread o.event.blocked) can.amid.blocked) unblocked
         (let a = can.counted in let b = can.amid.steps in omega arith) (scrubbed ∙ can.amid.scrubbed)
         (streak ∙ ap (λ s. after_event s o.thread (blocked_at r.blocked o.thread)) can.amid.streak ∙ ap (λ bs. after_event f.streak o.thread (blocked_at bs o.thread)) can.amid.blocked) due ended
-        (ap length views ∙ h.views_count goes-on.not_ended ∙ h.seats_are.count ∙ (ordered f.job f.journal h.legal).replica_count ∙ sym many ∙ sym (length-applied o.event.effect can.replicas) ∙ sym (home-count f.job f'.seats (all_applied o.event.effect can.replicas) home))
+        (ap length views ∙ h.views_count goes-on.not_ended ∙ h.seats_are.count ∙ (ordered f.job f.journal h.legal).replica_count ∙ sym many ∙ sym (length-applied o.event.effect can.replicas) ∙ sym (home-count f.job r.kernel.kernel f'.seats (all_applied o.event.effect can.replicas) home))
         fits (let b = can.amid.sent in omega arith) wrote can.no_end room
 
     pub occurs-wrote : LastWrote f' (output_of (job_of r) r.journal.items) payload

@@ -1,11 +1,19 @@
 -- The code's event against the definition's.
-use Rattle.std.proofs.Common.{◌≡◌, ap}
+use Rattle.std.proofs.Common.{◌≡◌, ℕ, ◌<◌, List, length, refl, ap, subst, sym}
+use Rattle.std.specs.Prelude.{IfSome}
+use Rattle.ro_event.specs.declared.calls.Call.{Call}
+use Rattle.ro_event.specs.Effects.{Effect}
+use Rattle.ro_kernel.specs.Kernel.{Kernel}
+use Rattle.ro_kernel.specs.Mapped.{IsMapped}
 use Rattle.ro_kernel.specs.State.{State}
-use Rattle.ro_kernel.specs.Serve.{Served as Outcome}
+use Rattle.ro_kernel.specs.Serve.{Served as Outcome, serve}
+use Rattle.ro_kernel.proofs.Given.{range-room}
+use Rattle.ro_legal.specs.Event.{call_event}
 use Rattle.ro_kernel.specs.Served.{Brings}
 use Rattle.ro_kernel.specs.declared.outcome.Served.{Served}
 use Rattle.ro_kernel.specs.declared.outcome.Served.TheVariants.{Done, Parked, Blocked, Ends}
-use Rattle.ro_core.specs.Fields.{outcome_with}
+use Rattle.ro_legal.proofs.Mapped.{stays-mapped}
+use Rattle.ro_core.specs.Fields.{Fields, Holds, outcome_with}
 
 -- the definition's outcome of a call, by the code's answer
 pub brings-outcome : (outcome : Outcome) (old new : State) (served : Served) → Brings outcome old new served → outcome ≡ outcome_with new.kernel served
@@ -19,3 +27,19 @@ brings-blocked outcome old new (Done effect) h e = absurd (let f : Done effect �
 brings-blocked outcome old new Parked h e = absurd (let f : Parked ≡ Blocked = e in cc)
 brings-blocked outcome old new Blocked h e = ap (λ (s : State). s.kernel) h.1
 brings-blocked outcome old new (Ends how) h e = absurd (let f : Ends how ≡ Blocked = e in cc)
+
+-- where a served call gives a range there is a place for it
+pub room-now : (old new : State) (u : ℕ) (call : Call) (effect : Effect) → Brings (serve old.setup old.kernel u call) old new (Done effect) → IsMapped old.kernel.given → IfSome effect.range (λ range. length old.kernel.given < 4096)
+room-now old new u call effect h mapped = range-room old.setup old.kernel u call new.kernel effect h.0 mapped
+
+-- and so of the event that comes of a call
+pub room-by : (kernel after : Kernel) (u : ℕ) (call : Call) (payload : List ℕ) (served : Served) → ((effect : Effect) → served ≡ Done effect → IfSome effect.range (λ range. length kernel.given < 4096))
+    → IfSome (call_event kernel u call payload (outcome_with after served)).effect.range (λ range. length kernel.given < 4096)
+room-by kernel after u call payload (Done effect) room = room effect refl
+room-by kernel after u call payload Parked room = tt
+room-by kernel after u call payload Blocked room = tt
+room-by kernel after u call payload (Ends how) room = tt
+
+-- the ranges that the kernel gave lie where they may
+pub holds-mapped : (f : Fields) → Holds f → IsMapped f.kernel.kernel.given
+holds-mapped f h = subst (λ (k : Kernel). IsMapped k.given) (sym h.kernel_is) (stays-mapped f.job f.journal)

@@ -1,5 +1,5 @@
 -- A put, in the fields of a run.
-use Rattle.std.proofs.Common.{◌≡◌, ℕ, ◌+◌, ◌<◌, ◌≤◌, Bool, true, false, true≢false, not, cond, List, [], ◌∷◌, ◌++◌, length, Option, Some, None, refl, sym, ap, ◌∙◌, subst, arith, eqb-true}
+use Rattle.std.proofs.Common.{◌≡◌, ℕ, ◌+◌, ◌<◌, ◌≤◌, true, true≢false, not, List, [], ◌∷◌, ◌++◌, length, Option, Some, None, refl, sym, ap, ◌∙◌, subst, arith}
 use Rattle.std.specs.Prelude.{◌==◌, is_some, slice_get, slice_set}
 use Rattle.std.specs.List.{filter, find, list_any}
 use Rattle.std.proofs.lemmas.List.{length-set}
@@ -82,7 +82,7 @@ module _ (f : Fields) (h : Holds f) (lease : Lease) (count hit : ℕ) (allowed :
   pub put-outcome : outcome_of f.journal ≡ None
   put-outcome = no-outcome f h still
 
-  pub put-holds : (f' : Fields) (value : ReplicaOf) → IsOfJob f.job value → slice_get (after f.job (core_in f) (Put lease count hit)).replicas lease.replica ≡ Some (replica_of value)
+  pub put-holds : (f' : Fields) (value : ReplicaOf) → IsOfJob f.job (core_in f).kernel value → slice_get (after f.job (core_in f) (Put lease count hit)).replicas lease.replica ≡ Some (replica_of value)
       → Rest f f' → f'.wrote ≡ 0 → f'.journal ≡ f.journal ++ Put lease count hit ∷ [] → f'.leases ≡ filter (λ l. not (is_lease lease l)) f.leases
       → f'.seats ≡ slice_set f.seats lease.replica (Some value) → Returns lease.replica lease.thread (is_some (stop_of (replica_of value) lease.thread)) f.groups f'.groups → f.places ≡ f'.places + 1 → Holds f'
   unfolding after

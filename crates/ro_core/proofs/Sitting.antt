@@ -8,7 +8,11 @@ use Rattle.std.proofs.lemmas.Option.{get_or_from_slice_get, slice_get_within}
 use Rattle.ro_kernel.proofs.Kept.{slice_get-set_other}
 use Rattle.ro_plain.proofs.Calls.{some-injective}
 use Rattle.ro_replica.specs.Replica.{Replica, recovered}
-use Rattle.ro_replica.specs.Seen.{ReplicaOf, replica_of, Recovers, AreTwins}
+use Rattle.ro_region.specs.declared.Range.{Range}
+use Rattle.ro_region.specs.Permission.{with_range}
+use Rattle.ro_plain.proofs.Wider.{widen, layout-widens}
+use Rattle.ro_replica.specs.Seen.{ReplicaOf, replica_of, Recovers, AreTwins, Widens}
+use Rattle.ro_kernel.specs.Kernel.{Kernel}
 use Rattle.ro_legal.specs.Core.{Job}
 use Rattle.ro_event.specs.Effects.{Effect}
 use Rattle.ro_legal.specs.Event.{all_applied, with_copy}
@@ -17,31 +21,31 @@ use Rattle.ro_legal.proofs.Lists.{get-set-same, get-set-cases}
 use Rattle.ro_legal.proofs.Copies.{length-copied}
 use Rattle.ro_core.specs.Fields.{IsSeat, AreHome, AreSpared, AreAllTwins}
 
-pub home-count : (job : Job) (seats : List (Option ReplicaOf)) (replicas : List Replica) → AreHome job seats replicas → length seats ≡ length replicas
-home-count job [] [] h = refl
-home-count job (Some value ∷ seats) (r ∷ replicas) h = ap suc (home-count job seats replicas h.2)
-home-count job seats replicas h = absurd h
+pub home-count : (job : Job) (kernel : Kernel) (seats : List (Option ReplicaOf)) (replicas : List Replica) → AreHome job kernel seats replicas → length seats ≡ length replicas
+home-count job kernel [] [] h = refl
+home-count job kernel (Some value ∷ seats) (r ∷ replicas) h = ap suc (home-count job kernel seats replicas h.2)
+home-count job kernel seats replicas h = absurd h
 
 -- a seat is one of the seats
 pub seat-within : (seats : List (Option ReplicaOf)) (place : ℕ) → IsSeat seats place → place < length seats
 seat-within seats place s = slice_get_within seats place (Some s.0) s.1
 
 -- a seat at home has its replica
-pub home-get : (job : Job) (seats : List (Option ReplicaOf)) (replicas : List Replica) (i : ℕ) (value : ReplicaOf) → AreHome job seats replicas → slice_get seats i ≡ Some (Some value) → IsOfJob job value × (slice_get replicas i ≡ Some (replica_of value))
-home-get job [] replicas i value h e = absurd (let f : None ≡ Some (Some value) = e in cc)
-home-get job (None ∷ seats) replicas i value h e = absurd h
-home-get job (Some v ∷ seats) [] i value h e = absurd h
-home-get job (Some v ∷ seats) (r ∷ replicas) zero value h e =
+pub home-get : (job : Job) (kernel : Kernel) (seats : List (Option ReplicaOf)) (replicas : List Replica) (i : ℕ) (value : ReplicaOf) → AreHome job kernel seats replicas → slice_get seats i ≡ Some (Some value) → IsOfJob job kernel value × (slice_get replicas i ≡ Some (replica_of value))
+home-get job kernel [] replicas i value h e = absurd (let f : None ≡ Some (Some value) = e in cc)
+home-get job kernel (None ∷ seats) replicas i value h e = absurd h
+home-get job kernel (Some v ∷ seats) [] i value h e = absurd h
+home-get job kernel (Some v ∷ seats) (r ∷ replicas) zero value h e =
     let same : v ≡ value = some-injective (some-injective e) in
-    (subst (IsOfJob job) same h.0, ap (λ (x : Replica). Some x) (sym h.1 ∙ ap replica_of same))
-home-get job (Some v ∷ seats) (r ∷ replicas) (suc i) value h e = home-get job seats replicas i value h.2 e
+    (subst (IsOfJob job kernel) same h.0, ap (λ (x : Replica). Some x) (sym h.1 ∙ ap replica_of same))
+home-get job kernel (Some v ∷ seats) (r ∷ replicas) (suc i) value h e = home-get job kernel seats replicas i value h.2 e
 
 -- one replica changes
-pub home-set : (job : Job) (seats : List (Option ReplicaOf)) (replicas : List Replica) (i : ℕ) (value : ReplicaOf) (replica : Replica) → AreHome job seats replicas → IsOfJob job value → replica_of value ≡ replica → AreHome job (slice_set seats i (Some value)) (slice_set replicas i replica)
-home-set job [] [] i value replica h own same = tt
-home-set job (Some v ∷ seats) (r ∷ replicas) zero value replica h own same = (own, same, h.2)
-home-set job (Some v ∷ seats) (r ∷ replicas) (suc i) value replica h own same = (h.0, h.1, home-set job seats replicas i value replica h.2 own same)
-home-set job seats replicas i value replica h own same = absurd h
+pub home-set : (job : Job) (kernel : Kernel) (seats : List (Option ReplicaOf)) (replicas : List Replica) (i : ℕ) (value : ReplicaOf) (replica : Replica) → AreHome job kernel seats replicas → IsOfJob job kernel value → replica_of value ≡ replica → AreHome job kernel (slice_set seats i (Some value)) (slice_set replicas i replica)
+home-set job kernel [] [] i value replica h own same = tt
+home-set job kernel (Some v ∷ seats) (r ∷ replicas) zero value replica h own same = (own, same, h.2)
+home-set job kernel (Some v ∷ seats) (r ∷ replicas) (suc i) value replica h own same = (h.0, h.1, home-set job kernel seats replicas i value replica h.2 own same)
+home-set job kernel seats replicas i value replica h own same = absurd h
 
 pub spared-get : (seats : List (Option ReplicaOf)) (i : ℕ) (value : ReplicaOf) → AreSpared seats → slice_get seats i ≡ Some (Some value) → 3 ≤ value.held.spare
 spared-get [] i value h e = absurd (let f : None ≡ Some (Some value) = e in cc)
@@ -81,15 +85,15 @@ recovered-is won lost replicas winner loser a b =
     ap (λ (o : Option Replica). option_map_or (λ w. option_map_or (λ l. slice_set replicas lost (recovered w l)) (slice_get replicas lost) replicas) o replicas) a
     ∙ ap (λ (o : Option Replica). option_map_or (λ l. slice_set replicas lost (recovered winner l)) o replicas) b
 
-pub recovery-home : (job : Job) (seats : List (Option ReplicaOf)) (replicas : List Replica) (won lost : ℕ) (winner loser other : ReplicaOf) → won ≢ lost → slice_get seats won ≡ Some (Some winner) → slice_get seats lost ≡ Some (Some loser)
-    → Recovers winner loser other → AreHome job seats replicas → AreHome job (slice_set (slice_set (slice_set seats won None) lost (Some other)) won (Some winner)) (with_copy won lost replicas)
-recovery-home job seats replicas won lost winner loser other differ a b r home =
-    let w = home-get job seats replicas won winner home a in
-    let l = home-get job seats replicas lost loser home b in
-    let own : IsOfJob job other = record { layout = r.program.layout ∙ l.0.layout; watchdog = r.program.watchdog ∙ l.0.watchdog } in
-    subst (λ (xs : List (Option ReplicaOf)). AreHome job xs (with_copy won lost replicas)) (sym (set-back seats won lost (Some winner) None (Some other) differ a))
-    (subst (AreHome job (slice_set seats lost (Some other))) (sym (recovered-is won lost replicas (replica_of winner) (replica_of loser) w.1 l.1))
-    (home-set job seats replicas lost other (recovered (replica_of winner) (replica_of loser)) home own r.recovered))
+pub recovery-home : (job : Job) (kernel : Kernel) (seats : List (Option ReplicaOf)) (replicas : List Replica) (won lost : ℕ) (winner loser other : ReplicaOf) → won ≢ lost → slice_get seats won ≡ Some (Some winner) → slice_get seats lost ≡ Some (Some loser)
+    → Recovers winner loser other → AreHome job kernel seats replicas → AreHome job kernel (slice_set (slice_set (slice_set seats won None) lost (Some other)) won (Some winner)) (with_copy won lost replicas)
+recovery-home job kernel seats replicas won lost winner loser other differ a b r home =
+    let w = home-get job kernel seats replicas won winner home a in
+    let l = home-get job kernel seats replicas lost loser home b in
+    let own : IsOfJob job kernel other = record { layout = r.program.layout ∙ l.0.layout; given = r.program.given ∙ l.0.given; watchdog = r.program.watchdog ∙ l.0.watchdog } in
+    subst (λ (xs : List (Option ReplicaOf)). AreHome job kernel xs (with_copy won lost replicas)) (sym (set-back seats won lost (Some winner) None (Some other) differ a))
+    (subst (AreHome job kernel (slice_set seats lost (Some other))) (sym (recovered-is won lost replicas (replica_of winner) (replica_of loser) w.1 l.1))
+    (home-set job kernel seats replicas lost other (recovered (replica_of winner) (replica_of loser)) home own r.recovered))
 
 pub recovery-spared : (seats : List (Option ReplicaOf)) (won lost : ℕ) (winner loser other : ReplicaOf) → won ≢ lost → slice_get seats won ≡ Some (Some winner) → slice_get seats lost ≡ Some (Some loser)
     → Recovers winner loser other → AreSpared seats → AreSpared (slice_set (slice_set (slice_set seats won None) lost (Some other)) won (Some winner))
@@ -103,14 +107,14 @@ unfolding recovered
 other-twin winner loser other value r t u =
     let b : (page : ℕ) → has_page other.held.pages page ≡ has_page winner.held.pages page = λ page. ap (λ (x : Replica). x.backed page) r.recovered in
     record {
-      program = record { layout = r.program.layout ∙ (sym t.program.layout ∙ u.program.layout); watchdog = r.program.watchdog ∙ (sym t.program.watchdog ∙ u.program.watchdog) };
+      program = record { layout = r.program.layout ∙ (sym t.program.layout ∙ u.program.layout); given = r.program.given ∙ (sym t.program.given ∙ u.program.given); watchdog = r.program.watchdog ∙ (sym t.program.watchdog ∙ u.program.watchdog) };
       pages = λ page. b page ∙ u.pages page;
       threads = ap {B = ℕ} (λ (x : Replica). length x.threads) r.recovered ∙ (length-copied winner.threads loser.threads t.threads ∙ u.threads);
     }
 
 turned-twin : (one other : ReplicaOf) → AreTwins one other → AreTwins other one
 turned-twin one other t = record {
-  program = record { layout = sym t.program.layout; watchdog = sym t.program.watchdog };
+  program = record { layout = sym t.program.layout; given = sym t.program.given; watchdog = sym t.program.watchdog };
   pages = λ page. sym (t.pages page);
   threads = sym t.threads;
 }
@@ -134,7 +138,7 @@ recovery-twins seats won lost winner loser other differ a b r all =
     mate value place e = other-twin winner loser other value r (all won lost winner loser a b) (all won place winner value a e)
 
     itself : AreTwins other other
-    itself = record { program = record { layout = refl; watchdog = refl }; pages = λ page. refl; threads = refl }
+    itself = record { program = record { layout = refl; given = refl; watchdog = refl }; pages = λ page. refl; threads = refl }
 
     by : (place elsewhere : ℕ) (one two : ReplicaOf) → (slice_get seats place ≡ Some (Some one)) ⊎ (other ≡ one) → (slice_get seats elsewhere ≡ Some (Some two)) ⊎ (other ≡ two) → AreTwins one two
     by place elsewhere one two (inl e) (inl f) = all place elsewhere one two e f
@@ -152,14 +156,22 @@ recovery-seats seats won lost winner loser other differ a b place s =
     by (inl e) = (other, ap (slice_get (slice_set seats lost (Some other))) (sym e) ∙ get-set-same seats lost (Some loser) (Some other) b)
     by (inr d) = (s.0, slice_get-set_other seats lost place (Some other) d ∙ s.1)
 
+-- what is of the job before an event is of it behind
+pub widens-own : (job : Job) (before after : Kernel) (range : Option Range) (value value' : ReplicaOf) → after.given ≡ with_range range before.given → Widens range value' value → IsOfJob job before value → IsOfJob job after value'
+widens-own job before after range value value' gives w own = record {
+  layout = w.layout ∙ ap (widen range) own.layout ∙ sym (layout-widens job.program before after range gives);
+  given = w.given ∙ ap (with_range range) own.given ∙ sym gives;
+  watchdog = w.watchdog ∙ own.watchdog;
+}
+
 -- one replica more that an event has reached
-pub applied-cons : (job : Job) (effect : Effect) (seats : List (Option ReplicaOf)) (replicas : List Replica) (seat seat' : Option ReplicaOf) (others others' : List (Option ReplicaOf)) → seats ≡ seat ∷ others → AreHome job seats replicas
-    → ((replica : Replica) → AreHome job (seat ∷ []) (replica ∷ []) → AreHome job (seat' ∷ []) (all_applied effect (replica ∷ [])))
-    → ((rest : List Replica) → AreHome job others rest → AreHome job others' (all_applied effect rest))
-    → AreHome job (seat' ∷ others') (all_applied effect replicas)
-applied-cons job effect seats replicas seat seat' others others' is home first rest = by seat seat' replicas (subst (λ (xs : List (Option ReplicaOf)). AreHome job xs replicas) is home) first
+pub applied-cons : (job : Job) (before after : Kernel) (effect : Effect) (seats : List (Option ReplicaOf)) (replicas : List Replica) (seat seat' : Option ReplicaOf) (others others' : List (Option ReplicaOf)) → seats ≡ seat ∷ others → AreHome job before seats replicas
+    → ((replica : Replica) → AreHome job before (seat ∷ []) (replica ∷ []) → AreHome job after (seat' ∷ []) (all_applied effect (replica ∷ [])))
+    → ((rest : List Replica) → AreHome job before others rest → AreHome job after others' (all_applied effect rest))
+    → AreHome job after (seat' ∷ others') (all_applied effect replicas)
+applied-cons job before after effect seats replicas seat seat' others others' is home first rest = by seat seat' replicas (subst (λ (xs : List (Option ReplicaOf)). AreHome job before xs replicas) is home) first
   where
-    by : (seat seat' : Option ReplicaOf) (replicas : List Replica) → AreHome job (seat ∷ others) replicas → ((replica : Replica) → AreHome job (seat ∷ []) (replica ∷ []) → AreHome job (seat' ∷ []) (all_applied effect (replica ∷ []))) → AreHome job (seat' ∷ others') (all_applied effect replicas)
+    by : (seat seat' : Option ReplicaOf) (replicas : List Replica) → AreHome job before (seat ∷ others) replicas → ((replica : Replica) → AreHome job before (seat ∷ []) (replica ∷ []) → AreHome job after (seat' ∷ []) (all_applied effect (replica ∷ []))) → AreHome job after (seat' ∷ others') (all_applied effect replicas)
     by None seat' replicas h f = absurd h
     by (Some value) seat' [] h f = absurd h
     by (Some value) None (r ∷ replicas) h f = absurd (f r (h.0, h.1, tt))

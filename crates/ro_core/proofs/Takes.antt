@@ -94,7 +94,7 @@ module _ (f : Fields) (h : Holds f) (lease : Lease) (allowed : MayTake f.job (co
   })
 
   -- what leaves its seat is the replica of the core, and its thread can run
-  pub take-lent : (value : ReplicaOf) → slice_get f.seats lease.replica ≡ Some (Some value) → IsOfJob f.job value × (slice_get (core_in f).replicas lease.replica ≡ Some (replica_of value))
+  pub take-lent : (value : ReplicaOf) → slice_get f.seats lease.replica ≡ Some (Some value) → IsOfJob f.job (core_in f).kernel value × (slice_get (core_in f).replicas lease.replica ≡ Some (replica_of value))
   take-lent value there =
       let s : Seated f.job (core_in f) lease.replica (Some (Some value)) = subst (λ (o : Option (Option ReplicaOf)). Seated f.job (core_in f) lease.replica o) there (h.seats_are.each lease.replica) in
       (s.1, s.2)

@@ -92,49 +92,49 @@ any-lowest test (suc n) = by (lowest_below n test) (test n) (any-lowest test n)
 -- ---- seats
 
 -- at a place there is a replica of the program, and the core's
-abbrev HomeAt : Job → Option (Option ReplicaOf) → Option Replica → Type 0
-HomeAt job None o = Unit {0}
-HomeAt job (Some None) o = ⊥
-HomeAt job (Some (Some value)) o = IsOfJob job value × (o ≡ Some (replica_of value))
+abbrev HomeAt : Job → Kernel → Option (Option ReplicaOf) → Option Replica → Type 0
+HomeAt job kernel None o = Unit {0}
+HomeAt job kernel (Some None) o = ⊥
+HomeAt job kernel (Some (Some value)) o = IsOfJob job kernel value × (o ≡ Some (replica_of value))
 
-home-at : (job : Job) (seats : List (Option ReplicaOf)) (replicas : List Replica) → length seats ≡ length replicas → ((n : ℕ) → HomeAt job (slice_get seats n) (slice_get replicas n)) → AreHome job seats replicas
-home-at job [] [] same each = tt
-home-at job [] (r ∷ replicas) same each = absurd (omega arith)
-home-at job (seat ∷ seats) [] same each = absurd (omega arith)
-home-at job (None ∷ seats) (r ∷ replicas) same each = absurd (each 0)
-home-at job (Some value ∷ seats) (r ∷ replicas) same each =
-    let first = each 0 in (first.0, (let e : Some r ≡ Some (replica_of value) = first.1 in cc), home-at job seats replicas (omega arith) (λ n. each (suc n)))
+home-at : (job : Job) (kernel : Kernel) (seats : List (Option ReplicaOf)) (replicas : List Replica) → length seats ≡ length replicas → ((n : ℕ) → HomeAt job kernel (slice_get seats n) (slice_get replicas n)) → AreHome job kernel seats replicas
+home-at job kernel [] [] same each = tt
+home-at job kernel [] (r ∷ replicas) same each = absurd (omega arith)
+home-at job kernel (seat ∷ seats) [] same each = absurd (omega arith)
+home-at job kernel (None ∷ seats) (r ∷ replicas) same each = absurd (each 0)
+home-at job kernel (Some value ∷ seats) (r ∷ replicas) same each =
+    let first = each 0 in (first.0, (let e : Some r ≡ Some (replica_of value) = first.1 in cc), home-at job kernel seats replicas (omega arith) (λ n. each (suc n)))
 
 -- where nothing is lent every replica is in its seat
-pub all-home : (job : Job) (core : Core) (seats : List (Option ReplicaOf)) → AreSeated job core seats → core.leases ≡ [] → AreHome job seats core.replicas
-all-home job core seats h none = home-at job seats core.replicas h.count (λ n. by n (slice_get seats n) (h.each n))
+pub all-home : (job : Job) (core : Core) (seats : List (Option ReplicaOf)) → AreSeated job core seats → core.leases ≡ [] → AreHome job core.kernel seats core.replicas
+all-home job core seats h none = home-at job core.kernel seats core.replicas h.count (λ n. by n (slice_get seats n) (h.each n))
   where
     home : (n : ℕ) → is_home core n ≡ true
     home n = ap (λ (ls : List Lease). not (list_any (λ lease. lease.replica == n) ls)) none
 
-    by : (n : ℕ) (o : Option (Option ReplicaOf)) → Seated job core n o → HomeAt job o (slice_get core.replicas n)
+    by : (n : ℕ) (o : Option (Option ReplicaOf)) → Seated job core n o → HomeAt job core.kernel o (slice_get core.replicas n)
     by n None s = tt
     by n (Some None) s = true≢false (sym (home n) ∙ s)
     by n (Some (Some value)) s = (s.1, s.2)
 
 -- and the other way round
-pub seated-home : (job : Job) (core : Core) (seats : List (Option ReplicaOf)) → AreHome job seats core.replicas → core.leases ≡ [] → AreSeated job core seats
-seated-home job core seats h none = record { count = home-count job seats core.replicas h; each = λ n. by n seats core.replicas h n (λ m e. e) }
+pub seated-home : (job : Job) (core : Core) (seats : List (Option ReplicaOf)) → AreHome job core.kernel seats core.replicas → core.leases ≡ [] → AreSeated job core seats
+seated-home job core seats h none = record { count = home-count job core.kernel seats core.replicas h; each = λ n. by n seats core.replicas h n (λ m e. e) }
   where
     home : (n : ℕ) → is_home core n ≡ true
     home n = ap (λ (ls : List Lease). not (list_any (λ lease. lease.replica == n) ls)) none
 
-    by : (number : ℕ) (seats : List (Option ReplicaOf)) (replicas : List Replica) → AreHome job seats replicas → (n : ℕ) → ((r : Option Replica) → slice_get replicas n ≡ r → slice_get core.replicas number ≡ r) → Seated job core number (slice_get seats n)
+    by : (number : ℕ) (seats : List (Option ReplicaOf)) (replicas : List Replica) → AreHome job core.kernel seats replicas → (n : ℕ) → ((r : Option Replica) → slice_get replicas n ≡ r → slice_get core.replicas number ≡ r) → Seated job core number (slice_get seats n)
     by number [] [] h n same = tt
     by number (Some value ∷ seats) (r ∷ replicas) h zero same = (home number, h.0, same (Some (replica_of value)) (ap (λ (x : Replica). Some x) (sym h.1)))
     by number (Some value ∷ seats) (r ∷ replicas) h (suc n) same = by number seats replicas h.2 n same
     by number seats replicas h n same = absurd h
 
-pub stopped-home : (job : Job) (thread : ℕ) (seats : List (Option ReplicaOf)) (replicas : List Replica) → AreHome job seats replicas → list_all (seat_stopped thread) seats ≡ list_all (λ replica. is_some (stop_of replica thread)) replicas
-stopped-home job thread [] [] h = refl
-stopped-home job thread (Some value ∷ seats) (r ∷ replicas) h =
-    ap (λ (x : Replica). is_some (stop_of x thread) && list_all (seat_stopped thread) seats) h.1 ∙ ap (λ (b : Bool). is_some (stop_of r thread) && b) (stopped-home job thread seats replicas h.2)
-stopped-home job thread seats replicas h = absurd h
+pub stopped-home : (job : Job) (kernel : Kernel) (thread : ℕ) (seats : List (Option ReplicaOf)) (replicas : List Replica) → AreHome job kernel seats replicas → list_all (seat_stopped thread) seats ≡ list_all (λ replica. is_some (stop_of replica thread)) replicas
+stopped-home job kernel thread [] [] h = refl
+stopped-home job kernel thread (Some value ∷ seats) (r ∷ replicas) h =
+    ap (λ (x : Replica). is_some (stop_of x thread) && list_all (seat_stopped thread) seats) h.1 ∙ ap (λ (b : Bool). is_some (stop_of r thread) && b) (stopped-home job kernel thread seats replicas h.2)
+stopped-home job kernel thread seats replicas h = absurd h
 
 -- ---- the tests
 

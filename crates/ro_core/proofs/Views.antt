@@ -1,19 +1,16 @@
 -- The views of a vote, in the fields of a run.
-use Rattle.std.proofs.Common.{◌≤◌, ◌≡◌, ℕ, true, List, length, None, Result, Ok, Err, ◌∙◌, arith, sym, ap}
+use Rattle.std.proofs.Common.{◌≤◌, ◌≡◌, ℕ, true, List, length, None, Result, Ok, Err, ◌∙◌, arith}
 use Rattle.std.specs.Prelude.{OnErr}
-use Rattle.std.specs.List.{list_all, filter_map}
+use Rattle.std.specs.List.{list_all}
 use Rattle.std.proofs.lemmas.Bool.{and_parts}
 use Rattle.ro_event.specs.Views.{View}
 use Rattle.ro_settings.proofs.Counts.{few-replicas}
-use Rattle.ro_legal.specs.Core.{may_vote, views_of}
+use Rattle.ro_legal.specs.Core.{may_vote}
 use Rattle.ro_core.specs.Fields.{AreHome, Fields, core_in, Holds}
 use Rattle.ro_core.specs.Grouped.{seat_stopped}
 use Rattle.ro_core.proofs.Held.{goes, no-outcome, no-views}
 use Rattle.ro_legal.proofs.Ordered.{vote-parts, ordered}
-use Rattle.ro_legal.proofs.Ungiven.{ranges-first}
 use Rattle.ro_core.proofs.Tests.{all-home, stopped-home}
-use Rattle.ro_region.specs.declared.Range.{Range}
-use Rattle.ro_replica.specs.Views.{view_of}
 
 pub viewed-holds : (f : Fields) (views : List View) → Holds f → f.ended ≡ None → length views ≡ length f.views → Holds (record f { views = views })
 viewed-holds f views h still same = record {
@@ -47,18 +44,14 @@ module _ (f : Fields) (h : Holds f) (thread : ℕ) (may : may_vote (core_in f) t
   pub view-still : f.ended ≡ None
   view-still = (goes f h (vote-parts (core_in f) thread may).going).not_ended
 
-  pub view-home : AreHome f.job f.seats (core_in f).replicas
+  pub view-home : AreHome f.job (core_in f).kernel f.seats (core_in f).replicas
   view-home = all-home f.job (core_in f) f.seats h.seats_are (vote-parts (core_in f) thread may).alone
 
   pub view-stopped : list_all (seat_stopped thread) f.seats ≡ true
-  view-stopped = stopped-home f.job thread f.seats (core_in f).replicas view-home ∙ (and_parts _ _ may).1
+  view-stopped = stopped-home f.job (core_in f).kernel thread f.seats (core_in f).replicas view-home ∙ (and_parts _ _ may).1
 
   as-many : length f.views ≡ f.job.settings.replicas
   as-many = h.views_count view-still ∙ h.seats_are.count ∙ (ordered f.job f.journal h.legal).replica_count
 
   pub view-count : length f.views ≤ 5
   view-count = let range = few-replicas f.job.settings.replicas h.in_range.replicas in let many = as-many in omega arith
-
--- the views by the ranges from the start are those that are compared
-pub views-first : (f : Fields) (thread : ℕ) → filter_map (view_of f.job.program.image.ranges thread) (core_in f).replicas ≡ views_of f.job (core_in f) thread
-views-first f thread = ap (λ (ranges : List Range). filter_map (view_of ranges thread) (core_in f).replicas) (sym (ranges-first f.job f.journal))

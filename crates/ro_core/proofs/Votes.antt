@@ -132,7 +132,7 @@ module _ (f : Fields) (thread won : ℕ) (lost : Lost) (v : IsHeld f thread won 
   pub hold-threads : (number : ℕ) (replica : Replica) → slice_get (core_in f).replicas number ≡ Some replica → length replica.threads ≡ length (core_in f).kernel.lives
   hold-threads number replica e = ((ordered f.job f.journal h.legal).sound number replica e).all_made
 
-  pub hold-home : AreHome f.job f.seats (core_in f).replicas
+  pub hold-home : AreHome f.job (core_in f).kernel f.seats (core_in f).replicas
   hold-home = all-home f.job (core_in f) f.seats h.seats_are parts.alone
 
   -- and so it is of the replicas after the copy
@@ -149,22 +149,22 @@ module _ (f : Fields) (thread won : ℕ) (lost : Lost) (v : IsHeld f thread won 
   hold-made-healed number replica e = hold-healed number replica e ∙ ap (λ (k : Kernel). length k.lives) (sym h.kernel_is)
 
   -- each loser can become as the winner, in seats that have the core's replicas
-  module _ (seats : List (Option ReplicaOf)) (home : AreHome f.job seats (core_in f).replicas) where
+  module _ (seats : List (Option ReplicaOf)) (home : AreHome f.job (core_in f).kernel seats (core_in f).replicas) where
     pub seat-of : (n : ℕ) → n < length f.views → IsSeat seats n
     seat-of n less =
         let w = get-within (core_in f).replicas n (let e = as-many in omega arith) in
-        let seat = home-seat f.job seats (core_in f).replicas n w.0 home w.1 in
+        let seat = home-seat f.job (core_in f).kernel seats (core_in f).replicas n w.0 home w.1 in
         (seat.0, seat.1)
 
     pub hold-twins : AreAllTwins seats
     hold-twins place elsewhere one other a b =
-        let w = home-get f.job seats (core_in f).replicas place one home a in
-        let o = home-get f.job seats (core_in f).replicas elsewhere other home b in
+        let w = home-get f.job (core_in f).kernel seats (core_in f).replicas place one home a in
+        let o = home-get f.job (core_in f).kernel seats (core_in f).replicas elsewhere other home b in
         let order = ordered f.job f.journal h.legal in
         let x = order.sound place (replica_of one) w.1 in
         let y = order.sound elsewhere (replica_of other) o.1 in
         record {
-          program = record { layout = w.0.layout ∙ sym o.0.layout; watchdog = w.0.watchdog ∙ sym o.0.watchdog };
+          program = record { layout = w.0.layout ∙ sym o.0.layout; given = w.0.given ∙ sym o.0.given; watchdog = w.0.watchdog ∙ sym o.0.watchdog };
           pages = λ page. ap (λ (b : ℕ → Bool). b page) (x.same_backed ∙ sym y.same_backed);
           threads = x.all_made ∙ sym y.all_made;
         }
@@ -242,8 +242,8 @@ module _ (f : Fields) (thread won : ℕ) (lost : Lost) (v : IsHeld f thread won 
 
     -- the event that the code has for it can be done
     pub hold-can : (r : Run) (e : Happening) (did : Did) (count next : ℕ) (threads : ℕ) → hold-event ≡ event_by e r.kernel.kernel (if e.writes then view.payload else []) → hold-event.did ≡ did → count ≡ view.since → next ≡ view.since + event_steps did → f.steps + next ≤ f.job.settings.limit
-        → IsAmid f r → Stands f.job r.seats (with_recovered won (numbers lost) (core_in f).replicas) → AreSpared r.seats.homes.items → threads ≡ length f.kernel.kernel.lives → (e.moves ≡ false → LeavesWaiting f.kernel.kernel r.kernel.kernel) → CanOccur r (record { thread = thread; event = e; entry = Vote thread count won lost did; steps = next; writer = if e.writes then Some won else None; threads = threads })
-    hold-can r e did count next threads is did_is counts steps fits amid stands spared threads_are leaves = record {
+        → IsAmid f r → IfSome e.effect.range (λ range. length f.kernel.kernel.given < 4096) → Stands f.job (core_in f).kernel r.seats (with_recovered won (numbers lost) (core_in f).replicas) → AreSpared r.seats.homes.items → threads ≡ length f.kernel.kernel.lives → (e.moves ≡ false → LeavesWaiting f.kernel.kernel r.kernel.kernel) → CanOccur r (record { thread = thread; event = e; entry = Vote thread count won lost did; steps = next; writer = if e.writes then Some won else None; threads = threads })
+    hold-can r e did count next threads is did_is counts steps fits amid room stands spared threads_are leaves = record {
       before = f;
       holds = h;
       going = hold-going;
@@ -261,6 +261,7 @@ module _ (f : Fields) (thread won : ℕ) (lost : Lost) (v : IsHeld f thread won 
       live = hold-live;
       own = sym (ap (λ (x : Event). x.effect.thread) is) ∙ hold-happens.thread_is;
       low = subst (λ (o : Option ℕ). IfSome o (λ page. page < 2 ^ 20)) (ap (λ (x : Event). x.effect.page) is) hold-low;
+      room = room;
       stands = stands;
       spared = spared;
       made = λ number replica g. hold-made-healed number replica g ∙ sym threads_are;
@@ -350,7 +351,7 @@ length-applied effect replicas = length-mapped (λ replica. cancelled (applied e
 
 -- ---- fields that only made room
 
-kept-holds : (f f' : Fields) → Holds f → f.leases ≡ [] → f'.job ≡ f.job → f'.journal ≡ f.journal → AreHome f.job f'.seats (core_in f).replicas → f'.leases ≡ f.leases → f'.kernel ≡ f.kernel → f'.blocked ≡ f.blocked → f'.unblocked ≡ f.unblocked → f'.steps ≡ f.steps → f'.scrubbed ≡ f.scrubbed → f'.streak ≡ f.streak → f'.due ≡ f.due → f'.ended ≡ f.ended → f'.views ≡ f.views → f'.sent ≡ f.sent → f'.wrote ≡ f.wrote
+kept-holds : (f f' : Fields) → Holds f → f.leases ≡ [] → f'.job ≡ f.job → f'.journal ≡ f.journal → AreHome f.job (core_in f).kernel f'.seats (core_in f).replicas → f'.leases ≡ f.leases → f'.kernel ≡ f.kernel → f'.blocked ≡ f.blocked → f'.unblocked ≡ f.unblocked → f'.steps ≡ f.steps → f'.scrubbed ≡ f.scrubbed → f'.streak ≡ f.streak → f'.due ≡ f.due → f'.ended ≡ f.ended → f'.views ≡ f.views → f'.sent ≡ f.sent → f'.wrote ≡ f.wrote
     → f'.groups ≡ f.groups → f.places ≤ f'.places → Holds f'
 kept-holds f f' h alone job journal home leases kernel blocked unblocked steps scrubbed streak due ended views count wrote groups room =
     let core : core_in f' ≡ core_in f = ap (λ (j : Job). replay j f'.journal) job ∙ ap (replay f.job) journal in
@@ -376,16 +377,16 @@ kept-holds f f' h alone job journal home leases kernel blocked unblocked steps s
       ended_is = ended ∙ h.ended_is ∙ sym (ap (λ (c : Core). c.ended) core);
       seats_are = subst (λ (j : Job). AreSeated j (core_in f') f'.seats) (sym job) (subst (λ (c : Core). AreSeated f.job c f'.seats) (sym core) (seated-home f.job (core_in f) f'.seats home (sym h.leases_are ∙ alone)));
       groups_are = subst (λ (c : Core). AreGrouped c.replicas f'.groups) (sym core) (subst (AreGrouped (core_in f).replicas) (sym groups) h.groups_are);
-      views_count = λ unended. ap length views ∙ h.views_count (sym ended ∙ unended) ∙ h.seats_are.count ∙ sym (home-count f.job f'.seats (core_in f).replicas home);
+      views_count = λ unended. ap length views ∙ h.views_count (sym ended ∙ unended) ∙ h.seats_are.count ∙ sym (home-count f.job (core_in f).kernel f'.seats (core_in f).replicas home);
       views_kept = subst (λ (j : Job). KeepsViews j f'.journal f'.views) (sym job) (subst (λ (js : List Entry). KeepsViews f.job js f'.views) (sym journal) (subst (KeepsViews f.job f.journal) (sym views) h.views_kept));
       room = let k = h.room in let n : length f'.leases ≡ length f.leases = ap length leases in let e : one_end f'.ended ≡ one_end f.ended = ap one_end ended in omega arith;
     }
 
 -- where nothing is lent every replica is at home
-pub ready-home : (f : Fields) → Holds f → f.leases ≡ [] → AreHome f.job f.seats (core_in f).replicas
+pub ready-home : (f : Fields) → Holds f → f.leases ≡ [] → AreHome f.job (core_in f).kernel f.seats (core_in f).replicas
 ready-home f h alone = all-home f.job (core_in f) f.seats h.seats_are (sym h.leases_are ∙ alone)
 
-pub made-room : (f f' : Fields) → Holds f → f.leases ≡ [] → f'.job ≡ f.job → f'.journal ≡ f.journal → AreHome f.job f'.seats (core_in f).replicas → f'.leases ≡ f.leases → f'.kernel ≡ f.kernel → f'.blocked ≡ f.blocked → f'.unblocked ≡ f.unblocked → f'.steps ≡ f.steps → f'.scrubbed ≡ f.scrubbed → f'.streak ≡ f.streak → f'.due ≡ f.due → f'.ended ≡ f.ended → f'.views ≡ f.views → f'.sent ≡ f.sent → f'.wrote ≡ f.wrote
+pub made-room : (f f' : Fields) → Holds f → f.leases ≡ [] → f'.job ≡ f.job → f'.journal ≡ f.journal → AreHome f.job (core_in f).kernel f'.seats (core_in f).replicas → f'.leases ≡ f.leases → f'.kernel ≡ f.kernel → f'.blocked ≡ f.blocked → f'.unblocked ≡ f.unblocked → f'.steps ≡ f.steps → f'.scrubbed ≡ f.scrubbed → f'.streak ≡ f.streak → f'.due ≡ f.due → f'.ended ≡ f.ended → f'.views ≡ f.views → f'.sent ≡ f.sent → f'.wrote ≡ f.wrote
     → f'.groups ≡ f.groups → f.places ≤ f'.places → MakesRoom f f'
 made-room f f' h alone job journal home leases kernel blocked unblocked steps scrubbed streak due ended views count wrote groups room = record {
   holds = kept-holds f f' h alone job journal home leases kernel blocked unblocked steps scrubbed streak due ended views count wrote groups room;
@@ -415,5 +416,5 @@ held-room f f' thread won lost v m =
     }
 
 -- the replicas in the seats of a run of which nothing is lent
-pub ready-stands : (r : Run) → Holds (fields_of r) → r.leases.items ≡ [] → Stands (job_of r) r.seats (core_in (fields_of r)).replicas
+pub ready-stands : (r : Run) → Holds (fields_of r) → r.leases.items ≡ [] → Stands (job_of r) (core_in (fields_of r)).kernel r.seats (core_in (fields_of r)).replicas
 ready-stands r h alone = record { home = ready-home (fields_of r) h alone; grouped = h.groups_are }

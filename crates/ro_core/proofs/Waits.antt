@@ -1,5 +1,5 @@
 -- On what hangs whether the call of a thread that is blocked would be done, and which calls leave that.
-use Rattle.std.specs.Prelude.{◌≡◌, ℕ, zero, suc, Bool, true, false, cond, not, List, [], ◌∷◌, length, Option, Some, None, slice_get, slice_set}
+use Rattle.std.specs.Prelude.{◌≡◌, ◌==◌, ◌||◌, ℕ, zero, suc, Bool, true, false, cond, not, List, [], ◌∷◌, length, Option, Some, None, slice_get, slice_set}
 use Rattle.std.proofs.Common.{refl, sym, ap, ◌∙◌, subst}
 use Rattle.std.specs.Option.{option_map_or}
 use Rattle.ro_event.specs.declared.calls.Which.{Which}
@@ -16,56 +16,89 @@ use Rattle.ro_kernel.specs.declared.Life.TheVariants.{Live, Exited, Joined}
 use Rattle.ro_kernel.specs.declared.outcome.Served.{Served as Code}
 use Rattle.ro_kernel.specs.declared.outcome.Served.TheVariants.{Done as CodeDone, Parked as CodeParked, Blocked as CodeBlocked, Ends as CodeEnds}
 use Rattle.ro_kernel.specs.Kernel.{Setup, Kernel, ranges_in}
+use Rattle.ro_region.specs.declared.Range.{Range}
+use Rattle.ro_region.specs.Permission.{with_range}
 use Rattle.ro_kernel.specs.State.{State}
+use Rattle.ro_kernel.proofs.Given.{given-done, given-ended}
 use Rattle.ro_kernel.specs.Served.{Brings}
-use Rattle.ro_kernel.specs.Serve.{Served, Done, Parked, Blocked, Ends, answers, fits, is_served, serve_system, serve_join_at, lock_at, trylock_at, unlock_at, wait_at, on_word, serve_which, serve, serves}
+use Rattle.ro_kernel.specs.Serve.{Served, Done, Parked, Blocked, Ends, answers, fits, is_served, mapped, serve_read, serve_write, serve_brk, serve_mmap, serve_system, serve_join_at, lock_at, trylock_at, unlock_at, wait_at, on_word, serve_which, serve, serves}
 use Rattle.ro_legal.specs.Action.{lowest_below}
 use Rattle.ro_core.specs.Fields.{blocked_at, is_unblocked, first_unblocked}
 use Rattle.ro_core.specs.Happening.{LeavesWaiting}
 use Rattle.ro_core.proofs.Tests.{lowest-same}
 
--- ---- a call of the system leaves it
+-- ---- a call of the system leaves it, where it gives no range
+
+-- all of it but what is given
+record LeavesRest (old new : Kernel) : Type 0 where
+  pub lives : new.lives ≡ old.lives
+  pub owners : new.owners ≡ old.owners
+  pub waiters : new.waiters ≡ old.waiters
 
 data Leaving (old : Kernel) : Served → Type 0 where
-  by_done : {after : Kernel} {effect : Effect} → LeavesWaiting old after → Leaving old (Done after effect)
-  by_end : {after : Kernel} {how : How} → LeavesWaiting old after → Leaving old (Ends after how)
+  by_done : {after : Kernel} {effect : Effect} → LeavesRest old after → Leaving old (Done after effect)
+  by_end : {after : Kernel} {how : How} → LeavesRest old after → Leaving old (Ends after how)
 
 leaving-cond : (old : Kernel) (b : Bool) (x y : Served) → Leaving old x → Leaving old y → Leaving old (cond b x y)
 leaving-cond old true x y p q = p
 leaving-cond old false x y p q = q
 
 module _ (setup : Setup) (kernel : Kernel) (u : ℕ) (call : Call) where
-  same : LeavesWaiting kernel kernel
-  same = record { lives = refl; owners = refl; waiters = refl; given = refl }
+  same : LeavesRest kernel kernel
+  same = record { lives = refl; owners = refl; waiters = refl }
 
-  reads-on : (n : ℕ) → LeavesWaiting kernel (record kernel { taken = n })
-  reads-on n = record { lives = refl; owners = refl; waiters = refl; given = refl }
+  reads-on : (n : ℕ) → LeavesRest kernel (record kernel { taken = n })
+  reads-on n = record { lives = refl; owners = refl; waiters = refl }
 
-  breaks-at : (n : ℕ) → LeavesWaiting kernel (record kernel { heap_end = n })
-  breaks-at n = record { lives = refl; owners = refl; waiters = refl; given = refl }
+  breaks-at : (n : ℕ) → LeavesRest kernel (record kernel { heap_end = n })
+  breaks-at n = record { lives = refl; owners = refl; waiters = refl }
+
+  gives-more : LeavesRest kernel (record kernel { given = mapped kernel.given call ∷ kernel.given })
+  gives-more = record { lives = refl; owners = refl; waiters = refl }
 
   system-leaves : (number : ℕ) → call.which ≡ System number → Leaving kernel (serve setup kernel u call)
   unfolding serve
   system-leaves number e = subst (λ (w : Which). Leaving kernel (serve_which setup kernel u call w)) (sym e) by
     where
-      by : Leaving kernel (serve_system setup kernel u call number)
-      by = search (leaving-cond, by_done, by_end, same, reads-on, breaks-at) depth 12
+      of-read : Leaving kernel (serve_read setup kernel u call)
+      of-read = search (leaving-cond, by_done, same, reads-on)
 
-leaves-done : (old after : Kernel) (effect : Effect) → Leaving old (Done after effect) → LeavesWaiting old after
+      of-write : Leaving kernel (serve_write setup kernel u call)
+      of-write = search (leaving-cond, by_done, same)
+
+      of-brk : Leaving kernel (serve_brk setup kernel u call)
+      of-brk = search (leaving-cond, by_done, same, breaks-at)
+
+      of-mmap : Leaving kernel (serve_mmap kernel u call)
+      of-mmap = search (leaving-cond, by_done, same, gives-more) depth 8
+
+      by : Leaving kernel (serve_system setup kernel u call number)
+      by =
+          let rest = leaving-cond kernel (number == 214) _ _ of-brk (leaving-cond kernel (number == 222) _ _ of-mmap (by_done same)) in
+          leaving-cond kernel (number == 63) _ _ of-read (leaving-cond kernel (number == 64) _ _ of-write (leaving-cond kernel ((number == 93) || (number == 94)) _ _ (by_end same) rest))
+
+leaves-done : (old after : Kernel) (effect : Effect) → Leaving old (Done after effect) → LeavesRest old after
 leaves-done old after effect (by_done h) = h
 
-leaves-end : (old after : Kernel) (how : How) → Leaving old (Ends after how) → LeavesWaiting old after
+leaves-end : (old after : Kernel) (how : How) → Leaving old (Ends after how) → LeavesRest old after
 leaves-end old after how (by_end h) = h
+
+leaves-all : (old new : Kernel) → LeavesRest old new → new.given ≡ old.given → LeavesWaiting old new
+leaves-all old new h given = record { lives = h.lives; owners = h.owners; waiters = h.waiters; given = given }
 
 not-parked : (old after : Kernel) → Leaving old (Parked after) → ⊥
 not-parked old after h = elim h [ ]
 
 -- whatever the code answers for it
-pub brings-leaves : (old new : State) (u : ℕ) (call : Call) (number : ℕ) (served : Code) → call.which ≡ System number → Brings (serve old.setup old.kernel u call) old new served → LeavesWaiting old.kernel new.kernel
-brings-leaves old new u call number (CodeDone effect) e b = leaves-done old.kernel new.kernel effect (subst (Leaving old.kernel) b.0 (system-leaves old.setup old.kernel u call number e))
-brings-leaves old new u call number CodeParked e b = absurd (not-parked old.kernel new.kernel (subst (Leaving old.kernel) b.0 (system-leaves old.setup old.kernel u call number e)))
-brings-leaves old new u call number CodeBlocked e b = record { lives = ap (λ (s : State). s.kernel.lives) b.1; owners = ap (λ (s : State). s.kernel.owners) b.1; waiters = ap (λ (s : State). s.kernel.waiters) b.1; given = ap (λ (s : State). s.kernel.given) b.1 }
-brings-leaves old new u call number (CodeEnds how) e b = leaves-end old.kernel new.kernel how (subst (Leaving old.kernel) b.0 (system-leaves old.setup old.kernel u call number e))
+pub brings-leaves : (old new : State) (u : ℕ) (call : Call) (number : ℕ) (served : Code) → call.which ≡ System number → ((effect : Effect) → served ≡ CodeDone effect → effect.range ≡ None) → Brings (serve old.setup old.kernel u call) old new served → LeavesWaiting old.kernel new.kernel
+brings-leaves old new u call number (CodeDone effect) e none b =
+    leaves-all old.kernel new.kernel (leaves-done old.kernel new.kernel effect (subst (Leaving old.kernel) b.0 (system-leaves old.setup old.kernel u call number e)))
+    (given-done old.setup old.kernel u call new.kernel effect b.0 ∙ ap (λ (range : Option Range). with_range range old.kernel.given) (none effect refl))
+brings-leaves old new u call number CodeParked e none b = absurd (not-parked old.kernel new.kernel (subst (Leaving old.kernel) b.0 (system-leaves old.setup old.kernel u call number e)))
+brings-leaves old new u call number CodeBlocked e none b = record { lives = ap (λ (s : State). s.kernel.lives) b.1; owners = ap (λ (s : State). s.kernel.owners) b.1; waiters = ap (λ (s : State). s.kernel.waiters) b.1; given = ap (λ (s : State). s.kernel.given) b.1 }
+brings-leaves old new u call number (CodeEnds how) e none b =
+    leaves-all old.kernel new.kernel (leaves-end old.kernel new.kernel how (subst (Leaving old.kernel) b.0 (system-leaves old.setup old.kernel u call number e)))
+    (given-ended old.setup old.kernel u call new.kernel how b.0)
 
 -- ---- whether a call would be done hangs on nothing else
 

@@ -1,6 +1,8 @@
 //! The event of a vote: what the winner's stop comes to.
-ghost use Rattle.std.specs.Prelude.{ℕ, ◌≡◌, List, IfOk, IsTrue, OnErr, [], Some, None, true, false, if◌then◌else◌};
+ghost use Rattle.std.specs.Prelude.{ℕ, ◌≡◌, ◌<◌, List, IfOk, IfSome, IsTrue, OnErr, length, [], Some, None, true, false, if◌then◌else◌};
 ghost use Rattle.ro_kernel.specs.Kernel.{lives_on, Kernel as KernelSeen};
+ghost use Rattle.ro_kernel.specs.Mapped.{IsMapped};
+ghost use Rattle.ro_event.specs.Effects.{Effect as EffectSeen};
 ghost use Rattle.ro_event.specs.declared.stops.Stop.{Stop as At};
 ghost use Rattle.ro_event.specs.declared.stops.Stop.TheVariants.{Calls};
 ghost use Rattle.ro_legal.specs.Event.{event_of, quiet_effect, call_event};
@@ -78,6 +80,7 @@ impl Coming {
         requires { lives_on kernel.old.kernel thread ≡ true }
         ensures event { IfOk result (λ e. (stop : At) → IsCause kernel.old.setup kernel.old.kernel thread stop self.now.did self.now.cause → IsEvent kernel.old.setup kernel.old.kernel kernel.new.kernel thread stop e) }
         ensures leaves { IfOk result (λ e. e.moves ≡ false → LeavesWaiting kernel.old.kernel kernel.new.kernel) }
+        ensures room { IfOk result (λ e. IsMapped kernel.old.kernel.given → IfSome e.effect.range (λ range. length kernel.old.kernel.given < 4096)) }
         ensures setup { kernel.new.setup ≡ kernel.old.setup }
         ensures err { OnErr result (kernel.new ≡ kernel.old) }
     {
@@ -133,6 +136,7 @@ pub(crate) fn serve(
     requires { lives_on kernel.old.kernel thread ≡ true }
     ensures event { IfOk result (IsCallEvent kernel.old.setup kernel.old.kernel kernel.new.kernel thread call) }
     ensures leaves { IfOk result (λ e. e.moves ≡ false → LeavesWaiting kernel.old.kernel kernel.new.kernel) }
+    ensures room { IfOk result (λ e. IsMapped kernel.old.kernel.given → IfSome e.effect.range (λ range. length kernel.old.kernel.given < 4096)) }
     ensures setup { kernel.new.setup ≡ kernel.old.setup }
     ensures err { OnErr result (kernel.new ≡ kernel.old) }
 {
@@ -142,17 +146,17 @@ pub(crate) fn serve(
 
 // The event of a call that came to this.
 fn event_of_call(alloc: Global, thread: u32, call: Call, served: Served) -> Event
-    ensures moves { result.moves ≡ false → (number : ℕ) × (call.which ≡ Which.System number) }
+    ensures moves { result.moves ≡ false → ((number : ℕ) × (call.which ≡ Which.System number)) × ((effect : EffectSeen) → served ≡ Served.Done effect → effect.range ≡ None) }
     ensures event { (kernel after : KernelSeen) (payload : List ℕ) → (served ≡ Served.Blocked → after ≡ kernel) → call_event kernel thread call payload (outcome_with after served) ≡ event_by result after (if result.writes then payload else []) }
 {
     match served {
         Served::Done(effect) => Event {
             did: Did::Served,
+            moves: effect.range.is_some() || !is_system(call),
             effect,
             blocked: None,
             due: None,
             writes: true,
-            moves: !is_system(call),
         },
         Served::Parked => waiting_event(alloc, Did::Parked, thread, call),
         Served::Blocked => waiting_event(alloc, Did::Blocked, thread, call),
@@ -163,7 +167,7 @@ fn event_of_call(alloc: Global, thread: u32, call: Call, served: Served) -> Even
     }
 }
 
-// Whether a call is one of the system: those change nothing that a blocked call waits for.
+// Whether a call is one of the system: those that give no range change nothing that a blocked call waits for.
 fn is_system(call: Call) -> bool
     ensures { IsTrue result → (number : ℕ) × (call.which ≡ Which.System number) }
 {

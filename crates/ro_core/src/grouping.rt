@@ -1,6 +1,7 @@
 //! Which threads stand still, kept beside the replicas.
 ghost use Rattle.std.specs.Prelude.{ℕ, ◌≡◌, ◌≢◌, ◌≤◌, ◌<◌, ◌↔◌, List, Some, true, false, is_some, length};
 ghost use Rattle.ro_journal.specs.Losers.{numbers};
+ghost use Rattle.ro_kernel.specs.Kernel.{Kernel as KernelSeen};
 ghost use Rattle.ro_vote.specs.Numbers.{is_among};
 ghost use Rattle.ro_replica.specs.Replica.{Replica as ReplicaSeen, stop_of};
 ghost use Rattle.ro_replica.specs.Seen.{replica_of};
@@ -83,7 +84,7 @@ pub(crate) fn regroup(
     requires groups { length groups.old ≡ replicas }
     requires thread { effect.now.thread < 16 }
     requires threads { threads ≤ 16 }
-    ensures { (job : Job) (before : List ReplicaSeen) → AreGrouped before groups.old → AreMade threads before → FaultsWait before → AreHome job seats.now (all_applied effect.now before) → AreGrouped (all_applied effect.now before) groups.new }
+    ensures { (job : Job) (kernel : KernelSeen) (before : List ReplicaSeen) → AreGrouped before groups.old → AreMade threads before → FaultsWait before → AreHome job kernel seats.now (all_applied effect.now before) → AreGrouped (all_applied effect.now before) groups.new }
 {
     release(groups, effect);
     if backs_pages(effect) {

@@ -1,6 +1,5 @@
 //! Opening a run.
 ghost use Rattle.std.specs.Prelude.{◌≡◌, ℕ, List, Option, None, IfErr, IfOk, length};
-ghost use Rattle.std.specs.Arc.{arc_value};
 ghost use Rattle.ro_settings.specs.Ranges.{InRange};
 ghost use Rattle.ro_replica.specs.Seen.{AreFaults};
 ghost use Rattle.ro_core.specs.Seen.{Opens};
@@ -21,7 +20,6 @@ use ro_region::Regions;
 use ro_replica::{Replica, ReplicaBox};
 use ro_settings::Settings;
 use std::alloc::{AllocError, Global};
-use std::sync::Arc;
 
 /// All of a run's opening for which memory is taken.
 #[derive(Drop)]
@@ -89,8 +87,8 @@ impl Opening {
         requires { AreFaults faults.now }
         ensures { IfOk result (IsOpened (record { program = record { image = image.now; input = input.now }; faults = faults.now; settings = settings })) }
     {
-        let regions = Arc::new(alloc, Regions::new(alloc, image.ranges())?)?;
-        let homes = opening_seats(alloc, image, &regions, faults, settings)?;
+        let kernel = Kernel::new(alloc, image.heap(), image.ranges(), input)?;
+        let homes = opening_seats(alloc, image, kernel.regions(), faults, settings)?;
         Ok(Opening {
             faults: faults.to_vec(alloc)?,
             journal: Vec::with_capacity(alloc, 1)?,
@@ -98,7 +96,7 @@ impl Opening {
                 homes,
                 groups: Groups::new(alloc, settings.replicas)?,
             },
-            kernel: Kernel::new(alloc, image.heap(), regions, input)?,
+            kernel,
             views: blank_views(alloc, settings.replicas)?,
         })
     }
@@ -108,18 +106,18 @@ impl Opening {
 fn opening_seats(
     alloc: Global,
     image: &Executable,
-    regions: &Arc<Regions>,
+    regions: &Regions,
     faults: &[Fault],
     settings: Settings,
 ) -> Result<Vec<Option<ReplicaBox>>, AllocError>
-    requires regions { arc_value regions.now ≡ image.now.ranges }
+    requires regions { regions.now.first ≡ image.now.ranges }
     requires faults { AreFaults faults.now }
     ensures first { IfOk result (λ seats. AreFirst image.now faults.now settings.watchdog seats.items) }
     ensures count { IfOk result (λ seats. length seats.items ≡ settings.replicas) }
 {
     let mut seats = Vec::new(alloc);
     for number in 0..settings.replicas {
-        let regions = Arc::try_clone(regions)?;
+        let regions = regions.opening(alloc)?;
         let replica = Replica::new(alloc, image, regions, number, faults, settings.watchdog)?;
         seats.push(Some(ReplicaBox::new(alloc, replica)?))?;
     }

@@ -2,6 +2,9 @@
 ghost use Rattle.std.specs.Prelude.{ℕ, ◌≡◌, ◌≢◌, ◌≤◌, ◌⊎◌, ◌<◌, ◌∷◌, [], List, Some, None, true, is_some, IfSome, OnOk, length, slice_get, slice_index_or, slice_set};
 ghost use Rattle.std.specs.List.{list_all, filter_map};
 ghost use Rattle.ro_group.specs.Groups.{is_ready};
+ghost use Rattle.ro_region.specs.Permission.{with_range};
+ghost use Rattle.ro_kernel.specs.Kernel.{Kernel as KernelSeen, ranges_in};
+ghost use Rattle.ro_plain.specs.Machine.{setup_of};
 ghost use Rattle.ro_replica.specs.Replica.{Replica as ReplicaSeen, stop_of};
 ghost use Rattle.ro_replica.specs.Views.{view_of};
 ghost use Rattle.ro_replica.specs.Seen.{ReplicaOf, replica_of, CanApply, AreTwins, Recovers};
@@ -77,7 +80,7 @@ impl Seats {
     pub fn show(&self, thread: u32, views: &mut [View])
         requires stopped { list_all (seat_stopped thread) self.now.homes.items ≡ true }
         requires count { length views.old ≡ length self.now.homes.items }
-        ensures views { (job : Job) (replicas : List ReplicaSeen) → AreHome job self.now.homes.items replicas → views.new ≡ filter_map (view_of job.program.image.ranges thread) replicas }
+        ensures views { (job : Job) (kernel : KernelSeen) (replicas : List ReplicaSeen) → AreHome job kernel self.now.homes.items replicas → views.new ≡ filter_map (view_of (ranges_in (setup_of job.program) kernel) thread) replicas }
         ensures count { length views.new ≡ length views.old }
     {
         show_all(self.homes.as_slice(), thread, views);
@@ -88,8 +91,8 @@ impl Seats {
     /// # Errors
     /// Where there is no memory; the replicas are as they were.
     pub fn reserve(&mut self) -> Result<(), AllocError>
-        requires home { (job : Job) × (replicas : List ReplicaSeen) × AreHome job self.old.homes.items replicas }
-        ensures kept { (job : Job) (replicas : List ReplicaSeen) → AreHome job self.old.homes.items replicas → AreHome job self.new.homes.items replicas }
+        requires home { (job : Job) × (kernel : KernelSeen) × (replicas : List ReplicaSeen) × AreHome job kernel self.old.homes.items replicas }
+        ensures kept { (job : Job) (kernel : KernelSeen) (replicas : List ReplicaSeen) → AreHome job kernel self.old.homes.items replicas → AreHome job kernel self.new.homes.items replicas }
         ensures spared { OnOk result (AreSpared self.new.homes.items) }
         ensures groups { self.new.groups ≡ self.old.groups }
     {
@@ -98,12 +101,12 @@ impl Seats {
 
     /// Each loser becomes as the winner.
     pub fn heal(&mut self, won: &Won, threads: u32)
-        requires home { (job : Job) × (replicas : List ReplicaSeen) × Stands job self.old replicas }
+        requires home { (job : Job) × (kernel : KernelSeen) × (replicas : List ReplicaSeen) × Stands job kernel self.old replicas }
         requires won { IsSeat self.old.homes.items won.now.won }
         requires lost { AreLosers self.old.homes.items won.now.won (numbers won.now.lost) }
         requires twins { AreAllTwins self.old.homes.items }
         requires threads { threads ≤ 16 }
-        ensures stands { (job : Job) (replicas : List ReplicaSeen) → Stands job self.old replicas → AreMade threads replicas → Stands job self.new (with_recovered won.now.won (numbers won.now.lost) replicas) }
+        ensures stands { (job : Job) (kernel : KernelSeen) (replicas : List ReplicaSeen) → Stands job kernel self.old replicas → AreMade threads replicas → Stands job kernel self.new (with_recovered won.now.won (numbers won.now.lost) replicas) }
         ensures spared { AreSpared self.old.homes.items → AreSpared self.new.homes.items }
     {
         recover_losers(self.homes.as_mut_slice(), won.won as usize, won.lost);
@@ -112,12 +115,12 @@ impl Seats {
 
     /// Does what an event does to every replica; each is at home.
     pub fn apply(&mut self, effect: &Effect, threads: u32)
-        requires home { (job : Job) × (replicas : List ReplicaSeen) × Stands job self.old replicas }
+        requires home { (job : Job) × (kernel : KernelSeen) × (replicas : List ReplicaSeen) × Stands job kernel self.old replicas }
         requires few { length self.old.homes.items ≤ 5 }
         requires can { CanTake effect.now self.old.homes.items }
         requires thread { effect.now.thread < 16 }
         requires threads { threads ≤ 16 }
-        ensures stands { (job : Job) (replicas : List ReplicaSeen) → Stands job self.old replicas → AreMade threads replicas → FaultsWait replicas → Stands job self.new (all_applied effect.now replicas) }
+        ensures stands { (job : Job) (before after : KernelSeen) (replicas : List ReplicaSeen) → after.given ≡ with_range effect.now.range before.given → Stands job before self.old replicas → AreMade threads replicas → FaultsWait replicas → Stands job after self.new (all_applied effect.now replicas) }
     {
         apply_to_all(self.homes.as_mut_slice(), effect);
         let replicas = self.homes.len() as u32;
@@ -175,7 +178,7 @@ fn is_unstopped(seat: &Option<ReplicaBox>, thread: u32) -> bool
 fn show_all(seats: &[Option<ReplicaBox>], thread: u32, views: &mut [View])
     requires stopped { list_all (seat_stopped thread) seats.now ≡ true }
     requires count { length views.old ≡ length seats.now }
-    ensures views { (job : Job) (replicas : List ReplicaSeen) → AreHome job seats.now replicas → views.new ≡ filter_map (view_of job.program.image.ranges thread) replicas }
+    ensures views { (job : Job) (kernel : KernelSeen) (replicas : List ReplicaSeen) → AreHome job kernel seats.now replicas → views.new ≡ filter_map (view_of (ranges_in (setup_of job.program) kernel) thread) replicas }
     ensures count { length views.new ≡ length views.old }
 {
     let Some((seat, other_seats)) = seats.split_first() else {
@@ -199,7 +202,7 @@ fn show(seat: &Option<ReplicaBox>, thread: u32, view: &mut View)
 
 // Makes sure that each replica can be given an event with no more memory. Where there is none, the replicas are as they were.
 fn reserve_pages(seats: &mut [Option<ReplicaBox>]) -> Result<(), AllocError>
-    ensures kept { (job : Job) (replicas : List ReplicaSeen) → AreHome job seats.old replicas → AreHome job seats.new replicas }
+    ensures kept { (job : Job) (kernel : KernelSeen) (replicas : List ReplicaSeen) → AreHome job kernel seats.old replicas → AreHome job kernel seats.new replicas }
     ensures spared { OnOk result (AreSpared seats.new) }
 {
     let Some((seat, others)) = seats.split_first_mut() else {
@@ -224,7 +227,7 @@ fn recover_losers(seats: &mut [Option<ReplicaBox>], won: usize, lost: Lost)
     requires won { IsSeat seats.old won }
     requires lost { AreLosers seats.old won (numbers lost) }
     requires twins { AreAllTwins seats.old }
-    ensures recovered { (job : Job) (replicas : List ReplicaSeen) → AreHome job seats.old replicas → AreHome job seats.new (with_recovered won (numbers lost) replicas) }
+    ensures recovered { (job : Job) (kernel : KernelSeen) (replicas : List ReplicaSeen) → AreHome job kernel seats.old replicas → AreHome job kernel seats.new (with_recovered won (numbers lost) replicas) }
     ensures spared { AreSpared seats.old → AreSpared seats.new }
 {
     match lost {
@@ -243,7 +246,7 @@ fn overwrite(seats: &mut [Option<ReplicaBox>], won: usize, lost: usize)
     requires loser { IsSeat seats.old lost }
     requires differ { won ≢ lost }
     requires twins { AreAllTwins seats.old }
-    ensures recovered { (job : Job) (replicas : List ReplicaSeen) → AreHome job seats.old replicas → AreHome job seats.new (with_copy won lost replicas) }
+    ensures recovered { (job : Job) (kernel : KernelSeen) (replicas : List ReplicaSeen) → AreHome job kernel seats.old replicas → AreHome job kernel seats.new (with_copy won lost replicas) }
     ensures seats { (place : ℕ) → IsSeat seats.old place → IsSeat seats.new place }
     ensures twins { AreAllTwins seats.new }
     ensures spared { AreSpared seats.old → AreSpared seats.new }
@@ -266,7 +269,7 @@ fn recover_in(winner: &ReplicaBox, seat: &mut Option<ReplicaBox>)
 // Does what an event does to every replica.
 fn apply_to_all(seats: &mut [Option<ReplicaBox>], effect: &Effect)
     requires { CanTake effect.now seats.old }
-    ensures { (job : Job) (replicas : List ReplicaSeen) → AreHome job seats.old replicas → AreHome job seats.new (all_applied effect.now replicas) }
+    ensures { (job : Job) (before after : KernelSeen) (replicas : List ReplicaSeen) → after.given ≡ with_range effect.now.range before.given → AreHome job before seats.old replicas → AreHome job after seats.new (all_applied effect.now replicas) }
 {
     let Some((seat, others)) = seats.split_first_mut() else {
         return;
@@ -277,7 +280,7 @@ fn apply_to_all(seats: &mut [Option<ReplicaBox>], effect: &Effect)
 
 fn apply_in(seat: &mut Option<ReplicaBox>, effect: &Effect)
     requires { CanTake effect.now (seat.old ∷ []) }
-    ensures { (job : Job) (replica : ReplicaSeen) → AreHome job (seat.old ∷ []) (replica ∷ []) → AreHome job (seat.new ∷ []) (all_applied effect.now (replica ∷ [])) }
+    ensures { (job : Job) (before after : KernelSeen) (replica : ReplicaSeen) → after.given ≡ with_range effect.now.range before.given → AreHome job before (seat.old ∷ []) (replica ∷ []) → AreHome job after (seat.new ∷ []) (all_applied effect.now (replica ∷ [])) }
 {
     if let Some(replica) = seat {
         replica.apply(effect);

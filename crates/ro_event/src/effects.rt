@@ -2,6 +2,7 @@
 ghost use Rattle.std.specs.Prelude.{◌≡◌};
 ghost use Rattle.ro_event.specs.Effects.{storing, quiet};
 
+use ro_region::Range;
 use std::alloc::Global;
 use std::marker::Model;
 
@@ -42,17 +43,18 @@ pub struct Effect {
     pub page: Option<u32>,
     /// A thread that is made.
     pub made: Option<Made>,
+    /// A range of addresses that is permitted from now on.
+    pub range: Option<Range>,
     /// Whether the thread's stop goes.
     pub releases: bool,
 }
 
 impl Model for Effect {
-    ghost use Rattle.std.specs.Prelude.{None};
     ghost use Rattle.ro_event.specs.Effects.{Effect as EffectOf};
 
     ghost Value = { EffectOf };
 
-    ghost view = { λ e. record { thread = e.thread; answer = e.answer; goes = e.goes; place = e.place; bytes = e.bytes.items; page = e.page; made = e.made; range = None; releases = e.releases } };
+    ghost view = { λ e. record { thread = e.thread; answer = e.answer; goes = e.goes; place = e.place; bytes = e.bytes.items; page = e.page; made = e.made; range = e.range; releases = e.releases } };
 }
 
 impl Effect {
@@ -68,6 +70,7 @@ impl Effect {
             bytes,
             page: None,
             made: None,
+            range: None,
             releases: true,
         }
     }

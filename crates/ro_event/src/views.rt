@@ -84,31 +84,12 @@ impl View {
         self.payload_len = 0;
     }
 
-    /// Shows another thread, with a payload of at most 4,096 bytes. They are read to the place where they stay.
-    pub fn show_writing<S: Source>(
-        &mut self,
-        registers: &[u32; 31],
-        pc: u32,
-        since: u32,
-        stop: Stop,
-        source: &S,
-        address: u32,
-        len: usize,
-    )
+    /// Reads a payload of at most 4,096 bytes from an address on, to the place where it stays.
+    pub fn read_payload<S: Source>(&mut self, source: &S, address: u32, len: usize)
         requires most { len ≤ 4096 }
         requires within { address + len ≤ 2 ^ 32 }
-        ensures { self.new ≡ record {
-          registers = registers.now;
-          pc = pc;
-          since = since;
-          stop = stop;
-          payload = S.bytes source.now address len;
-        } }
+        ensures { self.new ≡ record self.old { payload = S.bytes source.now address len } }
     {
-        self.registers = *registers;
-        self.pc = pc;
-        self.since = since;
-        self.stop = stop;
         source.read(address, &mut self.payload[..len]);
         self.payload_len = len;
     }

@@ -2,6 +2,7 @@
 ghost use Rattle.std.specs.Prelude.{◌≡◌, ◌/◌, ◌%◌, true, IfOk, MatchResult, Some, None};
 ghost use Rattle.ro_pages.specs.Bytes.{IsSize};
 ghost use Rattle.ro_exec.specs.Next.{access_stop};
+ghost use Rattle.ro_region.specs.Permission.{ranges_of};
 
 use ro_event::{Stop, TrapCause};
 use ro_limits::PAGE_SIZE;
@@ -21,7 +22,7 @@ pub fn check_access<M: Memory>(
     forbidden: TrapCause,
 ) -> Result<(), Stop>
     requires { IsSize size }
-    ensures stop { MatchResult result (λ _. access_stop regions.now (M.backing memory.now) kind (record { place = address; count = size }) misaligned forbidden ≡ None) (λ stop. access_stop regions.now (M.backing memory.now) kind (record { place = address; count = size }) misaligned forbidden ≡ Some stop) }
+    ensures stop { MatchResult result (λ _. access_stop (ranges_of regions.now) (M.backing memory.now) kind (record { place = address; count = size }) misaligned forbidden ≡ None) (λ stop. access_stop (ranges_of regions.now) (M.backing memory.now) kind (record { place = address; count = size }) misaligned forbidden ≡ Some stop) }
     ensures may { IfOk result (λ _. (address % size ≡ 0) × (M.backing memory.now (address / 4096) ≡ true)) }
 {
     if address % size != 0 {

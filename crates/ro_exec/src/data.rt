@@ -3,7 +3,7 @@ ghost use Rattle.std.specs.Prelude.{ℕ, ◌≡◌, ◌/◌, ◌%◌, ◌^◌, �
 ghost use Rattle.std.specs.List.{slice_get};
 ghost use Rattle.ro_region.specs.declared.Range.{Range as RangeOf};
 ghost use Rattle.ro_region.specs.declared.Kind.{Kind as KindOf};
-ghost use Rattle.ro_region.specs.Permission.{permits_of};
+ghost use Rattle.ro_region.specs.Permission.{permits_of, ranges_of};
 ghost use Rattle.ro_pages.specs.Bytes.{IsSize};
 ghost use Rattle.ro_exec.specs.declared.stretch.Stretch.{Stretch as StretchOf};
 ghost use Rattle.ro_exec.specs.Stretches.{IsOpenTo, AreOpenTo};
@@ -47,8 +47,8 @@ impl Open {
     #[cold]
     #[inline(never)]
     fn learn<M: Memory>(&mut self, address: u32, memory: &M, regions: &Regions, kind: Kind)
-        requires { AreOpenTo regions.now (M.backing memory.now) (M.kept memory.now) kind self.old.stretches }
-        ensures { AreOpenTo regions.now (M.backing memory.now) (M.kept memory.now) kind self.new.stretches }
+        requires { AreOpenTo (ranges_of regions.now) (M.backing memory.now) (M.kept memory.now) kind self.old.stretches }
+        ensures { AreOpenTo (ranges_of regions.now) (M.backing memory.now) (M.kept memory.now) kind self.new.stretches }
     {
         let page = address / PAGE_SIZE;
         self.stretches[page as usize % PLACES] = open_in_page(page, memory, regions, kind);
@@ -66,10 +66,10 @@ impl Open {
         kind: Kind,
     ) -> bool
         requires size { IsSize size }
-        requires open { AreOpenTo regions.now (M.backing memory.now) (M.kept memory.now) kind self.old.stretches }
-        ensures open { AreOpenTo regions.now (M.backing memory.now) (M.kept memory.now) kind self.new.stretches }
+        requires open { AreOpenTo (ranges_of regions.now) (M.backing memory.now) (M.kept memory.now) kind self.old.stretches }
+        ensures open { AreOpenTo (ranges_of regions.now) (M.backing memory.now) (M.kept memory.now) kind self.new.stretches }
         ensures aligned { result ≡ true → address % size ≡ 0 }
-        ensures permitted { result ≡ true → permits_of regions.now kind address size ≡ true }
+        ensures permitted { result ≡ true → permits_of (ranges_of regions.now) kind address size ≡ true }
         ensures backed { result ≡ true → M.backing memory.now (address / 4096) ≡ true }
         ensures kept { result ≡ true → (stretch : StretchOf) → slice_get self.new.stretches (address / 4096 % 128) ≡ Some stretch → M.kept memory.now stretch.place ≡ Some (address / 4096) }
     {
@@ -84,7 +84,7 @@ impl Open {
 /// The words of a page that may be accessed so; none where it is not backed.
 fn open_in_page<M: Memory>(page: u32, memory: &M, regions: &Regions, kind: Kind) -> Stretch
     requires { page < 2 ^ 20 }
-    ensures { IsOpenTo regions.now (M.backing memory.now) (M.kept memory.now) kind result }
+    ensures { IsOpenTo (ranges_of regions.now) (M.backing memory.now) (M.kept memory.now) kind result }
 {
     if page >= LAST_PAGE || !memory.backed(page) {
         return NONE;

@@ -6,6 +6,7 @@ ghost use Rattle.ro_pages.specs.Bytes.{IsSize, number_at, bytes_of, stored};
 ghost use Rattle.ro_exec.specs.Meaning.{with_value, jumps, goes_to, load_size as load_size_of, store_size as store_size_of, loaded_as};
 ghost use Rattle.ro_exec.specs.Next.{Executes, instruction_stop, unless_stop};
 ghost use Rattle.ro_exec.specs.Steps.{IsStep, IsJump};
+ghost use Rattle.ro_region.specs.Permission.{ranges_of};
 
 use crate::Cpu;
 use crate::access::check_access;
@@ -145,7 +146,7 @@ fn execute_load<M: Memory>(
 ) -> Step
     requires rd { rd < 32 }
     requires rs1 { rs1 < 32 }
-    ensures { let instr = Instr.Load op rd rs1 imm in IsStep (unless_stop (instruction_stop regions.now (M.backing memory.now) cpu.old instr) (Executes instr)) result cpu.old cpu.new (M.memory memory.now) (M.memory memory.now) }
+    ensures { let instr = Instr.Load op rd rs1 imm in IsStep (unless_stop (instruction_stop (ranges_of regions.now) (M.backing memory.now) cpu.old instr) (Executes instr)) result cpu.old cpu.new (M.memory memory.now) (M.memory memory.now) }
 {
     let address = cpu.get(rs1).wrapping_add(imm);
     match check_access(
@@ -176,7 +177,7 @@ fn execute_store<M: Memory>(
 ) -> Step
     requires rs1 { rs1 < 32 }
     requires rs2 { rs2 < 32 }
-    ensures step { let instr = Instr.Store op rs1 rs2 imm in IsStep (unless_stop (instruction_stop regions.now (M.backing memory.old) cpu.old instr) (Executes instr)) result cpu.old cpu.new (M.memory memory.old) (M.memory memory.new) }
+    ensures step { let instr = Instr.Store op rs1 rs2 imm in IsStep (unless_stop (instruction_stop (ranges_of regions.now) (M.backing memory.old) cpu.old instr) (Executes instr)) result cpu.old cpu.new (M.memory memory.old) (M.memory memory.new) }
     ensures pages { M.backing memory.new ≡ M.backing memory.old }
     ensures kept { M.kept memory.new ≡ M.kept memory.old }
 {
@@ -206,7 +207,7 @@ fn execute_store<M: Memory>(
 #[inline(always)]
 pub fn execute<M: Memory>(instr: Instr, cpu: &mut Cpu, memory: &mut M, regions: &Regions) -> Step
     requires { InRange instr }
-    ensures step { IsStep (unless_stop (instruction_stop regions.now (M.backing memory.old) cpu.old instr) (Executes instr)) result cpu.old cpu.new (M.memory memory.old) (M.memory memory.new) }
+    ensures step { IsStep (unless_stop (instruction_stop (ranges_of regions.now) (M.backing memory.old) cpu.old instr) (Executes instr)) result cpu.old cpu.new (M.memory memory.old) (M.memory memory.new) }
     ensures pages { M.backing memory.new ≡ M.backing memory.old }
     ensures kept { M.kept memory.new ≡ M.kept memory.old }
 {

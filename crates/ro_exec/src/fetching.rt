@@ -2,6 +2,7 @@
 ghost use Rattle.std.specs.Prelude.{◌≡◌, IfOk, MatchResult, Some, None};
 ghost use Rattle.ro_pages.specs.Bytes.{number_at};
 ghost use Rattle.ro_exec.specs.Next.{call_of, fetch_stop};
+ghost use Rattle.ro_region.specs.Permission.{ranges_of};
 
 use crate::{Cpu, EXIT_PLACE};
 use ro_event::{Call, CallTable, Function, Stop, TrapCause, Which};
@@ -18,7 +19,7 @@ pub fn fetch<M: Memory>(
     regions: &Regions,
     calls: &CallTable,
 ) -> Result<u32, Stop>
-    ensures stop { MatchResult result (λ _. fetch_stop (record { ranges = regions.now; calls = calls.now }) (M.backing memory.now) cpu.now ≡ None) (λ stop. fetch_stop (record { ranges = regions.now; calls = calls.now }) (M.backing memory.now) cpu.now ≡ Some stop) }
+    ensures stop { MatchResult result (λ _. fetch_stop (record { ranges = ranges_of regions.now; calls = calls.now }) (M.backing memory.now) cpu.now ≡ None) (λ stop. fetch_stop (record { ranges = ranges_of regions.now; calls = calls.now }) (M.backing memory.now) cpu.now ≡ Some stop) }
     ensures word { IfOk result (λ word. word ≡ number_at (M.memory memory.now) cpu.now.pc 4) }
 {
     let pc = cpu.pc;

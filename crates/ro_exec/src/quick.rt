@@ -6,6 +6,7 @@ ghost use Rattle.ro_exec.specs.Registers.{with_register};
 ghost use Rattle.ro_exec.specs.Next.{Executes, instruction_stop, unless_stop, next_at, next, jump_stop};
 ghost use Rattle.ro_exec.specs.Steps.{IsQuick};
 ghost use Rattle.ro_exec.specs.Stretches.{IsOn, IsAlong, IsClear, IsKept, AreOpenTo};
+ghost use Rattle.ro_region.specs.Permission.{ranges_of};
 
 use crate::bank::Bank;
 use crate::data::Open;
@@ -88,13 +89,13 @@ fn execute<M: Memory>(
 ) -> bool
     requires in_range { InRange instr }
     requires on { IsOn stretch.now until.old pc.old next }
-    requires reads { AreOpenTo regions.now (M.backing memory.old) (M.kept memory.old) Kind.Read reads.old.stretches }
-    requires writes { AreOpenTo regions.now (M.backing memory.old) (M.kept memory.old) Kind.Write writes.old.stretches }
-    ensures step { IsQuick result (unless_stop (instruction_stop regions.now (M.backing memory.old) (record { registers = registers.old; pc = pc.old }) instr) (Executes instr)) (record { registers = registers.old; pc = pc.old }) (record { registers = registers.new; pc = pc.new }) (M.memory memory.old) (M.memory memory.new) }
+    requires reads { AreOpenTo (ranges_of regions.now) (M.backing memory.old) (M.kept memory.old) Kind.Read reads.old.stretches }
+    requires writes { AreOpenTo (ranges_of regions.now) (M.backing memory.old) (M.kept memory.old) Kind.Write writes.old.stretches }
+    ensures step { IsQuick result (unless_stop (instruction_stop (ranges_of regions.now) (M.backing memory.old) (record { registers = registers.old; pc = pc.old }) instr) (Executes instr)) (record { registers = registers.old; pc = pc.old }) (record { registers = registers.new; pc = pc.new }) (M.memory memory.old) (M.memory memory.new) }
     ensures pages { M.backing memory.new ≡ M.backing memory.old }
     ensures kept { M.kept memory.new ≡ M.kept memory.old }
-    ensures reads { AreOpenTo regions.now (M.backing memory.old) (M.kept memory.old) Kind.Read reads.new.stretches }
-    ensures writes { AreOpenTo regions.now (M.backing memory.old) (M.kept memory.old) Kind.Write writes.new.stretches }
+    ensures reads { AreOpenTo (ranges_of regions.now) (M.backing memory.old) (M.kept memory.old) Kind.Read reads.new.stretches }
+    ensures writes { AreOpenTo (ranges_of regions.now) (M.backing memory.old) (M.kept memory.old) Kind.Write writes.new.stretches }
     ensures along { IsAlong stretch.now until.new pc.new }
 {
     let place = *pc;
@@ -176,13 +177,13 @@ fn read_and_execute<M: Memory, User>(
     until: &mut u32,
 ) -> bool
     requires on { IsOn stretch.now until.old pc.old next }
-    requires reads { AreOpenTo regions.now (M.backing memory.old) (M.kept memory.old) Kind.Read reads.old.stretches }
-    requires writes { AreOpenTo regions.now (M.backing memory.old) (M.kept memory.old) Kind.Write writes.old.stretches }
-    ensures step { IsQuick result (next_at regions.now (M.backing memory.old) (record { registers = registers.old; pc = pc.old }) (instruction_of word)) (record { registers = registers.old; pc = pc.old }) (record { registers = registers.new; pc = pc.new }) (M.memory memory.old) (M.memory memory.new) }
+    requires reads { AreOpenTo (ranges_of regions.now) (M.backing memory.old) (M.kept memory.old) Kind.Read reads.old.stretches }
+    requires writes { AreOpenTo (ranges_of regions.now) (M.backing memory.old) (M.kept memory.old) Kind.Write writes.old.stretches }
+    ensures step { IsQuick result (next_at (ranges_of regions.now) (M.backing memory.old) (record { registers = registers.old; pc = pc.old }) (instruction_of word)) (record { registers = registers.old; pc = pc.old }) (record { registers = registers.new; pc = pc.new }) (M.memory memory.old) (M.memory memory.new) }
     ensures pages { M.backing memory.new ≡ M.backing memory.old }
     ensures kept { M.kept memory.new ≡ M.kept memory.old }
-    ensures reads { AreOpenTo regions.now (M.backing memory.old) (M.kept memory.old) Kind.Read reads.new.stretches }
-    ensures writes { AreOpenTo regions.now (M.backing memory.old) (M.kept memory.old) Kind.Write writes.new.stretches }
+    ensures reads { AreOpenTo (ranges_of regions.now) (M.backing memory.old) (M.kept memory.old) Kind.Read reads.new.stretches }
+    ensures writes { AreOpenTo (ranges_of regions.now) (M.backing memory.old) (M.kept memory.old) Kind.Write writes.new.stretches }
     ensures along { IsAlong stretch.now until.new pc.new }
 {
     // executes this instruction
@@ -298,19 +299,19 @@ pub fn quick_step<M: Memory, User>(
 ) -> bool
     requires aligned { stretch.old.from % 4 ≡ 0 }
     requires bounded { stretch.old.from + 4 * stretch.old.words ≤ 2 ^ 32 }
-    requires clear { IsClear (record { ranges = regions.now; calls = calls.now }) (M.backing memory.old) stretch.old }
+    requires clear { IsClear (record { ranges = ranges_of regions.now; calls = calls.now }) (M.backing memory.old) stretch.old }
     requires page { IsKept (M.kept memory.old) stretch.old }
     requires along { IsAlong stretch.old until.old pc.old }
-    requires reads { AreOpenTo regions.now (M.backing memory.old) (M.kept memory.old) Kind.Read reads.old.stretches }
-    requires writes { AreOpenTo regions.now (M.backing memory.old) (M.kept memory.old) Kind.Write writes.old.stretches }
-    ensures step { IsQuick result (next (record { ranges = regions.now; calls = calls.now }) (M.backing memory.old) (M.memory memory.old) (record { registers = registers.old; pc = pc.old })) (record { registers = registers.old; pc = pc.old }) (record { registers = registers.new; pc = pc.new }) (M.memory memory.old) (M.memory memory.new) }
+    requires reads { AreOpenTo (ranges_of regions.now) (M.backing memory.old) (M.kept memory.old) Kind.Read reads.old.stretches }
+    requires writes { AreOpenTo (ranges_of regions.now) (M.backing memory.old) (M.kept memory.old) Kind.Write writes.old.stretches }
+    ensures step { IsQuick result (next (record { ranges = ranges_of regions.now; calls = calls.now }) (M.backing memory.old) (M.memory memory.old) (record { registers = registers.old; pc = pc.old })) (record { registers = registers.old; pc = pc.old }) (record { registers = registers.new; pc = pc.new }) (M.memory memory.old) (M.memory memory.new) }
     ensures pages { M.backing memory.new ≡ M.backing memory.old }
     ensures kept { M.kept memory.new ≡ M.kept memory.old }
-    ensures reads { AreOpenTo regions.now (M.backing memory.old) (M.kept memory.old) Kind.Read reads.new.stretches }
-    ensures writes { AreOpenTo regions.now (M.backing memory.old) (M.kept memory.old) Kind.Write writes.new.stretches }
+    ensures reads { AreOpenTo (ranges_of regions.now) (M.backing memory.old) (M.kept memory.old) Kind.Read reads.new.stretches }
+    ensures writes { AreOpenTo (ranges_of regions.now) (M.backing memory.old) (M.kept memory.old) Kind.Write writes.new.stretches }
     ensures aligned { stretch.new.from % 4 ≡ 0 }
     ensures bounded { stretch.new.from + 4 * stretch.new.words ≤ 2 ^ 32 }
-    ensures clear { IsClear (record { ranges = regions.now; calls = calls.now }) (M.backing memory.old) stretch.new }
+    ensures clear { IsClear (record { ranges = ranges_of regions.now; calls = calls.now }) (M.backing memory.old) stretch.new }
     ensures page { IsKept (M.kept memory.old) stretch.new }
     ensures along { IsAlong stretch.new until.new pc.new }
 {

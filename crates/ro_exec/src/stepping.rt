@@ -2,6 +2,7 @@
 ghost use Rattle.std.specs.Prelude.{◌≡◌};
 ghost use Rattle.ro_exec.specs.Next.{next};
 ghost use Rattle.ro_exec.specs.Steps.{IsStep};
+ghost use Rattle.ro_region.specs.Permission.{ranges_of};
 
 use crate::Cpu;
 use crate::execution::execute;
@@ -17,7 +18,7 @@ use ro_region::Regions;
 #[tactic(auto, unfolding(crate::specs::Next::next))]
 #[inline(always)]
 pub fn step<M: Memory>(cpu: &mut Cpu, memory: &mut M, regions: &Regions, calls: &CallTable) -> Step
-    ensures step { IsStep (next (record { ranges = regions.now; calls = calls.now }) (M.backing memory.old) (M.memory memory.old) cpu.old) result cpu.old cpu.new (M.memory memory.old) (M.memory memory.new) }
+    ensures step { IsStep (next (record { ranges = ranges_of regions.now; calls = calls.now }) (M.backing memory.old) (M.memory memory.old) cpu.old) result cpu.old cpu.new (M.memory memory.old) (M.memory memory.new) }
     ensures pages { M.backing memory.new ≡ M.backing memory.old }
     ensures kept { M.kept memory.new ≡ M.kept memory.old }
 {

@@ -4,7 +4,7 @@ ghost use Rattle.ro_alu.specs.Results.{low_word};
 ghost use Rattle.ro_pages.specs.Bytes.{IsSize};
 ghost use Rattle.ro_exec.specs.Next.{jump_stop};
 ghost use Rattle.ro_exec.specs.Stretches.{IsIn, IsAlong, IsClear, IsKept, end_of};
-ghost use Rattle.ro_region.specs.Permission.{permits_byte, permits_of};
+ghost use Rattle.ro_region.specs.Permission.{permits_byte, permits_of, ranges_of};
 ghost use Rattle.ro_region.specs.declared.Kind.TheVariants.{Execute};
 
 use crate::EXIT_PLACE;
@@ -66,11 +66,11 @@ impl Stretch {
     ) -> bool
         requires aligned { self.old.from % 4 ≡ 0 }
         requires bounded { self.old.from + 4 * self.old.words ≤ 2 ^ 32 }
-        requires clear { IsClear (record { ranges = regions.now; calls = calls.now }) (M.backing memory.now) self.old }
+        requires clear { IsClear (record { ranges = ranges_of regions.now; calls = calls.now }) (M.backing memory.now) self.old }
         requires kept { IsKept (M.kept memory.now) self.old }
         ensures aligned { self.new.from % 4 ≡ 0 }
         ensures bounded { self.new.from + 4 * self.new.words ≤ 2 ^ 32 }
-        ensures clear { IsClear (record { ranges = regions.now; calls = calls.now }) (M.backing memory.now) self.new }
+        ensures clear { IsClear (record { ranges = ranges_of regions.now; calls = calls.now }) (M.backing memory.now) self.new }
         ensures kept { IsKept (M.kept memory.now) self.new }
         ensures inside { result ≡ true → IsIn self.new pc }
     {
@@ -94,12 +94,12 @@ impl Stretch {
     ) -> bool
         requires aligned { self.old.from % 4 ≡ 0 }
         requires bounded { self.old.from + 4 * self.old.words ≤ 2 ^ 32 }
-        requires clear { IsClear (record { ranges = regions.now; calls = calls.now }) (M.backing memory.now) self.old }
+        requires clear { IsClear (record { ranges = ranges_of regions.now; calls = calls.now }) (M.backing memory.now) self.old }
         requires kept { IsKept (M.kept memory.now) self.old }
         requires along { IsAlong self.old until.old pc }
         ensures aligned { self.new.from % 4 ≡ 0 }
         ensures bounded { self.new.from + 4 * self.new.words ≤ 2 ^ 32 }
-        ensures clear { IsClear (record { ranges = regions.now; calls = calls.now }) (M.backing memory.now) self.new }
+        ensures clear { IsClear (record { ranges = ranges_of regions.now; calls = calls.now }) (M.backing memory.now) self.new }
         ensures kept { IsKept (M.kept memory.now) self.new }
         ensures along { IsAlong self.new until.new pc }
         ensures inside { result ≡ true → IsIn self.new pc }
@@ -169,7 +169,7 @@ impl Stretch {
     fn renew<M: Memory>(&mut self, pc: u32, memory: &M, regions: &Regions, calls: &CallTable)
         ensures aligned { self.new.from % 4 ≡ 0 }
         ensures bounded { self.new.from + 4 * self.new.words ≤ 2 ^ 32 }
-        ensures clear { IsClear (record { ranges = regions.now; calls = calls.now }) (M.backing memory.now) self.new }
+        ensures clear { IsClear (record { ranges = ranges_of regions.now; calls = calls.now }) (M.backing memory.now) self.new }
         ensures kept { IsKept (M.kept memory.now) self.new }
     {
         *self = stretch_at(pc, memory, regions, calls);
@@ -187,7 +187,7 @@ pub const NONE: Stretch = Stretch {
 /// no address of a call in it, and below the page of the exit's place. It may be empty.
 #[tactic(auto, unfolding(crate::specs::Next::fetch_stop))]
 fn stretch_at<M: Memory>(pc: u32, memory: &M, regions: &Regions, calls: &CallTable) -> Stretch
-    ensures clear { IsClear (record { ranges = regions.now; calls = calls.now }) (M.backing memory.now) result }
+    ensures clear { IsClear (record { ranges = ranges_of regions.now; calls = calls.now }) (M.backing memory.now) result }
     ensures kept { IsKept (M.kept memory.now) result }
     ensures aligned { result.from % 4 ≡ 0 }
     ensures bounded { result.from + 4 * result.words ≤ 2 ^ 32 }

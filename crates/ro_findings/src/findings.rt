@@ -199,6 +199,18 @@ pub struct Instruction {
     pub text: String,
     /// The address that it loads from or stores to.
     pub touched: Option<u32>,
+    /// The memory that was given on demand in which that address lies, or behind which.
+    pub mapped: Option<Mapped>,
+}
+
+/// An address among those of memory that is given on demand: a range that was given, in which it lies, or the last one of them.
+#[derive(Clone, Copy, Debug, PartialEq, Eq, Serialize)]
+pub struct Mapped {
+    pub start: u32,
+    /// The address behind the range's last byte.
+    pub end: u32,
+    /// How far behind the range the address lies, where it lies in none.
+    pub behind: Option<u32>,
 }
 
 /// A part of the views that is not the same in all replicas: what it is in each, in their order.

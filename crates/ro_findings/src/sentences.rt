@@ -4,8 +4,8 @@ ghost use Rattle.std.specs.String.{string_bytes};
 ghost use Rattle.ro_findings.specs.Sentences.{TellsVerdict, first_line};
 
 use crate::findings::{
-    CopyMade, Differed, Ended, Field, Findings, Instruction, Part, Split, Standing, State, Strike,
-    ThreadFields, ThreadParts, Trapped, Variable, Verdict, Waiting,
+    CopyMade, Differed, Ended, Field, Findings, Instruction, Mapped, Part, Split, Standing, State,
+    Strike, ThreadFields, ThreadParts, Trapped, Variable, Verdict, Waiting,
 };
 use crate::lines::WithoutEnd;
 use crate::registers::Named;
@@ -216,10 +216,26 @@ fn tell_instruction(text: &mut String, instruction: &Instruction) -> Result<(), 
     let word = instruction.word;
     let spelled = instruction.text.as_str();
     writeln!(text, "The instruction there is {word:08x}, {spelled}.")?;
-    match instruction.touched {
-        Some(address) => writeln!(text, "It touches the address {address:08x}."),
-        None => Ok(()),
+    let Some(address) = instruction.touched else {
+        return Ok(());
+    };
+    write!(text, "It touches the address {address:08x}")?;
+    if let Some(mapped) = &instruction.mapped {
+        tell_mapped(text, mapped)?;
     }
+    writeln!(text, ".")
+}
+
+// Where an address lies in memory that was given on demand, or behind that.
+fn tell_mapped(text: &mut String, mapped: &Mapped) -> Result<(), AllocError> {
+    let Mapped { start, end, behind } = *mapped;
+    match behind {
+        None => write!(text, ", in")?,
+        Some(0) => write!(text, ", just behind")?,
+        Some(1) => write!(text, ", 1 byte behind")?,
+        Some(count) => write!(text, ", {count} bytes behind")?,
+    }
+    write!(text, " mapped memory {start:08x}..{end:08x}")
 }
 
 // What a thread stands at.

@@ -13,7 +13,7 @@ use Rattle.ro_condition.specs.Waiters.{without}
 use Rattle.ro_kernel.specs.declared.Life.TheVariants.{Live, Exited, Joined}
 use Rattle.ro_kernel.specs.Kernel.{Setup, Kernel}
 use Rattle.ro_kernel.specs.Serve.{Served, Done, Parked, Blocked, Ends, answers, capped, serve}
-use Rattle.ro_kernel.proofs.Shapes.{Shape, says, reads, breaks, owns, wakes, parks_at, resumes, makes, joins, leaves, waits, stops, stops_last, shape-of}
+use Rattle.ro_kernel.proofs.Shapes.{Shape, says, reads, breaks, maps_more, owns, wakes, parks_at, resumes, makes, joins, leaves, waits, stops, stops_last, shape-of}
 
 -- how many threads an effect makes
 abbrev pub made_count : Option Made → ℕ
@@ -56,6 +56,7 @@ module _ (setup : Setup) (kernel : Kernel) (u : ℕ) (call : Call) where
   fit-of (says value) = fit-answers kernel value refl
   fit-of (reads number e xs h) = fit_done (record { one_life_each = add-none (length kernel.lives); few = omega (arith, length-take (capped call.a2) xs); place_left = tt; backs_none = refl })
   fit-of (breaks e end) = fit-answers (record kernel { heap_end = end }) end refl
+  fit-of (maps_more e some room) = fit_done (record { one_life_each = add-none (length kernel.lives); few = omega arith; place_left = tt; backs_none = refl })
   fit-of (owns on fit owner) = fit-answers (record kernel { owners = with_owner kernel.owners call.a0 owner }) 0 refl
   fit-of (wakes ws w) = fit-answers (record kernel { waiters = ws }) 0 refl
   fit-of (parks_at w e h) = fit_parked refl

@@ -11,7 +11,7 @@ use Rattle.ro_mutex.specs.Owners.{Owners, owner_of, with_owner}
 use Rattle.ro_mutex.proofs.Given.{owner_of-given, owner_of-other}
 use Rattle.ro_kernel.specs.Kernel.{Setup, Kernel}
 use Rattle.ro_kernel.specs.Serve.{Served, Done, Parked, Blocked, Ends, serve}
-use Rattle.ro_kernel.proofs.Shapes.{IsOnMutex, Shape, says, reads, breaks, owns, wakes, parks_at, resumes, makes, joins, leaves, waits, stops, stops_last, shape-of}
+use Rattle.ro_kernel.proofs.Shapes.{IsOnMutex, Shape, says, reads, breaks, maps_more, owns, wakes, parks_at, resumes, makes, joins, leaves, waits, stops, stops_last, shape-of}
 
 -- an address stands in the table
 abbrev pub InTable : Owners → ℕ → Type 0
@@ -47,6 +47,7 @@ module _ (setup : Setup) (kernel : Kernel) (u : ℕ) (call : Call) where
   after-of (says value) = as_before refl
   after-of (reads number e xs h) = as_before refl
   after-of (breaks e end) = as_before refl
+  after-of (maps_more e some room) = as_before refl
   after-of (owns on fit owner) = one_set owner on refl
   after-of (wakes ws w) = as_before refl
   after-of (parks_at w e h) = one_freed w refl

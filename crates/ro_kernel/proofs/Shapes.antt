@@ -1,5 +1,5 @@
 -- What a call comes to, whichever it is: one of a few shapes.
-use Rattle.std.specs.Prelude.{◌≡◌, ◌+◌, ◌==◌, ℕ, Bool, true, false, cond, not, ◌&&◌, List, [], ◌∷◌, ◌++◌, length, take, drop, Option, Some, None, slice_get, slice_set, nat_le}
+use Rattle.std.specs.Prelude.{◌≡◌, ◌+◌, ◌==◌, ℕ, Bool, true, false, cond, not, ◌&&◌, List, [], ◌∷◌, ◌++◌, length, take, drop, Option, Some, None, slice_get, slice_set, nat_le, nat_lt, ◌||◌, ◌%◌}
 use Rattle.std.proofs.Common.{refl, sym, subst}
 use Rattle.std.proofs.lemmas.Bool.{true≢false, eqb-true}
 use Rattle.ro_event.specs.declared.calls.Which.{Which}
@@ -18,7 +18,8 @@ use Rattle.ro_condition.specs.Waiters.{wait_of, with_signal, with_broadcast}
 use Rattle.ro_kernel.specs.declared.Life.{Life}
 use Rattle.ro_kernel.specs.declared.Life.TheVariants.{Live, Exited, Joined}
 use Rattle.ro_kernel.specs.Kernel.{Setup, Kernel, ranges_in}
-use Rattle.ro_kernel.specs.Serve.{Served, Done, Blocked, Ends, answers, stores_effect, minus, capped, fits, is_owner, is_free, begins_wait, ends_wait, wait_at, signals, serve_read, serve_write, serve_brk, serve_system, serve_create, joined, serve_join_at, serve_exit, lock_at, trylock_at, unlock_at, on_word, serve_which, serve}
+use Rattle.ro_kernel.specs.Mapped.{mapped_to, in_pages}
+use Rattle.ro_kernel.specs.Serve.{Served, Done, Blocked, Ends, answers, stores_effect, minus, capped, fits, is_owner, is_free, begins_wait, ends_wait, wait_at, signals, serve_read, serve_write, serve_brk, maps, serve_mmap, serve_system, serve_create, joined, serve_join_at, serve_exit, lock_at, trylock_at, unlock_at, on_word, serve_which, serve}
 
 -- a call that may set the owner of a mutex
 pub data IsOnMutex : Which → Type 0 where
@@ -44,6 +45,8 @@ pub data Shape (setup : Setup) (kernel : Kernel) (u : ℕ) (call : Call) : Serve
   reads : (number : ℕ) → call.which ≡ System number → (xs : List ℕ) → permits_of (ranges_in setup kernel) Write call.a1 (capped call.a2) ≡ true → Shape setup kernel u call (Done (record kernel { taken = kernel.taken + length (take (capped call.a2) xs) }) (stores_effect u call (length (take (capped call.a2) xs)) call.a1 (take (capped call.a2) xs)))
   -- the break
   breaks : call.which ≡ System 214 → (end : ℕ) → Shape setup kernel u call (answers (record kernel { heap_end = end }) u call end)
+  -- a range of addresses, within what may be given
+  maps_more : call.which ≡ System 222 → (call.a1 == 0) ≡ false → nat_lt 0x51000000 (mapped_to kernel.given + in_pages call.a1) ≡ false → Shape setup kernel u call (maps kernel u call)
   -- a mutex has another owner, or none: its word can be stored
   owns : IsOnMutex call.which → fits (ranges_in setup kernel) call.a0 ≡ true → (owner : Option ℕ) → Shape setup kernel u call (answers (record kernel { owners = with_owner kernel.owners call.a0 owner }) u call 0)
   -- those who wait on a condition variable are signalled, or one of them is
@@ -92,11 +95,19 @@ module _ (setup : Setup) (kernel : Kernel) (u : ℕ) (call : Call) where
   of-brk : call.which ≡ System 214 → Shape setup kernel u call (serve_brk setup kernel u call)
   of-brk e = either _ _ _ (breaks e call.a0) (says kernel.heap_end)
 
+  of-mmap : call.which ≡ System 222 → Shape setup kernel u call (serve_mmap kernel u call)
+  of-mmap e =
+      let room = tested (nat_lt 0x51000000 (mapped_to kernel.given + in_pages call.a1)) _ _ (λ h. says (minus 12)) in
+      let some = tested (call.a1 == 0) _ _ (λ h. says (minus 22)) (λ h. room (λ k. maps_more e h k)) in
+      either (not (call.a3 == 0x22)) _ _ (says (minus 22)) (either (not ((call.a2 == 1) || (call.a2 == 3))) _ _ (says (minus 22)) some)
+
   of-system : (number : ℕ) → call.which ≡ System number → Shape setup kernel u call (serve_system setup kernel u call number)
   of-system number e =
       let r = of-read number e in
-      let l = tested (number == 214) _ _ (λ h. of-brk (subst (λ (n : ℕ). call.which ≡ System n) (eqb-true number 214 h) e)) (λ h. says (minus 38)) in
-      search (either, r, of-write, l, stops)
+      let is : (n : ℕ) → (number == n) ≡ true → call.which ≡ System n = λ n h. subst (λ (k : ℕ). call.which ≡ System k) (eqb-true number n h) e in
+      let m = tested (number == 222) _ _ (λ h. of-mmap (is 222 h)) (λ h. says (minus 38)) in
+      let b = tested (number == 214) _ _ (λ h. of-brk (is 214 h)) (λ h. m) in
+      either (number == 63) _ _ r (either (number == 64) _ _ of-write (either ((number == 93) || (number == 94)) _ _ (stops (call.a0 % 256)) b))
 
   of-create : Shape setup kernel u call (serve_create setup kernel u call)
   of-create =

@@ -12,7 +12,7 @@ use Rattle.ro_pages.specs.Bytes.{bytes_of}
 use Rattle.ro_kernel.specs.Kernel.{Setup, Kernel, ranges_in}
 use Rattle.ro_kernel.specs.Serve.{Served, Done, capped, fits, serve}
 use Rattle.ro_kernel.proofs.Yields.{Yields, done, parked, blocked, ends, yields-done}
-use Rattle.ro_kernel.proofs.Shapes.{set-by, Shape, says, reads, breaks, owns, wakes, parks_at, resumes, makes, joins, leaves, waits, stops, stops_last, shape-of}
+use Rattle.ro_kernel.proofs.Shapes.{set-by, Shape, says, reads, breaks, maps_more, owns, wakes, parks_at, resumes, makes, joins, leaves, waits, stops, stops_last, shape-of}
 
 -- fewer bytes are permitted too
 each-fewer : (ranges : List Range) (kind : Kind) (place more fewer : ℕ) → fewer ≤ more → permits_each ranges kind place more ≡ true → permits_each ranges kind place fewer ≡ true
@@ -50,6 +50,7 @@ module _ (setup : Setup) (kernel : Kernel) (thread : ℕ) (call : Call) where
   stores-of (says value) = done (permits-none (ranges_in setup kernel) Write)
   stores-of (reads number e xs h) = done (permits-fewer (ranges_in setup kernel) Write call.a1 (capped call.a2) (length (take (capped call.a2) xs)) (grind (arith, length-take)) h)
   stores-of (breaks e end) = done (permits-none (ranges_in setup kernel) Write)
+  stores-of (maps_more e some room) = done (permits-none (ranges_in setup kernel) Write)
   stores-of (owns on fit owner) = done (permits-none (ranges_in setup kernel) Write)
   stores-of (wakes ws w) = done (permits-none (ranges_in setup kernel) Write)
   stores-of (parks_at w e h) = parked

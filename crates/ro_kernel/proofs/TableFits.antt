@@ -1,14 +1,18 @@
 -- Every address that stands in the table of mutexes is that of a word that can be stored.
-use Rattle.std.specs.Prelude.{◌≡◌, ⊤, ℕ, true, Option, Some, None, is_some}
+use Rattle.std.specs.Prelude.{◌≡◌, ◌==◌, ◌%◌, ⊤, ℕ, true, List, ◌∷◌, Option, Some, None, is_some}
 use Rattle.std.proofs.Common.{refl, sym, ap, ◌∙◌, ⊎_elim}
-use Rattle.std.proofs.lemmas.Bool.{cases_eq, and_parts}
+use Rattle.std.proofs.lemmas.Bool.{cases_eq, and_parts, and_from}
 use Rattle.ro_event.specs.declared.calls.Call.{Call}
+use Rattle.ro_region.specs.declared.Kind.TheVariants.{Write}
+use Rattle.ro_region.specs.declared.Range.{Range}
+use Rattle.ro_region.specs.Permission.{permits_of}
+use Rattle.ro_region.proofs.Wider.{permits-wider}
 use Rattle.ro_mutex.specs.Owners.{owner_of, with_owner}
 use Rattle.ro_mutex.proofs.Given.{owner_of-other}
 use Rattle.ro_kernel.specs.Kernel.{Setup, Kernel, ranges_in}
-use Rattle.ro_kernel.specs.Serve.{Served, Done, Parked, Blocked, Ends, fits, is_owner, is_free, serve}
+use Rattle.ro_kernel.specs.Serve.{Served, Done, Parked, Blocked, Ends, mapped, fits, is_owner, is_free, serve}
 use Rattle.ro_kernel.proofs.InTable.{InTable}
-use Rattle.ro_kernel.proofs.Shapes.{Shape, says, reads, breaks, owns, wakes, parks_at, resumes, makes, joins, leaves, waits, stops, stops_last, shape-of}
+use Rattle.ro_kernel.proofs.Shapes.{Shape, says, reads, breaks, maps_more, owns, wakes, parks_at, resumes, makes, joins, leaves, waits, stops, stops_last, shape-of}
 
 abbrev pub TableFits : Setup → Kernel → Type 0
 TableFits setup kernel = (m : ℕ) → InTable kernel.owners m → fits (ranges_in setup kernel) m ≡ true
@@ -30,6 +34,12 @@ free-inside : (o : Option (Option ℕ)) → is_free o ≡ true → is_some o ≡
 free-inside (Some o) h = refl
 free-inside None h = h
 
+-- what fits does so with a range more
+pub fits-wider : (range : Range) (ranges : List Range) (m : ℕ) → fits ranges m ≡ true → fits (range ∷ ranges) m ≡ true
+fits-wider range ranges m h =
+    let parts = and_parts (m % 4 == 0) (permits_of ranges Write m 4) h in
+    and_from _ _ parts.0 (permits-wider range ranges Write m 4 parts.1)
+
 module _ (setup : Setup) (kernel : Kernel) (table : TableFits setup kernel) where
   -- with an owner set at an address that fits
   fits-set : (a : ℕ) (o : Option ℕ) → fits (ranges_in setup kernel) a ≡ true → (m : ℕ) → InTable (with_owner kernel.owners a o) m → fits (ranges_in setup kernel) m ≡ true
@@ -44,6 +54,7 @@ module _ (setup : Setup) (kernel : Kernel) (table : TableFits setup kernel) wher
     fits-of (says value) = table
     fits-of (reads number e xs h) = table
     fits-of (breaks e end) = table
+    fits-of (maps_more e some room) = λ m h. fits-wider (mapped kernel.given call) (ranges_in setup kernel) m (table m h)
     fits-of (owns on fit owner) = fits-set call.a0 owner fit
     fits-of (wakes ws w) = table
     fits-of (parks_at w e h) = fits-set call.a1 None (table call.a1 (owner-inside u (owner_of kernel.owners call.a1) h))

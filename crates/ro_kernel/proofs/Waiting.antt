@@ -15,7 +15,7 @@ use Rattle.ro_condition.specs.Waiters.{wait_of}
 use Rattle.ro_condition.proofs.Whose.{is_waiting, signal-waits, broadcast-waits, begun-waits, begun-others as listed-others, ended-others}
 use Rattle.ro_kernel.specs.Kernel.{Setup, Kernel}
 use Rattle.ro_kernel.specs.Serve.{Served, Done, Parked, Blocked, Ends, answers, is_owner, is_free, begins_wait, ends_wait, wait_at, is_blocked, is_parked, serve_which, serve, parks}
-use Rattle.ro_kernel.proofs.Shapes.{IsWaking, wakes_first, wakes_all, IsWaiting, for_thread, for_mutex, for_signal, Shape, says, reads, breaks, owns, wakes, parks_at, resumes, makes, joins, leaves, waits, stops, stops_last, shape-of}
+use Rattle.ro_kernel.proofs.Shapes.{IsWaking, wakes_first, wakes_all, IsWaiting, for_thread, for_mutex, for_signal, Shape, says, reads, breaks, maps_more, owns, wakes, parks_at, resumes, makes, joins, leaves, waits, stops, stops_last, shape-of}
 
 -- the others who wait go on waiting, whatever comes of a call of thread u
 pub data OthersWait (before : Kernel) (u : ℕ) : Served → Type 0 where
@@ -33,6 +33,7 @@ module _ (setup : Setup) (kernel : Kernel) (u : ℕ) (call : Call) where
   others-of (says value) = wait_done (λ t h. refl)
   others-of (reads number e xs h) = wait_done (λ t k. refl)
   others-of (breaks e end) = wait_done (λ t h. refl)
+  others-of (maps_more e some room) = wait_done (λ t h. refl)
   others-of (owns on fit owner) = wait_done (λ t h. refl)
   others-of (wakes ws w) = wait_done (λ t h. woken-waits w t)
   others-of (parks_at w e h) =
@@ -125,6 +126,7 @@ module _ (setup : Setup) (kernel : Kernel) (u : ℕ) (call : Call) where
   parks-so (says value) h = absurd (false≢true h)
   parks-so (reads number e xs p) h = absurd (false≢true h)
   parks-so (breaks e end) h = absurd (false≢true h)
+  parks-so (maps_more e some room) h = absurd (false≢true h)
   parks-so (owns on fit owner) h = absurd (false≢true h)
   parks-so (wakes ws w) h = absurd (false≢true h)
   parks-so (parks_at w e o) h = w
@@ -147,6 +149,7 @@ module _ (setup : Setup) (kernel : Kernel) (u : ℕ) (call : Call) where
   blocked-of (says value) h = absurd (false≢true h)
   blocked-of (reads number e xs p) h = absurd (false≢true h)
   blocked-of (breaks e end) h = absurd (false≢true h)
+  blocked-of (maps_more e some room) h = absurd (false≢true h)
   blocked-of (owns on fit owner) h = absurd (false≢true h)
   blocked-of (wakes ws w) h = absurd (false≢true h)
   blocked-of (parks_at w e o) h = absurd (false≢true h)

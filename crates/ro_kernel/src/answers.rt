@@ -1,10 +1,11 @@
 //! Effects of calls.
-ghost use Rattle.std.specs.Prelude.{◌≡◌, IfOk};
+ghost use Rattle.std.specs.Prelude.{◌≡◌, Some, IfOk};
 ghost use Rattle.ro_pages.specs.Bytes.{bytes_of};
 ghost use Rattle.ro_kernel.specs.Serve.{goes_after, answer_effect, stores_effect};
 
 use crate::outcome::Served;
 use ro_event::{Call, Effect, Goes, Which};
+use ro_region::Range;
 use std::alloc::{AllocError, Global};
 
 /// Where a thread goes on after a call: behind a system call, and else at ra.
@@ -32,6 +33,18 @@ pub fn stores(thread: u32, call: Call, value: u32, place: u32, bytes: Vec<u8>) -
         answer: Some(value),
         goes: goes_after(call.which),
         ..Effect::storing(thread, place, bytes)
+    })
+}
+
+/// The call answers the address of a range that is permitted from now on.
+pub fn gives(alloc: Global, thread: u32, call: Call, range: Range) -> Served
+    ensures { result ≡ Served.Done (record (answer_effect thread call range.start) { range = Some range }) }
+{
+    Served::Done(Effect {
+        answer: Some(range.start),
+        goes: goes_after(call.which),
+        range: Some(range),
+        ..Effect::quiet(alloc, thread)
     })
 }
 

@@ -14,6 +14,9 @@ pub const EBADF: u32 = 9;
 /// There is no place for another thread or mutex.
 pub const EAGAIN: u32 = 11;
 
+/// There is not so much memory.
+pub const ENOMEM: u32 = 12;
+
 /// An address may not be read or written.
 pub const EFAULT: u32 = 14;
 

@@ -1,23 +1,24 @@
 //! The kernel's state.
 ghost use Rattle.std.specs.Prelude.{◌≡◌, ◌∷◌, [], ◌≤◌, length, IfOk};
-ghost use Rattle.std.specs.Arc.{arc_value};
 ghost use Rattle.ro_condition.specs.Waiters.{wait_of};
 ghost use Rattle.ro_kernel.specs.Kernel.{ranges_in, is_live, lives_on, any_live, opening_kernel};
 ghost use Rattle.ro_kernel.specs.Serve.{fits};
 
 use crate::Life;
 use ro_condition::{Waiter, Waiters};
+use ro_limits::MAPPED_START;
 use ro_mutex::MutexTable;
-use ro_region::{Kind, Regions};
+use ro_region::{Kind, Range, Regions};
 use std::alloc::{AllocError, Global};
 use std::marker::Model;
-use std::sync::Arc;
 
 /// What the kernel knows of a guest: its threads' lives, the owners of mutexes, who waits on condition variables, the end
 /// of the heap and the input.
 #[derive(Drop)]
 pub struct Kernel {
-    pub(crate) regions: Arc<Regions>,
+    pub(crate) regions: Regions,
+    /// Where the memory ends that was given on demand.
+    pub(crate) map_end: u32,
     /// Where the heap starts.
     pub(crate) heap: u32,
     /// Where it ends, the program break.
@@ -33,15 +34,15 @@ pub struct Kernel {
 }
 
 impl Model for Kernel {
-    ghost use Rattle.std.specs.Prelude.{◌≤◌, vec_len, []};
-    ghost use Rattle.std.specs.Arc.{arc_value};
+    ghost use Rattle.std.specs.Prelude.{◌≡◌, ◌≤◌, vec_len};
+    ghost use Rattle.ro_kernel.specs.Mapped.{mapped_to, IsMapped};
     ghost use Rattle.ro_kernel.specs.State.{State};
 
     ghost Value = { State };
 
-    ghost view = { λ k. record { setup = record { ranges = arc_value k.regions; heap = k.heap; input = k.input.items }; kernel = record { lives = k.lives.items; owners = k.mutexes; waiters = k.waiters; heap_end = k.heap_end; taken = k.taken; given = [] } } };
+    ghost view = { λ k. record { setup = record { ranges = k.regions.first; heap = k.heap; input = k.input.items }; kernel = record { lives = k.lives.items; owners = k.mutexes; waiters = k.waiters; heap_end = k.heap_end; taken = k.taken; given = k.regions.given } } };
 
-    ghost invariant = { λ k. (k.taken ≤ vec_len k.input) × (vec_len k.lives ≤ 16) };
+    ghost invariant = { λ k. (k.taken ≤ vec_len k.input) × (vec_len k.lives ≤ 16) × (k.map_end ≡ mapped_to k.regions.given) × IsMapped k.regions.given };
 }
 
 impl Life {
@@ -53,19 +54,20 @@ impl Life {
 }
 
 impl Kernel {
-    /// The kernel of a guest that starts: one live thread, no mutex and no waiter, an empty heap at `heap`, and nothing read of the
-    /// input. The regions are shared with whoever else judges addresses.
+    /// The kernel of a guest that starts with these ranges: one live thread, no mutex and no waiter, an empty heap at `heap`, and
+    /// nothing read of the input.
     pub fn new(
         alloc: Global,
         heap: u32,
-        regions: Arc<Regions>,
+        ranges: &[Range],
         input: &[u8],
     ) -> Result<Kernel, AllocError>
-        ensures setup { IfOk result (λ k. k.setup ≡ record { ranges = arc_value regions; heap = heap; input = input.now }) }
+        ensures setup { IfOk result (λ k. k.setup ≡ record { ranges = ranges.now; heap = heap; input = input.now }) }
         ensures kernel { IfOk result (λ k. k.kernel ≡ opening_kernel heap) }
     {
         Ok(Kernel {
-            regions,
+            regions: Regions::new(alloc, ranges)?,
+            map_end: MAPPED_START,
             heap,
             heap_end: heap,
             input: input.to_vec(alloc)?,
@@ -75,6 +77,13 @@ impl Kernel {
             waiters: Waiters::new(alloc),
             alloc,
         })
+    }
+
+    /// The ranges that the guest may access by now.
+    pub fn regions(&self) -> &Regions
+        ensures { result.now ≡ record { given = self.now.kernel.given; first = self.now.setup.ranges } }
+    {
+        &self.regions
     }
 
     /// The number of threads that were ever made, at most 16.

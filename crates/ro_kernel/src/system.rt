@@ -1,16 +1,16 @@
 //! The system calls.
 ghost use Rattle.std.specs.Prelude.{◌≡◌, ◌+◌, ◌≤◌, ◌==◌, ◌||◌, take, drop, length, IfOk, OnErr};
-ghost use Rattle.ro_kernel.specs.Serve.{capped, serve_read, serve_write, serve_brk, serve_system};
+ghost use Rattle.ro_kernel.specs.Serve.{capped, serve_read, serve_write, serve_brk, serve_mmap, serve_system};
 ghost use Rattle.ro_kernel.specs.Served.{Brings, IsServe};
 
-use crate::answers::{answer, stores};
-use crate::errors::{EBADF, EFAULT, ENOSYS, negative};
+use crate::answers::{answer, gives, stores};
+use crate::errors::{EBADF, EFAULT, EINVAL, ENOMEM, ENOSYS, negative};
 use crate::outcome::Served;
 use crate::state::Kernel;
 use ro_event::Call;
 use ro_journal::How;
-use ro_limits::{HEAP_SIZE, MOST_BYTES};
-use ro_region::Kind;
+use ro_limits::{HEAP_SIZE, MAPPED_PAGES, MAPPED_START, MOST_BYTES, PAGE_SIZE};
+use ro_region::{Kind, Range};
 use std::alloc::AllocError;
 
 // The calls have the numbers of Linux's generic table.
@@ -29,6 +29,21 @@ const EXIT_GROUP: u32 = 94;
 
 /// The number of `brk`.
 const BRK: u32 = 214;
+
+/// The number of `mmap`.
+const MMAP: u32 = 222;
+
+/// What `mmap` is asked for that gives memory of the caller's own: private and anonymous.
+const MAP_PRIVATE_ANONYMOUS: u32 = 0x22;
+
+/// Memory that may be read.
+const PROT_READ: u32 = 1;
+
+/// Memory that may be read and written.
+const PROT_READ_WRITE: u32 = 3;
+
+/// Where the memory ends that may be given on demand.
+pub const MAPPED_END: u32 = MAPPED_START + MAPPED_PAGES * PAGE_SIZE;
 
 /// The descriptor of the input.
 const STDIN: u32 = 0;
@@ -69,6 +84,7 @@ impl Kernel {
             WRITE => Ok(self.write(thread, call)),
             EXIT | EXIT_GROUP => Ok(Served::Ends(How::Exit((call.a0 % 256) as u8))),
             BRK => Ok(self.brk(thread, call)),
+            MMAP => Ok(self.mmap(thread, call)),
             _ => Ok(answer(self.alloc, thread, call, negative(ENOSYS))),
         }
     }
@@ -126,5 +142,37 @@ impl Kernel {
             self.heap_end = call.a0;
         }
         answer(self.alloc, thread, call, self.heap_end)
+    }
+
+    /// mmap(addr, len, prot, flags): the address of so many bytes in whole pages, which may be accessed from now on. Where they
+    /// should lie is not looked at: they follow those that were given before.
+    fn mmap(&mut self, thread: u32, call: Call) -> Served
+        ensures { Brings (serve_mmap self.old.kernel thread call) self.old self.new result }
+    {
+        if call.a3 != MAP_PRIVATE_ANONYMOUS {
+            return answer(self.alloc, thread, call, negative(EINVAL));
+        }
+        if call.a2 != PROT_READ && call.a2 != PROT_READ_WRITE {
+            return answer(self.alloc, thread, call, negative(EINVAL));
+        }
+        if call.a1 == 0 {
+            return answer(self.alloc, thread, call, negative(EINVAL));
+        }
+        let page = u64::from(PAGE_SIZE);
+        let length = u64::from(call.a1).div_ceil(page) * page;
+        let end = u64::from(self.map_end) + length;
+        if end > u64::from(MAPPED_END) {
+            return answer(self.alloc, thread, call, negative(ENOMEM));
+        }
+        let range = Range {
+            start: self.map_end,
+            length: length as u32,
+            read: true,
+            write: call.a2 == PROT_READ_WRITE,
+            execute: false,
+        };
+        self.regions.add(range);
+        self.map_end = end as u32;
+        gives(self.alloc, thread, call, range)
     }
 }

@@ -10,7 +10,7 @@ use Rattle.ro_event.specs.declared.stops.Stop.{Stop}
 use Rattle.ro_event.specs.declared.stops.Stop.TheVariants.{Calls, Trap, PageFault, Watchdog}
 use Rattle.ro_event.specs.Effects.{Effect}
 use Rattle.ro_region.specs.declared.Kind.TheVariants.{Write}
-use Rattle.ro_region.specs.Permission.{permits_each, permits_of}
+use Rattle.ro_region.specs.Permission.{permits_each, permits_of, with_range}
 use Rattle.ro_region.specs.declared.Range.{Range}
 use Rattle.ro_journal.specs.declared.How.{How}
 use Rattle.ro_journal.specs.declared.How.TheVariants.{Trap as TrapHow}
@@ -19,6 +19,7 @@ use Rattle.ro_kernel.specs.Serve.{Served, Done, Parked, Blocked, Ends, serve}
 use Rattle.ro_kernel.proofs.Kept.{IsOwn, Own, done, serve-own}
 use Rattle.ro_kernel.proofs.Stores.{stores-permitted}
 use Rattle.ro_condition.proofs.Whose.{is_waiting}
+use Rattle.ro_kernel.proofs.Given.{given-done, given-parked, given-ended}
 use Rattle.ro_kernel.proofs.Fits.{fit-effect, fit-parked}
 use Rattle.ro_kernel.proofs.Outcomes.{parked-live}
 use Rattle.ro_kernel.proofs.Waiting.{served-others, begun-others, begun-now, blocked-waits}
@@ -28,6 +29,7 @@ use Rattle.ro_legal.proofs.Served.{made_count, IsTidy, Tidy, tidy_done, tidy_end
 
 -- an event of a live thread
 pub record Happens (kernel : Kernel) (thread : ℕ) (event : Event) : Type 0 where
+  pub given_are : event.kernel.given ≡ with_range event.effect.range kernel.given
   pub lives_are : length event.kernel.lives ≡ length kernel.lives + made_count event.effect.made
   pub others_live : event.due ≡ None → (other : ℕ) → other ≢ thread → lives_on kernel other ≡ true → lives_on event.kernel other ≡ true
   pub blocks_live : (call : Call) → event.blocked ≡ Some call → lives_on event.kernel thread ≡ lives_on kernel thread
@@ -44,9 +46,10 @@ add-none : (n : ℕ) → n ≡ n + 0
 add-none n = omega arith
 
 -- an event that changes nothing in the kernel
-quiet : (kernel : Kernel) (thread : ℕ) (event : Event) → event.kernel ≡ kernel → event.effect.made ≡ None → event.effect.thread ≡ thread → event.effect.bytes ≡ [] → event.effect.place ≡ 0
+quiet : (kernel : Kernel) (thread : ℕ) (event : Event) → event.kernel ≡ kernel → event.effect.range ≡ None → event.effect.made ≡ None → event.effect.thread ≡ thread → event.effect.bytes ≡ [] → event.effect.place ≡ 0
     → ((how : How) → event.due ≡ Some how → IsOver how) → ((call : Call) → event.blocked ≡ Some call → call.which ≡ Function Wait → is_waiting kernel.waiters thread ≡ true) → Happens kernel thread event
-quiet kernel thread event same none own nothing at well waits_on = record {
+quiet kernel thread event same unranged none own nothing at well waits_on = record {
+  given_are = ap (λ (k : Kernel). k.given) same ∙ ap (λ (r : Option Range). with_range r kernel.given) (sym unranged);
   lives_are = ap (λ (k : Kernel). length k.lives) same ∙ add-none (length kernel.lives) ∙ ap (λ (m : Option Made). length kernel.lives + made_count m) (sym none);
   others_live = λ e other differs h. ap (λ (k : Kernel). lives_on k other) same ∙ h;
   blocks_live = λ call e. ap (λ (k : Kernel). lives_on k thread) same;
@@ -89,6 +92,7 @@ module _ (setup : Setup) (kernel : Kernel) (thread : ℕ) (call : Call) (payload
       let own = own-of after effect (subst (Own kernel thread) e (serve-own setup kernel thread call)) in
       let fit = fit-effect setup kernel thread call after effect e in
       record {
+        given_are = given-done setup kernel thread call after effect e;
         lives_are = tidy.one_life_each;
         others_live = λ d other differs h. own.keeps_live other differs h;
         blocks_live = λ c f. absurd (let g : None ≡ Some c = f in cc);
@@ -102,6 +106,7 @@ module _ (setup : Setup) (kernel : Kernel) (thread : ℕ) (call : Call) (payload
         ends_well = no-end;
       }
   by-served (Parked after) e = record {
+    given_are = given-parked setup kernel thread call after e;
     lives_are = fit-parked setup kernel thread call after e ∙ add-none (length kernel.lives);
     others_live = λ d other differs h. parked-live setup kernel thread call after other e ∙ h;
     blocks_live = λ c f. parked-live setup kernel thread call after thread e;
@@ -115,11 +120,12 @@ module _ (setup : Setup) (kernel : Kernel) (thread : ℕ) (call : Call) (payload
     ends_well = no-end;
   }
   by-served Blocked e =
-      quiet kernel thread _ refl refl refl refl refl no-end
+      quiet kernel thread _ refl refl refl refl refl refl no-end
       (λ c f w. blocked-waits setup kernel thread call e (let g : Some call ≡ Some c = f in let same : call ≡ c = cc in ap (λ (d : Call). d.which) same ∙ w))
   by-served (Ends after how) e =
       let tidy = subst (Tidy kernel thread) e (serve-tidy setup kernel thread call) in
       record {
+        given_are = given-ended setup kernel thread call after how e;
         lives_are = end-lives after how tidy ∙ add-none (length kernel.lives);
         others_live = λ f other differs h. absurd (let g : None ≡ Some how = sym f in cc);
         blocks_live = λ c f. absurd (let g : None ≡ Some c = f in cc);
@@ -139,6 +145,6 @@ module _ (setup : Setup) (kernel : Kernel) (thread : ℕ) (call : Call) (payload
 pub event-happens : (setup : Setup) (kernel : Kernel) (thread : ℕ) (stop : Stop) (payload : List ℕ) → Happens kernel thread (event_of setup kernel thread stop payload)
 unfolding event_of
 event-happens setup kernel thread (Calls call) payload = call-happens setup kernel thread call payload
-event-happens setup kernel thread (PageFault page) payload = quiet kernel thread _ refl refl refl refl refl no-end (λ c f. absurd (let g : None ≡ Some c = f in cc))
-event-happens setup kernel thread Watchdog payload = quiet kernel thread _ refl refl refl refl refl no-end (λ c f. absurd (let g : None ≡ Some c = f in cc))
-event-happens setup kernel thread (Trap code) payload = quiet kernel thread _ refl refl refl refl refl (λ how e. subst IsOver (let g : Some (TrapHow code) ≡ Some how = e in cc) (traps {cause = code})) (λ c f. absurd (let g : None ≡ Some c = f in cc))
+event-happens setup kernel thread (PageFault page) payload = quiet kernel thread _ refl refl refl refl refl refl no-end (λ c f. absurd (let g : None ≡ Some c = f in cc))
+event-happens setup kernel thread Watchdog payload = quiet kernel thread _ refl refl refl refl refl refl no-end (λ c f. absurd (let g : None ≡ Some c = f in cc))
+event-happens setup kernel thread (Trap code) payload = quiet kernel thread _ refl refl refl refl refl refl (λ how e. subst IsOver (let g : Some (TrapHow code) ≡ Some how = e in cc) (traps {cause = code})) (λ c f. absurd (let g : None ≡ Some c = f in cc))

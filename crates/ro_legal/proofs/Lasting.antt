@@ -82,6 +82,11 @@ other_replica driver other lease (l ∷ leases) apart ne e out =
         true≢false (sym there ∙ ap (λ (n : ℕ). has_replica n leases) (sym (here ∙ same)) ∙ apart.0)
     by false is f false k g rest = rest f g
 
+-- a put leaves the kernel
+pub put_kernel : (job : Job) (core : Core) (lease : Lease) (count : ℕ) (o : Option RanTo) → (core_after_put job core lease count o).kernel ≡ core.kernel
+put_kernel job core lease count None = refl
+put_kernel job core lease count (Some ran) = refl
+
 -- another driver's put
 out_put : (job : Job) (core : Core) (driver : ℕ) (lease : Lease) (value : Replica) (other : Lease) (count : ℕ) → other.driver ≢ driver → other.replica ≢ lease.replica → HasLease core driver lease value → (o : Option RanTo) → HasLease (core_after_put job core other count o) driver lease value
 out_put job core driver lease value other count ne apart out None = out
@@ -120,6 +125,23 @@ lease_lasts job journal entry legal driver by names ne lease value out =
     let parts = LegalFrom-parts job (opening_core job) journal (entry ∷ []) legal in
     subst (λ (c : Core). HasLease c driver lease value) (sym (replay_more job journal entry))
     (out_after job (replay job journal) driver lease value by entry (ordered job journal parts.0) (leases_apart job journal parts.0) parts.1.0 names ne out)
+
+-- while a lease is out, no entry changes the kernel
+pub out_kernel : (job : Job) (core : Core) (driver : ℕ) (lease : Lease) (value : Replica) (entry : Entry) → IsAllowed job core entry → HasLease core driver lease value → (after job core entry).kernel ≡ core.kernel
+unfolding after
+out_kernel job core driver lease value (Take other) m out = refl
+out_kernel job core driver lease value (Put other count hit) m out = put_kernel job core other count (lease_run job core other count)
+out_kernel job core driver lease value (Vote thread count won lost did) m out = absurd (none_found driver lease core.leases (vote-parts core thread m.may).alone out.held)
+out_kernel job core driver lease value (Free thread) m out = absurd (none_found driver lease core.leases (free-parts job core thread m.may).alone out.held)
+out_kernel job core driver lease value (Scrub won lost) m out = refl
+out_kernel job core driver lease value (End how) m out = refl
+
+-- and so in a legal journal
+pub kernel_lasts : (job : Job) (journal : List Entry) (entry : Entry) → Legal job (journal ++ entry ∷ []) → (driver : ℕ) (lease : Lease) (value : Replica) → HasLease (replay job journal) driver lease value → (replay job (journal ++ entry ∷ [])).kernel ≡ (replay job journal).kernel
+kernel_lasts job journal entry legal driver lease value out =
+    let parts = LegalFrom-parts job (opening_core job) journal (entry ∷ []) legal in
+    ap (λ (c : Core). c.kernel) (replay_more job journal entry)
+    ∙ out_kernel job (replay job journal) driver lease value entry parts.1.0 out
 
 -- an entry of another driver lends nothing to the driver
 idle_put : (job : Job) (core : Core) (driver : ℕ) (other : Lease) (count : ℕ) → is_idle core driver ≡ true → (o : Option RanTo) → is_idle (core_after_put job core other count o) driver ≡ true

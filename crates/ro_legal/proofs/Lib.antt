@@ -19,6 +19,8 @@ pub mod Copies
 pub mod Winners
 -- a run of one thread keeps what holds of every replica
 pub mod Sound
+-- the ranges that were given lie where they may
+pub mod Mapped
 -- ---- what every legal journal keeps, and what comes next
 -- what each entry keeps of the core
 pub mod Ordered
@@ -55,5 +57,3 @@ pub mod OneDriver
 pub mod Streaks
 -- scrubs come in time
 pub mod InTime
--- what is given to the program: nothing
-pub mod Ungiven

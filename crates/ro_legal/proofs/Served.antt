@@ -15,7 +15,7 @@ use Rattle.ro_kernel.specs.Kernel.{Setup, Kernel, is_live, live_option, lives_on
 use Rattle.ro_kernel.specs.Serve.{Served, Done, Parked, Blocked, Ends, answers, serve}
 use Rattle.ro_kernel.proofs.Kept.{slice_get-set_other}
 use Rattle.ro_legal.specs.Sound.{IsOver, exits}
-use Rattle.ro_kernel.proofs.Shapes.{Shape, says, reads, breaks, owns, wakes, parks_at, resumes, makes, joins, leaves, waits, stops, stops_last, shape-of}
+use Rattle.ro_kernel.proofs.Shapes.{Shape, says, reads, breaks, maps_more, owns, wakes, parks_at, resumes, makes, joins, leaves, waits, stops, stops_last, shape-of}
 
 -- how many threads an effect makes
 abbrev pub made_count : Option Made → ℕ
@@ -74,6 +74,7 @@ module _ (setup : Setup) (kernel : Kernel) (u : ℕ) (call : Call) where
   tidy-of (says value) = tidy-answers kernel kernel u call value refl
   tidy-of (reads number e xs h) = tidy_done (record { one_life_each = add-none (length kernel.lives); stays_dead = λ t d short h. h; goes_on = refl; backs_none = refl })
   tidy-of (breaks e end) = tidy-answers kernel (record kernel { heap_end = end }) u call end refl
+  tidy-of (maps_more e some room) = tidy_done (record { one_life_each = add-none (length kernel.lives); stays_dead = λ t d short h. h; goes_on = refl; backs_none = refl })
   tidy-of (owns on fit owner) = tidy-answers kernel (record kernel { owners = with_owner kernel.owners call.a0 owner }) u call 0 refl
   tidy-of (wakes ws w) = tidy-answers kernel (record kernel { waiters = ws }) u call 0 refl
   tidy-of (parks_at w e h) = tidy_parked

@@ -16,6 +16,12 @@ pub const MOST_THREADS: u32 = 16;
 /// How many bytes may be asked for at the end of the program's break.
 pub const HEAP_SIZE: u32 = 0x10_0000;
 
+/// Where the memory begins that a program is given on demand.
+pub const MAPPED_START: u32 = 0x5000_0000;
+
+/// How many pages a program is given on demand at most, and so how many ranges of them.
+pub const MAPPED_PAGES: u32 = 4096;
+
 /// Where the first thread's stack begins.
 pub const FIRST_STACK: u32 = 0x7000_0000;
 

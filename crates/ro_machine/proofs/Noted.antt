@@ -1,5 +1,5 @@
 -- What a step did, by its code.
-use Rattle.std.specs.Prelude.{◌≡◌, ℕ, zero, suc, ◌+◌, ◌%◌, ◌<◌, ◌≤◌, ◌||◌, ◌&&◌, not, cond, Bool, true, false, ◌==◌, List, [], ◌∷◌, ◌++◌, length, nat_le, nat_lt, Option, Some, None, is_none, is_some, if◌then◌else◌}
+use Rattle.std.specs.Prelude.{◌≡◌, ℕ, zero, suc, ◌+◌, ◌%◌, ◌^◌, ◌<◌, ◌≤◌, ◌||◌, ◌&&◌, not, cond, Bool, true, false, ◌==◌, List, [], ◌∷◌, ◌++◌, length, nat_le, nat_lt, Option, Some, None, is_none, is_some, if◌then◌else◌}
 use Rattle.std.specs.Option.{option_map, option_map_or}
 use Rattle.std.proofs.Common.{refl, sym, ap, ap₂, ◌∙◌, subst, arith}
 use Rattle.std.proofs.lemmas.Bool.{true≢false, false≢true, ltb-true, leb-true, eqb-true, and_parts}
@@ -21,20 +21,19 @@ use Rattle.ro_exec.specs.Next.{Layout, all_backed, exit_place, Next, Stands, Exe
 use Rattle.ro_exec.proofs.Frame.{next-fetched, next-stopped}
 use Rattle.ro_kernel.specs.Kernel.{Kernel, ranges_in}
 use Rattle.ro_kernel.specs.Serve.{Served, Done, Parked, Blocked, Ends, serve, payload_of, is_write, is_good_write, capped}
-use Rattle.ro_kernel.proofs.Given.{range-none, none-given, given-parked, given-ended}
 use Rattle.std.proofs.lemmas.Option.{option_and_then_some}
-use Rattle.ro_plain.specs.Machine.{Program, setup_of, Machine, next_of, steppable, step, step_by, layout_in, called, payload_in}
+use Rattle.ro_plain.specs.Machine.{Program, setup_of, Machine, next_of, steppable, step, step_by, layout_in}
 use Rattle.ro_event.specs.Effects.{Effect}
-use Rattle.ro_plain.specs.Accesses.{Accesses, fetches, accesses, accesses_by, touches, payload_span, stored_span, given_span}
+use Rattle.ro_plain.specs.Accesses.{Accesses, fetches, accesses, accesses_by, touches, payload_span, stored_span}
 use Rattle.ro_plain.specs.Order.{Nothing, sync_of, sync_next, sync_served}
-use Rattle.ro_plain.proofs.Calls.{accesses-at, step-opens, some-injective}
+use Rattle.ro_plain.proofs.Calls.{accesses-at, step-opens}
 use Rattle.ro_machine.specs.declared.calls.Came.{Came}
 use Rattle.ro_machine.specs.declared.watching.Stretch.{Stretch}
 use Rattle.ro_machine.specs.declared.watching.Went.TheVariants.{Executed, Trapped, Called}
 use Rattle.ro_machine.specs.declared.looking.Look.{Look}
 use Rattle.ro_machine.specs.declared.watching.Relation.{Relation}
 use Rattle.ro_machine.specs.declared.watching.Relation.TheVariants.{Nothing as IsNothing}
-use Rattle.ro_machine.specs.Watched.{span_of, sync_of_relation, Tells, TellsNext, code_at, LooksAt, Sees}
+use Rattle.ro_machine.specs.Watched.{span_of, sync_of_relation, Tells, TellsLoaded, TellsNext, code_at, LooksAt, Sees}
 
 -- ---- what is known before a step
 
@@ -161,24 +160,26 @@ module _ (layout : Layout) (memory : Memory) (cpu : Cpu) where
     code_few = omega arith;
     loads_few = omega arith;
     stores_few = omega arith;
+    stores_at = omega arith;
   }
 
   -- one that reads an instruction
   pub look-read : (look : Look) → true ≡ is_none (fetch_stop layout all_backed cpu) → span_of look.code ≡ record { place = cpu.pc; count = 4 } → ((instr : Instr) → instruction_of (number_at memory cpu.pc 4) ≡ Some instr → span_of look.loads ≡ loads instr cpu) → ((instr : Instr) → instruction_of (number_at memory cpu.pc 4) ≡ Some instr → span_of look.stores ≡ stores instr cpu)
-      → look.loads.count ≤ 4 → look.stores.count ≤ 4 → LooksAt layout memory cpu look
-  look-read look h code loaded stored few fewer = record {
+      → look.loads.count ≤ 4 → look.stores.count ≤ 4 → look.stores.place < 2 ^ 32 → LooksAt layout memory cpu look
+  look-read look h code loaded stored few fewer at = record {
     code = λ a. ap (λ (s : Span). within s a) code ∙ sym (ap (λ xs. touches xs a) (code-of true (sym h)) ∙ touches-one (record { place = cpu.pc; count = 4 }) a);
     loads_are = λ instr e. loaded instr (was-read layout memory cpu instr e).spelled;
     stores_are = λ instr e. stored instr (was-read layout memory cpu instr e).spelled;
     code_few = (let e : look.code.count ≡ 4 = ap (λ (s : Span). s.count) code in omega (arith, e));
     loads_few = few;
     stores_few = fewer;
+    stores_at = at;
   }
 
 -- ---- what a call came to
 
-pub tells-done : (served : Served) (kernel : Kernel) (effect : Effect) (call : Call) (answer : Option ℕ) (place count : ℕ) → served ≡ Done kernel effect → answer ≡ effect.answer → place ≡ effect.place → count ≡ length effect.bytes → length effect.bytes ≤ 4096 → Tells served call (record { call = call; how = None; answer = answer; stored = record { place = place; count = count }; parked = false })
-tells-done served kernel effect call answer place count e d f g few = subst (λ (s : Served). Tells s call (record { call = call; how = None; answer = answer; stored = record { place = place; count = count }; parked = false })) (sym e) (refl, refl, d, f, g, omega arith, refl)
+pub tells-done : (served : Served) (kernel : Kernel) (effect : Effect) (call : Call) (answer : Option ℕ) (loaded stored : Stretch) → served ≡ Done kernel effect → answer ≡ effect.answer → ((a : ℕ) → within (span_of stored) a ≡ touches (stored_span (Done kernel effect)) a) → stored.place + stored.count ≤ 2 ^ 32 + 4096 → Tells served call (record { call = call; how = None; answer = answer; loaded = loaded; stored = stored; parked = false })
+tells-done served kernel effect call answer loaded stored e d f low = subst (λ (s : Served). Tells s call (record { call = call; how = None; answer = answer; loaded = loaded; stored = stored; parked = false })) (sym e) (refl, refl, d, f, low, refl)
 
 length-bytes_at : (m : Memory) (place n : ℕ) → length (bytes_at m place n) ≡ n
 length-bytes_at m place zero = refl
@@ -225,7 +226,7 @@ module _ (program : Program) (machine : Machine) (thread : ℕ) (cpu : Cpu) (liv
         means = sync-is (Executes instr) e;
         loaded_few = (let f = looks.loads_few in omega arith);
         code_few = code-little;
-        stored_few = (let f = looks.stores_few in omega arith);
+        stored_low = (let f = looks.stores_few in let p = looks.stores_at in omega arith);
         known_thread = known;
       }
       by (Stands (Calls call)) e h = absurd h
@@ -245,25 +246,23 @@ module _ (program : Program) (machine : Machine) (thread : ℕ) (cpu : Cpu) (liv
         means = sync-is (Stands (Trap code)) e;
         loaded_few = omega arith;
         code_few = code-little;
-        stored_few = omega arith;
+        stored_low = omega arith;
         known_thread = known;
       }
       by (Stands (PageFault page)) e h = absurd h
       by (Stands Watchdog) e h = absurd h
 
-  stored-are : (served : Served) (call : Call) → serve (setup_of program) machine.kernel thread call ≡ served → (came : Came) → Tells served call came → (a : ℕ) → touches (stored_span served) a ≡ within (span_of came.stored) a
-  stored-are (Done kernel effect) call e came h a =
-      ap (λ (range : Option Range). touches (record { place = effect.place; count = length effect.bytes } ∷ given_span range) a) (range-none (setup_of program) machine.kernel thread call kernel effect e)
-      ∙ touches-one (record { place = effect.place; count = length effect.bytes }) a ∙ ap₂ (λ (p c : ℕ). within (record { place = p; count = c }) a) (sym h.3) (sym h.4)
-  stored-are (Parked kernel) call e came h a = sym (ap (λ (c : ℕ). within (record { place = came.stored.place; count = c }) a) h.2 ∙ in-none came.stored.place a)
-  stored-are Blocked call e came h a = absurd h
-  stored-are (Ends kernel how) call e came h a = sym (ap (λ (c : ℕ). within (record { place = came.stored.place; count = c }) a) h.2 ∙ in-none came.stored.place a)
+  stored-are : (served : Served) (call : Call) (came : Came) → Tells served call came → (a : ℕ) → touches (stored_span served) a ≡ within (span_of came.stored) a
+  stored-are (Done kernel effect) call came h a = sym (h.3 a)
+  stored-are (Parked kernel) call came h a = sym (ap (λ (c : ℕ). within (record { place = came.stored.place; count = c }) a) h.3 ∙ in-none came.stored.place a)
+  stored-are Blocked call came h a = absurd h
+  stored-are (Ends kernel how) call came h a = sym (ap (λ (c : ℕ). within (record { place = came.stored.place; count = c }) a) h.3 ∙ in-none came.stored.place a)
 
-  stored-few : (served : Served) (call : Call) (came : Came) → Tells served call came → came.stored.count ≤ 4096
-  stored-few (Done kernel effect) call came h = h.5
-  stored-few (Parked kernel) call came h = let e = h.2 in omega arith
-  stored-few Blocked call came h = absurd h
-  stored-few (Ends kernel how) call came h = let e = h.2 in omega arith
+  stored-low : (served : Served) (call : Call) (came : Came) → Tells served call came → came.stored.place + came.stored.count ≤ 2 ^ 32 + 4096
+  stored-low (Done kernel effect) call came h = h.4
+  stored-low (Parked kernel) call came h = let at = h.2 in let e = h.3 in omega arith
+  stored-low Blocked call came h = absurd h
+  stored-low (Ends kernel how) call came h = let at = h.2 in let e = h.3 in omega arith
 
   call-same : (served : Served) (call : Call) (came : Came) → Tells served call came → came.call ≡ call
   call-same (Done kernel effect) call came h = h.0
@@ -271,25 +270,25 @@ module _ (program : Program) (machine : Machine) (thread : ℕ) (cpu : Cpu) (liv
   call-same Blocked call came h = absurd h
   call-same (Ends kernel how) call came h = h.0
 
-  pub sees-called : (came : Came) (loaded : Stretch) (relation : Relation) → TellsNext program machine.kernel thread (next_of program machine cpu) (Called came) → ((a : ℕ) → within (span_of loaded) a ≡ touches (payload_span (ranges_in (setup_of program) machine.kernel) came.call) a) → loaded.count ≤ 4096
+  pub sees-called : (came : Came) (relation : Relation) → TellsNext program machine.kernel thread (next_of program machine cpu) (Called came)
       → ((served : Served) → Tells served came.call came → sync_of_relation relation ≡ sync_served machine came.call served)
-      → Sees program machine thread (record { loaded = loaded; code = look.code; stored = came.stored; relation = relation })
-  sees-called came loaded relation told pays few means = by (next_of program machine cpu) refl told
+      → Sees program machine thread (record { loaded = came.loaded; code = look.code; stored = came.stored; relation = relation })
+  sees-called came relation told means = by (next_of program machine cpu) refl told
     where
-      at : (call : Call) → next_of program machine cpu ≡ Stands (Calls call) → Tells (serve (setup_of program) machine.kernel thread call) call came → came.call ≡ call → Sees program machine thread (record { loaded = loaded; code = look.code; stored = came.stored; relation = relation })
-      at call e h same = record {
-        reads = λ a. ap (λ (x : Accesses). touches x.reads a) (accesses-are (Stands (Calls call)) e) ∙ (touches-both (payload_span (ranges_in (setup_of program) machine.kernel) call) (fetches (layout_in program machine.kernel) cpu) a ∙ ap₂ (λ (x y : Bool). x || y) (ap (λ (c : Call). touches (payload_span (ranges_in (setup_of program) machine.kernel) c) a) (sym same) ∙ sym (pays a)) (fetches-are a));
-        writes = λ a. ap (λ (x : Accesses). touches x.writes a) (accesses-are (Stands (Calls call)) e) ∙ stored-are (serve (setup_of program) machine.kernel thread call) call refl came h a;
+      at : (call : Call) → next_of program machine cpu ≡ Stands (Calls call) → Tells (serve (setup_of program) machine.kernel thread call) call came → TellsLoaded (ranges_in (setup_of program) machine.kernel) call came → came.call ≡ call → Sees program machine thread (record { loaded = came.loaded; code = look.code; stored = came.stored; relation = relation })
+      at call e h loaded same = record {
+        reads = λ a. ap (λ (x : Accesses). touches x.reads a) (accesses-are (Stands (Calls call)) e) ∙ (touches-both (payload_span (ranges_in (setup_of program) machine.kernel) call) (fetches (layout_in program machine.kernel) cpu) a ∙ ap₂ (λ (x y : Bool). x || y) (sym (loaded.bytes a)) (fetches-are a));
+        writes = λ a. ap (λ (x : Accesses). touches x.writes a) (accesses-are (Stands (Calls call)) e) ∙ stored-are (serve (setup_of program) machine.kernel thread call) call came h a;
         means = sync-is (Stands (Calls call)) e ∙ (ap (λ (c : Call). sync_served machine c (serve (setup_of program) machine.kernel thread call)) (sym same) ∙ sym (means (serve (setup_of program) machine.kernel thread call) (subst (λ (c : Call). Tells (serve (setup_of program) machine.kernel thread call) c came) (sym same) h)));
-        loaded_few = few;
+        loaded_few = loaded.few;
         code_few = code-little;
-        stored_few = stored-few (serve (setup_of program) machine.kernel thread call) call came h;
+        stored_low = stored-low (serve (setup_of program) machine.kernel thread call) call came h;
         known_thread = known;
       }
 
-      by : (n : Next) → next_of program machine cpu ≡ n → TellsNext program machine.kernel thread n (Called came) → Sees program machine thread (record { loaded = loaded; code = look.code; stored = came.stored; relation = relation })
+      by : (n : Next) → next_of program machine cpu ≡ n → TellsNext program machine.kernel thread n (Called came) → Sees program machine thread (record { loaded = came.loaded; code = look.code; stored = came.stored; relation = relation })
       by (Executes instr) e h = absurd (let f : Called came ≡ Executed = h in cc)
-      by (Stands (Calls call)) e h = at call e h (call-same (serve (setup_of program) machine.kernel thread call) call came h)
+      by (Stands (Calls call)) e h = at call e h.0 h.1 (call-same (serve (setup_of program) machine.kernel thread call) call came h.0)
       by (Stands (Trap code)) e h = absurd h
       by (Stands (PageFault page)) e h = absurd h
       by (Stands Watchdog) e h = absurd h
@@ -298,22 +297,3 @@ module _ (program : Program) (machine : Machine) (thread : ℕ) (cpu : Cpu) (liv
 pub from-step : (program : Program) (machine : Machine) (thread : ℕ) (after : Machine) (P : Type 0) → step program machine thread ≡ Some after → ((cpu : Cpu) → steppable machine thread ≡ Some cpu → P) → P
 from-step program machine thread after P e f =
     option_and_then_some (λ cpu. step_by program machine thread cpu (next_of program machine cpu)) (steppable machine thread) after (step-opens program machine thread after e) (λ cpu live g. f cpu live)
-
--- a step gives nothing
-called-given : (program : Program) (machine after : Machine) (thread : ℕ) (cpu : Cpu) (call : Call) (payload : List ℕ) (served : Served) → serve (setup_of program) machine.kernel thread call ≡ served → called machine cpu payload served ≡ Some after → after.kernel.given ≡ machine.kernel.given
-called-given program machine after thread cpu call payload (Done kernel effect) e f = ap (λ (m : Machine). m.kernel.given) (sym (some-injective f)) ∙ none-given (setup_of program) machine.kernel thread call kernel effect e
-called-given program machine after thread cpu call payload (Parked kernel) e f = ap (λ (m : Machine). m.kernel.given) (sym (some-injective f)) ∙ given-parked (setup_of program) machine.kernel thread call kernel e
-called-given program machine after thread cpu call payload Blocked e f = absurd (let g : None ≡ Some after = f in cc)
-called-given program machine after thread cpu call payload (Ends kernel how) e f = ap (λ (m : Machine). m.kernel.given) (sym (some-injective f)) ∙ given-ended (setup_of program) machine.kernel thread call kernel how e
-
-step_by-given : (program : Program) (machine after : Machine) (thread : ℕ) (cpu : Cpu) (n : Next) → step_by program machine thread cpu n ≡ Some after → after.kernel.given ≡ machine.kernel.given
-step_by-given program machine after thread cpu (Executes instr) e = ap (λ (m : Machine). m.kernel.given) (sym (some-injective e))
-step_by-given program machine after thread cpu (Stands (Calls call)) e = called-given program machine after thread cpu call (payload_in program machine call) (serve (setup_of program) machine.kernel thread call) refl e
-step_by-given program machine after thread cpu (Stands (Trap code)) e = ap (λ (m : Machine). m.kernel.given) (sym (some-injective e))
-step_by-given program machine after thread cpu (Stands (PageFault page)) e = absurd (let f : None ≡ Some after = e in cc)
-step_by-given program machine after thread cpu (Stands Watchdog) e = absurd (let f : None ≡ Some after = e in cc)
-
-pub step-given : (program : Program) (machine : Machine) (thread : ℕ) (after : Machine) → step program machine thread ≡ Some after → after.kernel.given ≡ machine.kernel.given
-step-given program machine thread after e =
-    option_and_then_some (λ cpu. step_by program machine thread cpu (next_of program machine cpu)) (steppable machine thread) after (step-opens program machine thread after e)
-    (λ cpu live f. step_by-given program machine after thread cpu (next_of program machine cpu) f)

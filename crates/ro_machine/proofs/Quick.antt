@@ -62,7 +62,7 @@ module _ (plain : PlainOf) (lane : Lane) (opened : IsOpen plain lane) where
         by (Stands stop) e h = absurd (let f : Did ≡ Stopped stop = h.0 in cc)
         by (Executes instr) e h =
             let read = was-read (layout_in plain.program plain.kernel) (memory_of plain.held.pages) (cpu_of lane) instr e in
-            let looks = look-read (layout_in plain.program plain.kernel) (memory_of plain.held.pages) (cpu_of lane) look (sym (ap is_none read.fetched)) spells.code spells.loads_are spells.stores_are spells.loads_few spells.stores_few in
+            let looks = look-read (layout_in plain.program plain.kernel) (memory_of plain.held.pages) (cpu_of lane) look (sym (ap is_none read.fetched)) spells.code spells.loads_are spells.stores_are spells.loads_few spells.stores_few spells.stores_at in
             let told : TellsNext plain.program plain.kernel lane.thread (next (layout_in plain.program plain.kernel) all_backed (memory_of plain.held.pages) (cpu_of lane)) Executed = subst (λ (n : Next). TellsNext plain.program plain.kernel lane.thread n Executed) (sym e) refl in
             sees-executed plain.program (machine_of (closed plain lane) output) lane.thread (cpu_of lane) (steppable-is output) look looks opened.few told
 

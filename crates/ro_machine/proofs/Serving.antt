@@ -18,14 +18,13 @@ use Rattle.ro_kernel.specs.State.{State}
 use Rattle.ro_kernel.specs.Serve.{Done as DoneWith, serve}
 use Rattle.ro_kernel.specs.Served.{IsServe}
 use Rattle.ro_kernel.specs.declared.outcome.Served.{Served}
-use Rattle.ro_kernel.specs.declared.outcome.Served.TheVariants.{Done, Parked, Ends, Blocked}
+use Rattle.ro_kernel.specs.declared.outcome.Served.TheVariants.{Done, Parked, Ends}
 use Rattle.ro_kernel.proofs.Kept.{IsOwn, Own, done as own_done, serve-own}
 use Rattle.ro_kernel.proofs.Stores.{stores-permitted}
 use Rattle.ro_replica.proofs.Payloads.{permitted_ends}
 use Rattle.ro_plain.specs.Machine.{with_made, called}
 use Rattle.ro_machine.specs.Seen.{machine_with}
 use Rattle.ro_kernel.proofs.Fits.{made_count, fit-effect, fit-ended, fit-parked}
-use Rattle.ro_kernel.proofs.Given.{none-given, given-parked, given-ended}
 
 -- a thread that lives was made
 pub lives-made : (lives : List Life) (t : ℕ) → live_option (slice_get lives t) ≡ true → t < length lives
@@ -83,13 +82,6 @@ pub parked-lives : (state after : State) (thread : ℕ) (call : Call) (served : 
 parked-lives state after thread call served is h =
     let brings : IsServe (serve state.setup state.kernel thread call) state after (Ok Parked) = subst (λ (s : Served). IsServe (serve state.setup state.kernel thread call) state after (Ok s)) is h in
     fit-parked state.setup state.kernel thread call after.kernel brings.0
-
--- whatever comes of it, the kernel gave what it had given
-pub served-given : (state after : State) (thread : ℕ) (call : Call) (served : Served) → IsServe (serve state.setup state.kernel thread call) state after (Ok served) → after.kernel.given ≡ state.kernel.given
-served-given state after thread call (Done effect) brings = none-given state.setup state.kernel thread call after.kernel effect brings.0
-served-given state after thread call Parked brings = given-parked state.setup state.kernel thread call after.kernel brings.0
-served-given state after thread call Blocked brings = ap (λ (s : State). s.kernel.given) brings.1
-served-given state after thread call (Ends how) brings = given-ended state.setup state.kernel thread call after.kernel how brings.0
 
 length-with_made : (made : Option Made) (cpu : Cpu) (cpus : List Cpu) → length (with_made made cpu cpus) ≡ length cpus + made_count made
 length-with_made None cpu cpus = omega arith

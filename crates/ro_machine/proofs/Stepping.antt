@@ -8,6 +8,7 @@ use Rattle.ro_event.specs.declared.stops.Stop.{Stop}
 use Rattle.ro_event.specs.declared.stops.Stop.TheVariants.{Calls}
 use Rattle.ro_event.specs.declared.table.CallTable.{CallTable}
 use Rattle.ro_region.specs.declared.Range.{Range}
+use Rattle.ro_region.specs.Permission.{Ranges, ranges_of}
 use Rattle.ro_journal.specs.declared.How.{How}
 use Rattle.ro_pages.specs.Bytes.{Memory}
 use Rattle.ro_pages.specs.Held.{Held, memory_of}
@@ -107,6 +108,10 @@ unsteppable machine thread (inr h) = by (is_none machine.ended) (lives_on machin
 pub no-step : (program : Program) (machine : Machine) (thread : ℕ) → (is_some machine.ended ≡ true) ⊎ (lives_on machine.kernel thread ≡ false) → step program machine thread ≡ None
 unfolding step
 no-step program machine thread h = ap (option_and_then (λ cpu. step_by program machine thread cpu (next_of program machine cpu))) (unsteppable machine thread h)
+
+-- the ranges of a kernel, of a machine of this image
+pub ranges-now : {regions : Ranges} {given first image : List Range} → regions ≡ record { given = given; first = first } → first ≡ image → ranges_of regions ≡ given ++ image
+ranges-now {regions} {given} {first} {image} are same = ap ranges_of are ∙ ap (λ (r : List Range). given ++ r) same
 
 -- a call of a thread
 pub stand-call : (image : Image) (state : State) (old : Held) (cpus : List Cpu) (written : List ℕ) (regions : List Range) (ended : Option How) (thread : ℕ) (call : Call) (stop : Stop) (new : PlainOf)

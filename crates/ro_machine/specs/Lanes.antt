@@ -43,3 +43,4 @@ pub record Spells (memory : Memory) (cpu : Cpu) (look : Look) : Type 0 where
   pub stores_are : (instr : Instr) → instruction_of (number_at memory cpu.pc 4) ≡ Some instr → span_of look.stores ≡ stores instr cpu
   pub loads_few : look.loads.count ≤ 4
   pub stores_few : look.stores.count ≤ 4
+  pub stores_at : look.stores.place < 2 ^ 32

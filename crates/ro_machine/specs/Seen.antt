@@ -5,7 +5,6 @@ use Rattle.ro_pages.specs.Held.{Held, memory_of}
 use Rattle.ro_event.specs.declared.stops.Stop.{Stop}
 use Rattle.ro_exec.specs.declared.Cpu.{Cpu}
 use Rattle.ro_exec.specs.Next.{Stands}
-use Rattle.ro_region.specs.declared.Range.{Range}
 use Rattle.ro_image.specs.Image.{Image}
 use Rattle.ro_kernel.specs.Kernel.{Kernel}
 use Rattle.ro_kernel.specs.State.{State}
@@ -32,8 +31,7 @@ abbrev pub machine_of : PlainOf → (output : List ℕ) → Machine
 machine_of value output = machine_with value.held value.cpus value.kernel output value.ended
 
 -- what holds of the parts of every machine, with places for so many threads and bytes
-pub record IsWhole (image : Image) (regions : List Range) (state : State) (cpus : List Cpu) (written : List ℕ) (threads bytes : ℕ) : Type 0 where
-  pub regions_are : regions ≡ state.kernel.given ++ image.ranges
+pub record IsWhole (image : Image) (state : State) (cpus : List Cpu) (written : List ℕ) (threads bytes : ℕ) : Type 0 where
   pub ranges_are : state.setup.ranges ≡ image.ranges
   pub heap_is : state.setup.heap ≡ image.heap
   pub all_made : length cpus ≡ length state.kernel.lives

@@ -1,17 +1,18 @@
 -- What a step did, as it is told.
-use Rattle.std.specs.Prelude.{◌≡◌, ℕ, ◌<◌, ◌≤◌, ◌||◌, true, false, List, [], ◌∷◌, length, None, Some, is_none, if◌then◌else◌}
+use Rattle.std.specs.Prelude.{◌≡◌, ℕ, ◌+◌, ◌^◌, ◌<◌, ◌≤◌, ◌||◌, true, false, List, [], ◌∷◌, None, Some, is_none, if◌then◌else◌}
 use Rattle.ro_decode.specs.declared.Instr.{Instr}
 use Rattle.ro_event.specs.declared.calls.Call.{Call}
 use Rattle.ro_event.specs.declared.stops.Stop.{Stop}
 use Rattle.ro_event.specs.declared.stops.Stop.TheVariants.{Calls, Trap}
+use Rattle.ro_region.specs.declared.Range.{Range}
 use Rattle.ro_pages.specs.Bytes.{Memory, Span, within}
 use Rattle.ro_exec.specs.declared.Cpu.{Cpu}
 use Rattle.ro_exec.specs.Meaning.{loads, stores}
 use Rattle.ro_exec.specs.Next.{Layout, all_backed, Next, Stands, Executes, fetch_stop, next}
-use Rattle.ro_kernel.specs.Kernel.{Kernel}
+use Rattle.ro_kernel.specs.Kernel.{Kernel, ranges_in}
 use Rattle.ro_kernel.specs.Serve.{Served, Done, Parked, Blocked, Ends, serve}
 use Rattle.ro_plain.specs.Machine.{Program, setup_of, Machine}
-use Rattle.ro_plain.specs.Accesses.{accesses, touches}
+use Rattle.ro_plain.specs.Accesses.{accesses, touches, payload_span, stored_span}
 use Rattle.ro_plain.specs.Order.{Sync, Unlocks, Locks, Makes, Joins, Exits, Nothing, sync_of}
 use Rattle.ro_machine.specs.declared.calls.Came.{Came}
 use Rattle.ro_machine.specs.declared.watching.Stretch.{Stretch}
@@ -36,14 +37,19 @@ sync_of_relation IsNothing = Nothing
 -- what a call came to is what the kernel made of it
 abbrev pub Tells : Served → Call → Came → Type 0
 Tells (Done kernel effect) call came =
-    (came.call ≡ call) × (came.how ≡ None) × (came.answer ≡ effect.answer) × (came.stored.place ≡ effect.place) × (came.stored.count ≡ length effect.bytes) × (came.stored.count ≤ 4096) × (came.parked ≡ false)
-Tells (Parked kernel) call came = (came.call ≡ call) × (came.how ≡ None) × (came.stored.count ≡ 0) × (came.parked ≡ true)
+    (came.call ≡ call) × (came.how ≡ None) × (came.answer ≡ effect.answer) × ((a : ℕ) → within (span_of came.stored) a ≡ touches (stored_span (Done kernel effect)) a) × (came.stored.place + came.stored.count ≤ 2 ^ 32 + 4096) × (came.parked ≡ false)
+Tells (Parked kernel) call came = (came.call ≡ call) × (came.how ≡ None) × (came.stored.place ≡ 0) × (came.stored.count ≡ 0) × (came.parked ≡ true)
 Tells Blocked call came = ⊥
-Tells (Ends kernel how) call came = (came.call ≡ call) × (came.how ≡ Some how) × (came.stored.count ≡ 0) × (came.parked ≡ false)
+Tells (Ends kernel how) call came = (came.call ≡ call) × (came.how ≡ Some how) × (came.stored.place ≡ 0) × (came.stored.count ≡ 0) × (came.parked ≡ false)
+
+-- the bytes that a call put out are told with it
+pub record TellsLoaded (ranges : List Range) (call : Call) (came : Came) : Type 0 where
+  pub bytes : (a : ℕ) → within (span_of came.loaded) a ≡ touches (payload_span ranges call) a
+  pub few : came.loaded.count ≤ 4096
 
 -- what a step was, by the stop at which the thread stood
 abbrev pub TellsStop : Program → Kernel → (thread : ℕ) → Stop → Went → Type 0
-TellsStop program kernel thread (Calls call) (Called came) = Tells (serve (setup_of program) kernel thread call) call came
+TellsStop program kernel thread (Calls call) (Called came) = Tells (serve (setup_of program) kernel thread call) call came × TellsLoaded (ranges_in (setup_of program) kernel) call came
 TellsStop program kernel thread (Trap code) Trapped = Unit {0}
 TellsStop program kernel thread _ _ = ⊥
 
@@ -64,13 +70,15 @@ pub record LooksAt (layout : Layout) (memory : Memory) (cpu : Cpu) (look : Look)
   pub code_few : look.code.count ≤ 4
   pub loads_few : look.loads.count ≤ 4
   pub stores_few : look.stores.count ≤ 4
+  pub stores_at : look.stores.place < 2 ^ 32
 
--- A step of a thread accesses these bytes and means this for the order. No stretch has more than a page's bytes.
+-- A step of a thread accesses these bytes and means this for the order. No stretch has more than a page's bytes, but for the
+-- bytes of a range that a call gives; those end soon enough.
 pub record Sees (program : Program) (machine : Machine) (thread : ℕ) (watched : Watched) : Type 0 where
   pub reads : (a : ℕ) → touches (accesses program machine thread).reads a ≡ (within (span_of watched.loaded) a || within (span_of watched.code) a)
   pub writes : (a : ℕ) → touches (accesses program machine thread).writes a ≡ within (span_of watched.stored) a
   pub means : sync_of program machine thread ≡ sync_of_relation watched.relation
   pub loaded_few : watched.loaded.count ≤ 4096
   pub code_few : watched.code.count ≤ 4096
-  pub stored_few : watched.stored.count ≤ 4096
+  pub stored_low : watched.stored.place + watched.stored.count ≤ 2 ^ 32 + 4096
   pub known_thread : thread < 16

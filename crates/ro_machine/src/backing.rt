@@ -4,6 +4,7 @@ ghost use Rattle.ro_pages.specs.Held.{memory_of, has_page};
 ghost use Rattle.ro_exec.specs.Next.{all_backed, next};
 ghost use Rattle.ro_exec.specs.Steps.{IsStep};
 ghost use Rattle.ro_machine.specs.Pages.{fault_of};
+ghost use Rattle.ro_region.specs.Permission.{ranges_of};
 
 use ro_event::{CallTable, Stop};
 use ro_exec::{Cpu, Step, step};
@@ -21,7 +22,7 @@ pub(crate) fn execute(
     regions: &Regions,
     calls: &CallTable,
 ) -> Result<Step, AllocError>
-    ensures step { IfOk result (λ step. IsStep (next (record { ranges = regions.now; calls = calls.now }) all_backed (memory_of pages.old.pages) cpu.old) step cpu.old cpu.new (memory_of pages.old.pages) (memory_of pages.new.pages)) }
+    ensures step { IfOk result (λ step. IsStep (next (record { ranges = ranges_of regions.now; calls = calls.now }) all_backed (memory_of pages.old.pages) cpu.old) step cpu.old cpu.new (memory_of pages.old.pages) (memory_of pages.new.pages)) }
     ensures cpu { OnErr result (cpu.new ≡ cpu.old) }
     ensures memory { OnErr result (memory_of pages.new.pages ≡ memory_of pages.old.pages) }
 {

@@ -1,14 +1,16 @@
 //! Serving a call: what it does to the one memory and the threads.
 ghost use Rattle.std.specs.Prelude.{ℕ, List, [], ◌≡◌, ◌+◌, ◌^◌, ◌<◌, ◌≤◌, ◌++◌, None, Some, true, IfOk, IfErr, IfSome, OnErr, length, slice_get, slice_set, vec_capacity};
-ghost use Rattle.ro_pages.specs.Bytes.{bytes_at, stored};
+ghost use Rattle.ro_pages.specs.Bytes.{Memory, bytes_at, stored, within};
 ghost use Rattle.ro_pages.specs.Held.{memory_of};
 ghost use Rattle.ro_exec.specs.declared.Cpu.{Cpu as CpuSeen};
 ghost use Rattle.ro_exec.specs.Threads.{cpu_after};
-ghost use Rattle.ro_kernel.specs.Kernel.{ranges_in, lives_on};
-ghost use Rattle.ro_kernel.specs.Serve.{serve as serve_of, payload_of};
+ghost use Rattle.ro_kernel.specs.Kernel.{Kernel as KernelOf, ranges_in, lives_on};
+ghost use Rattle.ro_kernel.specs.Serve.{Done, serve as serve_of, payload_of};
+ghost use Rattle.ro_plain.specs.Accesses.{touches, payload_span, stored_span};
 ghost use Rattle.ro_plain.specs.Machine.{with_made, called};
 ghost use Rattle.ro_machine.specs.Seen.{machine_with, RefusesCall};
-ghost use Rattle.ro_machine.specs.Watched.{Tells};
+ghost use Rattle.ro_machine.specs.Watched.{span_of, Tells, TellsLoaded};
+ghost use Rattle.ro_region.specs.Permission.{ranges_of};
 
 use crate::errors::StepError;
 use crate::plain::MOST_WRITTEN;
@@ -29,7 +31,9 @@ pub(crate) struct Came {
     pub how: Option<How>,
     /// What the call answered, if it did.
     pub answer: Option<u32>,
-    /// The bytes that it stored.
+    /// The bytes that it put out.
+    pub loaded: Stretch,
+    /// The bytes that it stored, or those that it gave to the program.
     pub stored: Stretch,
     /// Whether it did its first step alone.
     pub parked: bool,
@@ -50,43 +54,40 @@ pub(crate) fn serve(
     pages: &mut Pages,
     cpus: &mut Vec<Cpu>,
     written: &mut Vec<u8>,
-    regions: &Regions,
     thread: u32,
     call: Call,
 ) -> Result<Came, StepError>
     requires live { lives_on kernel.old.kernel thread ≡ true }
-    requires regions { regions.now ≡ ranges_in kernel.old.setup kernel.old.kernel }
     requires made { length cpus.old.items ≡ length kernel.old.kernel.lives }
     requires threads { 16 ≤ vec_capacity cpus.old }
     requires room { 4096 ≤ vec_capacity written.old }
     requires empty { written.old.items ≡ [] }
     ensures setup { kernel.new.setup ≡ kernel.old.setup }
-    ensures given { kernel.new.kernel.given ≡ kernel.old.kernel.given }
     ensures made { length cpus.new.items ≡ length kernel.new.kernel.lives }
     ensures threads { vec_capacity cpus.old ≤ vec_capacity cpus.new }
     ensures room { vec_capacity written.old ≤ vec_capacity written.new }
     ensures little { length written.new.items ≤ 4096 }
-    ensures served { IfOk result (λ came. (cpu : CpuSeen) (output : List ℕ) → slice_get cpus.old.items thread ≡ Some cpu → called (machine_with pages.old cpus.old.items kernel.old.kernel output None) cpu (payload_of regions.now (memory_of pages.old.pages) call) (serve_of kernel.old.setup kernel.old.kernel thread call) ≡ Some (machine_with pages.new cpus.new.items kernel.new.kernel (output ++ written.new.items) came.how)) }
+    ensures served { IfOk result (λ came. (cpu : CpuSeen) (output : List ℕ) → slice_get cpus.old.items thread ≡ Some cpu → called (machine_with pages.old cpus.old.items kernel.old.kernel output None) cpu (payload_of (ranges_in kernel.old.setup kernel.old.kernel) (memory_of pages.old.pages) call) (serve_of kernel.old.setup kernel.old.kernel thread call) ≡ Some (machine_with pages.new cpus.new.items kernel.new.kernel (output ++ written.new.items) came.how)) }
     ensures told { IfOk result (Tells (serve_of kernel.old.setup kernel.old.kernel thread call) call) }
+    ensures loaded { IfOk result (TellsLoaded (ranges_in kernel.old.setup kernel.old.kernel) call) }
     ensures refused { IfErr result (RefusesCall (serve_of kernel.old.setup kernel.old.kernel thread call)) }
     ensures kernel { OnErr result (kernel.new ≡ kernel.old) }
     ensures memory { OnErr result (memory_of pages.new.pages ≡ memory_of pages.old.pages) }
     ensures cpus { OnErr result (cpus.new.items ≡ cpus.old.items) }
     ensures nothing { OnErr result (written.new.items ≡ []) }
 {
+    let loaded = payload_of_call(kernel.regions(), call);
     pages.reserve(SPARE_PAGES)?;
     match kernel.serve(thread, call)? {
         Served::Done(effect) => {
-            put_payload(pages, regions, call, written);
+            put_bytes(pages, loaded.place, loaded.count, written);
             apply(pages, cpus, &effect);
             Ok(Came {
                 call,
                 how: None,
                 answer: effect.answer,
-                stored: Stretch {
-                    place: effect.place,
-                    count: effect.bytes.as_slice().len() as u32,
-                },
+                loaded,
+                stored: stored_by(&effect),
                 parked: false,
             })
         }
@@ -94,6 +95,7 @@ pub(crate) fn serve(
             call,
             how: None,
             answer: None,
+            loaded,
             stored: NO_BYTES,
             parked: true,
         }),
@@ -102,21 +104,44 @@ pub(crate) fn serve(
             call,
             how: Some(how),
             answer: None,
+            loaded,
             stored: NO_BYTES,
             parked: false,
         }),
     }
 }
 
-/// Puts the bytes that a call writes to the output into an empty list with room for them.
-fn put_payload(pages: &Pages, regions: &Regions, call: Call, written: &mut Vec<u8>)
-    requires empty { written.old.items ≡ [] }
-    requires room { 4096 ≤ vec_capacity written.old }
-    ensures bytes { written.new.items ≡ payload_of regions.now (memory_of pages.now.pages) call }
-    ensures little { length written.new.items ≤ 4096 }
-    ensures room { vec_capacity written.old ≤ vec_capacity written.new }
+/// The bytes that an effect stores, or those of the range that it gives: it does not do both.
+fn stored_by(effect: &Effect) -> Stretch
+    requires few { length effect.now.bytes ≤ 4096 }
+    requires within { effect.now.place + length effect.now.bytes ≤ 2 ^ 32 }
+    requires alone { IfSome effect.now.range (λ range. (effect.now.bytes ≡ []) × (range.start + range.length ≤ 0x51000000)) }
+    ensures span { (kernel : KernelOf) (a : ℕ) → within (span_of result) a ≡ touches (stored_span (Done kernel effect.now)) a }
+    ensures low { result.place + result.count ≤ 2 ^ 32 + 4096 }
 {
-    put_bytes(pages, call.a1, payload_len(regions, call), written);
+    match effect.range {
+        Some(range) => Stretch {
+            place: range.start,
+            count: range.length,
+        },
+        None => Stretch {
+            place: effect.place,
+            count: effect.bytes.as_slice().len() as u32,
+        },
+    }
+}
+
+/// The bytes that a call puts out.
+fn payload_of_call(regions: &Regions, call: Call) -> Stretch
+    ensures span { (a : ℕ) → within (span_of result) a ≡ touches (payload_span (ranges_of regions.now) call) a }
+    ensures bytes { (memory : Memory) → bytes_at memory result.place result.count ≡ payload_of (ranges_of regions.now) memory call }
+    ensures few { result.count ≤ 4096 }
+    ensures within { 0 < result.count → result.place + result.count ≤ 2 ^ 32 }
+{
+    Stretch {
+        place: call.a1,
+        count: payload_len(regions, call),
+    }
 }
 
 /// Puts so many bytes of memory into an empty list with room for them.

@@ -1,5 +1,5 @@
 //! A thread that takes plain steps in a row, with its registers at hand.
-ghost use Rattle.std.specs.Prelude.{ℕ, ◌≡◌, ◌+◌, ◌*◌, ◌%◌, ◌^◌, ◌≤◌, IfSome, slice_get};
+ghost use Rattle.std.specs.Prelude.{ℕ, ◌≡◌, ◌+◌, ◌*◌, ◌%◌, ◌^◌, ◌<◌, ◌≤◌, IfSome, slice_get};
 ghost use Rattle.ro_decode.specs.Table.{InRange};
 ghost use Rattle.ro_exec.specs.Meaning.{loads, stores};
 ghost use Rattle.ro_exec.specs.Stretches.{IsKept};
@@ -74,6 +74,7 @@ fn stores_of(instr: Instr, registers: &Bank) -> Stretch
     requires { InRange instr }
     ensures bytes { (pc : ℕ) → span_of result ≡ stores instr (record { registers = registers.now; pc = pc }) }
     ensures few { result.count ≤ 4 }
+    ensures at { result.place < 2 ^ 32 }
 {
     match instr {
         Instr::Store { op, rs1, imm, .. } => Stretch {

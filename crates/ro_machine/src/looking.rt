@@ -6,6 +6,7 @@ ghost use Rattle.ro_decode.specs.Table.{InRange};
 ghost use Rattle.ro_exec.specs.Meaning.{loads, stores, load_size as load_size_of, store_size as store_size_of};
 ghost use Rattle.ro_exec.specs.Next.{all_backed, fetch_stop};
 ghost use Rattle.ro_machine.specs.Watched.{LooksAt, span_of};
+ghost use Rattle.ro_region.specs.Permission.{ranges_of};
 
 use crate::watching::{NO_BYTES, Stretch};
 use ro_decode::{Instr, LoadOp, StoreOp, decode};
@@ -34,7 +35,7 @@ pub(crate) const NOTHING_SEEN: Look = Look {
 
 /// Looks at the next step of a thread.
 pub(crate) fn look_ahead(cpu: &Cpu, pages: &Pages, regions: &Regions, calls: &CallTable) -> Look
-    ensures { LooksAt (record { ranges = regions.now; calls = calls.now }) (memory_of pages.now.pages) cpu.now result }
+    ensures { LooksAt (record { ranges = ranges_of regions.now; calls = calls.now }) (memory_of pages.now.pages) cpu.now result }
 {
     if !is_fetched(cpu, regions, calls) {
         return NOTHING_SEEN;
@@ -77,6 +78,7 @@ fn stores_of(instr: Instr, cpu: &Cpu) -> Stretch
     requires { InRange instr }
     ensures bytes { span_of result ≡ stores instr cpu.now }
     ensures few { result.count ≤ 4 }
+    ensures at { result.place < 2 ^ 32 }
 {
     match instr {
         Instr::Store { op, rs1, imm, .. } => Stretch {
@@ -89,7 +91,7 @@ fn stores_of(instr: Instr, cpu: &Cpu) -> Stretch
 
 /// Whether the instruction at pc is read: there is no stop before it.
 fn is_fetched(cpu: &Cpu, regions: &Regions, calls: &CallTable) -> bool
-    ensures fetched { result ≡ is_none (fetch_stop (record { ranges = regions.now; calls = calls.now }) all_backed cpu.now) }
+    ensures fetched { result ≡ is_none (fetch_stop (record { ranges = ranges_of regions.now; calls = calls.now }) all_backed cpu.now) }
     ensures aligned { result ≡ true → cpu.now.pc % 4 ≡ 0 }
 {
     if cpu.pc % 4 != 0 {

@@ -24,7 +24,6 @@ use ro_journal::How;
 use ro_kernel::Kernel;
 use ro_limits::{MOST_BYTES, MOST_THREADS};
 use ro_pages::Pages;
-use ro_region::Regions;
 use ro_replica::{first_cpu, pages_of};
 use ro_thread::{Thread, run};
 use std::alloc::{AllocError, Global};
@@ -42,7 +41,6 @@ pub(crate) const MOST_WRITTEN: usize = MOST_BYTES as usize;
 #[derive(Drop)]
 pub struct Plain {
     image: Arc<Executable>,
-    regions: Arc<Regions>,
     pages: Pages,
     cpus: Vec<Cpu>,
     kernel: Kernel,
@@ -65,7 +63,7 @@ impl Model for Plain {
 
     ghost view = { λ p. record { program = record { image = arc_value p.image; input = p.kernel.setup.input }; held = p.pages; cpus = p.cpus.items; kernel = p.kernel.kernel; ended = p.ended; written = p.written.items } };
 
-    ghost invariant = { λ p. IsWhole (arc_value p.image) (arc_value p.regions) p.kernel p.cpus.items p.written.items (vec_capacity p.cpus) (vec_capacity p.written) };
+    ghost invariant = { λ p. IsWhole (arc_value p.image) p.kernel p.cpus.items p.written.items (vec_capacity p.cpus) (vec_capacity p.written) };
 }
 
 impl Plain {
@@ -78,14 +76,12 @@ impl Plain {
         ensures opening { IfOk result (λ p. machine_of p [] ≡ opening (record { image = arc_value image.now; input = input.now })) }
         ensures written { IfOk result (λ p. p.written ≡ []) }
     {
-        let regions = Arc::new(alloc, Regions::new(alloc, image.ranges())?)?;
         let pages = pages_of(alloc, image.pieces())?;
         let cpus = first_cpus(alloc, image.entry())?;
-        let kernel = Kernel::new(alloc, image.heap(), Arc::try_clone(&regions)?, input)?;
+        let kernel = Kernel::new(alloc, image.heap(), image.ranges(), input)?;
         let written = Vec::with_capacity(alloc, MOST_WRITTEN)?;
         Ok(Plain {
             image: Arc::try_clone(image)?,
-            regions,
             pages,
             cpus,
             kernel,
@@ -148,7 +144,7 @@ impl Plain {
         let look = self.look_at(thread);
         let made = self.kernel.made();
         let went = self.go(thread)?;
-        Ok(told_of(look, went, made, &self.regions))
+        Ok(told_of(look, went, made))
     }
 
     /// Takes the registers of a thread out, for plain steps of it in a row; none where it has no step.
@@ -178,7 +174,12 @@ impl Plain {
     {
         let cpu = self.cpus[thread as usize];
         let mut code = NONE;
-        code.follow(cpu.pc, &self.pages, &self.regions, self.image.calls());
+        code.follow(
+            cpu.pc,
+            &self.pages,
+            self.kernel.regions(),
+            self.image.calls(),
+        );
         Lane {
             thread,
             registers: Bank::new(&cpu.registers),
@@ -211,7 +212,7 @@ impl Plain {
             &mut self.pages,
             &mut lane.reads,
             &mut lane.writes,
-            &self.regions,
+            self.kernel.regions(),
             self.image.calls(),
             &mut lane.code,
             &mut until,
@@ -243,7 +244,7 @@ impl Plain {
         ensures { (cpu : CpuSeen) → slice_get self.now.cpus thread ≡ Some cpu → LooksAt (layout_in self.now.program self.now.kernel) (machine_of self.now []).memory cpu result }
     {
         match self.cpus.get(thread as usize) {
-            Some(cpu) => look_ahead(cpu, &self.pages, &self.regions, self.image.calls()),
+            Some(cpu) => look_ahead(cpu, &self.pages, self.kernel.regions(), self.image.calls()),
             None => NOTHING_SEEN,
         }
     }
@@ -294,7 +295,7 @@ impl Plain {
             &mut running,
             &mut self.pages,
             &mut learnt,
-            &self.regions,
+            self.kernel.regions(),
             self.image.calls(),
             most,
             u32::MAX,
@@ -318,7 +319,7 @@ impl Plain {
         let done = execute(
             &mut self.cpus[thread as usize],
             &mut self.pages,
-            &self.regions,
+            self.kernel.regions(),
             self.image.calls(),
         )?;
         match done {
@@ -346,7 +347,6 @@ impl Plain {
                     &mut self.pages,
                     &mut self.cpus,
                     &mut self.written,
-                    &self.regions,
                     thread,
                     call,
                 )?;

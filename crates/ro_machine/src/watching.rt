@@ -1,19 +1,14 @@
 //! What a step did: which bytes it accessed, and what it means for the order of the threads' steps.
 ghost use Rattle.std.specs.Prelude.{ℕ, ◌≡◌, ◌≤◌, Some, length};
 ghost use Rattle.ro_exec.specs.declared.Cpu.{Cpu as CpuSeen};
-ghost use Rattle.ro_kernel.specs.Kernel.{ranges_in};
 ghost use Rattle.ro_kernel.specs.Serve.{Served};
-ghost use Rattle.ro_plain.specs.Accesses.{touches, payload_span};
 ghost use Rattle.ro_plain.specs.Order.{sync_served};
-ghost use Rattle.ro_plain.specs.Machine.{Program, Machine, setup_of, layout_in, next_of, steppable};
-ghost use Rattle.ro_pages.specs.Bytes.{within};
-ghost use Rattle.ro_machine.specs.Watched.{span_of, sync_of_relation, Tells, LooksAt, TellsNext, Sees};
+ghost use Rattle.ro_plain.specs.Machine.{Program, Machine, layout_in, next_of, steppable};
+ghost use Rattle.ro_machine.specs.Watched.{sync_of_relation, Tells, LooksAt, TellsNext, Sees};
 
 use crate::calls::Came;
 use crate::looking::Look;
-use ro_event::{Call, Function, Which};
-use ro_kernel::payload_len;
-use ro_region::Regions;
+use ro_event::{Function, Which};
 
 /// A stretch of bytes; none where `count` is 0.
 #[derive(Clone, Copy, Debug, PartialEq, Eq)]
@@ -51,7 +46,7 @@ pub struct Watched {
     pub loaded: Stretch,
     /// The bytes of its instruction, where it was read.
     pub code: Stretch,
-    /// The bytes that it stored.
+    /// The bytes that it stored, or those of the range that its call gave, which are zeros from then on.
     pub stored: Stretch,
     pub relation: Relation,
 }
@@ -68,9 +63,9 @@ pub(crate) enum Went {
 }
 
 /// What a step did, by what was known of it before and what it was.
-pub(crate) fn told_of(look: Look, went: Went, made: u32, regions: &Regions) -> Watched
+pub(crate) fn told_of(look: Look, went: Went, made: u32) -> Watched
     requires made { made ≤ 16 }
-    ensures sees { (program : Program) (machine : Machine) (thread : ℕ) (cpu : CpuSeen) → regions.now ≡ ranges_in (setup_of program) machine.kernel → length machine.kernel.lives ≡ made → steppable machine thread ≡ Some cpu → LooksAt (layout_in program machine.kernel) machine.memory cpu look → TellsNext program machine.kernel thread (next_of program machine cpu) went → Sees program machine thread result }
+    ensures sees { (program : Program) (machine : Machine) (thread : ℕ) (cpu : CpuSeen) → length machine.kernel.lives ≡ made → steppable machine thread ≡ Some cpu → LooksAt (layout_in program machine.kernel) machine.memory cpu look → TellsNext program machine.kernel thread (next_of program machine cpu) went → Sees program machine thread result }
 {
     match went {
         Went::Executed => Watched {
@@ -86,22 +81,11 @@ pub(crate) fn told_of(look: Look, went: Went, made: u32, regions: &Regions) -> W
             relation: Relation::Nothing,
         },
         Went::Called(came) => Watched {
-            loaded: payload_of_call(regions, came.call),
+            loaded: came.loaded,
             code: look.code,
             stored: came.stored,
             relation: relation_of(came, made),
         },
-    }
-}
-
-/// The bytes that a call puts out.
-fn payload_of_call(regions: &Regions, call: Call) -> Stretch
-    ensures bytes { (a : ℕ) → within (span_of result) a ≡ touches (payload_span regions.now call) a }
-    ensures few { result.count ≤ 4096 }
-{
-    Stretch {
-        place: call.a1,
-        count: payload_len(regions, call),
     }
 }
 

@@ -1,9 +1,8 @@
 -- Where a sink took a part of the last write nothing is lent, and the journal has no end.
-use Rattle.std.proofs.Common.{◌≡◌, ◌<◌, ℕ, [], Option, Some, None, true, true≢false, sym, ap, ◌∙◌, arith}
-use Rattle.std.specs.Prelude.{IsSome, IfSome}
+use Rattle.std.proofs.Common.{◌≡◌, ◌<◌, ℕ, [], Option, Some, None, sym, ◌∙◌, arith}
+use Rattle.std.specs.Prelude.{IsSome}
 use Rattle.std.proofs.lemmas.Bool.{false≢true}
 use Rattle.ro_journal.specs.Plan.{outcome_of}
-use Rattle.ro_legal.specs.Core.{is_going}
 use Rattle.ro_legal.proofs.Ordered.{going-parts, ordered}
 use Rattle.ro_legal.proofs.Outcomes.{ended_is_outcome}
 use Rattle.ro_core.specs.Fields.{Fields, Holds, core_in}

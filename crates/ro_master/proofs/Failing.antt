@@ -1,23 +1,23 @@
 -- A core whose sink failed: the end by it is due, and all else is as the journal leaves it.
-use Rattle.std.proofs.Common.{◌≡◌, ◌⊎◌, inl, inr, ℕ, ◌+◌, ◌≤◌, Bool, true, false, true≢false, List, [], ◌∷◌, ◌++◌, length, Option, Some, None, refl, sym, ap, ◌∙◌, subst, arith}
+use Rattle.std.proofs.Common.{◌≡◌, ◌⊎◌, inl, inr, ℕ, Bool, true, true≢false, List, [], ◌∷◌, ◌++◌, length, Option, Some, None, refl, sym, ap, ◌∙◌, subst, arith}
 use Rattle.std.specs.Prelude.{◌&&◌, ◌==◌, if◌then◌else◌, is_none, is_some, slice_get}
 use Rattle.std.specs.List.{find}
 use Rattle.ro_journal.specs.declared.How.{How}
-use Rattle.ro_journal.specs.declared.How.TheVariants.{Deadlock, Sink}
+use Rattle.ro_journal.specs.declared.How.TheVariants.{Sink}
 use Rattle.ro_journal.specs.declared.Entry.{Entry}
 use Rattle.ro_journal.specs.declared.Entry.TheVariants.{End}
 use Rattle.ro_replica.specs.Replica.{Replica}
 use Rattle.ro_replica.specs.Seen.{ReplicaOf}
 use Rattle.ro_journal.specs.declared.Lease.{Lease}
 use Rattle.ro_legal.specs.declared.actions.Action.TheVariants.{End as DoEnd, Over}
-use Rattle.ro_legal.specs.Core.{Job, Core, is_going, may_vote, may_free}
+use Rattle.ro_legal.specs.Core.{Job, Core, may_vote, may_free}
 use Rattle.ro_legal.specs.Legal.{MayTake, EndsAlone, after, may_scrub, replay, replay_with, cut_output, output_of}
 use Rattle.ro_legal.specs.Action.{next_action}
 use Rattle.ro_legal.proofs.Journals.{replay_more}
 use Rattle.ro_legal.proofs.Nexts.{end_is}
 use Rattle.ro_legal.proofs.Ordered.{going-parts}
 use Rattle.ro_core.specs.declared.cores.Core.{Core as Run}
-use Rattle.ro_core.specs.Seen.{sent_of, EndsNow, HasRoom, IsLent, MayReturn, ReturnIs, Quiet, Stays}
+use Rattle.ro_core.specs.Seen.{sent_of, EndsNow, HasRoom, IsOfJob, IsLent, MayReturn, ReturnIs, Quiet, Stays}
 use Rattle.ro_core.specs.Fields.{Fields, Holds, core_in}
 use Rattle.ro_master.specs.Sessions.{Cuts}
 use Rattle.ro_core.specs.Runs.{fields_of, job_of, core_of, silent}
@@ -32,6 +32,10 @@ module _ (job : Job) (journal : List Entry) where
   pub with-replicas : (failed : Option ℕ) → (replay_with job journal failed).replicas ≡ (replay job journal).replicas
   with-replicas None = refl
   with-replicas (Some n) = refl
+
+  pub with-kernel : (failed : Option ℕ) → (replay_with job journal failed).kernel ≡ (replay job journal).kernel
+  with-kernel None = refl
+  with-kernel (Some n) = refl
 
   pub with-ended : (failed : Option ℕ) → (replay_with job journal failed).ended ≡ (replay job journal).ended
   with-ended None = refl
@@ -142,7 +146,7 @@ module _ (r : Run) (failed : Option ℕ) (held : Option (List ℕ)) (failures su
 
   pub lent-with : (number thread : ℕ) (value : ReplicaOf) → IsLent (silent r) number thread value → IsLent (core_of (fields_of r) failed held failures sure) number thread value
   lent-with number thread value l = record {
-    program = l.program;
+    program = subst (λ k. IsOfJob (job_of r) k value) (sym (with-kernel (job_of r) r.journal.items failed)) l.program;
     replica = ap (λ (rs : List Replica). slice_get rs number) (with-replicas (job_of r) r.journal.items failed) ∙ l.replica;
     going = l.going;
     countable = l.countable;

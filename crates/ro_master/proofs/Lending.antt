@@ -10,12 +10,11 @@ use Rattle.ro_exec.specs.Next.{Layout}
 use Rattle.ro_thread.specs.declared.Thread.{Thread}
 use Rattle.ro_replica.specs.Replica.{Replica, changed_at}
 use Rattle.ro_replica.specs.Runs.{RanTo, run_of, with_stop, standing_at}
-use Rattle.ro_replica.specs.Seen.{ReplicaOf, replica_of, SameProgram, Runs, first_layout}
+use Rattle.ro_replica.specs.Seen.{ReplicaOf, replica_of, SameProgram, Runs}
 use Rattle.ro_journal.specs.declared.Lease.{Lease}
 use Rattle.ro_legal.specs.Core.{Job, Core, lease_of}
 use Rattle.ro_legal.specs.Legal.{MayPut, arrived, arrival, lease_run, after}
 use Rattle.ro_legal.specs.Laws.{HasLease}
-use Rattle.ro_legal.proofs.Ungiven.{layout-first-with}
 use Rattle.ro_core.specs.Seen.{CoreOf, state, IsOfJob, MayReturn}
 use Rattle.ro_core.proofs.Lending.{put_became, out_found}
 
@@ -48,15 +47,16 @@ returns_out core driver count hit value m =
     (there.0, record { held = m.held; there = there.1; not_ended = m.allowed.not_ended })
 
 -- and may be given back to any core in which the lease is out with that replica
-pub out_returns : (one other : CoreOf) (driver count hit : ℕ) (value : ReplicaOf) (m : MayReturn one driver value count hit) (r : Replica) → other.job ≡ one.job → slice_get (state one).replicas m.lease.replica ≡ Some r → HasLease (state other) driver m.lease r
+pub out_returns : (one other : CoreOf) (driver count hit : ℕ) (value : ReplicaOf) (m : MayReturn one driver value count hit) (r : Replica) → other.job ≡ one.job → (state other).kernel ≡ (state one).kernel → slice_get (state one).replicas m.lease.replica ≡ Some r → HasLease (state other) driver m.lease r
     → (k : MayReturn other driver value count hit) × (k.lease ≡ m.lease)
-out_returns one other driver count hit value m r job there out = (
+out_returns one other driver count hit value m r job kernel there out = (
   record {
     lease = lease;
     held = out.held;
     allowed = subst (λ (j : Job). MayPut j (state other) lease count hit) (sym job) may;
     program = record {
-      layout = m.program.layout ∙ sym (ap (λ (j : Job). first_layout j.program.image) job);
+      layout = m.program.layout ∙ sym laid ∙ sym (ap (λ (j : Job). layout_in j.program (state other).kernel) job);
+      given = m.program.given ∙ sym (ap (λ k. k.given) kernel);
       watchdog = m.program.watchdog ∙ sym (ap (λ (j : Job). j.settings.watchdog) job);
     };
     became = ap (λ (j : Job). slice_get (after j (state other) (Put lease count hit)).replicas lease.replica) job
@@ -73,9 +73,7 @@ out_returns one other driver count hit value m r job there out = (
 
     -- what addresses mean is what it was when the lease went out
     laid : layout_in one.job.program (state other).kernel ≡ layout_in one.job.program (state one).kernel
-    laid =
-        subst (λ (j : Job). layout_in j.program (state other).kernel ≡ first_layout j.program.image) job (layout-first-with other.job other.journal other.failed)
-        ∙ sym (layout-first-with one.job one.journal one.failed)
+    laid = ap (layout_in one.job.program) kernel
 
     runs : lease_run one.job (state other) lease count ≡ Some m.allowed.ran
     runs = same_run one.job (state other) (state one) lease count laid (out.there ∙ sym there) ∙ m.allowed.runs
@@ -97,14 +95,14 @@ abbrev pub lending : Core → Lease → Core
 lending core lease = record core { leases = lease ∷ core.leases; wrote = 0 }
 
 module _ (job : Job) (start : Core) (lease : Lease) (quantum count hit : ℕ) (lent value : ReplicaOf) (stop : Option Stop)
-    (alive : start.ended ≡ None) (there : slice_get start.replicas lease.replica ≡ Some (replica_of lent)) (program : IsOfJob job lent) (laid : lent.layout ≡ layout_in job.program start.kernel)
+    (alive : start.ended ≡ None) (there : slice_get start.replicas lease.replica ≡ Some (replica_of lent)) (program : IsOfJob job start.kernel lent)
     (same : SameProgram value lent) (quantum_is : quantum ≡ job.settings.quantum)
     (runs : Runs lent.layout lent.watchdog quantum lease.thread (replica_of lent) (replica_of value) count hit stop) where
   job_runs : Runs (layout_in job.program start.kernel) job.settings.watchdog job.settings.quantum lease.thread (replica_of lent) (replica_of value) count hit stop
   job_runs =
       subst (λ (n : ℕ). Runs (layout_in job.program start.kernel) job.settings.watchdog n lease.thread (replica_of lent) (replica_of value) count hit stop) quantum_is
       (subst (λ (w : ℕ). Runs (layout_in job.program start.kernel) w quantum lease.thread (replica_of lent) (replica_of value) count hit stop) program.watchdog
-      (subst (λ (l : Layout). Runs l lent.watchdog quantum lease.thread (replica_of lent) (replica_of value) count hit stop) laid runs))
+      (subst (λ (l : Layout). Runs l lent.watchdog quantum lease.thread (replica_of lent) (replica_of value) count hit stop) program.layout runs))
 
   lease_runs : lease_run job (lending start lease) lease count ≡ Some job_runs.end
   lease_runs = ap (option_and_then (λ r. run_of (layout_in job.program start.kernel) job.settings.watchdog count r lease.thread)) there ∙ job_runs.runs
@@ -141,7 +139,8 @@ module _ (job : Job) (start : Core) (lease : Lease) (quantum count hit : ℕ) (l
       held = ap (λ (c : Core). lease_of c lease.driver) at ∙ lent_held;
       allowed = subst (λ (j : Job). MayPut j (state core) lease count hit) (sym job_is) (subst (λ (c : Core). MayPut job c lease count hit) (sym at) lent_may_put);
       program = record {
-        layout = same.layout ∙ program.layout ∙ sym (ap (λ (j : Job). first_layout j.program.image) job_is);
+        layout = same.layout ∙ program.layout ∙ sym (ap₂ (λ (j : Job) (c : Core). layout_in j.program c.kernel) job_is at);
+        given = same.given ∙ program.given ∙ sym (ap (λ (c : Core). c.kernel.given) at);
         watchdog = same.watchdog ∙ program.watchdog ∙ sym (ap (λ (j : Job). j.settings.watchdog) job_is);
       };
       became = ap (λ (j : Job). slice_get (after j (state core) (Put lease count hit)).replicas lease.replica) job_is

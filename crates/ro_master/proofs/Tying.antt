@@ -15,7 +15,7 @@ use Rattle.ro_journal.specs.Leases.{lease_to}
 use Rattle.ro_legal.specs.Core.{Job, Core, is_going, is_idle, is_lendable, lease_of, views_of}
 use Rattle.ro_legal.specs.Legal.{IsAllowed, MayTake, after, Legal, replay, replay_with}
 use Rattle.ro_legal.specs.Action.{next_action, IsNext}
-use Rattle.ro_core.specs.Seen.{CoreOf, state, Appends, Quiet, Sends, Stays, MayReturn, ReturnIs}
+use Rattle.ro_core.specs.Seen.{CoreOf, state, Appends, Quiet, Sends, Stays, IsOfJob, MayReturn, ReturnIs}
 use Rattle.ro_legal.specs.Decides.{DecidesVote, DecidesFree, DecidesScrub, IsSplit}
 use Rattle.ro_legal.proofs.Journals.{replay_more}
 use Rattle.ro_legal.proofs.Outcomes.{ended_is_outcome}
@@ -36,7 +36,6 @@ use Rattle.ro_master.proofs.Deciding.{vote_going, vote_calm, free_going, free_ca
 use Rattle.ro_master.proofs.LastViews.{going_open, none_last, more_open, stays_open, voted_last, freed_last, scrubbed_last, end_open, end_last}
 use Rattle.ro_legal.proofs.Leases.{one_each}
 use Rattle.ro_legal.proofs.Lasting.{idle_after_put, idle_after}
-use Rattle.ro_legal.proofs.Ungiven.{layout-first}
 use Rattle.ro_master.proofs.Lending.{lending, lent_returns}
 use Rattle.ro_master.proofs.Leases.{still_idle, still_returns, owned_snoc, within_snoc, journal_snoc}
 
@@ -283,7 +282,7 @@ lease_rests start old new p q replica thread lent t next m is back gives =
         lent_returns core.job (replay core.job core.journal) lease lent.quantum back.ran.count back.ran.hit lent.replica back.replica back.ran.stop
         (ap (λ (c : Core). c.ended) (sym at) ∙ (going-parts (state core) parts.0).1)
         (ap (λ (c : Core). slice_get c.replicas replica) (sym at) ∙ is.lends.replica)
-        is.lends.program (is.lends.program.layout ∙ sym (layout-first core.job core.journal)) gives.program is.quantum
+        (subst (λ (c : Core). IsOfJob core.job c.kernel lent.replica) at is.lends.program) gives.program is.quantum
         (subst (λ (l : Lease). Runs lent.replica.layout lent.replica.watchdog lent.quantum l.thread (replica_of lent.replica) (replica_of back.replica) back.ran.count back.ran.hit back.ran.stop) is.lease gives.runs)
         (seen_core core.job q') refl seen
 

@@ -1,5 +1,5 @@
 -- A wait ends by a signal or a broadcast behind its beginning.
-use Rattle.std.specs.Prelude.{◌≡◌, ◌⊎◌, ℕ, zero, suc, ◌+◌, Bool, true, false, cond, List, [], ◌∷◌, ◌++◌, length, take, Some, None, slice_get, ◌==◌}
+use Rattle.std.specs.Prelude.{◌≡◌, ◌⊎◌, ℕ, zero, suc, Bool, true, false, cond, List, [], ◌∷◌, ◌++◌, length, take, Some, None, slice_get, ◌==◌}
 use Rattle.std.specs.Option.{option_and_then}
 use Rattle.std.proofs.Common.{refl, sym, ap, ◌∙◌, subst, inl, inr}
 use Rattle.std.proofs.lemmas.Bool.{false≢true, eqb-true, and_parts}
@@ -17,7 +17,7 @@ use Rattle.ro_condition.specs.declared.waiters.Waiter.{Waiter}
 use Rattle.ro_condition.specs.Waiters.{wait_of, waits_for, without, woken, with_signal, with_broadcast}
 use Rattle.ro_kernel.specs.Kernel.{Setup, Kernel}
 use Rattle.ro_kernel.specs.Serve.{Served, Done, Parked, Blocked, Ends, serve}
-use Rattle.ro_kernel.proofs.Shapes.{IsWaking, wakes_first, wakes_all, Shape, says, reads, breaks, owns, wakes, parks_at, resumes, makes, joins, leaves, waits, stops, stops_last, shape-of}
+use Rattle.ro_kernel.proofs.Shapes.{IsWaking, wakes_first, wakes_all, Shape, says, reads, breaks, maps_more, owns, wakes, parks_at, resumes, makes, joins, leaves, waits, stops, stops_last, shape-of}
 use Rattle.ro_kernel.proofs.Waiting.{wait-ended-well}
 use Rattle.ro_plain.specs.Machine.{Program, setup_of, Machine, opening, called, step_by, next_of, steppable, step, run, payload_in}
 use Rattle.ro_plain.proofs.Calls.{some-injective, slice_get-append}
@@ -116,6 +116,7 @@ module _ (setup : Setup) (kernel : Kernel) (u : ℕ) (call : Call) where
   waiters-of (says value) = same_waiters refl
   waiters-of (reads number e xs h) = same_waiters refl
   waiters-of (breaks e end) = same_waiters refl
+  waiters-of (maps_more e some room) = same_waiters refl
   waiters-of (owns on fit owner) = same_waiters refl
   waiters-of (wakes ws w) = woken_waiters w
   waiters-of (parks_at w e h) = one_more refl

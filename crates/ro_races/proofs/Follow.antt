@@ -24,7 +24,7 @@ use Rattle.ro_races.specs.declared.found.Found.TheVariants.{NoRace, Pair}
 use Rattle.ro_races.specs.declared.checking.Checker.{Checker}
 use Rattle.ro_races.specs.First.{IsRace}
 use Rattle.ro_races.specs.Clocks.{Clock as ClockOf, IsStepped, learns_from, passes_to, Knows, UpTo, Feeds, Past, PastOf}
-use Rattle.ro_races.specs.Seen.{seen_by, is_source, known_by, Keeps, Passes, IsPast, PassesOn}
+use Rattle.ro_races.specs.Seen.{seen_by, is_source, known_by, Keeps, IsPast, PassesOn}
 use Rattle.ro_races.specs.Shadows.{Shadow, marks_at, Marks, IsHit, IsFirstOf, AnyHit}
 use Rattle.ro_races.specs.Follows.{MarkedBy, IsFoundIn, Follows, notes, LacksStep}
 use Rattle.ro_races.proofs.Before.{before-is, fed, feeds-own, feeds-passed}

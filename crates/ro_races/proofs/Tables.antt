@@ -1,8 +1,8 @@
 -- Tables of marks.
-use Rattle.std.specs.Prelude.{◌≡◌, ◌≢◌, ℕ, zero, suc, ◌+◌, ◌/◌, ◌%◌, ◌<◌, ◌≤◌, ◌⊎◌, ◌==◌, ◌||◌, nat_le, nat_lt, Bool, true, false, if◌then◌else◌, List, [], ◌∷◌, ◌++◌, length, Option, Some, None, Vec, vec_len, slice_get, slice_index_or, slice_set, replicate}
+use Rattle.std.specs.Prelude.{◌≡◌, ◌≢◌, ℕ, zero, suc, ◌+◌, ◌-◌, ◌/◌, ◌%◌, ◌<◌, ◌≤◌, ◌⊎◌, ◌==◌, ◌||◌, nat_le, nat_lt, Bool, true, false, if◌then◌else◌, List, [], ◌∷◌, ◌++◌, length, Option, Some, None, Vec, slice_get, slice_index_or, slice_set, replicate}
 use Rattle.std.specs.Vec.{with_item}
 use Rattle.std.specs.declared.alloc.Global.{Global}
-use Rattle.std.proofs.Common.{refl, sym, ap, ◌∙◌, subst, arith, inl, inr, ⊎_elim, get_or-set_other, get_or-set_same}
+use Rattle.std.proofs.Common.{refl, sym, ap, ap₂, ◌∙◌, subst, arith, inl, inr, ⊎_elim, get_or-set_other, get_or-set_same}
 use Rattle.std.proofs.lemmas.Bool.{true≢false, false≢true, eqb-true, leb-true, ltb-true, lt-ltb, and_parts, and_from}
 use Rattle.std.proofs.lemmas.List.{length-set}
 use Rattle.std.proofs.lemmas.Option.{get_or_from_slice_get, slice_get-get_or, slice_get_read}
@@ -26,6 +26,13 @@ eq-told a b = by (a == b) refl
 
 pub below-unless : (a b : ℕ) → a ≤ b → (a ≡ b → ⊥) → a < b
 below-unless a b le n = grind (arith, le, n)
+
+pub below-or : (m x : ℕ) → (x < m) ⊎ (m ≤ x)
+below-or m x = by (nat_lt x m) refl
+  where
+    by : (b : Bool) → nat_lt x m ≡ b → (x < m) ⊎ (m ≤ x)
+    by true e = inl (ltb-true x m e)
+    by false e = inr (grind (arith, e))
 
 pub same-bool : (a b : Bool) → (a ≡ true → b ≡ true) → (b ≡ true → a ≡ true) → a ≡ b
 same-bool true b f g = sym (f refl)
@@ -57,18 +64,19 @@ or-right : (a b : Bool) → b ≡ true → (a || b) ≡ true
 or-right true b h = refl
 or-right false b h = h
 
--- a stretch of one byte more
-pub one-more : (p k x : ℕ) → within (record { place = p; count = k + 1 }) x ≡ (within (record { place = p; count = k }) x || within (record { place = p + k; count = 1 }) x)
-one-more p k x =
-    let whole : Span = record { place = p; count = k + 1 } in
+-- a stretch of some bytes more
+pub some-more : (p k n x : ℕ) → within (record { place = p; count = k + n }) x ≡ (within (record { place = p; count = k }) x || within (record { place = p + k; count = n }) x)
+some-more p k n x =
+    let whole : Span = record { place = p; count = k + n } in
     let front : Span = record { place = p; count = k } in
-    let last : Span = record { place = p + k; count = 1 } in
+    let last : Span = record { place = p + k; count = n } in
     same-bool (within whole x) (within front x || within last x)
-    (λ h. let b = bounds whole x h in ⊎_elim (λ e. or-right (within front x) (within last x) (in-span last x (omega arith) (omega arith))) (λ n. or-left (within front x) (within last x) (in-span front x b.0 (below b.1 n))) (eq-told x (p + k)))
+    (λ h. let b = bounds whole x h in ⊎_elim (λ e. or-left (within front x) (within last x) (in-span front x b.0 e)) (λ e. or-right (within front x) (within last x) (in-span last x e (let c = b.1 in omega arith))) (below-or (p + k) x))
     (λ h. ⊎_elim (λ f. let b = bounds front x f in in-span whole x b.0 (omega (arith, b.1))) (λ l. let b = bounds last x l in in-span whole x (omega (arith, b.0)) (omega (arith, b.1))) (or-either (within front x) (within last x) h))
-  where
-    below : x < p + (k + 1) → x ≢ p + k → x < p + k
-    below less ne = grind (arith, less, ne)
+
+-- of one byte more
+pub one-more : (p k x : ℕ) → within (record { place = p; count = k + 1 }) x ≡ (within (record { place = p; count = k }) x || within (record { place = p + k; count = 1 }) x)
+one-more p k x = some-more p k 1 x
 
 -- ---- marks of two stretches
 
@@ -115,6 +123,11 @@ pub get_or-replicate : {X : Type 0} (n i : ℕ) (x : X) → slice_index_or (repl
 get_or-replicate zero i x = refl
 get_or-replicate (suc n) zero x = refl
 get_or-replicate (suc n) (suc i) x = get_or-replicate n i x
+
+replicate-in : {X : Type 0} (n i : ℕ) (x d : X) → i < n → slice_index_or (replicate n x) i d ≡ x
+replicate-in zero i x d less = absurd (omega arith)
+replicate-in (suc n) zero x d less = refl
+replicate-in (suc n) (suc i) x d less = replicate-in n i x d (omega arith)
 
 length-same : {X : Type 0} (n : ℕ) (x : X) → length (replicate n x) ≡ n
 length-same zero x = refl
@@ -239,15 +252,31 @@ module _ (table : Shadow) (page : ℕ) (second : Vec (Vec Clock Global) Global) 
 pub page-kept : (xs : List Clock) (i : ℕ) (c : Clock) → IsPage xs → IsPage (slice_set xs i c)
 page-kept xs i c (inl e) = inl (ap (λ (l : List Clock). slice_set l i c) e)
 page-kept xs i c (inr (inl e)) = inr (inl (length-set xs i c ∙ e))
-page-kept xs i c (inr (inr e)) = inr (inr (length-set xs i c ∙ e))
+page-kept xs i c (inr (inr (inl e))) = inr (inr (inl (length-set xs i c ∙ e)))
+page-kept xs i c (inr (inr (inr e))) = inr (inr (inr (length-set xs i c ∙ e)))
 
 -- ---- marks by pages
 
 pub words-at : (xs : List Clock) (o : ℕ) → length xs ≡ 1024 → clock_at xs o ≡ slice_index_or xs (o / 4) no_marks
-words-at xs o e = let f : (length xs == 1024) ≡ true = grind (arith, e) in ap (λ (b : Bool). slice_index_or xs (if b then o / 4 else o) no_marks) f
+words-at xs o e = let f : (length xs == 1024) ≡ true = grind (arith, e) in ap (λ (b : Bool). slice_index_or xs (if b then o / 4 else if length xs == 1 then 0 else o) no_marks) f
 
 pub bytes-at : (xs : List Clock) (o : ℕ) → length xs ≡ 4096 → clock_at xs o ≡ slice_index_or xs o no_marks
-bytes-at xs o e = let f : (length xs == 1024) ≡ false = grind (arith, e) in ap (λ (b : Bool). slice_index_or xs (if b then o / 4 else o) no_marks) f
+bytes-at xs o e =
+    let f : (length xs == 1024) ≡ false = grind (arith, e) in
+    let g : (length xs == 1) ≡ false = grind (arith, e) in
+    ap₂ (λ (b d : Bool). slice_index_or xs (if b then o / 4 else if d then 0 else o) no_marks) f g
+
+pub one-at : (xs : List Clock) (o : ℕ) → length xs ≡ 1 → clock_at xs o ≡ slice_index_or xs 0 no_marks
+one-at xs o e =
+    let f : (length xs == 1024) ≡ false = grind (arith, e) in
+    let g : (length xs == 1) ≡ true = grind (arith, e) in
+    ap₂ (λ (b d : Bool). slice_index_or xs (if b then o / 4 else if d then 0 else o) no_marks) f g
+
+-- all bytes of a page that has one clock or none are alike
+pub few-at : (xs : List Clock) (o p : ℕ) → length xs ≤ 1 → clock_at xs o ≡ clock_at xs p
+few-at [] o p h = refl
+few-at (x ∷ []) o p h = refl
+few-at (x ∷ y ∷ xs) o p h = absurd (omega arith)
 
 pub marks-same : (old new : Shadow) (page : ℕ) (clocks : List Clock) → Changes old page clocks new → ((o : ℕ) → o < 4096 → clock_at clocks o ≡ clock_at (page_at old page) o) → (x u : ℕ) → marks_at new x u ≡ marks_at old x u
 marks-same old new page clocks changes same x u = ⊎_elim here (λ n. ap (λ xs. seen_by (clock_at xs (x % 4096)) u) (changes.others (x / 4096) n)) (eq-told (x / 4096) page)
@@ -258,15 +287,27 @@ marks-same old new page clocks changes same x u = ⊎_elim here (λ n. ap (λ xs
         ∙ (ap (λ c. seen_by c u) (same (x % 4096) (small-rest x))
         ∙ ap (λ xs. seen_by (clock_at xs (x % 4096)) u) (ap (page_at old) (sym e)))
 
-pub fresh-clocks : (xs ys : List Clock) (o : ℕ) → ys ≡ [] → xs ≡ replicate 1024 no_marks → clock_at xs o ≡ clock_at ys o
-fresh-clocks xs ys o none fresh =
-    words-at xs o (ap length fresh ∙ length-same 1024 no_marks)
-    ∙ (ap (λ (l : List Clock). slice_index_or l (o / 4) no_marks) fresh
-    ∙ (get_or-replicate 1024 (o / 4) no_marks
-    ∙ sym (ap (λ (l : List Clock). clock_at l o) none)))
+-- clocks for the words of a page that had one or none
+pub spread-clocks : (xs ys : List Clock) (o : ℕ) → o < 4096 → length ys ≤ 1 → xs ≡ replicate 1024 (clock_at ys 0) → clock_at xs o ≡ clock_at ys o
+spread-clocks xs ys o less few spread =
+    words-at xs o (ap length spread ∙ length-same 1024 (clock_at ys 0))
+    ∙ (ap (λ (l : List Clock). slice_index_or l (o / 4) no_marks) spread
+    ∙ (replicate-in 1024 (o / 4) (clock_at ys 0) no_marks (omega (arith, less))
+    ∙ few-at ys 0 o few))
 
-pub fresh-page : (xs : List Clock) → xs ≡ replicate 1024 no_marks → length xs ≡ 1024
-fresh-page xs fresh = ap length fresh ∙ length-same 1024 no_marks
+-- one clock for a page that had none
+pub cover-clocks : (xs ys : List Clock) (o : ℕ) → ys ≡ [] → xs ≡ replicate 1 no_marks → clock_at xs o ≡ clock_at ys o
+cover-clocks xs ys o none fresh = ap (λ (l : List Clock). clock_at l o) fresh ∙ sym (ap (λ (l : List Clock). clock_at l o) none)
+
+pub replicate-long : (n : ℕ) (xs : List Clock) (c : Clock) → xs ≡ replicate n c → length xs ≡ n
+replicate-long n xs c e = ap length e ∙ length-same n c
+
+-- a page of more than one clock has them for its words or its bytes
+pub page-long : (xs : List Clock) → IsPage xs → 1 < length xs → (length xs ≡ 1024) ⊎ (length xs ≡ 4096)
+page-long xs (inl e) h = absurd (let f : length xs ≡ 0 = ap length e in omega (arith, f, h))
+page-long xs (inr (inl e)) h = inl e
+page-long xs (inr (inr (inl e))) h = inr e
+page-long xs (inr (inr (inr e))) h = absurd (omega (arith, e, h))
 
 module _ (old new : Shadow) (page index t p : ℕ) (a : Advances old page index t p new) (less : index < length (page_at old page)) (place : ℕ → ℕ) (reads : (xs : List Clock) (o : ℕ) → length xs ≡ length (page_at old page) → clock_at xs o ≡ slice_index_or xs (place o) no_marks) where
   read-old : (x u : ℕ) → x / 4096 ≡ page → marks_at old x u ≡ seen_by (slice_index_or (page_at old page) (place (x % 4096)) no_marks) u
@@ -317,19 +358,35 @@ byte-marked old new a t p bytes advances =
       outside = λ x h u. off-index old new (a / 4096) (a % 4096) t p advances less (λ o. o) reads x u (λ e f. let same = byte-is a x e f in true≢false (sym (in-span span x (omega (arith, same)) (omega (arith, same))) ∙ h));
     }
 
+-- all bytes of a page that has one clock
+page-in : (a x : ℕ) → a % 4096 ≡ 0 → a ≤ x → x < a + 4096 → x / 4096 ≡ a / 4096
+page-in a x e low high = omega (arith, e, low, high)
+
+page-out : (a x : ℕ) → a % 4096 ≡ 0 → x / 4096 ≡ a / 4096 → (a ≤ x) × (x < a + 4096)
+page-out a x e f = (omega (arith, e, f), omega (arith, e, f))
+
+pub page-marked : (old new : Shadow) (a t p : ℕ) → a % 4096 ≡ 0 → length (page_at old (a / 4096)) ≡ 1 → Advances old (a / 4096) 0 t p new → Marks old (record { place = a; count = 4096 }) t p new
+page-marked old new a t p aligned one advances =
+    let less : 0 < length (page_at old (a / 4096)) = omega (arith, one) in
+    let reads : (xs : List Clock) (o : ℕ) → length xs ≡ length (page_at old (a / 4096)) → clock_at xs o ≡ slice_index_or xs 0 no_marks = (λ xs o e. one-at xs o (e ∙ one)) in
+    let span : Span = record { place = a; count = 4096 } in
+    record {
+      inside = λ x h. let b = bounds span x h in at-index old new (a / 4096) 0 t p advances less (λ o. 0) reads x (page-in a x aligned b.0 b.1) refl;
+      outside = λ x h u. off-index old new (a / 4096) 0 t p advances less (λ o. 0) reads x u (λ e f. let w = page-out a x aligned e in true≢false (sym (in-span span x w.0 w.1) ∙ h));
+    }
+
+-- bytes of a page that has one clock or none
+pub marks-alike : (table : Shadow) (a x u : ℕ) → length (page_at table (a / 4096)) ≤ 1 → a ≤ x → x < a + (4096 - a % 4096) → marks_at table x u ≡ marks_at table a u
+marks-alike table a x u few low high =
+    let same : x / 4096 ≡ a / 4096 = omega (arith, low, high) in
+    ap (λ p. seen_by (clock_at (page_at table p) (x % 4096)) u) same ∙ ap (λ c. seen_by c u) (few-at (page_at table (a / 4096)) (x % 4096) (a % 4096) few)
+
 -- ---- hits
 
 module _ (table : Shadow) (place k : ℕ) (past : ClockOf) (none : (mark byte : ℕ) → IsHit table (record { place = place; count = k }) past mark byte → ⊥) (result : ℕ) (above : (thread : ℕ) → (marks_at table (place + k) thread ≤ past thread) ⊎ (marks_at table (place + k) thread ≤ result)) where
   -- a hit that is not among the first bytes is further on
   later-hit : (n mark byte : ℕ) → IsHit table (record { place = place; count = n }) past mark byte → place + k ≤ byte
   later-hit n mark byte h = ⊎_elim (λ less. absurd (none mark byte (record { thread = h.thread; at = in-span (record { place = place; count = k }) byte (bounds (record { place = place; count = n }) byte h.at).0 less; mark_is = h.mark_is; beyond = h.beyond }))) (λ e. e) (below-or (place + k) byte)
-    where
-      below-or : (m x : ℕ) → (x < m) ⊎ (m ≤ x)
-      below-or m x = by (nat_lt x m) refl
-        where
-          by : (b : Bool) → nat_lt x m ≡ b → (x < m) ⊎ (m ≤ x)
-          by true e = inl (ltb-true x m e)
-          by false e = inr (grind (arith, e))
 
   -- its mark is no more than the greatest
   no-more : (span : Span) (mark byte : ℕ) → IsHit table span past mark byte → byte ≡ place + k → mark ≤ result
@@ -338,14 +395,13 @@ module _ (table : Shadow) (place k : ℕ) (past : ClockOf) (none : (mark byte : 
       let beyond = h.beyond in
       ⊎_elim (λ low. absurd (omega (arith, low, is, beyond))) (λ low. omega (arith, low, is)) (above h.thread)
 
-  pub none-there : result ≤ 0 → (mark byte : ℕ) → IsHit table (record { place = place; count = k + 1 }) past mark byte → ⊥
-  none-there small mark byte h =
-      let low = later-hit (k + 1) mark byte h in
-      let high = (bounds (record { place = place; count = k + 1 }) byte h.at).1 in
-      let same : byte ≡ place + k = omega (arith, low, high) in
-      let less = no-more (record { place = place; count = k + 1 }) mark byte h same in
+  pub none-there : (n : ℕ) → ((x thread : ℕ) → place + k ≤ x → x < place + k + n → marks_at table x thread ≡ marks_at table (place + k) thread) → result ≤ 0 → (mark byte : ℕ) → IsHit table (record { place = place; count = k + n }) past mark byte → ⊥
+  none-there n alike small mark byte h =
+      let low = later-hit (k + n) mark byte h in
+      let high = (bounds (record { place = place; count = k + n }) byte h.at).1 in
+      let is : mark ≡ marks_at table (place + k) h.thread = h.mark_is ∙ alike byte h.thread low (omega (arith, high)) in
       let beyond = h.beyond in
-      omega (arith, less, small, beyond)
+      ⊎_elim (λ less. omega (arith, less, is, beyond)) (λ less. omega (arith, less, is, small, beyond)) (above h.thread)
 
   pub first-there : (count : ℕ) → k < count → 0 < result → (result ≡ 0) ⊎ ((thread : ℕ) × (result ≡ marks_at table (place + k) thread) × (past thread < result))
       → IsHit table (record { place = place; count = count }) past result (place + k) × ((mark byte : ℕ) → IsHit table (record { place = place; count = count }) past mark byte → (place + k < byte) ⊎ ((place + k ≡ byte) × (mark ≤ result)))

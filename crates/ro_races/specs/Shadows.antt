@@ -28,17 +28,17 @@ page_at table page = clocks_in (slice_get (pages_in (slice_get table (page / 102
 abbrev pub no_marks : Clock
 no_marks = record { seen = replicate 16 0 }
 
--- the clock of a byte of a page that has one for each word, or one for each byte
+-- the clock of a byte of a page that has one for each word, or one for all its bytes, or one for each byte
 abbrev pub clock_at : List Clock → (offset : ℕ) → Clock
-clock_at clocks offset = slice_index_or clocks (if length clocks == 1024 then offset / 4 else offset) no_marks
+clock_at clocks offset = slice_index_or clocks (if length clocks == 1024 then offset / 4 else if length clocks == 1 then 0 else offset) no_marks
 
 -- how far each thread has marked a byte
 abbrev pub marks_at : Shadow → (byte : ℕ) → ClockOf
 marks_at table byte = seen_by (clock_at (page_at table (byte / 4096)) (byte % 4096))
 
--- a page has no clocks, or one for each word, or one for each byte
+-- a page has no clocks, or one for all its bytes, or one for each word, or one for each byte
 abbrev pub IsPage : List Clock → Type 0
-IsPage clocks = (clocks ≡ []) ⊎ ((length clocks ≡ 1024) ⊎ (length clocks ≡ 4096))
+IsPage clocks = (clocks ≡ []) ⊎ ((length clocks ≡ 1024) ⊎ ((length clocks ≡ 4096) ⊎ (length clocks ≡ 1)))
 
 -- so many second tables, each of them empty or whole
 pub record IsTable (table : Shadow) : Type 0 where
@@ -50,7 +50,7 @@ pub record IsTable (table : Shadow) : Type 0 where
 abbrev pub HasSecond : Shadow → ℕ → Type 0
 HasSecond table k = length (pages_in (slice_get table k)) ≡ 1024
 
--- the page has clocks
+-- the page has clocks for its words or its bytes
 abbrev pub IsMade : Shadow → (page : ℕ) → Type 0
 IsMade table page = (length (page_at table page) ≡ 1024) ⊎ (length (page_at table page) ≡ 4096)
 

@@ -137,9 +137,11 @@ fn hit_of(reads: &Table, writes: &Table, watched: &Watched, past: &Clock) -> Opt
     requires writes { IsTable writes.now.items }
     requires loaded { watched.now.loaded.count ≤ 4096 }
     requires code { watched.now.code.count ≤ 4096 }
-    requires stored { watched.now.stored.count ≤ 4096 }
+    requires stored { watched.now.stored.place + watched.now.stored.count ≤ 2 ^ 32 + 4096 }
     ensures { IsFirstOf (AnyHit reads.now.items writes.now.items watched.now (seen_by past.now)) result }
 {
+    let _loaded = watched.loaded.place;
+    let _code = watched.code.place;
     if is_quiet(writes, watched.code, past)
         && is_quiet(writes, watched.loaded, past)
         && is_quiet(writes, watched.stored, past)
@@ -158,9 +160,11 @@ fn hit_among(reads: &Table, writes: &Table, watched: &Watched, past: &Clock) -> 
     requires writes { IsTable writes.now.items }
     requires loaded { watched.now.loaded.count ≤ 4096 }
     requires code { watched.now.code.count ≤ 4096 }
-    requires stored { watched.now.stored.count ≤ 4096 }
+    requires stored { watched.now.stored.place + watched.now.stored.count ≤ 2 ^ 32 + 4096 }
     ensures { IsFirstOf (AnyHit reads.now.items writes.now.items watched.now (seen_by past.now)) result }
 {
+    let _loaded = watched.loaded.place;
+    let _code = watched.code.place;
     let loaded = first_hit(writes, watched.loaded, past);
     let code = first_hit(writes, watched.code, past);
     let stored = first_hit(writes, watched.stored, past);
@@ -185,13 +189,15 @@ fn mark_all(
     requires writes { IsTable writes.old.items }
     requires loaded { watched.now.loaded.count ≤ 4096 }
     requires code { watched.now.code.count ≤ 4096 }
-    requires stored { watched.now.stored.count ≤ 4096 }
+    requires stored { watched.now.stored.place + watched.now.stored.count ≤ 2 ^ 32 + 4096 }
     requires thread { thread < 16 }
     requires place { place + 1 < 2 ^ 32 }
     ensures reads { IsTable reads.new.items }
     ensures writes { IsTable writes.new.items }
     ensures marks { OnOk result (MarksAll reads.old.items writes.old.items watched.now thread place reads.new.items writes.new.items) }
 {
+    let _loaded = watched.loaded.place;
+    let _code = watched.code.place;
     mark(alloc, reads, watched.loaded, thread, place)?;
     mark(alloc, reads, watched.code, thread, place)?;
     mark(alloc, writes, watched.stored, thread, place)?;

@@ -17,8 +17,8 @@ const SPAN: usize = 1024;
 /// How many second tables there are: those of all addresses of 32 bits, and one for a stretch that runs past them.
 const SECONDS: usize = 1025;
 
-/// The clocks of a page: one for each word as long as no part of a word was marked by itself, and one for each byte from
-/// then on. A page that was never marked has none.
+/// The clocks of a page: one for all its bytes as long as they were marked together, one for each word as long as no part
+/// of a word was marked by itself, and one for each byte from then on. A page that was never marked has none.
 pub(crate) type Page = Vec<Clock>;
 
 /// The pages in two levels of tables. A second table of which no page was marked is empty.
@@ -84,7 +84,7 @@ pub(crate) fn mark(
     place: u32,
 ) -> Result<(), AllocError>
     requires table { IsTable table.old.items }
-    requires count { stretch.count ≤ 4096 }
+    requires low { stretch.place + stretch.count ≤ 2 ^ 32 + 4096 }
     requires thread { thread < 16 }
     requires place { place + 1 < 2 ^ 32 }
     ensures table { IsTable table.new.items }
@@ -162,21 +162,33 @@ fn mark_slowly(
     place: u32,
 ) -> Result<(), AllocError>
     requires table { IsTable table.old.items }
-    requires count { stretch.count ≤ 4096 }
+    requires low { stretch.place + stretch.count ≤ 2 ^ 32 + 4096 }
     requires thread { thread < 16 }
     requires place { place + 1 < 2 ^ 32 }
     ensures table { IsTable table.new.items }
     ensures marks { OnOk result (Marks table.old.items (span_of stretch) thread place table.new.items) }
 {
+    if stretch.count >= PAGE_SIZE {
+        return mark_pages(alloc, table, stretch, thread, place);
+    }
     touch(alloc, table, (stretch.place / PAGE_SIZE) as usize)?;
     if mark_word(table, stretch, thread, place) {
         return Ok(());
     }
-    mark_bytes(alloc, table, stretch, thread, place)
+    mark_bytes(
+        alloc,
+        table,
+        u64::from(stretch.place),
+        stretch.count,
+        thread,
+        place,
+    )
 }
 
-/// Marks the bytes of a stretch one by one.
-fn mark_bytes(
+/// Marks the bytes of a long stretch, page by page.
+#[cold]
+#[inline(never)]
+fn mark_pages(
     alloc: Global,
     table: &mut Table,
     stretch: Stretch,
@@ -184,14 +196,114 @@ fn mark_bytes(
     place: u32,
 ) -> Result<(), AllocError>
     requires table { IsTable table.old.items }
-    requires count { stretch.count ≤ 4096 }
+    requires low { stretch.place + stretch.count ≤ 2 ^ 32 + 4096 }
     requires thread { thread < 16 }
     requires place { place + 1 < 2 ^ 32 }
     ensures table { IsTable table.new.items }
     ensures marks { OnOk result (Marks table.old.items (span_of stretch) thread place table.new.items) }
 {
-    for offset in 0..stretch.count {
-        let byte = u64::from(stretch.place) + u64::from(offset);
+    let mut done = 0;
+    while done < stretch.count {
+        let byte = u64::from(stretch.place) + u64::from(done);
+        let count = part_of(byte, stretch.count - done);
+        mark_part(alloc, table, byte, count, thread, place)?;
+        done += count;
+    }
+    Ok(())
+}
+
+/// How many of so many bytes from one on lie in its page.
+fn part_of(byte: u64, count: u32) -> u32
+    ensures within { result ≤ count }
+    ensures some { 0 < count → 0 < result }
+    ensures page { byte % 4096 + result ≤ 4096 }
+{
+    let rest = PAGE_SIZE - (byte % PAGE_SIZE as u64) as u32;
+    if count < rest { count } else { rest }
+}
+
+/// Marks bytes that lie in one page.
+fn mark_part(
+    alloc: Global,
+    table: &mut Table,
+    byte: u64,
+    count: u32,
+    thread: u32,
+    place: u32,
+) -> Result<(), AllocError>
+    requires table { IsTable table.old.items }
+    requires low { byte + count ≤ 2 ^ 32 + 4096 }
+    requires page { byte % 4096 + count ≤ 4096 }
+    requires thread { thread < 16 }
+    requires place { place + 1 < 2 ^ 32 }
+    ensures table { IsTable table.new.items }
+    ensures marks { OnOk result (Marks table.old.items (record { place = byte; count = count }) thread place table.new.items) }
+{
+    if count < PAGE_SIZE {
+        return mark_bytes(alloc, table, byte, count, thread, place);
+    }
+    mark_page(alloc, table, byte, thread, place)
+}
+
+/// Marks all bytes of a page, the first of which is named: by one clock, where no part of it was marked by itself.
+fn mark_page(
+    alloc: Global,
+    table: &mut Table,
+    byte: u64,
+    thread: u32,
+    place: u32,
+) -> Result<(), AllocError>
+    requires table { IsTable table.old.items }
+    requires low { byte + 4096 ≤ 2 ^ 32 + 4096 }
+    requires page { byte % 4096 ≡ 0 }
+    requires thread { thread < 16 }
+    requires place { place + 1 < 2 ^ 32 }
+    ensures table { IsTable table.new.items }
+    ensures marks { OnOk result (Marks table.old.items (record { place = byte; count = 4096 }) thread place table.new.items) }
+{
+    let page = (byte / PAGE_SIZE as u64) as usize;
+    cover(alloc, table, page)?;
+    if page_of(table, page).len() != 1 {
+        return mark_bytes(alloc, table, byte, PAGE_SIZE, thread, place);
+    }
+    advance(table, page, 0, thread, place);
+    Ok(())
+}
+
+/// Makes one clock for all bytes of a page, where it has none.
+fn cover(alloc: Global, table: &mut Table, page: usize) -> Result<(), AllocError>
+    requires table { IsTable table.old.items }
+    requires page { page < 1048577 }
+    ensures table { IsTable table.new.items }
+    ensures same { (byte thread : ℕ) → marks_at table.new.items byte thread ≡ marks_at table.old.items byte thread }
+{
+    if !page_of(table, page).is_empty() {
+        return Ok(());
+    }
+    touch_second(alloc, table, page / SPAN)?;
+    let clocks = vec![in alloc; NOTHING; 1]?;
+    put_page(table, page, clocks);
+    Ok(())
+}
+
+/// Marks so many bytes from one on, one by one.
+fn mark_bytes(
+    alloc: Global,
+    table: &mut Table,
+    first: u64,
+    count: u32,
+    thread: u32,
+    place: u32,
+) -> Result<(), AllocError>
+    requires table { IsTable table.old.items }
+    requires low { first + count ≤ 2 ^ 32 + 4096 }
+    requires thread { thread < 16 }
+    requires place { place + 1 < 2 ^ 32 }
+    ensures table { IsTable table.new.items }
+    ensures marks { OnOk result (Marks table.old.items (record { place = first; count = count }) thread place table.new.items) }
+{
+    for offset in 0..count {
+        let byte = first + u64::from(offset);
         split(alloc, table, (byte / PAGE_SIZE as u64) as usize)?;
         mark_byte(table, byte, thread, place);
     }
@@ -230,7 +342,7 @@ fn advance(table: &mut Table, page: usize, index: usize, thread: u32, place: u32
     clocks[index].advance(thread, place);
 }
 
-/// Makes clocks for the words of a page, where it has none.
+/// Makes clocks for the words of a page, where it has none or one for all its bytes: each of them that one.
 fn touch(alloc: Global, table: &mut Table, page: usize) -> Result<(), AllocError>
     requires table { IsTable table.old.items }
     requires page { page < 1048577 }
@@ -238,13 +350,25 @@ fn touch(alloc: Global, table: &mut Table, page: usize) -> Result<(), AllocError
     ensures same { (byte thread : ℕ) → marks_at table.new.items byte thread ≡ marks_at table.old.items byte thread }
     ensures made { OnOk result (IsMade table.new.items page) }
 {
-    if !page_of(table, page).is_empty() {
+    let clocks = page_of(table, page);
+    if clocks.len() > 1 {
         return Ok(());
     }
+    let clock = first_clock(clocks);
     touch_second(alloc, table, page / SPAN)?;
-    let clocks = vec![in alloc; NOTHING; PAGE_WORDS]?;
-    put_page(table, page, clocks);
+    let words = vec![in alloc; clock; PAGE_WORDS]?;
+    put_page(table, page, words);
     Ok(())
+}
+
+/// The clock of the first byte of a page.
+fn first_clock(clocks: &[Clock]) -> Clock
+    ensures { result ≡ clock_at clocks.now 0 }
+{
+    match clock_of(clocks, 0) {
+        Some(clock) => *clock,
+        None => NOTHING,
+    }
 }
 
 /// Makes a second table, where there is none.
@@ -325,7 +449,7 @@ fn put_page(table: &mut Table, page: usize, clocks: Page)
 #[inline(always)]
 pub(crate) fn is_quiet(table: &Table, stretch: Stretch, past: &Clock) -> bool
     requires table { IsTable table.now.items }
-    requires count { stretch.count ≤ 4096 }
+    requires low { stretch.place + stretch.count ≤ 2 ^ 32 + 4096 }
     ensures { result ≡ true → (mark byte : ℕ) → IsHit table.now.items (span_of stretch) (seen_by past.now) mark byte → ⊥ }
 {
     if stretch.count == 0 {
@@ -340,6 +464,9 @@ pub(crate) fn is_quiet(table: &Table, stretch: Stretch, past: &Clock) -> bool
     }
     if clocks.len() == PAGE_WORDS {
         return clocks[(stretch.place % PAGE_SIZE / 4) as usize].latest_beyond(past) == 0;
+    }
+    if clocks.len() < PAGE_WORDS {
+        return has_no_hit(table, stretch, past);
     }
     let offset = (stretch.place % PAGE_SIZE) as usize;
     are_quiet(clocks, offset, stretch.count as usize, past)
@@ -359,11 +486,11 @@ fn are_quiet(clocks: &[Clock], offset: usize, count: usize, past: &Clock) -> boo
     true
 }
 
-/// The same, byte by byte.
+/// The same, found by the first hit.
 #[inline(never)]
 fn has_no_hit(table: &Table, stretch: Stretch, past: &Clock) -> bool
     requires table { IsTable table.now.items }
-    requires count { stretch.count ≤ 4096 }
+    requires low { stretch.place + stretch.count ≤ 2 ^ 32 + 4096 }
     ensures { result ≡ true → (mark byte : ℕ) → IsHit table.now.items (span_of stretch) (seen_by past.now) mark byte → ⊥ }
 {
     match first_hit(table, stretch, past) {
@@ -375,19 +502,33 @@ fn has_no_hit(table: &Table, stretch: Stretch, past: &Clock) -> bool
 /// The first byte of a stretch that has a mark beyond what a clock knows, with the greatest of them.
 pub(crate) fn first_hit(table: &Table, stretch: Stretch, past: &Clock) -> Option<Hit>
     requires table { IsTable table.now.items }
-    requires count { stretch.count ≤ 4096 }
+    requires low { stretch.place + stretch.count ≤ 2 ^ 32 + 4096 }
     ensures { IsFirstHit table.now.items (span_of stretch) (seen_by past.now) result }
 {
     let mut offset = 0;
-    while offset < stretch.count {
-        let byte = u64::from(stretch.place) + u64::from(offset);
+    while offset < u64::from(stretch.count) {
+        let byte = u64::from(stretch.place) + offset;
         let mark = latest(table, byte, past);
         if mark > 0 {
             return Some(Hit { mark, byte });
         }
-        offset += 1;
+        offset += alike(table, byte);
     }
     None
+}
+
+/// How many bytes from one on are known to have its marks: those to the end of a page that has one clock or none.
+fn alike(table: &Table, byte: u64) -> u64
+    requires table { IsTable table.now.items }
+    requires page { byte / 4096 < 1048577 }
+    ensures some { 0 < result }
+    ensures few { result ≤ 4096 }
+    ensures same { (other thread : ℕ) → byte ≤ other → other < byte + result → marks_at table.now.items other thread ≡ marks_at table.now.items byte thread }
+{
+    if page_of(table, (byte / PAGE_SIZE as u64) as usize).len() > 1 {
+        return 1;
+    }
+    PAGE_SIZE as u64 - byte % PAGE_SIZE as u64
 }
 
 /// The greatest mark of a byte that is beyond what a clock knows, or 0.
@@ -412,6 +553,8 @@ fn clock_of(clocks: &[Clock], offset: usize) -> Option<&Clock>
 {
     let index = if clocks.len() == PAGE_WORDS {
         offset / 4
+    } else if clocks.len() == 1 {
+        0
     } else {
         offset
     };

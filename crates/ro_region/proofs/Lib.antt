@@ -1,3 +1,4 @@
 pub mod Each
+pub mod Granted
 pub mod Opened
 pub mod Wider

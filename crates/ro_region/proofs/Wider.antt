@@ -17,7 +17,7 @@ pub record Reaches (range : Range) (place count : ℕ) : Type 0 where
   pub high : byte < place + count
   pub lies : lies_in range byte ≡ true
 
-byte-wider : (range : Range) (ranges : List Range) (kind : Kind) (a : ℕ) → permits_byte ranges kind a ≡ true → permits_byte (range ∷ ranges) kind a ≡ true
+pub byte-wider : (range : Range) (ranges : List Range) (kind : Kind) (a : ℕ) → permits_byte ranges kind a ≡ true → permits_byte (range ∷ ranges) kind a ≡ true
 byte-wider range ranges kind a h = or_right _ _ h
 
 each-wider : (range : Range) (ranges : List Range) (kind : Kind) (a n : ℕ) → permits_each ranges kind a n ≡ true → permits_each (range ∷ ranges) kind a n ≡ true

@@ -17,7 +17,7 @@ const SPAN: u32 = 1024;
 const TABLES: u32 = PAGES / SPAN;
 
 /// A window of no byte.
-const CLOSED: Window = Window { from: 0, to: 0 };
+pub const CLOSED: Window = Window { from: 0, to: 0 };
 
 /// The bytes of a page from offset `from` to before offset `to`.
 #[derive(Clone, Copy, Debug)]

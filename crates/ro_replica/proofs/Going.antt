@@ -7,8 +7,6 @@ use Rattle.std.proofs.lemmas.List.{length-set}
 use Rattle.std.proofs.lemmas.List.Elements.{All-set}
 use Rattle.std.proofs.lemmas.Option.{slice_get_read}
 use Rattle.ro_event.specs.declared.stops.Stop.{Stop}
-use Rattle.ro_event.specs.declared.table.CallTable.{CallTable}
-use Rattle.ro_region.specs.declared.Range.{Range}
 use Rattle.ro_pages.specs.Bytes.{Memory}
 use Rattle.ro_pages.specs.Held.{Held, memory_of, has_page}
 use Rattle.ro_exec.specs.Next.{Layout, Backed}
@@ -122,11 +120,6 @@ leads_struck layout watchdog thread most old mid new count hit stop leads is =
     by (inr (early, is_some, at, nothing)) =
         let same : mid ≡ new = ap (λ (ran : RanTo). ran.replica) (sym nothing ∙ is) in
         inr (early, is_some, at ∙ ap (λ (r : Replica). standing_at layout watchdog r thread) same, subst (λ (r : Replica). IsStruck layout r thread) same nothing)
-
-pub with_ranges : (ranges other : List Range) (calls : CallTable) (watchdog : ℕ) (backed : Backed) (most count : ℕ) (stop : Option Stop) (old new : Running) → ranges ≡ other
-    → IsRun (record { ranges = ranges; calls = calls }) watchdog backed most count stop old new → IsRun (record { ranges = other; calls = calls }) watchdog backed most count stop old new
-with_ranges ranges other calls watchdog backed most count stop old new same run =
-    subst (λ (r : List Range). IsRun (record { ranges = r; calls = calls }) watchdog backed most count stop old new) same run
 
 -- a run keeps what holds of every replica
 pub replica_kept : (layout : Layout) (watchdog : ℕ) (backed : Backed) (most count : ℕ) (stop : Option Stop) (threads : List Thread) (places : ℕ) (waiting : List Fault) (thread : ℕ) (x end : Thread) (before after : Memory)

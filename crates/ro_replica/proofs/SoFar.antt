@@ -17,7 +17,7 @@ use Rattle.ro_replica.proofs.Strikes.{strikes, strikes_more, struck_by_waiting, 
 
 -- the same program, of three
 pub same_again : (one two three : ReplicaOf) → SameProgram one two → SameProgram two three → SameProgram one three
-same_again one two three p q = record { layout = p.layout ∙ q.layout; watchdog = p.watchdog ∙ q.watchdog }
+same_again one two three p q = record { layout = p.layout ∙ q.layout; given = p.given ∙ q.given; watchdog = p.watchdog ∙ q.watchdog }
 
 -- what holds after the strikes at the first i faults that wait
 pub record SoFar (thread done : ℕ) (old now : ReplicaOf) (i hit : ℕ) : Type 0 where

@@ -82,17 +82,17 @@ first_holds watchdog places thread threads waiting zero e room faults =
     }
 
 -- a replica of such parts stands at the opening
-pub opens : (image : Image) (number : ℕ) (faults : List Fault) (watchdog : ℕ) (value : ReplicaOf) → value.layout ≡ first_layout image → value.watchdog ≡ watchdog → memory_in value.held.pages ≡ memory_of image.pieces → has_page value.held.pages ≡ holds_file_byte image.pieces
+pub opens : (image : Image) (number : ℕ) (faults : List Fault) (watchdog : ℕ) (value : ReplicaOf) → value.layout ≡ first_layout image → value.given ≡ [] → value.watchdog ≡ watchdog → memory_in value.held.pages ≡ memory_of image.pieces → has_page value.held.pages ≡ holds_file_byte image.pieces
     → value.threads ≡ unstopped (first_cpu image.entry) ∷ [] → value.waiting ≡ filter (λ fault. fault.replica == number) faults → IsOpening image number faults watchdog value
 unfolding opening_replica
-opens image number faults watchdog value layout watchdog_is memory backed threads waiting =
-    record { layout = layout; watchdog_is = watchdog_is; opening = λ i. record { memory = memory i; backed = backed i; threads = threads i; waiting = waiting i } }
+opens image number faults watchdog value layout given watchdog_is memory backed threads waiting =
+    record { layout = layout; given = given; watchdog_is = watchdog_is; opening = λ i. record { memory = memory i; backed = backed i; threads = threads i; waiting = waiting i } }
 
 -- two replicas at the opening of one program are twins
 pub twins : (image : Image) (faults : List Fault) (i j watchdog : ℕ) (one other : ReplicaOf) → IsOpening image i faults watchdog one → IsOpening image j faults watchdog other → AreTwins one other
 unfolding opening_replica
 twins image faults i j watchdog one other h k = record {
-  program = record { layout = h.layout ∙ sym k.layout; watchdog = h.watchdog_is ∙ sym k.watchdog_is };
+  program = record { layout = h.layout ∙ sym k.layout; given = h.given ∙ sym k.given; watchdog = h.watchdog_is ∙ sym k.watchdog_is };
   pages = λ page. ap (λ r. r.backed page) h.opening ∙ sym (ap (λ r. r.backed page) k.opening);
   threads = ap (λ r. length r.threads) h.opening ∙ sym (ap (λ r. length r.threads) k.opening);
 }
@@ -100,7 +100,7 @@ twins image faults i j watchdog one other h k = record {
 -- and stay so while neither backs a page or makes a thread
 pub twins_stay : (one other one_too other_too : ReplicaOf) → AreTwins one other → SameProgram one_too one → SameProgram other_too other → one_too.held ≡ one.held → other_too.held ≡ other.held → length one_too.threads ≡ length one.threads → length other_too.threads ≡ length other.threads → AreTwins one_too other_too
 twins_stay one other one_too other_too h p q held held_too long long_too = record {
-  program = record { layout = p.layout ∙ h.program.layout ∙ sym q.layout; watchdog = p.watchdog ∙ h.program.watchdog ∙ sym q.watchdog };
+  program = record { layout = p.layout ∙ h.program.layout ∙ sym q.layout; given = p.given ∙ h.program.given ∙ sym q.given; watchdog = p.watchdog ∙ h.program.watchdog ∙ sym q.watchdog };
   pages = λ page. ap (λ v. has_page v.pages page) held ∙ h.pages page ∙ sym (ap (λ v. has_page v.pages page) held_too);
   threads = long ∙ h.threads ∙ sym long_too;
 }

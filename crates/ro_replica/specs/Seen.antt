@@ -1,8 +1,10 @@
 -- A replica as contracts see it.
-use Rattle.std.specs.Prelude.{◌≡◌, ◌⊎◌, ℕ, ◌+◌, ◌<◌, ◌≤◌, ◌^◌, IsSome, ◌==◌, if◌then◌else◌, List, length, Option, Some, None, IfSome, slice_get, slice_index_or, true}
+use Rattle.std.specs.Prelude.{◌≡◌, ◌⊎◌, ℕ, ◌+◌, ◌<◌, ◌≤◌, ◌^◌, IsSome, ◌==◌, if◌then◌else◌, List, [], length, Option, Some, None, IfSome, slice_get, slice_index_or, true}
 use Rattle.std.specs.List.{All}
 use Rattle.ro_event.specs.declared.stops.Stop.{Stop}
 use Rattle.ro_event.specs.Effects.{Effect}
+use Rattle.ro_region.specs.declared.Range.{Range}
+use Rattle.ro_region.specs.Permission.{with_range}
 use Rattle.ro_faults.specs.declared.Fault.{Fault}
 use Rattle.ro_faults.specs.Texts.{is_target}
 use Rattle.ro_pages.specs.Held.{Held, memory_of as memory_in, has_page}
@@ -14,6 +16,7 @@ use Rattle.ro_replica.specs.Runs.{RanTo, run_of, standing_at, with_stop}
 
 pub record ReplicaOf : Type 0 where
   pub layout : Layout
+  pub given : List Range  -- the ranges that were given since the opening, the newest first
   pub watchdog : ℕ
   pub held : Held
   pub threads : List Thread
@@ -29,11 +32,19 @@ first_layout image = record { ranges = image.ranges; calls = image.calls }
 -- what never changes is the same
 pub record SameProgram (one other : ReplicaOf) : Type 0 where
   pub layout : one.layout ≡ other.layout
+  pub given : one.given ≡ other.given
   pub watchdog : one.watchdog ≡ other.watchdog
+
+-- what never changes is the same, and one range more is permitted, where there is one
+pub record Widens (range : Option Range) (new old : ReplicaOf) : Type 0 where
+  pub layout : new.layout ≡ record old.layout { ranges = with_range range old.layout.ranges }
+  pub given : new.given ≡ with_range range old.given
+  pub watchdog : new.watchdog ≡ old.watchdog
 
 -- the replica of this number at the opening
 pub record IsOpening (image : Image) (number : ℕ) (faults : List Fault) (watchdog : ℕ) (value : ReplicaOf) : Type 0 where
   pub layout : value.layout ≡ first_layout image
+  pub given : value.given ≡ []
   pub watchdog_is : value.watchdog ≡ watchdog
   pub opening : replica_of value ≡ opening_replica image faults number
 
@@ -69,7 +80,7 @@ pub record Runs (layout : Layout) (watchdog quantum thread : ℕ) (old new : Rep
   pub arrives : (count ≡ quantum) ⊎ ((count < quantum) × IsSome stop)
 
 -- An effect that a replica can be given: its threads were made, its bytes are few and lie below the end of the addresses,
--- and there are pages to spare.
+-- there are pages to spare, and not all ranges were given before.
 pub record CanApply (effect : Effect) (value : ReplicaOf) : Type 0 where
   pub made : effect.thread < length value.threads
   pub creator : IfSome effect.made (λ made. (made.creator < length value.threads) × (length value.threads < 16))
@@ -77,6 +88,7 @@ pub record CanApply (effect : Effect) (value : ReplicaOf) : Type 0 where
   pub within : effect.place + length effect.bytes ≤ 2 ^ 32
   pub page : IfSome effect.page (λ page. page < 2 ^ 20)
   pub spare : 3 ≤ value.held.spare
+  pub room : IfSome effect.range (λ range. length value.given < 4096)
 
 -- The second replica can become as the first: the same pages are backed, and the same threads made.
 pub record AreTwins (one other : ReplicaOf) : Type 0 where

@@ -2,8 +2,9 @@
 ghost use Rattle.std.specs.Prelude.{◌≡◌, ◌<◌, ◌≤◌, ◌+◌, ◌^◌, ◌||◌, ℕ, true, IfSome, Some, length, map, slice_get, vec_len, vec_capacity};
 ghost use Rattle.ro_pages.specs.Bytes.{covers_page, stored};
 ghost use Rattle.ro_pages.specs.Held.{memory_of, has_page};
+ghost use Rattle.ro_region.specs.Permission.{with_range};
 ghost use Rattle.ro_replica.specs.Replica.{is_page, applied, cancelled, thread_after, with_made, without_cancelled};
-ghost use Rattle.ro_replica.specs.Seen.{replica_of, SameProgram, CanApply};
+ghost use Rattle.ro_replica.specs.Seen.{replica_of, Widens, CanApply};
 
 use crate::backing::{back, back_stretch};
 use crate::cpus::{change, made_cpu};
@@ -11,18 +12,20 @@ use crate::opening::unstopped;
 use crate::replicas::Replica;
 use ro_event::{Effect, Made, Stop};
 use ro_pages::Pages;
+use ro_region::{Range, Regions};
 use ro_thread::Thread;
 
 impl Replica {
     /// Does what an event does to a replica, and forgets the page faults that it settles.
     pub fn apply(&mut self, effect: &Effect)
         requires { CanApply effect.now self.old }
-        ensures program { SameProgram self.new self.old }
+        ensures program { Widens effect.now.range self.new self.old }
         ensures applied { replica_of self.new ≡ cancelled (applied effect.now (replica_of self.old)) }
     {
         store(&mut self.pages, effect);
         change_thread(&mut self.threads[effect.thread as usize], effect);
         make(&mut self.threads, effect.made);
+        widen(&mut self.regions, effect.range);
         forget_faults(self.threads.as_mut_slice(), &self.pages);
     }
 }
@@ -81,6 +84,16 @@ fn make(threads: &mut Vec<Thread>, made: Option<Made>)
     let cpu = made_cpu(&made, creator, threads.len() as u32);
     if threads.push(unstopped(cpu)).is_err() {
         unreachable!()
+    }
+}
+
+/// Permits a range more, if there is one; there is a place for it.
+pub fn widen(regions: &mut Regions, range: Option<Range>)
+    requires { IfSome range (λ range. length regions.old.given < 4096) }
+    ensures { regions.new ≡ record regions.old { given = with_range range regions.old.given } }
+{
+    if let Some(range) = range {
+        regions.add(range);
     }
 }
 

@@ -1,7 +1,7 @@
 //! A replica in a block of its own, so that it moves as one word.
 ghost use Rattle.std.specs.Prelude.{◌≡◌, ◌≤◌, ◌↔◌, IfOk, IsTrue, OnOk, Some, is_some};
 ghost use Rattle.ro_replica.specs.Replica.{applied, cancelled, stop_of, word_at};
-ghost use Rattle.ro_replica.specs.Seen.{replica_of, AreTwins, CanApply, CanCount, Keeps, Recovers, Runs, SameProgram};
+ghost use Rattle.ro_replica.specs.Seen.{replica_of, AreTwins, CanApply, CanCount, Keeps, Recovers, Runs, SameProgram, Widens};
 ghost use Rattle.ro_replica.specs.Snapshots.{snapshot_of};
 ghost use Rattle.ro_replica.specs.Views.{is_unstopped, view_of};
 
@@ -95,7 +95,7 @@ impl ReplicaBox {
     /// Does what an event does to a replica, and forgets the page faults that it settles.
     pub fn apply(&mut self, effect: &Effect)
         requires { CanApply effect.now self.old }
-        ensures program { SameProgram self.new self.old }
+        ensures program { Widens effect.now.range self.new self.old }
         ensures applied { replica_of self.new ≡ cancelled (applied effect.now (replica_of self.old)) }
     {
         self.replica.apply(effect);

@@ -1,6 +1,5 @@
 //! A replica at the opening of a program.
 ghost use Rattle.std.specs.Prelude.{◌≡◌, ◌==◌, ◌||◌, ◌+◌, ◌≤◌, ◌∷◌, [], All, IfOk, OnOk, length, vec_capacity};
-ghost use Rattle.std.specs.Arc.{arc_value};
 ghost use Rattle.std.specs.List.{filter};
 ghost use Rattle.ro_pages.specs.Bytes.{covers_page, stored};
 ghost use Rattle.ro_pages.specs.Held.{memory_of as memory_in, has_page};
@@ -22,7 +21,6 @@ use ro_pages::Pages;
 use ro_region::Regions;
 use ro_thread::Thread;
 use std::alloc::{AllocError, Global};
-use std::sync::Arc;
 
 /// How many threads a replica has places for.
 pub(crate) const PLACES: usize = ro_limits::MOST_THREADS as usize;
@@ -35,12 +33,12 @@ impl Replica {
     pub fn new(
         alloc: Global,
         image: &Executable,
-        regions: Arc<Regions>,
+        regions: Regions,
         number: u32,
         faults: &[Fault],
         watchdog: u32,
     ) -> Result<Replica, AllocError>
-        requires regions { arc_value regions ≡ image.now.ranges }
+        requires regions { regions ≡ record { given = []; first = image.now.ranges } }
         requires faults { AreFaults faults.now }
         ensures opening { IfOk result (λ r. IsOpening image.now number faults.now watchdog r) }
     {

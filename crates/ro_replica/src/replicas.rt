@@ -13,12 +13,11 @@ use ro_region::Regions;
 use ro_thread::Thread;
 use std::alloc::AllocError;
 use std::marker::Model;
-use std::sync::Arc;
 
 /// A replica: its pages and threads, and what never changes of its program.
 #[derive(Drop)]
 pub struct Replica {
-    pub(crate) regions: Arc<Regions>,
+    pub(crate) regions: Regions,
     pub(crate) calls: CallTable,
     pub(crate) watchdog: u32,
     pub(crate) pages: Pages,
@@ -29,7 +28,7 @@ pub struct Replica {
 }
 
 impl Model for Replica {
-    ghost use Rattle.std.specs.Arc.{arc_value};
+    ghost use Rattle.ro_region.specs.Permission.{ranges_of};
     ghost use Rattle.std.specs.Prelude.{vec_capacity};
     ghost use Rattle.std.specs.List.{slice_get};
     ghost use Rattle.ro_replica.specs.Seen.{ReplicaOf, IsReplica};
@@ -42,9 +41,9 @@ impl Model for Replica {
 
     ghost coded = { Prim.hlevel (codes, coded_held) };
 
-    ghost view = { λ r. record { layout = record { ranges = arc_value r.regions; calls = r.calls }; watchdog = r.watchdog; held = r.pages; threads = r.threads.items; waiting = r.waiting } };
+    ghost view = { λ r. record { layout = record { ranges = ranges_of r.regions; calls = r.calls }; given = r.regions.given; watchdog = r.watchdog; held = r.pages; threads = r.threads.items; waiting = r.waiting } };
 
-    ghost invariant = { λ r. IsReplica r.watchdog r.threads.items (vec_capacity r.threads) r.waiting × IsLearnt (record { ranges = arc_value r.regions; calls = r.calls }) (has_page r.pages.pages) (slice_get r.pages.numbers) r.learnt };
+    ghost invariant = { λ r. IsReplica r.watchdog r.threads.items (vec_capacity r.threads) r.waiting × IsLearnt (record { ranges = ranges_of r.regions; calls = r.calls }) (has_page r.pages.pages) (slice_get r.pages.numbers) r.learnt };
 }
 
 impl Replica {

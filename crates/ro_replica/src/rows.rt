@@ -12,7 +12,6 @@ use ro_region::Regions;
 use ro_thread::Thread;
 use std::alloc::{AllocError, Global};
 use std::process::Abort;
-use std::sync::Arc;
 
 // A program of three words that ends with the status 7.
 const SHORT: [u8; 96] = [
@@ -40,7 +39,7 @@ fn opened(
     requires { AreFaults faults.now }
     ensures { IfOk result (λ r. IsOpening image.now number faults.now 1000 r) }
 {
-    let regions = Arc::new(alloc, Regions::new(alloc, image.ranges())?)?;
+    let regions = Regions::new(alloc, image.ranges())?;
     Replica::new(alloc, image, regions, number, faults, 1_000)
 }
 
@@ -119,6 +118,7 @@ fn apply(rt: &impl Abort, replica: &mut Replica, effect: &Effect) -> Result<(), 
     assert!(rt; u64::from(effect.place) + effect.bytes.len() as u64 <= 0x1_0000_0000);
     assert!(rt; is_page(effect.page));
     assert!(rt; can_make(effect.made, replica.threads.len()));
+    assert!(rt; effect.range.is_none());
     replica.reserve(3)?;
     replica.apply(effect);
     Ok(())

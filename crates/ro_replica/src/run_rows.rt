@@ -1,6 +1,5 @@
 //! Rows of runs: a small program, the faults that are struck in it, and what its thread is at the end.
-ghost use Rattle.std.specs.Prelude.{◌≡◌, IfOk, IsTrue};
-ghost use Rattle.std.specs.Arc.{arc_value};
+ghost use Rattle.std.specs.Prelude.{◌≡◌, IsTrue};
 ghost use Rattle.ro_faults.specs.Texts.{is_target};
 ghost use Rattle.ro_replica.specs.Seen.{AreFaults, CanCount};
 
@@ -12,7 +11,6 @@ use ro_region::Regions;
 use ro_thread::Thread;
 use std::alloc::{AllocError, Global};
 use std::process::Abort;
-use std::sync::Arc;
 
 // addi x10, x0, 7; addi x10, x10, 1; addi x31, x31, 2; addi x17, x0, 93; ecall
 const FILE: [u8; 104] = [
@@ -37,12 +35,6 @@ fn image(rt: &impl Abort, alloc: Global) -> Executable {
     }
 }
 
-fn regions_of(alloc: Global, image: &Executable) -> Result<Arc<Regions>, AllocError>
-    ensures { IfOk result (λ regions. arc_value regions ≡ image.now.ranges) }
-{
-    Ok(Arc::new(alloc, Regions::new(alloc, image.ranges())?)?)
-}
-
 fn opened(
     rt: &impl Abort,
     alloc: Global,
@@ -51,7 +43,7 @@ fn opened(
 ) -> Result<Replica, AllocError> {
     assert!(rt; are_faults(faults));
     let image = image(rt, alloc);
-    let regions = regions_of(alloc, &image)?;
+    let regions = Regions::new(alloc, image.ranges())?;
     Replica::new(alloc, &image, regions, 0, faults, watchdog)
 }
 

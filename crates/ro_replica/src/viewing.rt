@@ -45,15 +45,8 @@ impl Replica {
         requires within { call.a1 + len ≤ 2 ^ 32 }
         ensures { view.new ≡ record { registers = thread.now.cpu.registers; pc = thread.now.cpu.pc; since = thread.now.since; stop = Calls call; payload = bytes_at (replica_of self.now).memory call.a1 len } }
     {
-        view.show_writing(
-            &thread.cpu.registers,
-            thread.cpu.pc,
-            thread.since,
-            Stop::Calls(call),
-            self,
-            call.a1,
-            len as usize,
-        );
+        show(thread, Stop::Calls(call), view);
+        view.read_payload(self, call.a1, len as usize);
     }
 }
 

@@ -2,8 +2,11 @@
 use ro_assembly::{address_touched, instruction_text};
 use ro_audit::Trail;
 use ro_event::{Stop, TrapCause, View};
-use ro_findings::{Instruction, Place, Symbol, Variable};
+use ro_findings::{Instruction, Mapped, Place, Symbol, Variable};
 use ro_image::{Within, function_at, object_at};
+use ro_kernel::MAPPED_END;
+use ro_limits::MAPPED_START;
+use ro_region::Range;
 use std::alloc::{AllocError, Global};
 
 /// The place of a pc.
@@ -56,14 +59,39 @@ pub(crate) fn instruction_at(
     if is_unfetched(view.stop()) {
         return Ok(None);
     }
+    let given = trail.core().kernel().regions().given();
     match word_at(trail, view.pc()) {
-        Some(word) => Ok(Some(Instruction {
-            word,
-            text: instruction_text(alloc, word, view.pc())?,
-            touched: address_touched(word, view.registers()),
-        })),
+        Some(word) => {
+            let touched = address_touched(word, view.registers());
+            Ok(Some(Instruction {
+                word,
+                text: instruction_text(alloc, word, view.pc())?,
+                touched,
+                mapped: touched.and_then(|address| mapped_at(given, address)),
+            }))
+        }
         None => Ok(None),
     }
+}
+
+// The memory that was given on demand, the oldest range first, in which an address lies, or behind which.
+fn mapped_at(given: &[Range], address: u32) -> Option<Mapped> {
+    if !(MAPPED_START..MAPPED_END).contains(&address) {
+        return None;
+    }
+    let mut mapped = None;
+    for range in given {
+        let end = range.start.saturating_add(range.length);
+        mapped = Some(Mapped {
+            start: range.start,
+            end,
+            behind: address.checked_sub(end),
+        });
+        if range.contains(address) {
+            break;
+        }
+    }
+    mapped
 }
 
 // Whether a trap is that of a pc at no multiple of 4, or of a fetch that is not permitted.

@@ -4,6 +4,7 @@ ghost use Rattle.ro_exec.specs.Next.{next};
 ghost use Rattle.ro_exec.specs.Steps.{IsStep};
 ghost use Rattle.ro_exec.specs.Stretches.{IsLearnt};
 ghost use Rattle.ro_thread.specs.Runs.{IsRun};
+ghost use Rattle.ro_region.specs.Permission.{ranges_of};
 
 use crate::Thread;
 use ro_event::{CallTable, Stop};
@@ -36,13 +37,13 @@ pub fn run<M: Memory>(
     most: u32,
     watchdog: u32,
 ) -> RunEnd
-    requires learnt { IsLearnt (record { ranges = regions.now; calls = calls.now }) (M.backing memory.old) (M.kept memory.old) learnt.old }
+    requires learnt { IsLearnt (record { ranges = ranges_of regions.now; calls = calls.now }) (M.backing memory.old) (M.kept memory.old) learnt.old }
     requires watched { thread.old.since ≤ watchdog }
     requires countable { thread.old.done + most < 2 ^ 128 }
-    ensures run { IsRun (record { ranges = regions.now; calls = calls.now }) watchdog (M.backing memory.old) most result.count result.stop (record { thread = thread.old; memory = M.memory memory.old }) (record { thread = thread.new; memory = M.memory memory.new }) }
+    ensures run { IsRun (record { ranges = ranges_of regions.now; calls = calls.now }) watchdog (M.backing memory.old) most result.count result.stop (record { thread = thread.old; memory = M.memory memory.old }) (record { thread = thread.new; memory = M.memory memory.new }) }
     ensures pages { M.backing memory.new ≡ M.backing memory.old }
     ensures kept { M.kept memory.new ≡ M.kept memory.old }
-    ensures learnt { IsLearnt (record { ranges = regions.now; calls = calls.now }) (M.backing memory.old) (M.kept memory.old) learnt.new }
+    ensures learnt { IsLearnt (record { ranges = ranges_of regions.now; calls = calls.now }) (M.backing memory.old) (M.kept memory.old) learnt.new }
 {
     let bound = most.min(watchdog - thread.since);
     let mut registers = Bank::new(&thread.cpu.registers);
@@ -121,11 +122,11 @@ fn slow_step<M: Memory>(
     regions: &Regions,
     calls: &CallTable,
 ) -> Step
-    requires learnt { IsLearnt (record { ranges = regions.now; calls = calls.now }) (M.backing memory.old) (M.kept memory.old) learnt.old }
-    ensures step { IsStep (next (record { ranges = regions.now; calls = calls.now }) (M.backing memory.old) (M.memory memory.old) (record { registers = registers.old; pc = pc.old })) result (record { registers = registers.old; pc = pc.old }) (record { registers = registers.new; pc = pc.new }) (M.memory memory.old) (M.memory memory.new) }
+    requires learnt { IsLearnt (record { ranges = ranges_of regions.now; calls = calls.now }) (M.backing memory.old) (M.kept memory.old) learnt.old }
+    ensures step { IsStep (next (record { ranges = ranges_of regions.now; calls = calls.now }) (M.backing memory.old) (M.memory memory.old) (record { registers = registers.old; pc = pc.old })) result (record { registers = registers.old; pc = pc.old }) (record { registers = registers.new; pc = pc.new }) (M.memory memory.old) (M.memory memory.new) }
     ensures pages { M.backing memory.new ≡ M.backing memory.old }
     ensures kept { M.kept memory.new ≡ M.kept memory.old }
-    ensures learnt { IsLearnt (record { ranges = regions.now; calls = calls.now }) (M.backing memory.old) (M.kept memory.old) learnt.new }
+    ensures learnt { IsLearnt (record { ranges = ranges_of regions.now; calls = calls.now }) (M.backing memory.old) (M.kept memory.old) learnt.new }
 {
     if let Some(stop) = system_call(registers, *pc, learnt.code, memory) {
         return Step::Stopped(stop);

@@ -143,6 +143,7 @@ fn instruction(alloc: Global) -> Result<Instruction, AllocError> {
         word: 0x0C04_2C23,
         text: String::from_str(alloc, "sw zero, 216(s0)")?,
         touched: Some(0x100D8),
+        mapped: None,
     })
 }
 
@@ -166,7 +167,7 @@ fn a_trap(rt: HostRuntime) -> Result<(), Fail> {
         "It touches the address 000100d8.",
     ];
     let json =
-        r#"{"copies":[],"end":{"at":{"abi_names":["ra","sp","gp","tp","t0","t1","t2","s0","s1","a0","a1","a2","a3","a4","a5","a6","a7","s2","s3","s4","s5","s6","s7","s8","s9","s10","s11","t3","t4","t5","t6"],"function":{"name":"main","offset":32},"instruction":{"text":"sw zero, 216(s0)","touched":65752,"word":201600035},"pc":65652,"registers":[1,2,3,4,5,6,7,8,9,10,11,12,13,14,15,16,17,18,19,20,21,22,23,24,25,26,27,28,29,30,31],"thread":1},"cause":8,"how":"trap"},"entries":8,"steps":3,"verdict":"legal"}"#;
+        r#"{"copies":[],"end":{"at":{"abi_names":["ra","sp","gp","tp","t0","t1","t2","s0","s1","a0","a1","a2","a3","a4","a5","a6","a7","s2","s3","s4","s5","s6","s7","s8","s9","s10","s11","t3","t4","t5","t6"],"function":{"name":"main","offset":32},"instruction":{"mapped":null,"text":"sw zero, 216(s0)","touched":65752,"word":201600035},"pc":65652,"registers":[1,2,3,4,5,6,7,8,9,10,11,12,13,14,15,16,17,18,19,20,21,22,23,24,25,26,27,28,29,30,31],"thread":1},"cause":8,"how":"trap"},"entries":8,"steps":3,"verdict":"legal"}"#;
     let at = Some(trapped(alloc)?);
     let end = Ended::Trap {
         cause: TrapCause::ForbiddenStore,
@@ -674,7 +675,7 @@ fn the_instruction_that_trapped(rt: HostRuntime) -> Result<(), Fail> {
         "It touches the address 00000000.",
     ];
     let json =
-        r#"{"copies":[],"end":{"at":{"abi_names":["ra","sp","gp","tp","t0","t1","t2","s0","s1","a0","a1","a2","a3","a4","a5","a6","a7","s2","s3","s4","s5","s6","s7","s8","s9","s10","s11","t3","t4","t5","t6"],"function":null,"instruction":{"text":"lw a0, 0(zero)","touched":0,"word":9475},"pc":65620,"registers":[0,1879113712,0,0,0,0,0,0,0,0,0,0,0,0,0,0,0,0,0,0,0,0,0,0,0,0,0,0,0,0,0],"thread":0},"cause":6,"how":"trap"},"entries":8,"steps":1,"verdict":"legal"}"#;
+        r#"{"copies":[],"end":{"at":{"abi_names":["ra","sp","gp","tp","t0","t1","t2","s0","s1","a0","a1","a2","a3","a4","a5","a6","a7","s2","s3","s4","s5","s6","s7","s8","s9","s10","s11","t3","t4","t5","t6"],"function":null,"instruction":{"mapped":null,"text":"lw a0, 0(zero)","touched":0,"word":9475},"pc":65620,"registers":[0,1879113712,0,0,0,0,0,0,0,0,0,0,0,0,0,0,0,0,0,0,0,0,0,0,0,0,0,0,0,0,0],"thread":0},"cause":6,"how":"trap"},"entries":8,"steps":1,"verdict":"legal"}"#;
     assert_found(
         &rt,
         rt.alloc(),

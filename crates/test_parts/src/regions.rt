@@ -112,3 +112,57 @@ fn permits_what_the_ranges_do(rt: HostRuntime) -> Result<(), Fail> {
     }
     Ok(())
 }
+
+#[test]
+fn permits_what_was_given_since(rt: HostRuntime) -> Result<(), Fail> {
+    let list = [range(0x4FFF_F000, 0x1000, true, true, false)];
+    let mut regions = Regions::new(rt.alloc(), &list)?;
+    let before = regions.opening(rt.alloc())?;
+    regions.add(range(0x5000_0000, 0x1000, true, false, false));
+    let both = regions.given().len();
+    regions.add(range(0x5000_1000, 0x2000, true, true, false));
+    assert_eq!(rt;
+        (both, regions.given().len(), before.given().len()),
+        (1, 2, 0)
+    );
+    for (address, len, kind, want) in [
+        (0x5000_0000, 0x3000, Kind::Read, true),
+        (0x5000_0000, 0x3001, Kind::Read, false),
+        (0x5000_0FFF, 2, Kind::Read, true),
+        (0x5000_0FFF, 1, Kind::Write, false),
+        (0x5000_0FFF, 2, Kind::Write, false),
+        (0x5000_1000, 0x2000, Kind::Write, true),
+        (0x5000_1000, 4, Kind::Execute, false),
+        // over the border of the first ranges and those that were given
+        (0x4FFF_FFFE, 4, Kind::Read, true),
+        (0x4FFF_FFFE, 4, Kind::Write, false),
+    ] {
+        assert_eq!(rt;
+            regions.permits(address, len, kind),
+            want,
+            "{kind:?} {len} at {address:x}"
+        );
+        assert!(rt;
+            !before.permits(address, len, kind),
+            "{kind:?} {len} at {address:x}"
+        );
+    }
+    assert_eq!(rt;
+        regions.words_in_page(0x5_0000, Kind::Read),
+        (0x5000_0000, 0x5000_1000)
+    );
+    assert_eq!(rt;
+        regions.words_in_page(0x5_0000, Kind::Write),
+        (0x5000_0000, 0x5000_0000)
+    );
+    assert_eq!(rt;
+        regions.words_in_page(0x5_0002, Kind::Write),
+        (0x5000_2000, 0x5000_3000)
+    );
+    assert_eq!(rt;
+        regions.words_in_page(0x5_0003, Kind::Read),
+        (0x5000_3000, 0x5000_3000)
+    );
+    assert!(rt; regions.contains(0x5000_2FFF) && !regions.contains(0x5000_3000));
+    Ok(())
+}

@@ -6,7 +6,6 @@ use ro_kernel::{Kernel, Served, payload_len};
 use ro_region::{Range, Regions};
 use std::alloc::{AllocError, Global};
 use std::process::Abort;
-use std::sync::Arc;
 use std::test::Fail;
 
 /// May be read and executed, and not written.
@@ -28,6 +27,10 @@ const EXIT: Which = Which::System(93);
 const EXIT_GROUP: Which = Which::System(94);
 
 const BRK: Which = Which::System(214);
+
+const MMAP: Which = Which::System(222);
+
+const MUNMAP: Which = Which::System(215);
 
 const CREATE: Which = Which::Function(Function::Create);
 
@@ -66,6 +69,8 @@ const OTHER_CONDITION: u32 = DATA + 8;
 #[derive(Clone, Copy, Debug)]
 enum Want {
     Answers(u32),
+    /// The address of a range of so many bytes, and whether they may be written.
+    Gives(u32, u32, bool),
     Fails(u32),
     Stores(u32, &'static [u8]),
     Exits,
@@ -117,6 +122,75 @@ const SYSTEM_CALLS: &[Row] = &[
     (0, Which::System(215), [0, 0, 0, 0], Want::Fails(38)),
     (0, EXIT, [0x1FE, 0, 0, 0], Want::Ends(254)),
     (0, EXIT_GROUP, [3, 0, 0, 0], Want::Ends(3)),
+];
+
+/// Private and anonymous.
+const OWN: u32 = 0x22;
+
+const MAPPED_MEMORY: &[Row] = &[
+    // the flags, then the protection, then the length
+    (0, MMAP, [0, 0x1000, 3, 0x02], Want::Fails(22)),
+    (0, MMAP, [0, 0x1000, 3, 0x23], Want::Fails(22)),
+    (0, MMAP, [0, 0x1000, 0, OWN], Want::Fails(22)),
+    (0, MMAP, [0, 0x1000, 2, OWN], Want::Fails(22)),
+    (0, MMAP, [0, 0x1000, 7, OWN], Want::Fails(22)),
+    (0, MMAP, [0, 0, 3, OWN], Want::Fails(22)),
+    (0, MMAP, [0, 0, 3, 0], Want::Fails(22)),
+    (0, MMAP, [0, 0x100_0001, 3, OWN], Want::Fails(12)),
+    (0, MMAP, [0, 0xFFFF_F001, 3, OWN], Want::Fails(12)),
+    (0, MMAP, [0, 0xFFFF_FFFF, 1, OWN], Want::Fails(12)),
+    // whole pages, one range behind the other, wherever they are asked for
+    (0, WRITE, [1, NOWHERE, 1, 0], Want::Fails(14)),
+    (
+        0,
+        MMAP,
+        [CODE, 1, 1, OWN],
+        Want::Gives(NOWHERE, 0x1000, false),
+    ),
+    (
+        0,
+        MMAP,
+        [0, 5000, 3, OWN],
+        Want::Gives(NOWHERE + 0x1000, 0x2000, true),
+    ),
+    // what they permit
+    (0, READ, [0, NOWHERE, 1, 0], Want::Fails(14)),
+    (0, READ, [0, NOWHERE + 0xFFF, 2, 0], Want::Fails(14)),
+    (
+        0,
+        READ,
+        [0, NOWHERE + 0x1000, 3, 0],
+        Want::Stores(3, b"abc"),
+    ),
+    (0, WRITE, [1, NOWHERE + 0xFFF, 2, 0], Want::Answers(2)),
+    (0, WRITE, [1, NOWHERE + 0x2FFF, 1, 0], Want::Answers(1)),
+    (0, WRITE, [1, NOWHERE + 0x2FFF, 2, 0], Want::Fails(14)),
+    (0, LOCK, [NOWHERE, 0, 0, 0], Want::Answers(14)),
+    (0, LOCK, [NOWHERE + 0x2FFC, 0, 0, 0], Want::Answers(0)),
+    // the rest, and then no more
+    (0, MMAP, [0, 0xFF_D001, 3, OWN], Want::Fails(12)),
+    (
+        0,
+        MMAP,
+        [0, 0xFF_CFFF, 3, OWN],
+        Want::Gives(NOWHERE + 0x3000, 0xFF_D000, true),
+    ),
+    (0, MMAP, [0, 1, 3, OWN], Want::Fails(12)),
+    (0, WRITE, [1, NOWHERE + 0xFF_FFFF, 1, 0], Want::Answers(1)),
+    (0, WRITE, [1, NOWHERE + 0xFF_FFFF, 2, 0], Want::Fails(14)),
+    (0, MUNMAP, [NOWHERE, 0x1000, 0, 0], Want::Fails(38)),
+];
+
+const ALL_AT_ONCE: &[Row] = &[
+    (
+        0,
+        MMAP,
+        [0, 0x100_0000, 3, OWN],
+        Want::Gives(NOWHERE, 0x100_0000, true),
+    ),
+    (0, MMAP, [0, 1, 3, OWN], Want::Fails(12)),
+    (0, LOCK, [NOWHERE + 0xFF_FFFC, 0, 0, 0], Want::Answers(0)),
+    (0, LOCK, [NOWHERE + 0x100_0000, 0, 0, 0], Want::Answers(14)),
 ];
 
 const THREADS_AND_MUTEXES: &[Row] = &[
@@ -279,7 +353,7 @@ const TWO_CONDITIONS: &[Row] = &[
     (1, WAIT, [CONDITION, MUTEX, 0, 0], Want::Answers(0)),
 ];
 
-fn regions(alloc: Global) -> Result<Regions, AllocError> {
+fn ranges() -> [Range; 2] {
     let range = |start, write| Range {
         start,
         length: 0x1000,
@@ -287,11 +361,11 @@ fn regions(alloc: Global) -> Result<Regions, AllocError> {
         write,
         execute: !write,
     };
-    Regions::new(alloc, &[range(CODE, false), range(DATA, true)])
+    [range(CODE, false), range(DATA, true)]
 }
 
 fn kernel(alloc: Global, input: &[u8]) -> Result<Kernel, AllocError> {
-    Ok(Kernel::new(alloc, HEAP, Arc::new(alloc, regions(alloc)?)?, input)?)
+    Ok(Kernel::new(alloc, HEAP, &ranges(), input)?)
 }
 
 fn call(which: Which, arguments: [u32; 4]) -> Call {
@@ -313,6 +387,10 @@ fn goes(which: Which) -> Goes {
 }
 
 fn is_answer(effect: &Effect, thread: u32, goes: Goes, value: u32, bytes: &[u8]) -> bool {
+    is_done(effect, thread, goes, value, bytes) && effect.range.is_none()
+}
+
+fn is_done(effect: &Effect, thread: u32, goes: Goes, value: u32, bytes: &[u8]) -> bool {
     effect.thread == thread
         && effect.answer == Some(value)
         && effect.goes == goes
@@ -325,6 +403,16 @@ fn is_wanted(served: &Served, thread: u32, goes: Goes, want: Want) -> bool {
     match (served, want) {
         (Served::Done(effect), Want::Answers(value)) => {
             is_answer(effect, thread, goes, value, &[]) && effect.made.is_none()
+        }
+        (Served::Done(effect), Want::Gives(start, length, write)) => {
+            let range = Range {
+                start,
+                length,
+                read: true,
+                write,
+                execute: false,
+            };
+            is_done(effect, thread, goes, start, &[]) && effect.range == Some(range)
         }
         (Served::Done(effect), Want::Fails(error)) => {
             is_answer(effect, thread, goes, error.wrapping_neg(), &[]) && effect.made.is_none()
@@ -372,6 +460,15 @@ fn check(rt: &impl Abort, kernel: &mut Kernel, rows: &[Row]) -> Result<(), Alloc
 fn serves_system_calls(rt: HostRuntime) -> Result<(), Fail> {
     let mut kernel = kernel(rt.alloc(), b"abcdefgh")?;
     check(&rt, &mut kernel, SYSTEM_CALLS)?;
+    Ok(())
+}
+
+#[test]
+fn gives_memory(rt: HostRuntime) -> Result<(), Fail> {
+    for rows in [MAPPED_MEMORY, ALL_AT_ONCE] {
+        let mut kernel = kernel(rt.alloc(), b"abc")?;
+        check(&rt, &mut kernel, rows)?;
+    }
     Ok(())
 }
 
@@ -456,7 +553,7 @@ fn holds_256_mutexes(rt: HostRuntime) -> Result<(), Fail> {
 
 #[test]
 fn puts_out_what_may_be_read(rt: HostRuntime) -> Result<(), Fail> {
-    let regions = regions(rt.alloc())?;
+    let regions = Regions::new(rt.alloc(), &ranges())?;
     for (which, arguments, want) in [
         (WRITE, [1, CODE, 4, 0], 4),
         (WRITE, [2, DATA, 5000, 0], 4096),

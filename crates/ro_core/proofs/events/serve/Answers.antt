@@ -1,7 +1,10 @@
-use Rattle.std.proofs.Common.{◌∙◌, ap}
+use Rattle.std.proofs.Common.{◌<◌, ◌∙◌, [], length, ap, subst}
+use Rattle.std.specs.Prelude.{IfSome}
+use Rattle.ro_kernel.specs.declared.outcome.Served.{Served}
+use Rattle.ro_kernel.specs.Served.{Brings}
 use Rattle.ro_kernel.specs.Serve.{Served as Outcome, serve}
-use Rattle.ro_legal.specs.Event.{call_event}
-use Rattle.ro_core.proofs.Occurs.{brings-outcome, brings-blocked}
+use Rattle.ro_legal.specs.Event.{Event, call_event}
+use Rattle.ro_core.proofs.Occurs.{brings-outcome, brings-blocked, room-now, room-by}
 use Rattle.ro_core.proofs.Waits.{brings-leaves}
 use Rattle.ro_core.proofs.events.serve.Goals as goal
 
@@ -14,4 +17,15 @@ returns-clause-event c payload =
 pub returns-clause-leaves : goal.returns-clause-leaves
 returns-clause-leaves c = λ e.
     let system = c.event_of_call.ensures.moves e in
-    brings-leaves c.args.kernel.now c.serve.new.self c.args.thread c.args.call system.0 c.in_ok-served.served system.1 c.in_ok-served.ensures.served
+    let old = c.args.kernel.now in
+    let new = c.serve.new.self in
+    brings-leaves old new c.args.thread c.args.call system.0.0 c.in_ok-served.served system.0.1 system.1 c.in_ok-served.ensures.served
+
+pub returns-clause-room : goal.returns-clause-room
+returns-clause-room c mapped =
+    let old = c.args.kernel.now in
+    let new = c.serve.new.self in
+    let o : Outcome = serve old.setup old.kernel c.args.thread c.args.call in
+    subst (λ (x : Event). IfSome x.effect.range (λ range. length old.kernel.given < 4096))
+    (c.event_of_call.ensures.event old.kernel new.kernel [] (brings-blocked o old new c.in_ok-served.served c.in_ok-served.ensures.served))
+    (room-by old.kernel new.kernel c.args.thread c.args.call [] c.in_ok-served.served (λ effect e. room-now old new c.args.thread c.args.call effect (subst (λ (x : Served). Brings o old new x) e c.in_ok-served.ensures.served) mapped))

@@ -29,7 +29,7 @@ come_home-requires c =
     omega (arith, less, length-set c.leave-winner.new.seats c.args.lost c.recover_in.new.seat, ap (λ xs. length xs) c.leave-winner.ensures.seats, length-set c.args.seats.now c.args.won None)
 
 pub returns-clause-recovered : goal.returns-clause-recovered
-returns-clause-recovered c job replicas home =
+returns-clause-recovered c job kernel replicas home =
     let w = c.leave-winner.ensures.replica in
     let l = c.requires.loser in
     let there = subst (λ xs. get_or xs c.args.lost c.index-seats-lost.result ≡ Some l.0) (sym c.leave-winner.ensures.seats) (loser-there c.args.seats.now c.args.won c.args.lost l.0 c.index-seats-lost.result c.requires.differ l.1) in
@@ -38,8 +38,8 @@ returns-clause-recovered c job replicas home =
     c.come_home.ensures ∙ ap (λ seat. slice_set (slice_set c.leave-winner.new.seats c.args.lost seat) c.args.won (Some c.leave-winner.result)) r.1
     ∙ ap (λ xs. slice_set (slice_set xs c.args.lost (Some r.0)) c.args.won (Some c.leave-winner.result)) c.leave-winner.ensures.seats
     in
-    subst (λ xs. AreHome job xs (with_copy c.args.won c.args.lost replicas)) (sym final)
-    (recovery-home job c.args.seats.now replicas c.args.won c.args.lost c.leave-winner.result l.0 r.0 c.requires.differ w l.1 r.2 home)
+    subst (λ xs. AreHome job kernel xs (with_copy c.args.won c.args.lost replicas)) (sym final)
+    (recovery-home job kernel c.args.seats.now replicas c.args.won c.args.lost c.leave-winner.result l.0 r.0 c.requires.differ w l.1 r.2 home)
 
 pub returns-clause-spared : goal.returns-clause-spared
 returns-clause-spared c spared =

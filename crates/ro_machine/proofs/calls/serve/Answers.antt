@@ -1,10 +1,12 @@
-use Rattle.std.proofs.Common.{ap, sym, ◌∙◌, length, arith}
+use Rattle.std.proofs.Common.{ap, ap₂, sym, ◌∙◌, length}
 use Rattle.ro_pages.specs.Bytes.{stored}
 use Rattle.ro_pages.specs.Held.{memory_of}
 use Rattle.ro_kernel.specs.Serve.{payload_of}
+use Rattle.ro_kernel.proofs.Given.{range-alone}
 use Rattle.ro_machine.proofs.Noted.{tells-done}
-use Rattle.ro_machine.proofs.Serving.{known, ended-lives, parked-lives, threads-after, served-so, served-given}
+use Rattle.ro_machine.proofs.Serving.{known, ended-lives, parked-lives, threads-after, served-so}
 use Rattle.ro_machine.proofs.calls.serve.Goals as goal
+use Rattle.ro_region.specs.Permission.{ranges_of}
 
 pub apply-requires-clause-thread : goal.apply-requires-clause-thread
 apply-requires-clause-thread c = (known c.args.kernel.now c.serve.new.self c.args.thread (length c.args.cpus.now.items) c.args.call _ c.in-Done.effect c.requires.live c.requires.made c.in-Done.is c.in_ok-effect.ensures.served).made
@@ -29,10 +31,10 @@ returns-in-Done-clause-made c =
 pub returns-in-Done-clause-served : goal.returns-in-Done-clause-served
 returns-in-Done-clause-served c cpu output there =
     let facts = known c.args.kernel.now c.serve.new.self c.args.thread (length c.args.cpus.now.items) c.args.call _ c.in-Done.effect c.requires.live c.requires.made c.in-Done.is c.in_ok-effect.ensures.served in
-    served-so c.args.pages.now c.apply.new.pages c.args.cpus.now.items c.apply.new.cpus.items c.args.kernel.now c.serve.new.self output c.put_payload.new.written.items _ c.args.thread c.args.call c.in-Done.effect cpu facts there
+    served-so c.args.pages.now c.apply.new.pages c.args.cpus.now.items c.apply.new.cpus.items c.args.kernel.now c.serve.new.self output c.put_bytes.new.written.items _ c.args.thread c.args.call c.in-Done.effect cpu facts there
     (c.apply.ensures.bytes ∙ ap (λ p. stored (memory_of p) c.in-Done.effect.place c.in-Done.effect.bytes) c.reserve.ensures.pages)
     c.apply.ensures.cpus
-    (c.put_payload.ensures.bytes ∙ ap (λ p. payload_of c.args.regions.now (memory_of p) c.args.call) c.reserve.ensures.pages)
+    (c.put_bytes.ensures.bytes ∙ c.payload_of_call-loaded.ensures.bytes _ ∙ ap₂ (λ r p. payload_of (ranges_of r) (memory_of p) c.args.call) c.regions.ensures c.reserve.ensures.pages)
 
 pub returns-in-Ends-clause-made : goal.returns-in-Ends-clause-made
 returns-in-Ends-clause-made c = c.requires.made ∙ sym (ended-lives c.args.kernel.now c.serve.new.self c.args.thread c.args.call _ c.in-Ends.how c.in-Ends.is c.in_ok-effect.ensures.served)
@@ -40,22 +42,18 @@ returns-in-Ends-clause-made c = c.requires.made ∙ sym (ended-lives c.args.kern
 pub returns-in-Parked-clause-made : goal.returns-in-Parked-clause-made
 returns-in-Parked-clause-made c = c.requires.made ∙ sym (parked-lives c.args.kernel.now c.serve.new.self c.args.thread c.args.call _ c.in-Parked.is c.in_ok-effect.ensures.served)
 
-pub overflow_cast-result : goal.overflow_cast-result
-overflow_cast-result c =
+pub stored_by-requires-clause-few : goal.stored_by-requires-clause-few
+stored_by-requires-clause-few c = (known c.args.kernel.now c.serve.new.self c.args.thread (length c.args.cpus.now.items) c.args.call _ c.in-Done.effect c.requires.live c.requires.made c.in-Done.is c.in_ok-effect.ensures.served).few
+
+pub stored_by-requires-clause-within : goal.stored_by-requires-clause-within
+stored_by-requires-clause-within c = (known c.args.kernel.now c.serve.new.self c.args.thread (length c.args.cpus.now.items) c.args.call _ c.in-Done.effect c.requires.live c.requires.made c.in-Done.is c.in_ok-effect.ensures.served).within
+
+pub stored_by-requires-clause-alone : goal.stored_by-requires-clause-alone
+stored_by-requires-clause-alone c =
     let facts = known c.args.kernel.now c.serve.new.self c.args.thread (length c.args.cpus.now.items) c.args.call _ c.in-Done.effect c.requires.live c.requires.made c.in-Done.is c.in_ok-effect.ensures.served in
-    let count = ap length c.as_slice.ensures.value ∙ ap (λ e. length e.bytes) c.effect.view_is in
-    omega (arith, facts.few, count)
+    range-alone c.args.kernel.now.setup c.args.kernel.now.kernel c.args.thread c.args.call c.serve.new.self.kernel c.in-Done.effect facts.outcome
 
 pub returns-in-Done-clause-told : goal.returns-in-Done-clause-told
 returns-in-Done-clause-told c =
     let facts = known c.args.kernel.now c.serve.new.self c.args.thread (length c.args.cpus.now.items) c.args.call _ c.in-Done.effect c.requires.live c.requires.made c.in-Done.is c.in_ok-effect.ensures.served in
-    tells-done _ c.serve.new.self.kernel c.in-Done.effect c.args.call c.effect.inside.answer c.effect.inside.place (length c.as_slice.result.now) facts.outcome (ap (λ e. e.answer) c.effect.view_is) (ap (λ e. e.place) c.effect.view_is) (ap length c.as_slice.ensures.value ∙ ap (λ e. length e.bytes) c.effect.view_is) facts.few
-
-pub returns-in-Done-clause-given : goal.returns-in-Done-clause-given
-returns-in-Done-clause-given c = served-given c.args.kernel.now c.serve.new.self c.args.thread c.args.call _ c.in_ok-effect.ensures.served
-
-pub returns-in-Ends-clause-given : goal.returns-in-Ends-clause-given
-returns-in-Ends-clause-given c = served-given c.args.kernel.now c.serve.new.self c.args.thread c.args.call _ c.in_ok-effect.ensures.served
-
-pub returns-in-Parked-clause-given : goal.returns-in-Parked-clause-given
-returns-in-Parked-clause-given c = served-given c.args.kernel.now c.serve.new.self c.args.thread c.args.call _ c.in_ok-effect.ensures.served
+    tells-done _ c.serve.new.self.kernel c.in-Done.effect c.args.call c.effect.inside.answer _ c.stored_by.result facts.outcome (ap (λ e. e.answer) c.effect.view_is) (c.stored_by.ensures.span c.serve.new.self.kernel) c.stored_by.ensures.low

@@ -1,6 +1,4 @@
-use Rattle.std.proofs.Common.{ℕ, ap, ◌∙◌, ◌≡◌, ◌<◌, ◌≤◌, subst, arith, List}
-use Rattle.ro_region.specs.declared.Range.{Range}
-use Rattle.ro_plain.specs.Accesses.{touches, payload_span}
+use Rattle.std.proofs.Common.{ℕ, ◌≡◌, ◌<◌, ◌≤◌, subst, arith}
 use Rattle.ro_plain.specs.Machine.{next_of}
 use Rattle.ro_plain.proofs.Calls.{steppable-parts}
 use Rattle.ro_machine.specs.declared.watching.Went.{Went}
@@ -14,24 +12,22 @@ few n made thread e most less = omega arith
 
 pub returns-in-Executed : goal.returns-in-Executed
 returns-in-Executed c = record {
-  sees = λ program machine thread cpu ranges count live looks told.
+  sees = λ program machine thread cpu count live looks told.
       sees-executed program machine thread cpu live c.args.look looks (few _ _ thread count c.requires.made (lives-made machine.kernel.lives thread (steppable-parts machine thread cpu live).live))
       (subst (λ (w : Went). TellsNext program machine.kernel thread (next_of program machine cpu) w) c.in-Executed.is told);
 }
 
 pub returns-in-Trapped : goal.returns-in-Trapped
 returns-in-Trapped c = record {
-  sees = λ program machine thread cpu ranges count live looks told.
+  sees = λ program machine thread cpu count live looks told.
       sees-trapped program machine thread cpu live c.args.look looks (few _ _ thread count c.requires.made (lives-made machine.kernel.lives thread (steppable-parts machine thread cpu live).live))
       (subst (λ (w : Went). TellsNext program machine.kernel thread (next_of program machine cpu) w) c.in-Trapped.is told);
 }
 
 pub returns-in-Called : goal.returns-in-Called
 returns-in-Called c = record {
-  sees = λ program machine thread cpu ranges count live looks told.
-      sees-called program machine thread cpu live c.args.look looks (few _ _ thread count c.requires.made (lives-made machine.kernel.lives thread (steppable-parts machine thread cpu live).live)) c.in-Called.came c.payload_of_call.result c.relation_of.result
+  sees = λ program machine thread cpu count live looks told.
+      sees-called program machine thread cpu live c.args.look looks (few _ _ thread count c.requires.made (lives-made machine.kernel.lives thread (steppable-parts machine thread cpu live).live)) c.in-Called.came c.relation_of.result
       (subst (λ (w : Went). TellsNext program machine.kernel thread (next_of program machine cpu) w) c.in-Called.is told)
-      (λ a. c.payload_of_call.ensures.bytes a ∙ ap (λ (r : List Range). touches (payload_span r c.in-Called.came.call) a) ranges)
-      c.payload_of_call.ensures.few
       (λ served h. c.relation_of.ensures machine served count h);
 }

@@ -26,7 +26,7 @@ pub hit_of-hit-requires-clause-code : goal.hit_of-hit-requires-clause-code
 hit_of-hit-requires-clause-code c = (c.in-Some.ensures.sees []).code_few
 
 pub hit_of-hit-requires-clause-stored : goal.hit_of-hit-requires-clause-stored
-hit_of-hit-requires-clause-stored c = (c.in-Some.ensures.sees []).stored_few
+hit_of-hit-requires-clause-stored c = (c.in-Some.ensures.sees []).stored_low
 
 pub mark_all-requires-clause-loaded : goal.mark_all-requires-clause-loaded
 mark_all-requires-clause-loaded c = (c.in-Some.ensures.sees []).loaded_few
@@ -35,7 +35,7 @@ pub mark_all-requires-clause-code : goal.mark_all-requires-clause-code
 mark_all-requires-clause-code c = (c.in-Some.ensures.sees []).code_few
 
 pub mark_all-requires-clause-stored : goal.mark_all-requires-clause-stored
-mark_all-requires-clause-stored c = (c.in-Some.ensures.sees []).stored_few
+mark_all-requires-clause-stored c = (c.in-Some.ensures.sees []).stored_low
 
 pub returns-clause-own : goal.returns-clause-own
 returns-clause-own c =

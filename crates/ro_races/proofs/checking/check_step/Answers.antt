@@ -19,7 +19,7 @@ pub hit_of-hit-requires-clause-code : goal.hit_of-hit-requires-clause-code
 hit_of-hit-requires-clause-code c = (c.in-Ok.ensures.sees []).code_few
 
 pub hit_of-hit-requires-clause-stored : goal.hit_of-hit-requires-clause-stored
-hit_of-hit-requires-clause-stored c = (c.in-Ok.ensures.sees []).stored_few
+hit_of-hit-requires-clause-stored c = (c.in-Ok.ensures.sees []).stored_low
 
 pub advance-requires-clause-thread : goal.advance-requires-clause-thread
 advance-requires-clause-thread c = (c.in-Ok.ensures.sees []).known_thread
@@ -31,7 +31,7 @@ pub mark_all-requires-clause-code : goal.mark_all-requires-clause-code
 mark_all-requires-clause-code c = (c.in-Ok.ensures.sees []).code_few
 
 pub mark_all-requires-clause-stored : goal.mark_all-requires-clause-stored
-mark_all-requires-clause-stored c = (c.in-Ok.ensures.sees []).stored_few
+mark_all-requires-clause-stored c = (c.in-Ok.ensures.sees []).stored_low
 
 pub mark_all-requires-clause-thread : goal.mark_all-requires-clause-thread
 mark_all-requires-clause-thread c = (c.in-Ok.ensures.sees []).known_thread

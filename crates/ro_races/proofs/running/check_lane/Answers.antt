@@ -1,4 +1,4 @@
-use Rattle.std.proofs.Common.{ℕ, Bool, ◌≡◌, ◌+◌, ◌∙◌, Some, sym, ap, arith, if◌then◌else◌}
+use Rattle.std.proofs.Common.{Bool, ◌≡◌, ◌+◌, ◌∙◌, Some, sym, ap, arith, if◌then◌else◌}
 use Rattle.ro_races.proofs.Standing.{stands-step}
 use Rattle.ro_races.proofs.running.check_lane.Goals as goal
 

@@ -1,4 +1,4 @@
-use Rattle.std.proofs.Common.{ℕ, ◌≡◌, ◌+◌, ◌≤◌, ◌⊎◌, subst, ap₂}
+use Rattle.std.proofs.Common.{ℕ, ◌≡◌, ◌+◌, ◌≤◌, ◌<◌, ◌⊎◌, subst, ap, arith}
 use Rattle.ro_races.specs.Seen.{seen_by}
 use Rattle.ro_races.specs.Shadows.{marks_at}
 use Rattle.ro_races.proofs.Tables.{none-there, first-there, no-hit-more, no-hit-none}
@@ -9,15 +9,16 @@ loop-offset-init c = no-hit-none c.args.table.now.items c.args.stretch.place (se
 
 pub loop-offset-preserved : goal.loop-offset-preserved
 loop-offset-preserved c =
-    let at : c.from.result + c.from-in-loop-offset.result ≡ c.args.stretch.place + c.loop-offset.offset = ap₂ (λ (x y : ℕ). x + y) c.from.ensures c.from-in-loop-offset.ensures in
+    let at : c.from-in-loop-offset.result + c.loop-offset.offset ≡ c.args.stretch.place + c.loop-offset.offset = ap (λ (x : ℕ). x + c.loop-offset.offset) c.from-in-loop-offset.ensures in
     let above = subst (λ (b : ℕ). (thread : ℕ) → (marks_at c.args.table.now.items b thread ≤ seen_by c.args.past.now thread) ⊎ (marks_at c.args.table.now.items b thread ≤ c.latest-mark.result)) at c.latest-mark.ensures.above in
-    none-there c.args.table.now.items c.args.stretch.place c.loop-offset.offset (seen_by c.args.past.now) c.loop-offset.invariant c.latest-mark.result above c.if-mark-gt0.false
+    let alike = subst (λ (b : ℕ). (x thread : ℕ) → b ≤ x → x < b + c.alike-offset.result → marks_at c.args.table.now.items x thread ≡ marks_at c.args.table.now.items b thread) at c.alike-offset.ensures.same in
+    none-there c.args.table.now.items c.args.stretch.place c.loop-offset.offset (seen_by c.args.past.now) c.loop-offset.invariant c.latest-mark.result above c.alike-offset.result alike c.if-mark-gt0.false
 
 pub returns-then-mark-gt0 : goal.returns-then-mark-gt0
 returns-then-mark-gt0 c =
-    let at : c.from.result + c.from-in-loop-offset.result ≡ c.args.stretch.place + c.loop-offset.offset = ap₂ (λ (x y : ℕ). x + y) c.from.ensures c.from-in-loop-offset.ensures in
+    let at : c.from-in-loop-offset.result + c.loop-offset.offset ≡ c.args.stretch.place + c.loop-offset.offset = ap (λ (x : ℕ). x + c.loop-offset.offset) c.from-in-loop-offset.ensures in
     rw at
-    (first-there c.args.table.now.items c.args.stretch.place c.loop-offset.offset (seen_by c.args.past.now) c.loop-offset.invariant c.latest-mark.result (rw at at c.latest-mark.ensures.above) c.args.stretch.count c.loop-offset-test.true c.if-mark-gt0.true (rw at at c.latest-mark.ensures.found))
+    (first-there c.args.table.now.items c.args.stretch.place c.loop-offset.offset (seen_by c.args.past.now) c.loop-offset.invariant c.latest-mark.result (rw at at c.latest-mark.ensures.above) c.args.stretch.count (let e = c.from.ensures in let f = c.loop-offset-test.true in omega arith) c.if-mark-gt0.true (rw at at c.latest-mark.ensures.found))
 
 pub returns : goal.returns
-returns c = no-hit-more c.args.table.now.items c.args.stretch.place c.loop-offset.offset c.args.stretch.count (seen_by c.args.past.now) c.loop-offset-test.false c.loop-offset.invariant
+returns c = no-hit-more c.args.table.now.items c.args.stretch.place c.loop-offset.offset c.args.stretch.count (seen_by c.args.past.now) (let e = c.from.ensures in let f = c.loop-offset-test.false in omega arith) c.loop-offset.invariant

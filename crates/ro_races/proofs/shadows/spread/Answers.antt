@@ -1,4 +1,4 @@
-use Rattle.std.proofs.Common.{◌/◌, slice_index_or, [], ◌∙◌}
+use Rattle.std.proofs.Common.{[], ◌∙◌}
 use Rattle.std.proofs.lemmas.List.{length-set}
 use Rattle.ro_races.proofs.Tables.{spread-more}
 use Rattle.ro_races.proofs.shadows.spread.Goals as goal

@@ -13,7 +13,7 @@ heal-requires-clause-home c =
     let f = fields_of c.prepare.new.self in
     let m = c.prepare.ensures.makes in
     let v = scrubbed-room (fields_of c.args.self.now) f c.args.won.won c.args.won.lost c.requires.scrubbed m in
-    (job_of c.prepare.new.self, (core_in f).replicas, ready-stands c.prepare.new.self m.holds (scrub-alone f m.holds v.may))
+    (job_of c.prepare.new.self, (core_in f).kernel, (core_in f).replicas, ready-stands c.prepare.new.self m.holds (scrub-alone f m.holds v.may))
 
 pub heal-requires-clause-won : goal.heal-requires-clause-won
 heal-requires-clause-won c =
@@ -38,7 +38,7 @@ returns-clause-holds c =
     let m = c.prepare.ensures.makes in
     let v = scrubbed-room (fields_of c.args.self.now) f c.args.won.won c.args.won.lost c.requires.scrubbed m in
     let made = subst (λ (n : ℕ). AreMade n (core_in f).replicas) (sym c.made-threads.ensures.made) (scrub-made f m.holds v.may) in
-    let stands = c.heal.ensures.stands f.job (core_in f).replicas (ready-stands c.prepare.new.self m.holds (scrub-alone f m.holds v.may)) made in
+    let stands = c.heal.ensures.stands f.job (core_in f).kernel (core_in f).replicas (ready-stands c.prepare.new.self m.holds (scrub-alone f m.holds v.may)) made in
     clean-holds f c.args.won.won c.args.won.lost v _ refl c.push_reserved.ensures.items stands.home stands.grouped refl refl refl refl refl refl refl refl refl refl refl refl
     (omega (arith, c.push_reserved.ensures.len, c.push_reserved.ensures.capacity, c.in_ok-prepare.ensures.room))
 

@@ -1,3 +1,4 @@
+use Rattle.ro_core.proofs.Occurs.{holds-mapped}
 use Rattle.std.proofs.Common.{◌≡◌, ◌++◌, ◌∷◌, [], List, Option, refl, sym, ap, ◌∙◌, subst, arith, append-nil}
 use Rattle.ro_event.specs.declared.calls.Call.{Call}
 use Rattle.ro_journal.specs.declared.Entry.{Entry}
@@ -67,7 +68,7 @@ occur-requires c =
             views = refl;
             room = c.in_ok-prepare.ensures.room;
           })
-          (ready-stands c.prepare.new.self m.holds (free-alone f m.holds c.args.thread may)) c.in_ok-prepare.ensures.spared c.made-threads.ensures.made c.in_ok-event.ensures.leaves;
+          (c.in_ok-event.ensures.room (holds-mapped (fields_of c.prepare.new.self) m.holds)) (ready-stands c.prepare.new.self m.holds (free-alone f m.holds c.args.thread may)) c.in_ok-prepare.ensures.spared c.made-threads.ensures.made c.in_ok-event.ensures.leaves;
     }
 
 pub returns-clause-entry : goal.returns-clause-entry

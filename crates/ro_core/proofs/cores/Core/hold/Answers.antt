@@ -1,3 +1,4 @@
+use Rattle.ro_core.proofs.Occurs.{holds-mapped}
 use Rattle.std.proofs.Common.{◌≡◌, ◌+◌, ◌<◌, ◌++◌, ◌∷◌, [], ℕ, List, Option, length, refl, sym, ap, ◌∙◌, subst, arith}
 use Rattle.std.specs.Prelude.{◌⊎◌, IfSome, slice_get}
 use Rattle.ro_journal.specs.declared.How.TheVariants.{Limit}
@@ -66,7 +67,7 @@ pub heal-requires-clause-home : goal.heal-requires-clause-home
 heal-requires-clause-home c =
     let m = c.prepare.ensures.makes in
     let alone = m.leases ∙ hold-alone (fields_of c.args.self.now) c.args.thread c.args.won.won c.args.won.lost c.requires.held in
-    (job_of c.prepare.new.self, (core_in (fields_of c.prepare.new.self)).replicas, ready-stands c.prepare.new.self m.holds alone)
+    (job_of c.prepare.new.self, (core_in (fields_of c.prepare.new.self)).kernel, (core_in (fields_of c.prepare.new.self)).replicas, ready-stands c.prepare.new.self m.holds alone)
 
 pub heal-requires-clause-won : goal.heal-requires-clause-won
 heal-requires-clause-won c =
@@ -123,7 +124,7 @@ occur-requires c =
             views = refl;
             room = c.in_ok-prepare.ensures.room;
           })
-          (c.heal.ensures.stands f.job (core_in f).replicas (ready-stands c.prepare.new.self m.holds (hold-alone f c.args.thread c.args.won.won c.args.won.lost v)) made) (c.heal.ensures.spared c.in_ok-prepare.ensures.spared) c.made-threads.ensures.made c.in_ok-event.ensures.leaves);
+          (c.in_ok-event.ensures.room (holds-mapped (fields_of c.prepare.new.self) m.holds)) (c.heal.ensures.stands f.job (core_in f).kernel (core_in f).replicas (ready-stands c.prepare.new.self m.holds (hold-alone f c.args.thread c.args.won.won c.args.won.lost v)) made) (c.heal.ensures.spared c.in_ok-prepare.ensures.spared) c.made-threads.ensures.made c.in_ok-event.ensures.leaves);
     }
 
 pub returns-clause-entry : goal.returns-clause-entry

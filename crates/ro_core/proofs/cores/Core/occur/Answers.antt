@@ -1,5 +1,6 @@
 use Rattle.std.proofs.Common.{◌+◌, ◌++◌, ◌∷◌, [], length, refl, ap, ◌∙◌, arith}
-use Rattle.ro_core.proofs.Occurring.{occurs-few, occurs-can, occurs-thread, occurs-threads, occurs-seats, occurs-steps, occurs-short, occurs-sent, occurs-unblocked, occurs-holds, occurs-wrote}
+use Rattle.ro_core.specs.Fields.{core_in}
+use Rattle.ro_core.proofs.Occurring.{occurs-few, occurs-given, occurs-can, occurs-thread, occurs-threads, occurs-seats, occurs-steps, occurs-short, occurs-sent, occurs-unblocked, occurs-holds, occurs-wrote}
 use Rattle.ro_core.proofs.cores.Core.occur.Goals as goal
 
 pub apply-requires-clause-few : goal.apply-requires-clause-few
@@ -38,7 +39,7 @@ overflow_add-self-2 c = let sent = occurs-sent _ _ c.requires.can in let long = 
 pub returns-clause-holds : goal.returns-clause-holds
 returns-clause-holds c =
     let can = c.requires.can in
-    let stands = c.apply.ensures.stands can.before.job can.replicas can.stands can.made can.wait in
+    let stands = c.apply.ensures.stands can.before.job (core_in can.before).kernel c.args.self.now.kernel.kernel can.replicas (occurs-given _ _ can) can.stands can.made can.wait in
     occurs-holds _ _ can _ can.amid.job (c.push_reserved.ensures.items ∙ ap (λ js. js ++ c.args.occurrence.entry ∷ []) can.amid.journal) refl
     stands.home stands.grouped can.amid.leases refl refl c.unblocked_behind-self.ensures refl refl c.after_event-streak.ensures can.amid.ended can.amid.views (ap (λ xs. c.args.self.now.sent + length xs) c.payload-written.ensures) (ap (λ xs. length xs) c.payload-written.ensures) (let room = can.amid.room in omega (arith, c.push_reserved.ensures.len, c.push_reserved.ensures.capacity))
 

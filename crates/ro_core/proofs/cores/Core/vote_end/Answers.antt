@@ -11,7 +11,7 @@ use Rattle.ro_legal.specs.Legal.{EndsVote}
 use Rattle.ro_core.specs.Runs.{fields_of, state_of}
 use Rattle.ro_core.proofs.Asked.{some-end}
 use Rattle.ro_core.proofs.Splits.{split-ends}
-use Rattle.ro_core.proofs.Views.{viewed-holds, view-still, view-home, view-stopped, view-count, views-first}
+use Rattle.ro_core.proofs.Views.{viewed-holds, view-still, view-home, view-stopped, view-count}
 use Rattle.ro_core.proofs.cores.Core.vote_end.Goals as goal
 
 pub show-requires-clause-stopped : goal.show-requires-clause-stopped
@@ -31,7 +31,7 @@ won_end-requires c =
       held = record {
         holds = viewed-holds f _ c.requires.holds (view-still f c.requires.holds c.args.thread c.requires.may) (ap length items ∙ c.show.ensures.count ∙ ap length c.as_mut_slice.ensures.value);
         may = c.requires.may;
-        views_are = (items ∙ c.show.ensures.views f.job (core_in f).replicas (view-home f c.requires.holds c.args.thread c.requires.may) ∙ views-first f c.args.thread);
+        views_are = (items ∙ c.show.ensures.views f.job (core_in f).kernel (core_in f).replicas (view-home f c.requires.holds c.args.thread c.requires.may));
         verdict = ap verdict_of (sym c.as_slice.ensures.value) ∙ sym c.verdict.ensures.verdict ∙ ap verdict_by c.in-Some.is;
       };
     }
@@ -53,7 +53,7 @@ returns-in-None-clause-end c other =
     let f : Fields = fields_of c.args.self.now in
     let items = with_items_is c.args.self.now.views c.show.new.views (c.show.ensures.count ∙ c.as_mut_slice.ensures.len) in
     let h = viewed-holds f _ c.requires.holds (view-still f c.requires.holds c.args.thread c.requires.may) (ap length items ∙ c.show.ensures.count ∙ ap length c.as_mut_slice.ensures.value) in
-    let views = (items ∙ c.show.ensures.views f.job (core_in f).replicas (view-home f c.requires.holds c.args.thread c.requires.may) ∙ views-first f c.args.thread) in
+    let views = (items ∙ c.show.ensures.views f.job (core_in f).kernel (core_in f).replicas (view-home f c.requires.holds c.args.thread c.requires.may)) in
     let shown : List View = (with_items c.args.self.now.views c.show.new.views).items in
     let split : verdict_of shown ≡ Split = ap verdict_of (sym c.as_slice.ensures.value) ∙ sym c.verdict.ensures.verdict ∙ ap verdict_by c.in-None.is in
     let ends = split-ends (record f { views = shown }) h c.args.thread c.requires.may views split in

@@ -19,27 +19,27 @@ recover_losers-requires-clause-twins c = subst AreAllTwins (sym c.as_mut_slice.e
 
 pub copy_stops-requires-clause-won : goal.copy_stops-requires-clause-won
 copy_stops-requires-clause-won c =
-    let stands = c.requires.home.2 in
-    let count = home-count c.requires.home.0 c.args.self.now.homes.items c.requires.home.1 stands.home in
+    let stands = c.requires.home.3 in
+    let count = home-count c.requires.home.0 c.requires.home.1 c.args.self.now.homes.items c.requires.home.2 stands.home in
     let groups = stands.grouped.count in
     omega (arith, seat-within c.args.self.now.homes.items c.args.won.now.won c.requires.won)
 
 pub copy_stops-requires-clause-lost : goal.copy_stops-requires-clause-lost
 copy_stops-requires-clause-lost c loser among =
-    let stands = c.requires.home.2 in
-    let count = home-count c.requires.home.0 c.args.self.now.homes.items c.requires.home.1 stands.home in
+    let stands = c.requires.home.3 in
+    let count = home-count c.requires.home.0 c.requires.home.1 c.args.self.now.homes.items c.requires.home.2 stands.home in
     let groups = stands.grouped.count in
     let l = c.requires.lost loser among in (omega (arith, seat-within c.args.self.now.homes.items loser l.0), l.1)
 
 pub returns-clause-stands : goal.returns-clause-stands
-returns-clause-stands c job replicas stands made =
+returns-clause-stands c job kernel replicas stands made =
     let old = c.args.self.now.homes in
     let new = c.recover_losers.new.seats in
     let lost = numbers c.args.won.now.lost in
     let after = with_recovered c.args.won.now.won lost replicas in
-    let home : AreHome job new after = c.recover_losers.ensures.recovered job replicas (subst (λ xs. AreHome job xs replicas) (sym c.as_mut_slice.ensures.value) stands.home) in
-    let count : length new ≡ old.len = home-count job new after home ∙ length-with-copy c.args.won.now.won lost replicas ∙ sym (home-count job old.items replicas stands.home) ∙ sym old.ok.0 in
+    let home : AreHome job kernel new after = c.recover_losers.ensures.recovered job kernel replicas (subst (λ xs. AreHome job kernel xs replicas) (sym c.as_mut_slice.ensures.value) stands.home) in
+    let count : length new ≡ old.len = home-count job kernel new after home ∙ length-with-copy c.args.won.now.won lost replicas ∙ sym (home-count job kernel old.items replicas stands.home) ∙ sym old.ok.0 in
     record {
-      home = subst (λ xs. AreHome job xs after) (sym (with_items_is old new count)) home;
-      grouped = copies-grouped _ _ _ replicas _ _ _ (home-get job old.items replicas _ c.requires.won.0 stands.home c.requires.won.1).1 made stands.grouped c.copy_stops.ensures;
+      home = subst (λ xs. AreHome job kernel xs after) (sym (with_items_is old new count)) home;
+      grouped = copies-grouped _ _ _ replicas _ _ _ (home-get job kernel old.items replicas _ c.requires.won.0 stands.home c.requires.won.1).1 made stands.grouped c.copy_stops.ensures;
     }

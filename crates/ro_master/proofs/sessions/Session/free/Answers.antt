@@ -1,10 +1,10 @@
-use Rattle.std.proofs.Common.{sym, ap, ◌∙◌, subst}
+use Rattle.std.proofs.Common.{ap, ◌∙◌, subst}
 use Rattle.std.proofs.lemmas.Result.{IfOk-weaker, on_ok_weaker, on_err_weaker}
 use Rattle.ro_legal.specs.Core.{Core, may_free}
 use Rattle.ro_legal.specs.Legal.{IsAllowed}
 use Rattle.ro_legal.specs.Decides.{DecidesFree}
 use Rattle.ro_core.specs.Seen.{CoreOf, state, Appends, Quiet, Stays}
-use Rattle.ro_core.specs.Runs.{fields_of, job_of}
+use Rattle.ro_core.specs.Runs.{fields_of}
 use Rattle.ro_master.proofs.Failing.{at-state, free-calm, quiet-same, stays-with}
 use Rattle.ro_core.proofs.Held.{with-old}
 use Rattle.ro_master.proofs.sessions.Session.free.Goals as goal

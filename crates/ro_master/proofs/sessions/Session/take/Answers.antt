@@ -2,7 +2,7 @@ use Rattle.std.proofs.Common.{sym, subst}
 use Rattle.ro_journal.specs.declared.Entry.TheVariants.{Take}
 use Rattle.ro_legal.specs.Legal.{MayTake}
 use Rattle.ro_core.specs.Seen.{CoreOf, state, Appends, Quiet, HasRoom, IsLent}
-use Rattle.ro_core.specs.Runs.{fields_of, job_of}
+use Rattle.ro_core.specs.Runs.{fields_of}
 use Rattle.ro_master.proofs.Failing.{take-calm, room-silent, lent-with, quiet-same}
 use Rattle.ro_core.proofs.Held.{with-old}
 use Rattle.ro_master.proofs.sessions.Session.take.Goals as goal

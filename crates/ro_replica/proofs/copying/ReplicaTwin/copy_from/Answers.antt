@@ -19,5 +19,5 @@ invariant_of-self c =
 pub returns : goal.returns
 returns c =
     let threads = with_items_is c.self.inside.threads c.copy_threads.new.losers (omega arith) ∙ (c.copy_threads.ensures ∙ ap₂ copied_threads c.as_slice.ensures.value c.as_mut_slice.ensures.value) in
-    recovers _ _ _ (record { layout = ap (λ v. v.layout) c.self.view_is; watchdog = ap (λ v. v.watchdog) c.self.view_is }) (c.copy_from.ensures.pages ∙ ap (λ v. v.held.pages) c.other.view_is) (c.copy_from.ensures.spare ∙ ap (λ v. v.held.spare) c.self.view_is)
+    recovers _ _ _ (record { layout = ap (λ v. v.layout) c.self.view_is; given = ap (λ v. v.given) c.self.view_is; watchdog = ap (λ v. v.watchdog) c.self.view_is }) (c.copy_from.ensures.pages ∙ ap (λ v. v.held.pages) c.other.view_is) (c.copy_from.ensures.spare ∙ ap (λ v. v.held.spare) c.self.view_is)
     (threads ∙ ap₂ copied_threads (ap (λ v. v.threads) c.other.view_is) (ap (λ v. v.threads) c.self.view_is)) (ap (λ v. v.waiting) c.self.view_is)

@@ -1,7 +1,5 @@
-use Rattle.std.proofs.Common.{◌≡◌, ◌/◌, ◌∙◌, true, sym, subst, List}
-use Rattle.std.specs.Arc.{arc_value}
-use Rattle.ro_region.specs.declared.Range.{Range}
-use Rattle.ro_region.specs.Permission.{lies_in_range}
+use Rattle.std.proofs.Common.{◌≡◌, ◌/◌, ◌∙◌, true, sym}
+use Rattle.ro_region.specs.Permission.{lies_in_range, ranges_of}
 use Rattle.ro_pages.specs.Held.{has_page}
 use Rattle.ro_replica.proofs.Targets.{register_struck, pc_struck, byte_struck}
 use Rattle.ro_replica.proofs.replicas.Replica.strike_at.Goals as goal
@@ -17,6 +15,5 @@ returns-in-Pc-clause-struck c =
 pub returns-then-contains-clause-struck : goal.returns-then-contains-clause-struck
 returns-then-contains-clause-struck c =
     let has : has_page c.self.inside.pages.pages (c.in-Byte.address / 4096) ≡ true = sym c.if-backed.ensures in
-    let maps : lies_in_range (arc_value c.self.inside.regions) c.in-Byte.address ≡ true =
-    subst (λ (ranges : List Range). lies_in_range ranges c.in-Byte.address ≡ true) c.deref.ensures (sym c.contains.ensures ∙ c.if-contains.true) in
+    let maps : lies_in_range (ranges_of c.self.inside.regions) c.in-Byte.address ≡ true = sym c.contains.ensures ∙ c.if-contains.true in
     byte_struck _ _ c.args.thread _ _ _ _ _ _ _ c.self.view_is c.requires.target c.in-Byte.is has maps c.load-byte.ensures.value c.load-byte.ensures.below c.flip.ensures c.store.ensures.bytes c.store.ensures.pages

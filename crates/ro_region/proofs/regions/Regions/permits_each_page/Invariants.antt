@@ -1,11 +1,11 @@
 use Rattle.std.proofs.Common.{ℕ, ◌≡◌, ◌+◌, ◌-◌, ◌<◌, ◌≤◌, true}
-use Rattle.ro_region.specs.Permission.{permits_byte}
-use Rattle.ro_region.proofs.permission.Regions.permits_each_page.Given as goal
+use Rattle.ro_region.specs.Permission.{permits_byte, ranges_of}
+use Rattle.ro_region.proofs.regions.Regions.permits_each_page.Given as goal
 
 abbrev pub invariant-loop-done : goal.invariant-loop-done
 invariant-loop-done l = record {
   within : l.done ≤ l.len;
-  permitted : (k : ℕ) → k < l.done → permits_byte l.self l.kind (l.address + k) ≡ true;
+  permitted : (k : ℕ) → k < l.done → permits_byte (ranges_of l.self) l.kind (l.address + k) ≡ true;
 }
 
 abbrev pub decreases-loop-done : goal.decreases-loop-done

@@ -1,13 +1,18 @@
 """What comes of a call of a program, after docs/GUESTS.md and crates/ro_kernel/specs; for all machines and judges in Python. It
 changes no memory and no thread; what is to be changed there is an effect (crates/ro_event/specs/Effects.antt)."""
+import collections.abc
 import dataclasses
 import enum
+import itertools
 import typing
 
 WORD = 0xFFFFFFFF
-HEAP_SIZE, THREADS, MOST_MUTEXES, MOST_BYTES = 1 << 20, 16, 256, 4096
+PAGE, HEAP_SIZE, THREADS, MOST_MUTEXES, MOST_BYTES = 4096, 1 << 20, 16, 256, 4096
+MAPPED, MAPPED_END = 0x50000000, 0x51000000  # where the memory begins that is given on demand, and its end
 READ, WRITE, EXECUTE = 4, 2, 1
-EPERM, ESRCH, EBADF, EAGAIN, EFAULT, EBUSY, EINVAL, EDEADLK, ENOSYS = 1, 3, 9, 11, 14, 16, 22, 35, 38
+PRIVATE_ANONYMOUS = 0x22  # the only flags of mmap
+PROTECTIONS = {1: READ, 3: READ | WRITE}  # of mmap
+EPERM, ESRCH, EBADF, EAGAIN, ENOMEM, EFAULT, EBUSY, EINVAL, EDEADLK, ENOSYS = 1, 3, 9, 11, 12, 14, 16, 22, 35, 38
 
 
 def low_bytes(value: int, size: int) -> bytes:
@@ -15,13 +20,18 @@ def low_bytes(value: int, size: int) -> bytes:
     return (value & (1 << 8 * size) - 1).to_bytes(size, "little")
 
 
+class Range(typing.NamedTuple):
+    """Addresses, and of READ, WRITE and EXECUTE what their bytes may be."""
+    start: int
+    end: int
+    kinds: int
+
+
 class Place(typing.Protocol):
     """What the kernel looks at of the machine that calls; it never changes."""
+    ranges: list[Range]  # that are permitted from the start
     heap: int  # where it begins
     input: bytes
-
-    def permits(self, address: int, size: int, kind: int) -> bool:
-        """Whether each of the bytes may be read, written or executed."""
 
 
 class Life(enum.Enum):
@@ -65,6 +75,7 @@ class Effect:
     data: bytes = b""
     page: int | None = None  # a page to back
     made: Made | None = None
+    range: Range | None = None  # that is permitted from now on
     releases: bool = False  # whether the thread's stop goes
 
     def move(self, thread):
@@ -114,16 +125,6 @@ def moved(call: Call) -> int:
     return min(call.a2, MOST_BYTES)
 
 
-def has_room(machine: Place, address: int) -> bool:
-    """Whether a word can be stored there."""
-    return address % 4 == 0 and machine.permits(address, 4, WRITE)
-
-
-def is_good_write(machine: Place, call: Call) -> bool:
-    """Whether it is a write that passes its checks."""
-    return call.which == 64 and call.a0 in (1, 2) and moved(call) > 0 and machine.permits(call.a1, moved(call), READ)
-
-
 @dataclasses.dataclass
 class Kernel:
     machine: Place
@@ -133,6 +134,37 @@ class Kernel:
     broken: int  # the program's break
     taken: int = 0  # how much of the input was read
     waiters: tuple[Waiter, ...] = ()  # in the order in which they began to wait
+    given: tuple[Range, ...] = ()  # the ranges that were given to the program, the newest first
+
+    def __deepcopy__(self, memo) -> "Kernel":
+        """It never changes."""
+        return self
+
+    def ranges(self) -> collections.abc.Iterator[Range]:
+        """All that are permitted: those from the start, and those that were given since."""
+        return itertools.chain(self.machine.ranges, self.given)
+
+    def permits(self, address: int, size: int, kind: int) -> bool:
+        """Whether each of the bytes may be read, written or executed."""
+        end = address + size
+        while address < end:
+            reached = next((stop for start, stop, kinds in self.ranges() if kinds & kind and start <= address < stop), None)
+            if reached is None:
+                return False
+            address = reached
+        return True
+
+    def has_room(self, address: int) -> bool:
+        """Whether a word can be stored there."""
+        return address % 4 == 0 and self.permits(address, 4, WRITE)
+
+    def is_good_write(self, call: Call) -> bool:
+        """Whether it is a write that passes its checks."""
+        return call.which == 64 and call.a0 in (1, 2) and moved(call) > 0 and self.permits(call.a1, moved(call), READ)
+
+    def given_end(self) -> int:
+        """Where the next range begins."""
+        return self.given[0].end if self.given else MAPPED
 
     def lives_on(self, thread: int) -> bool:
         return thread < len(self.lives) and self.lives[thread] is Life.LIVE
@@ -169,10 +201,11 @@ class Calling:
     thread: int
     call: Call
 
-    def answers(self, value: int, place: int = 0, data: bytes = b"", made: Made | None = None, **changes) -> Done:
+    def answers(self, value: int, place: int = 0, data: bytes = b"", made: Made | None = None, gives: Range | None = None,
+                **changes) -> Done:
         """It is served with this answer; of the kernel these fields change. A system call goes on behind it, a function at ra."""
         goes = Goes.NEXT if isinstance(self.call.which, int) else Goes.RETURNS
-        effect = Effect(self.thread, value & WORD, goes, place, data, None, made, releases=True)
+        effect = Effect(self.thread, value & WORD, goes, place, data, None, made, gives, releases=True)
         return Done(dataclasses.replace(self.kernel, **changes), effect)
 
     def with_life(self, thread: int, life: Life) -> list[Life]:
@@ -189,6 +222,8 @@ class Calling:
             return Ends(self.kernel, self.call.a0 % 256)
         if self.call.which == 214:
             return self.brk()
+        if self.call.which == 222:
+            return self.mmap()
         return self.answers(-ENOSYS)
 
     def read(self) -> Served:
@@ -197,7 +232,7 @@ class Calling:
             return self.answers(-EBADF)
         if size == 0:
             return self.answers(0)
-        if not kernel.machine.permits(call.a1, size, WRITE):
+        if not kernel.permits(call.a1, size, WRITE):
             return self.answers(-EFAULT)
         got = kernel.machine.input[kernel.taken:kernel.taken + size]
         return self.answers(len(got), call.a1, got, taken=kernel.taken + len(got))
@@ -205,7 +240,7 @@ class Calling:
     def write(self) -> Served:
         if self.call.a0 not in (1, 2):
             return self.answers(-EBADF)
-        if moved(self.call) > 0 and not is_good_write(self.kernel.machine, self.call):
+        if moved(self.call) > 0 and not self.kernel.is_good_write(self.call):
             return self.answers(-EFAULT)
         return self.answers(moved(self.call))
 
@@ -215,13 +250,24 @@ class Calling:
             return self.answers(wish, broken=wish)
         return self.answers(self.kernel.broken)
 
+    def mmap(self) -> Served:
+        """The next pages of the memory that is given on demand. The address that is wished for isn't looked at."""
+        call, kernel, start = self.call, self.kernel, self.kernel.given_end()
+        if call.a3 != PRIVATE_ANONYMOUS or call.a2 not in PROTECTIONS or call.a1 == 0:
+            return self.answers(-EINVAL)
+        end = start + -(-call.a1 // PAGE) * PAGE
+        if end > MAPPED_END:
+            return self.answers(-ENOMEM)
+        gives = Range(start, end, PROTECTIONS[call.a2])
+        return self.answers(start, gives=gives, given=(gives, *kernel.given))
+
     # ---- Threads
 
     def create(self) -> Served:
         call, kernel = self.call, self.kernel
         if call.a1 != 0 or call.a2 % 4 != 0:
             return self.answers(EINVAL)
-        if not has_room(kernel.machine, call.a0):
+        if not kernel.has_room(call.a0):
             return self.answers(EFAULT)
         number = len(kernel.lives)
         if number >= THREADS:
@@ -238,7 +284,7 @@ class Calling:
         life = self.kernel.lives[other]
         if life is Life.JOINED:
             return self.answers(ESRCH)
-        if place != 0 and not has_room(self.kernel.machine, place):
+        if place != 0 and not self.kernel.has_room(place):
             return self.answers(EFAULT)
         if life is Life.LIVE:
             return Blocked()
@@ -258,7 +304,7 @@ class Calling:
     def on_mutex(self, what: str) -> Served:
         """A mutex is its address; its word must be one that can be stored."""
         mutex, owners = self.call.a0, self.kernel.owners
-        if not has_room(self.kernel.machine, mutex):
+        if not self.kernel.has_room(mutex):
             return self.answers(EFAULT)
         if what in ("init", "destroy"):
             return self.answers(0)
@@ -277,7 +323,7 @@ class Calling:
 
     def on_condition(self, what: str) -> Served:
         """A condition variable is its address, too."""
-        if not has_room(self.kernel.machine, self.call.a0):
+        if not self.kernel.has_room(self.call.a0):
             return self.answers(EFAULT)
         if what == "wait":
             return self.wait()
@@ -292,7 +338,7 @@ class Calling:
     def wait(self) -> Served:
         """Two steps: the mutex becomes free and the thread waits; later, signalled, it takes the mutex."""
         kernel, condition, mutex, waiter = self.kernel, self.call.a0, self.call.a1, self.kernel.waiter(self.thread)
-        if not has_room(kernel.machine, mutex):
+        if not kernel.has_room(mutex):
             return self.answers(EFAULT)
         owner = kernel.owners.get(mutex)
         if waiter is None:

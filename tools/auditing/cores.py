@@ -4,9 +4,8 @@ import dataclasses
 
 from auditing.jobs import Entry, Fault, Job
 from auditing.replicas import Change, PageFault, Replica, Stands, Stop, Trap, View
-from fuzzing.machine import PAGE
 from journals import Free, Put, Scrub, Take, Vote
-from kernel import Blocked, Call, Done, Effect, Ends, Kernel, Parked, Served, opening_kernel
+from kernel import PAGE, Blocked, Call, Done, Effect, Ends, Kernel, Parked, Served, opening_kernel
 
 
 class Illegal(Exception):
@@ -215,7 +214,7 @@ class Core:
     def occur(self, thread: int, count: int, event: Event):
         """An event, so many instructions behind the thread's last release."""
         for replica in self.replicas:
-            replica.apply(event.effect)
+            replica.apply(event.kernel, event.effect)
         self.kernel = event.kernel
         self.blocked.pop(thread, None)
         if event.blocked is not None:

@@ -10,6 +10,7 @@ from fuzzing import readers
 from fuzzing.machine import STACKS, STACK_SIZE, STACK_STEP
 from fuzzing.programs import BASE, PAGE
 from journals import End, Free, Put, Scrub, Take, Vote
+from kernel import MAPPED
 
 HEAD = "romain 2"
 CHOICES = {"replicas": [2, 3, 3, 5], "drivers": [1, 1, 2, 3, 8], "watchdog": [100, 100, 128, 10_000],
@@ -33,7 +34,8 @@ def draw_fault(draw: random.Random, file: bytes, replicas: int) -> str:
     else:
         stack = STACKS + STACK_STEP * thread + STACK_SIZE - 1 - draw.randrange(32)
         hidden = BASE + draw.randrange(52)  # of the file's header, which no guest reads
-        places = hidden, BASE + draw.randrange(len(file)), BASE + PAGE + draw.randrange(8), stack
+        mapped = MAPPED + draw.choice((0, PAGE)) + draw.randrange(8)
+        places = hidden, BASE + draw.randrange(len(file)), BASE + PAGE + draw.randrange(8), stack, mapped
         where = f"{draw.choice(places)} {draw.randrange(8)}"
     return f"{replica} {thread} {moment} {kind} {where}\n"
 

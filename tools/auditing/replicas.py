@@ -3,8 +3,8 @@ faults that wait. What an instruction does is told by the machine that tools/fuz
 import dataclasses
 
 from auditing.jobs import Fault, Job
-from fuzzing.machine import EBREAK, ECALL, PAGE, Machine
-from kernel import WORD, Call, Effect, Kernel, is_good_write, low_bytes, moved
+from fuzzing.machine import EBREAK, ECALL, Machine
+from kernel import PAGE, WORD, Call, Effect, Kernel, low_bytes, moved
 from racing.machine import made_registers
 
 
@@ -139,13 +139,13 @@ class Replica(Machine):
 
     def is_mapped(self, address: int) -> bool:
         """Whether it lies in a range, whatever that permits."""
-        return any(start <= address < end for start, end, _ in self.ranges)
+        return any(start <= address < end for start, end, _ in self.kernel.ranges())
 
     # ---- Votes
 
     def payload(self, stop: Stop) -> bytes:
         """The bytes that go out."""
-        if isinstance(stop, Call) and is_good_write(self, stop):
+        if isinstance(stop, Call) and self.kernel.is_good_write(stop):
             return self.bytes_at(stop.a1, moved(stop))
         return b""
 
@@ -167,9 +167,9 @@ class Replica(Machine):
         self.threads = [dataclasses.replace(theirs, registers=[*theirs.registers], done=own.done)
                         for theirs, own in zip(winner.threads, self.threads)]
 
-    def apply(self, effect: Effect):
-        """What an event changes; and page faults that are settled by it are forgotten."""
-        thread = self.threads[effect.thread]
+    def apply(self, kernel: Kernel, effect: Effect):
+        """What an event changes, with the kernel that it leaves; and page faults that are settled by it are forgotten."""
+        self.kernel, thread = kernel, self.threads[effect.thread]
         effect.move(thread)
         thread.since = 0
         if effect.releases:

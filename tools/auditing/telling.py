@@ -3,13 +3,14 @@ from auditing.cores import Copy, Core, Judged, Whole, unlike, unlike_whole
 from auditing.drawing import line_of
 from auditing.jobs import Entry, Fault
 from auditing.reasons import core_behind, reason_of
-from auditing.replicas import PageFault, Stop, Trap, Watchdog
+from auditing.replicas import PageFault, Stop, Thread, Trap, Watchdog
 from fuzzing import readers
 from journals import Vote
-from kernel import Call
-from racing.symbols import REGISTERS
+from kernel import MAPPED, MAPPED_END, WORD, Call, Kernel
+from racing.symbols import LOADS, REGISTERS, STORES, signed
 
-LEFT_OUT = "function", "instruction"  # what a file's symbols of functions and its words tell
+LEFT_OUT = "function", "text"  # what a file's symbols of functions tell, and the texts of instructions
+UNFETCHED = 1, 2  # causes of a trap before the instruction was fetched
 
 WORDS = {  # of the parts of a view
     "pc": "the pc", "since": "the instructions since the last vote", "stop": "what it stands at", "payload": "what is written"}
@@ -142,7 +143,50 @@ def waiting_line(core: Core, thread: int) -> str:
 def trap_told(core: Core, entries: list[Entry]) -> dict:
     thread = [entry.thread for entry in entries if isinstance(entry, Vote) and entry.did == "trapped"][-1]
     trapped = core.replicas[0].threads[thread]
-    return {"thread": thread, "pc": trapped.pc, "registers": trapped.registers[1:], "abi_names": REGISTERS[1:]}
+    return {"thread": thread, "pc": trapped.pc, "registers": trapped.registers[1:], "abi_names": REGISTERS[1:],
+            "instruction": instruction_told(core, trapped)}
+
+
+def instruction_told(core: Core, trapped: Thread) -> dict | None:
+    """The instruction that trapped, and what it touches."""
+    if trapped.stop.cause in UNFETCHED:
+        return None
+    word = int.from_bytes(core.replicas[0].bytes_at(trapped.pc, 4), "little")
+    touched = touched_by(word, trapped.registers)
+    return {"word": word, "touched": touched, "mapped": None if touched is None else mapped_told(core.kernel, touched)}
+
+
+def touched_by(word: int, registers: list[int]) -> int | None:
+    """The address that an instruction loads from or stores to."""
+    opcode, function, base = word & 127, word >> 12 & 7, registers[word >> 15 & 31]
+    if opcode == 0x03 and function in LOADS:
+        return base + signed(word >> 20) & WORD
+    if opcode == 0x23 and function in STORES:
+        return base + signed(word >> 25 << 5 | word >> 7 & 31) & WORD
+    return None
+
+
+def mapped_told(kernel: Kernel, address: int) -> dict | None:
+    """The range of mapped memory that an address lies in, or the newest one where it lies behind that, and how far."""
+    if not kernel.given or not MAPPED <= address < MAPPED_END:
+        return None
+    given = next((given for given in kernel.given if given.start <= address < given.end), kernel.given[0])
+    return {"start": given.start, "end": given.end, "behind": address - given.end if given.end <= address else None}
+
+
+def touched_lines(core: Core, entries: list[Entry]) -> list[str]:
+    """The sentence of what the instruction touches that trapped, if it touches something."""
+    told = trap_told(core, entries)["instruction"]
+    if told is None or told["touched"] is None:
+        return []
+    return [f"It touches the address {told['touched']:08x}{mapped_words(told['mapped'])}."]
+
+
+def mapped_words(told: dict | None) -> str:
+    if told is None:
+        return ""
+    where = {None: "in", 0: "just behind", 1: "1 byte behind"}.get(told["behind"], f"{told['behind']} bytes behind")
+    return f", {where} mapped memory {told['start']:08x}..{told['end']:08x}"
 
 
 def stop_word(stop: Stop) -> str:

@@ -26,7 +26,7 @@ class Fault:
     thread: int
     moment: int
     kind: str
-    place: str  # register's name, pc, or code, data, heap, stack
+    place: str  # register's name, pc, or code, data, heap, mapped, stack
     number: int  # the register or the address; of the pc none: 0
     bit: int
 

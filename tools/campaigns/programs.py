@@ -11,13 +11,16 @@ import tempfile
 
 from campaigns.running import call
 from journals import read_report
+from kernel import MAPPED
 
 ROOT = pathlib.Path(__file__).resolve().parent.parent.parent
 PAGE = 4096
 SYMBOL_TABLE, ALLOCATED = 2, 2  # the kind of a section; the flag of one that is in memory
 OBJECT, FUNCTION = 1, 2  # kinds of symbols
-# of the heap only the part that small programs use is struck
+# of the heap and of mapped memory only the part that small programs use is struck
 HEAP_PART = 16 * 1024
+# addi a7, zero, 222: a program that has it asks for mapped memory
+ASKS_FOR_MAPPED = struct.pack("<I", 0x0DE00893)
 
 
 @dataclasses.dataclass
@@ -60,6 +63,8 @@ def areas_of(data):
         areas.setdefault("code" if flags & 1 else "data", []).append((address, size))
         top = max(top, address + size)
     areas["heap"] = [((top + PAGE - 1) // PAGE * PAGE, HEAP_PART)]
+    if ASKS_FOR_MAPPED in data:
+        areas["mapped"] = [(MAPPED, HEAP_PART)]
     return areas
 
 

@@ -152,7 +152,7 @@ class Faults:
 
     def line(self, draw):
         where = draw.choice((f"reg {draw.randrange(1, 32)} {draw.randrange(32)}", f"pc {draw.randrange(32)}",
-                             f"mem {draw.choice((65536, 65646, 0x7000FFF0, 4294967295))} {draw.randrange(8)}"))
+                             f"mem {draw.choice((65536, 65646, 0x50000000, 0x7000FFF0, 4294967295))} {draw.randrange(8)}"))
         return f"{draw.randrange(3)} {draw.choice((0, 0, 0, 1, 15))} {draw.choice((0, 1, 5, 12, 20, 10**12))} {where}\n"
 
     def draw(self, draw):

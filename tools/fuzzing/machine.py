@@ -1,10 +1,9 @@
 """The machine of docs/GUESTS.md for programs with one thread, written after that page: what a program writes, how it ends and
 after how many votes and steps."""
 from fuzzing import readers
-from kernel import (EXECUTE, HEAP_SIZE, READ, THREADS, WORD, WRITE, Call, Done, Ends, is_good_write, low_bytes, moved,
+from kernel import (EXECUTE, HEAP_SIZE, PAGE, READ, THREADS, WORD, WRITE, Call, Done, Ends, Range, low_bytes, moved,
                     opening_kernel)
 
-PAGE = 4096
 STACKS, STACK_SIZE, STACK_STEP = 0x70000000, 0x10000, 0x20000
 RETURN = 0x7FFFFFF0
 ECALL, EBREAK = 0x00000073, 0x00100073
@@ -69,12 +68,13 @@ class Machine:
         top = 0
         for segment in readers.program_headers(file):
             if segment.kind == 1 and segment.size:
-                self.ranges.append((segment.address, segment.end, segment.flags))
+                self.ranges.append(Range(segment.address, segment.end, segment.flags))
                 top = max(top, segment.end)
                 self.fill(segment.address, file[segment.offset:segment.offset + segment.file_size])
         self.heap = -(-top // PAGE) * PAGE
-        self.ranges.append((self.heap, self.heap + HEAP_SIZE, READ | WRITE))
-        self.ranges += [(STACKS + STACK_STEP * i, STACKS + STACK_STEP * i + STACK_SIZE, READ | WRITE) for i in range(THREADS)]
+        self.ranges.append(Range(self.heap, self.heap + HEAP_SIZE, READ | WRITE))
+        stacks = range(STACKS, STACKS + STACK_STEP * THREADS, STACK_STEP)
+        self.ranges += [Range(start, start + STACK_SIZE, READ | WRITE) for start in stacks]
 
     # ---- Memory
 
@@ -86,16 +86,6 @@ class Machine:
     def bytes_at(self, address, size):
         return bytes(self.pages[place // PAGE][place % PAGE] if place // PAGE in self.pages else 0
                      for place in range(address, address + size))
-
-    def permits(self, address, size, kind):
-        """Whether each of the bytes may be read, written or executed."""
-        end = address + size
-        while address < end:
-            reached = next((stop for start, stop, flags in self.ranges if flags & kind and start <= address < stop), None)
-            if reached is None:
-                return False
-            address = reached
-        return True
 
     def place(self, address):
         """The page of an address, and where it is in it. The first time it is needed its replicas stop there, for a vote."""
@@ -131,7 +121,7 @@ class Machine:
         if served.effect.made:
             raise Several
         self.kernel = served.kernel
-        if is_good_write(self, call):
+        if self.kernel.is_good_write(call):
             self.output += self.bytes_at(call.a1, moved(call))
         self.fill(served.effect.place, served.effect.data)
         served.effect.move(self)
@@ -157,7 +147,7 @@ class Machine:
         name = b"pthread_exit" if pc == RETURN else self.calls.get(pc)
         if name:
             return name, None
-        if not self.permits(pc, 4, EXECUTE):
+        if not self.kernel.permits(pc, 4, EXECUTE):
             self.trap(2)
         page, at = self.place(pc)
         return None, int.from_bytes(page[at:at + 4], "little")
@@ -221,7 +211,7 @@ class Machine:
     def loaded(self, address, size, is_signed):
         if address % size:
             self.trap(5)
-        if not self.permits(address, size, READ):
+        if not self.kernel.permits(address, size, READ):
             self.trap(6)
         page, at = self.place(address)
         return int.from_bytes(page[at:at + size], "little", signed=is_signed)
@@ -230,7 +220,7 @@ class Machine:
         """The page of bytes that are stored, and where they are in it."""
         if address % size:
             self.trap(7)
-        if not self.permits(address, size, WRITE):
+        if not self.kernel.permits(address, size, WRITE):
             self.trap(8)
         return self.place(address)
 

@@ -8,6 +8,10 @@ OPERANDS = [0, 1, 2, 31, 32, 0x7FF, 0x800, 0xFFFF, 0x10000, 0x7FFFFFFF, 0x800000
 # funct7 and funct3 of what two registers give.
 TWO_REGISTERS = [(0, function) for function in range(8)] + [(32, 0), (32, 5)] + [(1, function) for function in range(8)]
 LENGTHS = {0: 1, 1: 2, 2: 4, 4: 1, 5: 2}  # in bytes, of a load or store by its funct3
+# Of calls of mmap: lengths that are given and lengths at the edges, and the other arguments, most of them right.
+MAP_LENGTHS = [1, PAGE - 1, PAGE, PAGE + 1, 3 * PAGE, 1 << 20]
+MAP_EDGES = [0, (1 << 24) - PAGE, 1 << 24, (1 << 24) + 1, 0xFFFFF001, 0xFFFFFFFF]
+PROTECTIONS, FLAGS = [3] * 12 + [1, 1, 0, 2, 5], [0x22] * 20 + [0, 2, 0x20, 0x32]
 
 
 def form_i(value, first, function, register, opcode):
@@ -34,8 +38,27 @@ def put(register, value):
     return [(value - low) & 0xFFFFF000 | register << 7 | 0x37, form_i(low, register, 0, register, 0x13)]
 
 
+def draw_mapping(draw):
+    """A call of mmap, mostly one that is served, and mostly a store to what it gives and a load from there, or from near it."""
+    length = draw.choice(MAP_LENGTHS if draw.randrange(8) else MAP_EDGES)
+    words = []
+    for register, value in enumerate((draw.getrandbits(32), length, draw.choice(PROTECTIONS), draw.choice(FLAGS)), 10):
+        words += put(register, value)
+    words += [form_i(222, 0, 0, 17, 0x13), 0x73]
+    size = -(-length // PAGE) * PAGE
+    if size == 0 or draw.randrange(8) == 0:
+        return words
+    place = draw.choice((0, 0, 4 * draw.randrange(size // 4), size - 4, *([-4, size] if draw.randrange(20) == 0 else [])))
+    words += put(11, place & 0xFFFFFFFF) + [11 << 20 | 10 << 15 | 11 << 7 | 0x33]  # the answer and the place
+    if draw.randrange(4):
+        words.append(form_s(0, draw.randrange(32), 11, 2))
+    return words + [form_i(0, 11, 2, draw.randrange(POINTER), 0x03)]
+
+
 def draw_instructions(draw):
-    """One instruction, or two that belong together. Jumps go ahead, so that programs end."""
+    """One instruction, or some that belong together. Jumps go ahead, so that programs end."""
+    if draw.randrange(60) == 0:
+        return draw_mapping(draw)
     register, first, second = draw.randrange(POINTER), draw.randrange(32), draw.randrange(32)
     ahead = 4 * draw.randrange(2, 8) - (2 if draw.randrange(200) == 0 else 0)
     kind = draw.randrange(12)

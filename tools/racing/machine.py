@@ -6,10 +6,10 @@ import enum
 
 from fuzzing import readers
 from fuzzing.machine import ECALL, RETURN, STACKS, STACK_SIZE, STACK_STEP, Ended, Machine
-from kernel import HEAP_SIZE, THREADS, WORD, Blocked, Call, Effect, Ends, Parked, Served, is_good_write, moved
+from kernel import HEAP_SIZE, THREADS, WORD, Blocked, Call, Effect, Ends, Parked, Range, Served, moved
 
 NONE = range(0)  # no bytes
-SYSTEM_CALLS = {63: "read", 64: "write", 93: "exit", 94: "exit", 214: "brk"}
+SYSTEM_CALLS = {63: "read", 64: "write", 93: "exit", 94: "exit", 214: "brk", 222: "mmap"}
 
 
 class Relation(enum.Enum):
@@ -38,7 +38,7 @@ class Step:
     caller: int = 0  # of a call of a POSIX function, the instruction in front of the place where it comes back
     code: range = NONE  # the bytes that were read as an instruction
     loaded: range = NONE  # the bytes that it loads, or writes to the output
-    stored: range = NONE
+    stored: range = NONE  # the bytes that it stores, or that are given to the program
     relation: Relation = Relation.NOTHING
     subject: int = 0
 
@@ -94,6 +94,10 @@ class Replay(Machine):
 
     def is_heap(self, address: int) -> bool:
         return self.heap <= address < self.heap + HEAP_SIZE
+
+    def given_at(self, address: int) -> Range | None:
+        """The range of mapped memory that it lies in."""
+        return next((given for given in self.kernel.given if given.start <= address < given.end), None)
 
     def held_by(self, thread: int) -> tuple[int, ...]:
         return tuple(sorted(mutex for mutex, owner in self.kernel.owners.items() if owner == thread))
@@ -156,12 +160,14 @@ class Replay(Machine):
             self.apply(thread, call, served.effect)
 
     def apply(self, thread: Thread, call: Call, effect: Effect):
-        if is_good_write(self, call):
+        if self.kernel.is_good_write(call):
             self.now.loaded = range(call.a1, call.a1 + moved(call))
             self.output += self.bytes_at(call.a1, moved(call))
         if effect.data:
             self.now.stored = range(effect.place, effect.place + len(effect.data))
             self.fill(effect.place, effect.data)
+        if effect.range:
+            self.now.stored = range(effect.range.start, effect.range.end)
         if effect.made:
             self.threads.append(Thread(made_registers(thread.registers, len(self.threads), effect.made.argument),
                                        effect.made.start))

@@ -5,6 +5,7 @@ import struct
 from fuzzing.machine import EBREAK, ECALL
 from fuzzing.programs import BASE, HEADERS, PAGE, form_i, form_j, form_s, put
 from fuzzing.readers import NAMES
+from kernel import MAPPED
 from racing.machine import NoStep, Plan, Replay
 from racing.symbols import FUNCTION, Symbol
 
@@ -35,7 +36,7 @@ STUBS = {name.decode(): CODE + 4 + 4 * i for i, name in enumerate(NAMES)}
 SHARED = CODE + 4 * (1 + len(NAMES))  # two words that all threads access
 MUTEXES = [SHARED + 8, SHARED + 12]
 CONDITIONS = [SHARED + 16, SHARED + 20]
-FIRST, ROOM = SHARED + 24, 4 * 130  # thread 0's function, and the room of each
+FIRST, ROOM = SHARED + 24, 4 * 180  # thread 0's function, and the room of each
 POINTER, VALUE, RETURN_PLACE = 9, 5, 18  # registers: SHARED, what is loaded and stored, and where a thread returns to
 NOP = 0x13
 
@@ -84,6 +85,21 @@ def draw_access(draw: random.Random, function: Function):
         function.words += put(6, FIRST + ROOM * draw.randrange(3)) + put(VALUE, NOP) + [form_s(0, VALUE, 6, 2)]
 
 
+def draw_mapped(draw: random.Random, function: Function):
+    """A call of mmap, mostly one that is served; or an access to what may have been given, or a call that needs bytes there."""
+    kind, place = draw.randrange(9), MAPPED + draw.choice((0, 0, PAGE - 4, PAGE, PAGE, 2 * PAGE))
+    if kind < 3:
+        numbers = (1, PAGE, PAGE + 1, 0), (3,) * 6 + (1, 2), (0x22,) * 8 + (2,)
+        function.call(222, 0, *map(draw.choice, numbers))
+    elif kind == 3:
+        function.call("pthread_mutex_trylock", place)
+    elif kind == 4:
+        function.call(draw.choice((63, 64)), draw.randrange(2), place, draw.randrange(6))
+    else:
+        size = draw.randrange(3)
+        function.words += put(6, place) + [form_i(0, 6, size, VALUE, 0x03) if kind < 7 else form_s(0, VALUE, 6, size)]
+
+
 def draw_condition(draw: random.Random, function: Function, mutex: int):
     """A signal or a broadcast, or a wait, seldom with another mutex. Nobody looks whether there is something to wait for."""
     condition = CONDITIONS[draw.randrange(8) == 0]
@@ -125,9 +141,12 @@ def draw_end(draw: random.Random, function: Function, is_first: bool):
 
 
 def draw_program(draw: random.Random) -> bytes:
-    """An executable whose thread 0 makes a second thread, and thread 0 or that one perhaps a third; each does a few parts."""
+    """An executable whose thread 0 makes a second thread, and thread 0 or that one perhaps a third; each does a few parts, of a
+    third of the programs some with mapped memory."""
     makers = {1: 0, 2: draw.choice((0, 1, None))}
-    functions = [Function(number) for number in range(3)]
+    functions, maps = [Function(number) for number in range(3)], draw.randrange(3) == 0
+    if maps and draw.randrange(2):
+        functions[0].call(222, 0, draw.choice((1, 2 * PAGE)), 3, 0x22)
     for number, function in enumerate(functions):
         deeds = [("part", 0)] * draw.randint(0, 3)
         deeds += [("make", made) for made, maker in makers.items() if maker == number]
@@ -135,6 +154,8 @@ def draw_program(draw: random.Random) -> bytes:
         deeds += [("join", draw.randrange(3)) for _ in range(draw.choice((0, 1, 1, 2)) if number == 0 else draw.randrange(2))]
         deeds += [("part", 0)] * draw.randint(0, 1)
         for what, other in deeds:
+            for _ in range(draw.randrange(3) if maps else 0):
+                draw_mapped(draw, function)
             if what == "part":
                 draw_part(draw, function)
             elif what == "make":

@@ -66,6 +66,9 @@ class Teller:
             return name
         if self.machine.is_heap(byte):
             return f"in the heap, at heap+{byte - self.machine.heap:x}"
+        given = self.machine.given_at(byte)
+        if given:
+            return f"in mapped memory {given.start:08x}..{given.end:08x}"
         return "which no symbol names" if owner is None else f"in the stack of thread {owner}"
 
     def does(self, step: Step) -> str:
@@ -107,8 +110,8 @@ def verb(step: Step, byte: int) -> str:
 
 def accesses(step: Step, byte: int) -> str:
     """How a step accesses a byte."""
-    whats = {"read": "with bytes of the input", "write": "for the output", "pthread_create": "with the new thread's number",
-             "pthread_join": f"with the exit value of thread {step.subject}"}
+    whats = {"read": "with bytes of the input", "write": "for the output", "mmap": "with zeros",
+             "pthread_create": "with the new thread's number", "pthread_join": f"with the exit value of thread {step.subject}"}
     ways = [("writes", step.stored, whats.get(step.call)), ("reads", step.loaded, whats.get(step.call)),
             ("reads", step.code, "as a part of the instruction")]
     told = []

@@ -89,6 +89,11 @@ def cells():
         yield row.translate(str.maketrans("01", ".#")).encode() + b"\n"
 
 
+def word_counts():
+    words = given("words").split()
+    return b"".join(b"%d %s\n" % (words.count(word), word) for word in dict.fromkeys(words))
+
+
 def expected():
     """Of each guest its output and its status."""
     count = given("lines").count(b"\n")
@@ -105,6 +110,7 @@ def expected():
         "queue": (squares(), 0),
         "barrier": (b"".join(cells()), 0),
         "lines": (b"%d\n" % count, count % 256),
+        "words": (word_counts(), 0),
     }
 
 

@@ -1,6 +1,7 @@
 // What newlib asks of a system: input and output, a heap and an end. There are no files and no other
 // processes.
 #include "call.h"
+#include "heap.h"
 #include <errno.h>
 #include <stddef.h>
 #include <stdint.h>
@@ -31,11 +32,11 @@ int _write(int descriptor, const void *place, size_t length)
     return answer(romain_call(64, (uint32_t)descriptor, (uint32_t)(uintptr_t)place, length));
 }
 
-// The heap's end before so many bytes more.
+// So many bytes more for malloc. It asks twice at times, and takes the second for what lies behind the first.
 void *_sbrk(ptrdiff_t more)
 {
-    int old = romain_call(214, 0, 0, 0);
-    return romain_call(214, (uint32_t)(old + more), 0, 0) == old + more ? (void *)old : (void *)fails(ENOMEM);
+    void *place = romain_more_heap(more);
+    return place != NULL ? place : (void *)fails(ENOMEM);
 }
 
 // Streams are held until their buffers are full, or the program ends.

@@ -1,7 +1,8 @@
-// For a program with picolibc: its thread-local data, its locks, its streams and its end. The library keeps errno and what some
+// For a program with picolibc: its thread-local data, its locks, its memory, its streams and its end. The library keeps errno and what some
 // of its functions remember in thread-local data, at tp: thread 0 has a block of its own among the data, a made thread one at
 // the upper end of its stack. Linked with --wrap=pthread_create, by which the program's calls of that come to the one here.
 #include "call.h"
+#include "heap.h"
 #include <errno.h>
 #include <picotls.h>
 #include <pthread.h>
@@ -93,6 +94,13 @@ void __retarget_lock_release_recursive(struct __lock *lock)
         lock->again--;
     else
         pthread_mutex_unlock(&lock->mutex);
+}
+
+// So many bytes more for malloc, which holds the lock meanwhile.
+void *sbrk(ptrdiff_t more)
+{
+    void *place = romain_more_heap(more);
+    return place != NULL ? place : (void *)-1;
 }
 
 // Bytes of a stream that are held between two calls of the kernel.

@@ -1,4 +1,4 @@
-// All that a guest of Romain may ask of its kernel: four system calls, and fourteen functions of POSIX threads. The names of
+// All that a guest of Romain may ask of its kernel: five system calls, and fourteen functions of POSIX threads. The names of
 // the standard are in the headers of the standard's names, which this one stands above. docs/GUESTS.md says what each call
 // answers; there is no C library.
 #ifndef ROMAIN_H
@@ -8,6 +8,7 @@
 #include <stddef.h>
 #include <stdint.h>
 #include <string.h>
+#include <sys/mman.h>
 #include <unistd.h>
 
 // The end of the whole program, as _exit: there is nothing to be run behind main.

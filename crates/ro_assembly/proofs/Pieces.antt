@@ -24,3 +24,9 @@ three_joined name one second third = simp append_assoc
 
 pub based_joined : (name one offset base : List ℕ) → name ++ (codes " " ++ (one ++ (codes ", " ++ (offset ++ (codes "(" ++ (base ++ codes ")")))))) ≡ two name one (offset ++ codes "(" ++ base ++ codes ")")
 based_joined name one offset base = simp append_assoc
+
+pub pointing_joined : (name one base : List ℕ) → name ++ (codes " " ++ (one ++ (codes ", (" ++ (base ++ codes ")")))) ≡ two name one (codes "(" ++ base ++ codes ")")
+pointing_joined name one base = simp append_assoc
+
+pub two_pointing_joined : (name one second base : List ℕ) → name ++ (codes " " ++ (one ++ (codes ", " ++ (second ++ (codes ", (" ++ (base ++ codes ")")))))) ≡ three name one second (codes "(" ++ base ++ codes ")")
+two_pointing_joined name one second base = simp append_assoc

@@ -10,6 +10,8 @@ use Rattle.ro_decode.specs.declared.StoreOp.{StoreOp}
 use Rattle.ro_decode.specs.declared.StoreOp.TheVariants.{Sb, Sh, Sw}
 use Rattle.ro_decode.specs.declared.BranchOp.{BranchOp}
 use Rattle.ro_decode.specs.declared.BranchOp.TheVariants.{Beq, Bne, Blt, Bge, Bltu, Bgeu}
+use Rattle.ro_decode.specs.declared.AtomicOp.{AtomicOp}
+use Rattle.ro_decode.specs.declared.AtomicOp.TheVariants.{LoadReserved, StoreConditional, AmoSwap, AmoAdd, AmoXor, AmoAnd, AmoOr, AmoMin, AmoMax, AmoMinu, AmoMaxu}
 
 -- x0 to x31 by the names of the calling convention
 abbrev pub register_names : List (List ℕ)
@@ -68,3 +70,16 @@ branch_name Blt = codes "blt"
 branch_name Bge = codes "bge"
 branch_name Bltu = codes "bltu"
 branch_name Bgeu = codes "bgeu"
+
+abbrev pub atomic_name : AtomicOp → List ℕ
+atomic_name LoadReserved = codes "lr.w"
+atomic_name StoreConditional = codes "sc.w"
+atomic_name AmoSwap = codes "amoswap.w"
+atomic_name AmoAdd = codes "amoadd.w"
+atomic_name AmoXor = codes "amoxor.w"
+atomic_name AmoAnd = codes "amoand.w"
+atomic_name AmoOr = codes "amoor.w"
+atomic_name AmoMin = codes "amomin.w"
+atomic_name AmoMax = codes "amomax.w"
+atomic_name AmoMinu = codes "amominu.w"
+atomic_name AmoMaxu = codes "amomaxu.w"

@@ -1,11 +1,13 @@
 -- The text of an instruction.
 use Rattle.std.specs.Prelude.{ℕ, ℤ, ◌+◌, ◌-◌, ◌/◌, false, List, ◌++◌, Option, Some, None, length, replicate, codes}
 use Rattle.std.specs.Fmt.{digits, signed_decimal}
+use Rattle.ro_decode.specs.declared.AtomicOp.{AtomicOp}
+use Rattle.ro_decode.specs.declared.AtomicOp.TheVariants.{LoadReserved}
 use Rattle.ro_decode.specs.declared.Instr.{Instr}
-use Rattle.ro_decode.specs.declared.Instr.TheVariants.{Lui, Auipc, Jal, Jalr, Branch, Load, Store, AluImm, Alu, MulDiv, Fence, Ecall, Ebreak}
+use Rattle.ro_decode.specs.declared.Instr.TheVariants.{Lui, Auipc, Jal, Jalr, Branch, Load, Store, AluImm, Alu, MulDiv, Fence, Atomic, Ecall, Ebreak}
 use Rattle.ro_decode.specs.Table.{instruction_of}
 use Rattle.ro_alu.specs.Results.{low_word, signed}
-use Rattle.ro_assembly.specs.Names.{register_name, alu_name, alu_imm_name, muldiv_name, load_name, store_name, branch_name}
+use Rattle.ro_assembly.specs.Names.{register_name, alu_name, alu_imm_name, muldiv_name, load_name, store_name, branch_name, atomic_name}
 
 abbrev pub hexadecimal : ℕ → List ℕ
 hexadecimal n = digits 16 false n
@@ -33,7 +35,16 @@ two name one other = name ++ codes " " ++ one ++ codes ", " ++ other
 abbrev pub three : (name one second third : List ℕ) → List ℕ
 three name one second third = two name one second ++ codes ", " ++ third
 
--- the text of an instruction at pc; what a fence orders is left out
+-- the address that a register alone gives
+abbrev pub pointed : (rs1 : ℕ) → List ℕ
+pointed rs1 = codes "(" ++ register_name rs1 ++ codes ")"
+
+-- LR has no operand
+abbrev pub atomic_text : AtomicOp → (rd rs1 rs2 : ℕ) → List ℕ
+atomic_text LoadReserved rd rs1 rs2 = two (atomic_name LoadReserved) (register_name rd) (pointed rs1)
+atomic_text op rd rs1 rs2 = three (atomic_name op) (register_name rd) (register_name rs2) (pointed rs1)
+
+-- the text of an instruction at pc; what a fence or an atomic instruction orders is left out
 abbrev pub text_of : (pc : ℕ) → Instr → List ℕ
 text_of pc (Lui rd imm) = two (codes "lui") (register_name rd) (upper imm)
 text_of pc (Auipc rd imm) = two (codes "auipc") (register_name rd) (upper imm)
@@ -46,6 +57,7 @@ text_of pc (AluImm op rd rs1 imm) = three (alu_imm_name op) (register_name rd) (
 text_of pc (Alu op rd rs1 rs2) = three (alu_name op) (register_name rd) (register_name rs1) (register_name rs2)
 text_of pc (MulDiv op rd rs1 rs2) = three (muldiv_name op) (register_name rd) (register_name rs1) (register_name rs2)
 text_of pc (Fence rd rs1 bits) = codes "fence"
+text_of pc (Atomic op rd rs1 rs2 order) = atomic_text op rd rs1 rs2
 text_of pc Ecall = codes "ecall"
 text_of pc Ebreak = codes "ebreak"
 

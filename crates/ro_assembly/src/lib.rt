@@ -1,4 +1,5 @@
-//! Instructions as assemblers write them, the names of registers, and the address that a load or a store accesses.
+//! Instructions as assemblers write them, the names of registers, and the address that a load, a store or an atomic
+//! instruction accesses.
 #![tactic(auto)]
 
 mod accesses;

@@ -1,8 +1,8 @@
 //! The names of registers and operations.
 ghost use Rattle.std.specs.Prelude.{◌≡◌, ◌<◌};
-ghost use Rattle.ro_assembly.specs.Names.{register_name, alu_name, alu_imm_name, muldiv_name, load_name, store_name, branch_name};
+ghost use Rattle.ro_assembly.specs.Names.{register_name, alu_name, alu_imm_name, muldiv_name, load_name, store_name, branch_name, atomic_name};
 
-use ro_decode::{AluOp, BranchOp, LoadOp, MulDivOp, StoreOp};
+use ro_decode::{AluOp, AtomicOp, BranchOp, LoadOp, MulDivOp, StoreOp};
 
 /// The name of a register in the calling convention.
 pub fn register_name(number: u8) -> &'static str
@@ -128,5 +128,23 @@ pub(crate) fn branch_name(op: BranchOp) -> &'static str
         BranchOp::Bge => "bge",
         BranchOp::Bltu => "bltu",
         BranchOp::Bgeu => "bgeu",
+    }
+}
+
+pub(crate) fn atomic_name(op: AtomicOp) -> &'static str
+    ensures { result.now ≡ atomic_name op }
+{
+    match op {
+        AtomicOp::LoadReserved => "lr.w",
+        AtomicOp::StoreConditional => "sc.w",
+        AtomicOp::AmoSwap => "amoswap.w",
+        AtomicOp::AmoAdd => "amoadd.w",
+        AtomicOp::AmoXor => "amoxor.w",
+        AtomicOp::AmoAnd => "amoand.w",
+        AtomicOp::AmoOr => "amoor.w",
+        AtomicOp::AmoMin => "amomin.w",
+        AtomicOp::AmoMax => "amomax.w",
+        AtomicOp::AmoMinu => "amominu.w",
+        AtomicOp::AmoMaxu => "amomaxu.w",
     }
 }

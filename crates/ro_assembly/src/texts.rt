@@ -3,13 +3,14 @@ ghost use Rattle.std.specs.Prelude.{◌≡◌, ◌<◌, IfOk};
 ghost use Rattle.std.specs.Fmt.{signed_decimal};
 ghost use Rattle.std.specs.String.{string_bytes};
 ghost use Rattle.ro_decode.specs.Table.{InRange};
-ghost use Rattle.ro_assembly.specs.Names.{register_name};
-ghost use Rattle.ro_assembly.specs.Texts.{eight_digits, upper, based, two, three, text_of, word_text};
+ghost use Rattle.ro_assembly.specs.Names.{register_name, atomic_name};
+ghost use Rattle.ro_assembly.specs.Texts.{eight_digits, upper, based, two, three, pointed, atomic_text, text_of, word_text};
 
 use crate::names::{
-    alu_imm_name, alu_name, branch_name, load_name, muldiv_name, register_name, store_name,
+    alu_imm_name, alu_name, atomic_name, branch_name, load_name, muldiv_name, register_name,
+    store_name,
 };
-use ro_decode::{Instr, decode};
+use ro_decode::{AtomicOp, Instr, decode};
 use std::alloc::{AllocError, Global};
 use std::fmt;
 
@@ -32,8 +33,8 @@ impl fmt::Display for EightDigits {
 }
 
 /// The text of the instruction that a word at pc spells, as assemblers write it: registers by the names of the calling
-/// convention, the places that jumps and branches go to as addresses of eight hexadecimal digits. What a FENCE orders is left
-/// out. A word that is no instruction is `.word` and its eight digits.
+/// convention, the places that jumps and branches go to as addresses of eight hexadecimal digits. What a FENCE or an atomic
+/// instruction orders is left out. A word that is no instruction is `.word` and its eight digits.
 pub fn instruction_text(alloc: Global, word: u32, pc: u32) -> Result<String, AllocError>
     ensures { IfOk result (λ text. string_bytes text ≡ word_text word pc) }
 {
@@ -70,6 +71,13 @@ fn text_of(alloc: Global, instr: Instr, pc: u32) -> Result<String, AllocError>
             with_registers(alloc, muldiv_name(op), rd, rs1, rs2)
         }
         Instr::Fence { .. } => String::from_str(alloc, "fence"),
+        Instr::Atomic {
+            op,
+            rd,
+            rs1,
+            rs2,
+            ..
+        } => atomic(alloc, op, rd, rs1, rs2),
         Instr::Ecall => String::from_str(alloc, "ecall"),
         Instr::Ebreak => String::from_str(alloc, "ebreak"),
     }
@@ -144,4 +152,38 @@ fn with_registers(alloc: Global, name: &str, rd: u8, rs1: u8, rs2: u8) -> Result
 {
     let (rd, rs1, rs2) = (register_name(rd), register_name(rs1), register_name(rs2));
     format!(in alloc; "{name} {rd}, {rs1}, {rs2}")
+}
+
+// An atomic instruction.
+fn atomic(alloc: Global, op: AtomicOp, rd: u8, rs1: u8, rs2: u8) -> Result<String, AllocError>
+    requires rd { rd < 32 }
+    requires rs1 { rs1 < 32 }
+    requires rs2 { rs2 < 32 }
+    ensures { IfOk result (λ text. string_bytes text ≡ atomic_text op rd rs1 rs2) }
+{
+    match op {
+        AtomicOp::LoadReserved => pointing(alloc, atomic_name(op), rd, rs1),
+        _ => two_pointing(alloc, atomic_name(op), rd, rs2, rs1),
+    }
+}
+
+// A register, and one with an address.
+fn pointing(alloc: Global, name: &str, rd: u8, rs1: u8) -> Result<String, AllocError>
+    requires rd { rd < 32 }
+    requires rs1 { rs1 < 32 }
+    ensures { IfOk result (λ text. string_bytes text ≡ two name.now (register_name rd) (pointed rs1)) }
+{
+    let (rd, rs1) = (register_name(rd), register_name(rs1));
+    format!(in alloc; "{name} {rd}, ({rs1})")
+}
+
+// Two registers, and one with an address.
+fn two_pointing(alloc: Global, name: &str, rd: u8, rs2: u8, rs1: u8) -> Result<String, AllocError>
+    requires rd { rd < 32 }
+    requires rs2 { rs2 < 32 }
+    requires rs1 { rs1 < 32 }
+    ensures { IfOk result (λ text. string_bytes text ≡ three name.now (register_name rd) (register_name rs2) (pointed rs1)) }
+{
+    let (rd, rs2, rs1) = (register_name(rd), register_name(rs2), register_name(rs1));
+    format!(in alloc; "{name} {rd}, {rs2}, ({rs1})")
 }

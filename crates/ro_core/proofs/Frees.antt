@@ -5,7 +5,6 @@ use Rattle.ro_journal.specs.declared.How.TheVariants.{Limit}
 use Rattle.ro_journal.specs.declared.Did.TheVariants.{Served as WasServed}
 use Rattle.ro_journal.specs.declared.Entry.TheVariants.{Free}
 use Rattle.ro_event.specs.declared.calls.Call.{Call}
-use Rattle.ro_event.specs.declared.stops.Stop.TheVariants.{Calls}
 use Rattle.ro_journal.specs.Plan.{event_steps}
 use Rattle.ro_kernel.specs.Kernel.{Setup, Kernel, lives_on}
 use Rattle.ro_kernel.specs.Serve.{serve}
@@ -14,20 +13,19 @@ use Rattle.ro_replica.specs.Replica.{Replica}
 use Rattle.ro_core.specs.declared.cores.Core.{Core as Run}
 use Rattle.ro_core.specs.declared.events.Event.{Event as Happening}
 use Rattle.ro_legal.specs.Core.{Job, Core, is_going, may_free}
-use Rattle.ro_legal.specs.Event.{Event, call_event, event_of, core_after}
+use Rattle.ro_legal.specs.Event.{Event, call_event, core_after}
 use Rattle.ro_legal.specs.Legal.{core_after_event, after, MayFree, MayEnd, for_free, EndsFree}
 use Rattle.ro_core.specs.Fields.{AreSpared, Fields, blocked_at, core_in, Holds}
 use Rattle.ro_core.specs.Grouped.{AreMade}
 use Rattle.ro_core.specs.Seated.{Stands}
-use Rattle.ro_core.specs.Happening.{event_by, LeavesWaiting}
+use Rattle.ro_core.specs.Happening.{event_by, ComesOf, of_blocked, LeavesWaiting}
 use Rattle.ro_core.specs.Runs.{IsAmid, MakesRoom, CanOccur}
 use Rattle.ro_legal.proofs.FaultStops.{fault-stops}
 use Rattle.ro_core.proofs.Held.{Goes, goes}
 use Rattle.ro_legal.proofs.Happens.{Happens, call-happens}
 use Rattle.ro_legal.proofs.Ordered.{FreeParts, free-parts, freed-is, freed-steps, ordered}
 use Rattle.ro_core.proofs.Tests.{lives-within}
-use Rattle.ro_core.proofs.Votes.{no-page, same-state}
-use Rattle.ro_legal.proofs.Served.{serve-tidy}
+use Rattle.ro_core.proofs.Votes.{call-low, same-state}
 
 module _ (f : Fields) (h : Holds f) (thread : ℕ) (may : may_free f.job (core_in f) thread ≡ true) where
   pub parts : FreeParts f.job (core_in f) thread
@@ -85,7 +83,7 @@ module _ (f : Fields) (h : Holds f) (thread : ℕ) (may : may_free f.job (core_i
     free-happens = subst (λ (k : Kernel). Happens k thread the-event) h.kernel_is (call-happens f.kernel.setup f.kernel.kernel thread call [])
 
     pub free-low : IfSome the-event.effect.page (λ page. page < 2 ^ 20)
-    free-low = subst (λ (o : Option ℕ). IfSome o (λ page. page < 2 ^ 20)) (sym (no-page f.kernel.setup f.kernel.kernel thread call [] (serve f.kernel.setup f.kernel.kernel thread call) (serve-tidy f.kernel.setup f.kernel.kernel thread call))) tt
+    free-low = call-low f.kernel.setup f.kernel.kernel thread call call []
 
     pub free-came : after f.job (core_in f) (Free thread) ≡ core_after (core_in f) thread 0 (core_in f).replicas the-event
     unfolding after
@@ -107,7 +105,6 @@ module _ (f : Fields) (h : Holds f) (thread : ℕ) (may : may_free f.job (core_i
     -- the event that the code has for it can be done
     pub free-can : (r : Run) (e : Happening) (threads : ℕ) → the-event ≡ event_by e r.kernel.kernel (if e.writes then [] else []) → f.steps + 1 ≤ f.job.settings.limit → IsAmid f r → IfSome e.effect.range (λ range. length f.kernel.kernel.given < 4096) → Stands f.job (core_in f).kernel r.seats (core_in f).replicas → AreSpared r.seats.homes.items → threads ≡ length f.kernel.kernel.lives → (e.moves ≡ false → LeavesWaiting f.kernel.kernel r.kernel.kernel)
         → CanOccur r (record { thread = thread; event = e; entry = Free thread; steps = 1; writer = None; threads = threads })
-    unfolding event_of
     free-can r e threads is fits amid room stands spared threads_are leaves = record {
       before = f;
       holds = h;
@@ -119,10 +116,7 @@ module _ (f : Fields) (h : Holds f) (thread : ℕ) (may : may_free f.job (core_i
       allowed = free-allowed fits;
       came = free-came ∙ ap (core_after (core_in f) thread 0 (core_in f).replicas) is-by;
       no_end = refl;
-      stop = Calls call;
-      shown = [];
-      few = omega arith;
-      event_is = is-by;
+      comes = subst (ComesOf f.kernel.setup f.kernel.kernel thread) is-by (of_blocked call);
       live = free-live;
       own = sym (ap (λ (x : Event). x.effect.thread) is) ∙ free-happens.thread_is;
       low = subst (λ (o : Option ℕ). IfSome o (λ page. page < 2 ^ 20)) (ap (λ (x : Event). x.effect.page) is) free-low;

@@ -11,7 +11,7 @@ use Rattle.ro_core.specs.declared.cores.Core.{Core as Run}
 use Rattle.ro_core.specs.declared.voting.Occurrence.{Occurrence}
 use Rattle.ro_legal.specs.Streaks.{after_event}
 use Rattle.ro_legal.specs.Core.{Job, Core, is_going}
-use Rattle.ro_legal.specs.Event.{Event, event_of, all_applied, core_after}
+use Rattle.ro_legal.specs.Event.{Event, all_applied, core_after}
 use Rattle.ro_legal.specs.Legal.{replay, output_of}
 use Rattle.ro_legal.specs.Sound.{IsOrdered}
 use Rattle.ro_core.specs.Fields.{Fields, core_in, blocked_at, first_unblocked, AreHome, CanTake, Holds}
@@ -20,13 +20,13 @@ use Rattle.ro_core.specs.Happening.{event_by}
 use Rattle.ro_core.specs.Runs.{job_of, payload_by, LastWrote, CanOccur}
 use Rattle.ro_legal.proofs.Journals.{replay_more, legal_more}
 use Rattle.ro_core.proofs.Held.{Goes, goes}
-use Rattle.ro_legal.proofs.Happens.{Happens, event-happens}
+use Rattle.ro_legal.proofs.Happens.{Happens}
 use Rattle.ro_legal.proofs.Ordered.{ordered}
 use Rattle.ro_core.proofs.Sitting.{home-count}
 use Rattle.ro_core.proofs.Behind.{happened-holds, all-can-take}
 use Rattle.ro_core.proofs.Waits.{first-same, still-unblocked}
 use Rattle.ro_core.proofs.Tests.{lives-within}
-use Rattle.ro_core.proofs.Votes.{live-few, payload-due, payload-few, writes-step, length-applied}
+use Rattle.ro_core.proofs.Votes.{live-few, payload-due, payload-few, writes-step, comes-happens, length-applied}
 
 module _ (r : Run) (o : Occurrence) (can : CanOccur r o) where
   abbrev pub f : Fields
@@ -45,9 +45,7 @@ module _ (r : Run) (o : Occurrence) (can : CanOccur r o) where
   goes-on = goes f h can.going
 
   happens : Happens (core_in f).kernel o.thread event
-  happens =
-      subst (λ (x : Event). Happens (core_in f).kernel o.thread x) can.event_is
-      (subst (λ (k : Kernel). Happens k o.thread (event_of f.kernel.setup f.kernel.kernel o.thread can.stop can.shown)) h.kernel_is (event-happens f.kernel.setup f.kernel.kernel o.thread can.stop can.shown))
+  happens = subst (λ (k : Kernel). Happens k o.thread event) h.kernel_is (comes-happens f.kernel.setup f.kernel.kernel o.thread event can.comes)
 
   pub occurs-given : r.kernel.kernel.given ≡ with_range o.event.effect.range (core_in f).kernel.given
   occurs-given = happens.given_are
@@ -96,10 +94,10 @@ module _ (r : Run) (o : Occurrence) (can : CanOccur r o) where
       omega arith
 
   pub occurs-short : length payload ≤ 4096
-  occurs-short = subst (λ (x : Event). length x.payload ≤ 4096) can.event_is (payload-few f.kernel.setup f.kernel.kernel o.thread can.stop can.shown can.few)
+  occurs-short = payload-few f.kernel.setup f.kernel.kernel o.thread event can.comes
 
   fits : length payload ≤ 4096 * event_steps o.event.did
-  fits = subst (λ (x : Event). length x.payload ≤ 4096 * event_steps x.did) can.event_is (writes-step f.kernel.setup f.kernel.kernel o.thread can.stop can.shown can.few)
+  fits = writes-step f.kernel.setup f.kernel.kernel o.thread event can.comes
 
   pub occurs-sent : r.sent + length payload < 2 ^ 64
   occurs-sent =
@@ -145,6 +143,4 @@ module _ (r : Run) (o : Occurrence) (can : CanOccur r o) where
         }
       where
         none : 0 < length payload → o.event.due ≡ None
-        none some =
-            ap (λ (x : Event). x.due) (sym can.event_is)
-            ∙ payload-due f.kernel.setup f.kernel.kernel o.thread can.stop can.shown 0 (subst (λ (x : Event). 0 < length x.payload) (sym can.event_is) some)
+        none some = payload-due f.kernel.setup f.kernel.kernel o.thread event can.comes some

@@ -13,14 +13,17 @@ use Rattle.ro_journal.specs.declared.Entry.TheVariants.{Vote}
 use Rattle.ro_journal.specs.declared.losers.Lost.{Lost}
 use Rattle.ro_journal.specs.Losers.{numbers}
 use Rattle.ro_journal.specs.Plan.{event_steps}
+use Rattle.ro_event.specs.declared.calls.Which.{Which}
+use Rattle.ro_event.specs.declared.calls.Which.TheVariants.{System, Function, Atomic}
 use Rattle.ro_event.specs.declared.calls.Call.{Call}
 use Rattle.ro_event.specs.declared.stops.Stop.{Stop}
 use Rattle.ro_event.specs.declared.stops.Stop.TheVariants.{Calls, Trap as TrapStop, PageFault, Watchdog}
 use Rattle.ro_event.specs.Effects.{Effect}
 use Rattle.ro_event.specs.Views.{View}
 use Rattle.ro_kernel.specs.Kernel.{Setup, Kernel, lives_on}
-use Rattle.ro_kernel.specs.Serve.{Served, Done, Parked, Blocked, Ends, serve}
+use Rattle.ro_kernel.specs.Serve.{Served, Done, Parked, Blocked, Ends, put_out, asked, serve}
 use Rattle.ro_kernel.specs.State.{State}
+use Rattle.ro_kernel.proofs.Fits.{fit-effect}
 use Rattle.ro_exec.specs.Next.{Backed}
 use Rattle.ro_settings.specs.Ranges.{InRange}
 use Rattle.ro_vote.specs.Verdict.{verdict_of}
@@ -36,13 +39,12 @@ use Rattle.ro_legal.specs.Legal.{event_in, core_after_event, after, MayVote, Pas
 use Rattle.ro_core.specs.Seen.{IsOfMajority, KeepsViews}
 use Rattle.ro_legal.specs.Sound.{IsFault}
 use Rattle.ro_core.specs.Fields.{one_end, blocked_at, AreSeated, AreHome, AreSpared, IsSeat, AreAllTwins, AreLosers, Fields, core_in, Holds}
-use Rattle.ro_core.specs.Happening.{event_by, LeavesWaiting}
+use Rattle.ro_core.specs.Happening.{event_by, ComesOf, of_stop, of_blocked, LeavesWaiting}
 use Rattle.ro_core.specs.Runs.{fields_of, job_of, IsHeld, IsAmid, MakesRoom, CanOccur, payload_by}
 use Rattle.ro_core.specs.Grouped.{AreGrouped, AreMade}
 use Rattle.ro_core.specs.Seated.{Stands}
 use Rattle.ro_core.proofs.Held.{Goes, goes, same-unblocked}
-use Rattle.ro_legal.proofs.Happens.{Happens, event-happens}
-use Rattle.ro_legal.proofs.Served.{Tidy, tidy_done, serve-tidy}
+use Rattle.ro_legal.proofs.Happens.{Happens, call-happens, event-happens}
 use Rattle.ro_legal.proofs.Ordered.{VoteParts, vote-parts, copied-sound, ordered}
 use Rattle.ro_legal.proofs.FaultStops.{each-copied, fault-stops}
 use Rattle.ro_core.proofs.Sitting.{home-count, home-get}
@@ -66,15 +68,19 @@ live-few f h thread e =
 -- ---- the page that an event backs
 
 module _ (setup : Setup) (kernel : Kernel) (thread : ℕ) where
-  pub no-page : (call : Call) (payload : List ℕ) (served : Served) → Tidy kernel thread served → (call_event kernel thread call payload served).effect.page ≡ None
-  no-page call payload (Done after effect) (tidy_done t) = t.backs_none
-  no-page call payload (Parked after) t = refl
-  no-page call payload Blocked t = refl
-  no-page call payload (Ends after how) t = refl
+  -- of a call, as it is served
+  pub call-low : (call put : Call) (payload : List ℕ) → IfSome (call_event kernel thread call payload (serve setup kernel thread put)).effect.page (λ page. page < 2 ^ 20)
+  call-low call put payload = by (serve setup kernel thread put) refl
+    where
+      by : (served : Served) → serve setup kernel thread put ≡ served → IfSome (call_event kernel thread call payload served).effect.page (λ page. page < 2 ^ 20)
+      by (Done after effect) e = (fit-effect setup kernel thread put after effect e).backs_low
+      by (Parked after) e = tt
+      by Blocked e = tt
+      by (Ends after how) e = tt
 
   pub page-low : (backed : Backed) (stop : Stop) (payload : List ℕ) → IsFault backed (Some stop) → IfSome (event_of setup kernel thread stop payload).effect.page (λ page. page < 2 ^ 20)
   unfolding event_of
-  page-low backed (Calls call) payload low = subst (λ (o : Option ℕ). IfSome o (λ page. page < 2 ^ 20)) (sym (no-page call payload (serve setup kernel thread call) (serve-tidy setup kernel thread call))) tt
+  page-low backed (Calls call) payload low = call-low call (asked call payload) (put_out call.which payload)
   page-low backed (PageFault page) payload low = (low page refl).0
   page-low backed Watchdog payload low = tt
   page-low backed (TrapStop code) payload low = tt
@@ -254,10 +260,7 @@ module _ (f : Fields) (thread won : ℕ) (lost : Lost) (v : IsHeld f thread won 
       allowed = subst (λ (n : ℕ). MayVote f.job (core_in f) thread n won lost did) (sym counts) (hold-allowed did did_is (subst (λ (n : ℕ). f.steps + n ≤ f.job.settings.limit) steps fits));
       came = ap (λ (n : ℕ). after f.job (core_in f) (Vote thread n won lost did)) counts ∙ hold-came did ∙ ap (core_after (core_in f) thread view.since (with_recovered won (numbers lost) (core_in f).replicas)) is-by;
       no_end = refl;
-      stop = view.stop;
-      shown = view.payload;
-      few = hold-short;
-      event_is = is-by;
+      comes = subst (ComesOf f.kernel.setup f.kernel.kernel thread) is-by (of_stop view.stop view.payload hold-short);
       live = hold-live;
       own = sym (ap (λ (x : Event). x.effect.thread) is) ∙ hold-happens.thread_is;
       low = subst (λ (o : Option ℕ). IfSome o (λ page. page < 2 ^ 20)) (ap (λ (x : Event). x.effect.page) is) hold-low;
@@ -302,48 +305,72 @@ module _ (f : Fields) (thread won : ℕ) (lost : Lost) (v : IsHeld f thread won 
 
 -- ---- what a write's event is
 
-payload-call : (kernel : Kernel) (thread : ℕ) (call : Call) (payload : List ℕ) (served : Served) (n : ℕ) → n < length (call_event kernel thread call payload served).payload → (call_event kernel thread call payload served).due ≡ None
-payload-call kernel thread call payload (Done after effect) n less = refl
-payload-call kernel thread call payload (Parked after) n less = refl
-payload-call kernel thread call payload Blocked n less = refl
-payload-call kernel thread call payload (Ends after how) n less = absurd (omega arith)
+module _ (kernel : Kernel) (thread : ℕ) (call : Call) (out : List ℕ) where
+  payload-call : (served : Served) → 0 < length (call_event kernel thread call out served).payload → (call_event kernel thread call out served).due ≡ None
+  payload-call (Done after effect) some = refl
+  payload-call (Parked after) some = refl
+  payload-call Blocked some = refl
+  payload-call (Ends after how) some = absurd (omega arith)
 
--- an event that writes does not end the program
-pub payload-due : (setup : Setup) (kernel : Kernel) (thread : ℕ) (stop : Stop) (payload : List ℕ) (n : ℕ) → n < length (event_of setup kernel thread stop payload).payload → (event_of setup kernel thread stop payload).due ≡ None
-unfolding event_of
-payload-due setup kernel thread (Calls call) payload n less = payload-call kernel thread call payload (serve setup kernel thread call) n less
-payload-due setup kernel thread (PageFault page) payload n less = refl
-payload-due setup kernel thread Watchdog payload n less = refl
-payload-due setup kernel thread (TrapStop code) payload n less = absurd (omega arith)
+  payload-few-call : (served : Served) → length out ≤ 4096 → length (call_event kernel thread call out served).payload ≤ 4096
+  payload-few-call (Done after effect) few = few
+  payload-few-call (Parked after) few = omega arith
+  payload-few-call Blocked few = omega arith
+  payload-few-call (Ends after how) few = omega arith
 
-payload-few-call : (kernel : Kernel) (thread : ℕ) (call : Call) (payload : List ℕ) (served : Served) → length payload ≤ 4096 → length (call_event kernel thread call payload served).payload ≤ 4096
-payload-few-call kernel thread call payload (Done after effect) few = few
-payload-few-call kernel thread call payload (Parked after) few = omega arith
-payload-few-call kernel thread call payload Blocked few = omega arith
-payload-few-call kernel thread call payload (Ends after how) few = omega arith
+  writes-step-call : (served : Served) → length out ≤ 4096 → length (call_event kernel thread call out served).payload ≤ 4096 * event_steps (call_event kernel thread call out served).did
+  writes-step-call (Done after effect) few = few
+  writes-step-call (Parked after) few = omega arith
+  writes-step-call Blocked few = omega arith
+  writes-step-call (Ends after how) few = omega arith
 
--- what is written is short where the payload is
-pub payload-few : (setup : Setup) (kernel : Kernel) (thread : ℕ) (stop : Stop) (payload : List ℕ) → length payload ≤ 4096 → length (event_of setup kernel thread stop payload).payload ≤ 4096
-unfolding event_of
-payload-few setup kernel thread (Calls call) payload few = payload-few-call kernel thread call payload (serve setup kernel thread call) few
-payload-few setup kernel thread (PageFault page) payload few = omega arith
-payload-few setup kernel thread Watchdog payload few = omega arith
-payload-few setup kernel thread (TrapStop code) payload few = omega arith
+-- what is put out is short where the payload is
+out-few : (which : Which) (payload : List ℕ) → length payload ≤ 4096 → length (put_out which payload) ≤ 4096
+out-few (Atomic word) payload few = omega arith
+out-few (System number) payload few = few
+out-few (Function function) payload few = few
 
--- what is written fits the steps of its event
-pub writes-step-call : (kernel : Kernel) (thread : ℕ) (call : Call) (payload : List ℕ) (served : Served) → length payload ≤ 4096 → length (call_event kernel thread call payload served).payload ≤ 4096 * event_steps (call_event kernel thread call payload served).did
-writes-step-call kernel thread call payload (Done after effect) few = few
-writes-step-call kernel thread call payload (Parked after) few = omega arith
-writes-step-call kernel thread call payload Blocked few = omega arith
-writes-step-call kernel thread call payload (Ends after how) few = omega arith
+module _ (setup : Setup) (kernel : Kernel) (thread : ℕ) where
+  due-of : (stop : Stop) (payload : List ℕ) → 0 < length (event_of setup kernel thread stop payload).payload → (event_of setup kernel thread stop payload).due ≡ None
+  unfolding event_of
+  due-of (Calls call) payload some = payload-call kernel thread call (put_out call.which payload) (serve setup kernel thread (asked call payload)) some
+  due-of (PageFault page) payload some = refl
+  due-of Watchdog payload some = refl
+  due-of (TrapStop code) payload some = absurd (omega arith)
 
-pub writes-step : (setup : Setup) (kernel : Kernel) (thread : ℕ) (stop : Stop) (payload : List ℕ) → length payload ≤ 4096
-    → length (event_of setup kernel thread stop payload).payload ≤ 4096 * event_steps (event_of setup kernel thread stop payload).did
-unfolding event_of
-writes-step setup kernel thread (Calls call) payload few = writes-step-call kernel thread call payload (serve setup kernel thread call) few
-writes-step setup kernel thread (PageFault page) payload few = omega arith
-writes-step setup kernel thread Watchdog payload few = omega arith
-writes-step setup kernel thread (TrapStop code) payload few = omega arith
+  few-of : (stop : Stop) (payload : List ℕ) → length payload ≤ 4096 → length (event_of setup kernel thread stop payload).payload ≤ 4096
+  unfolding event_of
+  few-of (Calls call) payload few = payload-few-call kernel thread call (put_out call.which payload) (serve setup kernel thread (asked call payload)) (out-few call.which payload few)
+  few-of (PageFault page) payload few = omega arith
+  few-of Watchdog payload few = omega arith
+  few-of (TrapStop code) payload few = omega arith
+
+  step-of : (stop : Stop) (payload : List ℕ) → length payload ≤ 4096
+      → length (event_of setup kernel thread stop payload).payload ≤ 4096 * event_steps (event_of setup kernel thread stop payload).did
+  unfolding event_of
+  step-of (Calls call) payload few = writes-step-call kernel thread call (put_out call.which payload) (serve setup kernel thread (asked call payload)) (out-few call.which payload few)
+  step-of (PageFault page) payload few = omega arith
+  step-of Watchdog payload few = omega arith
+  step-of (TrapStop code) payload few = omega arith
+
+  -- an event that writes does not end the program
+  pub payload-due : (event : Event) → ComesOf setup kernel thread event → 0 < length event.payload → event.due ≡ None
+  payload-due event (of_stop stop shown few) some = due-of stop shown some
+  payload-due event (of_blocked call) some = payload-call kernel thread call [] (serve setup kernel thread call) some
+
+  -- what is written is short
+  pub payload-few : (event : Event) → ComesOf setup kernel thread event → length event.payload ≤ 4096
+  payload-few event (of_stop stop shown few) = few-of stop shown few
+  payload-few event (of_blocked call) = payload-few-call kernel thread call [] (serve setup kernel thread call) (omega arith)
+
+  -- and fits the steps of its event
+  pub writes-step : (event : Event) → ComesOf setup kernel thread event → length event.payload ≤ 4096 * event_steps event.did
+  writes-step event (of_stop stop shown few) = step-of stop shown few
+  writes-step event (of_blocked call) = writes-step-call kernel thread call [] (serve setup kernel thread call) (omega arith)
+
+  pub comes-happens : (event : Event) → ComesOf setup kernel thread event → Happens kernel thread event
+  comes-happens event (of_stop stop shown few) = event-happens setup kernel thread stop shown
+  comes-happens event (of_blocked call) = call-happens setup kernel thread call []
 
 -- an effect keeps the number of replicas
 pub length-applied : (effect : Effect) (replicas : List Replica) → length (all_applied effect replicas) ≡ length replicas

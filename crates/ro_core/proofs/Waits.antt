@@ -1,9 +1,13 @@
 -- On what hangs whether the call of a thread that is blocked would be done, and which calls leave that.
-use Rattle.std.specs.Prelude.{◌≡◌, ◌==◌, ◌||◌, ℕ, zero, suc, Bool, true, false, cond, not, List, [], ◌∷◌, length, Option, Some, None, slice_get, slice_set}
+use Rattle.std.specs.Prelude.{◌≡◌, ◌≢◌, ◌==◌, ◌||◌, ℕ, zero, suc, Bool, true, false, cond, not, List, [], ◌∷◌, length, Option, Some, None, slice_get, slice_set}
 use Rattle.std.proofs.Common.{refl, sym, ap, ◌∙◌, subst}
 use Rattle.std.specs.Option.{option_map_or}
+use Rattle.ro_decode.specs.declared.AtomicOp.{AtomicOp}
+use Rattle.ro_decode.specs.declared.AtomicOp.TheVariants.{LoadReserved, StoreConditional}
+use Rattle.ro_decode.specs.Table.{atomic_in}
 use Rattle.ro_event.specs.declared.calls.Which.{Which}
-use Rattle.ro_event.specs.declared.calls.Which.TheVariants.{System, Function}
+use Rattle.ro_event.specs.declared.calls.Which.TheVariants.{System, Function, Atomic}
+use Rattle.ro_event.specs.declared.functions.Function.{Function as Posix}
 use Rattle.ro_event.specs.declared.functions.Function.TheVariants.{Create, Join, Exit, ThreadSelf, MutexInit, MutexDestroy, Lock, TryLock, Unlock, ConditionInit, ConditionDestroy, Wait, Signal, Broadcast}
 use Rattle.ro_event.specs.declared.calls.Call.{Call}
 use Rattle.ro_event.specs.Effects.{Effect}
@@ -15,19 +19,22 @@ use Rattle.ro_kernel.specs.declared.Life.{Life}
 use Rattle.ro_kernel.specs.declared.Life.TheVariants.{Live, Exited, Joined}
 use Rattle.ro_kernel.specs.declared.outcome.Served.{Served as Code}
 use Rattle.ro_kernel.specs.declared.outcome.Served.TheVariants.{Done as CodeDone, Parked as CodeParked, Blocked as CodeBlocked, Ends as CodeEnds}
-use Rattle.ro_kernel.specs.Kernel.{Setup, Kernel, ranges_in}
+use Rattle.ro_kernel.specs.declared.reservations.Reservation.{Reservation}
+use Rattle.ro_kernel.specs.Reserved.{reservation_of}
+use Rattle.ro_kernel.specs.Kernel.{Setup, Kernel, ranges_in, released}
 use Rattle.ro_region.specs.declared.Range.{Range}
 use Rattle.ro_region.specs.Permission.{with_range}
 use Rattle.ro_kernel.specs.State.{State}
 use Rattle.ro_kernel.proofs.Given.{given-done, given-ended}
+use Rattle.ro_kernel.proofs.Kept.{IsServed, is_done, is_end, system-served, atomic-served}
 use Rattle.ro_kernel.specs.Served.{Brings}
-use Rattle.ro_kernel.specs.Serve.{Served, Done, Parked, Blocked, Ends, answers, fits, is_served, mapped, serve_read, serve_write, serve_brk, serve_mmap, serve_system, serve_join_at, lock_at, trylock_at, unlock_at, wait_at, on_word, serve_which, serve, serves}
+use Rattle.ro_kernel.specs.Serve.{Served, Done, Parked, Blocked, Ends, answers, fits, is_served, mapped, serve_read, serve_write, serve_brk, serve_mmap, serve_system, serve_join_at, lock_at, trylock_at, unlock_at, wait_at, on_word, serve_function, atomic_at, atomic_by, serve_by, serve_which, serve, serves}
 use Rattle.ro_legal.specs.Action.{lowest_below}
 use Rattle.ro_core.specs.Fields.{blocked_at, is_unblocked, first_unblocked}
 use Rattle.ro_core.specs.Happening.{LeavesWaiting}
 use Rattle.ro_core.proofs.Tests.{lowest-same}
 
--- ---- a call of the system leaves it, where it gives no range
+-- ---- a call of no function leaves it, where it gives no range
 
 -- all of it but what is given
 record LeavesRest (old new : Kernel) : Type 0 where
@@ -56,26 +63,43 @@ module _ (setup : Setup) (kernel : Kernel) (u : ℕ) (call : Call) where
   gives-more : LeavesRest kernel (record kernel { given = mapped kernel.given call ∷ kernel.given })
   gives-more = record { lives = refl; owners = refl; waiters = refl }
 
-  system-leaves : (number : ℕ) → call.which ≡ System number → Leaving kernel (serve setup kernel u call)
-  unfolding serve
-  system-leaves number e = subst (λ (w : Which). Leaving kernel (serve_which setup kernel u call w)) (sym e) by
-    where
-      of-read : Leaving kernel (serve_read setup kernel u call)
-      of-read = search (leaving-cond, by_done, same, reads-on)
+  reserves : (reserved : List (Option Reservation)) → LeavesRest kernel (record kernel { reserved = reserved })
+  reserves reserved = record { lives = refl; owners = refl; waiters = refl }
 
-      of-write : Leaving kernel (serve_write setup kernel u call)
-      of-write = search (leaving-cond, by_done, same)
+  of-read : Leaving kernel (serve_read setup kernel u call)
+  of-read = search (leaving-cond, by_done, same, reads-on)
 
-      of-brk : Leaving kernel (serve_brk setup kernel u call)
-      of-brk = search (leaving-cond, by_done, same, breaks-at)
+  of-write : Leaving kernel (serve_write setup kernel u call)
+  of-write = search (leaving-cond, by_done, same)
 
-      of-mmap : Leaving kernel (serve_mmap kernel u call)
-      of-mmap = search (leaving-cond, by_done, same, gives-more) depth 8
+  of-brk : Leaving kernel (serve_brk setup kernel u call)
+  of-brk = search (leaving-cond, by_done, same, breaks-at)
 
-      by : Leaving kernel (serve_system setup kernel u call number)
-      by =
-          let rest = leaving-cond kernel (number == 214) _ _ of-brk (leaving-cond kernel (number == 222) _ _ of-mmap (by_done same)) in
-          leaving-cond kernel (number == 63) _ _ of-read (leaving-cond kernel (number == 64) _ _ of-write (leaving-cond kernel ((number == 93) || (number == 94)) _ _ (by_end same) rest))
+  of-mmap : Leaving kernel (serve_mmap kernel u call)
+  of-mmap = search (leaving-cond, by_done, same, gives-more) depth 8
+
+  system-leaves : (number : ℕ) → Leaving kernel (serve_system setup kernel u call number)
+  system-leaves number =
+      let rest = leaving-cond kernel (number == 214) _ _ of-brk (leaving-cond kernel (number == 222) _ _ of-mmap (by_done same)) in
+      leaving-cond kernel (number == 63) _ _ of-read (leaving-cond kernel (number == 64) _ _ of-write (leaving-cond kernel ((number == 93) || (number == 94)) _ _ (by_end same) rest))
+
+  of-access : (word : ℕ) (o : Option Reservation) (op : AtomicOp) → Leaving kernel (atomic_at kernel u call word o op)
+  of-access word o LoadReserved = by_done (reserves _)
+  of-access word o StoreConditional = leaving-cond kernel _ _ _ (by_done (reserves _)) (by_done same)
+  of-access word o op = by_done (reserves _)
+
+  of-atomic : (word : ℕ) (o : Option Reservation) (op : Option AtomicOp) → Leaving kernel (atomic_by setup kernel u call word o op)
+  of-atomic word o None = by_done same
+  of-atomic word o (Some op) = leaving-cond kernel _ _ _ (by_done same) (of-access word o op)
+
+  of-which : (o : Option Reservation) (which : Which) → ((function : Posix) → which ≢ Function function) → Leaving kernel (serve_by setup kernel u call o which)
+  of-which o (System number) other = system-leaves number
+  of-which o (Atomic word) other = of-atomic word o (atomic_in word)
+  of-which o (Function function) other = absurd (other function refl)
+
+others-leave : (setup : Setup) (kernel : Kernel) (u : ℕ) (call : Call) → ((function : Posix) → call.which ≢ Function function) → Leaving (released kernel u) (serve setup kernel u call)
+unfolding serve
+others-leave setup kernel u call other = of-which setup (released kernel u) u call (reservation_of kernel.reserved u) call.which other
 
 leaves-done : (old after : Kernel) (effect : Effect) → Leaving old (Done after effect) → LeavesRest old after
 leaves-done old after effect (by_done h) = h
@@ -83,22 +107,28 @@ leaves-done old after effect (by_done h) = h
 leaves-end : (old after : Kernel) (how : How) → Leaving old (Ends after how) → LeavesRest old after
 leaves-end old after how (by_end h) = h
 
-leaves-all : (old new : Kernel) → LeavesRest old new → new.given ≡ old.given → LeavesWaiting old new
-leaves-all old new h given = record { lives = h.lives; owners = h.owners; waiters = h.waiters; given = given }
+leaves-all : (old new : Kernel) (u : ℕ) → LeavesRest (released old u) new → new.given ≡ old.given → LeavesWaiting old new
+leaves-all old new u h given = record { lives = h.lives; owners = h.owners; waiters = h.waiters; given = given }
 
 not-parked : (old after : Kernel) → Leaving old (Parked after) → ⊥
 not-parked old after h = elim h [ ]
 
 -- whatever the code answers for it
-pub brings-leaves : (old new : State) (u : ℕ) (call : Call) (number : ℕ) (served : Code) → call.which ≡ System number → ((effect : Effect) → served ≡ CodeDone effect → effect.range ≡ None) → Brings (serve old.setup old.kernel u call) old new served → LeavesWaiting old.kernel new.kernel
-brings-leaves old new u call number (CodeDone effect) e none b =
-    leaves-all old.kernel new.kernel (leaves-done old.kernel new.kernel effect (subst (Leaving old.kernel) b.0 (system-leaves old.setup old.kernel u call number e)))
-    (given-done old.setup old.kernel u call new.kernel effect b.0 ∙ ap (λ (range : Option Range). with_range range old.kernel.given) (none effect refl))
-brings-leaves old new u call number CodeParked e none b = absurd (not-parked old.kernel new.kernel (subst (Leaving old.kernel) b.0 (system-leaves old.setup old.kernel u call number e)))
-brings-leaves old new u call number CodeBlocked e none b = record { lives = ap (λ (s : State). s.kernel.lives) b.1; owners = ap (λ (s : State). s.kernel.owners) b.1; waiters = ap (λ (s : State). s.kernel.waiters) b.1; given = ap (λ (s : State). s.kernel.given) b.1 }
-brings-leaves old new u call number (CodeEnds how) e none b =
-    leaves-all old.kernel new.kernel (leaves-end old.kernel new.kernel how (subst (Leaving old.kernel) b.0 (system-leaves old.setup old.kernel u call number e)))
-    (given-ended old.setup old.kernel u call new.kernel how b.0)
+pub brings-leaves : (old new : State) (u : ℕ) (call : Call) (served : Code) → ((function : Posix) → call.which ≢ Function function) → ((effect : Effect) → served ≡ CodeDone effect → effect.range ≡ None) → Brings (serve old.setup old.kernel u call) old new served → LeavesWaiting old.kernel new.kernel
+brings-leaves old new u call served other none b = by served none b
+  where
+    left : Leaving (released old.kernel u) (serve old.setup old.kernel u call)
+    left = others-leave old.setup old.kernel u call other
+
+    by : (code : Code) → ((effect : Effect) → code ≡ CodeDone effect → effect.range ≡ None) → Brings (serve old.setup old.kernel u call) old new code → LeavesWaiting old.kernel new.kernel
+    by (CodeDone effect) unmapped h =
+        leaves-all old.kernel new.kernel u (leaves-done (released old.kernel u) new.kernel effect (subst (Leaving (released old.kernel u)) h.0 left))
+        (given-done old.setup old.kernel u call new.kernel effect h.0 ∙ ap (λ (range : Option Range). with_range range old.kernel.given) (unmapped effect refl))
+    by CodeParked unmapped h = absurd (not-parked (released old.kernel u) new.kernel (subst (Leaving (released old.kernel u)) h.0 left))
+    by CodeBlocked unmapped h = record { lives = ap (λ (s : State). s.kernel.lives) h.1; owners = ap (λ (s : State). s.kernel.owners) h.1; waiters = ap (λ (s : State). s.kernel.waiters) h.1; given = ap (λ (s : State). s.kernel.given) h.1 }
+    by (CodeEnds how) unmapped h =
+        leaves-all old.kernel new.kernel u (leaves-end (released old.kernel u) new.kernel how (subst (Leaving (released old.kernel u)) h.0 left))
+        (given-ended old.setup old.kernel u call new.kernel how h.0)
 
 -- ---- whether a call would be done hangs on nothing else
 
@@ -118,18 +148,18 @@ alike-served x y both_parked = refl
 alike-served x y both_blocked = refl
 alike-served x y both_end = refl
 
-module _ (setup : Setup) (kernel : Kernel) (heap_end taken : ℕ) (u : ℕ) (call : Call) where
+module _ (setup : Setup) (kernel : Kernel) (heap_end taken : ℕ) (reserved : List (Option Reservation)) (u : ℕ) (call : Call) where
   abbrev other : Kernel
-  other = record kernel { heap_end = heap_end; taken = taken }
+  other = record kernel { heap_end = heap_end; taken = taken; reserved = reserved }
 
   same-word : (x y : Served) → Alike x y → Alike (on_word setup other u call x) (on_word setup kernel u call y)
   same-word x y p = alike-cond (not (fits (ranges_in setup kernel) call.a0)) (answers other u call 14) x (answers kernel u call 14) y both_done p
 
   same-join : (o : Option Life) → Alike (serve_join_at setup other u call o) (serve_join_at setup kernel u call o)
   same-join None = both_done
-  same-join (Some Joined) = search (alike-cond, both_done, both_blocked)
+  same-join (Some Joined) = search (alike-cond, both_done)
   same-join (Some Live) = search (alike-cond, both_done, both_blocked)
-  same-join (Some (Exited value)) = search (alike-cond, both_done, both_blocked)
+  same-join (Some (Exited value)) = search (alike-cond, both_done)
 
   same-lock : (o : Option (Option ℕ)) → Alike (lock_at other u call o) (lock_at kernel u call o)
   same-lock None = search (alike-cond, both_done)
@@ -150,29 +180,44 @@ module _ (setup : Setup) (kernel : Kernel) (heap_end taken : ℕ) (u : ℕ) (cal
   same-wait None = search (alike-cond, both_done, both_parked)
   same-wait (Some waiter) = search (alike-cond, both_done, both_blocked)
 
-  same-which : (which : Which) → Alike (serve_which setup other u call which) (serve_which setup kernel u call which)
-  same-which (System number) = search (alike-cond, both_done, both_end) depth 12
-  same-which (Function Create) = search (alike-cond, both_done) depth 10
-  same-which (Function Join) = same-join (slice_get kernel.lives call.a0)
-  same-which (Function Exit) = search (alike-cond, both_done, both_end)
-  same-which (Function ThreadSelf) = both_done
-  same-which (Function MutexInit) = same-word (answers other u call 0) (answers kernel u call 0) both_done
-  same-which (Function MutexDestroy) = same-word (answers other u call 0) (answers kernel u call 0) both_done
-  same-which (Function Lock) = same-word _ _ (same-lock (owner_of kernel.owners call.a0))
-  same-which (Function TryLock) = same-word _ _ (same-trylock (owner_of kernel.owners call.a0))
-  same-which (Function Unlock) = same-word _ _ (same-unlock (owner_of kernel.owners call.a0))
-  same-which (Function ConditionInit) = same-word (answers other u call 0) (answers kernel u call 0) both_done
-  same-which (Function ConditionDestroy) = same-word (answers other u call 0) (answers kernel u call 0) both_done
-  same-which (Function Wait) = same-word _ _ (same-wait (wait_of kernel.waiters u))
-  same-which (Function Signal) = same-word _ _ both_done
-  same-which (Function Broadcast) = same-word _ _ both_done
+  same-function : (function : Posix) → Alike (serve_function setup other u call function) (serve_function setup kernel u call function)
+  same-function Create = search (alike-cond, both_done) depth 10
+  same-function Join = same-join (slice_get kernel.lives call.a0)
+  same-function Exit = search (alike-cond, both_done, both_end)
+  same-function ThreadSelf = both_done
+  same-function MutexInit = same-word (answers other u call 0) (answers kernel u call 0) both_done
+  same-function MutexDestroy = same-word (answers other u call 0) (answers kernel u call 0) both_done
+  same-function Lock = same-word _ _ (same-lock (owner_of kernel.owners call.a0))
+  same-function TryLock = same-word _ _ (same-trylock (owner_of kernel.owners call.a0))
+  same-function Unlock = same-word _ _ (same-unlock (owner_of kernel.owners call.a0))
+  same-function ConditionInit = same-word (answers other u call 0) (answers kernel u call 0) both_done
+  same-function ConditionDestroy = same-word (answers other u call 0) (answers kernel u call 0) both_done
+  same-function Wait = same-word _ _ (same-wait (wait_of kernel.waiters u))
+  same-function Signal = same-word _ _ both_done
+  same-function Broadcast = same-word _ _ both_done
+
+is-served : (served : Served) → IsServed served → is_served served ≡ true
+is-served served is_done = refl
+is-served served is_end = refl
 
 serves-same : (setup : Setup) (old new : Kernel) → LeavesWaiting old new → (u : ℕ) (call : Call) → serves setup new u call ≡ serves setup old u call
 unfolding serve
-serves-same setup old new left u call =
-    let e : new ≡ record old { heap_end = new.heap_end; taken = new.taken } = λ i. record { lives = left.lives i; owners = left.owners i; waiters = left.waiters i; heap_end = new.heap_end; taken = new.taken; given = left.given i } in
-    ap (λ (k : Kernel). is_served (serve_which setup k u call call.which)) e
-    ∙ alike-served (serve_which setup (record old { heap_end = new.heap_end; taken = new.taken }) u call call.which) (serve_which setup old u call call.which) (same-which setup old new.heap_end new.taken u call call.which)
+serves-same setup old new left u call = by call.which refl
+  where
+    after : Kernel
+    after = record (released old u) { heap_end = new.heap_end; taken = new.taken; reserved = slice_set new.reserved u None }
+
+    is-after : released new u ≡ after
+    is-after = λ i. record { lives = left.lives i; owners = left.owners i; waiters = left.waiters i; heap_end = new.heap_end; taken = new.taken; given = left.given i; reserved = slice_set new.reserved u None }
+
+    by : (which : Which) → call.which ≡ which → serves setup new u call ≡ serves setup old u call
+    by (System number) e = is-served _ (system-served setup new u call number e) ∙ sym (is-served _ (system-served setup old u call number e))
+    by (Atomic word) e = is-served _ (atomic-served setup new u call word e) ∙ sym (is-served _ (atomic-served setup old u call word e))
+    by (Function function) e =
+        ap (λ (w : Which). is_served (serve_which setup new u call w)) e
+        ∙ ap (λ (k : Kernel). is_served (serve_function setup k u call function)) is-after
+        ∙ alike-served (serve_function setup after u call function) (serve_function setup (released old u) u call function) (same-function setup (released old u) new.heap_end new.taken (slice_set new.reserved u None) u call function)
+        ∙ ap (λ (w : Which). is_served (serve_which setup old u call w)) (sym e)
 
 -- nor which thread is the lowest whose call would be
 pub first-same : (old new : State) (blocked : List (Option Call)) → new.setup ≡ old.setup → LeavesWaiting old.kernel new.kernel → first_unblocked new blocked ≡ first_unblocked old blocked

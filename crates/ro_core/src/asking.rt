@@ -60,7 +60,7 @@ impl Core {
     {
         let view = &self.views[won.won as usize];
         let count = view.since();
-        let coming = Coming::of(&self.kernel, thread, view.stop());
+        let coming = Coming::of(&self.kernel, thread, view);
         let next = u64::from(count) + coming.did.steps();
         if next > self.settings.limit - self.steps {
             let steps = self.steps;

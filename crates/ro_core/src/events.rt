@@ -1,17 +1,19 @@
 //! The event of a vote: what the winner's stop comes to.
-ghost use Rattle.std.specs.Prelude.{ℕ, ◌≡◌, ◌<◌, List, IfOk, IfSome, IsTrue, OnErr, length, [], Some, None, true, false, if◌then◌else◌};
+ghost use Rattle.std.specs.Prelude.{ℕ, ◌≡◌, ◌≢◌, ◌<◌, List, IfOk, IfSome, OnErr, length, [], Some, None, true, false, if◌then◌else◌};
 ghost use Rattle.ro_kernel.specs.Kernel.{lives_on, Kernel as KernelSeen};
 ghost use Rattle.ro_kernel.specs.Mapped.{IsMapped};
+ghost use Rattle.ro_kernel.specs.Serve.{put_out, serve as serve_of};
 ghost use Rattle.ro_event.specs.Effects.{Effect as EffectSeen};
 ghost use Rattle.ro_event.specs.declared.stops.Stop.{Stop as At};
-ghost use Rattle.ro_event.specs.declared.stops.Stop.TheVariants.{Calls};
+ghost use Rattle.ro_event.specs.declared.calls.Call.{Call as Asked};
+ghost use Rattle.ro_event.specs.declared.functions.Function.{Function as Posix};
 ghost use Rattle.ro_legal.specs.Event.{event_of, quiet_effect, call_event};
 ghost use Rattle.ro_core.specs.Fields.{outcome_with};
 ghost use Rattle.ro_core.specs.Happening.{event_by, IsCause, IsEvent, IsCallEvent, LeavesWaiting};
 
-use ro_event::{Call, Effect, Stop, Which};
+use ro_event::{Call, Effect, Stop, View, Which};
 use ro_journal::{Did, How};
-use ro_kernel::{Kernel, Served};
+use ro_kernel::{Kernel, Served, asked};
 use std::alloc::{AllocError, Global};
 
 /// What an event changes besides the kernel.
@@ -29,7 +31,7 @@ pub(crate) struct Event {
     pub moves: bool,
 }
 
-/// What the stop of a thread comes to.
+/// What a thread's stop and what it shows come to.
 #[derive(Clone, Copy)]
 pub(crate) struct Coming {
     pub did: Did,
@@ -39,7 +41,7 @@ pub(crate) struct Coming {
 /// Where an event comes from.
 #[derive(Clone, Copy)]
 pub(crate) enum Cause {
-    /// The kernel serves this call.
+    /// The kernel serves this call: as it is served, of an atomic instruction with the word that it found.
     Call(Call),
     /// The kernel stays as it is.
     Quiet {
@@ -50,17 +52,14 @@ pub(crate) enum Cause {
 }
 
 impl Coming {
-    /// What comes of a thread that stands at this stop.
+    /// What comes of a thread that stands still so.
     #[tactic(auto, unfolding(ro_legal::specs::Event::event_of))]
-    pub(crate) fn of(kernel: &Kernel, thread: u32, stop: &Stop) -> Coming
-        ensures did { (payload : List ℕ) → (event_of kernel.now.setup kernel.now.kernel thread stop.now payload).did ≡ result.did }
-        ensures cause { IsCause kernel.now.setup kernel.now.kernel thread stop.now result.did result.cause }
+    pub(crate) fn of(kernel: &Kernel, thread: u32, view: &View) -> Coming
+        ensures did { (event_of kernel.now.setup kernel.now.kernel thread view.now.stop view.now.payload).did ≡ result.did }
+        ensures cause { IsCause kernel.now.setup kernel.now.kernel thread view.now.stop view.now.payload result.did result.cause }
     {
-        match stop {
-            Stop::Calls(call) => Coming {
-                did: did_of(kernel, thread, *call),
-                cause: Cause::Call(*call),
-            },
+        match view.stop() {
+            Stop::Calls(call) => coming_of_call(kernel, thread, asked(*call, view.payload())),
             Stop::Trap(cause) => quiet(Did::Trapped, None, false, Some(How::Trap(*cause))),
             Stop::PageFault(page) => quiet(Did::PageBacked, Some(*page), true, None),
             Stop::Watchdog => quiet(Did::Watch, None, true, None),
@@ -78,7 +77,7 @@ impl Coming {
         thread: u32,
     ) -> Result<Event, AllocError>
         requires { lives_on kernel.old.kernel thread ≡ true }
-        ensures event { IfOk result (λ e. (stop : At) → IsCause kernel.old.setup kernel.old.kernel thread stop self.now.did self.now.cause → IsEvent kernel.old.setup kernel.old.kernel kernel.new.kernel thread stop e) }
+        ensures event { IfOk result (λ e. (stop : At) (payload : List ℕ) → IsCause kernel.old.setup kernel.old.kernel thread stop payload self.now.did self.now.cause → IsEvent kernel.old.setup kernel.old.kernel kernel.new.kernel thread stop payload e) }
         ensures leaves { IfOk result (λ e. e.moves ≡ false → LeavesWaiting kernel.old.kernel kernel.new.kernel) }
         ensures room { IfOk result (λ e. IsMapped kernel.old.kernel.given → IfSome e.effect.range (λ range. length kernel.old.kernel.given < 4096)) }
         ensures setup { kernel.new.setup ≡ kernel.old.setup }
@@ -95,10 +94,20 @@ impl Coming {
     }
 }
 
+// What comes of a call as it is served.
+fn coming_of_call(kernel: &Kernel, thread: u32, call: Call) -> Coming
+    ensures did { (of : Asked) (payload : List ℕ) → (call_event kernel.now.kernel thread of payload (serve_of kernel.now.setup kernel.now.kernel thread call)).did ≡ result.did }
+    ensures cause { result.cause ≡ Cause.Call call }
+{
+    Coming {
+        did: did_of(kernel, thread, call),
+        cause: Cause::Call(call),
+    }
+}
+
 // Whether a call is served, does its first step, or blocks.
-#[tactic(auto, unfolding(ro_legal::specs::Event::event_of))]
 fn did_of(kernel: &Kernel, thread: u32, call: Call) -> Did
-    ensures { (payload : List ℕ) → (event_of kernel.now.setup kernel.now.kernel thread (Calls call) payload).did ≡ result }
+    ensures { (of : Asked) (payload : List ℕ) → (call_event kernel.now.kernel thread of payload (serve_of kernel.now.setup kernel.now.kernel thread call)).did ≡ result }
 {
     if kernel.blocks(thread, call) {
         Did::Blocked
@@ -146,17 +155,17 @@ pub(crate) fn serve(
 
 // The event of a call that came to this.
 fn event_of_call(alloc: Global, thread: u32, call: Call, served: Served) -> Event
-    ensures moves { result.moves ≡ false → ((number : ℕ) × (call.which ≡ Which.System number)) × ((effect : EffectSeen) → served ≡ Served.Done effect → effect.range ≡ None) }
-    ensures event { (kernel after : KernelSeen) (payload : List ℕ) → (served ≡ Served.Blocked → after ≡ kernel) → call_event kernel thread call payload (outcome_with after served) ≡ event_by result after (if result.writes then payload else []) }
+    ensures moves { result.moves ≡ false → ((function : Posix) → call.which ≢ Which.Function function) × ((effect : EffectSeen) → served ≡ Served.Done effect → effect.range ≡ None) }
+    ensures event { (kernel after : KernelSeen) (payload : List ℕ) → (served ≡ Served.Blocked → after ≡ kernel) → call_event kernel thread call (put_out call.which payload) (outcome_with after served) ≡ event_by result after (if result.writes then payload else []) }
 {
     match served {
         Served::Done(effect) => Event {
             did: Did::Served,
-            moves: effect.range.is_some() || !is_system(call),
+            moves: effect.range.is_some() || is_function(call),
             effect,
             blocked: None,
             due: None,
-            writes: true,
+            writes: puts_out(call),
         },
         Served::Parked => waiting_event(alloc, Did::Parked, thread, call),
         Served::Blocked => waiting_event(alloc, Did::Blocked, thread, call),
@@ -167,11 +176,18 @@ fn event_of_call(alloc: Global, thread: u32, call: Call, served: Served) -> Even
     }
 }
 
-// Whether a call is one of the system: those that give no range change nothing that a blocked call waits for.
-fn is_system(call: Call) -> bool
-    ensures { IsTrue result → (number : ℕ) × (call.which ≡ Which.System number) }
+// Whether a call is one of a function: no other that gives no range changes anything that a blocked call waits for.
+fn is_function(call: Call) -> bool
+    ensures { result ≡ false → (function : Posix) → call.which ≢ Which.Function function }
 {
-    matches!(call.which, Which::System(_))
+    matches!(call.which, Which::Function(_))
+}
+
+// Whether a call writes its payload to the output, where it has one.
+fn puts_out(call: Call) -> bool
+    ensures { (payload : List ℕ) → put_out call.which payload ≡ (if result then payload else []) }
+{
+    !matches!(call.which, Which::Atomic(_))
 }
 
 // An event that leaves the thread blocked at its call.

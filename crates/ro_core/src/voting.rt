@@ -24,6 +24,7 @@ pub struct Voted {
 }
 
 /// An event that has changed the kernel, and what is to be noted of it.
+#[derive(Drop)]
 pub(crate) struct Occurrence {
     pub thread: u32,
     pub event: Event,
@@ -105,7 +106,7 @@ impl Core {
     {
         let view = &self.views[won.won as usize];
         let count = view.since();
-        let coming = Coming::of(&self.kernel, thread, view.stop());
+        let coming = Coming::of(&self.kernel, thread, view);
         let next = u64::from(count) + coming.did.steps();
         if next > self.settings.limit - self.steps {
             let steps = self.steps;
@@ -195,24 +196,19 @@ impl Core {
         ensures wrote { LastWrote (fields_of self.new) (output_of (job_of self.old) self.old.journal.items) (payload_by self.old.views.items occurrence.writer) }
         ensures views { self.new.views.items ≡ self.old.views.items }
     {
-        let Occurrence {
-            thread,
-            event,
-            entry,
-            steps,
-            writer,
-            threads,
-        } = occurrence;
-        let written = self.payload(writer).len();
+        let thread = occurrence.thread;
+        // It stays where it is: to take it out would copy it.
+        let event = &occurrence.event;
+        let written = self.payload(occurrence.writer).len();
         let was = self.blocked[thread as usize];
         let streak = self.streak.after_event(thread, was);
-        let stays = leaves_blocked(&event, was);
-        self.seats.apply(&event.effect, threads);
-        self.journal.push_reserved(entry);
+        let stays = leaves_blocked(event, was);
+        self.seats.apply(&event.effect, occurrence.threads);
+        self.journal.push_reserved(occurrence.entry);
         self.streak = streak;
         self.blocked[thread as usize] = event.blocked;
         self.unblocked = unblocked_behind(&self.kernel, &self.blocked, self.unblocked, stays);
-        self.steps += steps;
+        self.steps += occurrence.steps;
         self.sent += written as u64;
         self.wrote = written as u32;
         self.due = event.due;

@@ -1,6 +1,6 @@
 -- An instruction in range is read back from its word.
 use Rattle.std.specs.Prelude.{◌≡◌, ℕ, ◌<◌, false, Some, ◌==◌}
-use Rattle.std.proofs.Common.{rules, lit<, ◌∙◌, refl}
+use Rattle.std.proofs.Common.{rules, lit<, ◌∙◌, refl, subst, sym}
 use Rattle.ro_decode.specs.declared.AluOp.{AluOp}
 use Rattle.ro_decode.specs.declared.AluOp.TheVariants.{Add, Sub, Sll, Slt, Sltu, Xor, Srl, Sra, Or, And}
 use Rattle.ro_decode.specs.declared.MulDivOp.{MulDivOp}
@@ -11,10 +11,12 @@ use Rattle.ro_decode.specs.declared.StoreOp.{StoreOp}
 use Rattle.ro_decode.specs.declared.StoreOp.TheVariants.{Sb, Sh, Sw}
 use Rattle.ro_decode.specs.declared.BranchOp.{BranchOp}
 use Rattle.ro_decode.specs.declared.BranchOp.TheVariants.{Beq, Bne, Blt, Bge, Bltu, Bgeu}
+use Rattle.ro_decode.specs.declared.AtomicOp.{AtomicOp}
+use Rattle.ro_decode.specs.declared.AtomicOp.TheVariants.{LoadReserved, StoreConditional, AmoSwap, AmoAdd, AmoXor, AmoAnd, AmoOr, AmoMin, AmoMax, AmoMinu, AmoMaxu}
 use Rattle.ro_decode.specs.declared.Instr.{Instr}
-use Rattle.ro_decode.specs.declared.Instr.TheVariants.{Lui, Auipc, Jal, Jalr, Branch, Load, Store, AluImm, Alu, MulDiv, Fence, Ecall, Ebreak}
+use Rattle.ro_decode.specs.declared.Instr.TheVariants.{Lui, Auipc, Jal, Jalr, Branch, Load, Store, AluImm, Alu, MulDiv, Fence, Atomic, Ecall, Ebreak}
 use Rattle.ro_decode.specs.Fields.{opcode_in, rd_in, funct3_in, rs1_in, rs2_in, funct7_in, i_immediate, s_immediate, b_immediate, u_immediate, j_immediate, field}
-use Rattle.ro_decode.specs.Table.{InRange, IsRegister, IsSigned, r_word, i_word, word_of, instruction_of, load_with, store_with, branch_with, muldiv_with, alu_with, load_funct3, store_funct3, branch_funct3, muldiv_funct3, alu_funct3, alu_funct7}
+use Rattle.ro_decode.specs.Table.{InRange, IsRegister, IsSigned, r_word, i_word, word_of, instruction_of, load_with, store_with, branch_with, muldiv_with, alu_with, atomic_in, load_funct3, store_funct3, branch_funct3, muldiv_funct3, alu_funct3, alu_funct7, atomic_funct5, IsAtomicOperand}
 
 -- the operation of its code
 load_back : (op : LoadOp) → (load_with (load_funct3 op) ≡ Some op) × (load_funct3 op < 8)
@@ -49,6 +51,34 @@ muldiv_back Div = (refl, lit< tt)
 muldiv_back Divu = (refl, lit< tt)
 muldiv_back Rem = (refl, lit< tt)
 muldiv_back Remu = (refl, lit< tt)
+
+-- the operation of its code and its second register
+atomic_back : (w : ℕ) (op : AtomicOp) → field w 27 5 ≡ atomic_funct5 op → IsAtomicOperand op (rs2_in w) → atomic_in w ≡ Some op
+atomic_back w LoadReserved a b = rw (a, b)
+atomic_back w StoreConditional a b = rw (a)
+atomic_back w AmoSwap a b = rw (a)
+atomic_back w AmoAdd a b = rw (a)
+atomic_back w AmoXor a b = rw (a)
+atomic_back w AmoAnd a b = rw (a)
+atomic_back w AmoOr a b = rw (a)
+atomic_back w AmoMin a b = rw (a)
+atomic_back w AmoMax a b = rw (a)
+atomic_back w AmoMinu a b = rw (a)
+atomic_back w AmoMaxu a b = rw (a)
+
+-- a code of five bits, and an operand that is a register
+atomic_below : (op : AtomicOp) (rs2 : ℕ) → IsAtomicOperand op rs2 → (atomic_funct5 op < 32) × (rs2 < 32)
+atomic_below LoadReserved rs2 h = (lit< tt, search rules)
+atomic_below StoreConditional rs2 h = (lit< tt, h)
+atomic_below AmoSwap rs2 h = (lit< tt, h)
+atomic_below AmoAdd rs2 h = (lit< tt, h)
+atomic_below AmoXor rs2 h = (lit< tt, h)
+atomic_below AmoAnd rs2 h = (lit< tt, h)
+atomic_below AmoOr rs2 h = (lit< tt, h)
+atomic_below AmoMin rs2 h = (lit< tt, h)
+atomic_below AmoMax rs2 h = (lit< tt, h)
+atomic_below AmoMinu rs2 h = (lit< tt, h)
+atomic_below AmoMaxu rs2 h = (lit< tt, h)
 
 lui_at : (w : ℕ) → opcode_in w ≡ 0b0110111 → instruction_of w ≡ Some (Lui (rd_in w) (u_immediate w))
 unfolding instruction_of
@@ -85,6 +115,10 @@ muldiv_at w op a b c = rw (a, b, c, (muldiv_back op).0)
 fence_at : (w : ℕ) → opcode_in w ≡ 0b0001111 → funct3_in w ≡ 0 → instruction_of w ≡ Some (Fence (rd_in w) (rs1_in w) (field w 20 12))
 unfolding instruction_of
 fence_at w a b = rw (a, b)
+
+atomic_at : (w : ℕ) (op : AtomicOp) → opcode_in w ≡ 0b0101111 → funct3_in w ≡ 0b010 → field w 27 5 ≡ atomic_funct5 op → IsAtomicOperand op (rs2_in w) → instruction_of w ≡ Some (Atomic op (rd_in w) (rs1_in w) (rs2_in w) (field w 25 2))
+unfolding instruction_of
+atomic_at w op a b c d = rw (a, b, atomic_back w op c d)
 
 alu_at : (w : ℕ) (op : AluOp) → opcode_in w ≡ 0b0110011 → funct7_in w ≡ alu_funct7 op → funct3_in w ≡ alu_funct3 op → instruction_of w ≡ Some (Alu op (rd_in w) (rs1_in w) (rs2_in w))
 unfolding instruction_of
@@ -201,6 +235,17 @@ fence_read : (rd rs1 bits : ℕ) → InRange (Fence rd rs1 bits) → ReadsBack (
 unfolding word_of
 fence_read rd rs1 bits h = fence_at (word_of (Fence rd rs1 bits)) (search rules) (search rules) ∙ same_fence rd rs1 bits _ _ _ (search rules) (search rules) (search rules)
 
+same_atomic : (op : AtomicOp) (rd rs1 rs2 order : ℕ) (rd' rs1' rs2' order' : ℕ) → rd' ≡ rd → rs1' ≡ rs1 → rs2' ≡ rs2 → order' ≡ order → Some (Atomic op rd' rs1' rs2' order') ≡ Some (Atomic op rd rs1 rs2 order)
+same_atomic op rd rs1 rs2 order rd' rs1' rs2' order' p0 p1 p2 p3 = cc
+
+atomic_read : (op : AtomicOp) (rd rs1 rs2 order : ℕ) → InRange (Atomic op rd rs1 rs2 order) → ReadsBack (Atomic op rd rs1 rs2 order)
+unfolding word_of
+atomic_read op rd rs1 rs2 order h =
+    let k = atomic_below op rs2 h.2 in
+    let w = word_of (Atomic op rd rs1 rs2 order) in
+    let second : rs2_in w ≡ rs2 = search rules in
+    atomic_at w op (search rules) (search rules) (search rules) (subst (IsAtomicOperand op) (sym second) h.2) ∙ same_atomic op rd rs1 rs2 order _ _ _ _ (search rules) (search rules) second (search rules)
+
 same_immediate : (op : AluOp) (rd rs1 imm rd' rs1' imm' : ℕ) → rd' ≡ rd → rs1' ≡ rs1 → imm' ≡ imm → Some (AluImm op rd' rs1' imm') ≡ Some (AluImm op rd rs1 imm)
 same_immediate op rd rs1 imm rd' rs1' imm' p q r = cc
 
@@ -235,5 +280,6 @@ read_back (AluImm And rd rs1 imm) h = plain_read 0b111 And rd rs1 imm h.0 h.1 h.
 read_back (Alu op rd rs1 rs2) h = alu_read op rd rs1 rs2 h
 read_back (MulDiv op rd rs1 rs2) h = muldiv_read op rd rs1 rs2 h
 read_back (Fence rd rs1 bits) h = fence_read rd rs1 bits h
+read_back (Atomic op rd rs1 rs2 order) h = atomic_read op rd rs1 rs2 order h
 read_back Ecall h = search rules
 read_back Ebreak h = search rules

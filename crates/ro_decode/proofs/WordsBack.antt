@@ -9,10 +9,12 @@ use Rattle.ro_decode.specs.declared.MulDivOp.{MulDivOp}
 use Rattle.ro_decode.specs.declared.LoadOp.{LoadOp}
 use Rattle.ro_decode.specs.declared.StoreOp.{StoreOp}
 use Rattle.ro_decode.specs.declared.BranchOp.{BranchOp}
+use Rattle.ro_decode.specs.declared.AtomicOp.{AtomicOp}
+use Rattle.ro_decode.specs.declared.AtomicOp.TheVariants.{LoadReserved, StoreConditional, AmoSwap, AmoAdd, AmoXor, AmoAnd, AmoOr, AmoMin, AmoMax, AmoMinu, AmoMaxu}
 use Rattle.ro_decode.specs.declared.Instr.{Instr}
-use Rattle.ro_decode.specs.declared.Instr.TheVariants.{Lui, Auipc, Jal, Jalr, Branch, Load, Store, AluImm, Alu, MulDiv, Fence, Ecall, Ebreak}
+use Rattle.ro_decode.specs.declared.Instr.TheVariants.{Lui, Auipc, Jal, Jalr, Branch, Load, Store, AluImm, Alu, MulDiv, Fence, Atomic, Ecall, Ebreak}
 use Rattle.ro_decode.specs.Fields.{opcode_in, rd_in, funct3_in, rs1_in, rs2_in, funct7_in, i_immediate, s_immediate, b_immediate, u_immediate, j_immediate, field}
-use Rattle.ro_decode.specs.Table.{InRange, IsSigned, IsAluImmediate, i_word, alu_imm_word, word_of, instruction_of, load_with, store_with, branch_with, muldiv_with, alu_with, other_alu_with, register_row, immediate_row, load_funct3, store_funct3, branch_funct3, muldiv_funct3, alu_funct3, alu_funct7}
+use Rattle.ro_decode.specs.Table.{InRange, IsSigned, IsAluImmediate, i_word, alu_imm_word, word_of, instruction_of, load_with, store_with, branch_with, muldiv_with, alu_with, other_alu_with, register_row, immediate_row, atomic_with, atomic_in, atomic_row, IsAtomicOperand, load_funct3, store_funct3, branch_funct3, muldiv_funct3, alu_funct3, alu_funct7, atomic_funct5}
 
 -- what is read is in range, and its word is this one
 pub data IsWritten (w : ℕ) : Option Instr → Type 0 where
@@ -48,6 +50,31 @@ alu_code code op e = search rules
 
 other_alu_code : (code : ℕ) (op : AluOp) → other_alu_with code ≡ Some op → (alu_funct3 op ≡ code) × (alu_funct7 op ≡ 0b0100000)
 other_alu_code code op e = search rules
+
+-- all but LR have a register for their operand
+atomic_code : (code : ℕ) (op : AtomicOp) → atomic_with code ≡ Some op → (atomic_funct5 op ≡ code) × ((r : ℕ) → r < 32 → IsAtomicOperand op r)
+atomic_code code LoadReserved e = absurd (search rules)
+atomic_code code StoreConditional e = (search rules, λ r h. h)
+atomic_code code AmoSwap e = (search rules, λ r h. h)
+atomic_code code AmoAdd e = (search rules, λ r h. h)
+atomic_code code AmoXor e = (search rules, λ r h. h)
+atomic_code code AmoAnd e = (search rules, λ r h. h)
+atomic_code code AmoOr e = (search rules, λ r h. h)
+atomic_code code AmoMin e = (search rules, λ r h. h)
+atomic_code code AmoMax e = (search rules, λ r h. h)
+atomic_code code AmoMinu e = (search rules, λ r h. h)
+atomic_code code AmoMaxu e = (search rules, λ r h. h)
+
+reserved_operation : (w : ℕ) (op : AtomicOp) → field w 27 5 ≡ 0b00010 → cond (rs2_in w == 0) (Some LoadReserved) None ≡ Some op → (atomic_funct5 op ≡ field w 27 5) × IsAtomicOperand op (rs2_in w)
+reserved_operation w op f e = search rules
+
+other_operation : (w : ℕ) (op : AtomicOp) → atomic_with (field w 27 5) ≡ Some op → (atomic_funct5 op ≡ field w 27 5) × IsAtomicOperand op (rs2_in w)
+other_operation w op e = let k = atomic_code (field w 27 5) op e in (k.0, k.1 (rs2_in w) (search rules))
+
+-- the code and the operand of the operation that is read
+atomic_operation_of : (w : ℕ) (op : AtomicOp) (b : Bool) → (b ≡ true → field w 27 5 ≡ 0b00010) → cond b (cond (rs2_in w == 0) (Some LoadReserved) None) (atomic_with (field w 27 5)) ≡ Some op → (atomic_funct5 op ≡ field w 27 5) × IsAtomicOperand op (rs2_in w)
+atomic_operation_of w op true h e = reserved_operation w op (h refl) e
+atomic_operation_of w op false h e = other_operation w op e
 
 lui_row : (w : ℕ) → w < 2 ^ 32 → opcode_in w ≡ 0b0110111 → IsWritten w (Some (Lui (rd_in w) (u_immediate w)))
 unfolding word_of
@@ -147,6 +174,15 @@ fence_row : (w : ℕ) → w < 2 ^ 32 → opcode_in w ≡ 0b0001111 → funct3_in
 unfolding word_of
 fence_row w l e f = found (search rules) (search rules)
 
+atomic_found : (w : ℕ) (op : AtomicOp) → w < 2 ^ 32 → opcode_in w ≡ 0b0101111 → funct3_in w ≡ 0b010 → atomic_funct5 op ≡ field w 27 5 → IsAtomicOperand op (rs2_in w) → IsWritten w (Some (Atomic op (rd_in w) (rs1_in w) (rs2_in w) (field w 25 2)))
+unfolding word_of
+atomic_found w op l e f code operand = found (search rules, search rules, operand, search rules) (search rules)
+
+atomic_rows : (w : ℕ) → w < 2 ^ 32 → opcode_in w ≡ 0b0101111 → funct3_in w ≡ 0b010 → IsWritten w (atomic_row w)
+atomic_rows w l e f = by_option w _ (atomic_in w) (λ op c.
+    let k = atomic_operation_of w op (field w 27 5 == 0b00010) (eqb-true _ _) c in
+    atomic_found w op l e f k.0 k.1)
+
 ecall_row : (w : ℕ) → w ≡ 0x00000073 → IsWritten w (Some Ecall)
 unfolding word_of
 ecall_row w e = found tt (search rules)
@@ -168,8 +204,9 @@ rows w l =
     by_number w _ _ _ _ (immediate_rows w l) (λ _.
     by_number w _ _ _ _ (register_rows w l) (λ _.
     by_number w _ _ _ _ (λ e. by_number w _ _ _ _ (fence_row w l e) (λ _. nothing)) (λ _.
+    by_number w _ _ _ _ (λ e. by_number w _ _ _ _ (atomic_rows w l e) (λ _. nothing)) (λ _.
     by_number w _ _ _ _ (ecall_row w) (λ _.
-    by_number w _ _ _ _ (ebreak_row w) (λ _. nothing))))))))))))
+    by_number w _ _ _ _ (ebreak_row w) (λ _. nothing)))))))))))))
 
 of_found : (w : ℕ) (o : Option Instr) (i : Instr) → IsWritten w o → o ≡ Some i → InRange i × (word_of i ≡ w)
 of_found w None i nothing e = absurd (let f : None ≡ Some i = e in cc)

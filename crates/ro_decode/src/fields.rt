@@ -1,8 +1,8 @@
 //! The fields of a word, and the immediates that it spells, as the 32 bits that the machine adds.
 //!
 //! RISC-V Unprivileged ISA 20191213, sections 2.2, "Base Instruction Formats", and 2.3, "Immediate Encoding Variants".
-ghost use Rattle.std.specs.Prelude.{◌≡◌};
-ghost use Rattle.ro_decode.specs.Fields.{opcode_in, rd_in, funct3_in, rs1_in, rs2_in, funct7_in, i_immediate, s_immediate, b_immediate, u_immediate, j_immediate};
+ghost use Rattle.std.specs.Prelude.{◌≡◌, ◌<◌};
+ghost use Rattle.ro_decode.specs.Fields.{opcode_in, rd_in, funct3_in, rs1_in, rs2_in, funct7_in, i_immediate, s_immediate, b_immediate, u_immediate, j_immediate, field};
 
 /// Bits 6 to 0.
 #[inline(always)]
@@ -50,6 +50,30 @@ pub fn funct7(word: u32) -> u32
     ensures { result ≡ funct7_in word }
 {
     word >> 25
+}
+
+/// Bits 31 to 27, of an atomic instruction.
+#[inline(always)]
+pub fn funct5(word: u32) -> u32
+    ensures { result ≡ field word 27 5 }
+{
+    word >> 27
+}
+
+/// Bits 26 and 25, of an atomic instruction: aq and rl.
+#[inline(always)]
+pub fn order(word: u32) -> u8
+    ensures { result ≡ field word 25 2 }
+{
+    (word >> 25 & 3) as u8
+}
+
+/// The register that a word's instruction writes, where it writes one.
+pub fn destination(word: u32) -> u8
+    ensures number { result ≡ rd_in word }
+    ensures below { result < 32 }
+{
+    rd(word)
 }
 
 /// The immediate of loads, JALR and operations on a register and an immediate: one shift that spreads the sign.

@@ -1,10 +1,10 @@
-//! The codes of operations: funct3 of an instruction's word, and funct7 where it has one.
+//! The codes of operations: funct3 of an instruction's word, funct7 where it has one, and funct5 of an atomic instruction.
 //!
-//! RISC-V Unprivileged ISA 20191213, chapter 24, the columns funct3 and funct7.
+//! RISC-V Unprivileged ISA 20191213, chapter 24, the columns funct3, funct7 and funct5.
 ghost use Rattle.std.specs.Prelude.{◌≡◌, ◌<◌};
-ghost use Rattle.ro_decode.specs.Table.{load_with, store_with, branch_with, muldiv_with, alu_with, other_alu_with, alu_funct3, alu_funct7, muldiv_funct3, load_funct3, store_funct3, branch_funct3};
+ghost use Rattle.ro_decode.specs.Table.{load_with, store_with, branch_with, muldiv_with, alu_with, other_alu_with, atomic_with, alu_funct3, alu_funct7, muldiv_funct3, load_funct3, store_funct3, branch_funct3, atomic_funct5};
 
-use crate::{AluOp, BranchOp, LoadOp, MulDivOp, StoreOp};
+use crate::{AluOp, AtomicOp, BranchOp, LoadOp, MulDivOp, StoreOp};
 
 #[inline(always)]
 pub fn branch_op(funct3: u32) -> Option<BranchOp>
@@ -94,6 +94,25 @@ pub fn muldiv_op(funct3: u32) -> Option<MulDivOp>
     }
 }
 
+/// The atomic operations on two operands: all but LR.
+pub fn atomic_op(funct5: u32) -> Option<AtomicOp>
+    ensures { result ≡ atomic_with funct5 }
+{
+    match funct5 {
+        0b00000 => Some(AtomicOp::AmoAdd),
+        0b00001 => Some(AtomicOp::AmoSwap),
+        0b00011 => Some(AtomicOp::StoreConditional),
+        0b00100 => Some(AtomicOp::AmoXor),
+        0b01000 => Some(AtomicOp::AmoOr),
+        0b01100 => Some(AtomicOp::AmoAnd),
+        0b10000 => Some(AtomicOp::AmoMin),
+        0b10100 => Some(AtomicOp::AmoMax),
+        0b11000 => Some(AtomicOp::AmoMinu),
+        0b11100 => Some(AtomicOp::AmoMaxu),
+        _ => None,
+    }
+}
+
 pub fn branch_code(op: BranchOp) -> u32
     ensures value { result ≡ branch_funct3 op }
     ensures below { result < 8 }
@@ -173,5 +192,24 @@ pub fn muldiv_code(op: MulDivOp) -> u32
         MulDivOp::Divu => 0b101,
         MulDivOp::Rem => 0b110,
         MulDivOp::Remu => 0b111,
+    }
+}
+
+pub fn atomic_code(op: AtomicOp) -> u32
+    ensures value { result ≡ atomic_funct5 op }
+    ensures below { result < 32 }
+{
+    match op {
+        AtomicOp::AmoAdd => 0b00000,
+        AtomicOp::AmoSwap => 0b00001,
+        AtomicOp::LoadReserved => 0b00010,
+        AtomicOp::StoreConditional => 0b00011,
+        AtomicOp::AmoXor => 0b00100,
+        AtomicOp::AmoOr => 0b01000,
+        AtomicOp::AmoAnd => 0b01100,
+        AtomicOp::AmoMin => 0b10000,
+        AtomicOp::AmoMax => 0b10100,
+        AtomicOp::AmoMinu => 0b11000,
+        AtomicOp::AmoMaxu => 0b11100,
     }
 }

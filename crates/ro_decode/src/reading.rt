@@ -2,11 +2,13 @@
 ghost use Rattle.std.specs.Prelude.{◌≡◌, ◌==◌, if◌then◌else◌, Some, None, IfSome};
 ghost use Rattle.std.specs.Option.{option_map};
 ghost use Rattle.ro_decode.specs.Fields.{rd_in, funct3_in, rs1_in, rs2_in, i_immediate, s_immediate, b_immediate, field};
-ghost use Rattle.ro_decode.specs.Table.{load_with, store_with, branch_with, register_row, immediate_row, instruction_of, InRange};
+ghost use Rattle.ro_decode.specs.Table.{load_with, store_with, branch_with, register_row, immediate_row, atomic_in, atomic_row, instruction_of, InRange};
 
-use crate::fields::{b_form, funct3, funct7, i_form, j_form, opcode, rd, rs1, rs2, s_form, u_form};
-use crate::operations::{alu_op, branch_op, load_op, muldiv_op, other_alu_op, store_op};
-use crate::{AluOp, Instr};
+use crate::fields::{
+    b_form, funct3, funct5, funct7, i_form, j_form, opcode, order, rd, rs1, rs2, s_form, u_form,
+};
+use crate::operations::{alu_op, atomic_op, branch_op, load_op, muldiv_op, other_alu_op, store_op};
+use crate::{AluOp, AtomicOp, Instr};
 
 /// Two registers and an operation.
 #[inline(always)]
@@ -141,10 +143,48 @@ fn fence(word: u32) -> Option<Instr>
     }
 }
 
-/// The instruction that the word spells, or `None` where it spells none of RV32IM: every word of another extension,
-/// FENCE.I, and shifts by an immediate whose upper seven bits are others than the table's.
+/// The operation of an atomic instruction's word. The word of LR names no second register.
 ///
-/// RISC-V Unprivileged ISA 20191213, chapter 24, "RV32/64G Instruction Set Listings", the tables RV32I and RV32M.
+/// RISC-V Unprivileged ISA 20191213, chapter 8, ""A" Standard Extension for Atomic Instructions", and the table RV32A of chapter 24.
+pub fn atomic_operation(word: u32) -> Option<AtomicOp>
+    ensures { result ≡ atomic_in word }
+{
+    match funct5(word) {
+        0b00010 => match rs2(word) {
+            0 => Some(AtomicOp::LoadReserved),
+            _ => None,
+        },
+        funct5 => atomic_op(funct5),
+    }
+}
+
+fn atomic_instruction(word: u32) -> Option<Instr>
+    ensures { result ≡ atomic_row word }
+{
+    let op = atomic_operation(word)?;
+    Some(Instr::Atomic {
+        op,
+        rd: rd(word),
+        rs1: rs1(word),
+        rs2: rs2(word),
+        order: order(word),
+    })
+}
+
+/// An atomic instruction on a word, whatever its bits aq and rl are.
+fn atomic(word: u32) -> Option<Instr>
+    ensures { result ≡ (if funct3_in word == 0b010 then atomic_row word else None) }
+{
+    match funct3(word) {
+        0b010 => atomic_instruction(word),
+        _ => None,
+    }
+}
+
+/// The instruction that the word spells, or `None` where it spells none of RV32IMA: every word of another extension,
+/// FENCE.I, shifts by an immediate whose upper seven bits are others than the table's, and LR with a second register.
+///
+/// RISC-V Unprivileged ISA 20191213, chapter 24, "RV32/64G Instruction Set Listings", the tables RV32I, RV32M and RV32A.
 #[tactic(auto, unfolding(crate::specs::Table::instruction_of))]
 #[inline(always)]
 pub fn decode(word: u32) -> Option<Instr>
@@ -171,6 +211,7 @@ pub fn decode(word: u32) -> Option<Instr>
         0b0010011 => immediate_instruction(word),
         0b0110011 => register_instruction(word),
         0b0001111 => fence(word),
+        0b0101111 => atomic(word),
         _ => match word {
             0x0000_0073 => Some(Instr::Ecall),
             0x0010_0073 => Some(Instr::Ebreak),

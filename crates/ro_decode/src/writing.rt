@@ -3,13 +3,13 @@ ghost use Rattle.std.specs.Prelude.{◌≡◌, ◌%◌, ◌<◌};
 ghost use Rattle.ro_decode.specs.Table.{InRange, word_of, r_word as r_word_of, i_word as i_word_of, s_word as s_word_of, b_word as b_word_of, u_word as u_word_of, j_word as j_word_of, alu_imm_word, IsAluImmediate};
 
 use crate::operations::{
-    alu_code, branch_code, load_code, muldiv_code, store_code, upper_alu_code,
+    alu_code, atomic_code, branch_code, load_code, muldiv_code, store_code, upper_alu_code,
 };
 use crate::{AluOp, Instr};
 
 /// The word that spells an instruction whose fields are in range.
 ///
-/// RISC-V Unprivileged ISA 20191213, chapter 24, "RV32/64G Instruction Set Listings", the tables RV32I and RV32M.
+/// RISC-V Unprivileged ISA 20191213, chapter 24, "RV32/64G Instruction Set Listings", the tables RV32I, RV32M and RV32A.
 #[tactic(auto, unfolding(crate::specs::Table::word_of))]
 pub fn encode(instr: Instr) -> u32
     requires { InRange instr }
@@ -45,6 +45,22 @@ pub fn encode(instr: Instr) -> u32
             )
         }
         Instr::Fence { rd, rs1, bits } => i_word(bits, rs1, 0b000, rd, 0b0001111),
+        Instr::Atomic {
+            op,
+            rd,
+            rs1,
+            rs2,
+            order,
+        } => {
+            r_word(
+                atomic_code(op) * 4 + u32::from(order),
+                u32::from(rs2),
+                rs1,
+                0b010,
+                rd,
+                0b0101111,
+            )
+        }
         Instr::Ecall => 0x0000_0073,
         Instr::Ebreak => 0x0010_0073,
     }

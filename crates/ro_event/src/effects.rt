@@ -6,6 +6,9 @@ use ro_region::Range;
 use std::alloc::Global;
 use std::marker::Model;
 
+/// The number of the register a0, in which calls are answered.
+const A0: u8 = 10;
+
 /// Where a thread goes on after an effect.
 #[derive(Clone, Copy, PartialEq, Eq, Debug)]
 pub enum Goes {
@@ -33,8 +36,10 @@ pub struct Made {
 pub struct Effect {
     /// The thread whose call it is.
     pub thread: u32,
-    /// The new a0; `None` where it stays.
+    /// What it answers; `None` where no register changes.
     pub answer: Option<u32>,
+    /// The number of the register that has the answer: 10, a0, but of an atomic instruction.
+    pub register: u8,
     pub goes: Goes,
     /// The address at which the bytes are stored; their pages are backed.
     pub place: u32,
@@ -54,7 +59,7 @@ impl Model for Effect {
 
     ghost Value = { EffectOf };
 
-    ghost view = { λ e. record { thread = e.thread; answer = e.answer; goes = e.goes; place = e.place; bytes = e.bytes.items; page = e.page; made = e.made; range = e.range; releases = e.releases } };
+    ghost view = { λ e. record { thread = e.thread; answer = e.answer; register = e.register; goes = e.goes; place = e.place; bytes = e.bytes.items; page = e.page; made = e.made; range = e.range; releases = e.releases } };
 }
 
 impl Effect {
@@ -65,6 +70,7 @@ impl Effect {
         Effect {
             thread,
             answer: None,
+            register: A0,
             goes: Goes::Stays,
             place,
             bytes,

@@ -122,7 +122,7 @@ impl View {
         &self.stop
     }
 
-    /// The bytes that the thread writes, where its stop is such a call.
+    /// The bytes that the thread writes, where its stop is such a call, or the word that its atomic instruction finds.
     pub fn payload(&self) -> &[u8]
         ensures { result.now ≡ self.now.payload }
     {

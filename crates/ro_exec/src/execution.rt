@@ -1,10 +1,11 @@
 //! What each instruction does.
-ghost use Rattle.std.specs.Prelude.{◌≡◌, ◌+◌, ◌*◌, ◌/◌, ◌%◌, ◌^◌, ◌<◌, true};
+ghost use Rattle.std.specs.Prelude.{◌≡◌, ◌+◌, ◌*◌, ◌/◌, ◌%◌, ◌^◌, ◌<◌, true, Some};
 ghost use Rattle.ro_decode.specs.Table.{InRange};
 ghost use Rattle.ro_alu.specs.Results.{low_word};
 ghost use Rattle.ro_pages.specs.Bytes.{IsSize, number_at, bytes_of, stored};
 ghost use Rattle.ro_exec.specs.Meaning.{with_value, jumps, goes_to, load_size as load_size_of, store_size as store_size_of, loaded_as};
-ghost use Rattle.ro_exec.specs.Next.{Executes, instruction_stop, unless_stop};
+ghost use Rattle.ro_exec.specs.Registers.{register};
+ghost use Rattle.ro_exec.specs.Next.{Executes, permits_atomic, misaligned_by, forbidden_by, atomic_stop, atomic_call, instruction_stop, unless_stop};
 ghost use Rattle.ro_exec.specs.Steps.{IsStep, IsJump};
 ghost use Rattle.ro_region.specs.Permission.{ranges_of};
 
@@ -13,8 +14,8 @@ use crate::access::check_access;
 use crate::fetching::call;
 use crate::outcome::Step;
 use ro_alu::{alu, muldiv, taken};
-use ro_decode::{Instr, LoadOp, StoreOp};
-use ro_event::{Stop, TrapCause, Which};
+use ro_decode::{AtomicOp, Instr, LoadOp, StoreOp, encode};
+use ro_event::{Call, Stop, TrapCause, Which};
 use ro_pages::Memory;
 use ro_region::{Kind, Regions};
 
@@ -199,11 +200,82 @@ fn execute_store<M: Memory>(
     }
 }
 
+/// Whether an atomic instruction may access its word: LR loads, SC stores, and all others do both.
+fn permits_atomic(regions: &Regions, op: AtomicOp, address: u32) -> bool
+    ensures { result ≡ permits_atomic (ranges_of regions.now) op address }
+{
+    match op {
+        AtomicOp::LoadReserved => regions.permits(address, 4, Kind::Read),
+        AtomicOp::StoreConditional => regions.permits(address, 4, Kind::Write),
+        _ => regions.permits(address, 4, Kind::Read) && regions.permits(address, 4, Kind::Write),
+    }
+}
+
+/// The trap of an atomic instruction whose word is misaligned.
+fn misaligned_by(op: AtomicOp) -> TrapCause
+    ensures { result ≡ misaligned_by op }
+{
+    match op {
+        AtomicOp::LoadReserved => TrapCause::MisalignedLoad,
+        _ => TrapCause::MisalignedStore,
+    }
+}
+
+/// The trap of an atomic instruction whose word is forbidden.
+fn forbidden_by(op: AtomicOp) -> TrapCause
+    ensures { result ≡ forbidden_by op }
+{
+    match op {
+        AtomicOp::LoadReserved => TrapCause::ForbiddenLoad,
+        _ => TrapCause::ForbiddenStore,
+    }
+}
+
+/// The question of an atomic instruction to the kernel, which does it: its word, the address and the operand.
+fn atomic_call(instr: Instr, cpu: &Cpu, rs1: u8, rs2: u8) -> Stop
+    requires in_range { InRange instr }
+    requires rs1 { rs1 < 32 }
+    requires rs2 { rs2 < 32 }
+    ensures { result ≡ atomic_call cpu.now instr rs1 rs2 }
+{
+    Stop::Calls(Call {
+        which: Which::Atomic(encode(instr)),
+        a0: cpu.get(rs1),
+        a1: cpu.get(rs2),
+        a2: 0,
+        a3: 0,
+    })
+}
+
+/// Says at which stop the thread stands at an atomic instruction: a trap, or its question. It changes nothing.
+fn execute_atomic(
+    instr: Instr,
+    cpu: &Cpu,
+    regions: &Regions,
+    op: AtomicOp,
+    rs1: u8,
+    rs2: u8,
+) -> Stop
+    requires in_range { InRange instr }
+    requires rs1 { rs1 < 32 }
+    requires rs2 { rs2 < 32 }
+    ensures { atomic_stop (ranges_of regions.now) op (register cpu.now rs1) (atomic_call cpu.now instr rs1 rs2) ≡ Some result }
+{
+    let address = cpu.get(rs1);
+    if address % 4 != 0 {
+        return Stop::Trap(misaligned_by(op));
+    }
+    if !permits_atomic(regions, op, address) {
+        return Stop::Trap(forbidden_by(op));
+    }
+    atomic_call(instr, cpu, rs1, rs2)
+}
+
 /// Executes an instruction, or says at which stop the thread stands at it.
 ///
-/// RISC-V Unprivileged ISA 20191213, sections 2.4 to 2.8 and chapter 7. Where the standard lets an implementation
-/// choose: a misaligned load, store or jump stops the thread, and FENCE does nothing.
-#[tactic(auto, unfolding(crate::specs::Next::instruction_stop, crate::specs::Meaning::meaning))]
+/// RISC-V Unprivileged ISA 20191213, sections 2.4 to 2.8 and chapters 7 and 8. Where the standard lets an implementation
+/// choose: a misaligned load, store, jump or atomic instruction stops the thread, and FENCE does nothing.
+#[tactic(auto, using(crate::proofs::Atomics::operand_below), unfolding(crate::specs::Next::instruction_stop, crate::specs::Meaning::meaning))]
 #[inline(always)]
 pub fn execute<M: Memory>(instr: Instr, cpu: &mut Cpu, memory: &mut M, regions: &Regions) -> Step
     requires { InRange instr }
@@ -237,6 +309,9 @@ pub fn execute<M: Memory>(instr: Instr, cpu: &mut Cpu, memory: &mut M, regions: 
             give(cpu, rd, muldiv(op, cpu.get(rs1), cpu.get(rs2)))
         }
         Instr::Fence { .. } => go_on(cpu),
+        Instr::Atomic { op, rs1, rs2, .. } => {
+            Step::Stopped(execute_atomic(instr, cpu, regions, op, rs1, rs2))
+        }
         Instr::Ecall => Step::Stopped(call(cpu, Which::System(cpu.get(17)))),
         Instr::Ebreak => Step::Stopped(Stop::Trap(TrapCause::Breakpoint)),
     }

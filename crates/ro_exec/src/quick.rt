@@ -158,7 +158,7 @@ fn execute<M: Memory>(
             give(registers, pc, next, rd, value);
             true
         }
-        Instr::Fence { .. } | Instr::Ecall | Instr::Ebreak => false,
+        Instr::Fence { .. } | Instr::Atomic { .. } | Instr::Ecall | Instr::Ebreak => false,
     }
 }
 

@@ -31,4 +31,15 @@ impl Cpu {
             self.registers[number as usize - 1] = value;
         }
     }
+
+    /// Writes the register of this number, where there is one.
+    #[tactic(auto, using(std::proofs::lemmas::List::set_past))]
+    pub fn put(&mut self, number: u8, value: u32)
+        ensures registers { self.new.registers ≡ with_register self.old.registers number value }
+        ensures pc { self.new.pc ≡ self.old.pc }
+    {
+        if number < 32 {
+            self.set(number, value);
+        }
+    }
 }

@@ -6,7 +6,7 @@ use crate::findings::{
 use crate::lines::WithoutEnd;
 use crate::registers::{Numbered, abi_name};
 use ro_audit::Why;
-use ro_event::Stop;
+use ro_event::{Call, Stop, Which};
 use ro_faults::{Fault, fault_text};
 use ro_journal::Entry;
 use ro_journal_text::entry_text;
@@ -392,6 +392,12 @@ impl Described for StopName<'_> {}
 impl Serialize for StopName<'_> {
     fn serialize<S: Serializer>(&self, out: &mut S) -> Result<(), S::Error> {
         match self.0 {
+            Stop::Calls(
+                Call {
+                    which: Which::Atomic(_),
+                    ..
+                },
+            ) => out.str("atomic"),
             Stop::Calls(_) => out.str("call"),
             Stop::Trap(_) => out.str("trap"),
             Stop::PageFault(_) => out.str("page_fault"),

@@ -10,7 +10,7 @@ use crate::findings::{
 use crate::lines::WithoutEnd;
 use crate::registers::Named;
 use ro_audit::Why;
-use ro_event::{Stop, TrapCause};
+use ro_event::{Call, Stop, TrapCause, Which};
 use ro_faults::fault_text;
 use ro_journal::Entry;
 use ro_journal_text::entry_text;
@@ -241,6 +241,12 @@ fn tell_mapped(text: &mut String, mapped: &Mapped) -> Result<(), AllocError> {
 // What a thread stands at.
 fn stop_name(stop: &Stop) -> &'static str {
     match stop {
+        Stop::Calls(
+            Call {
+                which: Which::Atomic(_),
+                ..
+            },
+        ) => "an atomic instruction",
         Stop::Calls(_) => "a call",
         Stop::Trap(_) => "a trap",
         Stop::PageFault(_) => "a page fault",
@@ -309,7 +315,7 @@ fn tell_field(text: &mut String, field: &Field) -> Result<(), AllocError> {
         Field::Stop(stops) => tell_stops(text, stops.as_slice())?,
         Field::Payload(counts) => tell_values(
             text,
-            "what is written differs, of so many bytes:",
+            "what is written or found differs, of so many bytes:",
             counts.as_slice(),
         )?,
     }
@@ -438,7 +444,7 @@ fn tell_part(text: &mut String, part: Part) -> Result<(), AllocError> {
         Part::Pc => text.push_str("the pc"),
         Part::Since => text.push_str("the instructions since the last vote"),
         Part::Stop => text.push_str("what it stands at"),
-        Part::Payload => text.push_str("what is written"),
+        Part::Payload => text.push_str("what is written or found"),
     }
 }
 

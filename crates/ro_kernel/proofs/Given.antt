@@ -8,7 +8,7 @@ use Rattle.ro_region.specs.Permission.{with_range}
 use Rattle.ro_kernel.specs.Kernel.{Setup, Kernel}
 use Rattle.ro_kernel.specs.Mapped.{in_pages, IsMapped}
 use Rattle.ro_kernel.specs.Serve.{Served, Done, Parked, Blocked, Ends, serve}
-use Rattle.ro_kernel.proofs.Shapes.{Shape, says, reads, breaks, maps_more, owns, wakes, parks_at, resumes, makes, joins, leaves, waits, stops, stops_last, shape-of}
+use Rattle.ro_kernel.proofs.Shapes.{Shape, says, reads, breaks, maps_more, owns, wakes, parks_at, resumes, makes, joins, leaves, of_word, waits, stops, stops_last, shape-of}
 use Rattle.ro_journal.specs.declared.How.{How}
 
 -- the ranges after whatever comes of a call
@@ -31,6 +31,7 @@ module _ (setup : Setup) (kernel : Kernel) (u : ℕ) (call : Call) where
   gives-of (makes f n) = refl
   gives-of (joins value e h) = refl
   gives-of leaves = refl
+  gives-of (of_word word value reserved e low store) = refl
   gives-of (waits w) = tt
   gives-of (stops status) = refl
   gives-of stops_last = refl
@@ -87,6 +88,7 @@ module _ (setup : Setup) (kernel : Kernel) (u : ℕ) (call : Call) where
   maps-of (makes f n) = λ h. h
   maps-of (joins value e o) = λ h. h
   maps-of leaves = λ h. h
+  maps-of (of_word word value reserved e low store) = λ h. h
   maps-of (waits w) = tt
   maps-of (stops status) = λ h. h
   maps-of stops_last = λ h. h
@@ -110,6 +112,7 @@ module _ (setup : Setup) (kernel : Kernel) (u : ℕ) (call : Call) where
   room-of (makes f n) h = tt
   room-of (joins value e o) h = tt
   room-of leaves h = tt
+  room-of (of_word word value reserved e low store) h = tt
   room-of (waits w) h = tt
   room-of (stops status) h = tt
   room-of stops_last h = tt
@@ -135,6 +138,7 @@ module _ (setup : Setup) (kernel : Kernel) (u : ℕ) (call : Call) where
   alone-of (makes f n) = tt
   alone-of (joins value e o) = tt
   alone-of leaves = tt
+  alone-of (of_word word value reserved e low store) = tt
   alone-of (waits w) = tt
   alone-of (stops status) = tt
   alone-of stops_last = tt

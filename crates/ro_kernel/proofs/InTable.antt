@@ -11,7 +11,7 @@ use Rattle.ro_mutex.specs.Owners.{Owners, owner_of, with_owner}
 use Rattle.ro_mutex.proofs.Given.{owner_of-given, owner_of-other}
 use Rattle.ro_kernel.specs.Kernel.{Setup, Kernel}
 use Rattle.ro_kernel.specs.Serve.{Served, Done, Parked, Blocked, Ends, serve}
-use Rattle.ro_kernel.proofs.Shapes.{IsOnMutex, Shape, says, reads, breaks, maps_more, owns, wakes, parks_at, resumes, makes, joins, leaves, waits, stops, stops_last, shape-of}
+use Rattle.ro_kernel.proofs.Shapes.{IsOnMutex, Shape, says, reads, breaks, maps_more, owns, wakes, parks_at, resumes, makes, joins, leaves, of_word, waits, stops, stops_last, shape-of}
 
 -- an address stands in the table
 abbrev pub InTable : Owners → ℕ → Type 0
@@ -55,6 +55,7 @@ module _ (setup : Setup) (kernel : Kernel) (u : ℕ) (call : Call) where
   after-of (makes f n) = as_before refl
   after-of (joins value e h) = as_before refl
   after-of leaves = as_before refl
+  after-of (of_word word value reserved e low store) = as_before refl
   after-of (waits w) = none_there
   after-of (stops status) = at_the_end
   after-of stops_last = at_the_end

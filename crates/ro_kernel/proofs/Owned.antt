@@ -9,7 +9,7 @@ use Rattle.ro_event.specs.declared.calls.Call.{Call}
 use Rattle.ro_event.specs.Effects.{Effect}
 use Rattle.ro_mutex.specs.Owners.{owner_of, with_owner}
 use Rattle.ro_mutex.proofs.Given.{owner_of-given}
-use Rattle.ro_kernel.specs.Kernel.{Setup, Kernel}
+use Rattle.ro_kernel.specs.Kernel.{Setup, Kernel, released}
 use Rattle.ro_kernel.specs.Serve.{Served, Done, answers, gets, lock_at, trylock_at, unlock_at, on_word, serve_which, serve}
 use Rattle.ro_kernel.proofs.Yields.{Yields, done, blocked, yields-cond, yields-done}
 
@@ -54,18 +54,19 @@ module _ (setup : Setup) (kernel : Kernel) (thread : ℕ) (call : Call) where
   owned-mutex : (owner : Option ℕ) (served : Served) → Yields (Owned call.a0 owner) served → Yields (Owned call.a0 owner) (on_word setup kernel thread call served)
   owned-mutex owner served h = yields-cond _ _ _ _ (refused owner 14 refl) h
 
+module _ (setup : Setup) (kernel : Kernel) (thread : ℕ) (call : Call) where
   owned : (which : Which) (owner : Option ℕ) (after : Kernel) (effect : Effect) → call.which ≡ which → Yields (Owned call.a0 owner) (serve_which setup kernel thread call which)
       → serve setup kernel thread call ≡ Done after effect → effect.answer ≡ Some 0 → owner_of after.owners call.a0 ≡ Some owner
   unfolding serve
   owned which owner after effect w h e = yields-done (Owned call.a0 owner) _ after effect (subst (λ (v : Which). Yields (Owned call.a0 owner) (serve_which setup kernel thread call v)) (sym w) h) e
 
   pub lock-owned : (after : Kernel) (effect : Effect) → call.which ≡ Function Lock → serve setup kernel thread call ≡ Done after effect → effect.answer ≡ Some 0 → owner_of after.owners call.a0 ≡ Some (Some thread)
-  lock-owned after effect w = owned (Function Lock) (Some thread) after effect w (owned-mutex (Some thread) _ (owned-lock_at (owner_of kernel.owners call.a0)))
+  lock-owned after effect w = owned (Function Lock) (Some thread) after effect w (owned-mutex setup (released kernel thread) thread call (Some thread) _ (owned-lock_at setup (released kernel thread) thread call (owner_of kernel.owners call.a0)))
 
   pub trylock-owned : (after : Kernel) (effect : Effect) → call.which ≡ Function TryLock → serve setup kernel thread call ≡ Done after effect → effect.answer ≡ Some 0 → owner_of after.owners call.a0 ≡ Some (Some thread)
-  trylock-owned after effect w = owned (Function TryLock) (Some thread) after effect w (owned-mutex (Some thread) _ (owned-trylock_at (owner_of kernel.owners call.a0)))
+  trylock-owned after effect w = owned (Function TryLock) (Some thread) after effect w (owned-mutex setup (released kernel thread) thread call (Some thread) _ (owned-trylock_at setup (released kernel thread) thread call (owner_of kernel.owners call.a0)))
 
   pub unlock-free : (after : Kernel) (effect : Effect) → call.which ≡ Function Unlock → serve setup kernel thread call ≡ Done after effect → effect.answer ≡ Some 0 → owner_of after.owners call.a0 ≡ Some None
-  unlock-free after effect w = owned (Function Unlock) None after effect w (owned-mutex None _ (owned-unlock_at (owner_of kernel.owners call.a0)))
+  unlock-free after effect w = owned (Function Unlock) None after effect w (owned-mutex setup (released kernel thread) thread call None _ (owned-unlock_at setup (released kernel thread) thread call (owner_of kernel.owners call.a0)))
 
 pub ruleset owned_laws = (lock-owned, trylock-owned, unlock-free)

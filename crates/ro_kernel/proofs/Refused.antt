@@ -1,24 +1,24 @@
--- An error answer changes nothing but the caller's a0 and pc.
+-- An error answer changes nothing but the caller's a0 and pc, and ends its reservation.
 use Rattle.std.specs.Prelude.{◌≡◌, ℕ, Bool, true, false, not, ◌&&◌, List, length, take, Some, None, ◌==◌, ◌+◌, ◌-◌, ◌<◌, ◌≤◌, ◌^◌, cond, nat_le, nat_lt}
 use Rattle.std.proofs.Common.{refl, sym, ap, ◌∙◌, arith, rules, length-take}
 use Rattle.std.proofs.lemmas.Bool.{true≢false}
 use Rattle.ro_event.specs.declared.calls.Which.{Which}
-use Rattle.ro_event.specs.declared.calls.Which.TheVariants.{System, Function}
+use Rattle.ro_event.specs.declared.calls.Which.TheVariants.{System, Function, Atomic}
 use Rattle.ro_event.specs.declared.functions.Function.TheVariants.{ThreadSelf}
 use Rattle.ro_event.specs.declared.calls.Call.{Call}
 use Rattle.ro_event.specs.Effects.{Effect}
-use Rattle.ro_kernel.specs.Kernel.{Setup, Kernel}
+use Rattle.ro_kernel.specs.Kernel.{Setup, Kernel, released}
 use Rattle.ro_kernel.specs.Mapped.{mapped_to, in_pages}
 use Rattle.ro_kernel.specs.Serve.{Served, Done, answer_effect, capped, serve}
 use Rattle.ro_kernel.specs.Errors.{is_error}
 use Rattle.ro_kernel.proofs.Given.{at-most}
 use Rattle.ro_kernel.proofs.Yields.{Yields, done, parked, blocked, ends, yields-done}
-use Rattle.ro_kernel.proofs.Shapes.{Shape, says, reads, breaks, maps_more, owns, wakes, parks_at, resumes, makes, joins, leaves, waits, stops, stops_last, shape-of}
+use Rattle.ro_kernel.proofs.Shapes.{Shape, says, reads, breaks, maps_more, owns, wakes, parks_at, resumes, makes, joins, leaves, of_word, waits, stops, stops_last, shape-of}
 
--- if the answer is an error of that call, the kernel stays and the effect is the answer alone
+-- if the answer is an error of that call, the kernel stays but for the reservation, and the effect is the answer alone
 abbrev pub Refuses : Kernel → ℕ → Call → Kernel → Effect → Type 0
 Refuses kernel thread call after effect =
-    (value : ℕ) → effect.answer ≡ Some value → is_error call.which value ≡ true → (after ≡ kernel) × (effect ≡ answer_effect thread call value)
+    (value : ℕ) → effect.answer ≡ Some value → is_error call.which value ≡ true → (after ≡ released kernel thread) × (effect ≡ answer_effect thread call value)
 
 le-false : (m n : ℕ) → n < m → nat_le m n ≡ false
 le-false m n h = search rules
@@ -33,6 +33,7 @@ no-error (System number) = by (number == 222) (not (number == 214))
     by false false = refl
 no-error (Function ThreadSelf) = refl
 no-error (Function function) = refl
+no-error (Atomic word) = refl
 
 -- nor is what a system call moved
 moved-few : (number : ℕ) (call : Call) (xs : List ℕ) → is_error (System number) (length (take (capped call.a2) xs)) ≡ false
@@ -68,11 +69,12 @@ module _ (setup : Setup) (kernel : Kernel) (thread : ℕ) (call : Call) where
   refuses-of (makes f n) = fine 0 _ _ refl (no-error call.which)
   refuses-of (joins value e h) = fine 0 _ _ refl (no-error call.which)
   refuses-of leaves = done (λ value (e : None ≡ Some value) h. absurd (let f : None ≡ Some value = e in cc))
+  refuses-of (of_word word value reserved e low store) = fine value _ _ refl (ap (λ (w : Which). is_error w value) e)
   refuses-of (waits w) = blocked
   refuses-of (stops status) = ends
   refuses-of stops_last = ends
 
-  pub error-alone : (after : Kernel) (effect : Effect) (value : ℕ) → serve setup kernel thread call ≡ Done after effect → effect.answer ≡ Some value → is_error call.which value ≡ true → (after ≡ kernel) × (effect ≡ answer_effect thread call value)
+  pub error-alone : (after : Kernel) (effect : Effect) (value : ℕ) → serve setup kernel thread call ≡ Done after effect → effect.answer ≡ Some value → is_error call.which value ≡ true → (after ≡ released kernel thread) × (effect ≡ answer_effect thread call value)
   error-alone after effect value e = yields-done (Refuses kernel thread call) _ after effect (refuses-of (shape-of setup kernel thread call)) e value
 
 pub ruleset error_law = (error-alone)

@@ -12,7 +12,7 @@ use Rattle.ro_pages.specs.Bytes.{bytes_of}
 use Rattle.ro_kernel.specs.Kernel.{Setup, Kernel, ranges_in}
 use Rattle.ro_kernel.specs.Serve.{Served, Done, capped, fits, serve}
 use Rattle.ro_kernel.proofs.Yields.{Yields, done, parked, blocked, ends, yields-done}
-use Rattle.ro_kernel.proofs.Shapes.{set-by, Shape, says, reads, breaks, maps_more, owns, wakes, parks_at, resumes, makes, joins, leaves, waits, stops, stops_last, shape-of}
+use Rattle.ro_kernel.proofs.Shapes.{set-by, IsWordStore, stores_none, stores_all, Shape, says, reads, breaks, maps_more, owns, wakes, parks_at, resumes, makes, joins, leaves, of_word, waits, stops, stops_last, shape-of}
 
 -- fewer bytes are permitted too
 each-fewer : (ranges : List Range) (kind : Kind) (place more fewer : ℕ) → fewer ≤ more → permits_each ranges kind place more ≡ true → permits_each ranges kind place fewer ≡ true
@@ -46,6 +46,11 @@ module _ (setup : Setup) (kernel : Kernel) (thread : ℕ) (call : Call) where
   value-fits value true e h = subst (λ (a : ℕ). permits_of (ranges_in setup kernel) Write a 0 ≡ true) (sym (eqb-true call.a1 0 e)) (permits-none (ranges_in setup kernel) Write)
   value-fits value false e h = fits-permits call.a1 (set-by _ h)
 
+  -- an atomic instruction stores its word, or nothing
+  word-permits : {place : ℕ} {bytes : List ℕ} → IsWordStore (ranges_in setup kernel) call.a0 place bytes → permits_of (ranges_in setup kernel) Write place (length bytes) ≡ true
+  word-permits stores_none = permits-none (ranges_in setup kernel) Write
+  word-permits (stores_all n fit) = fits-permits call.a0 fit
+
   stores-of : {served : Served} → Shape setup kernel thread call served → Yields (Stores (ranges_in setup kernel)) served
   stores-of (says value) = done (permits-none (ranges_in setup kernel) Write)
   stores-of (reads number e xs h) = done (permits-fewer (ranges_in setup kernel) Write call.a1 (capped call.a2) (length (take (capped call.a2) xs)) (grind (arith, length-take)) h)
@@ -58,6 +63,7 @@ module _ (setup : Setup) (kernel : Kernel) (thread : ℕ) (call : Call) where
   stores-of (makes f n) = done (fits-permits call.a0 f)
   stores-of (joins value e h) = done (value-fits value (call.a1 == 0) refl h)
   stores-of leaves = done (permits-none (ranges_in setup kernel) Write)
+  stores-of (of_word word value reserved e low store) = done (word-permits store)
   stores-of (waits w) = blocked
   stores-of (stops status) = ends
   stores-of stops_last = ends

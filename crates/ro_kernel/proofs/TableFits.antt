@@ -12,7 +12,7 @@ use Rattle.ro_mutex.proofs.Given.{owner_of-other}
 use Rattle.ro_kernel.specs.Kernel.{Setup, Kernel, ranges_in}
 use Rattle.ro_kernel.specs.Serve.{Served, Done, Parked, Blocked, Ends, mapped, fits, is_owner, is_free, serve}
 use Rattle.ro_kernel.proofs.InTable.{InTable}
-use Rattle.ro_kernel.proofs.Shapes.{Shape, says, reads, breaks, maps_more, owns, wakes, parks_at, resumes, makes, joins, leaves, waits, stops, stops_last, shape-of}
+use Rattle.ro_kernel.proofs.Shapes.{Shape, says, reads, breaks, maps_more, owns, wakes, parks_at, resumes, makes, joins, leaves, of_word, waits, stops, stops_last, shape-of}
 
 abbrev pub TableFits : Setup → Kernel → Type 0
 TableFits setup kernel = (m : ℕ) → InTable kernel.owners m → fits (ranges_in setup kernel) m ≡ true
@@ -62,6 +62,7 @@ module _ (setup : Setup) (kernel : Kernel) (table : TableFits setup kernel) wher
     fits-of (makes f n) = table
     fits-of (joins value e h) = table
     fits-of leaves = table
+    fits-of (of_word word value reserved e low store) = table
     fits-of (waits w) = tt
     fits-of (stops status) = table
     fits-of stops_last = table

@@ -13,9 +13,9 @@ use Rattle.ro_mutex.proofs.Given.{owner_of-given}
 use Rattle.ro_condition.specs.declared.waiters.Waiter.{Waiter}
 use Rattle.ro_condition.specs.Waiters.{wait_of}
 use Rattle.ro_condition.proofs.Whose.{is_waiting, signal-waits, broadcast-waits, begun-waits, begun-others as listed-others, ended-others}
-use Rattle.ro_kernel.specs.Kernel.{Setup, Kernel}
+use Rattle.ro_kernel.specs.Kernel.{Setup, Kernel, released}
 use Rattle.ro_kernel.specs.Serve.{Served, Done, Parked, Blocked, Ends, answers, is_owner, is_free, begins_wait, ends_wait, wait_at, is_blocked, is_parked, serve_which, serve, parks}
-use Rattle.ro_kernel.proofs.Shapes.{IsWaking, wakes_first, wakes_all, IsWaiting, for_thread, for_mutex, for_signal, Shape, says, reads, breaks, maps_more, owns, wakes, parks_at, resumes, makes, joins, leaves, waits, stops, stops_last, shape-of}
+use Rattle.ro_kernel.proofs.Shapes.{IsWaking, wakes_first, wakes_all, IsWaiting, for_thread, for_mutex, for_signal, Shape, says, reads, breaks, maps_more, owns, wakes, parks_at, resumes, makes, joins, leaves, of_word, waits, stops, stops_last, shape-of}
 
 -- the others who wait go on waiting, whatever comes of a call of thread u
 pub data OthersWait (before : Kernel) (u : ℕ) : Served → Type 0 where
@@ -43,6 +43,7 @@ module _ (setup : Setup) (kernel : Kernel) (u : ℕ) (call : Call) where
   others-of (makes f n) = wait_done (λ t h. refl)
   others-of (joins value e h) = wait_done (λ t k. refl)
   others-of leaves = wait_done (λ t h. refl)
+  others-of (of_word word value reserved e low store) = wait_done (λ t h. refl)
   others-of (waits w) = wait_blocked
   others-of (stops status) = wait_ends
   others-of stops_last = wait_ends
@@ -91,18 +92,18 @@ module _ (setup : Setup) (kernel : Kernel) (u : ℕ) (call : Call) where
   comes-either true x y p q = p refl
   comes-either false x y p q = q refl
 
-  refused : (value : ℕ) → (Some value ≡ Some 0 → ⊥) → WaitComes kernel u call (answers kernel u call value)
+  refused : (value : ℕ) → (Some value ≡ Some 0 → ⊥) → WaitComes kernel u call (answers (released kernel u) u call value)
   refused value h = comes_done (λ e. absurd (h e))
 
-  comes-begin : is_owner u (owner_of kernel.owners call.a1) ≡ true → WaitComes kernel u call (begins_wait kernel u call)
+  comes-begin : is_owner u (owner_of kernel.owners call.a1) ≡ true → WaitComes kernel u call (begins_wait (released kernel u) u call)
   comes-begin h = comes_parked (owner-is u _ h, owner_of-given kernel.owners call.a1 None)
 
-  comes-end : (waiter : Waiter) → wait_of kernel.waiters u ≡ Some waiter → (waiter.signalled && is_free (owner_of kernel.owners call.a1)) ≡ true → WaitComes kernel u call (ends_wait kernel u call)
+  comes-end : (waiter : Waiter) → wait_of kernel.waiters u ≡ Some waiter → (waiter.signalled && is_free (owner_of kernel.owners call.a1)) ≡ true → WaitComes kernel u call (ends_wait (released kernel u) u call)
   comes-end waiter e h =
       let parts = and_parts waiter.signalled (is_free (owner_of kernel.owners call.a1)) h in
       comes_done (λ f. ((waiter, e, parts.0), free-is _ parts.1, owner_of-given kernel.owners call.a1 (Some u)))
 
-  comes-at : (o : Option Waiter) → wait_of kernel.waiters u ≡ o → WaitComes kernel u call (wait_at setup kernel u call o)
+  comes-at : (o : Option Waiter) → wait_of kernel.waiters u ≡ o → WaitComes kernel u call (wait_at setup (released kernel u) u call o)
   comes-at None e =
       comes-either _ _ _ (λ h. refused 14 (λ (f : Some 14 ≡ Some 0). cc))
       (λ h. comes-either _ _ _ (λ k. comes-begin k) (λ k. refused 1 (λ (f : Some 1 ≡ Some 0). cc)))
@@ -134,6 +135,7 @@ module _ (setup : Setup) (kernel : Kernel) (u : ℕ) (call : Call) where
   parks-so (makes f n) h = absurd (false≢true h)
   parks-so (joins value e p) h = absurd (false≢true h)
   parks-so leaves h = absurd (false≢true h)
+  parks-so (of_word word value reserved e low store) h = absurd (false≢true h)
   parks-so (waits w) h = absurd (false≢true h)
   parks-so (stops status) h = absurd (false≢true h)
   parks-so stops_last h = absurd (false≢true h)
@@ -157,6 +159,7 @@ module _ (setup : Setup) (kernel : Kernel) (u : ℕ) (call : Call) where
   blocked-of (makes f n) h = absurd (false≢true h)
   blocked-of (joins value e p) h = absurd (false≢true h)
   blocked-of leaves h = absurd (false≢true h)
+  blocked-of (of_word word value reserved e low store) h = absurd (false≢true h)
   blocked-of (waits w) h = w
   blocked-of (stops status) h = absurd (false≢true h)
   blocked-of stops_last h = absurd (false≢true h)

@@ -11,7 +11,7 @@ mapped_to (range ∷ ranges) = range.start + range.length
 abbrev pub in_pages : ℕ → ℕ
 in_pages count = (count + 4095) / 4096 * 4096
 
--- each of them has a page or more, and none lies behind what may be given
+-- they are no more than the pages up to where the newest ends, which is not behind what may be given
 pub record IsMapped (given : List Range) : Type 0 where
   pub pages : 0x50000000 + 4096 * length given ≤ mapped_to given
   pub within : mapped_to given ≤ 0x51000000

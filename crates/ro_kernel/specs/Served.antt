@@ -2,7 +2,7 @@
 use Rattle.std.specs.Prelude.{◌≡◌, ◌==◌, Bool, true, false, Result, Ok, Err}
 use Rattle.std.specs.declared.alloc.AllocError.{AllocError}
 use Rattle.ro_event.specs.declared.calls.Which.{Which}
-use Rattle.ro_event.specs.declared.calls.Which.TheVariants.{System, Function}
+use Rattle.ro_event.specs.declared.calls.Which.TheVariants.{System, Function, Atomic}
 use Rattle.ro_event.specs.declared.functions.Function.TheVariants.{Create, Join, Wait}
 use Rattle.ro_kernel.specs.declared.outcome.Served.{Served}
 use Rattle.ro_kernel.specs.declared.outcome.Served.TheVariants.{Done, Parked, Blocked, Ends}
@@ -27,4 +27,5 @@ may_take_memory (System number) = number == 63
 may_take_memory (Function Create) = true
 may_take_memory (Function Join) = true
 may_take_memory (Function Wait) = true
+may_take_memory (Atomic word) = true
 may_take_memory _ = false

@@ -8,12 +8,12 @@ use ro_event::{Call, Effect, Goes, Which};
 use ro_region::Range;
 use std::alloc::{AllocError, Global};
 
-/// Where a thread goes on after a call: behind a system call, and else at ra.
+/// Where a thread goes on after a call: behind a system call and an atomic instruction, and else at ra.
 fn goes_after(which: Which) -> Goes
     ensures { result ≡ goes_after which }
 {
     match which {
-        Which::System(_) => Goes::Next,
+        Which::System(_) | Which::Atomic(_) => Goes::Next,
         Which::Function(_) => Goes::Returns,
     }
 }

@@ -9,7 +9,7 @@ ghost use Rattle.ro_event.specs.Effects.{Effect};
 ghost use Rattle.ro_condition.specs.declared.waiters.Waiter.{Waiter};
 ghost use Rattle.ro_condition.specs.Waiters.{wait_of};
 ghost use Rattle.ro_mutex.specs.Owners.{owner_of};
-ghost use Rattle.ro_kernel.specs.Kernel.{Setup, Kernel, ranges_in, lives_on};
+ghost use Rattle.ro_kernel.specs.Kernel.{Setup, Kernel, ranges_in, released, lives_on};
 ghost use Rattle.ro_kernel.specs.Serve.{serve, blocks, parks, Done, Parked, Blocked, answer_effect};
 ghost use Rattle.ro_kernel.specs.Errors.{is_error};
 
@@ -51,10 +51,10 @@ pub fn locks_and_unlocks_set_the_owner()
     ensures unlocked { (setup : Setup) (kernel after : Kernel) (thread : ℕ) (call : Call) (effect : Effect) → call.which ≡ Function Unlock → serve setup kernel thread call ≡ Done after effect → effect.answer ≡ Some 0 → owner_of after.owners call.a0 ≡ Some None }
 {}
 
-/// An error answer changes nothing but the caller's a0 and pc.
+/// An error answer changes nothing but the caller's a0 and pc, and ends its reservation.
 #[tactic(auto, using(crate::proofs::Refused::error_law))]
 pub fn errors_change_nothing()
-    ensures { (setup : Setup) (kernel after : Kernel) (thread value : ℕ) (call : Call) (effect : Effect) → serve setup kernel thread call ≡ Done after effect → effect.answer ≡ Some value → is_error call.which value ≡ true → (after ≡ kernel) × (effect ≡ answer_effect thread call value) }
+    ensures { (setup : Setup) (kernel after : Kernel) (thread value : ℕ) (call : Call) (effect : Effect) → serve setup kernel thread call ≡ Done after effect → effect.answer ≡ Some value → is_error call.which value ≡ true → (after ≡ released kernel thread) × (effect ≡ answer_effect thread call value) }
 {}
 
 /// What a served call stores, the guest could have stored itself.

@@ -1,11 +1,12 @@
 //! Serving a call, whichever it is.
 ghost use Rattle.std.specs.Prelude.{◌≡◌, true, OnErr};
 ghost use Rattle.ro_kernel.specs.Kernel.{lives_on};
-ghost use Rattle.ro_kernel.specs.Serve.{serve, serve_function, blocks, parks, serves};
+ghost use Rattle.ro_kernel.specs.Serve.{serve, serve_by, serve_function, blocks, parks, serves};
 ghost use Rattle.ro_kernel.specs.Served.{IsServe, may_take_memory};
 
 use crate::answers::answer;
 use crate::outcome::Served;
+use crate::reservations::Reservation;
 use crate::state::Kernel;
 use ro_event::{Call, Function, Which};
 use std::alloc::AllocError;
@@ -13,15 +14,41 @@ use std::alloc::AllocError;
 impl Kernel {
     /// Serves a call of a live thread, or says that it blocks or how the program ends. Where memory is wanting for
     /// the bytes that it stores or the place of one who waits, nothing changes.
-    #[tactic(auto, unfolding(crate::specs::Serve::serve))]
+    #[tactic(auto, unfolding(crate::specs::Serve::serve), using(crate::proofs::Reserving::given_back))]
     pub fn serve(&mut self, thread: u32, call: Call) -> Result<Served, AllocError>
         requires { lives_on self.old.kernel thread ≡ true }
         ensures served { IsServe (serve self.old.setup self.old.kernel thread call) self.old self.new result }
         ensures memory { OnErr result (may_take_memory call.which ≡ true) }
     {
+        let reservation = self.release(thread);
+        match self.serve_released(thread, call, reservation) {
+            Ok(Served::Blocked) => {
+                self.restore(thread, reservation);
+                Ok(Served::Blocked)
+            }
+            Err(error) => {
+                self.restore(thread, reservation);
+                Err(error)
+            }
+            served => served,
+        }
+    }
+
+    /// Serves a call of a thread that had this reservation, and has none now.
+    fn serve_released(
+        &mut self,
+        thread: u32,
+        call: Call,
+        reservation: Option<Reservation>,
+    ) -> Result<Served, AllocError>
+        requires { lives_on self.old.kernel thread ≡ true }
+        ensures served { IsServe (serve_by self.old.setup self.old.kernel thread call reservation call.which) self.old self.new result }
+        ensures memory { OnErr result (may_take_memory call.which ≡ true) }
+    {
         match call.which {
             Which::System(number) => self.system(thread, call, number),
             Which::Function(function) => self.function(thread, call, function),
+            Which::Atomic(word) => self.atomic(thread, call, word, reservation),
         }
     }
 

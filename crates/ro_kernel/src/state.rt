@@ -1,19 +1,24 @@
 //! The kernel's state.
-ghost use Rattle.std.specs.Prelude.{◌≡◌, ◌∷◌, [], ◌≤◌, length, IfOk};
+ghost use Rattle.std.specs.Prelude.{◌≡◌, ◌∷◌, [], ◌≤◌, true, length, IfOk, slice_set};
 ghost use Rattle.ro_condition.specs.Waiters.{wait_of};
-ghost use Rattle.ro_kernel.specs.Kernel.{ranges_in, is_live, lives_on, any_live, opening_kernel};
+ghost use Rattle.ro_kernel.specs.Kernel.{ranges_in, released, is_live, lives_on, any_live, opening_kernel};
+ghost use Rattle.ro_kernel.specs.Reserved.{reservation_of};
 ghost use Rattle.ro_kernel.specs.Serve.{fits};
 
 use crate::Life;
+use crate::reservations::Reservation;
 use ro_condition::{Waiter, Waiters};
-use ro_limits::MAPPED_START;
+use ro_limits::{MAPPED_START, MOST_THREADS};
 use ro_mutex::MutexTable;
 use ro_region::{Kind, Range, Regions};
 use std::alloc::{AllocError, Global};
 use std::marker::Model;
 
-/// What the kernel knows of a guest: its threads' lives, the owners of mutexes, who waits on condition variables, the end
-/// of the heap and the input.
+/// How many threads may be made.
+const THREADS: usize = MOST_THREADS as usize;
+
+/// What the kernel knows of a guest: its threads' lives, the owners of mutexes, who waits on condition variables, which words
+/// are reserved, the end of the heap and the input.
 #[derive(Drop)]
 pub struct Kernel {
     pub(crate) regions: Regions,
@@ -30,6 +35,8 @@ pub struct Kernel {
     pub(crate) lives: Vec<Life>,
     pub(crate) mutexes: MutexTable,
     pub(crate) waiters: Waiters,
+    /// Of each thread that may be made, the word that its LR reserved.
+    pub(crate) reserved: [Option<Reservation>; THREADS],
     pub(crate) alloc: Global,
 }
 
@@ -40,7 +47,7 @@ impl Model for Kernel {
 
     ghost Value = { State };
 
-    ghost view = { λ k. record { setup = record { ranges = k.regions.first; heap = k.heap; input = k.input.items }; kernel = record { lives = k.lives.items; owners = k.mutexes; waiters = k.waiters; heap_end = k.heap_end; taken = k.taken; given = k.regions.given } } };
+    ghost view = { λ k. record { setup = record { ranges = k.regions.first; heap = k.heap; input = k.input.items }; kernel = record { lives = k.lives.items; owners = k.mutexes; waiters = k.waiters; heap_end = k.heap_end; taken = k.taken; given = k.regions.given; reserved = k.reserved } } };
 
     ghost invariant = { λ k. (k.taken ≤ vec_len k.input) × (vec_len k.lives ≤ 16) × (k.map_end ≡ mapped_to k.regions.given) × IsMapped k.regions.given };
 }
@@ -75,6 +82,7 @@ impl Kernel {
             lives: [Life::Live].to_vec(alloc)?,
             mutexes: MutexTable::new(alloc)?,
             waiters: Waiters::new(alloc),
+            reserved: [None; THREADS],
             alloc,
         })
     }
@@ -102,6 +110,27 @@ impl Kernel {
             Some(life) => life.is_live(),
             None => false,
         }
+    }
+
+    /// Ends a live thread's reservation, and answers which one it was.
+    #[tactic(auto, using(crate::proofs::Reserving::lives_below))]
+    pub(crate) fn release(&mut self, thread: u32) -> Option<Reservation>
+        requires { lives_on self.old.kernel thread ≡ true }
+        ensures was { result ≡ reservation_of self.old.kernel.reserved thread }
+        ensures kernel { self.new ≡ record self.old { kernel = released self.old.kernel thread } }
+    {
+        let reservation = self.reserved[thread as usize];
+        self.reserved[thread as usize] = None;
+        reservation
+    }
+
+    /// Gives a live thread a reservation back.
+    #[tactic(auto, using(crate::proofs::Reserving::lives_below))]
+    pub(crate) fn restore(&mut self, thread: u32, reservation: Option<Reservation>)
+        requires { lives_on self.old.kernel thread ≡ true }
+        ensures { self.new ≡ record self.old { kernel = record self.old.kernel { reserved = slice_set self.old.kernel.reserved thread reservation } } }
+    {
+        self.reserved[thread as usize] = reservation;
     }
 
     /// The wait of a thread on a condition variable, where it waits.

@@ -4,7 +4,7 @@ use Rattle.std.specs.Option.{option_map}
 use Rattle.std.proofs.Common.{refl, subst, arith}
 use Rattle.std.proofs.lemmas.Bool.{and_parts, leb-true}
 use Rattle.ro_decode.specs.declared.Instr.{Instr}
-use Rattle.ro_decode.specs.declared.Instr.TheVariants.{Lui, Auipc, Jal, Jalr, Branch, Load, Store, AluImm, Alu, MulDiv, Fence, Ecall, Ebreak}
+use Rattle.ro_decode.specs.declared.Instr.TheVariants.{Lui, Auipc, Jal, Jalr, Branch, Load, Store, AluImm, Alu, MulDiv, Fence, Atomic, Ecall, Ebreak}
 use Rattle.ro_decode.specs.declared.LoadOp.{LoadOp}
 use Rattle.ro_decode.specs.declared.LoadOp.TheVariants.{Lb, Lh, Lw, Lbu, Lhu}
 use Rattle.ro_decode.specs.declared.StoreOp.{StoreOp}
@@ -24,7 +24,8 @@ use Rattle.ro_region.specs.Permission.{permits_each, permits_of}
 use Rattle.ro_pages.specs.Bytes.{Memory, Span, number_at, page_of}
 use Rattle.ro_exec.specs.declared.Cpu.{Cpu}
 use Rattle.ro_exec.specs.Meaning.{load_size, store_size, loads, stores}
-use Rattle.ro_exec.specs.Next.{Layout, Backed, exit_place, call_of, Next, Executes, first, stop_if, access_stop, fetch_stop, instruction_stop, unless_stop, next_at, next, stop_in}
+use Rattle.ro_exec.specs.Registers.{register}
+use Rattle.ro_exec.specs.Next.{Layout, Backed, exit_place, call_of, Next, Executes, first, stop_if, access_stop, fetch_stop, instruction_stop, unless_stop, next_at, next, stop_in, permits_atomic}
 use Rattle.ro_thread.specs.Stops.{standing}
 use Rattle.ro_legal.specs.Sound.{IsFault}
 
@@ -100,6 +101,9 @@ fault-instruction ranges backed cpu (AluImm op rd rs1 imm) = fault-none backed
 fault-instruction ranges backed cpu (Alu op rd rs1 rs2) = fault-none backed
 fault-instruction ranges backed cpu (MulDiv op rd rs1 rs2) = fault-none backed
 fault-instruction ranges backed cpu (Fence rd rs1 bits) = fault-none backed
+fault-instruction ranges backed cpu (Atomic op rd rs1 rs2 order) =
+    fault-row backed _ _ (fault-trap backed (not (register cpu rs1 % 4 == 0)) _)
+    (fault-row backed _ _ (fault-trap backed (not (permits_atomic ranges op (register cpu rs1))) _) (fault-exit backed true _))
 fault-instruction ranges backed cpu Ecall = fault-exit backed true _
 fault-instruction ranges backed cpu Ebreak = fault-trap backed true _
 

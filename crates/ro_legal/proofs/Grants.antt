@@ -20,7 +20,7 @@ use Rattle.ro_journal.specs.declared.Entry.{Entry}
 use Rattle.ro_journal.specs.declared.Entry.TheVariants.{Take, Put, Vote, Free, Scrub, End}
 use Rattle.ro_kernel.proofs.Kept.{slice_get-set_other}
 use Rattle.ro_kernel.specs.Kernel.{Setup, Kernel, lives_on}
-use Rattle.ro_kernel.specs.Serve.{Served as Serving, Done, Parked as Parks, Blocked as Blocks, Ends, serve}
+use Rattle.ro_kernel.specs.Serve.{Served as Serving, Done, Parked as Parks, Blocked as Blocks, Ends, serve, put_out, asked}
 use Rattle.ro_thread.specs.declared.Thread.{Thread}
 use Rattle.ro_replica.specs.Replica.{Replica, changed_at, thread_after, with_made, without_cancelled, is_cancelled, applied, cancelled}
 use Rattle.ro_replica.specs.Runs.{RanTo, run_of, with_stop}
@@ -230,9 +230,9 @@ unfolding event_of
 blocked-quiet setup kernel thread (PageFault page) payload e = absurd (false≢true e)
 blocked-quiet setup kernel thread Watchdog payload e = absurd (false≢true e)
 blocked-quiet setup kernel thread (Trap code) payload e = absurd (false≢true e)
-blocked-quiet setup kernel thread (Calls call) payload e = by (serve setup kernel thread call) e
+blocked-quiet setup kernel thread (Calls call) payload e = by (serve setup kernel thread (asked call payload)) e
   where
-    by : (s : Serving) → leaves_blocked (call_event kernel thread call payload s).did ≡ true → (call_event kernel thread call payload s).effect ≡ quiet_effect thread None false
+    by : (s : Serving) → leaves_blocked (call_event kernel thread call (put_out call.which payload) s).did ≡ true → (call_event kernel thread call (put_out call.which payload) s).effect ≡ quiet_effect thread None false
     by (Done after effect) f = absurd (false≢true f)
     by (Parks after) f = refl
     by Blocks f = refl

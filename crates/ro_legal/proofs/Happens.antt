@@ -15,7 +15,7 @@ use Rattle.ro_region.specs.declared.Range.{Range}
 use Rattle.ro_journal.specs.declared.How.{How}
 use Rattle.ro_journal.specs.declared.How.TheVariants.{Trap as TrapHow}
 use Rattle.ro_kernel.specs.Kernel.{Setup, Kernel, lives_on, ranges_in}
-use Rattle.ro_kernel.specs.Serve.{Served, Done, Parked, Blocked, Ends, serve}
+use Rattle.ro_kernel.specs.Serve.{Served, Done, Parked, Blocked, Ends, serve, put_out, asked}
 use Rattle.ro_kernel.proofs.Kept.{IsOwn, Own, done, serve-own}
 use Rattle.ro_kernel.proofs.Stores.{stores-permitted}
 use Rattle.ro_condition.proofs.Whose.{is_waiting}
@@ -72,7 +72,8 @@ unfolding permits_of
 within-permits ranges place count e =
     let parts = and_parts (nat_le (place + count) (2 ^ 32)) (permits_each ranges Write place count) e in leb-true _ _ parts.0
 
-module _ (setup : Setup) (kernel : Kernel) (thread : ℕ) (call : Call) (payload : List ℕ) where
+-- a call, which may be served with what a vote found
+module _ (setup : Setup) (kernel : Kernel) (thread : ℕ) (call put : Call) (same_which : put.which ≡ call.which) (payload : List ℕ) where
   tidy-of : (after : Kernel) (effect : Effect) → Tidy kernel thread (Done after effect) → IsTidy kernel thread after effect
   tidy-of after effect (tidy_done h) = h
 
@@ -86,32 +87,32 @@ module _ (setup : Setup) (kernel : Kernel) (thread : ℕ) (call : Call) (payload
   end-over after how (tidy_end same over) = over
 
   -- a call, by what comes of it
-  by-served : (served : Served) → serve setup kernel thread call ≡ served → Happens kernel thread (call_event kernel thread call payload served)
+  by-served : (served : Served) → serve setup kernel thread put ≡ served → Happens kernel thread (call_event kernel thread call payload served)
   by-served (Done after effect) e =
-      let tidy = tidy-of after effect (subst (Tidy kernel thread) e (serve-tidy setup kernel thread call)) in
-      let own = own-of after effect (subst (Own kernel thread) e (serve-own setup kernel thread call)) in
-      let fit = fit-effect setup kernel thread call after effect e in
+      let tidy = tidy-of after effect (subst (Tidy kernel thread) e (serve-tidy setup kernel thread put)) in
+      let own = own-of after effect (subst (Own kernel thread) e (serve-own setup kernel thread put)) in
+      let fit = fit-effect setup kernel thread put after effect e in
       record {
-        given_are = given-done setup kernel thread call after effect e;
+        given_are = given-done setup kernel thread put after effect e;
         lives_are = tidy.one_life_each;
         others_live = λ d other differs h. own.keeps_live other differs h;
         blocks_live = λ c f. absurd (let g : None ≡ Some c = f in cc);
-        others_wait = λ d other differs. served-others setup kernel thread call after effect e other differs;
+        others_wait = λ d other differs. served-others setup kernel thread put after effect e other differs;
         waits_begun = λ c f. absurd (let g : None ≡ Some c = f in cc);
         thread_is = own.thread_is;
         creator_is = own.creator_is;
         few = fit.few;
-        within = within-permits (ranges_in setup kernel) effect.place (length effect.bytes) (stores-permitted setup kernel thread call after effect e);
+        within = within-permits (ranges_in setup kernel) effect.place (length effect.bytes) (stores-permitted setup kernel thread put after effect e);
         place_left = fit.place_left;
         ends_well = no-end;
       }
   by-served (Parked after) e = record {
-    given_are = given-parked setup kernel thread call after e;
-    lives_are = fit-parked setup kernel thread call after e ∙ add-none (length kernel.lives);
-    others_live = λ d other differs h. parked-live setup kernel thread call after other e ∙ h;
-    blocks_live = λ c f. parked-live setup kernel thread call after thread e;
-    others_wait = λ d other differs. begun-others setup kernel thread call after e other differs;
-    waits_begun = λ c f w. begun-now setup kernel thread call after e;
+    given_are = given-parked setup kernel thread put after e;
+    lives_are = fit-parked setup kernel thread put after e ∙ add-none (length kernel.lives);
+    others_live = λ d other differs h. parked-live setup kernel thread put after other e ∙ h;
+    blocks_live = λ c f. parked-live setup kernel thread put after thread e;
+    others_wait = λ d other differs. begun-others setup kernel thread put after e other differs;
+    waits_begun = λ c f w. begun-now setup kernel thread put after e;
     thread_is = refl;
     creator_is = λ made f. absurd (let g : None ≡ Some made = f in cc);
     few = omega arith;
@@ -121,11 +122,11 @@ module _ (setup : Setup) (kernel : Kernel) (thread : ℕ) (call : Call) (payload
   }
   by-served Blocked e =
       quiet kernel thread _ refl refl refl refl refl refl no-end
-      (λ c f w. blocked-waits setup kernel thread call e (let g : Some call ≡ Some c = f in let same : call ≡ c = cc in ap (λ (d : Call). d.which) same ∙ w))
+      (λ c f w. blocked-waits setup kernel thread put e (same_which ∙ (let g : Some call ≡ Some c = f in let same : call ≡ c = cc in ap (λ (d : Call). d.which) same ∙ w)))
   by-served (Ends after how) e =
-      let tidy = subst (Tidy kernel thread) e (serve-tidy setup kernel thread call) in
+      let tidy = subst (Tidy kernel thread) e (serve-tidy setup kernel thread put) in
       record {
-        given_are = given-ended setup kernel thread call after how e;
+        given_are = given-ended setup kernel thread put after how e;
         lives_are = end-lives after how tidy ∙ add-none (length kernel.lives);
         others_live = λ f other differs h. absurd (let g : None ≡ Some how = sym f in cc);
         blocks_live = λ c f. absurd (let g : None ≡ Some c = f in cc);
@@ -139,12 +140,15 @@ module _ (setup : Setup) (kernel : Kernel) (thread : ℕ) (call : Call) (payload
         ends_well = λ other f. subst IsOver (let g : Some how ≡ Some other = f in cc) (end-over after how tidy);
       }
 
-  pub call-happens : Happens kernel thread (call_event kernel thread call payload (serve setup kernel thread call))
-  call-happens = by-served (serve setup kernel thread call) refl
+  pub put-happens : Happens kernel thread (call_event kernel thread call payload (serve setup kernel thread put))
+  put-happens = by-served (serve setup kernel thread put) refl
+
+pub call-happens : (setup : Setup) (kernel : Kernel) (thread : ℕ) (call : Call) (payload : List ℕ) → Happens kernel thread (call_event kernel thread call payload (serve setup kernel thread call))
+call-happens setup kernel thread call payload = put-happens setup kernel thread call call refl payload
 
 pub event-happens : (setup : Setup) (kernel : Kernel) (thread : ℕ) (stop : Stop) (payload : List ℕ) → Happens kernel thread (event_of setup kernel thread stop payload)
 unfolding event_of
-event-happens setup kernel thread (Calls call) payload = call-happens setup kernel thread call payload
+event-happens setup kernel thread (Calls call) payload = put-happens setup kernel thread call (asked call payload) refl (put_out call.which payload)
 event-happens setup kernel thread (PageFault page) payload = quiet kernel thread _ refl refl refl refl refl refl no-end (λ c f. absurd (let g : None ≡ Some c = f in cc))
 event-happens setup kernel thread Watchdog payload = quiet kernel thread _ refl refl refl refl refl refl no-end (λ c f. absurd (let g : None ≡ Some c = f in cc))
 event-happens setup kernel thread (Trap code) payload = quiet kernel thread _ refl refl refl refl refl refl (λ how e. subst IsOver (let g : Some (TrapHow code) ≡ Some how = e in cc) (traps {cause = code})) (λ c f. absurd (let g : None ≡ Some c = f in cc))

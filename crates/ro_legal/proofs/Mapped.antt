@@ -11,7 +11,7 @@ use Rattle.ro_journal.specs.Losers.{numbers}
 use Rattle.ro_journal.specs.declared.Lease.{Lease}
 use Rattle.ro_kernel.specs.Kernel.{Setup, Kernel}
 use Rattle.ro_kernel.specs.Mapped.{IsMapped}
-use Rattle.ro_kernel.specs.Serve.{Served, Done, Parked, Blocked, Ends, serve}
+use Rattle.ro_kernel.specs.Serve.{Served, Done, Parked, Blocked, Ends, serve, put_out, asked}
 use Rattle.ro_kernel.proofs.Given.{MapsMore, serve-maps}
 use Rattle.ro_replica.specs.Replica.{Replica, stop_of}
 use Rattle.ro_replica.specs.Runs.{RanTo}
@@ -20,9 +20,9 @@ use Rattle.ro_legal.specs.Core.{Job, Core, opening_core}
 use Rattle.ro_legal.specs.Event.{call_event, event_of, with_recovered}
 use Rattle.ro_legal.specs.Legal.{core_after_put, core_after_event, lease_run, event_with, after, replay_from, replay}
 
--- a call
-call-mapped : (setup : Setup) (kernel : Kernel) (thread : ℕ) (call : Call) (payload : List ℕ) → IsMapped kernel.given → IsMapped (call_event kernel thread call payload (serve setup kernel thread call)).kernel.given
-call-mapped setup kernel thread call payload mapped = by (serve setup kernel thread call) (serve-maps setup kernel thread call)
+-- a call, which may be served with what a vote found
+call-mapped : (setup : Setup) (kernel : Kernel) (thread : ℕ) (call put : Call) (payload : List ℕ) → IsMapped kernel.given → IsMapped (call_event kernel thread call payload (serve setup kernel thread put)).kernel.given
+call-mapped setup kernel thread call put payload mapped = by (serve setup kernel thread put) (serve-maps setup kernel thread put)
   where
     by : (served : Served) → MapsMore kernel served → IsMapped (call_event kernel thread call payload served).kernel.given
     by (Done after effect) maps = maps mapped
@@ -33,7 +33,7 @@ call-mapped setup kernel thread call payload mapped = by (serve setup kernel thr
 -- whatever a thread stands at
 event-mapped : (setup : Setup) (kernel : Kernel) (thread : ℕ) (stop : Stop) (payload : List ℕ) → IsMapped kernel.given → IsMapped (event_of setup kernel thread stop payload).kernel.given
 unfolding event_of
-event-mapped setup kernel thread (Calls call) payload mapped = call-mapped setup kernel thread call payload mapped
+event-mapped setup kernel thread (Calls call) payload mapped = call-mapped setup kernel thread call (asked call payload) (put_out call.which payload) mapped
 event-mapped setup kernel thread (Trap code) payload mapped = mapped
 event-mapped setup kernel thread (PageFault page) payload mapped = mapped
 event-mapped setup kernel thread Watchdog payload mapped = mapped
@@ -56,7 +56,7 @@ module _ (job : Job) (core : Core) (mapped : IsMapped core.kernel.given) where
   -- a blocked call that is served
   free-mapped : (thread : ℕ) (o : Option Call) → IsMapped (core_after_event core thread 0 core.replicas (option_map (λ call. call_event core.kernel thread call [] (serve (setup_of job.program) core.kernel thread call)) o)).kernel.given
   free-mapped thread None = mapped
-  free-mapped thread (Some call) = call-mapped (setup_of job.program) core.kernel thread call [] mapped
+  free-mapped thread (Some call) = call-mapped (setup_of job.program) core.kernel thread call call [] mapped
 
   -- an entry
   after-mapped : (entry : Entry) → IsMapped (after job core entry).kernel.given

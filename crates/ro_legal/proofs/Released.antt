@@ -10,7 +10,7 @@ use Rattle.ro_journal.specs.declared.Entry.{Entry}
 use Rattle.ro_journal.specs.declared.Entry.TheVariants.{Take, Put, Vote, Free, Scrub, End}
 use Rattle.ro_journal.specs.Losers.{numbers}
 use Rattle.ro_kernel.specs.Kernel.{Setup, Kernel}
-use Rattle.ro_kernel.specs.Serve.{Served, Done, Parked, Blocked, Ends, serve}
+use Rattle.ro_kernel.specs.Serve.{Served, Done, Parked, Blocked, Ends, serve, put_out, asked}
 use Rattle.ro_exec.specs.Next.{Backed}
 use Rattle.ro_thread.specs.declared.Thread.{Thread}
 use Rattle.ro_replica.specs.Replica.{Replica, applied, cancelled, is_cancelled, without_cancelled, stop_of}
@@ -38,7 +38,7 @@ call-releases kernel thread call payload (Ends after how) t did due = absurd (le
 -- the event of a vote that served a call
 vote-releases : (setup : Setup) (kernel : Kernel) (thread : ℕ) (stop : Stop) (payload : List ℕ) → (event_of setup kernel thread stop payload).did ≡ WasServed → (event_of setup kernel thread stop payload).due ≡ None → (event_of setup kernel thread stop payload).effect.releases ≡ true
 unfolding event_of
-vote-releases setup kernel thread (Calls call) payload did due = call-releases kernel thread call payload (serve setup kernel thread call) (serve-tidy setup kernel thread call) did due
+vote-releases setup kernel thread (Calls call) payload did due = call-releases kernel thread call (put_out call.which payload) (serve setup kernel thread (asked call payload)) (serve-tidy setup kernel thread (asked call payload)) did due
 vote-releases setup kernel thread (PageFault page) payload did due = absurd (let e : PageBacked ≡ WasServed = did in cc)
 vote-releases setup kernel thread Watchdog payload did due = absurd (let e : Watch ≡ WasServed = did in cc)
 vote-releases setup kernel thread (Trap code) payload did due = absurd (let e : Trapped ≡ WasServed = did in cc)

@@ -11,11 +11,11 @@ use Rattle.ro_mutex.specs.Owners.{with_owner}
 use Rattle.ro_condition.specs.Waiters.{without}
 use Rattle.ro_kernel.specs.declared.Life.{Life}
 use Rattle.ro_kernel.specs.declared.Life.TheVariants.{Live, Exited, Joined}
-use Rattle.ro_kernel.specs.Kernel.{Setup, Kernel, is_live, live_option, lives_on}
+use Rattle.ro_kernel.specs.Kernel.{Setup, Kernel, released, is_live, live_option, lives_on}
 use Rattle.ro_kernel.specs.Serve.{Served, Done, Parked, Blocked, Ends, answers, serve}
 use Rattle.ro_kernel.proofs.Kept.{slice_get-set_other}
 use Rattle.ro_legal.specs.Sound.{IsOver, exits}
-use Rattle.ro_kernel.proofs.Shapes.{Shape, says, reads, breaks, maps_more, owns, wakes, parks_at, resumes, makes, joins, leaves, waits, stops, stops_last, shape-of}
+use Rattle.ro_kernel.proofs.Shapes.{Shape, says, reads, breaks, maps_more, owns, wakes, parks_at, resumes, makes, joins, leaves, of_word, waits, stops, stops_last, shape-of}
 
 -- how many threads an effect makes
 abbrev pub made_count : Option Made → ℕ
@@ -27,7 +27,6 @@ pub record IsTidy (before : Kernel) (u : ℕ) (after : Kernel) (effect : Effect)
   pub one_life_each : length after.lives ≡ length before.lives + made_count effect.made
   pub stays_dead : (t : ℕ) → t ≢ u → t < length before.lives → lives_on after t ≡ true → lives_on before t ≡ true
   pub goes_on : effect.releases ≡ true
-  pub backs_none : effect.page ≡ None
 
 -- whatever comes of a call
 pub data Tidy (before : Kernel) (u : ℕ) : Served → Type 0 where
@@ -46,7 +45,6 @@ tidy-answers before after u call value same = tidy_done (record {
   one_life_each = ap length (sym same) ∙ add-none (length before.lives);
   stays_dead = λ t d short h. subst (λ (l : List Life). live_option (slice_get l t) ≡ true) (sym same) h;
   goes_on = refl;
-  backs_none = refl;
 })
 
 -- an old element of a longer list
@@ -71,32 +69,30 @@ module _ (setup : Setup) (kernel : Kernel) (u : ℕ) (call : Call) where
       (cases_eq t place)
 
   tidy-of : {served : Served} → Shape setup kernel u call served → Tidy kernel u served
-  tidy-of (says value) = tidy-answers kernel kernel u call value refl
-  tidy-of (reads number e xs h) = tidy_done (record { one_life_each = add-none (length kernel.lives); stays_dead = λ t d short h. h; goes_on = refl; backs_none = refl })
-  tidy-of (breaks e end) = tidy-answers kernel (record kernel { heap_end = end }) u call end refl
-  tidy-of (maps_more e some room) = tidy_done (record { one_life_each = add-none (length kernel.lives); stays_dead = λ t d short h. h; goes_on = refl; backs_none = refl })
-  tidy-of (owns on fit owner) = tidy-answers kernel (record kernel { owners = with_owner kernel.owners call.a0 owner }) u call 0 refl
-  tidy-of (wakes ws w) = tidy-answers kernel (record kernel { waiters = ws }) u call 0 refl
+  tidy-of (says value) = tidy-answers kernel (released kernel u) u call value refl
+  tidy-of (reads number e xs h) = tidy_done (record { one_life_each = add-none (length kernel.lives); stays_dead = λ t d short h. h; goes_on = refl })
+  tidy-of (breaks e end) = tidy-answers kernel (record (released kernel u) { heap_end = end }) u call end refl
+  tidy-of (maps_more e some room) = tidy_done (record { one_life_each = add-none (length kernel.lives); stays_dead = λ t d short h. h; goes_on = refl })
+  tidy-of (owns on fit owner) = tidy-answers kernel (record (released kernel u) { owners = with_owner kernel.owners call.a0 owner }) u call 0 refl
+  tidy-of (wakes ws w) = tidy-answers kernel (record (released kernel u) { waiters = ws }) u call 0 refl
   tidy-of (parks_at w e h) = tidy_parked
-  tidy-of (resumes w waiter e h) = tidy-answers kernel (record kernel { owners = with_owner kernel.owners call.a1 (Some u); waiters = without kernel.waiters u }) u call 0 refl
+  tidy-of (resumes w waiter e h) = tidy-answers kernel (record (released kernel u) { owners = with_owner kernel.owners call.a1 (Some u); waiters = without kernel.waiters u }) u call 0 refl
   tidy-of (makes f n) = tidy_done (record {
     one_life_each = length-append kernel.lives (Live ∷ []);
     stays_dead = λ t d short h. ap live_option (sym (get-append-short kernel.lives (Live ∷ []) t short)) ∙ h;
     goes_on = refl;
-    backs_none = refl;
   })
   tidy-of (joins value e h) = tidy_done (record {
     one_life_each = length-set kernel.lives call.a0 Joined ∙ add-none (length kernel.lives);
     stays_dead = λ t d short h. set-dead call.a0 t Joined refl h;
     goes_on = refl;
-    backs_none = refl;
   })
   tidy-of leaves = tidy_done (record {
     one_life_each = length-set kernel.lives u (Exited call.a0) ∙ add-none (length kernel.lives);
     stays_dead = λ t d short h. set-dead u t (Exited call.a0) refl h;
     goes_on = refl;
-    backs_none = refl;
   })
+  tidy-of (of_word word value reserved e low store) = tidy_done (record { one_life_each = add-none (length kernel.lives); stays_dead = λ t d short h. h; goes_on = refl })
   tidy-of (waits w) = tidy_blocked
   tidy-of (stops status) = tidy_end refl exits
   tidy-of stops_last = tidy_end (length-set kernel.lives u (Exited call.a0)) exits

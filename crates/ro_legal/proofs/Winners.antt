@@ -1,6 +1,6 @@
 -- What a verdict says of the views, and of the replicas that showed them.
 use Rattle.std.proofs.Common.{◌≡◌, ◌≢◌, ℕ, zero, suc, ◌+◌, ◌<◌, ◌≤◌, Bool, true, false, true≢false, cond, ◌&&◌, List, [], ◌∷◌, length, Option, Some, None, refl, sym, ap, ◌∙◌, subst, arith}
-use Rattle.std.specs.Prelude.{is_some, slice_get}
+use Rattle.std.specs.Prelude.{is_some, slice_get, ◌%◌, ◌==◌}
 use Rattle.std.specs.List.{list_all}
 use Rattle.std.specs.Option.{option_map, option_and_then}
 use Rattle.std.proofs.lemmas.Bool.{and_parts, and_from}
@@ -10,8 +10,8 @@ use Rattle.ro_event.specs.declared.stops.Stop.{Stop}
 use Rattle.ro_event.specs.declared.stops.Stop.TheVariants.{Calls, Trap, PageFault, Watchdog}
 use Rattle.ro_event.specs.Views.{View}
 use Rattle.ro_region.specs.declared.Range.{Range}
-use Rattle.ro_pages.specs.Bytes.{Memory, bytes_at}
-use Rattle.ro_kernel.specs.Serve.{capped, is_write, is_good_write, payload_of}
+use Rattle.ro_pages.specs.Bytes.{Memory, bytes_at, Span}
+use Rattle.ro_kernel.specs.Serve.{capped, is_write, is_good_write, payload_of, payload_span, is_atomic}
 use Rattle.ro_kernel.specs.Kernel.{ranges_in}
 use Rattle.ro_thread.specs.declared.Thread.{Thread}
 use Rattle.ro_vote.specs.Verdict.{verdict_of, Won}
@@ -123,13 +123,21 @@ length-bytes : (memory : Memory) (place count : ℕ) → length (bytes_at memory
 length-bytes memory place zero = refl
 length-bytes memory place (suc n) = ap suc (length-bytes memory (place + 1) n)
 
+-- a stretch of at most 4,096 bytes
+abbrev IsShort : Span → Type 0
+IsShort span = span.count ≤ 4096
+
+span-few : (w a : Bool) (call : Call) → IsShort (cond w (record { place = call.a1; count = capped call.a2 }) (cond a (record { place = call.a0; count = 4 }) (record { place = 0; count = 0 })))
+span-few true a call = omega arith
+span-few false true call = omega arith
+span-few false false call = omega arith
+
 short-payload : (ranges : List Range) (memory : Memory) (call : Call) → length (payload_of ranges memory call) ≤ 4096
 unfolding payload_of
-short-payload ranges memory call = by (is_write call.which && is_good_write ranges call)
-  where
-    by : (b : Bool) → length (cond b (bytes_at memory call.a1 (capped call.a2)) []) ≤ 4096
-    by true = let e = length-bytes memory call.a1 (capped call.a2) in omega arith
-    by false = omega arith
+short-payload ranges memory call =
+    let e = length-bytes memory (payload_span ranges call).place (payload_span ranges call).count in
+    let few = span-few (is_write call.which && is_good_write ranges call) (is_atomic call.which && (call.a0 % 4 == 0)) call in
+    omega arith
 
 short-at : (ranges : List Range) (memory : Memory) (stop : Stop) → length (payload_at ranges memory stop) ≤ 4096
 short-at ranges memory (Calls call) = short-payload ranges memory call

@@ -4,7 +4,8 @@ use Rattle.std.specs.Option.{option_map}
 use Rattle.std.proofs.Common.{refl, sym, subst, ap, ◌∙◌, inl, inr, arith, eq-eqb}
 use Rattle.std.proofs.lemmas.Bool.{and_parts, leb-true, true≢false}
 use Rattle.ro_decode.specs.declared.Instr.{Instr}
-use Rattle.ro_decode.specs.declared.Instr.TheVariants.{Lui, Auipc, Jal, Jalr, Branch, Load, Store, AluImm, Alu, MulDiv, Fence, Ecall, Ebreak}
+use Rattle.ro_decode.specs.declared.Instr.TheVariants.{Lui, Auipc, Jal, Jalr, Branch, Load, Store, AluImm, Alu, MulDiv, Fence, Atomic, Ecall, Ebreak}
+use Rattle.ro_decode.specs.declared.AtomicOp.{AtomicOp}
 use Rattle.ro_decode.specs.declared.LoadOp.{LoadOp}
 use Rattle.ro_decode.specs.declared.LoadOp.TheVariants.{Lb, Lh, Lw, Lbu, Lhu}
 use Rattle.ro_decode.specs.declared.StoreOp.{StoreOp}
@@ -25,8 +26,9 @@ use Rattle.ro_pages.specs.Bytes.{Memory, Span, number_at, page_of}
 use Rattle.ro_exec.specs.declared.Cpu.{Cpu}
 use Rattle.ro_exec.specs.declared.outcome.Step.{Step}
 use Rattle.ro_exec.specs.declared.outcome.Step.TheVariants.{Did, Stopped}
+use Rattle.ro_exec.specs.Registers.{register}
 use Rattle.ro_exec.specs.Meaning.{load_size, store_size, loads, stores}
-use Rattle.ro_exec.specs.Next.{Layout, Backed, all_backed, exit_place, call_of, Next, Stands, Executes, first, stop_if, access_stop, fetch_stop, instruction_stop, unless_stop, next_at, next, stop_in}
+use Rattle.ro_exec.specs.Next.{Layout, Backed, all_backed, exit_place, call_of, Next, Stands, Executes, first, stop_if, access_stop, permits_atomic, misaligned_by, forbidden_by, atomic_stop, fetch_stop, instruction_stop, unless_stop, next_at, next, stop_in}
 use Rattle.ro_exec.specs.Steps.{IsStep}
 use Rattle.ro_exec.proofs.Backing.{SameNext, same_next, stands_at_page, next-same-backed}
 use Rattle.ro_machine.specs.Pages.{fault_of}
@@ -88,6 +90,11 @@ module _ (backed : Backed) (one other : ℕ) where
       let same : page_of place ≡ page = (let g : Some (PageFault (page_of place)) ≡ Some (PageFault page) = f in cc) in
       (subst (λ (n : ℕ). n < 2 ^ 20) same (low-permitted ranges kind place count some e), subst (λ (n : ℕ). backed n ≡ false) same k, subst (λ (n : ℕ). (n ≡ one) ⊎ (n ≡ other)) same named)
 
+  fault-atomic : (ranges : List Range) (op : AtomicOp) (address : ℕ) (call : Call) → IsFault backed one other (atomic_stop ranges op address (Calls call))
+  fault-atomic ranges op address call =
+      fault-row _ _ (fault-trap (not (address % 4 == 0)) (misaligned_by op))
+      (fault-row _ _ (fault-trap (not (permits_atomic ranges op address)) (forbidden_by op)) (fault-exit true call))
+
   fault-access : (ranges : List Range) (kind : Kind) (span : Span) (m f : TrapCause) → 0 < span.count → (page_of span.place ≡ one) ⊎ (page_of span.place ≡ other) → IsFault backed one other (access_stop ranges backed kind span m f)
   fault-access ranges kind span m f some named =
       fault-row _ _ (fault-trap (not (span.place % span.count == 0)) m)
@@ -114,6 +121,7 @@ module _ (backed : Backed) (one other : ℕ) where
   fault-instruction ranges cpu (Alu op rd rs1 rs2) there = fault-none
   fault-instruction ranges cpu (MulDiv op rd rs1 rs2) there = fault-none
   fault-instruction ranges cpu (Fence rd rs1 bits) there = fault-none
+  fault-instruction ranges cpu (Atomic op rd rs1 rs2 order) there = fault-atomic ranges op (register cpu rs1) _
   fault-instruction ranges cpu Ecall there = fault-exit true _
   fault-instruction ranges cpu Ebreak there = fault-trap true _
 

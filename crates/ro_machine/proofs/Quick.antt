@@ -24,7 +24,7 @@ use Rattle.ro_machine.specs.Seen.{PlainOf, machine_of, Steps}
 use Rattle.ro_machine.specs.Watched.{Sees, TellsNext}
 use Rattle.ro_machine.specs.Lanes.{cpu_of, closed, IsOpen, Spells}
 use Rattle.ro_machine.proofs.Stepping.{may, go-did}
-use Rattle.ro_machine.proofs.Noted.{was-read, look-read, sees-executed}
+use Rattle.ro_machine.proofs.Noted.{no_bytes, was-read, look-read, sees-executed}
 use Rattle.ro_kernel.specs.Kernel.{ranges_in}
 
 -- what is done with some pages backed is done with all
@@ -55,15 +55,15 @@ module _ (plain : PlainOf) (lane : Lane) (opened : IsOpen plain lane) where
         subst (λ (xs : List Cpu). Steps (closed plain lane) lane.thread (record plain { held = held; cpus = xs })) (set_twice plain.cpus lane.thread (cpu_of lane) cpu)
         (go-did plain.program plain.held held (slice_set plain.cpus lane.thread (cpu_of lane)) plain.kernel plain.written (ranges_in (setup_of plain.program) plain.kernel) plain.program.image.calls plain.ended lane.thread (cpu_of lane) cpu Did refl opened.going opened.live there opened.empty refl refl did)
 
-    pub lane-sees : (look : Look) → Spells (memory_of plain.held.pages) (cpu_of lane) look → (output : List ℕ) → Sees plain.program (machine_of (closed plain lane) output) lane.thread (record { loaded = look.loads; code = look.code; stored = look.stores; relation = IsNothing })
+    pub lane-sees : (look : Look) → Spells (memory_of plain.held.pages) (cpu_of lane) look → (output : List ℕ) → Sees plain.program (machine_of (closed plain lane) output) lane.thread (record { loaded = look.loads; code = look.code; stored = look.stores; atomic = no_bytes; relation = IsNothing })
     lane-sees look spells output = by (next (layout_in plain.program plain.kernel) all_backed (memory_of plain.held.pages) (cpu_of lane)) refl did
       where
-        by : (n : Next) → next (layout_in plain.program plain.kernel) all_backed (memory_of plain.held.pages) (cpu_of lane) ≡ n → IsStep n Did (cpu_of lane) cpu (memory_of plain.held.pages) (memory_of held.pages) → Sees plain.program (machine_of (closed plain lane) output) lane.thread (record { loaded = look.loads; code = look.code; stored = look.stores; relation = IsNothing })
+        by : (n : Next) → next (layout_in plain.program plain.kernel) all_backed (memory_of plain.held.pages) (cpu_of lane) ≡ n → IsStep n Did (cpu_of lane) cpu (memory_of plain.held.pages) (memory_of held.pages) → Sees plain.program (machine_of (closed plain lane) output) lane.thread (record { loaded = look.loads; code = look.code; stored = look.stores; atomic = no_bytes; relation = IsNothing })
         by (Stands stop) e h = absurd (let f : Did ≡ Stopped stop = h.0 in cc)
         by (Executes instr) e h =
             let read = was-read (layout_in plain.program plain.kernel) (memory_of plain.held.pages) (cpu_of lane) instr e in
-            let looks = look-read (layout_in plain.program plain.kernel) (memory_of plain.held.pages) (cpu_of lane) look (sym (ap is_none read.fetched)) spells.code spells.loads_are spells.stores_are spells.loads_few spells.stores_few spells.stores_at in
-            let told : TellsNext plain.program plain.kernel lane.thread (next (layout_in plain.program plain.kernel) all_backed (memory_of plain.held.pages) (cpu_of lane)) Executed = subst (λ (n : Next). TellsNext plain.program plain.kernel lane.thread n Executed) (sym e) refl in
+            let looks = look-read (layout_in plain.program plain.kernel) (memory_of plain.held.pages) (cpu_of lane) look spells.pc (sym (ap is_none read.fetched)) spells.code spells.loads_are spells.stores_are spells.loads_few spells.stores_few spells.stores_at in
+            let told : TellsNext plain.program (machine_of (closed plain lane) output) lane.thread (next (layout_in plain.program plain.kernel) all_backed (memory_of plain.held.pages) (cpu_of lane)) Executed = subst (λ (n : Next). TellsNext plain.program (machine_of (closed plain lane) output) lane.thread n Executed) (sym e) refl in
             sees-executed plain.program (machine_of (closed plain lane) output) lane.thread (cpu_of lane) (steppable-is output) look looks opened.few told
 
   pub stays-opened : (held : Held) (registers : List ℕ) (pc : ℕ) (code : Code) (reads writes : Open) (layout : Layout) → layout ≡ layout_in plain.program plain.kernel → has_page held.pages ≡ has_page plain.held.pages → slice_get held.numbers ≡ slice_get plain.held.numbers →

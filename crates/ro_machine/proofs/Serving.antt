@@ -21,7 +21,7 @@ use Rattle.ro_kernel.specs.declared.outcome.Served.{Served}
 use Rattle.ro_kernel.specs.declared.outcome.Served.TheVariants.{Done, Parked, Ends}
 use Rattle.ro_kernel.proofs.Kept.{IsOwn, Own, done as own_done, serve-own}
 use Rattle.ro_kernel.proofs.Stores.{stores-permitted}
-use Rattle.ro_replica.proofs.Payloads.{permitted_ends}
+use Rattle.ro_kernel.proofs.Payloads.{permitted_ends}
 use Rattle.ro_plain.specs.Machine.{with_made, called}
 use Rattle.ro_machine.specs.Seen.{machine_with}
 use Rattle.ro_kernel.proofs.Fits.{made_count, fit-effect, fit-ended, fit-parked}
@@ -41,7 +41,7 @@ pub record IsKnown (state after : State) (thread n : ℕ) (call : Call) (effect 
   pub creator : IfSome effect.made (λ made. (made.creator < n) × (n < 16))
   pub few : length effect.bytes ≤ 4096
   pub within : effect.place + length effect.bytes ≤ 2 ^ 32
-  pub page : effect.page ≡ None
+  pub page : IfSome effect.page (λ page. page < 2 ^ 20)
   pub lives : length after.kernel.lives ≡ n + made_count effect.made
 
 own : (before : Kernel) (u : ℕ) (after : Kernel) (effect : Effect) → Own before u (DoneWith after effect) → IsOwn before u after effect
@@ -67,7 +67,7 @@ known state after thread n call served effect live count is h =
       creator = creator-by effect.made n (length state.kernel.lives) thread (sym count) (omega arith) its.creator_is fit.place_left;
       few = fit.few;
       within = permitted_ends (ranges_in state.setup state.kernel) Write effect.place (length effect.bytes) (stores-permitted state.setup state.kernel thread call after.kernel effect e);
-      page = fit.backs_none;
+      page = fit.backs_low;
       lives = omega (arith, fit.one_life_each);
     }
 

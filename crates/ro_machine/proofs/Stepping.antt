@@ -20,7 +20,7 @@ use Rattle.ro_exec.specs.Steps.{IsStep}
 use Rattle.ro_image.specs.Image.{Image}
 use Rattle.ro_kernel.specs.Kernel.{Kernel, lives_on, ranges_in}
 use Rattle.ro_kernel.specs.State.{State}
-use Rattle.ro_kernel.specs.Serve.{serve, payload_of}
+use Rattle.ro_kernel.specs.Serve.{serve, payload_of, put_out, asked}
 use Rattle.ro_plain.specs.Machine.{Program, setup_of, Machine, called, step_by, next_of, steppable, step, layout_in}
 use Rattle.ro_plain.proofs.Calls.{steppable-from, step-at}
 use Rattle.ro_replica.proofs.Elements.{set_itself}
@@ -116,7 +116,7 @@ ranges-now {regions} {given} {first} {image} are same = ap ranges_of are ∙ ap 
 -- a call of a thread
 pub stand-call : (image : Image) (state : State) (old : Held) (cpus : List Cpu) (written : List ℕ) (regions : List Range) (ended : Option How) (thread : ℕ) (call : Call) (stop : Stop) (new : PlainOf)
     → stop ≡ Calls call → ended ≡ None → regions ≡ state.kernel.given ++ image.ranges → state.setup.ranges ≡ image.ranges → state.setup.heap ≡ image.heap
-    → ((cpu : Cpu) (output : List ℕ) → slice_get cpus thread ≡ Some cpu → called (machine_with old cpus state.kernel output None) cpu (payload_of regions (memory_of old.pages) call) (serve state.setup state.kernel thread call) ≡ Some (machine_of new (output ++ new.written)))
+    → ((cpu : Cpu) (output : List ℕ) → slice_get cpus thread ≡ Some cpu → called (machine_with old cpus state.kernel output None) cpu (put_out call.which (payload_of regions (memory_of old.pages) call)) (serve state.setup state.kernel thread (asked call (payload_of regions (memory_of old.pages) call))) ≡ Some (machine_of new (output ++ new.written)))
     → StepsFrom (record { program = record { image = image; input = state.setup.input }; held = old; cpus = cpus; kernel = state.kernel; ended = ended; written = written }) thread stop new
 stand-call image state old cpus written regions ended thread call stop new is going here ranges heap h output cpu there =
     let program : Program = record { image = image; input = state.setup.input } in
@@ -124,8 +124,8 @@ stand-call image state old cpus written regions ended thread call stop new is go
     let machine : Machine = machine_with old cpus state.kernel output None in
     subst (λ (s : Stop). step_by program (machine_with old cpus state.kernel output ended) thread cpu (Stands s) ≡ Some (machine_of new (output ++ new.written))) (sym is)
     (subst (λ (o : Option How). step_by program (machine_with old cpus state.kernel output o) thread cpu (Stands (Calls call)) ≡ Some (machine_of new (output ++ new.written))) (sym going)
-    (ap (λ r. called machine cpu (payload_of r (memory_of old.pages) call) (serve (setup_of program) state.kernel thread call)) (sym here)
-    ∙ (ap (λ s. called machine cpu (payload_of regions (memory_of old.pages) call) (serve s state.kernel thread call)) setup
+    (ap (λ r. called machine cpu (put_out call.which (payload_of r (memory_of old.pages) call)) (serve (setup_of program) state.kernel thread (asked call (payload_of r (memory_of old.pages) call)))) (sym here)
+    ∙ (ap (λ s. called machine cpu (put_out call.which (payload_of regions (memory_of old.pages) call)) (serve s state.kernel thread (asked call (payload_of regions (memory_of old.pages) call)))) setup
     ∙ h cpu output there)))
 
 -- a thread that stays as it was leaves the machine

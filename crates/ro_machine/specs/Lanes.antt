@@ -38,6 +38,7 @@ pub record IsOpen (plain : PlainOf) (lane : Lane) : Type 0 where
 
 -- what the word at pc, if it spells an instruction, makes it access
 pub record Spells (memory : Memory) (cpu : Cpu) (look : Look) : Type 0 where
+  pub pc : look.pc ≡ cpu.pc
   pub code : span_of look.code ≡ record { place = cpu.pc; count = 4 }
   pub loads_are : (instr : Instr) → instruction_of (number_at memory cpu.pc 4) ≡ Some instr → span_of look.loads ≡ loads instr cpu
   pub stores_are : (instr : Instr) → instruction_of (number_at memory cpu.pc 4) ≡ Some instr → span_of look.stores ≡ stores instr cpu

@@ -6,9 +6,10 @@ use Rattle.ro_event.specs.declared.stops.Stop.{Stop}
 use Rattle.ro_exec.specs.declared.Cpu.{Cpu}
 use Rattle.ro_exec.specs.Next.{Stands}
 use Rattle.ro_image.specs.Image.{Image}
-use Rattle.ro_kernel.specs.Kernel.{Kernel}
+use Rattle.ro_event.specs.declared.calls.Call.{Call}
+use Rattle.ro_kernel.specs.Kernel.{Kernel, ranges_in}
 use Rattle.ro_kernel.specs.State.{State}
-use Rattle.ro_kernel.specs.Serve.{Served, Blocked}
+use Rattle.ro_kernel.specs.Serve.{Served, Blocked, serve, payload_of, asked}
 use Rattle.ro_plain.specs.Machine.{Program, Machine, step_by, step}
 use Rattle.ro_machine.specs.declared.errors.StepError.{StepError}
 use Rattle.ro_machine.specs.declared.errors.StepError.TheVariants.{NoStep, NoMemory}
@@ -55,6 +56,13 @@ Refuses value thread NoMemory = Unit {0}
 -- the same machine
 abbrev pub SameMachine : (one other : PlainOf) → Type 0
 SameMachine one other = (output : List ℕ) → machine_of one output ≡ machine_of other output
+
+-- the bytes that a vote on a call would compare, and what comes of it, by the kernel's state and the memory
+abbrev pub payload_now : State → Held → Call → List ℕ
+payload_now state held call = payload_of (ranges_in state.setup state.kernel) (memory_of held.pages) call
+
+abbrev pub outcome_of : State → Held → (thread : ℕ) → Call → Served
+outcome_of state held thread call = serve state.setup state.kernel thread (asked call (payload_now state held call))
 
 -- why a call was not served
 abbrev pub RefusesCall : Served → StepError → Type 0

@@ -5,20 +5,20 @@ ghost use Rattle.ro_pages.specs.Held.{memory_of};
 ghost use Rattle.ro_exec.specs.declared.Cpu.{Cpu as CpuSeen};
 ghost use Rattle.ro_exec.specs.Threads.{cpu_after};
 ghost use Rattle.ro_kernel.specs.Kernel.{Kernel as KernelOf, ranges_in, lives_on};
-ghost use Rattle.ro_kernel.specs.Serve.{Done, serve as serve_of, payload_of};
-ghost use Rattle.ro_plain.specs.Accesses.{touches, payload_span, stored_span};
+ghost use Rattle.ro_kernel.specs.Serve.{Done, is_atomic, payload_span, payload_of, put_out, asked as asked_with};
+ghost use Rattle.ro_plain.specs.Accesses.{touches, stored_span};
 ghost use Rattle.ro_plain.specs.Machine.{with_made, called};
-ghost use Rattle.ro_machine.specs.Seen.{machine_with, RefusesCall};
+ghost use Rattle.ro_machine.specs.Seen.{machine_with, payload_now, outcome_of, RefusesCall};
 ghost use Rattle.ro_machine.specs.Watched.{span_of, Tells, TellsLoaded};
 ghost use Rattle.ro_region.specs.Permission.{ranges_of};
 
 use crate::errors::StepError;
 use crate::plain::MOST_WRITTEN;
 use crate::watching::{NO_BYTES, Stretch};
-use ro_event::{Call, Effect, Made};
+use ro_event::{Call, Effect, Made, Which};
 use ro_exec::Cpu;
 use ro_journal::How;
-use ro_kernel::{Kernel, Served, payload_len};
+use ro_kernel::{Kernel, Served, asked, payload_place};
 use ro_pages::Pages;
 use ro_region::Regions;
 use ro_replica::{change, made_cpu, store};
@@ -31,10 +31,12 @@ pub(crate) struct Came {
     pub how: Option<How>,
     /// What the call answered, if it did.
     pub answer: Option<u32>,
-    /// The bytes that it put out.
+    /// The bytes that it put out, or the word that it found.
     pub loaded: Stretch,
     /// The bytes that it stored, or those that it gave to the program.
     pub stored: Stretch,
+    /// Whether it stored some.
+    pub stores: bool,
     /// Whether it did its first step alone.
     pub parked: bool,
 }
@@ -67,20 +69,21 @@ pub(crate) fn serve(
     ensures threads { vec_capacity cpus.old ≤ vec_capacity cpus.new }
     ensures room { vec_capacity written.old ≤ vec_capacity written.new }
     ensures little { length written.new.items ≤ 4096 }
-    ensures served { IfOk result (λ came. (cpu : CpuSeen) (output : List ℕ) → slice_get cpus.old.items thread ≡ Some cpu → called (machine_with pages.old cpus.old.items kernel.old.kernel output None) cpu (payload_of (ranges_in kernel.old.setup kernel.old.kernel) (memory_of pages.old.pages) call) (serve_of kernel.old.setup kernel.old.kernel thread call) ≡ Some (machine_with pages.new cpus.new.items kernel.new.kernel (output ++ written.new.items) came.how)) }
-    ensures told { IfOk result (Tells (serve_of kernel.old.setup kernel.old.kernel thread call) call) }
+    ensures served { IfOk result (λ came. (cpu : CpuSeen) (output : List ℕ) → slice_get cpus.old.items thread ≡ Some cpu → called (machine_with pages.old cpus.old.items kernel.old.kernel output None) cpu (put_out call.which (payload_now kernel.old pages.old call)) (outcome_of kernel.old pages.old thread call) ≡ Some (machine_with pages.new cpus.new.items kernel.new.kernel (output ++ written.new.items) came.how)) }
+    ensures told { IfOk result (Tells (outcome_of kernel.old pages.old thread call) call) }
     ensures loaded { IfOk result (TellsLoaded (ranges_in kernel.old.setup kernel.old.kernel) call) }
-    ensures refused { IfErr result (RefusesCall (serve_of kernel.old.setup kernel.old.kernel thread call)) }
+    ensures refused { IfErr result (RefusesCall (outcome_of kernel.old pages.old thread call)) }
     ensures kernel { OnErr result (kernel.new ≡ kernel.old) }
     ensures memory { OnErr result (memory_of pages.new.pages ≡ memory_of pages.old.pages) }
     ensures cpus { OnErr result (cpus.new.items ≡ cpus.old.items) }
     ensures nothing { OnErr result (written.new.items ≡ []) }
 {
     let loaded = payload_of_call(kernel.regions(), call);
+    let question = question_of(kernel, pages, call);
     pages.reserve(SPARE_PAGES)?;
-    match kernel.serve(thread, call)? {
+    match kernel.serve(thread, question)? {
         Served::Done(effect) => {
-            put_bytes(pages, loaded.place, loaded.count, written);
+            put_bytes(pages, call, loaded, written);
             apply(pages, cpus, &effect);
             Ok(Came {
                 call,
@@ -88,6 +91,7 @@ pub(crate) fn serve(
                 answer: effect.answer,
                 loaded,
                 stored: stored_by(&effect),
+                stores: effect.bytes.as_slice().len() > 0,
                 parked: false,
             })
         }
@@ -97,6 +101,7 @@ pub(crate) fn serve(
             answer: None,
             loaded,
             stored: NO_BYTES,
+            stores: false,
             parked: true,
         }),
         Served::Blocked => Err(StepError::NoStep),
@@ -106,6 +111,7 @@ pub(crate) fn serve(
             answer: None,
             loaded,
             stored: NO_BYTES,
+            stores: false,
             parked: false,
         }),
     }
@@ -131,47 +137,71 @@ fn stored_by(effect: &Effect) -> Stretch
     }
 }
 
-/// The bytes that a call puts out.
+/// The bytes that a call puts out, or the word that it finds.
+#[tactic(auto, unfolding(ro_kernel::specs::Serve::payload_of))]
 fn payload_of_call(regions: &Regions, call: Call) -> Stretch
-    ensures span { (a : ℕ) → within (span_of result) a ≡ touches (payload_span (ranges_of regions.now) call) a }
+    ensures span { span_of result ≡ payload_span (ranges_of regions.now) call }
     ensures bytes { (memory : Memory) → bytes_at memory result.place result.count ≡ payload_of (ranges_of regions.now) memory call }
     ensures few { result.count ≤ 4096 }
-    ensures within { 0 < result.count → result.place + result.count ≤ 2 ^ 32 }
+    ensures word { is_atomic call.which ≡ true → result.count ≤ 4 }
+    ensures within { result.place + result.count ≤ 2 ^ 32 }
 {
+    let place = payload_place(regions, call);
     Stretch {
-        place: call.a1,
-        count: payload_len(regions, call),
+        place: place.address,
+        count: place.len,
     }
 }
 
-/// Puts so many bytes of memory into an empty list with room for them.
-fn put_bytes(pages: &Pages, address: u32, len: u32, written: &mut Vec<u8>)
-    requires most { len ≤ 4096 }
-    requires within { 0 < len → address + len ≤ 2 ^ 32 }
+/// The call as it is served: an atomic instruction has the word that it finds.
+fn question_of(kernel: &Kernel, pages: &Pages, call: Call) -> Call
+    ensures { result ≡ asked_with call (payload_now kernel.now pages.now call) }
+{
+    match call.which {
+        Which::Atomic(_) => {
+            let word = payload_of_call(kernel.regions(), call);
+            let mut bytes = [0; 4];
+            let bytes = &mut bytes[..word.count as usize];
+            pages.read_bytes(word.place, bytes);
+            asked(call, bytes)
+        }
+        _ => call,
+    }
+}
+
+/// Puts the payload of a call into an empty list with room for it, but for the word of an atomic instruction.
+fn put_bytes(pages: &Pages, call: Call, payload: Stretch, written: &mut Vec<u8>)
+    requires most { payload.count ≤ 4096 }
+    requires within { payload.place + payload.count ≤ 2 ^ 32 }
     requires empty { written.old.items ≡ [] }
     requires room { 4096 ≤ vec_capacity written.old }
-    ensures bytes { written.new.items ≡ bytes_at (memory_of pages.now.pages) address len }
+    ensures bytes { written.new.items ≡ put_out call.which (bytes_at (memory_of pages.now.pages) payload.place payload.count) }
     ensures little { length written.new.items ≤ 4096 }
     ensures room { vec_capacity written.old ≤ vec_capacity written.new }
 {
-    if len > 0 {
-        put_some(pages, address, len, written);
+    match call.which {
+        Which::Atomic(_) => {}
+        _ => {
+            if payload.count > 0 {
+                put_some(pages, payload, written);
+            }
+        }
     }
 }
 
-/// The same for one byte or more.
-fn put_some(pages: &Pages, address: u32, len: u32, written: &mut Vec<u8>)
-    requires most { len ≤ 4096 }
-    requires within { address + len ≤ 2 ^ 32 }
+/// Puts the bytes of a stretch into an empty list with room for them.
+fn put_some(pages: &Pages, payload: Stretch, written: &mut Vec<u8>)
+    requires most { payload.count ≤ 4096 }
+    requires within { payload.place + payload.count ≤ 2 ^ 32 }
     requires empty { written.old.items ≡ [] }
     requires room { 4096 ≤ vec_capacity written.old }
-    ensures bytes { written.new.items ≡ bytes_at (memory_of pages.now.pages) address len }
+    ensures bytes { written.new.items ≡ bytes_at (memory_of pages.now.pages) payload.place payload.count }
     ensures little { length written.new.items ≤ 4096 }
     ensures room { vec_capacity written.old ≤ vec_capacity written.new }
 {
     let mut bytes = [0; MOST_WRITTEN];
-    let bytes = &mut bytes[..len as usize];
-    pages.read_bytes(address, bytes);
+    let bytes = &mut bytes[..payload.count as usize];
+    pages.read_bytes(payload.place, bytes);
     if written.extend_from_slice(bytes).is_err() {
         unreachable!()
     }
@@ -183,7 +213,7 @@ fn apply(pages: &mut Pages, cpus: &mut Vec<Cpu>, effect: &Effect)
     requires creator { IfSome effect.now.made (λ made. (made.creator < length cpus.old.items) × (length cpus.old.items < 16)) }
     requires few { length effect.now.bytes ≤ 4096 }
     requires within { effect.now.place + length effect.now.bytes ≤ 2 ^ 32 }
-    requires page { effect.now.page ≡ None }
+    requires page { IfSome effect.now.page (λ page. page < 2 ^ 20) }
     requires spare { 3 ≤ pages.old.spare }
     requires threads { 16 ≤ vec_capacity cpus.old }
     ensures bytes { memory_of pages.new.pages ≡ stored (memory_of pages.old.pages) effect.now.place effect.now.bytes }

@@ -44,6 +44,7 @@ pub(crate) fn look_quickly(lane: &Lane, pages: &Pages) -> Option<Look>
     };
     match decode(pages.load_at(lane.code.place, lane.pc)) {
         Some(instr) => Some(Look {
+            pc: lane.pc,
             code,
             loads: loads_of(instr, &lane.registers),
             stores: stores_of(instr, &lane.registers),

@@ -17,4 +17,4 @@ pub use lane::Lane;
 pub use length::{MOST_STEPS, plan_steps};
 pub use plain::Plain;
 pub use running::run_plan;
-pub use watching::{Relation, Stretch, Watched};
+pub use watching::{NO_BYTES, Relation, Stretch, Watched};

@@ -18,6 +18,8 @@ use ro_region::{Kind, Regions};
 /// What is known of a thread's step before it is taken.
 #[derive(Clone, Copy, Debug, PartialEq, Eq)]
 pub(crate) struct Look {
+    /// Where the thread stands.
+    pub pc: u32,
     /// The bytes of its instruction, where it is read.
     pub code: Stretch,
     /// The bytes that its instruction loads, if it is executed.
@@ -28,6 +30,7 @@ pub(crate) struct Look {
 
 /// Of a step that reads no instruction.
 pub(crate) const NOTHING_SEEN: Look = Look {
+    pc: 0,
     code: NO_BYTES,
     loads: NO_BYTES,
     stores: NO_BYTES,
@@ -38,7 +41,10 @@ pub(crate) fn look_ahead(cpu: &Cpu, pages: &Pages, regions: &Regions, calls: &Ca
     ensures { LooksAt (record { ranges = ranges_of regions.now; calls = calls.now }) (memory_of pages.now.pages) cpu.now result }
 {
     if !is_fetched(cpu, regions, calls) {
-        return NOTHING_SEEN;
+        return Look {
+            pc: cpu.pc,
+            ..NOTHING_SEEN
+        };
     }
     let code = Stretch {
         place: cpu.pc,
@@ -46,11 +52,13 @@ pub(crate) fn look_ahead(cpu: &Cpu, pages: &Pages, regions: &Regions, calls: &Ca
     };
     match decode(word_at(pages, cpu.pc)) {
         Some(instr) => Look {
+            pc: cpu.pc,
             code,
             loads: loads_of(instr, cpu),
             stores: stores_of(instr, cpu),
         },
         None => Look {
+            pc: cpu.pc,
             code,
             loads: NO_BYTES,
             stores: NO_BYTES,

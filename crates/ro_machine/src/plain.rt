@@ -16,7 +16,7 @@ use crate::calls::serve;
 use crate::errors::StepError;
 use crate::lane::{Lane, look_quickly};
 use crate::looking::{Look, NOTHING_SEEN, look_ahead};
-use crate::watching::{Relation, Watched, Went, told_of};
+use crate::watching::{NO_BYTES, Relation, Watched, Went, told_of};
 use ro_event::Stop;
 use ro_exec::{Bank, Cpu, Learnt, NONE, Open, Step, quick_step};
 use ro_image::Executable;
@@ -201,6 +201,7 @@ impl Plain {
         ensures steps { IfSome result (λ watched. Steps (closed self.old lane.old) lane.old.thread (closed self.new lane.new)) }
         ensures sees { IfSome result (λ watched. (output : List ℕ) → Sees self.old.program (machine_of (closed self.old lane.old) output) lane.old.thread watched) }
         ensures plain { IfSome result (λ watched. watched.relation ≡ Nothing) }
+        ensures alone { IfSome result (λ watched. watched.atomic.count ≡ 0) }
         ensures same { result ≡ None → SameMachine (closed self.new lane.new) (closed self.old lane.old) }
     {
         let look = look_quickly(lane, &self.pages)?;
@@ -224,6 +225,7 @@ impl Plain {
             loaded: look.loads,
             code: look.code,
             stored: look.stores,
+            atomic: NO_BYTES,
             relation: Relation::Nothing,
         })
     }
@@ -253,7 +255,7 @@ impl Plain {
     fn go(&mut self, thread: u32) -> Result<Went, StepError>
         ensures program { self.new.program ≡ self.old.program }
         ensures steps { OnOk result (Steps self.old thread self.new) }
-        ensures told { IfOk result (λ went. (cpu : CpuSeen) → slice_get self.old.cpus thread ≡ Some cpu → TellsNext self.old.program self.old.kernel thread (next_of self.old.program (machine_of self.old []) cpu) went) }
+        ensures told { IfOk result (λ went. (cpu : CpuSeen) → slice_get self.old.cpus thread ≡ Some cpu → TellsNext self.old.program (machine_of self.old []) thread (next_of self.old.program (machine_of self.old []) cpu) went) }
         ensures refused { IfErr result (Refuses self.old thread) }
         ensures same { OnErr result (SameMachine self.new self.old) }
         ensures nothing { OnErr result (self.new.written ≡ []) }
@@ -311,7 +313,7 @@ impl Plain {
         requires empty { self.old.written ≡ [] }
         ensures program { self.new.program ≡ self.old.program }
         ensures steps { OnOk result (Steps self.old thread self.new) }
-        ensures told { IfOk result (λ went. (cpu : CpuSeen) → slice_get self.old.cpus thread ≡ Some cpu → TellsNext self.old.program self.old.kernel thread (next_of self.old.program (machine_of self.old []) cpu) went) }
+        ensures told { IfOk result (λ went. (cpu : CpuSeen) → slice_get self.old.cpus thread ≡ Some cpu → TellsNext self.old.program (machine_of self.old []) thread (next_of self.old.program (machine_of self.old []) cpu) went) }
         ensures refused { IfErr result (Refuses self.old thread) }
         ensures same { OnErr result (SameMachine self.new self.old) }
         ensures nothing { OnErr result (self.new.written ≡ []) }
@@ -335,7 +337,7 @@ impl Plain {
         requires empty { self.old.written ≡ [] }
         ensures program { self.new.program ≡ self.old.program }
         ensures steps { OnOk result (StepsFrom self.old thread stop self.new) }
-        ensures told { IfOk result (TellsStop self.old.program self.old.kernel thread stop) }
+        ensures told { IfOk result (TellsStop self.old.program (machine_of self.old []) thread stop) }
         ensures refused { IfErr result (RefusesAt self.old thread stop) }
         ensures same { OnErr result (SameMachine self.new self.old) }
         ensures nothing { OnErr result (self.new.written ≡ []) }

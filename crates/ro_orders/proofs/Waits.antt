@@ -16,13 +16,13 @@ use Rattle.ro_journal.specs.declared.How.{How}
 use Rattle.ro_condition.specs.declared.waiters.Waiter.{Waiter}
 use Rattle.ro_condition.specs.Waiters.{wait_of, waits_for, without, woken, with_signal, with_broadcast}
 use Rattle.ro_kernel.specs.Kernel.{Setup, Kernel}
-use Rattle.ro_kernel.specs.Serve.{Served, Done, Parked, Blocked, Ends, serve}
-use Rattle.ro_kernel.proofs.Shapes.{IsWaking, wakes_first, wakes_all, Shape, says, reads, breaks, maps_more, owns, wakes, parks_at, resumes, makes, joins, leaves, waits, stops, stops_last, shape-of}
+use Rattle.ro_kernel.specs.Serve.{Served, Done, Parked, Blocked, Ends, put_out, asked}
+use Rattle.ro_kernel.proofs.Shapes.{IsWaking, wakes_first, wakes_all, Shape, says, reads, breaks, maps_more, owns, wakes, parks_at, resumes, makes, joins, leaves, of_word, waits, stops, stops_last, shape-of}
 use Rattle.ro_kernel.proofs.Waiting.{wait-ended-well}
-use Rattle.ro_plain.specs.Machine.{Program, setup_of, Machine, opening, called, step_by, next_of, steppable, step, run, payload_in}
+use Rattle.ro_plain.specs.Machine.{Program, setup_of, Machine, opening, called, step_by, next_of, steppable, step, run, payload_in, served_in}
 use Rattle.ro_plain.proofs.Calls.{some-injective, slice_get-append}
 use Rattle.ro_plain.proofs.Swap.{run-append, take-seam}
-use Rattle.ro_orders.specs.Waits.{served_next, served_in, Began, BeganAndWoken}
+use Rattle.ro_orders.specs.Waits.{served_next, call_served_in, Began, BeganAndWoken}
 
 -- ---- lists
 
@@ -103,16 +103,16 @@ waking-by ws condition which after wakes_all = inr refl
 
 -- ---- what a call does to who waits
 
-pub data WaitersAfter (before : Kernel) (u : ℕ) (call : Call) : Served → Type 0 where
-  same_waiters : {after : Kernel} {effect : Effect} → after.waiters ≡ before.waiters → WaitersAfter before u call (Done after effect)
-  woken_waiters : {after : Kernel} {effect : Effect} → IsWaking before.waiters call.a0 call.which after.waiters → WaitersAfter before u call (Done after effect)
-  one_less : {after : Kernel} {effect : Effect} → after.waiters ≡ without before.waiters u → WaitersAfter before u call (Done after effect)
-  one_more : {after : Kernel} → after.waiters ≡ before.waiters ++ record { thread = u; condition = call.a0; signalled = false } ∷ [] → WaitersAfter before u call (Parked after)
-  none_at_all : WaitersAfter before u call Blocked
-  at_the_end : {after : Kernel} {how : How} → after.waiters ≡ before.waiters → WaitersAfter before u call (Ends after how)
+pub data WaitersAfter (before : Kernel) (u : ℕ) (which : Which) (condition : ℕ) : Served → Type 0 where
+  same_waiters : {after : Kernel} {effect : Effect} → after.waiters ≡ before.waiters → WaitersAfter before u which condition (Done after effect)
+  woken_waiters : {after : Kernel} {effect : Effect} → IsWaking before.waiters condition which after.waiters → WaitersAfter before u which condition (Done after effect)
+  one_less : {after : Kernel} {effect : Effect} → after.waiters ≡ without before.waiters u → WaitersAfter before u which condition (Done after effect)
+  one_more : {after : Kernel} → after.waiters ≡ before.waiters ++ record { thread = u; condition = condition; signalled = false } ∷ [] → WaitersAfter before u which condition (Parked after)
+  none_at_all : WaitersAfter before u which condition Blocked
+  at_the_end : {after : Kernel} {how : How} → after.waiters ≡ before.waiters → WaitersAfter before u which condition (Ends after how)
 
 module _ (setup : Setup) (kernel : Kernel) (u : ℕ) (call : Call) where
-  waiters-of : {served : Served} → Shape setup kernel u call served → WaitersAfter kernel u call served
+  waiters-of : {served : Served} → Shape setup kernel u call served → WaitersAfter kernel u call.which call.a0 served
   waiters-of (says value) = same_waiters refl
   waiters-of (reads number e xs h) = same_waiters refl
   waiters-of (breaks e end) = same_waiters refl
@@ -124,6 +124,7 @@ module _ (setup : Setup) (kernel : Kernel) (u : ℕ) (call : Call) where
   waiters-of (makes f n) = same_waiters refl
   waiters-of (joins value e h) = same_waiters refl
   waiters-of leaves = same_waiters refl
+  waiters-of (of_word word value reserved e low store) = same_waiters refl
   waiters-of (waits w) = none_at_all
   waiters-of (stops status) = at_the_end refl
   waiters-of stops_last = at_the_end refl
@@ -177,7 +178,7 @@ module _ (program : Program) where
         let l = without-listed machine.kernel.waiters x i w (ap (λ (v : List Waiter). slice_get v i) (sym e) ∙ h) in
         longer done (x ∷ []) w (told l.0 w l.1)
 
-    module _ (call : Call) (served : Served) (is : served_in program machine x ≡ Some (call, served)) where
+    module _ (call : Call) (served : Served) (is : call_served_in program machine x ≡ Some (call, served)) where
       heard-told : (kernel : Kernel) (effect : Effect) → served ≡ Done kernel effect → (call.which ≡ Function Signal) ⊎ (call.which ≡ Function Broadcast) → (w : Waiter) → Heard machine.kernel.waiters call.a0 w → Story program (done ++ x ∷ []) w
       unfolding began-longer
       heard-told kernel effect e which w (v, l, inl same) = longer done (x ∷ []) w (subst (Story program done) same (told l.0 v l.1))
@@ -215,7 +216,7 @@ module _ (program : Program) where
         | inr new ↦ subst (Story program (done ++ x ∷ [])) new (new-told kernel e)
       ]
 
-      called-told : (cpu : Cpu) (payload : List ℕ) (o : Served) → served ≡ o → WaitersAfter machine.kernel x call o → (after : Machine) → called machine cpu payload o ≡ Some after → AreTold program (done ++ x ∷ []) after.kernel.waiters
+      called-told : (cpu : Cpu) (payload : List ℕ) (o : Served) → served ≡ o → WaitersAfter machine.kernel x call.which call.a0 o → (after : Machine) → called machine cpu payload o ≡ Some after → AreTold program (done ++ x ∷ []) after.kernel.waiters
       called-told cpu payload (Done kernel effect) e (same_waiters f) after g = subst (λ (m : Machine). AreTold program (done ++ x ∷ []) m.kernel.waiters) (some-injective g) (same-told kernel.waiters f)
       called-told cpu payload (Done kernel effect) e (woken_waiters f) after g = subst (λ (m : Machine). AreTold program (done ++ x ∷ []) m.kernel.waiters) (some-injective g)
           (λ i w h. heard-told kernel effect e (waking-by machine.kernel.waiters call.a0 call.which kernel.waiters f) w (waking-listed machine.kernel.waiters call.a0 call.which kernel.waiters f i w h))
@@ -227,9 +228,10 @@ module _ (program : Program) where
     next-told : (cpu : Cpu) (n : Next) → steppable machine x ≡ Some cpu → next_of program machine cpu ≡ n → (after : Machine) → step_by program machine x cpu n ≡ Some after → AreTold program (done ++ x ∷ []) after.kernel.waiters
     next-told cpu (Executes instr) live e after g = subst (λ (m : Machine). AreTold program (done ++ x ∷ []) m.kernel.waiters) (some-injective g) (same-told machine.kernel.waiters refl)
     next-told cpu (Stands (Calls call)) live e after g =
-        let served : Served = serve (setup_of program) machine.kernel x call in
-        let is : served_in program machine x ≡ Some (call, served) = ap (option_and_then (λ c. served_next program machine x (next_of program machine c))) live ∙ ap (served_next program machine x) e in
-        called-told call served is cpu (payload_in program machine call) served refl (waiters-of (setup_of program) machine.kernel x call (shape-of (setup_of program) machine.kernel x call)) after g
+        let served : Served = served_in program machine x call in
+        let question : Call = asked call (payload_in program machine call) in
+        let is : call_served_in program machine x ≡ Some (call, served) = ap (option_and_then (λ c. served_next program machine x (next_of program machine c))) live ∙ ap (served_next program machine x) e in
+        called-told call served is cpu (put_out call.which (payload_in program machine call)) served refl (waiters-of (setup_of program) machine.kernel x question (shape-of (setup_of program) machine.kernel x question)) after g
     next-told cpu (Stands (Trap code)) live e after g = subst (λ (m : Machine). AreTold program (done ++ x ∷ []) m.kernel.waiters) (some-injective g) (same-told machine.kernel.waiters refl)
     next-told cpu (Stands (PageFault page)) live e after g = absurd (let f : None ≡ Some after = g in cc)
     next-told cpu (Stands Watchdog) live e after g = absurd (let f : None ≡ Some after = g in cc)
@@ -258,24 +260,24 @@ module _ (program : Program) where
   unfolding opening
   opening-told i w h = absurd (let f : None ≡ Some w = h in cc)
 
-  pub ends-by-a-signal : (threads : List ℕ) (machine : Machine) (thread : ℕ) (call : Call) (after : Kernel) (effect : Effect) → run program (opening program) threads ≡ Some machine → served_in program machine thread ≡ Some (call, Done after effect) → call.which ≡ Function Wait → effect.answer ≡ Some 0
+  pub ends-by-a-signal : (threads : List ℕ) (machine : Machine) (thread : ℕ) (call : Call) (after : Kernel) (effect : Effect) → run program (opening program) threads ≡ Some machine → call_served_in program machine thread ≡ Some (call, Done after effect) → call.which ≡ Function Wait → effect.answer ≡ Some 0
       → (condition : ℕ) × BeganAndWoken program threads thread condition
   ends-by-a-signal threads machine thread call after effect reached served w zero_answered =
       let told = all-told [] threads (opening program) machine refl opening-told reached in
-      let ended = (wait-ended-well (setup_of program) machine.kernel thread call after effect w (served-as served) zero_answered).0 in
+      let ended = (wait-ended-well (setup_of program) machine.kernel thread (asked call (payload_in program machine call)) after effect w (served-as served) zero_answered).0 in
       let listed = found-listed machine.kernel.waiters thread ended.0 ended.1 in
       (ended.0.condition, subst (λ (t : ℕ). BeganAndWoken program threads t ended.0.condition) listed.1 ((told listed.0.0 ended.0 listed.0.1).heard ended.2))
     where
-      by-next : (n : Next) → served_next program machine thread n ≡ Some (call, Done after effect) → serve (setup_of program) machine.kernel thread call ≡ Done after effect
+      by-next : (n : Next) → served_next program machine thread n ≡ Some (call, Done after effect) → served_in program machine thread call ≡ Done after effect
       by-next (Executes instr) e = absurd (let f : None ≡ Some (call, Done after effect) = e in cc)
       by-next (Stands (Calls other)) e =
-          let both : (other, serve (setup_of program) machine.kernel thread other) ≡ (call, Done after effect) = some-injective e in
-          ap (serve (setup_of program) machine.kernel thread) (sym (ap (λ (p : Call × Served). p.0) both)) ∙ ap (λ (p : Call × Served). p.1) both
+          let both : (other, served_in program machine thread other) ≡ (call, Done after effect) = some-injective e in
+          ap (served_in program machine thread) (sym (ap (λ (p : Call × Served). p.0) both)) ∙ ap (λ (p : Call × Served). p.1) both
       by-next (Stands (Trap code)) e = absurd (let f : None ≡ Some (call, Done after effect) = e in cc)
       by-next (Stands (PageFault page)) e = absurd (let f : None ≡ Some (call, Done after effect) = e in cc)
       by-next (Stands Watchdog) e = absurd (let f : None ≡ Some (call, Done after effect) = e in cc)
 
-      served-as : served_in program machine thread ≡ Some (call, Done after effect) → serve (setup_of program) machine.kernel thread call ≡ Done after effect
+      served-as : call_served_in program machine thread ≡ Some (call, Done after effect) → served_in program machine thread call ≡ Done after effect
       served-as e = option_and_then_some (λ cpu. served_next program machine thread (next_of program machine cpu)) (steppable machine thread) (call, Done after effect) e (λ cpu live f. by-next (next_of program machine cpu) f)
 
 pub ruleset wait_laws = (ends-by-a-signal)

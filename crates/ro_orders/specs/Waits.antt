@@ -8,23 +8,23 @@ use Rattle.ro_event.specs.declared.stops.Stop.TheVariants.{Calls}
 use Rattle.ro_event.specs.Effects.{Effect}
 use Rattle.ro_exec.specs.Next.{Next, Stands}
 use Rattle.ro_kernel.specs.Kernel.{Kernel}
-use Rattle.ro_kernel.specs.Serve.{Served, Done, Parked, serve}
-use Rattle.ro_plain.specs.Machine.{Program, setup_of, Machine, opening, next_of, steppable, run}
+use Rattle.ro_kernel.specs.Serve.{Served, Done, Parked}
+use Rattle.ro_plain.specs.Machine.{Program, Machine, opening, served_in, next_of, steppable, run}
 
 abbrev pub served_next : Program → Machine → ℕ → Next → Option (Call × Served)
-served_next program machine thread (Stands (Calls call)) = Some (call, serve (setup_of program) machine.kernel thread call)
+served_next program machine thread (Stands (Calls call)) = Some (call, served_in program machine thread call)
 served_next program machine thread _ = None
 
 -- the call at which the thread's step stands, if any, and what comes of it
-abbrev pub served_in : Program → Machine → (thread : ℕ) → Option (Call × Served)
-served_in program machine thread =
+abbrev pub call_served_in : Program → Machine → (thread : ℕ) → Option (Call × Served)
+call_served_in program machine thread =
     option_and_then (λ cpu. served_next program machine thread (next_of program machine cpu)) (steppable machine thread)
 
 -- the thread's step begins a wait on the condition variable
 pub record BeginsWait (program : Program) (machine : Machine) (thread condition : ℕ) : Type 0 where
   pub call : Call
   pub after : Kernel
-  pub served : served_in program machine thread ≡ Some (call, Parked after)
+  pub served : call_served_in program machine thread ≡ Some (call, Parked after)
   pub on : call.a0 ≡ condition
 
 -- the thread's step is a signal or a broadcast of the condition variable
@@ -32,7 +32,7 @@ pub record Wakes (program : Program) (machine : Machine) (thread condition : ℕ
   pub call : Call
   pub after : Kernel
   pub effect : Effect
-  pub served : served_in program machine thread ≡ Some (call, Done after effect)
+  pub served : call_served_in program machine thread ≡ Some (call, Done after effect)
   pub by : (call.which ≡ Function Signal) ⊎ (call.which ≡ Function Broadcast)
   pub on : call.a0 ≡ condition
 

@@ -1,6 +1,6 @@
 //! Rows: what steps of a guest of two threads under one mutex take part in, in which orders, and what comes of that.
 ghost use Rattle.std.specs.Prelude.{◌≡◌, ℕ, true, false, not, List, [], ◌∷◌, ◌++◌, Some, None, replicate, map};
-ghost use Rattle.ro_event.specs.declared.calls.Which.TheVariants.{System, Function};
+ghost use Rattle.ro_event.specs.declared.calls.Which.TheVariants.{System, Function, Atomic};
 ghost use Rattle.ro_event.specs.declared.functions.Function.TheVariants.{Create, Lock, TryLock, Unlock, Wait};
 ghost use Rattle.ro_event.specs.declared.stops.Stop.TheVariants.{Calls, Trap};
 ghost use Rattle.ro_event.specs.declared.traps.TrapCause.TheVariants.{NoInstruction};
@@ -37,7 +37,7 @@ pub fn choice_row()
 
 /// A row: what a step takes part in. A lock of a cooperative mutex that is free gets it; a lock that is answered 35, one that
 /// waits, an unlock of one's own and one of another's are alone, and so is an instruction. The kernel serves all else: calls
-/// on a mutex that does not stand in the table, a trylock, a wait, other calls, and a trap.
+/// on a mutex that does not stand in the table, a trylock, a wait, other calls, an atomic instruction, and a trap.
 pub fn turn_row()
     ensures gets { turn_by two_locks in_table (kernel_with None) 1 (Stands (Calls (call_on (Function Lock) its_mutex))) ≡ Gets its_mutex }
     ensures own { turn_by two_locks in_table (kernel_with (Some 1)) 1 (Stands (Calls (call_on (Function Lock) its_mutex))) ≡ Alone }
@@ -48,7 +48,7 @@ pub fn turn_row()
     ensures first_lock { turn_by two_locks in_table (opening_kernel 0x11000) 0 (Stands (Calls (call_on (Function Lock) its_mutex))) ≡ Serves }
     ensures first_unlock { turn_by two_locks in_table (opening_kernel 0x11000) 0 (Stands (Calls (call_on (Function Unlock) its_mutex))) ≡ Serves }
     ensures trylock { turn_by two_locks in_table (kernel_with None) 1 (Stands (Calls (call_on (Function TryLock) its_mutex))) ≡ Serves }
-    ensures others { map (λ which. turn_by two_locks in_table (kernel_with None) 1 (Stands (Calls (call_on which its_mutex)))) ((Function Create) ∷ (Function Wait) ∷ System 64 ∷ []) ≡ replicate 3 Serves }
+    ensures others { map (λ which. turn_by two_locks in_table (kernel_with None) 1 (Stands (Calls (call_on which its_mutex)))) ((Function Create) ∷ (Function Wait) ∷ System 64 ∷ Atomic 0x0053252F ∷ []) ≡ replicate 4 Serves }
     ensures trap { turn_by two_locks in_table (kernel_with None) 1 (Stands (Trap NoInstruction)) ≡ Serves }
     ensures mutex { map (λ turn. takes turn (OfMutex its_mutex)) (Gets its_mutex ∷ Gets 0x100B8 ∷ Alone ∷ Serves ∷ []) ≡ true ∷ replicate 3 false }
     ensures kernel { map (λ turn. takes turn OfKernel) (Serves ∷ Gets its_mutex ∷ Alone ∷ []) ≡ true ∷ replicate 2 false }

@@ -8,7 +8,7 @@ use Rattle.std.proofs.lemmas.Option.{option_and_then_some, slice_get_within}
 use Rattle.ro_pages.specs.Bytes.{Span, within}
 use Rattle.ro_plain.specs.Machine.{Program, Machine, opening, steppable, step, run, step_by, next_of}
 use Rattle.ro_plain.specs.Accesses.{Accesses, no_access, accesses, touches, conflict_at}
-use Rattle.ro_plain.specs.Order.{Sync, Unlocks, Locks, Makes, Joins, Exits, Nothing, sync_of, machine_at, sync_at, accesses_at, HappensBefore, in_thread, by_mutex, by_creation, by_join, chain, RaceFree, at_place}
+use Rattle.ro_plain.specs.Order.{Sync, Unlocks, Locks, Makes, Joins, Exits, Updates, Observes, Nothing, is_on_word, sync_of, machine_at, sync_at, accesses_at, HappensBefore, in_thread, by_mutex, by_word, by_creation, by_join, chain, RaceFree, at_place}
 use Rattle.ro_plain.proofs.Calls.{some-injective, steppable-parts, step-opens}
 use Rattle.ro_plain.proofs.Swap.{at-both}
 use Rattle.ro_plain.proofs.Places.{get-within}
@@ -70,6 +70,7 @@ abbrev pub orders : Sync → (thread other : ℕ) → Sync → Bool
 orders (Unlocks mutex) thread other sync = locks mutex sync
 orders (Makes made) thread other sync = made == other
 orders Exits thread other sync = joins thread sync
+orders (Updates word) thread other sync = is_on_word word sync
 orders _ thread other sync = false
 
 abbrev pub follows : Option Note → Option Note → Bool
@@ -158,7 +159,9 @@ overlaps (x ∷ xs) ys byte e f =
     (or_cases (within x byte) (touches xs byte) e)
 
 conflicts : (a b : Accesses) (byte : ℕ) → conflict_at a b byte ≡ true → conflict a b ≡ true
-conflicts a b byte e = ⊎_elim first second (or_cases (touches a.writes byte && (touches b.reads byte || touches b.writes byte)) (touches a.reads byte && touches b.writes byte) e)
+conflicts a b byte e =
+    ⊎_elim first second (or_cases (touches a.writes byte && (touches b.reads byte || touches b.writes byte)) (touches a.reads byte && touches b.writes byte)
+    (and_parts (not (touches a.atomic byte && touches b.atomic byte)) ((touches a.writes byte && (touches b.reads byte || touches b.writes byte)) || (touches a.reads byte && touches b.writes byte)) e).1)
   where
     first : (touches a.writes byte && (touches b.reads byte || touches b.writes byte)) ≡ true → conflict a b ≡ true
     first f =
@@ -206,6 +209,8 @@ module _ (program : Program) (threads : List ℕ) (end : Machine) (runs : run pr
   ordered-by i j a b low e f (Unlocks mutex) (Makes other) g h k = absurd (false≢true k)
   ordered-by i j a b low e f (Unlocks mutex) (Joins other) g h k = absurd (false≢true k)
   ordered-by i j a b low e f (Unlocks mutex) Exits g h k = absurd (false≢true k)
+  ordered-by i j a b low e f (Unlocks mutex) (Updates other) g h k = absurd (false≢true k)
+  ordered-by i j a b low e f (Unlocks mutex) (Observes other) g h k = absurd (false≢true k)
   ordered-by i j a b low e f (Unlocks mutex) Nothing g h k = absurd (false≢true k)
   ordered-by i j a b low e f (Makes made) other g h k =
       by_creation made low (sync-is i a e ∙ g) ((at j b f).there ∙ ap Some (sym (eqb-true made b.thread k)))
@@ -215,7 +220,12 @@ module _ (program : Program) (threads : List ℕ) (end : Machine) (runs : run pr
   ordered-by i j a b low e f Exits (Locks other) g h k = absurd (false≢true k)
   ordered-by i j a b low e f Exits (Makes other) g h k = absurd (false≢true k)
   ordered-by i j a b low e f Exits Exits g h k = absurd (false≢true k)
+  ordered-by i j a b low e f Exits (Updates other) g h k = absurd (false≢true k)
+  ordered-by i j a b low e f Exits (Observes other) g h k = absurd (false≢true k)
   ordered-by i j a b low e f Exits Nothing g h k = absurd (false≢true k)
+  ordered-by i j a b low e f (Updates word) other g h k =
+      by_word word low (sync-is i a e ∙ g) (ap (is_on_word word) (sync-is j b f ∙ h) ∙ k)
+  ordered-by i j a b low e f (Observes word) other g h k = absurd (false≢true k)
   ordered-by i j a b low e f (Locks mutex) other g h k = absurd (false≢true k)
   ordered-by i j a b low e f (Joins thread) other g h k = absurd (false≢true k)
   ordered-by i j a b low e f Nothing other g h k = absurd (false≢true k)
@@ -302,6 +312,12 @@ module _ (program : Program) (threads : List ℕ) (end : Machine) (runs : run pr
       step-in inside keeps i j here there (direct-by i j low here there (λ a b p q.
       or_right (a.thread == b.thread) (orders a.sync a.thread b.thread b.sync)
       (subst (λ (s : Sync). orders s a.thread b.thread b.sync ≡ true) (sym e ∙ sync-is i a p) (subst (λ (s : Sync). orders (Unlocks mutex) a.thread b.thread s ≡ true) (sym f ∙ sync-is j b q) (eq-eqb mutex mutex refl))))) g
+  stays-in inside keeps i j (by_word word low e f) g =
+      let here = place-of (Updates word) i e (λ h. cc) in
+      let there = place-of (sync_at program threads j) j refl (λ h. false≢true (sym (ap (is_on_word word) h) ∙ f)) in
+      step-in inside keeps i j here there (direct-by i j low here there (λ a b p q.
+      or_right (a.thread == b.thread) (orders a.sync a.thread b.thread b.sync)
+      (subst (λ (s : Sync). orders s a.thread b.thread b.sync ≡ true) (sym e ∙ sync-is i a p) (ap (is_on_word word) (sym (sync-is j b q)) ∙ f)))) g
   stays-in inside keeps i j (by_creation thread low e f) g =
       let here = place-of (Makes thread) i e (λ h. cc) in
       let there = slice_get_within threads j thread f in

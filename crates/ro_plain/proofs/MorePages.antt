@@ -4,7 +4,7 @@ use Rattle.std.specs.Option.{option_map}
 use Rattle.std.proofs.Common.{refl, sym, ◌∙◌}
 use Rattle.std.proofs.lemmas.Bool.{true≢false}
 use Rattle.ro_decode.specs.declared.Instr.{Instr}
-use Rattle.ro_decode.specs.declared.Instr.TheVariants.{Lui, Auipc, Jal, Jalr, Branch, Load, Store, AluImm, Alu, MulDiv, Fence, Ecall, Ebreak}
+use Rattle.ro_decode.specs.declared.Instr.TheVariants.{Lui, Auipc, Jal, Jalr, Branch, Load, Store, AluImm, Alu, MulDiv, Fence, Atomic, Ecall, Ebreak}
 use Rattle.ro_decode.specs.Table.{instruction_of}
 use Rattle.ro_event.specs.declared.stops.Stop.{Stop}
 use Rattle.ro_event.specs.declared.stops.Stop.TheVariants.{Trap, PageFault}
@@ -80,6 +80,7 @@ module _ (backed more : Backed) (h : IsMore backed more) where
   instruction-more ranges cpu (Alu op rd rs1 rs2) = same_stop
   instruction-more ranges cpu (MulDiv op rd rs1 rs2) = same_stop
   instruction-more ranges cpu (Fence rd rs1 bits) = same_stop
+  instruction-more ranges cpu (Atomic op rd rs1 rs2 order) = same_stop
   instruction-more ranges cpu Ecall = same_stop
   instruction-more ranges cpu Ebreak = same_stop
 

@@ -1,13 +1,16 @@
 -- With a range more a thread does what it did, but where it stood at a trap; and at a trap too where it touches no byte of that range.
-use Rattle.std.specs.Prelude.{◌≡◌, ℕ, ◌%◌, Bool, true, false, not, ◌==◌, List, ◌∷◌, ◌++◌, Option, Some, None, ⊤}
+use Rattle.std.specs.Prelude.{◌≡◌, ℕ, ◌%◌, Bool, true, false, not, ◌&&◌, ◌==◌, List, ◌∷◌, ◌++◌, Option, Some, None, ⊤}
 use Rattle.std.specs.Option.{option_map}
 use Rattle.std.proofs.Common.{refl, sym, ap, ◌∙◌}
-use Rattle.std.proofs.lemmas.Bool.{true≢false, and_from, le-leb, lt-ltb}
+use Rattle.std.proofs.lemmas.Bool.{true≢false, and_parts, and_from, le-leb, lt-ltb}
+use Rattle.ro_decode.specs.declared.AtomicOp.{AtomicOp}
+use Rattle.ro_decode.specs.declared.AtomicOp.TheVariants.{LoadReserved, StoreConditional}
 use Rattle.ro_decode.specs.declared.Instr.{Instr}
-use Rattle.ro_decode.specs.declared.Instr.TheVariants.{Lui, Auipc, Jal, Jalr, Branch, Load, Store, AluImm, Alu, MulDiv, Fence, Ecall, Ebreak}
+use Rattle.ro_decode.specs.declared.Instr.TheVariants.{Lui, Auipc, Jal, Jalr, Branch, Load, Store, AluImm, Alu, MulDiv, Fence, Atomic as IsAtomic, Ecall, Ebreak}
 use Rattle.ro_decode.specs.Table.{instruction_of}
 use Rattle.ro_event.specs.declared.stops.Stop.{Stop}
-use Rattle.ro_event.specs.declared.stops.Stop.TheVariants.{Trap}
+use Rattle.ro_event.specs.declared.stops.Stop.TheVariants.{Calls, Trap}
+use Rattle.ro_event.specs.declared.calls.Call.{Call}
 use Rattle.ro_event.specs.declared.traps.TrapCause.{TrapCause}
 use Rattle.ro_event.specs.declared.traps.TrapCause.TheVariants.{ForbiddenFetch, ForbiddenLoad, ForbiddenStore, MisalignedLoad, MisalignedPc, MisalignedStore}
 use Rattle.ro_event.specs.declared.calls.Which.TheVariants.{Function}
@@ -20,10 +23,12 @@ use Rattle.ro_region.specs.Permission.{permits_of, with_range}
 use Rattle.ro_region.proofs.Wider.{lies_in, Reaches, permits-wider, permits-newly}
 use Rattle.ro_pages.specs.Bytes.{Memory, Span, within, number_at}
 use Rattle.ro_exec.specs.declared.Cpu.{Cpu}
+use Rattle.ro_exec.specs.Registers.{register}
 use Rattle.ro_exec.specs.Meaning.{loads, stores}
-use Rattle.ro_exec.specs.Next.{Layout, Backed, all_backed, exit_place, call_of, Next, Stands, Executes, first, stop_if, access_stop, fetch_stop, instruction_stop, unless_stop, next_at, next}
+use Rattle.ro_exec.specs.Next.{Layout, Backed, all_backed, exit_place, call_of, Next, Stands, Executes, first, stop_if, access_stop, permits_atomic, misaligned_by, forbidden_by, fetch_stop, instruction_stop, unless_stop, next_at, next}
 use Rattle.ro_exec.proofs.Frame.{fetched, next-stopped, next-fetched}
 use Rattle.ro_kernel.specs.Kernel.{Kernel}
+use Rattle.ro_kernel.specs.Serve.{is_atomic}
 use Rattle.ro_plain.specs.Machine.{Program, layout_in}
 use Rattle.ro_plain.proofs.MorePages.{fetched-with-all}
 
@@ -51,6 +56,13 @@ layout-same program one other e = ap (laid program) e
 permits-with : (range : Option Range) (ranges : List Range) (kind : Kind) (a n : ℕ) → permits_of ranges kind a n ≡ true → permits_of (with_range range ranges) kind a n ≡ true
 permits-with None ranges kind a n h = h
 permits-with (Some r) ranges kind a n h = permits-wider r ranges kind a n h
+
+atomic-with : (range : Option Range) (ranges : List Range) (op : AtomicOp) (a : ℕ) → permits_atomic ranges op a ≡ true → permits_atomic (with_range range ranges) op a ≡ true
+atomic-with range ranges LoadReserved a h = permits-with range ranges Read a 4 h
+atomic-with range ranges StoreConditional a h = permits-with range ranges Write a 4 h
+atomic-with range ranges op a h =
+    let parts = and_parts (permits_of ranges Read a 4) (permits_of ranges Write a 4) h in
+    and_from _ _ (permits-with range ranges Read a 4 parts.0) (permits-with range ranges Write a 4 parts.1)
 
 -- ---- but where it stood at a trap
 
@@ -105,6 +117,9 @@ module _ (range : Option Range) (backed : Backed) where
   instruction-eased ranges cpu (Alu op rd rs1 rs2) = same_stop
   instruction-eased ranges cpu (MulDiv op rd rs1 rs2) = same_stop
   instruction-eased ranges cpu (Fence rd rs1 bits) = same_stop
+  instruction-eased ranges cpu (IsAtomic op rd rs1 rs2 order) =
+      row (stop_if (not (register cpu rs1 % 4 == 0)) (Trap (misaligned_by op))) _ _
+      (permit-row (forbidden_by op) _ (permits_atomic ranges op (register cpu rs1)) (permits_atomic (with_range range ranges) op (register cpu rs1)) (atomic-with range ranges op (register cpu rs1)))
   instruction-eased ranges cpu Ecall = same_stop
   instruction-eased ranges cpu Ebreak = same_stop
 
@@ -176,6 +191,21 @@ not-newly (Some r) ranges kind a n apart e h =
     let there : Reaches r a n = permits-newly r ranges kind a n e h in
     true≢false (sym (and_from _ _ (le-leb _ _ there.low) (lt-ltb _ _ there.high)) ∙ apart there.byte there.lies)
 
+-- nor is the word of an atomic instruction
+atomic-newly : (range : Option Range) (ranges : List Range) (op : AtomicOp) (a : ℕ) → Avoids range (record { place = a; count = 4 }) → permits_atomic ranges op a ≡ false → permits_atomic (with_range range ranges) op a ≡ true → ⊥
+atomic-newly range ranges LoadReserved a apart e h = not-newly range ranges Read a 4 apart e h
+atomic-newly range ranges StoreConditional a apart e h = not-newly range ranges Write a 4 apart e h
+atomic-newly range ranges op a apart e h =
+    let parts = and_parts (permits_of (with_range range ranges) Read a 4) (permits_of (with_range range ranges) Write a 4) h in
+    by (permits_of ranges Read a 4) refl parts.0 parts.1
+  where
+    by : (b : Bool) → permits_of ranges Read a 4 ≡ b → permits_of (with_range range ranges) Read a 4 ≡ true → permits_of (with_range range ranges) Write a 4 ≡ true → ⊥
+    by false f r w = not-newly range ranges Read a 4 apart f r
+    by true f r w = not-newly range ranges Write a 4 apart (sym (ap (λ b. b && permits_of ranges Write a 4) f) ∙ e) w
+
+some-row : (o : Option Stop) (xs : List (Option Stop)) (stop : Stop) → o ≡ None → first xs ≡ Some stop → first (o ∷ xs) ≡ Some stop
+some-row o xs stop e h = ap (λ p. first (p ∷ xs)) e ∙ h
+
 module _ (range : Option Range) (backed : Backed) where
   access-same : (ranges : List Range) (kind : Kind) (span : Span) (m f : TrapCause) → ((span.place % span.count == 0) ≡ true → permits_of (with_range range ranges) kind span.place span.count ≡ true → Avoids range span)
       → access_stop ranges backed kind span m f ≡ access_stop (with_range range ranges) backed kind span m f
@@ -199,34 +229,41 @@ module _ (range : Option Range) (backed : Backed) where
 
   -- a stop at the instruction
   instruction-same : (ranges : List Range) (cpu : Cpu) (instr : Instr) → (instruction_stop (with_range range ranges) all_backed cpu instr ≡ None → Avoids range (loads instr cpu) × Avoids range (stores instr cpu))
+      → ((call : Call) → instruction_stop (with_range range ranges) all_backed cpu instr ≡ Some (Calls call) → is_atomic call.which ≡ true → (call.a0 % 4 == 0) ≡ true → Avoids range (record { place = call.a0; count = 4 }))
       → instruction_stop ranges backed cpu instr ≡ instruction_stop (with_range range ranges) backed cpu instr
   unfolding instruction_stop
-  instruction-same ranges cpu (Lui rd imm) h = refl
-  instruction-same ranges cpu (Auipc rd imm) h = refl
-  instruction-same ranges cpu (Jal rd imm) h = refl
-  instruction-same ranges cpu (Jalr rd rs1 imm) h = refl
-  instruction-same ranges cpu (Branch op rs1 rs2 imm) h = refl
-  instruction-same ranges cpu (Load op rd rs1 imm) h =
+  instruction-same ranges cpu (Lui rd imm) h k = refl
+  instruction-same ranges cpu (Auipc rd imm) h k = refl
+  instruction-same ranges cpu (Jal rd imm) h k = refl
+  instruction-same ranges cpu (Jalr rd rs1 imm) h k = refl
+  instruction-same ranges cpu (Branch op rs1 rs2 imm) h k = refl
+  instruction-same ranges cpu (Load op rd rs1 imm) h k =
       access-same ranges Read (loads (Load op rd rs1 imm) cpu) MisalignedLoad ForbiddenLoad (λ e granted. (h (access-none ranges Read (loads (Load op rd rs1 imm) cpu) MisalignedLoad ForbiddenLoad e granted)).0)
-  instruction-same ranges cpu (Store op rs1 rs2 imm) h =
+  instruction-same ranges cpu (Store op rs1 rs2 imm) h k =
       access-same ranges Write (stores (Store op rs1 rs2 imm) cpu) MisalignedStore ForbiddenStore (λ e granted. (h (access-none ranges Write (stores (Store op rs1 rs2 imm) cpu) MisalignedStore ForbiddenStore e granted)).1)
-  instruction-same ranges cpu (AluImm op rd rs1 imm) h = refl
-  instruction-same ranges cpu (Alu op rd rs1 rs2) h = refl
-  instruction-same ranges cpu (MulDiv op rd rs1 rs2) h = refl
-  instruction-same ranges cpu (Fence rd rs1 bits) h = refl
-  instruction-same ranges cpu Ecall h = refl
-  instruction-same ranges cpu Ebreak h = refl
+  instruction-same ranges cpu (AluImm op rd rs1 imm) h k = refl
+  instruction-same ranges cpu (Alu op rd rs1 rs2) h k = refl
+  instruction-same ranges cpu (MulDiv op rd rs1 rs2) h k = refl
+  instruction-same ranges cpu (Fence rd rs1 bits) h k = refl
+  instruction-same ranges cpu (IsAtomic op rd rs1 rs2 order) h k =
+      row-same (stop_if (not (register cpu rs1 % 4 == 0)) (Trap (misaligned_by op))) _ _
+      (λ e. permit-same (forbidden_by op) _ (permits_atomic ranges op (register cpu rs1)) (permits_atomic (with_range range ranges) op (register cpu rs1)) (atomic-with range ranges op (register cpu rs1))
+      (λ no granted. atomic-newly range ranges op (register cpu rs1) (k _ (some-row _ _ _ e (some-row _ _ _ (none-stop _ _ granted) refl)) refl (stop-none _ _ e)) no granted))
+  instruction-same ranges cpu Ecall h k = refl
+  instruction-same ranges cpu Ebreak h k = refl
 
   next_at-same : (ranges : List Range) (cpu : Cpu) (o : Option Instr) → ((instr : Instr) → o ≡ Some instr → instruction_stop (with_range range ranges) all_backed cpu instr ≡ None → Avoids range (loads instr cpu) × Avoids range (stores instr cpu))
+      → ((instr : Instr) → o ≡ Some instr → (call : Call) → instruction_stop (with_range range ranges) all_backed cpu instr ≡ Some (Calls call) → is_atomic call.which ≡ true → (call.a0 % 4 == 0) ≡ true → Avoids range (record { place = call.a0; count = 4 }))
       → next_at ranges backed cpu o ≡ next_at (with_range range ranges) backed cpu o
-  next_at-same ranges cpu None h = refl
-  next_at-same ranges cpu (Some instr) h = ap (λ (s : Option Stop). unless_stop s (Executes instr)) (instruction-same ranges cpu instr (h instr refl))
+  next_at-same ranges cpu None h k = refl
+  next_at-same ranges cpu (Some instr) h k = ap (λ (s : Option Stop). unless_stop s (Executes instr)) (instruction-same ranges cpu instr (h instr refl) (k instr refl))
 
   -- a thread that avoids the range does what it did
   pub next-wider : (layout : Layout) (m : Memory) (cpu : Cpu) → (fetch_stop (widen range layout) all_backed cpu ≡ None → Avoids range (fetched cpu))
       → ((instr : Instr) → next (widen range layout) all_backed m cpu ≡ Executes instr → Avoids range (loads instr cpu) × Avoids range (stores instr cpu))
+      → (fetch_stop (widen range layout) all_backed cpu ≡ None → (call : Call) → next (widen range layout) all_backed m cpu ≡ Stands (Calls call) → is_atomic call.which ≡ true → (call.a0 % 4 == 0) ≡ true → Avoids range (record { place = call.a0; count = 4 }))
       → next layout backed m cpu ≡ next (widen range layout) backed m cpu
-  next-wider layout m cpu fetch access = by (fetch_stop layout backed cpu) refl
+  next-wider layout m cpu fetch access asks = by (fetch_stop layout backed cpu) refl
     where
       same : fetch_stop layout backed cpu ≡ fetch_stop (widen range layout) backed cpu
       same = fetch-same layout cpu fetch
@@ -237,5 +274,7 @@ module _ (range : Option Range) (backed : Backed) where
           let read : fetch_stop (widen range layout) all_backed cpu ≡ None = fetched-with-all (widen range layout) backed cpu (sym same ∙ e) in
           next-fetched layout backed m cpu e
           ∙ (next_at-same layout.ranges cpu (instruction_of (number_at m cpu.pc 4)) (λ instr f g. access instr
+          (next-fetched (widen range layout) all_backed m cpu read ∙ (ap (next_at (with_range range layout.ranges) all_backed cpu) f ∙ ap (λ (s : Option Stop). unless_stop s (Executes instr)) g)))
+          (λ instr f call g. asks read call
           (next-fetched (widen range layout) all_backed m cpu read ∙ (ap (next_at (with_range range layout.ranges) all_backed cpu) f ∙ ap (λ (s : Option Stop). unless_stop s (Executes instr)) g)))
           ∙ sym (next-fetched (widen range layout) backed m cpu (sym same ∙ e)))

@@ -1,12 +1,27 @@
 -- What happens before a step is what its thread's past and what it learns from bring.
-use Rattle.std.specs.Prelude.{◌≡◌, ℕ, ◌⊎◌, ◌↔◌, List, Option, Some, None, slice_get}
+use Rattle.std.specs.Prelude.{◌≡◌, ℕ, ◌⊎◌, ◌↔◌, ◌==◌, true, List, Option, Some, None, slice_get}
 use Rattle.std.proofs.Common.{refl, sym, ap, ◌∙◌, subst, arith, inl, inr, ⊎_elim}
 use Rattle.ro_plain.specs.Machine.{Program}
-use Rattle.ro_plain.specs.Order.{Sync, Unlocks, Locks, Makes, Joins, Exits, Nothing, sync_at, HappensBefore, in_thread, by_mutex, by_creation, by_join, chain}
+use Rattle.std.proofs.lemmas.Bool.{false≢true, eqb-true}
+use Rattle.ro_plain.specs.Order.{Sync, Unlocks, Locks, Makes, Joins, Exits, Updates, Observes, Nothing, is_on_word, sync_at, HappensBefore, in_thread, by_mutex, by_word, by_creation, by_join, chain}
 use Rattle.ro_plain.proofs.Calls.{some-injective}
 use Rattle.ro_races.specs.declared.sources.Source.{Source}
-use Rattle.ro_races.specs.declared.sources.Source.TheVariants.{Thread, Mutex, Exit}
+use Rattle.ro_races.specs.declared.sources.Source.TheVariants.{Thread, Mutex, Exit, Word}
 use Rattle.ro_races.specs.Clocks.{learns_from, passes_to, UpTo, Feeds, Past, PastOf}
+
+same-number : (a : ℕ) → (a == a) ≡ true
+same-number a = grind arith
+
+-- a step on a word learns from it
+on-word : (word : ℕ) (s : Sync) → is_on_word word s ≡ true → learns_from s ≡ Some (Word word)
+on-word word (Updates other) h = ap (λ (w : ℕ). Some (Word w)) (eqb-true other word h)
+on-word word (Observes other) h = ap (λ (w : ℕ). Some (Word w)) (eqb-true other word h)
+on-word word (Unlocks mutex) h = absurd (false≢true h)
+on-word word (Locks mutex) h = absurd (false≢true h)
+on-word word (Makes thread) h = absurd (false≢true h)
+on-word word (Joins thread) h = absurd (false≢true h)
+on-word word Exits h = absurd (false≢true h)
+on-word word Nothing h = absurd (false≢true h)
 
 module _ (program : Program) (threads : List ℕ) where
   -- what is up to a place is before what that place is before
@@ -27,6 +42,8 @@ module _ (program : Program) (threads : List ℕ) where
     known-source : (s : Sync) → sync_at program threads k ≡ s → (i : ℕ) → PastOf program threads k (learns_from s) i → HappensBefore program threads i k
     known-source (Locks mutex) e i p = up-to-before i p.last k p.up (by_mutex mutex p.early p.feeds e)
     known-source (Joins other) e i p = up-to-before i p.last k p.up (by_join other p.early p.feeds.0 p.feeds.1 e)
+    known-source (Updates word) e i p = up-to-before i p.last k p.up (by_word word p.early p.feeds (ap (is_on_word word) e ∙ same-number word))
+    known-source (Observes word) e i p = up-to-before i p.last k p.up (by_word word p.early p.feeds (ap (is_on_word word) e ∙ same-number word))
     known-source (Unlocks mutex) e i p = absurd p
     known-source (Makes other) e i p = absurd p
     known-source Exits e i p = absurd p
@@ -42,6 +59,8 @@ module _ (program : Program) (threads : List ℕ) where
         inl (record { last = a; early = omega (arith, less, same); feeds = inl (own ∙ ap Some f); up = up })
     by-last {i} {a} (by_mutex mutex less un lo) same up =
         inr (learnt (sync_at program threads k) (Mutex mutex) i (ap learns_from (ap (sync_at program threads) (sym same) ∙ lo)) (record { last = a; early = omega (arith, less, same); feeds = un; up = up }))
+    by-last {i} {a} (by_word word less up_dates on) same up =
+        inr (learnt (sync_at program threads k) (Word word) i (on-word word (sync_at program threads k) (ap (λ (n : ℕ). is_on_word word (sync_at program threads n)) (sym same) ∙ on)) (record { last = a; early = omega (arith, less, same); feeds = up_dates; up = up }))
     by-last {i} {a} (by_creation u less made at) same up =
         let f : u ≡ t = some-injective (sym at ∙ (ap (slice_get threads) same ∙ there)) in
         inl (record { last = a; early = omega (arith, less, same); feeds = inr (made ∙ ap Makes f); up = up })
@@ -62,6 +81,7 @@ module _ (program : Program) (threads : List ℕ) where
     pub fed : (source : Source) → Feeds program threads source k → (source ≡ Thread t) ⊎ (passes_to t (sync_at program threads k) ≡ Some source)
     fed (Thread u) f = thread-fed u f
     fed (Mutex mutex) f = inr (ap (passes_to t) f)
+    fed (Word word) f = inr (ap (passes_to t) f)
     fed (Exit u) f = inr (ap (passes_to t) f.1 ∙ ap (λ v. Some (Exit v)) (some-injective (sym there ∙ f.0)))
 
     pub feeds-own : Feeds program threads (Thread t) k
@@ -71,6 +91,8 @@ module _ (program : Program) (threads : List ℕ) where
     feeds-passed (Unlocks mutex) source e f = subst (λ (x : Source). Feeds program threads x k) (some-injective f) e
     feeds-passed (Makes other) source e f = subst (λ (x : Source). Feeds program threads x k) (some-injective f) (inr e)
     feeds-passed Exits source e f = subst (λ (x : Source). Feeds program threads x k) (some-injective f) (there, e)
+    feeds-passed (Updates word) source e f = subst (λ (x : Source). Feeds program threads x k) (some-injective f) e
+    feeds-passed (Observes word) source e f = absurd (let g : None ≡ Some source = f in cc)
     feeds-passed (Locks mutex) source e f = absurd (let g : None ≡ Some source = f in cc)
     feeds-passed (Joins other) source e f = absurd (let g : None ≡ Some source = f in cc)
     feeds-passed Nothing source e f = absurd (let g : None ≡ Some source = f in cc)

@@ -4,10 +4,10 @@ use Rattle.std.proofs.Common.{refl, sym, ap, ◌∙◌, arith, inl, inr, ⊎_eli
 use Rattle.std.proofs.lemmas.Bool.{true≢false, ltb-true, eqb-true, lt-ltb}
 use Rattle.std.proofs.lemmas.Option.{slice_get-get_or}
 use Rattle.ro_plain.specs.Machine.{Program, IsExecution}
-use Rattle.ro_plain.specs.Order.{Sync, Unlocks, Locks, Makes, Joins, Exits, Nothing, sync_at, HappensBefore, RaceFree}
+use Rattle.ro_plain.specs.Order.{Sync, Unlocks, Locks, Makes, Joins, Exits, Updates, Observes, Nothing, sync_at, HappensBefore, RaceFree}
 use Rattle.ro_plain.proofs.Calls.{some-injective}
 use Rattle.ro_races.specs.declared.sources.Source.{Source}
-use Rattle.ro_races.specs.declared.sources.Source.TheVariants.{Thread, Mutex, Exit}
+use Rattle.ro_races.specs.declared.sources.Source.TheVariants.{Thread, Mutex, Exit, Word}
 use Rattle.ro_races.specs.First.{HasNoRace}
 use Rattle.ro_races.specs.Clocks.{Clock, IsStepped, learns_from, Knows, Feeds, Past, PastOf}
 use Rattle.ro_races.proofs.Before.{before-is}
@@ -41,6 +41,8 @@ unlocks-told (Locks m) n = inr (λ e. cc)
 unlocks-told (Makes m) n = inr (λ e. cc)
 unlocks-told (Joins m) n = inr (λ e. cc)
 unlocks-told Exits n = inr (λ e. cc)
+unlocks-told (Updates m) n = inr (λ e. cc)
+unlocks-told (Observes m) n = inr (λ e. cc)
 unlocks-told Nothing n = inr (λ e. cc)
 
 makes-told : (s : Sync) (n : ℕ) → Told (s ≡ Makes n)
@@ -49,6 +51,8 @@ makes-told (Locks m) n = inr (λ e. cc)
 makes-told (Unlocks m) n = inr (λ e. cc)
 makes-told (Joins m) n = inr (λ e. cc)
 makes-told Exits n = inr (λ e. cc)
+makes-told (Updates m) n = inr (λ e. cc)
+makes-told (Observes m) n = inr (λ e. cc)
 makes-told Nothing n = inr (λ e. cc)
 
 exits-told : (s : Sync) → Told (s ≡ Exits)
@@ -57,7 +61,19 @@ exits-told (Locks m) = inr (λ e. cc)
 exits-told (Unlocks m) = inr (λ e. cc)
 exits-told (Joins m) = inr (λ e. cc)
 exits-told Exits = inl refl
+exits-told (Updates m) = inr (λ e. cc)
+exits-told (Observes m) = inr (λ e. cc)
 exits-told Nothing = inr (λ e. cc)
+
+updates-told : (s : Sync) (n : ℕ) → Told (s ≡ Updates n)
+updates-told (Updates m) n = ⊎_elim (λ e. inl (ap Updates e)) (λ f. inr (λ e. f (let g : Updates m ≡ Updates n = e in cc))) (numbers-told m n)
+updates-told (Observes m) n = inr (λ e. cc)
+updates-told (Unlocks m) n = inr (λ e. cc)
+updates-told (Locks m) n = inr (λ e. cc)
+updates-told (Makes m) n = inr (λ e. cc)
+updates-told (Joins m) n = inr (λ e. cc)
+updates-told Exits n = inr (λ e. cc)
+updates-told Nothing n = inr (λ e. cc)
 
 either-told : {P Q : Type 0} → Told P → Told Q → Told (P ⊎ Q)
 either-told (inl p) q = inl (inl p)
@@ -73,6 +89,7 @@ module _ (program : Program) (threads : List ℕ) where
   feeds-told : (source : Source) (k : ℕ) → Told (Feeds program threads source k)
   feeds-told (Thread u) k = either-told (option-told (slice_get threads k) u) (makes-told (sync_at program threads k) u)
   feeds-told (Mutex m) k = unlocks-told (sync_at program threads k) m
+  feeds-told (Word w) k = updates-told (sync_at program threads k) w
   feeds-told (Exit u) k = both-told (option-told (slice_get threads k) u) (exits-told (sync_at program threads k))
 
   -- a clock that knows these places

@@ -31,3 +31,8 @@ first-of-both P Q one other (Some hit) f g b = (
   ⊎_elim (λ e. inl (is-first P one hit f e)) (λ e. inr (is-first Q other hit g e)) b.either,
   λ mark byte h. ⊎_elim (λ p. covers P (Some hit) one f b.than_one mark byte p hit refl) (λ q. covers Q (Some hit) other g b.than_other mark byte q hit refl) h,
 )
+
+-- the first of some, where there is none of the others
+pub first-of-one : (P Q : ℕ → ℕ → Type 0) (hit : Option Hit) → IsFirstOf P hit → ((mark byte : ℕ) → Q mark byte → ⊥) → IsFirstOf (λ mark byte. P mark byte ⊎ Q mark byte) hit
+first-of-one P Q None f none = λ mark byte h. ⊎_elim (f mark byte) (none mark byte) h
+first-of-one P Q (Some hit) f none = (inl f.0, λ mark byte h. ⊎_elim (f.1 mark byte) (λ q. absurd (none mark byte q)) h)

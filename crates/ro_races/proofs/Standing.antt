@@ -1,6 +1,6 @@
 -- Where the steps of a journal's entries stand in a run, and what a run comes to at its end.
-use Rattle.std.specs.Prelude.{◌≡◌, ℕ, zero, suc, ◌+◌, ◌-◌, ◌<◌, ◌≤◌, List, [], ◌∷◌, ◌++◌, length, take, get_or, replicate, Some, slice_get}
-use Rattle.std.proofs.Common.{inl, refl, sym, ap, ◌∙◌, subst, arith, length-append, take_all}
+use Rattle.std.specs.Prelude.{◌≡◌, ℕ, zero, suc, ◌+◌, ◌-◌, ◌<◌, ◌≤◌, Bool, List, [], ◌∷◌, ◌++◌, length, take, get_or, replicate, Option, Some, None, slice_get}
+use Rattle.std.proofs.Common.{inl, refl, sym, ap, ap₂, ◌∙◌, subst, arith, length-append, take_all}
 use Rattle.ro_plain.specs.Machine.{Program, opening, run}
 use Rattle.std.proofs.lemmas.Option.{slice_get_within}
 use Rattle.ro_plain.proofs.Calls.{some-injective, slice_get-append}
@@ -10,9 +10,17 @@ use Rattle.ro_machine.proofs.Joined.{plan-next}
 use Rattle.ro_races.specs.declared.checking.Checker.{Checker}
 use Rattle.ro_races.specs.declared.found.Found.{Found}
 use Rattle.ro_races.specs.declared.found.Found.TheVariants.{NoRace, Pair}
-use Rattle.ro_races.specs.Seen.{known_by}
-use Rattle.ro_races.specs.Shadows.{marks_at}
-use Rattle.ro_races.specs.Follows.{Follows, StandsAt, Checks, IsFound, IsFoundIn}
+use Rattle.ro_races.specs.declared.sources.Source.{Source}
+use Rattle.ro_races.specs.declared.sources.Source.TheVariants.{Thread, Mutex, Exit, Word}
+use Rattle.ro_races.specs.declared.sources.Row.{Row}
+use Rattle.ro_races.specs.declared.marks.Clock.{Clock}
+use Rattle.ro_races.specs.declared.atomics.Atomics.{Atomics}
+use Rattle.ro_races.specs.Seen.{known_in}
+use Rattle.ro_races.specs.Shadows.{marks_at, reads_of, writes_of}
+use Rattle.ro_races.proofs.Tables.{no-marks}
+use Rattle.ro_plain.specs.Order.{accesses_at}
+use Rattle.ro_races.specs.Clocks.{Clock as ClockOf}
+use Rattle.ro_races.specs.Follows.{MarkedBy, reads_plainly, writes_plainly, reads_as_one, writes_as_one, Follows, StandsAt, Checks, IsFound, IsFoundIn}
 use Rattle.ro_machine.specs.Seen.{machine_of}
 
 same-replicated : (n i x : ℕ) → i < n → slice_get (replicate n x) i ≡ Some x
@@ -72,18 +80,32 @@ checks-whole program threads c f e = record {
   found_is = found-whole program threads c.found (subst (λ (n : ℕ). IsFoundIn program threads n c.found) e f.found_is);
 }
 
+nothing-known : (source : Source) (u : ℕ) → known_in [] [] source u ≡ 0
+nothing-known (Thread v) u = refl
+nothing-known (Mutex mutex) u = refl
+nothing-known (Exit v) u = refl
+nothing-known (Word word) u = refl
+
+known-nothing : (rows : List Row) (words : List (ℕ × Clock)) (source : Source) (u : ℕ) → rows ≡ [] → words ≡ [] → known_in rows words source u ≡ 0
+known-nothing rows words source u e f = ap₂ (λ (r : List Row) (w : List (ℕ × Clock)). known_in r w source u) e f ∙ nothing-known source u
+
 -- a checker that has taken no step
-pub follows-begin : (program : Program) (threads : List ℕ) (c : Checker) → c.plain.program ≡ program → machine_of c.plain [] ≡ opening program → c.rows.items ≡ []
-    → ((byte thread : ℕ) → marks_at c.reads.items byte thread ≡ 0) → ((byte thread : ℕ) → marks_at c.writes.items byte thread ≡ 0) → c.steps ≡ 0 → c.found ≡ NoRace → Follows program threads c
-follows-begin program threads c same opens no_rows no_reads no_writes none nothing = record {
+pub follows-begin : (program : Program) (threads : List ℕ) (c : Checker) → c.plain.program ≡ program → machine_of c.plain [] ≡ opening program → c.rows.items ≡ [] → c.words.entries ≡ []
+    → ((byte thread : ℕ) → marks_at c.reads.items byte thread ≡ 0) → ((byte thread : ℕ) → marks_at c.writes.items byte thread ≡ 0) → c.atomics ≡ None → c.steps ≡ 0 → c.found ≡ NoRace → Follows program threads c
+follows-begin program threads c same opens no_rows no_words no_reads no_writes no_atomics none nothing = record {
   output = [];
   same_program = same;
   runs = ap (λ (n : ℕ). run program (opening program) (take n threads)) none ∙ ap (λ m. Some m) (sym opens);
   short = omega (arith, none);
   knows = λ source place thread there.
-      let zero_known : known_by c.rows.items source thread ≡ 0 = ap (λ rows. known_by rows source thread) no_rows in
+      let zero_known : known_in c.rows.items c.words.entries source thread ≡ 0 = known-nothing c.rows.items c.words.entries source thread no_rows no_words in
       ((λ less. absurd (omega (arith, less, zero_known))), (λ past. absurd (let early = past.early in omega (arith, early, none))));
-  reads_marked = λ byte. record { all = λ place thread less there touched. absurd (omega (arith, less, none)); only = λ thread. inl (no_reads byte thread) };
-  writes_marked = λ byte. record { all = λ place thread less there touched. absurd (omega (arith, less, none)); only = λ thread. inl (no_writes byte thread) };
+  reads_marked = λ byte. unmarked (λ place. reads_plainly (accesses_at program threads place) byte) (marks_at c.reads.items byte) (no_reads byte);
+  writes_marked = λ byte. unmarked (λ place. writes_plainly (accesses_at program threads place) byte) (marks_at c.writes.items byte) (no_writes byte);
+  words_read = λ byte. unmarked (λ place. reads_as_one (accesses_at program threads place) byte) (marks_at (reads_of c.atomics) byte) (λ thread. ap (λ (a : Option Atomics). marks_at (reads_of a) byte thread) no_atomics ∙ no-marks byte thread);
+  words_written = λ byte. unmarked (λ place. writes_as_one (accesses_at program threads place) byte) (marks_at (writes_of c.atomics) byte) (λ thread. ap (λ (a : Option Atomics). marks_at (writes_of a) byte thread) no_atomics ∙ no-marks byte thread);
   found_is = subst (IsFoundIn program threads c.steps) (sym nothing) (λ i j byte race. omega (arith, none));
 }
+  where
+    unmarked : (touch : ℕ → Bool) (clock : ClockOf) → ((thread : ℕ) → clock thread ≡ 0) → MarkedBy threads c.steps touch clock
+    unmarked touch clock zeros = record { all = λ place thread less there touched. absurd (omega (arith, less, none)); only = λ thread. inl (zeros thread) }

@@ -10,10 +10,12 @@ use Rattle.ro_pages.specs.Bytes.{Span, within}
 use Rattle.ro_plain.proofs.Calls.{some-injective}
 use Rattle.ro_plain.proofs.Commute.{slice_get-set_other}
 use Rattle.ro_replica.proofs.Elements.{get_set}
+use Rattle.ro_machine.specs.declared.watching.Watched.{Watched}
+use Rattle.ro_machine.specs.Watched.{span_of}
 use Rattle.ro_races.specs.declared.marks.Clock.{Clock}
 use Rattle.ro_races.specs.Clocks.{Clock as ClockOf, IsStepped}
 use Rattle.ro_races.specs.Seen.{seen_by}
-use Rattle.ro_races.specs.Shadows.{Shadow, pages_in, clocks_in, page_at, no_marks, clock_at, marks_at, IsPage, IsTable, HasSecond, Changes, Advances, Marks, IsHit}
+use Rattle.ro_races.specs.Shadows.{MarksAll, no_bytes, plainly, as_one, Shadow, pages_in, clocks_in, page_at, no_marks, clock_at, marks_at, IsPage, IsTable, HasSecond, Changes, Advances, Marks, IsHit, AnyHit}
 
 -- ---- numbers and stretches
 
@@ -507,6 +509,48 @@ empty-pages table none page = by (slice_get table (page / 1024)) refl
 
 pub empty-marks : (table : Shadow) → ((k : ℕ) (second : Vec (Vec Clock Global) Global) → slice_get table k ≡ Some second → second.items ≡ []) → (x u : ℕ) → marks_at table x u ≡ 0
 empty-marks table none x u = ap (λ xs. seen_by (clock_at xs (x % 4096)) u) (empty-pages table none (x / 4096)) ∙ zeros-seen 16 u
+
+-- ---- atomic instructions
+
+pub plainly-all : (w : Watched) → w.atomic.count ≡ 0 → plainly w ≡ w
+plainly-all w e = ap (λ (n : ℕ). if n == 0 then w else record w { loaded = no_bytes; stored = no_bytes }) e
+
+pub as_one-none : (w : Watched) → w.atomic.count ≡ 0 → as_one w ≡ record w { loaded = no_bytes; code = no_bytes; stored = no_bytes }
+as_one-none w e = ap (λ (n : ℕ). if n == 0 then record w { loaded = no_bytes; code = no_bytes; stored = no_bytes } else record w { code = no_bytes }) e
+
+as_one-word : (w : Watched) → w.atomic.count ≢ 0 → as_one w ≡ record w { code = no_bytes }
+as_one-word w n = by (w.atomic.count == 0) refl
+  where
+    by : (b : Bool) → (w.atomic.count == 0) ≡ b → (if b then record w { loaded = no_bytes; code = no_bytes; stored = no_bytes } else record w { code = no_bytes }) ≡ record w { code = no_bytes }
+    by true e = absurd (n (eqb-true w.atomic.count 0 e))
+    by false e = refl
+
+-- the marks of one are those of its word, in tables that were there or are new
+pub marks-word : (old_reads old_writes reads writes new_reads new_writes : Shadow) (w : Watched) (t place : ℕ) → w.atomic.count ≢ 0 → ((x u : ℕ) → marks_at reads x u ≡ marks_at old_reads x u) → ((x u : ℕ) → marks_at writes x u ≡ marks_at old_writes x u)
+    → Marks reads (span_of w.loaded) t place new_reads → Marks writes (span_of w.stored) t place new_writes → MarksAll old_reads old_writes (as_one w) t place new_reads new_writes
+marks-word old_reads old_writes reads writes new_reads new_writes w t place n same equal loads stores =
+    subst (λ (v : Watched). MarksAll old_reads old_writes v t place new_reads new_writes) (sym (as_one-word w n))
+    (record {
+      between = new_reads;
+      loads = marks-later (span_of w.loaded) t place old_reads reads new_reads same loads;
+      fetches = marks-none 0 t place new_reads;
+      stores = marks-later (span_of w.stored) t place old_writes writes new_writes equal stores;
+    })
+
+-- a step that accesses nothing marks nothing
+pub marks-nothing : (reads writes : Shadow) (w : Watched) (t place : ℕ) → MarksAll reads writes (record w { loaded = no_bytes; code = no_bytes; stored = no_bytes }) t place reads writes
+marks-nothing reads writes w t place = record { between = reads; loads = marks-none 0 t place reads; fetches = marks-none 0 t place reads; stores = marks-none 0 t place writes }
+
+-- a table of no page
+pub no-marks : (x u : ℕ) → marks_at [] x u ≡ 0
+no-marks x u = empty-marks [] (λ k second h. absurd (let e : None ≡ Some second = h in cc)) x u
+
+unmarked : (span : Span) (past : ClockOf) (mark byte : ℕ) → IsHit [] span past mark byte → ⊥
+unmarked span past mark byte h = let z = no-marks byte h.thread in let e = h.mark_is in let beyond = h.beyond in omega arith
+
+pub no-hit-unmarked : (w : Watched) (past : ClockOf) (mark byte : ℕ) → AnyHit [] [] w past mark byte → ⊥
+no-hit-unmarked w past mark byte h =
+    ⊎_elim (⊎_elim (unmarked (span_of w.loaded) past mark byte) (unmarked (span_of w.code) past mark byte)) (⊎_elim (unmarked (span_of w.stored) past mark byte) (unmarked (span_of w.stored) past mark byte)) h
 
 pub empty-table : (table : Shadow) → length table ≡ 1025 → ((k : ℕ) (second : Vec (Vec Clock Global) Global) → slice_get table k ≡ Some second → second.items ≡ []) → IsTable table
 empty-table table count none = record { seconds = count; whole = λ k second h. inl (none k second h); pages = λ page. inl (empty-pages table none page) }

@@ -1,9 +1,9 @@
 -- What vector clocks know of a run.
 use Rattle.std.specs.Prelude.{◌≡◌, ◌≢◌, ℕ, suc, ◌<◌, ◌⊎◌, ◌↔◌, max, List, Option, Some, None, slice_get}
 use Rattle.ro_plain.specs.Machine.{Program}
-use Rattle.ro_plain.specs.Order.{Sync, Unlocks, Locks, Makes, Joins, Exits, sync_at, HappensBefore}
+use Rattle.ro_plain.specs.Order.{Sync, Unlocks, Locks, Makes, Joins, Exits, Updates, Observes, sync_at, HappensBefore}
 use Rattle.ro_races.specs.declared.sources.Source.{Source}
-use Rattle.ro_races.specs.declared.sources.Source.TheVariants.{Thread, Mutex, Exit}
+use Rattle.ro_races.specs.declared.sources.Source.TheVariants.{Thread, Mutex, Exit, Word}
 
 -- for each thread, how far its steps are known: one more than the place of the last of them, or 0 where none is
 abbrev pub Clock : Type 0
@@ -22,6 +22,8 @@ pub record IsStepped (old : Clock) (thread place : ℕ) (new : Clock) : Type 0 w
 abbrev pub learns_from : Sync → Option Source
 learns_from (Locks mutex) = Some (Mutex mutex)
 learns_from (Joins thread) = Some (Exit thread)
+learns_from (Updates word) = Some (Word word)
+learns_from (Observes word) = Some (Word word)
 learns_from _ = None
 
 -- to what, besides the thread's own next step, a step passes on what it knows
@@ -29,6 +31,7 @@ abbrev pub passes_to : (thread : ℕ) → Sync → Option Source
 passes_to thread (Unlocks mutex) = Some (Mutex mutex)
 passes_to thread (Makes other) = Some (Thread other)
 passes_to thread Exits = Some (Exit thread)
+passes_to thread (Updates word) = Some (Word word)
 passes_to thread _ = None
 
 module _ (program : Program) (threads : List ℕ) where
@@ -45,6 +48,7 @@ module _ (program : Program) (threads : List ℕ) where
   Feeds (Thread thread) place = (slice_get threads place ≡ Some thread) ⊎ (sync_at program threads place ≡ Makes thread)
   Feeds (Mutex mutex) place = sync_at program threads place ≡ Unlocks mutex
   Feeds (Exit thread) place = (slice_get threads place ≡ Some thread) × (sync_at program threads place ≡ Exits)
+  Feeds (Word word) place = sync_at program threads place ≡ Updates word
 
   -- up to one of the first so many places that passes on to the source
   pub record Past (count : ℕ) (source : Source) (place : ℕ) : Type 0 where

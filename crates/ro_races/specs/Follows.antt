@@ -1,7 +1,7 @@
 -- A run that is checked, as far as it has come.
-use Rattle.std.specs.Prelude.{◌≡◌, ℕ, suc, ◌+◌, ◌-◌, ◌<◌, ◌≤◌, ◌⊎◌, Bool, true, List, length, take, slice_index, Option, Some, None, slice_get}
+use Rattle.std.specs.Prelude.{◌≡◌, ℕ, suc, ◌+◌, ◌-◌, ◌<◌, ◌≤◌, ◌⊎◌, ◌&&◌, not, Bool, true, List, length, take, slice_index, Option, Some, None, slice_get}
 use Rattle.ro_plain.specs.Machine.{Program, Machine, opening, run, step, IsExecution}
-use Rattle.ro_plain.specs.Accesses.{touches}
+use Rattle.ro_plain.specs.Accesses.{Accesses, touches}
 use Rattle.ro_plain.specs.Order.{accesses_at}
 use Rattle.ro_machine.specs.declared.lane.Lane.{Lane}
 use Rattle.ro_machine.specs.Lanes.{closed}
@@ -15,8 +15,8 @@ use Rattle.ro_races.specs.declared.found.Found.TheVariants.{NoRace, Pair}
 use Rattle.ro_races.specs.declared.found.RacesError.{RacesError}
 use Rattle.ro_races.specs.declared.found.RacesError.TheVariants.{NoStep, NoMemory}
 use Rattle.ro_races.specs.Clocks.{Clock as ClockOf, Knows, Past}
-use Rattle.ro_races.specs.Seen.{known_by}
-use Rattle.ro_races.specs.Shadows.{marks_at}
+use Rattle.ro_races.specs.Seen.{known_in}
+use Rattle.ro_races.specs.Shadows.{marks_at, reads_of, writes_of}
 use Rattle.ro_races.specs.First.{IsRace, HasNoRace, IsFirstRace}
 
 -- For each thread, one more than the last of the first so many places at which it accesses a byte; 0 where there is none.
@@ -34,15 +34,30 @@ abbrev pub IsFoundIn : Program → List ℕ → (count : ℕ) → Found → Type
 IsFoundIn program threads count NoRace = (i j byte : ℕ) → IsRace program threads i j byte → count ≤ j
 IsFoundIn program threads count (Pair i j byte) = IsFirstRace program threads i j byte
 
+-- the bytes that a step reads and writes by plain accesses, and those that it reads and writes by an atomic instruction
+abbrev pub reads_plainly : Accesses → (byte : ℕ) → Bool
+reads_plainly a byte = touches a.reads byte && not (touches a.atomic byte)
+
+abbrev pub writes_plainly : Accesses → (byte : ℕ) → Bool
+writes_plainly a byte = touches a.writes byte && not (touches a.atomic byte)
+
+abbrev pub reads_as_one : Accesses → (byte : ℕ) → Bool
+reads_as_one a byte = touches a.reads byte && touches a.atomic byte
+
+abbrev pub writes_as_one : Accesses → (byte : ℕ) → Bool
+writes_as_one a byte = touches a.writes byte && touches a.atomic byte
+
 -- A checker has come so far in a run of these threads.
 pub record Follows (program : Program) (threads : List ℕ) (c : Checker) : Type 0 where
   pub output : List ℕ
   pub same_program : c.plain.program ≡ program
   pub runs : run program (opening program) (take c.steps threads) ≡ Some (machine_of c.plain output)
   pub short : c.steps ≤ length threads
-  pub knows : (source : Source) → Knows program threads (known_by c.rows.items source) (Past program threads c.steps source)
-  pub reads_marked : (byte : ℕ) → MarkedBy threads c.steps (λ place. touches (accesses_at program threads place).reads byte) (marks_at c.reads.items byte)
-  pub writes_marked : (byte : ℕ) → MarkedBy threads c.steps (λ place. touches (accesses_at program threads place).writes byte) (marks_at c.writes.items byte)
+  pub knows : (source : Source) → Knows program threads (known_in c.rows.items c.words.entries source) (Past program threads c.steps source)
+  pub reads_marked : (byte : ℕ) → MarkedBy threads c.steps (λ place. reads_plainly (accesses_at program threads place) byte) (marks_at c.reads.items byte)
+  pub writes_marked : (byte : ℕ) → MarkedBy threads c.steps (λ place. writes_plainly (accesses_at program threads place) byte) (marks_at c.writes.items byte)
+  pub words_read : (byte : ℕ) → MarkedBy threads c.steps (λ place. reads_as_one (accesses_at program threads place) byte) (marks_at (reads_of c.atomics) byte)
+  pub words_written : (byte : ℕ) → MarkedBy threads c.steps (λ place. writes_as_one (accesses_at program threads place) byte) (marks_at (writes_of c.atomics) byte)
   pub found_is : IsFoundIn program threads c.steps c.found
 
 -- a checker with the registers of an open thread put back

@@ -2,9 +2,11 @@
 use Rattle.std.specs.Prelude.{◌≡◌, ◌≢◌, ℕ, ◌/◌, ◌%◌, ◌<◌, ◌≤◌, ◌⊎◌, ◌==◌, true, false, if◌then◌else◌, List, [], length, Option, Some, None, Vec, slice_get, slice_set, slice_index_or, replicate}
 use Rattle.std.specs.declared.alloc.Global.{Global}
 use Rattle.ro_pages.specs.Bytes.{Span, within}
+use Rattle.ro_machine.specs.declared.watching.Stretch.{Stretch}
 use Rattle.ro_machine.specs.declared.watching.Watched.{Watched}
 use Rattle.ro_machine.specs.Watched.{span_of}
 use Rattle.ro_races.specs.declared.marks.Clock.{Clock}
+use Rattle.ro_races.specs.declared.atomics.Atomics.{Atomics}
 use Rattle.ro_races.specs.declared.shadows.Hit.{Hit}
 use Rattle.ro_races.specs.Clocks.{Clock as ClockOf, IsStepped}
 use Rattle.ro_races.specs.Seen.{seen_by}
@@ -77,6 +79,31 @@ pub record MarksAll (reads writes : Shadow) (step : Watched) (thread place : ℕ
   pub fetches : Marks between (span_of step.code) thread place new_reads
   pub stores : Marks writes (span_of step.stored) thread place new_writes
 
+abbrev pub no_bytes : Stretch
+no_bytes = record { place = 0; count = 0 }
+
+-- what a step accesses, but for the word of an atomic instruction
+abbrev pub plainly : Watched → Watched
+plainly step = if step.atomic.count == 0 then step else record step { loaded = no_bytes; stored = no_bytes }
+
+-- the word of an atomic instruction alone
+abbrev pub as_one : Watched → Watched
+as_one step =
+    if step.atomic.count == 0 then record step { loaded = no_bytes; code = no_bytes; stored = no_bytes } else record step { code = no_bytes }
+
+-- the marks of what atomic instructions read and wrote: none as long as there were none
+abbrev pub reads_of : Option Atomics → Shadow
+reads_of None = []
+reads_of (Some atomics) = atomics.reads.items
+
+abbrev pub writes_of : Option Atomics → Shadow
+writes_of None = []
+writes_of (Some atomics) = atomics.writes.items
+
+abbrev pub AreTables : Option Atomics → Type 0
+AreTables None = Unit {0}
+AreTables (Some atomics) = IsTable atomics.reads.items × IsTable atomics.writes.items
+
 -- a mark at a byte that a clock does not know of
 pub record IsHit (table : Shadow) (span : Span) (past : ClockOf) (mark byte : ℕ) : Type 0 where
   pub thread : ℕ
@@ -100,6 +127,11 @@ IsFirstHit table span past = IsFirstOf (IsHit table span past)
 abbrev pub AnyHit : (reads writes : Shadow) → Watched → ClockOf → (mark byte : ℕ) → Type 0
 AnyHit reads writes watched past mark byte =
     (IsHit writes (span_of watched.loaded) past mark byte ⊎ IsHit writes (span_of watched.code) past mark byte) ⊎ (IsHit writes (span_of watched.stored) past mark byte ⊎ IsHit reads (span_of watched.stored) past mark byte)
+
+-- such a mark, or one of an atomic instruction where the step accesses more than the word of one
+abbrev pub AnyConflict : (reads writes : Shadow) → Option Atomics → Watched → ClockOf → (mark byte : ℕ) → Type 0
+AnyConflict reads writes atomics watched past mark byte =
+    AnyHit reads writes watched past mark byte ⊎ AnyHit (reads_of atomics) (writes_of atomics) (plainly watched) past mark byte
 
 -- no later than a hit, if there is one
 abbrev pub NotLater : Option Hit → Option Hit → Type 0

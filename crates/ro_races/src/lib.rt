@@ -3,6 +3,7 @@
 //! `check` runs the plan of a journal on the unreplicated machine and tells the first race of it, by vector clocks.
 #![tactic(auto)]
 
+mod atomics;
 mod checking;
 mod found;
 mod laws;

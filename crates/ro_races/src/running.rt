@@ -3,7 +3,7 @@ ghost use Rattle.std.specs.Prelude.{ℕ, List, ◌≡◌, ◌<◌, ◌≤◌, �
 ghost use Rattle.std.specs.Arc.{arc_value};
 ghost use Rattle.ro_journal.specs.Plan.{entry_plan, plan_of};
 ghost use Rattle.ro_plain.specs.Machine.{Program};
-ghost use Rattle.ro_races.specs.Shadows.{IsTable};
+ghost use Rattle.ro_races.specs.Shadows.{IsTable, AreTables};
 ghost use Rattle.ro_machine.specs.Lanes.{IsOpen};
 ghost use Rattle.ro_races.specs.Seen.{IsOwn};
 ghost use Rattle.ro_races.specs.Follows.{Follows, Lacks, StandsAt, Checks, put_back};
@@ -16,6 +16,7 @@ use ro_image::Executable;
 use ro_journal::Entry;
 use ro_machine::{Lane, Plain};
 use std::alloc::{AllocError, Global};
+use std::collections::HashMap;
 use std::sync::Arc;
 
 /// Runs the plan of a journal on the unreplicated machine of a program and an input, and tells its first race: that whose
@@ -46,6 +47,7 @@ pub fn check(
 fn begin(alloc: Global, image: &Arc<Executable>, input: &[u8]) -> Result<Checker, AllocError>
     ensures reads { IfOk result (λ checker. IsTable checker.reads.items) }
     ensures writes { IfOk result (λ checker. IsTable checker.writes.items) }
+    ensures atomics { IfOk result (λ checker. AreTables checker.atomics) }
     ensures steps { IfOk result (λ checker. checker.steps ≡ 0) }
     ensures follows { IfOk result (λ checker. (threads : List ℕ) → Follows (record { image = arc_value image.now; input = input.now }) threads checker) }
 {
@@ -55,8 +57,10 @@ fn begin(alloc: Global, image: &Arc<Executable>, input: &[u8]) -> Result<Checker
     Ok(Checker {
         plain,
         rows: Vec::new(alloc),
+        words: HashMap::new(alloc),
         reads,
         writes,
+        atomics: None,
         steps: 0,
         found: Found::NoRace,
     })
@@ -73,10 +77,12 @@ fn check_lane(
     requires steps { checker.old.steps + most ≤ 1000000000 }
     requires reads { IsTable checker.old.reads.items }
     requires writes { IsTable checker.old.writes.items }
+    requires atomics { AreTables checker.old.atomics }
     requires opened { IsOpen checker.old.plain lane.old }
     requires own { IsOwn checker.old.rows.items lane.old.thread own }
     ensures reads { IsTable checker.new.reads.items }
     ensures writes { IsTable checker.new.writes.items }
+    ensures atomics { AreTables checker.new.atomics }
     ensures opened { OnOk result (IsOpen checker.new.plain lane.new) }
     ensures most { IfOk result (λ taken. taken ≤ most) }
     ensures steps { IfOk result (λ taken. checker.new.steps ≡ checker.old.steps + taken) }
@@ -100,8 +106,10 @@ fn check_row(
     requires steps { checker.old.steps + most ≤ 1000000000 }
     requires reads { IsTable checker.old.reads.items }
     requires writes { IsTable checker.old.writes.items }
+    requires atomics { AreTables checker.old.atomics }
     ensures reads { IsTable checker.new.reads.items }
     ensures writes { IsTable checker.new.writes.items }
+    ensures atomics { AreTables checker.new.atomics }
     ensures most { IfOk result (λ taken. taken ≤ most) }
     ensures steps { IfOk result (λ taken. checker.new.steps ≡ checker.old.steps + taken) }
     ensures follows { OnOk result ((program : Program) (threads : List ℕ) → Follows program threads checker.old → StandsAt threads checker.old.steps (replicate most thread) → Follows program threads checker.new) }
@@ -127,8 +135,10 @@ fn check_part(
     requires steps { checker.old.steps + most ≤ 1000000000 }
     requires reads { IsTable checker.old.reads.items }
     requires writes { IsTable checker.old.writes.items }
+    requires atomics { AreTables checker.old.atomics }
     ensures reads { IsTable checker.new.reads.items }
     ensures writes { IsTable checker.new.writes.items }
+    ensures atomics { AreTables checker.new.atomics }
     ensures some { IfOk result (λ taken. 0 < taken) }
     ensures most { IfOk result (λ taken. taken ≤ most) }
     ensures steps { IfOk result (λ taken. checker.new.steps ≡ checker.old.steps + taken) }
@@ -153,8 +163,10 @@ fn check_steps(
     requires steps { checker.old.steps + count ≤ 1000000000 }
     requires reads { IsTable checker.old.reads.items }
     requires writes { IsTable checker.old.writes.items }
+    requires atomics { AreTables checker.old.atomics }
     ensures reads { IsTable checker.new.reads.items }
     ensures writes { IsTable checker.new.writes.items }
+    ensures atomics { AreTables checker.new.atomics }
     ensures steps { OnOk result (checker.new.steps ≡ checker.old.steps + count) }
     ensures follows { OnOk result ((program : Program) (threads : List ℕ) → Follows program threads checker.old → StandsAt threads checker.old.steps (replicate count thread) → Follows program threads checker.new) }
     ensures lacks { IfErr result (λ error. (program : Program) (threads : List ℕ) → Follows program threads checker.old → StandsAt threads checker.old.steps (replicate count thread) → Lacks program threads error) }
@@ -177,8 +189,10 @@ fn check_vote(
     requires steps { checker.old.steps + (count + event) ≤ 1000000000 }
     requires reads { IsTable checker.old.reads.items }
     requires writes { IsTable checker.old.writes.items }
+    requires atomics { AreTables checker.old.atomics }
     ensures reads { IsTable checker.new.reads.items }
     ensures writes { IsTable checker.new.writes.items }
+    ensures atomics { AreTables checker.new.atomics }
     ensures steps { OnOk result (checker.new.steps ≡ checker.old.steps + (count + event)) }
     ensures follows { OnOk result ((program : Program) (threads : List ℕ) → Follows program threads checker.old → StandsAt threads checker.old.steps (replicate count thread ++ replicate event thread) → Follows program threads checker.new) }
     ensures lacks { IfErr result (λ error. (program : Program) (threads : List ℕ) → Follows program threads checker.old → StandsAt threads checker.old.steps (replicate count thread ++ replicate event thread) → Lacks program threads error) }
@@ -193,8 +207,10 @@ fn check_entry(alloc: Global, checker: &mut Checker, entry: &Entry) -> Result<()
     requires steps { checker.old.steps + length (entry_plan entry.now) ≤ 1000000000 }
     requires reads { IsTable checker.old.reads.items }
     requires writes { IsTable checker.old.writes.items }
+    requires atomics { AreTables checker.old.atomics }
     ensures reads { IsTable checker.new.reads.items }
     ensures writes { IsTable checker.new.writes.items }
+    ensures atomics { AreTables checker.new.atomics }
     ensures steps { OnOk result (checker.new.steps ≡ checker.old.steps + length (entry_plan entry.now)) }
     ensures follows { OnOk result ((program : Program) (threads : List ℕ) → Follows program threads checker.old → StandsAt threads checker.old.steps (entry_plan entry.now) → Follows program threads checker.new) }
     ensures lacks { IfErr result (λ error. (program : Program) (threads : List ℕ) → Follows program threads checker.old → StandsAt threads checker.old.steps (entry_plan entry.now) → Lacks program threads error) }
@@ -217,6 +233,7 @@ fn check_all(alloc: Global, checker: &mut Checker, journal: &[Entry]) -> Result<
     requires steps { length (plan_of journal.now) ≤ 1000000000 }
     requires reads { IsTable checker.old.reads.items }
     requires writes { IsTable checker.old.writes.items }
+    requires atomics { AreTables checker.old.atomics }
     ensures steps { OnOk result (checker.new.steps ≡ length (plan_of journal.now)) }
     ensures follows { OnOk result ((program : Program) (threads : List ℕ) → Follows program threads checker.old → StandsAt threads 0 (plan_of journal.now) → Follows program threads checker.new) }
     ensures lacks { IfErr result (λ error. (program : Program) (threads : List ℕ) → Follows program threads checker.old → StandsAt threads 0 (plan_of journal.now) → Lacks program threads error) }

@@ -5,7 +5,6 @@ pub mod Counted
 pub mod Elements
 pub mod Going
 pub mod Moments
-pub mod Payloads
 pub mod Segments
 pub mod SoFar
 pub mod Spans

@@ -1,5 +1,5 @@
 //! What an event does to a replica.
-ghost use Rattle.std.specs.Prelude.{◌≡◌, ◌<◌, ◌≤◌, ◌+◌, ◌^◌, ◌||◌, ℕ, true, IfSome, Some, length, map, slice_get, vec_len, vec_capacity};
+ghost use Rattle.std.specs.Prelude.{◌≡◌, ◌<◌, ◌≤◌, ◌+◌, ◌^◌, ◌||◌, ◌∷◌, ℕ, true, IfSome, Some, length, map, slice_get, vec_len, vec_capacity};
 ghost use Rattle.ro_pages.specs.Bytes.{covers_page, stored};
 ghost use Rattle.ro_pages.specs.Held.{memory_of, has_page};
 ghost use Rattle.ro_region.specs.Permission.{with_range};
@@ -93,8 +93,18 @@ pub fn widen(regions: &mut Regions, range: Option<Range>)
     ensures { regions.new ≡ record regions.old { given = with_range range regions.old.given } }
 {
     if let Some(range) = range {
-        regions.add(range);
+        add(regions, range);
     }
+}
+
+/// Permits a range more. It is a function of its own so that effects that give none, which most are, don't prepare for it.
+#[cold]
+#[inline(never)]
+fn add(regions: &mut Regions, range: Range)
+    requires { length regions.old.given < 4096 }
+    ensures { regions.new ≡ record regions.old { given = range ∷ regions.old.given } }
+{
+    regions.add(range);
 }
 
 /// Forgets the page faults of threads on pages that are backed.

@@ -63,7 +63,7 @@ pub fn change(cpu: &mut Cpu, effect: &Effect)
 {
     let pc = next_pc(effect.goes, cpu);
     if let Some(answer) = effect.answer {
-        cpu.set(10, answer);
+        cpu.put(effect.register, answer);
     }
     cpu.pc = pc;
 }

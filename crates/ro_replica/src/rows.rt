@@ -464,6 +464,77 @@ fn sees_what_is_written(rt: HostRuntime) -> Result<(), AllocError> {
     compare(&rt, rt.alloc(), &first)
 }
 
+// Addresses of atomic instructions, and the bytes that a vote compares of each in a replica that has stored five in the heap.
+const FOUND: &[(u32, &[u8])] = &[
+    (HEAP, &[1, 2, 3, 4]),
+    (HEAP + 4, &[0xFF, 0, 0, 0]),
+    (HEAP + 8, &[0, 0, 0, 0]),
+    (0x1_2000, &[0, 0, 0, 0]),
+    (0xFFFF_FFFC, &[0, 0, 0, 0]),
+    (HEAP + 1, &[]),
+    (HEAP + 2, &[]),
+];
+
+// AMOADD of the word at an address.
+fn adds(address: u32) -> Stop {
+    Stop::Calls(Call {
+        which: Which::Atomic(0x0053_252F),
+        a0: address,
+        a1: 5,
+        a2: 0,
+        a3: 0,
+    })
+}
+
+fn assert_found(rt: &impl Abort, replica: &mut Replica, address: u32, want: &[u8]) {
+    let mut view = View::new([0; 31], 0, 0, Stop::Watchdog);
+    stand(rt, replica, 0, 6, 60, adds(address));
+    assert!(rt; replica.stop(0).is_some());
+    replica.view(0, &mut view);
+    assert_eq!(rt; view.payload(), want, "at {address:x}");
+}
+
+fn assert_all_found(rt: &impl Abort, replica: &mut Replica) {
+    for (address, want) in FOUND {
+        assert_found(rt, replica, *address, *want);
+    }
+}
+
+// The word at an atomic instruction's address, which is 0 where its page isn't backed.
+#[test]
+fn sees_the_word_of_an_atomic_instruction(rt: HostRuntime) -> Result<(), AllocError> {
+    let mut replica = with_a_heap(&rt, rt.alloc())?;
+    assert_all_found(&rt, &mut replica);
+    Ok(())
+}
+
+// Registers in which an effect answers 9, and what is in x5, x10 and x31 then.
+const ANSWERS: &[(u8, [u32; 3])] = &[
+    (10, [0, 9, 0]),
+    (5, [9, 0, 0]),
+    (31, [0, 0, 9]),
+    (0, [0, 0, 0]),
+    (32, [0, 0, 0]),
+];
+
+fn answered(alloc: Global, register: u8) -> [u32; 3] {
+    let mut cpu = first();
+    let effect = Effect {
+        answer: Some(9),
+        register,
+        ..Effect::quiet(alloc, 0)
+    };
+    change(&mut cpu, &effect);
+    [cpu.get(5), cpu.get(10), cpu.get(31)]
+}
+
+#[test]
+fn answers_in_a_register(rt: HostRuntime) {
+    for (register, want) in ANSWERS {
+        assert_eq!(&rt; answered(rt.alloc(), *register), *want, "in x{register}");
+    }
+}
+
 // Addresses, and the words that are fetched there.
 const WORDS: &[(u32, Option<u32>)] = &[
     (0x1_0054, Some(0x0070_0513)),

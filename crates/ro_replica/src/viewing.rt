@@ -8,7 +8,7 @@ ghost use Rattle.ro_replica.specs.Seen.{replica_of};
 
 use crate::replicas::Replica;
 use ro_event::{Call, Source, Stop, View};
-use ro_kernel::payload_len;
+use ro_kernel::payload_place;
 use ro_thread::Thread;
 
 impl Replica {
@@ -29,24 +29,16 @@ impl Replica {
         }
     }
 
-    /// Shows a thread that makes a call, with what it writes.
+    /// Shows a thread that makes a call, with the bytes that a vote compares of it.
+    #[tactic(auto, unfolding(ro_kernel::specs::Serve::payload_of))]
     fn show_call(&self, thread: &Thread, call: Call, view: &mut View)
         ensures { view.new ≡ view_with self.now.layout.ranges (replica_of self.now) thread.now (Calls call) }
     {
-        match payload_len(&self.regions, call) {
-            0 => show(thread, Stop::Calls(call), view),
-            len => self.show_write(thread, call, len, view),
-        }
-    }
-
-    /// Shows a thread that writes so many bytes.
-    fn show_write(&self, thread: &Thread, call: Call, len: u32, view: &mut View)
-        requires most { len ≤ 4096 }
-        requires within { call.a1 + len ≤ 2 ^ 32 }
-        ensures { view.new ≡ record { registers = thread.now.cpu.registers; pc = thread.now.cpu.pc; since = thread.now.since; stop = Calls call; payload = bytes_at (replica_of self.now).memory call.a1 len } }
-    {
         show(thread, Stop::Calls(call), view);
-        view.read_payload(self, call.a1, len as usize);
+        let place = payload_place(&self.regions, call);
+        if place.len > 0 {
+            view.read_payload(self, place.address, place.len as usize);
+        }
     }
 }
 

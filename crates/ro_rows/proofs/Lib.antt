@@ -2,6 +2,7 @@ mod ExitRow
 mod ExitCovered
 mod DrivenNext
 mod PageRow
+mod AtomicRow
 mod DeadlockRow
 mod WaitingRow
 mod LostRow

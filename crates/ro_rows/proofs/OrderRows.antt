@@ -16,7 +16,7 @@ use Rattle.ro_replica.specs.Replica.{opening_replica, applied, cancelled, recove
 use Rattle.ro_replica.specs.Runs.{struck, execute}
 use Rattle.ro_plain.specs.Machine.{Program, opening, steppable, step}
 use Rattle.ro_plain.specs.Accesses.{accesses}
-use Rattle.ro_plain.specs.Order.{Unlocks, Locks, Makes, Joins, Exits, Nothing, sync_of, accesses_at, HappensBefore, in_thread, by_mutex, by_creation, by_join, chain}
+use Rattle.ro_plain.specs.Order.{Unlocks, Locks, Makes, Joins, Exits, Nothing, sync_of, accesses_at, HappensBefore, in_thread, by_mutex, by_word, by_creation, by_join, chain}
 use Rattle.ro_legal.specs.Core.{opening_core}
 use Rattle.ro_legal.specs.Event.{event_of}
 use Rattle.ro_legal.specs.Legal.{after}
@@ -54,6 +54,7 @@ was-joined = chain (by_join {i = 29} {j = 30} 1 (lit< tt) refl refl refl) (in_th
 pub before-earlier : (program : Program) (threads : List ℕ) (i j : ℕ) → HappensBefore program threads i j → i < j
 before-earlier program threads i j (in_thread thread low a b) = low
 before-earlier program threads i j (by_mutex mutex low a b) = low
+before-earlier program threads i j (by_word word low a b) = low
 before-earlier program threads i j (by_creation thread low a b) = low
 before-earlier program threads i j (by_join thread low a b c) = low
 before-earlier program threads i k (chain {j = j} p q) =
@@ -64,21 +65,21 @@ pub not-back : HappensBefore locking_guest locking_plan 42 23 → ⊥
 not-back h = let f = before-earlier locking_guest locking_plan 42 23 h in omega arith
 
 -- a creation stores the number
-pub create-accesses : accesses_at locking_guest locking_plan 6 ≡ record { reads = []; writes = bytes 0x100E0 4 ∷ [] }
+pub create-accesses : accesses_at locking_guest locking_plan 6 ≡ record { reads = none ∷ []; writes = bytes 0x100E0 4 ∷ []; atomic = [] }
 unfolding opening accesses steppable step first_cpu made_cpu next fetch_stop instruction_stop instruction_of call_at permits_of alu_of taken_by meaning serve payload_of
 create-accesses = refl
 
 -- a lock accesses nothing
-pub lock-accesses : accesses_at locking_guest locking_plan 18 ≡ record { reads = []; writes = none ∷ [] }
+pub lock-accesses : accesses_at locking_guest locking_plan 18 ≡ record { reads = none ∷ []; writes = none ∷ []; atomic = [] }
 unfolding opening accesses steppable step first_cpu made_cpu next fetch_stop instruction_stop instruction_of call_at permits_of alu_of taken_by meaning serve payload_of
 lock-accesses = refl
 
 -- a write reads its instruction and its payload
-pub write-accesses : accesses_at locking_guest locking_plan 23 ≡ record { reads = bytes 0x100EC 1 ∷ bytes 0x100B8 4 ∷ []; writes = none ∷ [] }
+pub write-accesses : accesses_at locking_guest locking_plan 23 ≡ record { reads = bytes 0x100EC 1 ∷ bytes 0x100B8 4 ∷ []; writes = none ∷ []; atomic = [] }
 unfolding opening accesses steppable step first_cpu made_cpu next fetch_stop instruction_stop instruction_of call_at permits_of alu_of taken_by meaning serve payload_of
 write-accesses = refl
 
 -- a join without a place accesses nothing
-pub join-accesses : accesses_at locking_guest locking_plan 30 ≡ record { reads = []; writes = none ∷ [] }
+pub join-accesses : accesses_at locking_guest locking_plan 30 ≡ record { reads = none ∷ []; writes = none ∷ []; atomic = [] }
 unfolding opening accesses steppable step first_cpu made_cpu next fetch_stop instruction_stop instruction_of call_at permits_of alu_of taken_by meaning serve payload_of
 join-accesses = refl

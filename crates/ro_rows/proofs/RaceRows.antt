@@ -2,10 +2,10 @@
 use Rattle.std.specs.Prelude.{zero, suc, Some, None, slice_get, ◌≡◌, ℕ, ◌<◌, true, false, ◌&&◌, ◌==◌, nat_le, List, [], ◌∷◌, ◌++◌, replicate}
 use Rattle.std.proofs.Common.{refl, sym, ◌∙◌, arith}
 use Rattle.std.proofs.Math.Dec.{lit<}
-use Rattle.ro_decode.specs.Table.{instruction_of}
+use Rattle.ro_decode.specs.Table.{instruction_of, word_of}
 use Rattle.ro_event.specs.Table.{call_at}
 use Rattle.ro_region.specs.Permission.{permits_of}
-use Rattle.ro_alu.specs.Results.{alu_of, taken_by}
+use Rattle.ro_alu.specs.Results.{alu_of, amo_of, taken_by}
 use Rattle.ro_exec.specs.Meaning.{meaning}
 use Rattle.ro_exec.specs.Next.{fetch_stop, instruction_stop, next}
 use Rattle.ro_exec.specs.Threads.{first_cpu, made_cpu}
@@ -13,15 +13,17 @@ use Rattle.ro_kernel.specs.Serve.{serve, payload_of}
 use Rattle.ro_plain.specs.Machine.{Program, opening, steppable, step}
 use Rattle.ro_plain.proofs.Calls.{some-injective}
 use Rattle.ro_plain.specs.Accesses.{accesses}
-use Rattle.ro_plain.specs.Order.{Unlocks, Locks, Makes, Joins, Exits, Nothing, sync_of, sync_at, accesses_at, HappensBefore, in_thread, by_mutex, by_creation, by_join, chain, RaceFree}
+use Rattle.ro_plain.specs.Order.{Unlocks, Locks, Makes, Joins, Exits, Updates, Observes, Nothing, sync_of, sync_at, accesses_at, HappensBefore, in_thread, by_mutex, by_word, by_creation, by_join, chain, RaceFree}
 use Rattle.ro_simulation.specs.Guests.{locking_guest}
 use Rattle.ro_plain.proofs.Explore.{explored-free, stays-in}
-use Rattle.ro_rows.specs.Order.{syncs_from, bytes, none, calls_guest, calls_plan, racing_guest, racing_plan, created_guest, joined_guest, locked_guest, two_mutexes_guest, two_mutexes_plan, creations_plan, exits_plan}
+use Rattle.ro_rows.specs.Guests.{atomic_guest}
+use Rattle.ro_rows.specs.Order.{syncs_from, bytes, none, calls_guest, calls_plan, atomics_guest, beside_guest, own_word_guest, adding_plan, racing_guest, racing_plan, created_guest, joined_guest, locked_guest, two_mutexes_guest, two_mutexes_plan, creations_plan, exits_plan}
 
 -- from a step that means nothing, the last of its thread, no step follows
 none-from : (program : Program) (threads : List ℕ) (i : ℕ) → sync_at program threads i ≡ Nothing → ((j : ℕ) → i < j → slice_get threads i ≡ slice_get threads j → ⊥) → (j : ℕ) → HappensBefore program threads i j → ⊥
 none-from program threads i nothing alone j (in_thread thread low a b) = alone j low (a ∙ sym b)
 none-from program threads i nothing alone j (by_mutex mutex low a b) = let e : Nothing ≡ Unlocks mutex = sym nothing ∙ a in cc
+none-from program threads i nothing alone j (by_word word low a b) = let e : Nothing ≡ Updates word = sym nothing ∙ a in cc
 none-from program threads i nothing alone j (by_creation thread low a b) = let e : Nothing ≡ Makes thread = sym nothing ∙ a in cc
 none-from program threads i nothing alone j (by_join thread low a b c) = let e : Nothing ≡ Exits = sym nothing ∙ b in cc
 none-from program threads i nothing alone k (chain {j = j} p q) = none-from program threads i nothing alone j p
@@ -48,31 +50,31 @@ pub calls-syncs : syncs_from calls_guest calls_plan 0 37 ≡ replicate 3 Nothing
 unfolding opening sync_of accesses steppable step first_cpu made_cpu next fetch_stop instruction_stop instruction_of call_at permits_of alu_of taken_by meaning serve payload_of
 calls-syncs = refl
 
-pub calls-read : accesses_at calls_guest calls_plan 17 ≡ record { reads = bytes 0x10088 4 ∷ []; writes = bytes 0x100E8 2 ∷ [] }
+pub calls-read : accesses_at calls_guest calls_plan 17 ≡ record { reads = none ∷ bytes 0x10088 4 ∷ []; writes = bytes 0x100E8 2 ∷ []; atomic = [] }
 unfolding opening sync_of accesses steppable step first_cpu made_cpu next fetch_stop instruction_stop instruction_of call_at permits_of alu_of taken_by meaning serve payload_of
 calls-read = refl
 
-pub calls-write : accesses_at calls_guest calls_plan 20 ≡ record { reads = bytes 0x10094 4 ∷ []; writes = none ∷ [] }
+pub calls-write : accesses_at calls_guest calls_plan 20 ≡ record { reads = none ∷ bytes 0x10094 4 ∷ []; writes = none ∷ []; atomic = [] }
 unfolding opening sync_of accesses steppable step first_cpu made_cpu next fetch_stop instruction_stop instruction_of call_at permits_of alu_of taken_by meaning serve payload_of
 calls-write = refl
 
-pub calls-load : accesses_at calls_guest calls_plan 21 ≡ record { reads = bytes 0x100E8 4 ∷ bytes 0x10098 4 ∷ []; writes = none ∷ [] }
+pub calls-load : accesses_at calls_guest calls_plan 21 ≡ record { reads = bytes 0x100E8 4 ∷ bytes 0x10098 4 ∷ []; writes = none ∷ []; atomic = [] }
 unfolding opening sync_of accesses steppable step first_cpu made_cpu next fetch_stop instruction_stop instruction_of call_at permits_of alu_of taken_by meaning serve payload_of
 calls-load = refl
 
-pub calls-store : accesses_at calls_guest calls_plan 22 ≡ record { reads = none ∷ bytes 0x1009C 4 ∷ []; writes = bytes 0x100EC 2 ∷ [] }
+pub calls-store : accesses_at calls_guest calls_plan 22 ≡ record { reads = none ∷ bytes 0x1009C 4 ∷ []; writes = bytes 0x100EC 2 ∷ []; atomic = [] }
 unfolding opening sync_of accesses steppable step first_cpu made_cpu next fetch_stop instruction_stop instruction_of call_at permits_of alu_of taken_by meaning serve payload_of
 calls-store = refl
 
-pub calls-exit : accesses_at calls_guest calls_plan 31 ≡ record { reads = []; writes = none ∷ [] }
+pub calls-exit : accesses_at calls_guest calls_plan 31 ≡ record { reads = none ∷ []; writes = none ∷ []; atomic = [] }
 unfolding opening sync_of accesses steppable step first_cpu made_cpu next fetch_stop instruction_stop instruction_of call_at permits_of alu_of taken_by meaning serve payload_of
 calls-exit = refl
 
-pub calls-join : accesses_at calls_guest calls_plan 35 ≡ record { reads = []; writes = bytes 0x100E0 4 ∷ [] }
+pub calls-join : accesses_at calls_guest calls_plan 35 ≡ record { reads = none ∷ []; writes = bytes 0x100E0 4 ∷ []; atomic = [] }
 unfolding opening sync_of accesses steppable step first_cpu made_cpu next fetch_stop instruction_stop instruction_of call_at permits_of alu_of taken_by meaning serve payload_of
 calls-join = refl
 
-pub calls-trap : accesses_at calls_guest calls_plan 36 ≡ record { reads = bytes 0x100C4 4 ∷ []; writes = [] }
+pub calls-trap : accesses_at calls_guest calls_plan 36 ≡ record { reads = bytes 0x100C4 4 ∷ []; writes = []; atomic = [] }
 unfolding opening sync_of accesses steppable step first_cpu made_cpu next fetch_stop instruction_stop instruction_of call_at permits_of alu_of taken_by meaning serve payload_of
 calls-trap = refl
 
@@ -91,6 +93,48 @@ races-by-join = explored-free 24 joined_guest refl
 pub races-by-mutex : RaceFree locked_guest
 unfolding opening sync_of accesses steppable step first_cpu made_cpu next fetch_stop instruction_stop instruction_of call_at permits_of alu_of taken_by meaning serve payload_of
 races-by-mutex = explored-free 28 locked_guest refl
+
+-- ---- atomics_row and words_row
+
+pub atomics-syncs : syncs_from atomic_guest (replicate 9 0) 0 9 ≡ Nothing ∷ Observes 0x11000 ∷ Nothing ∷ Updates 0x11000 ∷ Nothing ∷ Updates 0x11000 ∷ replicate 3 Nothing
+unfolding opening sync_of accesses steppable step first_cpu made_cpu next fetch_stop instruction_stop instruction_of word_of call_at permits_of alu_of amo_of taken_by meaning serve payload_of
+atomics-syncs = refl
+
+pub atomics-load : accesses_at atomic_guest (replicate 9 0) 1 ≡ record { reads = bytes 0x11000 4 ∷ bytes 0x10058 4 ∷ []; writes = none ∷ []; atomic = bytes 0x11000 4 ∷ [] }
+unfolding opening sync_of accesses steppable step first_cpu made_cpu next fetch_stop instruction_stop instruction_of word_of call_at permits_of alu_of amo_of taken_by meaning serve payload_of
+atomics-load = refl
+
+pub atomics-store : accesses_at atomic_guest (replicate 9 0) 3 ≡ record { reads = bytes 0x11000 4 ∷ bytes 0x10060 4 ∷ []; writes = bytes 0x11000 4 ∷ []; atomic = bytes 0x11000 4 ∷ [] }
+unfolding opening sync_of accesses steppable step first_cpu made_cpu next fetch_stop instruction_stop instruction_of word_of call_at permits_of alu_of amo_of taken_by meaning serve payload_of
+atomics-store = refl
+
+pub atomics-fails : accesses_at atomic_guest (replicate 9 0) 4 ≡ record { reads = bytes 0x11000 4 ∷ bytes 0x10064 4 ∷ []; writes = none ∷ []; atomic = bytes 0x11000 4 ∷ [] }
+unfolding opening sync_of accesses steppable step first_cpu made_cpu next fetch_stop instruction_stop instruction_of word_of call_at permits_of alu_of amo_of taken_by meaning serve payload_of
+atomics-fails = refl
+
+pub atomics-adds : accesses_at atomic_guest (replicate 9 0) 5 ≡ record { reads = bytes 0x11000 4 ∷ bytes 0x10068 4 ∷ []; writes = bytes 0x11000 4 ∷ []; atomic = bytes 0x11000 4 ∷ [] }
+unfolding opening sync_of accesses steppable step first_cpu made_cpu next fetch_stop instruction_stop instruction_of word_of call_at permits_of alu_of amo_of taken_by meaning serve payload_of
+atomics-adds = refl
+
+pub words-atomic : RaceFree atomics_guest
+unfolding opening sync_of accesses steppable step first_cpu made_cpu next fetch_stop instruction_stop instruction_of word_of call_at permits_of alu_of amo_of taken_by meaning serve payload_of
+words-atomic = explored-free 20 atomics_guest refl
+
+pub words-plain : RaceFree beside_guest → ⊥
+unfolding opening sync_of accesses steppable step first_cpu made_cpu next fetch_stop instruction_stop instruction_of word_of call_at permits_of alu_of amo_of taken_by meaning serve payload_of
+words-plain h =
+    let order = h adding_plan (_, refl) 6 8 0x10084 (lit< tt) (lit< tt) (λ e. let f : Some 0 ≡ Some 1 = e in cc) refl in
+    let e : false ≡ true = stays-in beside_guest adding_plan _ refl (λ place. place == 6) refl 6 8 order refl in cc
+
+pub words-own : RaceFree own_word_guest → ⊥
+unfolding opening sync_of accesses steppable step first_cpu made_cpu next fetch_stop instruction_stop instruction_of word_of call_at permits_of alu_of amo_of taken_by meaning serve payload_of
+words-own h =
+    let order = h adding_plan (_, refl) 6 8 0x10068 (lit< tt) (lit< tt) (λ e. let f : Some 0 ≡ Some 1 = e in cc) refl in
+    let e : false ≡ true = stays-in own_word_guest adding_plan _ refl (λ place. place == 6) refl 6 8 order refl in cc
+
+pub words-nothing : syncs_from own_word_guest adding_plan 6 3 ≡ Nothing ∷ Nothing ∷ Updates 0x10068 ∷ []
+unfolding opening sync_of accesses steppable step first_cpu made_cpu next fetch_stop instruction_stop instruction_of word_of call_at permits_of alu_of amo_of taken_by meaning serve payload_of
+words-nothing = refl
 
 -- ---- unordered_row
 

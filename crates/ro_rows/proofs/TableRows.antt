@@ -2,7 +2,7 @@
 use Rattle.std.specs.Prelude.{◌≡◌, ◌-◌, ◌^◌, true, false, [], ◌∷◌, ◌++◌, length, map, Some, None, Ok, Err, replicate}
 use Rattle.std.proofs.Common.{refl}
 use Rattle.ro_decode.specs.Table.{instruction_of, word_of}
-use Rattle.ro_alu.specs.Results.{muldiv_of}
+use Rattle.ro_alu.specs.Results.{muldiv_of, amo_of}
 use Rattle.ro_event.specs.declared.calls.Which.TheVariants.{System, Function}
 use Rattle.ro_event.specs.declared.functions.Function.TheVariants.{Create, Join, Exit, ThreadSelf, MutexInit, MutexDestroy, Lock, TryLock, Unlock, ConditionInit, ConditionDestroy, Wait, Signal, Broadcast}
 use Rattle.ro_event.specs.declared.stops.Stop.TheVariants.{Trap}
@@ -26,11 +26,11 @@ use Rattle.ro_kernel.specs.declared.Life.TheVariants.{Live}
 use Rattle.ro_kernel.specs.Serve.{serve, payload_of}
 use Rattle.ro_simulation.specs.Guests.{exit_guest}
 use Rattle.ro_rows.specs.Exit.{exit_file}
-use Rattle.ro_rows.specs.Tables.{instructions, assembled, results, changed, header, two_headers, strings, function, standing_symbols, address_named, four, kernel_with, two_held, unheld, answer, next_of}
+use Rattle.ro_rows.specs.Tables.{instructions, assembled, results, updates, changed, header, two_headers, strings, function, standing_symbols, address_named, four, kernel_with, two_held, unheld, answer, next_of}
 
 -- ---- instructions_row
 
-pub instructions-count : length instructions ≡ 48
+pub instructions-count : length instructions ≡ 59
 unfolding instruction_of word_of
 instructions-count = refl
 
@@ -47,6 +47,10 @@ instructions-back = refl
 pub results-values : results ≡ 0x00000000 ∷ 0xFFFFFFFE ∷ 0xFFFFFFFB ∷ 0x00000006 ∷ 0x3FFFFFFF ∷ 0xC0000000 ∷ 0xFFFFFFFD ∷ 0xFFFFFFFF ∷ 0xFFFFFFFD ∷ 0x00000001 ∷ 0x7FFFFFFC ∷ 0x00000001 ∷ 0xFFFFFFFF ∷ 0xFFFFFFFF ∷ 0x00000007 ∷ 0x00000007 ∷ 0x80000000 ∷ 0x00000000 ∷ []
 unfolding muldiv_of
 results-values = refl
+
+pub results-atomic : updates ≡ 0x00000009 ∷ 0x00000009 ∷ 0x00000001 ∷ 0x0F0F0F0F ∷ 0x30303030 ∷ 0xFCFCFCFC ∷ 0x80000000 ∷ 0x80000000 ∷ 0x7FFFFFFF ∷ 0x7FFFFFFF ∷ 0x7FFFFFFF ∷ 0x7FFFFFFF ∷ 0x80000000 ∷ 0x80000000 ∷ []
+unfolding amo_of
+results-atomic = refl
 
 -- ---- checks_row
 

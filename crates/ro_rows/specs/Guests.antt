@@ -38,3 +38,7 @@ hello_guest = guest no_calls false 128 (0x00100513 ∷ 0x000105B7 ∷ 0x07858593
 -- it writes `hell`, then `o`, and exits with 0
 abbrev pub hell_o_guest : Program
 hell_o_guest = guest no_calls false 144 (0x00100513 ∷ 0x000105B7 ∷ 0x08858593 ∷ 0x00400613 ∷ 0x04000893 ∷ 0x00000073 ∷ 0x00100513 ∷ 0x00458593 ∷ 0x00100613 ∷ 0x00000073 ∷ 0x00000513 ∷ 0x05D00893 ∷ 0x00000073 ∷ 0x6C6C6568 ∷ 0x0000006F ∷ [])
+
+-- LR, an addition and SC, which stores; SC once more, which fails; AMOADD; and an exit with the sum of what the last two gave
+abbrev pub atomic_guest : Program
+atomic_guest = guest no_calls false 120 (0x00011337 ∷ 0x100322AF ∷ 0x00728293 ∷ 0x185323AF ∷ 0x185323AF ∷ 0x0053252F ∷ 0x00750533 ∷ 0x05D00893 ∷ 0x00000073 ∷ [])

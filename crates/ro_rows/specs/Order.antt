@@ -65,6 +65,29 @@ abbrev pub locked_guest : Program
 locked_guest = guest (table_of (Some 0x10094) None (Some 0x10098) (Some 0x1009C)) true 172
     (0x000101B7 ∷ 0x0A018513 ∷ 0x08018613 ∷ 0x0A418693 ∷ 0x030000EF ∷ 0x0A418513 ∷ 0x02C000EF ∷ 0x0A018423 ∷ 0x0A418513 ∷ 0x024000EF ∷ 0x00100073 ∷ 0x018000EF ∷ 0x0A018423 ∷ 0x0A418513 ∷ 0x010000EF ∷ 0x00100073 ∷ 0x00008067 ∷ 0x00008067 ∷ 0x00008067 ∷ 0x00000000 ∷ 0x00000000 ∷ 0x00000000 ∷ [])
 
+-- ---- atomic instructions
+
+-- thread 0 makes thread 1, and each does AMOADD at an address of its own choice; thread 1 may do another instruction in its place
+abbrev pub adding_guest : (first second other : ℕ) → Program
+adding_guest first second other = guest (table_of (Some 0x1007C) None None None) true 136
+    (0x000101B7 ∷ 0x08018513 ∷ 0x07018613 ∷ first ∷ 0x018000EF ∷ 0x0053202F ∷ 0x00100073 ∷ second ∷ other ∷ 0x00100073 ∷ 0x00008067 ∷ 0x00000000 ∷ 0x00000000 ∷ [])
+
+-- both add to one word
+abbrev pub atomics_guest : Program
+atomics_guest = adding_guest 0x08418313 0x08418313 0x0053202F
+
+-- thread 1 stores to it
+abbrev pub beside_guest : Program
+beside_guest = adding_guest 0x08418313 0x08418313 0x00032023
+
+-- both add to the word of thread 0's own AMOADD
+abbrev pub own_word_guest : Program
+own_word_guest = adding_guest 0x06818313 0x06818313 0x0053202F
+
+-- thread 0 adds, and then thread 1 comes to its own access
+abbrev pub adding_plan : List ℕ
+adding_plan = replicate 7 0 ++ 1 ∷ 1 ∷ []
+
 -- ---- what orders nothing
 
 -- each stores under a mutex of its own

@@ -3,13 +3,14 @@ use Rattle.std.specs.Prelude.{ℕ, List, [], ◌∷◌, ◌++◌, Option, Some, 
 use Rattle.std.specs.List.{flat_map}
 use Rattle.std.specs.Option.{option_map}
 use Rattle.ro_decode.specs.declared.Instr.{Instr}
-use Rattle.ro_decode.specs.declared.Instr.TheVariants.{Lui, Auipc, Jal, Jalr, Branch, Load, Store, AluImm, Alu, MulDiv, Fence, Ecall, Ebreak}
+use Rattle.ro_decode.specs.declared.Instr.TheVariants.{Lui, Auipc, Jal, Jalr, Branch, Load, Store, AluImm, Alu, MulDiv, Fence, Atomic, Ecall, Ebreak}
 use Rattle.ro_decode.specs.declared.AluOp.TheVariants.{Add, Sub, Sll, Slt, Sltu, Xor, Srl, Sra, Or, And}
 use Rattle.ro_decode.specs.declared.MulDivOp.TheVariants.{Mul, Mulh, Mulhsu, Mulhu, Div, Divu, Rem, Remu}
 use Rattle.ro_decode.specs.declared.LoadOp.TheVariants.{Lb, Lh, Lw, Lbu, Lhu}
 use Rattle.ro_decode.specs.declared.StoreOp.TheVariants.{Sb, Sh, Sw}
 use Rattle.ro_decode.specs.declared.BranchOp.TheVariants.{Beq, Bne, Blt, Bge, Bltu, Bgeu}
-use Rattle.ro_alu.specs.Results.{muldiv_of}
+use Rattle.ro_decode.specs.declared.AtomicOp.TheVariants.{LoadReserved, StoreConditional, AmoSwap, AmoAdd, AmoXor, AmoAnd, AmoOr, AmoMin, AmoMax, AmoMinu, AmoMaxu}
+use Rattle.ro_alu.specs.Results.{muldiv_of, amo_of}
 use Rattle.ro_event.specs.declared.calls.Which.{Which}
 use Rattle.ro_event.specs.Views.{same_numbers}
 use Rattle.ro_pages.specs.Bytes.{bytes_of, stored}
@@ -76,13 +77,24 @@ instructions =
     ∷ MulDiv Rem 29 30 31
     ∷ MulDiv Remu 29 30 31
     ∷ Fence 0 0 0x031
+    ∷ Atomic LoadReserved 5 6 0 0
+    ∷ Atomic StoreConditional 7 6 5 0
+    ∷ Atomic AmoSwap 8 10 9 3
+    ∷ Atomic AmoAdd 10 6 5 0
+    ∷ Atomic AmoXor 11 13 12 2
+    ∷ Atomic AmoAnd 31 29 30 1
+    ∷ Atomic AmoOr 1 3 2 0
+    ∷ Atomic AmoMin 14 16 15 0
+    ∷ Atomic AmoMax 17 19 18 0
+    ∷ Atomic AmoMinu 20 22 21 0
+    ∷ Atomic AmoMaxu 23 25 24 0
     ∷ Ecall
     ∷ Ebreak
     ∷ []
 
 -- their words, as an assembler writes them
 abbrev pub assembled : List ℕ
-assembled = 0x123452B7 ∷ 0xFEDCB317 ∷ 0x2ABAA0EF ∷ 0xAAA403E7 ∷ 0x2AA485E3 ∷ 0xD4A49A63 ∷ 0x54A4CA63 ∷ 0xAAA4D5E3 ∷ 0x7EA4EFE3 ∷ 0x80A4F063 ∷ 0x55560583 ∷ 0xAAA61583 ∷ 0x7FF62583 ∷ 0x80064583 ∷ 0x00165583 ∷ 0x54D70AA3 ∷ 0xAAD71523 ∷ 0x80D72023 ∷ 0xFFF80793 ∷ 0x80082793 ∷ 0x7FF83793 ∷ 0x55584793 ∷ 0xAAA86793 ∷ 0x00787793 ∷ 0x01F81793 ∷ 0x01585793 ∷ 0x40A85793 ∷ 0x013908B3 ∷ 0x413908B3 ∷ 0x013918B3 ∷ 0x013928B3 ∷ 0x013938B3 ∷ 0x013948B3 ∷ 0x013958B3 ∷ 0x413958B3 ∷ 0x013968B3 ∷ 0x013978B3 ∷ 0x03FF0EB3 ∷ 0x03FF1EB3 ∷ 0x03FF2EB3 ∷ 0x03FF3EB3 ∷ 0x03FF4EB3 ∷ 0x03FF5EB3 ∷ 0x03FF6EB3 ∷ 0x03FF7EB3 ∷ 0x0310000F ∷ 0x00000073 ∷ 0x00100073 ∷ []
+assembled = 0x123452B7 ∷ 0xFEDCB317 ∷ 0x2ABAA0EF ∷ 0xAAA403E7 ∷ 0x2AA485E3 ∷ 0xD4A49A63 ∷ 0x54A4CA63 ∷ 0xAAA4D5E3 ∷ 0x7EA4EFE3 ∷ 0x80A4F063 ∷ 0x55560583 ∷ 0xAAA61583 ∷ 0x7FF62583 ∷ 0x80064583 ∷ 0x00165583 ∷ 0x54D70AA3 ∷ 0xAAD71523 ∷ 0x80D72023 ∷ 0xFFF80793 ∷ 0x80082793 ∷ 0x7FF83793 ∷ 0x55584793 ∷ 0xAAA86793 ∷ 0x00787793 ∷ 0x01F81793 ∷ 0x01585793 ∷ 0x40A85793 ∷ 0x013908B3 ∷ 0x413908B3 ∷ 0x013918B3 ∷ 0x013928B3 ∷ 0x013938B3 ∷ 0x013948B3 ∷ 0x013958B3 ∷ 0x413958B3 ∷ 0x013968B3 ∷ 0x013978B3 ∷ 0x03FF0EB3 ∷ 0x03FF1EB3 ∷ 0x03FF2EB3 ∷ 0x03FF3EB3 ∷ 0x03FF4EB3 ∷ 0x03FF5EB3 ∷ 0x03FF6EB3 ∷ 0x03FF7EB3 ∷ 0x0310000F ∷ 0x100322AF ∷ 0x185323AF ∷ 0x0E95242F ∷ 0x0053252F ∷ 0x24C6A5AF ∷ 0x63EEAFAF ∷ 0x4021A0AF ∷ 0x80F8272F ∷ 0xA129A8AF ∷ 0xC15B2A2F ∷ 0xE18CABAF ∷ 0x00000073 ∷ 0x00100073 ∷ []
 
 -- products, quotients and remainders, of signed and unsigned numbers
 abbrev pub results : List ℕ
@@ -105,6 +117,25 @@ results =
     ∷ muldiv_of Remu 0x00000007 0x00000000
     ∷ muldiv_of Div 0x80000000 0xFFFFFFFF
     ∷ muldiv_of Rem 0x80000000 0xFFFFFFFF
+    ∷ []
+
+-- what atomic instructions make of a word and their operand
+abbrev pub updates : List ℕ
+updates =
+    amo_of StoreConditional 0x00000005 0x00000009
+    ∷ amo_of AmoSwap 0x00000005 0x00000009
+    ∷ amo_of AmoAdd 0xFFFFFFFF 0x00000002
+    ∷ amo_of AmoXor 0xF0F0F0F0 0xFFFFFFFF
+    ∷ amo_of AmoAnd 0xF0F0F0F0 0x3C3C3C3C
+    ∷ amo_of AmoOr 0xF0F0F0F0 0x3C3C3C3C
+    ∷ amo_of AmoMin 0x80000000 0x7FFFFFFF
+    ∷ amo_of AmoMin 0x7FFFFFFF 0x80000000
+    ∷ amo_of AmoMax 0x80000000 0x7FFFFFFF
+    ∷ amo_of AmoMax 0x7FFFFFFF 0x80000000
+    ∷ amo_of AmoMinu 0x80000000 0x7FFFFFFF
+    ∷ amo_of AmoMinu 0x7FFFFFFF 0x80000000
+    ∷ amo_of AmoMaxu 0x80000000 0x7FFFFFFF
+    ∷ amo_of AmoMaxu 0x7FFFFFFF 0x80000000
     ∷ []
 
 -- ---- files
@@ -166,7 +197,7 @@ abbrev pub four : List Life
 four = Live ∷ Live ∷ Exited 5 ∷ Joined ∷ []
 
 abbrev pub kernel_with : List Life → Owners → Kernel
-kernel_with lives owners = record { lives = lives; owners = owners; waiters = []; heap_end = 0x11000; taken = 0; given = [] }
+kernel_with lives owners = record { lives = lives; owners = owners; waiters = []; heap_end = 0x11000; taken = 0; given = []; reserved = replicate 16 None }
 
 -- the mutexes at 100E0, which thread 1 holds, and at 100E4, which thread 0 holds
 abbrev pub two_held : Owners

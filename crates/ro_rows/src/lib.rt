@@ -26,13 +26,15 @@ ghost use Rattle.ro_simulation.specs.Theorem.{IsFront};
 ghost use Rattle.ro_simulation.specs.Drives.{driven};
 ghost use Rattle.ro_rows.specs.Exit.{exit_file, exit_image, exit_job, exit_journal};
 ghost use Rattle.ro_rows.specs.Guests.{loop_guest};
-ghost use Rattle.ro_rows.specs.Rows.{five_job, IdealEnds, decisions, page_job, waiting_job, lost_job, lost_journal, deadlock_job, deadlock_journal, pair_job, pair_journal, single_job, watched_job, hello_job, failing_journal, healed_job, hidden_job, before_vote};
+ghost use Rattle.ro_rows.specs.Rows.{five_job, IdealEnds, decisions, page_job, atomic_job, waiting_job, lost_job, lost_journal, deadlock_job, deadlock_journal, pair_job, pair_journal, single_job, watched_job, hello_job, failing_journal, healed_job, hidden_job, before_vote};
 
 pub use edges::{
     differ_row, due_row, free_first_row, late_row, length_row, limit_row, parted_row, put_row,
     sink_row, snapshot_row, stuck_row, take_row, vote_row, waiters_row, watch_row,
 };
-pub use order::{accesses_row, before_row, calls_row, races_row, sync_row, unordered_row};
+pub use order::{
+    accesses_row, atomics_row, before_row, calls_row, races_row, sync_row, unordered_row, words_row,
+};
 pub use tables::{
     checks_row, errors_row, instructions_row, names_row, results_row, settings_row, threads_row,
     traps_row,
@@ -70,6 +72,14 @@ pub fn page_row()
     ensures legal { Legal page_job (driven 100 page_job) }
     ensures decides { decisions (driven 100 page_job) ≡ Vote 0 6 0 Nobody Served ∷ Vote 0 1 0 Nobody PageBacked ∷ Vote 0 4 0 Nobody Blocked ∷ Vote 1 4 0 Nobody Served ∷ Free 0 ∷ Vote 0 2 0 Nobody Served ∷ End (Exit 0) ∷ [] }
     ensures ideal { IdealEnds page_job (driven 100 page_job) (Exit 0) [] }
+{}
+
+/// A row: LR, SC, SC once more and AMOADD on a word of the heap, which none of them needs a page fault for. Each is one vote; the
+/// first SC answers 0 and the second 1, and what was added makes the exit's 8.
+pub fn atomic_row()
+    ensures legal { Legal atomic_job (driven 100 atomic_job) }
+    ensures decides { decisions (driven 100 atomic_job) ≡ Vote 0 1 0 Nobody Served ∷ Vote 0 1 0 Nobody Served ∷ Vote 0 0 0 Nobody Served ∷ Vote 0 0 0 Nobody Served ∷ Vote 0 2 0 Nobody Served ∷ End (Exit 8) ∷ [] }
+    ensures ideal { IdealEnds atomic_job (driven 100 atomic_job) (Exit 8) [] }
 {}
 
 /// A row: thread 0 holds a mutex and joins a thread that wants it. The journal of one driver ends by a deadlock, and in

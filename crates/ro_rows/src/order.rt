@@ -1,10 +1,11 @@
 //! Rows of the order of steps: what each step of a small guest means for it, and which bytes it accesses.
 ghost use Rattle.std.specs.Prelude.{◌≡◌, ℕ, [], ◌∷◌, ◌++◌, length, replicate};
 ghost use Rattle.ro_journal.specs.Plan.{plan_of};
-ghost use Rattle.ro_plain.specs.Order.{Sync, Unlocks, Locks, Makes, Joins, Exits, Nothing, HappensBefore, RaceFree, accesses_at};
+ghost use Rattle.ro_plain.specs.Order.{Sync, Unlocks, Locks, Makes, Joins, Exits, Updates, Observes, Nothing, HappensBefore, RaceFree, accesses_at};
 ghost use Rattle.ro_simulation.specs.Drives.{driven};
 ghost use Rattle.ro_simulation.specs.Guests.{locking_guest, usual_job};
-ghost use Rattle.ro_rows.specs.Order.{locking_plan, syncs_from, bytes, none, calls_guest, calls_plan, racing_guest, created_guest, joined_guest, locked_guest, two_mutexes_guest, two_mutexes_plan, creations_plan, exits_plan};
+ghost use Rattle.ro_rows.specs.Guests.{atomic_guest};
+ghost use Rattle.ro_rows.specs.Order.{locking_plan, syncs_from, bytes, none, calls_guest, calls_plan, atomics_guest, beside_guest, own_word_guest, adding_plan, racing_guest, created_guest, joined_guest, locked_guest, two_mutexes_guest, two_mutexes_plan, creations_plan, exits_plan};
 
 /// A row: the plan of the locking guest has 53 steps, and of them two create, two lock and unlock the mutex at 100E8,
 /// two exit, two join, and no other means anything for the order.
@@ -26,10 +27,10 @@ pub fn before_row()
 /// A row: a creation stores four bytes, a lock accesses nothing, a write reads its instruction and its payload, and a join
 /// with no place for a value accesses nothing. A call at its address is not fetched.
 pub fn accesses_row()
-    ensures create { accesses_at locking_guest locking_plan 6 ≡ record { reads = []; writes = bytes 0x100E0 4 ∷ [] } }
-    ensures lock { accesses_at locking_guest locking_plan 18 ≡ record { reads = []; writes = none ∷ [] } }
-    ensures write { accesses_at locking_guest locking_plan 23 ≡ record { reads = bytes 0x100EC 1 ∷ bytes 0x100B8 4 ∷ []; writes = none ∷ [] } }
-    ensures join { accesses_at locking_guest locking_plan 30 ≡ record { reads = []; writes = none ∷ [] } }
+    ensures create { accesses_at locking_guest locking_plan 6 ≡ record { reads = none ∷ []; writes = bytes 0x100E0 4 ∷ []; atomic = [] } }
+    ensures lock { accesses_at locking_guest locking_plan 18 ≡ record { reads = none ∷ []; writes = none ∷ []; atomic = [] } }
+    ensures write { accesses_at locking_guest locking_plan 23 ≡ record { reads = bytes 0x100EC 1 ∷ bytes 0x100B8 4 ∷ []; writes = none ∷ []; atomic = [] } }
+    ensures join { accesses_at locking_guest locking_plan 30 ≡ record { reads = none ∷ []; writes = none ∷ []; atomic = [] } }
 {}
 
 /// A row: a trylock that is answered 0 locks, and one that is answered 16 means nothing, nor an unlock or a join that is
@@ -37,13 +38,13 @@ pub fn accesses_row()
 /// trap, access nothing but their instruction.
 pub fn calls_row()
     ensures syncs { syncs_from calls_guest calls_plan 0 37 ≡ replicate 3 Nothing ++ Locks 0x100E4 ∷ replicate 5 Nothing ++ Unlocks 0x100E4 ∷ replicate 20 Nothing ++ Makes 1 ∷ Exits ∷ replicate 3 Nothing ++ Joins 1 ∷ Nothing ∷ [] }
-    ensures read { accesses_at calls_guest calls_plan 17 ≡ record { reads = bytes 0x10088 4 ∷ []; writes = bytes 0x100E8 2 ∷ [] } }
-    ensures write { accesses_at calls_guest calls_plan 20 ≡ record { reads = bytes 0x10094 4 ∷ []; writes = none ∷ [] } }
-    ensures load { accesses_at calls_guest calls_plan 21 ≡ record { reads = bytes 0x100E8 4 ∷ bytes 0x10098 4 ∷ []; writes = none ∷ [] } }
-    ensures store { accesses_at calls_guest calls_plan 22 ≡ record { reads = none ∷ bytes 0x1009C 4 ∷ []; writes = bytes 0x100EC 2 ∷ [] } }
-    ensures exit { accesses_at calls_guest calls_plan 31 ≡ record { reads = []; writes = none ∷ [] } }
-    ensures join { accesses_at calls_guest calls_plan 35 ≡ record { reads = []; writes = bytes 0x100E0 4 ∷ [] } }
-    ensures trap { accesses_at calls_guest calls_plan 36 ≡ record { reads = bytes 0x100C4 4 ∷ []; writes = [] } }
+    ensures read { accesses_at calls_guest calls_plan 17 ≡ record { reads = none ∷ bytes 0x10088 4 ∷ []; writes = bytes 0x100E8 2 ∷ []; atomic = [] } }
+    ensures write { accesses_at calls_guest calls_plan 20 ≡ record { reads = none ∷ bytes 0x10094 4 ∷ []; writes = none ∷ []; atomic = [] } }
+    ensures load { accesses_at calls_guest calls_plan 21 ≡ record { reads = bytes 0x100E8 4 ∷ bytes 0x10098 4 ∷ []; writes = none ∷ []; atomic = [] } }
+    ensures store { accesses_at calls_guest calls_plan 22 ≡ record { reads = none ∷ bytes 0x1009C 4 ∷ []; writes = bytes 0x100EC 2 ∷ []; atomic = [] } }
+    ensures exit { accesses_at calls_guest calls_plan 31 ≡ record { reads = none ∷ []; writes = none ∷ []; atomic = [] } }
+    ensures join { accesses_at calls_guest calls_plan 35 ≡ record { reads = none ∷ []; writes = bytes 0x100E0 4 ∷ []; atomic = [] } }
+    ensures trap { accesses_at calls_guest calls_plan 36 ≡ record { reads = bytes 0x100C4 4 ∷ []; writes = []; atomic = [] } }
 {}
 
 /// A row: of two threads that store to one byte, a program in which nothing orders the stores has races, and one in which a
@@ -53,6 +54,26 @@ pub fn races_row()
     ensures by_creation { RaceFree created_guest }
     ensures by_join { RaceFree joined_guest }
     ensures by_mutex { RaceFree locked_guest }
+{}
+
+/// A row: an LR looks at its word, an SC that stores and an AMO update it, and an SC that fails means nothing. Each reads its word and
+/// its instruction, and accesses the word as one.
+pub fn atomics_row()
+    ensures syncs { syncs_from atomic_guest (replicate 9 0) 0 9 ≡ Nothing ∷ Observes 0x11000 ∷ Nothing ∷ Updates 0x11000 ∷ Nothing ∷ Updates 0x11000 ∷ replicate 3 Nothing }
+    ensures load { accesses_at atomic_guest (replicate 9 0) 1 ≡ record { reads = bytes 0x11000 4 ∷ bytes 0x10058 4 ∷ []; writes = none ∷ []; atomic = bytes 0x11000 4 ∷ [] } }
+    ensures store { accesses_at atomic_guest (replicate 9 0) 3 ≡ record { reads = bytes 0x11000 4 ∷ bytes 0x10060 4 ∷ []; writes = bytes 0x11000 4 ∷ []; atomic = bytes 0x11000 4 ∷ [] } }
+    ensures fails { accesses_at atomic_guest (replicate 9 0) 4 ≡ record { reads = bytes 0x11000 4 ∷ bytes 0x10064 4 ∷ []; writes = none ∷ []; atomic = bytes 0x11000 4 ∷ [] } }
+    ensures adds { accesses_at atomic_guest (replicate 9 0) 5 ≡ record { reads = bytes 0x11000 4 ∷ bytes 0x10068 4 ∷ []; writes = bytes 0x11000 4 ∷ []; atomic = bytes 0x11000 4 ∷ [] } }
+{}
+
+/// A row: of two threads that each add to one word, a program has no races where both do it by AMOADD, and it has where one
+/// stores to the word by a plain instruction. It has too where the word is that of the one's own AMOADD, which was read before:
+/// an atomic instruction on its own word orders nothing.
+pub fn words_row()
+    ensures atomic { RaceFree atomics_guest }
+    ensures plain { RaceFree beside_guest → ⊥ }
+    ensures own { RaceFree own_word_guest → ⊥ }
+    ensures nothing { syncs_from own_word_guest adding_plan 6 3 ≡ Nothing ∷ Nothing ∷ Updates 0x10068 ∷ [] }
 {}
 
 /// A row: what orders nothing. The creation of thread 2 comes before no step of thread 1, the exit of thread 2 before no join

@@ -18,18 +18,20 @@ ghost use Rattle.ro_image.specs.Executable.{bad_code};
 ghost use Rattle.ro_settings.specs.Ranges.{default_settings};
 ghost use Rattle.ro_simulation.specs.Guests.{exit_guest};
 ghost use Rattle.ro_rows.specs.Exit.{exit_file};
-ghost use Rattle.ro_rows.specs.Tables.{instructions, assembled, results, changed, header, two_headers, strings, function, standing_symbols, address_named, four, kernel_with, two_held, unheld, answer, next_of};
+ghost use Rattle.ro_rows.specs.Tables.{instructions, assembled, results, updates, changed, header, two_headers, strings, function, standing_symbols, address_named, four, kernel_with, two_held, unheld, answer, next_of};
 
-/// A row: the words of the 48 instructions are those of an assembler, and give the instructions back.
+/// A row: the words of the 59 instructions are those of an assembler, and give the instructions back.
 pub fn instructions_row()
-    ensures count { length instructions ≡ 48 }
+    ensures count { length instructions ≡ 59 }
     ensures words { map word_of instructions ≡ assembled }
     ensures back { map instruction_of assembled ≡ map Some instructions }
 {}
 
-/// A row: the high halves of products, and quotients and remainders by 0, by -1 and of negative numbers.
+/// A row: the high halves of products, and quotients and remainders by 0, by -1 and of negative numbers; and what atomic
+/// instructions make of a word, at the least and the greatest numbers, signed and unsigned.
 pub fn results_row()
     ensures values { results ≡ 0x00000000 ∷ 0xFFFFFFFE ∷ 0xFFFFFFFB ∷ 0x00000006 ∷ 0x3FFFFFFF ∷ 0xC0000000 ∷ 0xFFFFFFFD ∷ 0xFFFFFFFF ∷ 0xFFFFFFFD ∷ 0x00000001 ∷ 0x7FFFFFFC ∷ 0x00000001 ∷ 0xFFFFFFFF ∷ 0xFFFFFFFF ∷ 0x00000007 ∷ 0x00000007 ∷ 0x80000000 ∷ 0x00000000 ∷ [] }
+    ensures atomic { updates ≡ 0x00000009 ∷ 0x00000009 ∷ 0x00000001 ∷ 0x0F0F0F0F ∷ 0x30303030 ∷ 0xFCFCFCFC ∷ 0x80000000 ∷ 0x80000000 ∷ 0x7FFFFFFF ∷ 0x7FFFFFFF ∷ 0x7FFFFFFF ∷ 0x7FFFFFFF ∷ 0x80000000 ∷ 0x80000000 ∷ [] }
 {}
 
 /// A row: of two checks that a file fails the first one names the code, for each pair of neighbours. The flags RVC, RVE and

@@ -13,7 +13,8 @@ use Rattle.ro_journal.specs.declared.How.TheVariants.{Exit, Trap, Deadlock, Limi
 use Rattle.ro_journal.specs.declared.Entry.{Entry}
 use Rattle.ro_condition.specs.Waiters.{wait_of}
 use Rattle.ro_kernel.specs.Kernel.{Setup, Kernel, lives_on}
-use Rattle.ro_kernel.specs.Serve.{Served, Done, Parked, Blocked, Ends, serve, is_served, serves, is_parked, parks}
+use Rattle.ro_kernel.proofs.Words.{asked-same}
+use Rattle.ro_kernel.specs.Serve.{Served, Done, Parked, Blocked, Ends, serve, is_served, serves, is_parked, parks, put_out}
 use Rattle.ro_kernel.proofs.Waiting.{waiter-unparked, parked-waits}
 use Rattle.ro_exec.specs.declared.Cpu.{Cpu}
 use Rattle.ro_thread.specs.declared.Thread.{Thread}
@@ -187,7 +188,8 @@ module _ (job : Job) (odds : List ℕ) (journal : List Entry) (core : Core) (h :
     stuck-step =
         step-at job.program h.machine u stands.cpu stands.live
         ∙ (ap (step_by job.program h.machine u stands.cpu) stands.stands
-        ∙ ap (called h.machine stands.cpu (payload_in job.program h.machine call.0)) call_blocks)
+        ∙ ap (called h.machine stands.cpu (put_out call.0.which (payload_in job.program h.machine call.0)))
+        (ap (serve (setup_of job.program) h.machine.kernel u) (asked-same call.0 (payload_in job.program h.machine call.0) stands.plain) ∙ call_blocks))
 
   -- no thread of the machine has a step where the core is stuck
   pub deadlocked : is_stuck job core ≡ true → EndsAs job.program h.machine Deadlock

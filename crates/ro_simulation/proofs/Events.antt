@@ -12,20 +12,19 @@ use Rattle.ro_event.specs.Effects.{Effect}
 use Rattle.ro_pages.specs.Bytes.{Memory, stored}
 use Rattle.ro_kernel.specs.declared.Life.{Life}
 use Rattle.ro_kernel.specs.Kernel.{Kernel, live_option, lives_on}
-use Rattle.ro_kernel.specs.Serve.{Done, Parked, serve}
+use Rattle.ro_kernel.specs.Serve.{Done, Parked, serve, put_out, asked}
 use Rattle.ro_kernel.proofs.Kept.{IsOwn, slice_get-set_other}
-use Rattle.ro_kernel.proofs.Given.{given-parked}
 use Rattle.ro_exec.specs.declared.Cpu.{Cpu}
 use Rattle.ro_exec.specs.Next.{Backed, all_backed, Stands, next, Layout}
 use Rattle.ro_exec.specs.Threads.{made_cpu, cpu_after}
 use Rattle.ro_thread.specs.declared.Thread.{Thread}
 use Rattle.ro_thread.specs.Stops.{standing}
 use Rattle.ro_replica.specs.Replica.{Replica, applied, cancelled}
-use Rattle.ro_plain.specs.Machine.{setup_of, Machine, opening, with_made, affected, called, step_by, next_of, steppable, step, run, layout_in, payload_in}
+use Rattle.ro_plain.specs.Machine.{setup_of, Machine, opening, with_made, affected, called, step_by, next_of, steppable, step, run, layout_in, payload_in, served_in}
 use Rattle.ro_plain.specs.Order.{RaceFree}
 use Rattle.ro_plain.proofs.Backed.{backed-is-plain}
 use Rattle.ro_plain.proofs.Calls.{some-injective, slice_get-append, steppable-from, step-at}
-use Rattle.ro_plain.proofs.Stays.{steppable-along}
+use Rattle.ro_plain.proofs.Stays.{steppable-along, payload-stays}
 use Rattle.ro_legal.specs.Core.{Job}
 use Rattle.ro_legal.specs.Event.{quiet_effect}
 use Rattle.ro_simulation.specs.Invariant.{StopStands, Agrees}
@@ -86,9 +85,17 @@ module _ (job : Job) (free : RaceFree job.program) (before : List ℕ) (backed :
     pub agrees-quiet : Agrees job middle (cancelled (applied (quiet_effect t page releases) replica))
     agrees-quiet = agrees-applied job free backed machine middle replica same t thread there comes (quiet_effect t page releases) (quiet-is-of t page releases) middle comes.end comes.back comes.same_memory quiet-cpus quiet-stops
 
+  -- ---- a call finds the same behind what others ran ahead
+
+  -- so the same comes of it
+  served-at-end : (call : Call) → next_of job.program middle thread.cpu ≡ Stands (Calls call) → served_in job.program comes.end t call ≡ served_in job.program middle t call
+  served-at-end call stands =
+      ap₂ (λ (k : Kernel) (p : List ℕ). serve (setup_of job.program) k t (asked call p)) back_kept.same_kernel
+      (sym (payload-stays job.program free (before ++ replicate thread.since t) t thread.cpu call (comes.reached_middle before reached) (backed-is-plain comes.back) comes.apart comes.live stands))
+
   -- ---- the first step of a call
 
-  module _ (call : Call) (kernel : Kernel) (stands : next_of job.program middle thread.cpu ≡ Stands (Calls call)) (parks : serve (setup_of job.program) middle.kernel t call ≡ Parked kernel) (same_lives : kernel.lives ≡ middle.kernel.lives)
+  module _ (call : Call) (kernel : Kernel) (stands : next_of job.program middle thread.cpu ≡ Stands (Calls call)) (parks : served_in job.program middle t call ≡ Parked kernel) (same_given : kernel.given ≡ middle.kernel.given) (same_lives : kernel.lives ≡ middle.kernel.lives)
       (own_stop : (stop : Stop) → false ≡ false → thread.stop ≡ Some stop → standing (layout_in job.program machine.kernel) job.settings.watchdog replica.backed replica.memory thread.cpu 0 ≡ Some stop) where
     -- the machine after the step
     parked : Machine
@@ -104,7 +111,7 @@ module _ (job : Job) (free : RaceFree job.program) (before : List ℕ) (backed :
     taken_parked = take-after job.program free backed (before ++ replicate thread.since t) t _ (comes.reached_middle before reached) comes.back comes.apart
         (step-at job.program middle t thread.cpu comes.live
         ∙ (ap (step_by job.program middle t thread.cpu) stands
-        ∙ ap (called middle thread.cpu (payload_in job.program middle call)) parks)) parked_going
+        ∙ ap (called middle thread.cpu (put_out call.which (payload_in job.program middle call))) parks)) parked_going
 
     -- the thread stands at the same call at the end, which does its first step there
     end_is : taken_parked.last ≡ record comes.end { kernel = kernel }
@@ -112,8 +119,7 @@ module _ (job : Job) (free : RaceFree job.program) (before : List ℕ) (backed :
         ∙ (step-at job.program comes.end t thread.cpu (steppable-along job.program t (backed-is-plain comes.back) comes.apart ∙ comes.live)
         ∙ (ap (step_by job.program comes.end t thread.cpu)
         (sym ((stays-along job.program free backed (before ++ replicate thread.since t) t thread.cpu (comes.reached_middle before reached) comes.back comes.apart comes.live).next_stays all_backed) ∙ stands)
-        ∙ ap (called comes.end thread.cpu (payload_in job.program comes.end call))
-        (ap (λ (k : Kernel). serve (setup_of job.program) k t call) back_kept.same_kernel ∙ parks))))
+        ∙ ap (called comes.end thread.cpu (put_out call.which (payload_in job.program comes.end call))) (served-at-end call stands ∙ parks))))
 
     -- who lives after the step lived before it
     lived : (number : ℕ) → IsTrue (lives_on kernel number) → IsTrue (lives_on middle.kernel number)
@@ -127,21 +133,21 @@ module _ (job : Job) (free : RaceFree job.program) (before : List ℕ) (backed :
         (λ number other alive h. ap (λ (m : Machine). slice_get m.cpus number) end_is ∙ quiet-cpus None false own_stop number other (lived number alive) h)
         (λ number other stop alive h kept.
         ap (λ (m : Machine). standing (layout_in job.program kernel) job.settings.watchdog (backed_after (quiet_effect t None false) replica.backed) m.memory other.cpu other.since) end_is
-        ∙ (ap (λ (l : Layout). standing l job.settings.watchdog (backed_after (quiet_effect t None false) replica.backed) comes.end.memory other.cpu other.since) (layout-same job.program kernel middle.kernel (given-parked (setup_of job.program) middle.kernel t call kernel parks))
+        ∙ (ap (λ (l : Layout). standing l job.settings.watchdog (backed_after (quiet_effect t None false) replica.backed) comes.end.memory other.cpu other.since) (layout-same job.program kernel middle.kernel same_given)
         ∙ quiet-stops None false own_stop number other stop (lived number alive) h kept))
 
   -- ---- a served call
 
-  module _ (call : Call) (kernel : Kernel) (effect : Effect) (stands : next_of job.program middle thread.cpu ≡ Stands (Calls call)) (served : serve (setup_of job.program) middle.kernel t call ≡ Done kernel effect) (own : IsOwn middle.kernel t kernel effect) (tidy : IsTidy middle.kernel t kernel effect) (all_made : length replica.threads ≡ length machine.kernel.lives) (as_many : length machine.cpus ≡ length machine.kernel.lives) where
+  module _ (call : Call) (kernel : Kernel) (effect : Effect) (stands : next_of job.program middle thread.cpu ≡ Stands (Calls call)) (served : served_in job.program middle t call ≡ Done kernel effect) (own : IsOwn middle.kernel t kernel effect) (tidy : IsTidy middle.kernel t kernel effect) (all_made : length replica.threads ≡ length machine.kernel.lives) (as_many : length machine.cpus ≡ length machine.kernel.lives) where
     -- the effect is about the thread
     is_of : IsOf effect t
     is_of = record { thread_is = own.thread_is; creator_is = own.creator_is }
 
     -- the call's step in the middle machine
-    step-middle : step job.program middle t ≡ Some (affected middle thread.cpu kernel effect (payload_in job.program middle call))
+    step-middle : step job.program middle t ≡ Some (affected middle thread.cpu kernel effect (put_out call.which (payload_in job.program middle call)))
     step-middle = step-at job.program middle t thread.cpu comes.live
         ∙ (ap (step_by job.program middle t thread.cpu) stands
-        ∙ ap (called middle thread.cpu (payload_in job.program middle call)) served)
+        ∙ ap (called middle thread.cpu (put_out call.which (payload_in job.program middle call))) served)
 
     -- the program goes on in the middle
     going_middle : middle.ended ≡ None
@@ -152,7 +158,7 @@ module _ (job : Job) (free : RaceFree job.program) (before : List ℕ) (backed :
     reached_middle = comes.reached_middle before reached
 
     -- the call's step behind what others ran ahead
-    taken : TakenAfter job.program free backed (affected middle thread.cpu kernel effect (payload_in job.program middle call)) t (comes.among.front ++ comes.among.back) comes.end
+    taken : TakenAfter job.program free backed (affected middle thread.cpu kernel effect (put_out call.which (payload_in job.program middle call))) t (comes.among.front ++ comes.among.back) comes.end
     taken = take-after job.program free backed (before ++ replicate thread.since t) t _ reached_middle comes.back comes.apart step-middle going_middle
 
     -- the thread may step at the end
@@ -164,15 +170,15 @@ module _ (job : Job) (free : RaceFree job.program) (before : List ℕ) (backed :
     stands_end = sym ((stays-along job.program free backed (before ++ replicate thread.since t) t thread.cpu reached_middle comes.back comes.apart comes.live).next_stays all_backed) ∙ stands
 
     -- the call is served alike there
-    served_end : serve (setup_of job.program) comes.end.kernel t call ≡ Done kernel effect
-    served_end = ap (λ (k : Kernel). serve (setup_of job.program) k t call) back_kept.same_kernel ∙ served
+    served_end : served_in job.program comes.end t call ≡ Done kernel effect
+    served_end = served-at-end call stands ∙ served
 
     -- the machine after the call at the end
-    last_is : taken.last ≡ affected comes.end thread.cpu kernel effect (payload_in job.program comes.end call)
+    last_is : taken.last ≡ affected comes.end thread.cpu kernel effect (put_out call.which (payload_in job.program comes.end call))
     last_is = some-injective (sym taken.step_t
         ∙ (step-at job.program comes.end t thread.cpu live_end
         ∙ (ap (step_by job.program comes.end t thread.cpu) stands_end
-        ∙ ap (called comes.end thread.cpu (payload_in job.program comes.end call)) served_end)))
+        ∙ ap (called comes.end thread.cpu (put_out call.which (payload_in job.program comes.end call))) served_end)))
 
     -- another thread that lives after the call lived before it
     alive-before : (number : ℕ) (other : Thread) → number ≢ t → slice_get replica.threads number ≡ Some other → IsTrue (lives_on kernel number) → IsTrue (lives_on machine.kernel number)
@@ -245,7 +251,7 @@ module _ (job : Job) (free : RaceFree job.program) (before : List ℕ) (backed :
         absurd (let f : None ≡ Some stop = ap (λ (y : Thread). y.stop) g ∙ kept.was in cc)
 
     -- a replica that agreed agrees after a served call
-    pub agrees-served : Agrees job (affected middle thread.cpu kernel effect (payload_in job.program middle call)) (cancelled (applied effect replica))
+    pub agrees-served : Agrees job (affected middle thread.cpu kernel effect (put_out call.which (payload_in job.program middle call))) (cancelled (applied effect replica))
     agrees-served = agrees-applied job free backed machine middle replica same t thread there comes effect is_of _ taken.last taken.runs
         (ap (λ (m : Memory). stored m effect.place effect.bytes) comes.same_memory ∙ ap (λ (m : Machine). m.memory) (sym last_is))
         served-cpus served-stops

@@ -1,7 +1,7 @@
 -- The invariant after a free: the blocked call is served where the thread stands, in the machine and in every replica.
 use Rattle.std.specs.Prelude.{◌≡◌, ℕ, zero, suc, Bool, true, false, not, IsTrue, List, [], ◌∷◌, ◌++◌, replicate, length, Option, Some, None, slice_get}
 use Rattle.std.specs.Option.{option_map, option_map_or}
-use Rattle.std.proofs.Common.{refl, sym, ap, ◌∙◌, subst, arith}
+use Rattle.std.proofs.Common.{refl, sym, ap, ap₂, ◌∙◌, subst, arith}
 use Rattle.std.proofs.lemmas.Bool.{false≢true, and_parts}
 use Rattle.ro_event.specs.declared.calls.Call.{Call}
 use Rattle.ro_event.specs.declared.stops.Stop.TheVariants.{Calls}
@@ -9,7 +9,10 @@ use Rattle.ro_journal.specs.declared.Entry.{Entry}
 use Rattle.ro_journal.specs.declared.Entry.TheVariants.{Free}
 use Rattle.ro_journal.specs.Plan.{event_steps, plan_of}
 use Rattle.ro_kernel.specs.Kernel.{Kernel, lives_on}
-use Rattle.ro_kernel.specs.Serve.{Served, Done, Parked, Blocked, Ends, serve, is_served, serves}
+use Rattle.ro_event.specs.declared.calls.Which.{Which}
+use Rattle.ro_event.specs.declared.calls.Which.TheVariants.{System, Function, Atomic}
+use Rattle.ro_kernel.proofs.Words.{asked-same}
+use Rattle.ro_kernel.specs.Serve.{Served, Done, Parked, Blocked, Ends, serve, is_served, serves, put_out, asked}
 use Rattle.ro_exec.specs.Next.{Stands, Executes}
 use Rattle.ro_thread.specs.declared.Thread.{Thread}
 use Rattle.ro_thread.specs.Stops.{standing}
@@ -59,6 +62,12 @@ one-step kernel t call (Parked after) e = absurd (false≢true e)
 one-step kernel t call Blocked e = absurd (false≢true e)
 one-step kernel t call (Ends after how) e = refl
 
+-- of no payload nothing goes out
+nothing-out : (w : Which) → put_out w [] ≡ []
+nothing-out (System number) = refl
+nothing-out (Function function) = refl
+nothing-out (Atomic word) = refl
+
 module _ (job : Job) (free : RaceFree job.program) (odds : List ℕ) (journal : List Entry) (core : Core) (h : TracksIdeal job odds journal core) (t : ℕ) (parts : FreeParts job core t) where
   -- the program goes on at a free
   going : h.machine.ended ≡ None
@@ -74,7 +83,10 @@ module _ (job : Job) (free : RaceFree job.program) (odds : List ℕ) (journal : 
 
   -- the event of the call
   has-event : HasEvent job h.backed h.machine h.machine t (call_event h.machine.kernel t parts.call [] (serve (setup_of job.program) h.machine.kernel t parts.call))
-  has-event = step-of-call job free (plan_of journal) h.backed h.machine h.machine h.ideal_is going t 0 live nothing_left stands.cpu stands.live h.as_many parts.call stands.stands [] (sym (stands.writes_nothing _ h.machine.memory))
+  has-event = subst (λ (e : Event). HasEvent job h.backed h.machine h.machine t e) same-event (step-of-call job free (plan_of journal) h.backed h.machine h.machine h.ideal_is going t 0 live nothing_left stands.cpu stands.live h.as_many parts.call stands.stands [] (sym (stands.writes_nothing _ h.machine.memory)))
+    where
+      same-event : call_event h.machine.kernel t parts.call (put_out parts.call.which []) (serve (setup_of job.program) h.machine.kernel t (asked parts.call [])) ≡ call_event h.machine.kernel t parts.call [] (serve (setup_of job.program) h.machine.kernel t parts.call)
+      same-event = ap₂ (λ (p : List ℕ) (c : Call). call_event h.machine.kernel t parts.call p (serve (setup_of job.program) h.machine.kernel t c)) (nothing-out parts.call.which) (asked-same parts.call [] stands.plain)
 
   -- the core's event is that one
   freed-is : freed_event job core t ≡ Some (call_event h.machine.kernel t parts.call [] (serve (setup_of job.program) h.machine.kernel t parts.call))

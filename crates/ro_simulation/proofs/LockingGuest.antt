@@ -1,7 +1,7 @@
 -- The guest of two threads that lock round their writes has no races: only thread 0 stores, and no other thread reads there.
 use Rattle.std.specs.Prelude.{◌≡◌, ◌≢◌, ℕ, zero, suc, ◌+◌, ◌<◌, ◌≤◌, ◌⊎◌, Bool, true, false, cond, ◌&&◌, ◌||◌, ◌==◌, nat_le, nat_lt, List, [], ◌∷◌, ◌++◌, length, take, Option, Some, None, is_none, slice_get, slice_set, slice_index_or}
 use Rattle.std.specs.Option.{option_map_or, option_and_then}
-use Rattle.std.proofs.Common.{refl, sym, ap, ◌∙◌, subst, arith, inl, inr, ⊎_elim}
+use Rattle.std.proofs.Common.{refl, sym, ap, ◌∙◌, subst, arith, inl, inr, ⊎_elim, not}
 use Rattle.std.proofs.Math.Dec.{lit≤}
 use Rattle.std.proofs.lemmas.Bool.{true≢false, false≢true, leb-true, ltb-true, le-leb, lt-ltb, and_parts, and_from, eqb-true, cases_Bool}
 use Rattle.std.proofs.lemmas.Option.{option_and_then_some, slice_get_within, get_or_from_slice_get}
@@ -23,8 +23,9 @@ use Rattle.ro_alu.specs.Results.{alu_of}
 use Rattle.ro_image.specs.Image.{memory_of}
 use Rattle.ro_kernel.specs.declared.Life.{Life}
 use Rattle.ro_kernel.specs.declared.Life.TheVariants.{Live, Exited, Joined}
-use Rattle.ro_kernel.specs.Kernel.{Kernel, ranges_in}
-use Rattle.ro_kernel.specs.Serve.{Served, Done, Parked, Blocked, Ends, answer_effect, answers, serve_join_at, lock_at, unlock_at, serve, payload_of}
+use Rattle.ro_kernel.specs.Kernel.{Kernel, ranges_in, released}
+use Rattle.ro_kernel.proofs.Words.{asked-same}
+use Rattle.ro_kernel.specs.Serve.{Served, Done, Parked, Blocked, Ends, answer_effect, answers, serve_join_at, lock_at, unlock_at, serve, payload_of, payload_span, is_atomic, put_out, asked}
 use Rattle.ro_kernel.proofs.Given.{Gives, serve-gives}
 use Rattle.ro_journal.specs.declared.How.{How}
 use Rattle.ro_exec.specs.declared.Cpu.{Cpu}
@@ -32,8 +33,8 @@ use Rattle.ro_exec.specs.Meaning.{loads, stores, meaning}
 use Rattle.ro_exec.specs.Next.{all_backed, Next, Stands, Executes, fetch_stop, instruction_stop, next, change_of, Layout}
 use Rattle.ro_exec.specs.Threads.{first_cpu, made_cpu, cpu_after}
 use Rattle.ro_exec.proofs.Frame.{next-agree}
-use Rattle.ro_plain.specs.Machine.{setup_of, Machine, opening, executed, with_made, called, step_by, next_of, steppable, step, run, layout_in, payload_in}
-use Rattle.ro_plain.specs.Accesses.{Accesses, no_access, fetches, payload_span, stored_span, accesses_by, accesses, touches, conflict_at, given_span}
+use Rattle.ro_plain.specs.Machine.{setup_of, Machine, opening, executed, with_made, called, step_by, next_of, steppable, step, run, layout_in, payload_in, served_in}
+use Rattle.ro_plain.specs.Accesses.{Accesses, no_access, fetches, stored_span, accesses_by, accesses, touches, conflict_at, given_span}
 use Rattle.ro_plain.specs.Order.{machine_at, accesses_at, RaceFree}
 use Rattle.ro_plain.proofs.Calls.{some-injective, steppable-parts, step-opens}
 use Rattle.ro_plain.proofs.Swap.{at-both}
@@ -194,7 +195,8 @@ ungiven kernel = record kernel { given = [] }
 -- the call is fine, and a made thread's payload is none of the shared words
 pub record IsFine (b : Bool) (cpu : Cpu) (call : Call) : Type 0 where
   pub served : (kernel : Kernel) (t : ℕ) → Fine b cpu t (serve (setup_of locking_guest) (ungiven kernel) t call)
-  pub payload : b ≡ false → (a : ℕ) → touches (payload_span locking_guest.image.ranges call) a ≡ true → shared a ≡ false
+  pub payload : b ≡ false → (a : ℕ) → within (payload_span locking_guest.image.ranges call) a ≡ true → shared a ≡ false
+  pub plain : is_atomic call.which ≡ false
 
 -- what a thread does next
 pub data Does (b : Bool) (cpu : Cpu) : Next → Type 0 where
@@ -256,40 +258,40 @@ does k2 = goes _ (λ found. k3) (λ found. refl) refl refl
 does k3 = goes _ (λ found. k4) (λ found. refl) refl refl
 does k4 = goes _ (λ found. k5) (λ found. refl) refl refl
 does k5 = goes _ (λ found. c1) (λ found. refl) refl refl
-does (c1 {sp = sp}) = calls _ (record { served = λ kernel t. fine-cond true _ t _ _ _ (fine-answer true _ t (asks (Function Create) 0x100E0 0 0x10098 0x100EC) (λ value. k6) (ungiven kernel) 11) (fine_done refl refl k6 (λ a w. (refl, within-shared 0x100E0 4 a (lit≤ tt) (lit≤ tt) w)) (λ made n e. made-fine _ made (cpu_at 0x1006C 0x1006C sp 0 0 0x10000 0 0 0 0x10098 0x100EC 0) t n e refl (w0 false))); payload = λ (f : true ≡ false). absurd (true≢false f) })
+does (c1 {sp = sp}) = calls _ (record { served = λ kernel t. fine-cond true _ t _ _ _ (fine-answer true _ t (asks (Function Create) 0x100E0 0 0x10098 0x100EC) (λ value. k6) (released (ungiven kernel) t) 11) (fine_done refl refl k6 (λ a w. (refl, within-shared 0x100E0 4 a (lit≤ tt) (lit≤ tt) w)) (λ made n e. made-fine _ made (cpu_at 0x1006C 0x1006C sp 0 0 0x10000 0 0 0 0x10098 0x100EC 0) t n e refl (w0 false))); payload = λ (f : true ≡ false). absurd (true≢false f); plain = refl })
 does k6 = goes _ (λ found. k7) (λ found. refl) refl refl
 does k7 = goes _ (λ found. k8) (λ found. refl) refl refl
 does k8 = goes _ (λ found. c2) (λ found. refl) refl refl
-does (c2 {sp = sp}) = calls _ (record { served = λ kernel t. fine-cond true _ t _ _ _ (fine-answer true _ t (asks (Function Create) 0x100E4 0 0x10098 0x100ED) (λ value. k9) (ungiven kernel) 11) (fine_done refl refl k9 (λ a w. (refl, within-shared 0x100E4 4 a (lit≤ tt) (lit≤ tt) w)) (λ made n e. made-fine _ made (cpu_at 0x10078 0x10078 sp 0 0 0x10000 0 0 0 0x10098 0x100ED 0) t n e refl (w0 true))); payload = λ (f : true ≡ false). absurd (true≢false f) })
+does (c2 {sp = sp}) = calls _ (record { served = λ kernel t. fine-cond true _ t _ _ _ (fine-answer true _ t (asks (Function Create) 0x100E4 0 0x10098 0x100ED) (λ value. k9) (released (ungiven kernel) t) 11) (fine_done refl refl k9 (λ a w. (refl, within-shared 0x100E4 4 a (lit≤ tt) (lit≤ tt) w)) (λ made n e. made-fine _ made (cpu_at 0x10078 0x10078 sp 0 0 0x10000 0 0 0 0x10098 0x100ED 0) t n e refl (w0 true))); payload = λ (f : true ≡ false). absurd (true≢false f); plain = refl })
 does k9 = goes _ (λ found. k10) (λ found. refl) refl refl
 does k10 = goes _ (λ found. k11) (λ found. refl) refl refl
 does k11 = goes _ (λ found. c3) (λ found. refl) refl refl
-does c3 = calls _ (record { served = λ kernel t. join-fine _ 1 0x10098 0x100ED (λ value u. k12) (ungiven kernel) t _; payload = λ (f : true ≡ false). absurd (true≢false f) })
+does c3 = calls _ (record { served = λ kernel t. join-fine _ 1 0x10098 0x100ED (λ value u. k12) (released (ungiven kernel) t) t _; payload = λ (f : true ≡ false). absurd (true≢false f); plain = refl })
 does k12 = goes _ (λ found. k13) (λ found. refl) refl refl
 does k13 = goes _ (λ found. c4) (λ found. refl) refl refl
-does c4 = calls _ (record { served = λ kernel t. join-fine _ 2 0x10098 0x100ED (λ value u. k14) (ungiven kernel) t _; payload = λ (f : true ≡ false). absurd (true≢false f) })
+does c4 = calls _ (record { served = λ kernel t. join-fine _ 2 0x10098 0x100ED (λ value u. k14) (released (ungiven kernel) t) t _; payload = λ (f : true ≡ false). absurd (true≢false f); plain = refl })
 does k14 = goes _ (λ found. k15) (λ found. refl) refl refl
 does k15 = goes _ (λ found. k16) (λ found. refl) refl refl
-does k16 = calls _ (record { served = λ kernel t. fine_ends; payload = λ (f : true ≡ false). absurd (true≢false f) })
+does k16 = calls _ (record { served = λ kernel t. fine_ends; payload = λ (f : true ≡ false). absurd (true≢false f); plain = refl })
 does (w0 true) = goes _ (λ found. w1 true) (λ found. refl) refl refl
 does (w0 false) = goes _ (λ found. w1 false) (λ found. refl) refl refl
 does (w1 last) = goes _ (λ found. w2 last) (λ found. refl) refl refl
 does (w2 last) = goes _ (λ found. w3 last) (λ found. refl) refl refl
 does (w3 last) = goes _ (λ found. l1 last) (λ found. refl) refl refl
-does (l1 last) = calls _ (record { served = λ kernel t. lock-fine _ (asks (Function Lock) 0x100E8 0 0 0) (λ value u. w4 last) (ungiven kernel) t _; payload = λ f a w. absurd (false≢true w) })
+does (l1 last) = calls _ (record { served = λ kernel t. lock-fine _ (asks (Function Lock) 0x100E8 0 0 0) (λ value u. w4 last) (released (ungiven kernel) t) t _; payload = λ f a w. absurd (none-within 0 a w); plain = refl })
 does (w4 last) = goes _ (λ found. w5 last) (λ found. refl) refl refl
 does (w5 true) = goes _ (λ found. w6 true) (λ found. refl) refl refl
 does (w5 false) = goes _ (λ found. w6 false) (λ found. refl) refl refl
 does (w6 last) = goes _ (λ found. w7 last) (λ found. refl) refl refl
 does (w7 last) = goes _ (λ found. w8 last) (λ found. refl) refl refl
-does (w8 true) = calls _ (record { served = λ kernel t. fine-answer false _ t (asks (System 64) 1 0x100ED 1 0) (λ value. w9 true) (ungiven kernel) 1; payload = λ f a w. above-shared 0x100ED 1 a (lit≤ tt) (touch-one _ w) })
-does (w8 false) = calls _ (record { served = λ kernel t. fine-answer false _ t (asks (System 64) 1 0x100EC 1 0) (λ value. w9 false) (ungiven kernel) 1; payload = λ f a w. above-shared 0x100EC 1 a (lit≤ tt) (touch-one _ w) })
+does (w8 true) = calls _ (record { served = λ kernel t. fine-answer false _ t (asks (System 64) 1 0x100ED 1 0) (λ value. w9 true) (released (ungiven kernel) t) 1; payload = λ f a w. above-shared 0x100ED 1 a (lit≤ tt) w; plain = refl })
+does (w8 false) = calls _ (record { served = λ kernel t. fine-answer false _ t (asks (System 64) 1 0x100EC 1 0) (λ value. w9 false) (released (ungiven kernel) t) 1; payload = λ f a w. above-shared 0x100EC 1 a (lit≤ tt) w; plain = refl })
 does (w9 last) = goes _ (λ found. w10 last) (λ found. refl) refl refl
 does (w10 last) = goes _ (λ found. u1 last) (λ found. refl) refl refl
-does (u1 last) = calls _ (record { served = λ kernel t. unlock-fine _ (asks (Function Unlock) 0x100E8 (letter last) 1 0) (λ value u. w11 last) (ungiven kernel) t _; payload = λ f a w. absurd (false≢true w) })
+does (u1 last) = calls _ (record { served = λ kernel t. unlock-fine _ (asks (Function Unlock) 0x100E8 (letter last) 1 0) (λ value u. w11 last) (released (ungiven kernel) t) t _; payload = λ f a w. absurd (none-within 0 a w); plain = refl })
 does (w11 last) = goes _ (λ found. w12 last) (λ found. refl) refl refl
 does (w12 last) = goes _ (λ found. e1 last) (λ found. refl) refl refl
-does (e1 last) = calls _ (record { served = λ kernel t. fine-cond false _ t _ _ _ (fine_done refl refl (e1 last) (λ a w. absurd (none-within 0 a w)) (λ made n (e : None ≡ Some made). absurd cc)) fine_ends; payload = λ f a w. absurd (false≢true w) })
+does (e1 last) = calls _ (record { served = λ kernel t. fine-cond false _ t _ _ _ (fine_done refl refl (e1 last) (λ a w. absurd (none-within 0 a w)) (λ made n (e : None ≡ Some made). absurd cc)) fine_ends; payload = λ f a w. absurd (none-within 0 a w); plain = refl })
 
 -- ---- the machine
 
@@ -346,9 +348,10 @@ stored-code memory place bytes code h a out = stored-outside memory place bytes 
     by true e = absurd (true≢false (sym (h a e) ∙ out))
 
 -- what comes of the call in a machine to which nothing was given
-served-fine : (machine : Machine) → machine.kernel.given ≡ [] → (t : ℕ) (b : Bool) (cpu : Cpu) (call : Call) → IsFine b cpu call → Fine b cpu t (serve (setup_of locking_guest) machine.kernel t call)
+served-fine : (machine : Machine) → machine.kernel.given ≡ [] → (t : ℕ) (b : Bool) (cpu : Cpu) (call : Call) → IsFine b cpu call → Fine b cpu t (served_in locking_guest machine t call)
 served-fine machine none t b cpu call fine =
-    subst (λ (given : List Range). Fine b cpu t (serve (setup_of locking_guest) (record machine.kernel { given = given }) t call)) (sym none) (fine.served machine.kernel t)
+    subst (λ (c : Call). Fine b cpu t (serve (setup_of locking_guest) machine.kernel t c)) (sym (asked-same call (payload_in locking_guest machine call) fine.plain))
+    (subst (λ (given : List Range). Fine b cpu t (serve (setup_of locking_guest) (record machine.kernel { given = given }) t call)) (sym none) (fine.served machine.kernel t))
 
 module _ (machine : Machine) (q : Quiet machine) (t : ℕ) (cpu : Cpu) (there : slice_get machine.cpus t ≡ Some cpu) where
   -- a call
@@ -377,7 +380,7 @@ module _ (machine : Machine) (q : Quiet machine) (t : ℕ) (cpu : Cpu) (there : 
   quiet-by : (n : Next) → Does (t == 0) cpu n → (after : Machine) → step_by locking_guest machine t cpu n ≡ Some after → Quiet after
   quiet-by (Executes instr) (goes other here none l st) after e = subst Quiet (some-injective e) (quiet-executed instr here none)
   quiet-by (Stands (Calls call)) (calls other fine) after e =
-      quiet-called (payload_in locking_guest machine call) (serve (setup_of locking_guest) machine.kernel t call) (served-fine machine q.nothing_given t (t == 0) cpu call fine) (serve-gives (setup_of locking_guest) machine.kernel t call) after e
+      quiet-called (put_out call.which (payload_in locking_guest machine call)) (served_in locking_guest machine t call) (served-fine machine q.nothing_given t (t == 0) cpu call fine) (serve-gives (setup_of locking_guest) machine.kernel t (asked call (payload_in locking_guest machine call))) after e
   quiet-by (Stands (Trap code)) h after e = elim h [ ]
   quiet-by (Stands (PageFault page)) h after e = elim h [ ]
   quiet-by (Stands Watchdog) h after e = elim h [ ]
@@ -426,15 +429,6 @@ apart-none t = record { writes = λ x w. absurd (false≢true w); reads = λ f x
 touches-cases : (span : Span) (spans : List Span) (x : ℕ) → touches (span ∷ spans) x ≡ true → (within span x ≡ true) ⊎ (touches spans x ≡ true)
 touches-cases span spans x e = or-cases (within span x) (touches spans x) e
 
--- two lists of stretches
-touches-append : (xs ys : List Span) (x : ℕ) → touches (xs ++ ys) x ≡ true → (touches xs x ≡ true) ⊎ (touches ys x ≡ true)
-touches-append [] ys x e = inr e
-touches-append (span ∷ xs) ys x e = append-cases span xs ys x (touches-append xs ys x) (or-cases (within span x) (touches (xs ++ ys) x) e)
-  where
-    append-cases : (span : Span) (xs ys : List Span) (x : ℕ) → (touches (xs ++ ys) x ≡ true → (touches xs x ≡ true) ⊎ (touches ys x ≡ true)) → (within span x ≡ true) ⊎ (touches (xs ++ ys) x ≡ true) → (touches (span ∷ xs) x ≡ true) ⊎ (touches ys x ≡ true)
-    append-cases span xs ys x rec (inl f) = inl (or-left (within span x) (touches xs x) f)
-    append-cases span xs ys x rec (inr f) = ⊎_elim (λ g. inl (or-right (within span x) (touches xs x) g)) (λ g. inr g) (rec f)
-
 -- instructions lie below the shared words
 fetch-apart : (layout : Layout) {b : Bool} (cpu : Cpu) → At b cpu → (x : ℕ) → touches (fetches layout cpu) x ≡ true → shared x ≡ false
 fetch-apart layout cpu h x w = by (is_none (fetch_stop layout all_backed cpu)) w
@@ -462,12 +456,12 @@ apart-by machine nothing t cpu h (Executes instr) (goes other here none l st) = 
   reads = λ f x w. ⊎_elim (λ g. absurd (no-touch (loads instr cpu) x l g)) (fetch-apart (layout_in locking_guest machine.kernel) cpu h x) (touches-cases (loads instr cpu) (fetches (layout_in locking_guest machine.kernel) cpu) x w);
 }
 apart-by machine nothing t cpu h (Stands (Calls call)) (calls other fine) = record {
-  writes = stored-apart t cpu (serve (setup_of locking_guest) machine.kernel t call) (served-fine machine nothing t (t == 0) cpu call fine);
+  writes = stored-apart t cpu (served_in locking_guest machine t call) (served-fine machine nothing t (t == 0) cpu call fine);
   reads = λ f x w.
       ⊎_elim
-      (λ g. fine.payload f x (sym (ap (λ (given : List Range). touches (payload_span (given ++ locking_guest.image.ranges) call) x) nothing) ∙ g))
+      (λ g. fine.payload f x (sym (ap (λ (given : List Range). within (payload_span (given ++ locking_guest.image.ranges) call) x) nothing) ∙ g))
       (fetch-apart (layout_in locking_guest machine.kernel) cpu h x)
-      (touches-append (payload_span (ranges_in (setup_of locking_guest) machine.kernel) call) (fetches (layout_in locking_guest machine.kernel) cpu) x w);
+      (touches-cases (payload_span (ranges_in (setup_of locking_guest) machine.kernel) call) (fetches (layout_in locking_guest machine.kernel) cpu) x w);
 }
 apart-by machine nothing t cpu h (Stands (Trap code)) d = elim d [ ]
 apart-by machine nothing t cpu h (Stands (PageFault page)) d = elim d [ ]
@@ -496,7 +490,7 @@ take-runs (t ∷ threads) (suc place) machine end e =
 
 -- of two steps of different threads one is not thread 0's
 no-conflict : (t u : ℕ) → t ≢ u → (a b : Accesses) → Apart t a → Apart u b → (x : ℕ) → conflict_at a b x ≡ true → ⊥
-no-conflict t u different a b p q x e = ⊎_elim first second (or-cases _ _ e)
+no-conflict t u different a b p q x e = ⊎_elim first second (or-cases _ _ (and_parts (not (touches a.atomic x && touches b.atomic x)) _ e).1)
   where
     other-not : (m n : ℕ) → m ≢ n → (m == 0) ≡ true → (n == 0) ≡ false
     other-not m n d f = ⊎_elim (λ (g : (n == 0) ≡ true). absurd (d (eqb-true m 0 f ∙ sym (eqb-true n 0 g)))) (λ (g : (n == 0) ≡ false). g) (cases_Bool (n == 0))

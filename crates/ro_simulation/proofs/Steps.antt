@@ -19,17 +19,18 @@ use Rattle.ro_journal.specs.Plan.{event_steps}
 use Rattle.ro_condition.proofs.Whose.{is_waiting}
 use Rattle.ro_kernel.specs.declared.Life.{Life}
 use Rattle.ro_kernel.specs.Kernel.{Setup, Kernel, live_option, lives_on, ranges_in}
-use Rattle.ro_kernel.specs.Serve.{Served, Done, Parked, Blocked, Ends, serve, is_write}
+use Rattle.ro_kernel.specs.Serve.{Served, Done, Parked, Blocked, Ends, serve, is_write, is_atomic, put_out, asked}
 use Rattle.ro_kernel.proofs.Kept.{Own, done, parked, blocked, ends, serve-own, IsServed, system-served}
 use Rattle.ro_kernel.proofs.Waiting.{served-others, begun-others, begun-now, blocked-waits, parked-waits}
 use Rattle.ro_kernel.proofs.Given.{given-parked}
+use Rattle.ro_kernel.proofs.Words.{blocked-plain}
 use Rattle.ro_exec.specs.declared.Cpu.{Cpu}
 use Rattle.ro_exec.specs.Next.{Backed, all_backed, Stands, Layout, next}
 use Rattle.ro_exec.proofs.Backing.{IsNoFault, a_call, a_trap}
 use Rattle.ro_thread.specs.declared.Thread.{Thread}
 use Rattle.ro_thread.specs.Stops.{standing}
 use Rattle.ro_replica.specs.Replica.{Replica, applied, cancelled}
-use Rattle.ro_plain.specs.Machine.{setup_of, Machine, opening, with_made, affected, called, step_by, next_of, steppable, step, run, BackedRun, layout_in, payload_in}
+use Rattle.ro_plain.specs.Machine.{setup_of, served_in, Machine, opening, with_made, affected, called, step_by, next_of, steppable, step, run, BackedRun, layout_in, payload_in}
 use Rattle.ro_plain.specs.Order.{RaceFree}
 use Rattle.ro_plain.proofs.Stays.{no-payload}
 use Rattle.ro_plain.proofs.Calls.{some-injective, step-at, steppable-parts, steppable-from}
@@ -111,14 +112,14 @@ module _ (job : Job) (free : RaceFree job.program) (before : List ℕ) (backed :
   stands-middle : (u : ℕ) (call : Call) → u ≢ t → StandsAtCall job.program machine u call → StandsAtCall job.program middle u call
   stands-middle u call d h =
       let along : Stays job.program machine middle u h.cpu = stays-along job.program free backed before u h.cpu reached own (Without-replicate u count t (λ e. d (sym e))) h.live in
-      record { cpu = h.cpu; live = along.live; stands = sym (along.next_stays all_backed) ∙ h.stands; writes_nothing = h.writes_nothing; begun = λ w. ap (λ (k : Kernel). is_waiting k.waiters u) kept.same_kernel ∙ h.begun w }
+      record { cpu = h.cpu; live = along.live; stands = sym (along.next_stays all_backed) ∙ h.stands; writes_nothing = h.writes_nothing; plain = h.plain; begun = λ w. ap (λ (k : Kernel). is_waiting k.waiters u) kept.same_kernel ∙ h.begun w }
 
   -- and after its event
   stands-after : (after : Machine) → step job.program middle t ≡ Some after → after.ended ≡ None → ((u : ℕ) → u ≢ t → is_waiting after.kernel.waiters u ≡ is_waiting middle.kernel.waiters u) → (u : ℕ) (call : Call) → u ≢ t → StandsAtCall job.program machine u call → StandsAtCall job.program after u call
   stands-after after e on waiting u call d h =
       let m = stands-middle u call d h in
       let along : Stays job.program middle after u m.cpu = stays job.program free (before ++ replicate count t) middle reached_middle t u (λ f. d (sym f)) after e on m.cpu m.live in
-      record { cpu = m.cpu; live = along.live; stands = sym (along.next_stays all_backed) ∙ m.stands; writes_nothing = m.writes_nothing; begun = λ w. waiting u d ∙ m.begun w }
+      record { cpu = m.cpu; live = along.live; stands = sym (along.next_stays all_backed) ∙ m.stands; writes_nothing = m.writes_nothing; plain = m.plain; begun = λ w. waiting u d ∙ m.begun w }
 
   -- an event without a step
   quiet-step : (did : Did) (page : Option ℕ) (releases : Bool) (event : Event) → event_steps did ≡ 0 → event ≡ record { did = did; kernel = middle.kernel; effect = quiet_effect t page releases; payload = []; blocked = event.blocked; due = None } → ((call : Call) → event.blocked ≡ Some call → StandsAtCall job.program middle t call) → EventStep job backed machine middle t event middle
@@ -143,30 +144,34 @@ module _ (job : Job) (free : RaceFree job.program) (before : List ℕ) (backed :
   -- ---- a call
 
   module _ (call : Call) (stands : next_of job.program middle cpu ≡ Stands (Calls call)) (payload : List ℕ) (payload_is : payload ≡ payload_in job.program middle call) where
+    -- what comes of it in the machine
+    served-so : (served : Served) → serve (setup_of job.program) middle.kernel t (asked call payload) ≡ served → served_in job.program middle t call ≡ served
+    served-so served e = ap (λ (p : List ℕ). serve (setup_of job.program) middle.kernel t (asked call p)) (sym payload_is) ∙ e
+
     -- a call's step
-    step-called : (served : Served) (after : Machine) → serve (setup_of job.program) middle.kernel t call ≡ served → called middle cpu (payload_in job.program middle call) served ≡ Some after → step job.program middle t ≡ Some after
+    step-called : (served : Served) (after : Machine) → serve (setup_of job.program) middle.kernel t (asked call payload) ≡ served → called middle cpu (put_out call.which (payload_in job.program middle call)) served ≡ Some after → step job.program middle t ≡ Some after
     step-called served after e f = step-at job.program middle t cpu live_middle
         ∙ (ap (step_by job.program middle t cpu) stands
-        ∙ (ap (called middle cpu (payload_in job.program middle call)) e ∙ f))
+        ∙ (ap (called middle cpu (put_out call.which (payload_in job.program middle call))) (served-so served e) ∙ f))
 
     -- the event of a call, by what comes of it
-    call-step : (served : Served) → serve (setup_of job.program) middle.kernel t call ≡ served → Own middle.kernel t served → Tidy middle.kernel t served → HasEvent job backed machine middle t (call_event middle.kernel t call payload served)
+    call-step : (served : Served) → serve (setup_of job.program) middle.kernel t (asked call payload) ≡ served → Own middle.kernel t served → Tidy middle.kernel t served → HasEvent job backed machine middle t (call_event middle.kernel t call (put_out call.which payload) served)
     call-step (Done kernel effect) e (done own_effect) (tidy_done tidy) = (
-      affected middle cpu kernel effect (payload_in job.program middle call),
+      affected middle cpu kernel effect (put_out call.which (payload_in job.program middle call)),
       record {
         run_event = ap (option_and_then (λ m. run job.program m [])) (step-called (Done kernel effect) _ e refl);
         same_kernel = refl;
-        same_output = ap (λ (p : List ℕ). middle.output ++ p) payload_is;
+        same_output = ap (λ (p : List ℕ). middle.output ++ put_out call.which p) payload_is;
         same_end = sym going_middle;
         ends_well = over-middle;
         as_many = length-made effect.made cpu _ ∙ (ap (λ (n : ℕ). n + made_count effect.made) (length-set middle.cpus effect.thread _ ∙ as_many_middle) ∙ sym tidy.one_life_each);
         one_life_each = tidy.one_life_each ∙ ap (λ (n : ℕ). n + made_count effect.made) lives_middle;
         own_blocked = λ other (f : None ≡ Some other). absurd cc;
-        others_stand = λ u other d h on. stands-after _ (step-called (Done kernel effect) _ e refl) going_middle (served-others (setup_of job.program) middle.kernel t call kernel effect e) u other d h;
+        others_stand = λ u other d h on. stands-after _ (step-called (Done kernel effect) _ e refl) going_middle (served-others (setup_of job.program) middle.kernel t (asked call payload) kernel effect e) u other d h;
         agrees = λ on replica thread same there all_made comes stops own_stop.
             let same_cpu : thread.cpu ≡ cpu = some-injective (sym comes.live ∙ live_middle) in
-            subst (λ (c : Cpu). Agrees job (affected middle c kernel effect (payload_in job.program middle call)) (cancelled (applied effect replica))) same_cpu
-            (agrees-served job free before backed machine middle reached going replica same t live thread there comes stops call kernel effect (ap (next_of job.program middle) same_cpu ∙ stands) e own_effect tidy all_made as_many);
+            subst (λ (c : Cpu). Agrees job (affected middle c kernel effect (put_out call.which (payload_in job.program middle call))) (cancelled (applied effect replica))) same_cpu
+            (agrees-served job free before backed machine middle reached going replica same t live thread there comes stops call kernel effect (ap (next_of job.program middle) same_cpu ∙ stands) (served-so (Done kernel effect) e) own_effect tidy all_made as_many);
       },
     )
     call-step (Parked kernel) e (parked same) tidy_parked = (
@@ -186,14 +191,15 @@ module _ (job : Job) (free : RaceFree job.program) (before : List ℕ) (backed :
             live = ap (λ (l : List Life). live_option (slice_get l t)) same ∙ parts.live;
             there = parts.there;
           });
-          stands = ap (λ (l : Layout). next l all_backed middle.memory cpu) (layout-same job.program kernel middle.kernel (given-parked (setup_of job.program) middle.kernel t call kernel e)) ∙ stands;
-          writes_nothing = λ ranges m. no-payload ranges m call (ap is_write (parked-waits (setup_of job.program) middle.kernel t call kernel e));
-          begun = λ w. begun-now (setup_of job.program) middle.kernel t call kernel e;
+          stands = ap (λ (l : Layout). next l all_backed middle.memory cpu) (layout-same job.program kernel middle.kernel (given-parked (setup_of job.program) middle.kernel t (asked call payload) kernel e)) ∙ stands;
+          writes_nothing = λ ranges m. no-payload ranges m call (ap is_write (parked-waits (setup_of job.program) middle.kernel t (asked call payload) kernel e)) (ap is_atomic (parked-waits (setup_of job.program) middle.kernel t (asked call payload) kernel e));
+          plain = ap is_atomic (parked-waits (setup_of job.program) middle.kernel t (asked call payload) kernel e);
+          begun = λ w. begun-now (setup_of job.program) middle.kernel t (asked call payload) kernel e;
         });
-        others_stand = λ u other d h on. stands-after _ (step-called (Parked kernel) _ e refl) going_middle (begun-others (setup_of job.program) middle.kernel t call kernel e) u other d h;
+        others_stand = λ u other d h on. stands-after _ (step-called (Parked kernel) _ e refl) going_middle (begun-others (setup_of job.program) middle.kernel t (asked call payload) kernel e) u other d h;
         agrees = λ on replica thread same_pages there all_made comes stops own_stop.
             let same_cpu : thread.cpu ≡ cpu = some-injective (sym comes.live ∙ live_middle) in
-            agrees-parked job free before backed machine middle reached going replica same_pages t live thread there comes stops call kernel (ap (next_of job.program middle) same_cpu ∙ stands) e same own_stop;
+            agrees-parked job free before backed machine middle reached going replica same_pages t live thread there comes stops call kernel (ap (next_of job.program middle) same_cpu ∙ stands) (served-so (Parked kernel) e) (given-parked (setup_of job.program) middle.kernel t (asked call payload) kernel e) same own_stop;
       },
     )
       where
@@ -203,7 +209,7 @@ module _ (job : Job) (free : RaceFree job.program) (before : List ℕ) (backed :
       middle,
       quiet-step WasBlocked None false _ refl refl (λ other (f : Some call ≡ Some other).
           subst (λ (c : Call). StandsAtCall job.program middle t c) (some-injective f)
-          (record { cpu = cpu; live = live_middle; stands = stands; writes_nothing = λ ranges m. no-payload ranges m call (blocked-no-write (setup_of job.program) middle.kernel t call e); begun = λ w. blocked-waits (setup_of job.program) middle.kernel t call e w })),
+          (record { cpu = cpu; live = live_middle; stands = stands; writes_nothing = λ ranges m. no-payload ranges m call (blocked-no-write (setup_of job.program) middle.kernel t (asked call payload) e) (blocked-plain (setup_of job.program) middle.kernel t (asked call payload) e); plain = blocked-plain (setup_of job.program) middle.kernel t (asked call payload) e; begun = λ w. blocked-waits (setup_of job.program) middle.kernel t (asked call payload) e w })),
     )
     call-step (Ends kernel how) e ends (tidy_end same over) = (
       record middle { kernel = kernel; ended = Some how },
@@ -225,8 +231,8 @@ module _ (job : Job) (free : RaceFree job.program) (before : List ℕ) (backed :
         zero-more n = omega arith
 
     -- the event of a call
-    pub step-of-call : HasEvent job backed machine middle t (call_event middle.kernel t call payload (serve (setup_of job.program) middle.kernel t call))
-    step-of-call = call-step _ refl (serve-own (setup_of job.program) middle.kernel t call) (serve-tidy (setup_of job.program) middle.kernel t call)
+    pub step-of-call : HasEvent job backed machine middle t (call_event middle.kernel t call (put_out call.which payload) (serve (setup_of job.program) middle.kernel t (asked call payload)))
+    step-of-call = call-step _ refl (serve-own (setup_of job.program) middle.kernel t (asked call payload)) (serve-tidy (setup_of job.program) middle.kernel t (asked call payload))
 
   -- the event of a trap
   trap-step : (code : TrapCause) → next_of job.program middle cpu ≡ Stands (Trap code) → HasEvent job backed machine middle t (record { did = Trapped; kernel = middle.kernel; effect = quiet_effect t None false; payload = []; blocked = None; due = Some (TrapHow code) })

@@ -12,7 +12,7 @@ use Rattle.ro_journal.specs.Plan.{plan_of}
 use Rattle.ro_pages.specs.Bytes.{Memory}
 use Rattle.ro_condition.specs.Waiters.{wait_of}
 use Rattle.ro_kernel.specs.Kernel.{lives_on}
-use Rattle.ro_kernel.specs.Serve.{payload_of}
+use Rattle.ro_kernel.specs.Serve.{payload_of, is_atomic}
 use Rattle.ro_exec.specs.declared.Cpu.{Cpu}
 use Rattle.ro_exec.specs.Next.{Backed, Stands}
 use Rattle.ro_thread.specs.declared.Thread.{Thread}
@@ -41,12 +41,13 @@ pub record Agrees (job : Job) (machine : Machine) (replica : Replica) : Type 0 w
   pub runs_ahead : RunsAhead job machine replica
   pub stops : (number : ℕ) → StopStands job machine replica number
 
--- A blocked thread stands at its voted call, which writes nothing; a wait has had its first step.
+-- A blocked thread stands at its voted call, which writes nothing and is no atomic instruction; a wait has had its first step.
 pub record StandsAtCall (program : Program) (machine : Machine) (number : ℕ) (call : Call) : Type 0 where
   pub cpu : Cpu
   pub live : steppable machine number ≡ Some cpu
   pub stands : next_of program machine cpu ≡ Stands (Calls call)
   pub writes_nothing : (ranges : List Range) (memory : Memory) → payload_of ranges memory call ≡ []
+  pub plain : is_atomic call.which ≡ false
   pub begun : call.which ≡ Function Wait → is_some (wait_of machine.kernel.waiters number) ≡ true
 
 -- The core stands to the ideal machine as it must; every replica but these, at most half, agrees with it.

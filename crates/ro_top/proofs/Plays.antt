@@ -8,9 +8,9 @@ use Rattle.ro_journal.specs.declared.How.{How}
 use Rattle.ro_journal.specs.declared.How.TheVariants.{Exit as ByExit, Deadlock as ByDeadlock, Trap as ByTrap, Limit as ByLimit, Differ as ByDiffer, NoMajority as ByNoMajority, Sink as BySink}
 use Rattle.ro_journal.specs.declared.Entry.{Entry}
 use Rattle.ro_journal.specs.Plan.{plan_of}
-use Rattle.ro_kernel.specs.Serve.{Served, Done, Parked, Blocked, Ends, serve}
+use Rattle.ro_kernel.specs.Serve.{Served, Done, Parked, Blocked, Ends, put_out, asked}
 use Rattle.ro_kernel.specs.Kernel.{Kernel}
-use Rattle.ro_plain.specs.Machine.{Program, Machine, affected, executed, opening, called, setup_of, step_by, next_of, steppable, step, run, payload_in}
+use Rattle.ro_plain.specs.Machine.{Program, Machine, affected, executed, opening, called, setup_of, step_by, next_of, steppable, step, run, payload_in, served_in}
 use Rattle.ro_legal.specs.Sound.{IsOver, traps}
 use Rattle.ro_legal.proofs.Served.{Tidy, tidy_end, serve-tidy}
 use Rattle.ro_simulation.specs.Theorem.{IsComplete, by_exit, by_trap, by_deadlock}
@@ -50,7 +50,8 @@ module _ (program : Program) (machine after : Machine) (thread : ℕ) (well : En
       let ended : machine.ended ≡ after.ended = ended_by (executed machine thread cpu instr) after e in
       well other (ended ∙ is)
   by_next cpu (Stands (Calls call)) e =
-      by_called cpu (payload_in program machine call) (serve (setup_of program) machine.kernel thread call) (serve-tidy (setup_of program) machine.kernel thread call) e
+      by_called cpu (put_out call.which (payload_in program machine call)) (served_in program machine thread call)
+      (serve-tidy (setup_of program) machine.kernel thread (asked call (payload_in program machine call))) e
   by_next cpu (Stands (AtTrap code)) e = λ other is.
       let ended : Some (ByTrap code) ≡ after.ended = ended_by (record machine { ended = Some (ByTrap code) }) after e in
       subst IsOver (let f : Some (ByTrap code) ≡ Some other = ended ∙ is in cc) (traps {cause = code})

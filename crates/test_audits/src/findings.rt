@@ -365,7 +365,7 @@ fn differing_views(rt: HostRuntime) -> Result<(), Fail> {
         "instructions since the last vote: 2 3",
         "a0 (x10): 00000007 000000ff",
         "at: a call; a turn of the watchdog;",
-        "what is written differs, of so many bytes: 5 0",
+        "what is written or found differs, of so many bytes: 5 0",
     ];
     let json =
         r#"{"copies":[],"end":{"fields":[{"abi_name":null,"part":"pc","values":[{"function":{"name":"main","offset":0},"pc":65620},{"function":null,"pc":65624}]},{"abi_name":null,"part":"since","values":[2,3]},{"abi_name":"a0","part":"x10","values":[7,255]},{"abi_name":null,"part":"stop","values":["call","watchdog"]},{"abi_name":null,"part":"payload","values":[5,0]}],"how":"differ"},"entries":8,"steps":3,"verdict":"legal"}"#;
@@ -538,7 +538,7 @@ fn copies(rt: HostRuntime) -> Result<(), Fail> {
         "legal",
         "The journal has 15 entries, and its plan 9 steps.",
         "The program exited with status 0.",
-        "At entry 6 replica 1 was overwritten at a vote on thread 0: t0 (x5), a0 (x10), what it stands at and what is written differed. Undone: 1 0 5 reg 10 1, struck 0 instructions before; 1 0 1 reg 5 0, struck 4 instructions before.",
+        "At entry 6 replica 1 was overwritten at a vote on thread 0: t0 (x5), a0 (x10), what it stands at and what is written or found differed. Undone: 1 0 5 reg 10 1, struck 0 instructions before; 1 0 1 reg 5 0, struck 4 instructions before.",
         "At entry 13 replica 2 was overwritten at a vote on thread 0: a0 (x10) and what it stands at differed. Undone: 2 0 6 reg 10 0, struck 1 instruction before.",
     ];
     let json =

@@ -52,12 +52,25 @@ const ROWS: &[(u32, &str)] = &[
     (0x0220_D033, "divu zero, ra, sp"),
     (0x0252_61B3, "rem gp, tp, t0"),
     (0x0283_F333, "remu t1, t2, s0"),
+    (0x100A_29AF, "lr.w s3, (s4)"),
+    (0x18B6_252F, "sc.w a0, a1, (a2)"),
+    (0x0E21_A0AF, "amoswap.w ra, sp, (gp)"),
+    (0x0053_222F, "amoadd.w tp, t0, (t1)"),
+    (0x2084_A3AF, "amoxor.w t2, s0, (s1)"),
+    (0x60E7_A6AF, "amoand.w a3, a4, (a5)"),
+    (0x4119_282F, "amoor.w a6, a7, (s2)"),
+    (0x816B_AAAF, "amomin.w s5, s6, (s7)"),
+    (0xA19D_2C2F, "amomax.w s8, s9, (s10)"),
+    (0xC1CE_ADAF, "amominu.w s11, t3, (t4)"),
+    (0xE1F0_2F2F, "amomaxu.w t5, t6, (zero)"),
+    (0x1601_202F, "lr.w zero, (sp)"),
     (0x0FF0_000F, "fence"),
     (0x0000_0073, "ecall"),
     (0x0010_0073, "ebreak"),
     // words that are no instructions
     (0x0000_0000, ".word 0x00000000"),
     (0x0000_100F, ".word 0x0000100f"),
+    (0x1053_22AF, ".word 0x105322af"),
     (0xFFFF_FFFF, ".word 0xffffffff"),
 ];
 
@@ -83,7 +96,8 @@ fn places_wrap(rt: HostRuntime) -> Result<(), Fail> {
     Ok(())
 }
 
-// lw s5, 8(s6), sb s11, -1(t3), sw t6, 2044(zero) and two that access nothing, where x22 and x28 are these
+// lw s5, 8(s6), sb s11, -1(t3), sw t6, 2044(zero), amoadd.w a0, a1, (s6), lr.w a0, (t3), sc.w a0, a1, (zero) and two that access
+// nothing, where x22 and x28 are these
 #[test]
 fn addresses(rt: HostRuntime) {
     let mut registers = [7; 31];
@@ -93,6 +107,9 @@ fn addresses(rt: HostRuntime) {
         (0x008B_2A83, Some(0x1_0008)),
         (0xFFBE_0FA3, Some(0xFFFF_FFFF)),
         (0x7FF0_2E23, Some(2044)),
+        (0x00BB_252F, Some(0x1_0000)),
+        (0x100E_252F, Some(0)),
+        (0x18B0_252F, Some(0)),
         (0xFFF1_0093, None),
         (0, None),
     ] {

@@ -1,6 +1,6 @@
-//! Arithmetic, multiplications, divisions and comparisons at the borders of their numbers.
-use ro_alu::{alu, muldiv, taken};
-use ro_decode::{AluOp, BranchOp, MulDivOp};
+//! Arithmetic, multiplications, divisions, atomic operations and comparisons at the borders of their numbers.
+use ro_alu::{alu, amo, muldiv, taken};
+use ro_decode::{AluOp, AtomicOp, BranchOp, MulDivOp};
 
 const LEAST: u32 = 0x8000_0000;
 
@@ -56,6 +56,52 @@ fn multiplies_and_divides(rt: HostRuntime) {
         (MulDivOp::Remu, LEAST, MINUS_ONE, LEAST),
     ] {
         assert_eq!(rt; muldiv(op, a, b), want, "{op:?} {a:x} {b:x}");
+    }
+}
+
+// a word in memory and an operand; the word then
+const COMBINED: &[(AtomicOp, u32, u32, u32)] = &[
+    (AtomicOp::LoadReserved, 5, 0, 5),
+    (AtomicOp::StoreConditional, 5, 9, 9),
+    (AtomicOp::AmoSwap, MINUS_ONE, 0, 0),
+    (AtomicOp::AmoSwap, 0, MINUS_ONE, MINUS_ONE),
+    (AtomicOp::AmoAdd, MINUS_ONE, 1, 0),
+    (AtomicOp::AmoAdd, GREATEST, 1, LEAST),
+    (AtomicOp::AmoAdd, LEAST, LEAST, 0),
+    (AtomicOp::AmoAdd, 0, MINUS_ONE, MINUS_ONE),
+    (AtomicOp::AmoXor, 0xFF00_FF00, 0x0FF0_0FF0, 0xF0F0_F0F0),
+    (AtomicOp::AmoXor, MINUS_ONE, MINUS_ONE, 0),
+    (AtomicOp::AmoAnd, 0xFF00_FF00, 0x0FF0_0FF0, 0x0F00_0F00),
+    (AtomicOp::AmoAnd, MINUS_ONE, 0, 0),
+    (AtomicOp::AmoOr, 0xFF00_FF00, 0x0FF0_0FF0, 0xFFF0_FFF0),
+    (AtomicOp::AmoOr, 0, LEAST, LEAST),
+    (AtomicOp::AmoMin, LEAST, GREATEST, LEAST),
+    (AtomicOp::AmoMin, GREATEST, LEAST, LEAST),
+    (AtomicOp::AmoMin, 0, MINUS_ONE, MINUS_ONE),
+    (AtomicOp::AmoMin, MINUS_ONE, 0, MINUS_ONE),
+    (AtomicOp::AmoMin, 7, 7, 7),
+    (AtomicOp::AmoMax, LEAST, GREATEST, GREATEST),
+    (AtomicOp::AmoMax, GREATEST, LEAST, GREATEST),
+    (AtomicOp::AmoMax, 0, MINUS_ONE, 0),
+    (AtomicOp::AmoMax, MINUS_ONE, 0, 0),
+    (AtomicOp::AmoMinu, LEAST, GREATEST, GREATEST),
+    (AtomicOp::AmoMinu, GREATEST, LEAST, GREATEST),
+    (AtomicOp::AmoMinu, 0, MINUS_ONE, 0),
+    (AtomicOp::AmoMinu, MINUS_ONE, 0, 0),
+    (AtomicOp::AmoMaxu, LEAST, GREATEST, LEAST),
+    (AtomicOp::AmoMaxu, GREATEST, LEAST, LEAST),
+    (AtomicOp::AmoMaxu, 0, MINUS_ONE, MINUS_ONE),
+    (AtomicOp::AmoMaxu, MINUS_ONE, 0, MINUS_ONE),
+];
+
+#[test]
+fn combines(rt: HostRuntime) {
+    for (op, word, operand, want) in COMBINED {
+        assert_eq!(rt;
+            amo(*op, *word, *operand),
+            *want,
+            "{op:?} {word:x} {operand:x}"
+        );
     }
 }
 

@@ -1,6 +1,9 @@
 //! Instructions and the words that an assembler gives for them, and words that are none.
 use ro_decode::rows::row;
-use ro_decode::{AluOp, BranchOp, Instr, LoadOp, MulDivOp, StoreOp, decode, encode};
+use ro_decode::{
+    AluOp, AtomicOp, BranchOp, Instr, LoadOp, MulDivOp, StoreOp, atomic_operation, decode,
+    destination, encode,
+};
 
 // words that clang's assembler gives for the instructions beside them
 #[test]
@@ -146,15 +149,56 @@ fn reads_and_writes_words(rt: HostRuntime) {
     }
 }
 
+// words that clang's assembler gives for atomic instructions; rd, rs1 and rs2, and the bits aq and rl
+const ATOMICS: &[(u32, AtomicOp, u8, u8, u8, u8)] = &[
+    (0x0053_252F, AtomicOp::AmoAdd, 10, 6, 5, 0),
+    (0x1003_22AF, AtomicOp::LoadReserved, 5, 6, 0, 0),
+    (0x1853_23AF, AtomicOp::StoreConditional, 7, 6, 5, 0),
+    (0x0E53_252F, AtomicOp::AmoSwap, 10, 6, 5, 3),
+    (0x1403_22AF, AtomicOp::LoadReserved, 5, 6, 0, 2),
+    (0x1A53_23AF, AtomicOp::StoreConditional, 7, 6, 5, 1),
+    (0x2053_252F, AtomicOp::AmoXor, 10, 6, 5, 0),
+    (0x6053_252F, AtomicOp::AmoAnd, 10, 6, 5, 0),
+    (0x4053_252F, AtomicOp::AmoOr, 10, 6, 5, 0),
+    (0x8053_252F, AtomicOp::AmoMin, 10, 6, 5, 0),
+    (0xA053_252F, AtomicOp::AmoMax, 10, 6, 5, 0),
+    (0xC053_252F, AtomicOp::AmoMinu, 10, 6, 5, 0),
+    (0xE053_252F, AtomicOp::AmoMaxu, 10, 6, 5, 0),
+];
+
+#[test]
+fn reads_and_writes_atomics(rt: HostRuntime) {
+    for (word, op, rd, rs1, rs2, order) in ATOMICS {
+        let (op, rd, rs1, rs2, order) = (*op, *rd, *rs1, *rs2, *order);
+        let instr = Instr::Atomic {
+            op,
+            rd,
+            rs1,
+            rs2,
+            order,
+        };
+        assert_eq!(rt; decode(*word), Some(instr), "at {word:x}");
+        match decode(*word) {
+            Some(read) => assert_eq!(rt; encode(read), *word),
+            None => assert!(rt; false),
+        }
+        assert_eq!(rt; atomic_operation(*word), Some(op), "at {word:x}");
+        assert_eq!(rt; destination(*word), rd, "at {word:x}");
+    }
+}
+
 #[test]
 fn refuses_other_words(rt: HostRuntime) {
-    // fence.i, shifts and operations with another upper code, csrrw, lr.w, fadd.s, a compressed word
+    // fence.i, shifts and operations with another upper code, csrrw, lr.w with a second register, lr.d, an atomic instruction with
+    // another code, fadd.s, a compressed word
     for word in [
         0x0000_100Fu32,
         0x40B5_1533,
         0x4005_1513,
         0x3052_9073,
-        0x1005_22AF,
+        0x1053_22AF,
+        0x1003_32AF,
+        0x2853_252F,
         0x0010_7053,
         0x0000_0001,
         0x0000_0000,

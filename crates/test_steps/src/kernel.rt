@@ -2,17 +2,17 @@
 
 use ro_event::{Call, Effect, Function, Goes, Made, Which};
 use ro_journal::How;
-use ro_kernel::{Kernel, Served, payload_len};
+use ro_kernel::{Kernel, Place, Served, asked, payload_place, written};
 use ro_region::{Range, Regions};
 use std::alloc::{AllocError, Global};
 use std::process::Abort;
 use std::test::Fail;
 
 /// May be read and executed, and not written.
-const CODE: u32 = 0x1_0000;
+pub(crate) const CODE: u32 = 0x1_0000;
 
 /// May be read and written, one page.
-const DATA: u32 = 0x1_1000;
+pub(crate) const DATA: u32 = 0x1_1000;
 
 const NOWHERE: u32 = 0x5000_0000;
 
@@ -38,13 +38,13 @@ const JOIN: Which = Which::Function(Function::Join);
 
 const THREAD_EXIT: Which = Which::Function(Function::Exit);
 
-const THREAD_SELF: Which = Which::Function(Function::ThreadSelf);
+pub(crate) const THREAD_SELF: Which = Which::Function(Function::ThreadSelf);
 
 const MUTEX_INIT: Which = Which::Function(Function::MutexInit);
 
 const MUTEX_DESTROY: Which = Which::Function(Function::MutexDestroy);
 
-const LOCK: Which = Which::Function(Function::Lock);
+pub(crate) const LOCK: Which = Which::Function(Function::Lock);
 
 const TRYLOCK: Which = Which::Function(Function::TryLock);
 
@@ -364,11 +364,11 @@ fn ranges() -> [Range; 2] {
     [range(CODE, false), range(DATA, true)]
 }
 
-fn kernel(alloc: Global, input: &[u8]) -> Result<Kernel, AllocError> {
+pub(crate) fn kernel(alloc: Global, input: &[u8]) -> Result<Kernel, AllocError> {
     Ok(Kernel::new(alloc, HEAP, &ranges(), input)?)
 }
 
-fn call(which: Which, arguments: [u32; 4]) -> Call {
+pub(crate) fn call(which: Which, arguments: [u32; 4]) -> Call {
     let [a0, a1, a2, a3] = arguments;
     Call {
         which,
@@ -379,10 +379,10 @@ fn call(which: Which, arguments: [u32; 4]) -> Call {
     }
 }
 
-fn goes(which: Which) -> Goes {
+pub(crate) fn goes(which: Which) -> Goes {
     match which {
-        Which::System(_) => Goes::Next,
-        _ => Goes::Returns,
+        Which::System(_) | Which::Atomic(_) => Goes::Next,
+        Which::Function(_) => Goes::Returns,
     }
 }
 
@@ -429,7 +429,7 @@ fn is_wanted(served: &Served, thread: u32, goes: Goes, want: Want) -> bool {
     }
 }
 
-fn serve(
+pub(crate) fn serve(
     rt: &impl Abort,
     kernel: &mut Kernel,
     thread: u32,
@@ -452,6 +452,15 @@ fn check(rt: &impl Abort, kernel: &mut Kernel, rows: &[Row]) -> Result<(), Alloc
             is_wanted(&served, *thread, goes(*which), *want),
             "{thread} {call:?} {served:?}"
         );
+    }
+    Ok(())
+}
+
+/// Makes threads 1 to 3.
+pub(crate) fn make_three(rt: &impl Abort, kernel: &mut Kernel) -> Result<(), AllocError> {
+    for made in [&[1, 0, 0, 0], &[2, 0, 0, 0], &[3, 0, 0, 0]] {
+        let create = (0, CREATE, [DATA, 0, CODE, 7], Want::Stores(0, made));
+        check(rt, kernel, &[create])?;
     }
     Ok(())
 }
@@ -490,10 +499,7 @@ fn answers_errors_of_conditions(rt: HostRuntime) -> Result<(), Fail> {
 fn waits_for_signals(rt: HostRuntime) -> Result<(), Fail> {
     for rows in [SIGNALS, BROADCASTS, TWO_CONDITIONS] {
         let mut kernel = kernel(rt.alloc(), b"")?;
-        for made in [&[1, 0, 0, 0], &[2, 0, 0, 0], &[3, 0, 0, 0]] {
-            let create = (0, CREATE, [DATA, 0, CODE, 7], Want::Stores(0, made));
-            check(&rt, &mut kernel, &[create])?;
-        }
+        make_three(&rt, &mut kernel)?;
         check(&rt, &mut kernel, rows)?;
     }
     Ok(())
@@ -551,23 +557,44 @@ fn holds_256_mutexes(rt: HostRuntime) -> Result<(), Fail> {
     Ok(())
 }
 
+/// LR, whatever its registers are.
+const ATOMIC: Which = Which::Atomic(0x1003_22AF);
+
 #[test]
-fn puts_out_what_may_be_read(rt: HostRuntime) -> Result<(), Fail> {
+fn compares_what_may_be_read(rt: HostRuntime) -> Result<(), Fail> {
     let regions = Regions::new(rt.alloc(), &ranges())?;
-    for (which, arguments, want) in [
-        (WRITE, [1, CODE, 4, 0], 4),
-        (WRITE, [2, DATA, 5000, 0], 4096),
-        (WRITE, [0, DATA, 4, 0], 0),
-        (WRITE, [1, DATA, 0, 0], 0),
-        (WRITE, [1, NOWHERE, 1, 0], 0),
-        (READ, [1, DATA, 4, 0], 0),
-        (LOCK, [1, DATA, 4, 0], 0),
+    for (which, arguments, address, len) in [
+        (WRITE, [1, CODE, 4, 0], CODE, 4),
+        (WRITE, [2, DATA, 5000, 0], DATA, 4096),
+        (WRITE, [0, DATA, 4, 0], 0, 0),
+        (WRITE, [1, DATA, 0, 0], 0, 0),
+        (WRITE, [1, NOWHERE, 1, 0], 0, 0),
+        (READ, [1, DATA, 4, 0], 0, 0),
+        (LOCK, [1, DATA, 4, 0], 0, 0),
+        (ATOMIC, [DATA + 8, 1, 0, 0], DATA + 8, 4),
+        (ATOMIC, [DATA + 2, 1, 0, 0], 0, 0),
     ] {
         assert_eq!(rt;
-            payload_len(&regions, call(which, arguments)),
-            want,
+            payload_place(&regions, call(which, arguments)),
+            Place { address, len },
             "{which:?} {arguments:?}"
         );
     }
     Ok(())
+}
+
+// the word that an atomic instruction found is an argument, and none of it is put out
+#[test]
+fn asks_with_the_word(rt: HostRuntime) {
+    let bytes = [1, 2, 3, 0x84];
+    let atomic = call(ATOMIC, [DATA, 5, 0, 0]);
+    assert_eq!(rt;
+        asked(atomic, &bytes),
+        call(ATOMIC, [DATA, 5, 0x8403_0201, 0])
+    );
+    assert_eq!(rt; asked(atomic, &[]), atomic);
+    assert!(rt; written(atomic, &bytes).is_empty());
+    let write = call(WRITE, [1, DATA, 4, 0]);
+    assert_eq!(rt; asked(write, &bytes), write);
+    assert!(rt; written(write, &bytes) == bytes.as_slice());
 }

@@ -3,6 +3,8 @@
 #![tactic(auto)]
 
 #[cfg(test)]
+mod atomics;
+#[cfg(test)]
 mod kernel;
 #[cfg(test)]
 mod registers;

@@ -1,5 +1,5 @@
 //! The 32 registers, of which x0 is always 0.
-use ro_exec::Bank;
+use ro_exec::{Bank, Cpu};
 
 #[test]
 fn keeps_registers(rt: HostRuntime) {
@@ -18,4 +18,19 @@ fn keeps_registers(rt: HostRuntime) {
     assert_eq!(rt; bank.get(0), 0);
     assert_eq!(rt; bank.get(31), 8);
     assert_eq!(rt; bank.registers(), registers);
+}
+
+#[test]
+fn puts_by_any_number(rt: HostRuntime) {
+    let mut cpu = Cpu {
+        registers: [0; 31],
+        pc: 4,
+    };
+    for number in [0u8, 1, 31, 32, 255] {
+        cpu.put(number, 5);
+    }
+    let mut registers = [0; 31];
+    registers[0] = 5;
+    registers[30] = 5;
+    assert_eq!(rt; cpu, Cpu { registers, pc: 4 });
 }

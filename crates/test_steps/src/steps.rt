@@ -15,6 +15,8 @@ const FORBIDDEN: u32 = 0x1_2000;
 
 const UNBACKED: u32 = 0x1_3000;
 
+const UNREADABLE: u32 = 0x1_4000;
+
 const CREATE: u32 = 0x1_0800;
 
 fn range(start: u32, write: bool, execute: bool) -> Range {
@@ -34,6 +36,10 @@ fn regions(alloc: Global) -> Result<Regions, AllocError> {
             range(CODE, false, true),
             range(DATA, true, false),
             range(UNBACKED, true, true),
+            Range {
+                read: false,
+                ..range(UNREADABLE, true, false)
+            },
         ],
     )
 }
@@ -206,6 +212,114 @@ const EXECUTED: &[Row] = &[
         7,
         CODE,
     ),
+    // lr.w from an address that is no multiple of 4, also in a forbidden page, and from forbidden ones; with a second register
+    (
+        0x1002_A3AF,
+        DATA + 2,
+        9,
+        Step::Stopped(Stop::Trap(TrapCause::MisalignedLoad)),
+        7,
+        CODE,
+    ),
+    (
+        0x1002_A3AF,
+        FORBIDDEN + 1,
+        9,
+        Step::Stopped(Stop::Trap(TrapCause::MisalignedLoad)),
+        7,
+        CODE,
+    ),
+    (
+        0x1002_A3AF,
+        FORBIDDEN,
+        9,
+        Step::Stopped(Stop::Trap(TrapCause::ForbiddenLoad)),
+        7,
+        CODE,
+    ),
+    (
+        0x1002_A3AF,
+        UNREADABLE,
+        9,
+        Step::Stopped(Stop::Trap(TrapCause::ForbiddenLoad)),
+        7,
+        CODE,
+    ),
+    (
+        0x1062_A3AF,
+        DATA,
+        9,
+        Step::Stopped(Stop::Trap(TrapCause::NoInstruction)),
+        7,
+        CODE,
+    ),
+    // sc.w so, and to what may only be read
+    (
+        0x1862_A3AF,
+        DATA + 1,
+        9,
+        Step::Stopped(Stop::Trap(TrapCause::MisalignedStore)),
+        7,
+        CODE,
+    ),
+    (
+        0x1862_A3AF,
+        CODE,
+        9,
+        Step::Stopped(Stop::Trap(TrapCause::ForbiddenStore)),
+        7,
+        CODE,
+    ),
+    // amoadd.w so, and at what may only be read, or only be written
+    (
+        0x0062_A3AF,
+        DATA + 3,
+        9,
+        Step::Stopped(Stop::Trap(TrapCause::MisalignedStore)),
+        7,
+        CODE,
+    ),
+    (
+        0x0062_A3AF,
+        FORBIDDEN + 2,
+        9,
+        Step::Stopped(Stop::Trap(TrapCause::MisalignedStore)),
+        7,
+        CODE,
+    ),
+    (
+        0x0062_A3AF,
+        CODE,
+        9,
+        Step::Stopped(Stop::Trap(TrapCause::ForbiddenStore)),
+        7,
+        CODE,
+    ),
+    (
+        0x0062_A3AF,
+        UNREADABLE,
+        9,
+        Step::Stopped(Stop::Trap(TrapCause::ForbiddenStore)),
+        7,
+        CODE,
+    ),
+    // lr.d, and an atomic instruction with another code
+    (
+        0x1002_B3AF,
+        DATA,
+        9,
+        Step::Stopped(Stop::Trap(TrapCause::NoInstruction)),
+        7,
+        CODE,
+    ),
+    (
+        0x2862_A3AF,
+        DATA,
+        9,
+        Step::Stopped(Stop::Trap(TrapCause::NoInstruction)),
+        7,
+        CODE,
+    ),
 ];
 
 #[test]
@@ -289,6 +403,80 @@ fn assert_stores(
         "{word:x}"
     );
     assert_eq!(rt; get(rt, pages, DATA), want, "{word:x}");
+}
+
+// atomic instructions on the word at x5, where x6 is 9: what they ask the kernel to do, by the address and the operand
+const ASKED: &[(u32, u32, u32)] = &[
+    // lr.w x7, (x5), of code too, and of a page that is not backed
+    (0x1002_A3AF, DATA, 0),
+    (0x1002_A3AF, CODE + 4, 0),
+    (0x1002_A3AF, UNBACKED, 0),
+    // sc.w x7, x6, (x5), also where nothing may be read
+    (0x1862_A3AF, DATA + 0xFFC, 9),
+    (0x1862_A3AF, UNREADABLE, 9),
+    (0x1862_A3AF, UNBACKED, 9),
+    // amoswap.w, amoadd.w, amoxor.w, amoand.w, amoor.w, amomin.w, amomax.w, amominu.w, amomaxu.w
+    (0x0862_A3AF, DATA, 9),
+    (0x0062_A3AF, DATA, 9),
+    (0x2062_A3AF, DATA, 9),
+    (0x6062_A3AF, DATA, 9),
+    (0x4062_A3AF, DATA, 9),
+    (0x8062_A3AF, DATA, 9),
+    (0xA062_A3AF, DATA, 9),
+    (0xC062_A3AF, DATA, 9),
+    (0xE062_A3AF, DATA, 9),
+    (0x0062_A3AF, UNBACKED + 8, 9),
+    // amoadd.w.aqrl; with x0 for its operand, with x0 for its destination, with x5 for all three
+    (0x0662_A3AF, DATA, 9),
+    (0x0002_A3AF, DATA, 0),
+    (0x0062_A02F, DATA, 9),
+    (0x0052_A2AF, DATA, DATA),
+];
+
+#[test]
+fn asks(rt: HostRuntime) -> Result<(), Fail> {
+    let regions = regions(rt.alloc())?;
+    let calls = calls();
+    let mut pages = Pages::new(rt.alloc())?;
+    back(&rt, &mut pages, CODE / 4096)?;
+    back(&rt, &mut pages, DATA / 4096)?;
+    for row in ASKED {
+        assert_asks(&rt, &mut pages, &regions, &calls, *row);
+    }
+    Ok(())
+}
+
+fn assert_asks(
+    rt: &impl Abort,
+    pages: &mut Pages,
+    regions: &Regions,
+    calls: &CallTable,
+    row: (u32, u32, u32),
+) {
+    let (word, x5, operand) = row;
+    put(rt, pages, CODE, word);
+    put(rt, pages, DATA, 0x80FF_7F01);
+    let mut cpu = Cpu {
+        registers: [0; 31],
+        pc: CODE,
+    };
+    cpu.set(5, x5);
+    cpu.set(6, 9);
+    let before = cpu;
+    let want = Stop::Calls(Call {
+        which: Which::Atomic(word),
+        a0: x5,
+        a1: operand,
+        a2: 0,
+        a3: 0,
+    });
+    assert_eq!(rt;
+        step(&mut cpu, pages, regions, calls),
+        Step::Stopped(want),
+        "{word:x}"
+    );
+    assert_eq!(rt; cpu, before);
+    assert_eq!(rt; get(rt, pages, DATA), 0x80FF_7F01);
 }
 
 const STANDING: &[(u32, Stop)] = &[

@@ -25,6 +25,7 @@ loop-entry-preserved c =
     record {
       reads = c.in_ok-check_entry.ensures.reads;
       writes = c.in_ok-check_entry.ensures.writes;
+      atomics = c.in_ok-check_entry.ensures.atomics;
       steps = steps-next c.args.journal.now c.loop-entry.entry-index (Take (lease_to 0 0 0)) c.loop-entry.checker.steps c.check_entry.new.checker.steps c.loop-entry-test.true i.steps c.in_ok-check_entry.ensures.steps;
       follows = λ program threads f s. c.in_ok-check_entry.ensures.follows program threads (i.follows program threads f s) (stands-entry threads c.args.journal.now c.loop-entry.entry-index (Take (lease_to 0 0 0)) 0 c.loop-entry.checker.steps c.loop-entry-test.true s at);
     }

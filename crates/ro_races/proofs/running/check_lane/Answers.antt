@@ -14,6 +14,7 @@ loop-taken-preserved c =
     record {
       reads = c.in_ok-check_quickly.ensures.reads;
       writes = c.in_ok-check_quickly.ensures.writes;
+      atomics = c.in_ok-check_quickly.ensures.atomics;
       opened = c.in_ok-check_quickly.ensures.opened;
       own = c.in_ok-check_quickly.ensures.own;
       thread = c.in_ok-check_quickly.ensures.thread ∙ i.thread;

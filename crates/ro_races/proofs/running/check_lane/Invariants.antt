@@ -2,7 +2,7 @@ use Rattle.std.proofs.Common.{ℕ, List, ◌≡◌, ◌+◌, replicate}
 use Rattle.ro_plain.specs.Machine.{Program}
 use Rattle.ro_machine.specs.Lanes.{IsOpen}
 use Rattle.ro_races.specs.Seen.{IsOwn}
-use Rattle.ro_races.specs.Shadows.{IsTable}
+use Rattle.ro_races.specs.Shadows.{IsTable, AreTables}
 use Rattle.ro_races.specs.Follows.{Follows, StandsAt, put_back}
 use Rattle.ro_races.proofs.running.check_lane.Given as goal
 
@@ -10,6 +10,7 @@ abbrev pub invariant-loop-taken : goal.invariant-loop-taken
 invariant-loop-taken l = record {
   reads : IsTable l.checker.reads.items;
   writes : IsTable l.checker.writes.items;
+  atomics : AreTables l.checker.atomics;
   opened : IsOpen l.checker.plain l.lane;
   own : IsOwn l.checker.rows.items l.lane.thread l.own;
   thread : l.lane.thread ≡ l.fn.lane.thread;

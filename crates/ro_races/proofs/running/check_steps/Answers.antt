@@ -9,6 +9,7 @@ loop-done-preserved c =
     record {
       reads = c.in_ok-done.ensures.reads;
       writes = c.in_ok-done.ensures.writes;
+      atomics = c.in_ok-done.ensures.atomics;
       few = omega (arith, c.in_ok-done.ensures.most, c.loop-done-test.true);
       steps = omega (arith, i.steps, c.in_ok-done.ensures.steps);
       follows = λ program threads f s. c.in_ok-done.ensures.follows program threads (i.follows program threads f s) (stands-rest threads c.args.checker.now.steps c.args.count c.loop-done.done c.args.thread c.loop-done.checker.steps i.few s i.steps);

@@ -1,7 +1,7 @@
 use Rattle.std.proofs.Common.{rules, sym, refl, ◌≡◌, ◌<◌, subst, List, length, Some, None, ◌++◌, ◌∷◌, []}
 use Rattle.std.proofs.lemmas.Option.{slice_get_read}
 use Rattle.ro_races.specs.declared.sources.Row.{Row}
-use Rattle.ro_races.specs.Seen.{IsPlace, Passes}
+use Rattle.ro_races.specs.Seen.{known_by, IsPlace, Passes}
 use Rattle.ro_races.proofs.Rows.{passes-at, passes-new}
 use Rattle.ro_races.proofs.sources.pass.Goals as goal
 
@@ -16,5 +16,5 @@ pub returns-in_ok-map_err-in-None : goal.returns-in_ok-map_err-in-None
 returns-in_ok-map_err-in-None c =
     let more : c.push.new.self.items ≡ c.args.rows.now.items ++ record { source = c.args.source; clock = c.args.past.now } ∷ [] = search rules in
     let place : IsPlace c.args.rows.now.items c.args.source None = subst (λ (xs : List Row). IsPlace xs c.args.source None) c.as_slice.ensures.value c.in-None.ensures.place in
-    subst (λ (xs : List Row). Passes c.args.rows.now.items c.args.source c.args.past.now xs) (sym more)
+    subst (λ (xs : List Row). Passes (known_by c.args.rows.now.items) c.args.source c.args.past.now (known_by xs)) (sym more)
     (passes-new c.args.rows.now.items (record { source = c.args.source; clock = c.args.past.now }) c.args.source c.args.past.now refl refl place)

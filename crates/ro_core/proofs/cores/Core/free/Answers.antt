@@ -1,9 +1,11 @@
-use Rattle.ro_core.proofs.Occurs.{holds-mapped}
+use Rattle.ro_core.proofs.Occurs.{holds-mapped, nothing-out}
 use Rattle.std.proofs.Common.{◌≡◌, ◌++◌, ◌∷◌, [], List, Option, refl, sym, ap, ◌∙◌, subst, arith, append-nil}
 use Rattle.ro_event.specs.declared.calls.Call.{Call}
 use Rattle.ro_journal.specs.declared.Entry.{Entry}
 use Rattle.ro_journal.specs.declared.Entry.TheVariants.{Free}
 use Rattle.ro_kernel.specs.Kernel.{Setup}
+use Rattle.ro_kernel.specs.Serve.{serve}
+use Rattle.ro_legal.specs.Event.{call_event}
 use Rattle.ro_core.specs.declared.cores.Core.{Core as Run}
 use Rattle.ro_legal.specs.Core.{Job}
 use Rattle.ro_legal.specs.Legal.{IsAllowed, output_of}
@@ -52,7 +54,7 @@ occur-requires c =
     let setup = c.serve.ensures.setup in
     let r : Run = record c.prepare.new.self { kernel = c.serve.new.kernel } in
     record {
-      can = free-can f m.holds c.args.thread may c.in-Some.call (ap (λ (bs : List (Option Call)). blocked_at bs c.args.thread) m.blocked ∙ c.in-Some.is) r c.in_ok-event.event c.made-threads.result (c.in_ok-event.ensures.event []) (omega arith)
+      can = free-can f m.holds c.args.thread may c.in-Some.call (ap (λ (bs : List (Option Call)). blocked_at bs c.args.thread) m.blocked ∙ c.in-Some.is) r c.in_ok-event.event c.made-threads.result (ap (λ out. call_event f.kernel.kernel c.args.thread c.in-Some.call out (serve f.kernel.setup f.kernel.kernel c.args.thread c.in-Some.call)) (sym (nothing-out c.in-Some.call.which)) ∙ c.in_ok-event.ensures.event []) (omega arith)
           (record {
             job = ap (λ (x : Setup). record { program = record { image = c.prepare.new.self.image; input = x.input }; faults = c.prepare.new.self.faults.items; settings = c.prepare.new.self.settings }) setup;
             journal = refl;

@@ -4,7 +4,6 @@ use Rattle.std.specs.Prelude.{◌⊎◌, IfSome, slice_get}
 use Rattle.ro_journal.specs.declared.How.TheVariants.{Limit}
 use Rattle.ro_journal.specs.declared.Entry.{Entry}
 use Rattle.ro_journal.specs.declared.Entry.TheVariants.{Vote}
-use Rattle.ro_event.specs.declared.stops.Stop.{Stop}
 use Rattle.ro_event.specs.Views.{View}
 use Rattle.ro_kernel.specs.Kernel.{Setup}
 use Rattle.ro_kernel.specs.State.{State}
@@ -39,7 +38,7 @@ conclude-entry-requires-clause-allowed c =
     let low = hold-steps f c.args.thread c.args.won.won c.args.won.lost c.requires.held in
     let over = c.if-next-self.true in
     (hold-over f c.args.thread c.args.won.won c.args.won.lost c.requires.held view (hold-there f c.args.thread c.args.won.won c.args.won.lost c.requires.held view c.index-view.ensures) c.of-coming.result.did (c.from.result + c.steps.result)
-    (ap (λ (x : Stop). (event_of f.kernel.setup f.kernel.kernel c.args.thread x view.payload).did) (sym c.stop.ensures) ∙ c.of-coming.ensures.did view.payload)
+    c.of-coming.ensures.did
     (let a = c.since-count.ensures in let b = c.from.ensures in let d = c.steps.ensures in omega arith) (omega arith)).0
 
 pub conclude-entry-requires-clause-views : goal.conclude-entry-requires-clause-views
@@ -54,7 +53,7 @@ returns-then-next-self-clause-entry c =
     let low = hold-steps f c.args.thread c.args.won.won c.args.won.lost c.requires.held in
     let over = c.if-next-self.true in
     let ends = hold-over f c.args.thread c.args.won.won c.args.won.lost c.requires.held view (hold-there f c.args.thread c.args.won.won c.args.won.lost c.requires.held view c.index-view.ensures) c.of-coming.result.did (c.from.result + c.steps.result)
-    (ap (λ (x : Stop). (event_of f.kernel.setup f.kernel.kernel c.args.thread x view.payload).did) (sym c.stop.ensures) ∙ c.of-coming.ensures.did view.payload)
+    c.of-coming.ensures.did
     (let a = c.since-count.ensures in let b = c.from.ensures in let d = c.steps.ensures in omega arith) (omega arith)
     in
     subst (λ (e : Entry). IsAllowed f.job (state_of c.args.self.now) e × DecidesVote f.job (state_of c.args.self.now) c.args.thread e × Appends (silent c.args.self.now) (silent c.conclude-entry.new.self) e) (sym c.conclude-entry.ensures.entry)
@@ -101,13 +100,13 @@ occur-requires c =
     let steps = m.steps in
     let setup = c.happen.ensures.setup in
     let r : Run = record c.prepare.new.self { seats = c.heal.new.self; kernel = c.happen.new.kernel } in
-    let caused = subst (λ (k : State). IsCause k.setup k.kernel c.args.thread c.stop.result.now c.of-coming.result.did c.of-coming.result.cause) (sym m.kernel) c.of-coming.ensures.cause in
+    let caused = subst (λ (k : State). IsCause k.setup k.kernel c.args.thread view.stop view.payload c.of-coming.result.did c.of-coming.result.cause) (sym m.kernel) c.of-coming.ensures.cause in
     let made = subst (λ (n : ℕ). AreMade n (core_in f).replicas) (sym c.made-threads.ensures.made) (hold-made-all f c.args.thread c.args.won.won c.args.won.lost v) in
     record {
       can = subst (λ (w : Option ℕ). CanOccur r (record { thread = c.args.thread; event = c.in_ok-event.event; entry = Vote c.args.thread c.since-count.result c.args.won.won c.args.won.lost c.of-coming.result.did; steps = c.from.result + c.steps.result; writer = w; threads = c.made-threads.result })) (sym (c.then_some-writer.ensures ∙ then-some c.in_ok-event.event.writes c.args.won.won))
           (hold-can f c.args.thread c.args.won.won c.args.won.lost v view there r c.in_ok-event.event c.of-coming.result.did c.since-count.result (c.from.result + c.steps.result) c.made-threads.result
-          (ap (λ (x : Stop). event_of f.kernel.setup f.kernel.kernel c.args.thread x view.payload) (sym c.stop.ensures) ∙ c.in_ok-event.ensures.event c.stop.result.now caused view.payload)
-          (ap (λ (k : State). (event_of k.setup k.kernel c.args.thread view.stop view.payload).did) m.kernel ∙ ap (λ (x : Stop). (event_of old.kernel.setup old.kernel.kernel c.args.thread x view.payload).did) (sym c.stop.ensures) ∙ c.of-coming.ensures.did view.payload)
+          (c.in_ok-event.ensures.event view.stop view.payload caused)
+          (ap (λ (k : State). (event_of k.setup k.kernel c.args.thread view.stop view.payload).did) m.kernel ∙ c.of-coming.ensures.did)
           c.since-count.ensures (let a = c.since-count.ensures in let b = c.from.ensures in let d = c.steps.ensures in omega arith) (omega arith)
           (record {
             job = ap (λ (x : Setup). record { program = record { image = c.prepare.new.self.image; input = x.input }; faults = c.prepare.new.self.faults.items; settings = c.prepare.new.self.settings }) setup;
@@ -135,7 +134,7 @@ returns-clause-entry c =
     let low = hold-steps f c.args.thread c.args.won.won c.args.won.lost c.requires.held in
     let under = c.if-next-self.false in (
       hold-entry f c.args.thread c.args.won.won c.args.won.lost c.requires.held view (hold-there f c.args.thread c.args.won.won c.args.won.lost c.requires.held view c.index-view.ensures) c.of-coming.result.did c.since-count.result (c.from.result + c.steps.result)
-          (ap (λ (x : Stop). (event_of f.kernel.setup f.kernel.kernel c.args.thread x view.payload).did) (sym c.stop.ensures) ∙ c.of-coming.ensures.did view.payload)
+          c.of-coming.ensures.did
           c.since-count.ensures (let a = c.since-count.ensures in let b = c.from.ensures in let d = c.steps.ensures in omega arith) (omega arith),
       refl,
       record {

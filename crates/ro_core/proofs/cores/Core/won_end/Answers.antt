@@ -1,7 +1,5 @@
-use Rattle.std.proofs.Common.{◌+◌, sym, ap, ◌∙◌, arith}
-use Rattle.ro_event.specs.declared.stops.Stop.{Stop}
+use Rattle.std.proofs.Common.{◌+◌, arith}
 use Rattle.ro_journal.specs.declared.How.TheVariants.{Limit}
-use Rattle.ro_legal.specs.Event.{event_of}
 use Rattle.ro_core.specs.Fields.{Fields}
 use Rattle.ro_core.specs.Runs.{fields_of, state_of}
 use Rattle.ro_core.proofs.Asked.{some-end, none-ends}
@@ -21,7 +19,7 @@ returns-then-next-self c other =
     let low = hold-steps f c.args.thread c.args.won.won c.args.won.lost c.requires.held in
     let over = c.if-next-self.true in
     let ends = hold-over f c.args.thread c.args.won.won c.args.won.lost c.requires.held view (hold-there f c.args.thread c.args.won.won c.args.won.lost c.requires.held view c.index-view.ensures) c.of-coming.result.did (c.from.result + c.steps.result)
-    (ap (λ (x : Stop). (event_of f.kernel.setup f.kernel.kernel c.args.thread x view.payload).did) (sym c.stop.ensures) ∙ c.of-coming.ensures.did view.payload)
+    c.of-coming.ensures.did
     (let a = c.since-count.ensures in let b = c.from.ensures in let d = c.steps.ensures in omega arith) (omega arith)
     in
     some-end f.job (state_of c.args.self.now) c.args.thread (Limit f.steps (c.from.result + c.steps.result)) ends.1 other
@@ -34,6 +32,6 @@ returns c other =
     let under = c.if-next-self.false in
     none-ends f.job (state_of c.args.self.now) c.args.thread c.since-count.result c.args.won.won c.args.won.lost c.of-coming.result.did
     (hold-entry f c.args.thread c.args.won.won c.args.won.lost c.requires.held view (hold-there f c.args.thread c.args.won.won c.args.won.lost c.requires.held view c.index-view.ensures) c.of-coming.result.did c.since-count.result (c.from.result + c.steps.result)
-    (ap (λ (x : Stop). (event_of f.kernel.setup f.kernel.kernel c.args.thread x view.payload).did) (sym c.stop.ensures) ∙ c.of-coming.ensures.did view.payload)
+    c.of-coming.ensures.did
     c.since-count.ensures (let a = c.since-count.ensures in let b = c.from.ensures in let d = c.steps.ensures in omega arith) (omega arith))
     other

@@ -13,6 +13,7 @@ use Rattle.ro_exec.specs.Next.{Layout}
 use Rattle.ro_machine.specs.Seen.{PlainOf, Steps, machine_of}
 use Rattle.ro_machine.specs.Watched.{Sees}
 use Rattle.ro_machine.specs.Lanes.{cpu_of, closed, IsOpen}
+use Rattle.ro_machine.proofs.Noted.{no_bytes}
 use Rattle.ro_machine.proofs.Quick.{done-quickly, lane-steps, lane-sees, stays-opened}
 use Rattle.ro_machine.proofs.plain.Plain.watch_quickly.Goals as goal
 
@@ -53,5 +54,5 @@ returns-clause-sees c output =
     let opened = subst (λ (p : PlainOf). IsOpen p c.args.lane.now) (sym c.self.view_is) c.requires.opened in
     let layout : ◌≡◌ {A = Layout} (record { ranges = (ranges_of c.regions.result.now); calls = c.calls.result.now }) (record { ranges = c.self.inside.kernel.kernel.given ++ (arc_value c.self.inside.image).ranges; calls = (arc_value c.self.inside.image).calls }) = λ i. record { ranges = (ranges-now c.regions.ensures c.self.invariant.ranges_are) i; calls = (c.calls.ensures ∙ ap (λ (i : Image). i.calls) c.deref.ensures) i } in
     let did = done-quickly _ _ (has_page c.self.inside.pages.pages) (memory_of c.self.inside.pages.pages) (memory_of c.quick_step-done.new.memory.pages) (cpu_of c.args.lane.now) (record { registers = c.quick_step-done.new.registers; pc = c.quick_step-done.new.pc }) c.quick_step-done.result layout c.if-not-done.false c.quick_step-done.ensures.step in
-    subst (λ (p : PlainOf). Sees p.program (machine_of (closed p c.args.lane.now) output) c.args.lane.now.thread (record { loaded = c.in_ok-look.look.loads; code = c.in_ok-look.look.code; stored = c.in_ok-look.look.stores; relation = Nothing })) c.self.view_is
+    subst (λ (p : PlainOf). Sees p.program (machine_of (closed p c.args.lane.now) output) c.args.lane.now.thread (record { loaded = c.in_ok-look.look.loads; code = c.in_ok-look.look.code; stored = c.in_ok-look.look.stores; atomic = no_bytes; relation = Nothing })) c.self.view_is
     (lane-sees (record { program = record { image = (arc_value c.self.inside.image); input = c.self.inside.kernel.setup.input }; held = c.self.inside.pages; cpus = c.self.inside.cpus.items; kernel = c.self.inside.kernel.kernel; ended = c.self.inside.ended; written = c.self.inside.written.items }) c.args.lane.now opened c.quick_step-done.new.memory (record { registers = c.quick_step-done.new.registers; pc = c.quick_step-done.new.pc }) did c.in_ok-look.look c.in_ok-look.ensures output)

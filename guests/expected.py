@@ -94,6 +94,24 @@ def word_counts():
     return b"".join(b"%d %s\n" % (words.count(word), word) for word in dict.fromkeys(words))
 
 
+def atomics():
+    """Of each program of programs/atomics its output and its status; the numbers of threads and turns are those of the program."""
+    return {
+        "counter": (b"", 4 * 10),
+        "references": (b"", 4 * 3 * 5),
+        "spin_by_store": (b"", 2 * 6),
+        "spin_by_exchange": (b"", 2 * 6),
+        "flag": (b"", 2 * 7),
+        "message": (b"First a line,\nthen another one,\nand the last.\n", 0),
+        "ticket": (b"", 2 * 6),
+        "dekker": (b"", 2 * 5),
+        "stack": (b"", sum(range(1, 3 * 4 + 1))),
+        "once": (b"The table is made.\n", sum(i * i for i in range(8))),
+        "shared_queue": (b"", sum(range(1, 2 * 6 + 1))),
+        "finished": (b"All are finished.\n", sum(range(21))),
+    }
+
+
 def expected():
     """Of each guest its output and its status."""
     count = given("lines").count(b"\n")
@@ -111,6 +129,7 @@ def expected():
         "barrier": (b"".join(cells()), 0),
         "lines": (b"%d\n" % count, count % 256),
         "words": (word_counts(), 0),
+        **{f"atomics/{name}": wanted for name, wanted in atomics().items()},
     }
 
 
@@ -123,6 +142,7 @@ def main():
         for place, content in ((f"{name}.output", output), (f"{name}.status", b"%d\n" % status)):
             file = HERE / "expected" / place
             if write:
+                file.parent.mkdir(exist_ok=True)
                 file.write_bytes(content)
             elif not file.exists() or file.read_bytes() != content:
                 print(f"expected/{place} isn't what it should be")

@@ -1,5 +1,6 @@
-"""What comes of a call of a program, after docs/GUESTS.md and crates/ro_kernel/specs; for all machines and judges in Python. It
-changes no memory and no thread; what is to be changed there is an effect (crates/ro_event/specs/Effects.antt)."""
+"""What comes of a call of a program, or of an atomic instruction, after docs/GUESTS.md and crates/ro_kernel/specs; for all machines
+and judges in Python. It changes no memory and no thread; what is to be changed there is an effect
+(crates/ro_event/specs/Effects.antt)."""
 import collections.abc
 import dataclasses
 import enum
@@ -18,6 +19,11 @@ EPERM, ESRCH, EBADF, EAGAIN, ENOMEM, EFAULT, EBUSY, EINVAL, EDEADLK, ENOSYS = 1,
 def low_bytes(value: int, size: int) -> bytes:
     """So many bytes of a number, the lowest first."""
     return (value & (1 << 8 * size) - 1).to_bytes(size, "little")
+
+
+def signed(value: int) -> int:
+    """A word as a number with a sign."""
+    return value - (1 << 32) if value >> 31 else value
 
 
 class Range(typing.NamedTuple):
@@ -50,6 +56,70 @@ class Call:
     a3: int
 
 
+# ---- Atomic instructions
+
+ATOMIC, OF_A_WORD = 0x2F, 2  # their opcode, and their funct3
+LR, SC = 2, 3  # by the bits 31 to 27 of their words, as all of them are
+
+# What an AMO makes of the word in memory and its operand.
+AMOS = {0: lambda word, operand: word + operand, 1: lambda word, operand: operand, 4: lambda word, operand: word ^ operand,
+        8: lambda word, operand: word | operand, 12: lambda word, operand: word & operand,
+        16: lambda word, operand: min(word, operand, key=signed), 20: lambda word, operand: max(word, operand, key=signed),
+        24: min, 28: max}
+
+
+def atomic_kind(word: int) -> int | None:
+    """Which atomic instruction a word is: LR, SC or one of AMOS; None where it is none."""
+    kind, second = word >> 27, word >> 20 & 31
+    is_one = kind in AMOS or kind == SC or kind == LR and second == 0
+    return kind if word & 127 == ATOMIC and word >> 12 & 7 == OF_A_WORD and is_one else None
+
+
+@dataclasses.dataclass(frozen=True)
+class Atomic:
+    """An atomic instruction at which a thread stops: its word, and the values of its registers rs1 and rs2."""
+    word: int
+    address: int
+    operand: int
+
+    @property
+    def kind(self) -> int:
+        return atomic_kind(self.word)
+
+    @property
+    def register(self) -> int:
+        """That gets the answer."""
+        return self.word >> 7 & 31
+
+    def needs(self) -> int:
+        """What has to be permitted of all bytes of the word."""
+        return {LR: READ, SC: WRITE}.get(self.kind, READ | WRITE)
+
+    def trap(self, kernel: "Kernel") -> int | None:
+        """The cause of its trap, if it ends in one."""
+        if self.address % 4:
+            return 5 if self.kind == LR else 7
+        if not kernel.permits_all(self.address, 4, self.needs()):
+            return 6 if self.kind == LR else 8
+        return None
+
+
+def atomic_of(word: int, registers: list[int]) -> Atomic | None:
+    """The atomic instruction that a word is."""
+    if atomic_kind(word) is None:
+        return None
+    return Atomic(word, registers[word >> 15 & 31], registers[word >> 20 & 31])
+
+
+@dataclasses.dataclass(frozen=True)
+class Reservation:
+    """What an LR leaves: where it loaded, and what."""
+    address: int
+    word: int
+
+
+# ---- Effects
+
 class Goes(enum.Enum):
     """Where a thread goes on."""
     STAYS = "stays"
@@ -67,7 +137,7 @@ class Made:
 
 @dataclasses.dataclass
 class Effect:
-    """What a call that is served changes, alike in every replica."""
+    """What a call or an atomic instruction that is served changes, alike in every replica."""
     thread: int
     answer: int | None = None
     goes: Goes = Goes.STAYS
@@ -77,12 +147,13 @@ class Effect:
     made: Made | None = None
     range: Range | None = None  # that is permitted from now on
     releases: bool = False  # whether the thread's stop goes
+    register: int = 10  # that gets the answer
 
     def move(self, thread):
         """The registers and the pc of its thread behind it."""
         thread.pc = {Goes.STAYS: thread.pc, Goes.NEXT: thread.pc + 4 & WORD, Goes.RETURNS: thread.registers[1]}[self.goes]
-        if self.answer is not None:
-            thread.registers[10] = self.answer
+        if self.answer is not None and self.register != 0:
+            thread.registers[self.register] = self.answer
 
 
 @dataclasses.dataclass
@@ -135,6 +206,7 @@ class Kernel:
     taken: int = 0  # how much of the input was read
     waiters: tuple[Waiter, ...] = ()  # in the order in which they began to wait
     given: tuple[Range, ...] = ()  # the ranges that were given to the program, the newest first
+    reservations: dict[int, Reservation] = dataclasses.field(default_factory=dict)  # by thread
 
     def __deepcopy__(self, memo) -> "Kernel":
         """It never changes."""
@@ -153,6 +225,10 @@ class Kernel:
                 return False
             address = reached
         return True
+
+    def permits_all(self, address: int, size: int, kinds: int) -> bool:
+        """Whether each of the bytes may be all of this."""
+        return all(self.permits(address, size, kind) for kind in (READ, WRITE, EXECUTE) if kinds & kind)
 
     def has_room(self, address: int) -> bool:
         """Whether a word can be stored there."""
@@ -178,7 +254,19 @@ class Kernel:
         return isinstance(self.serve(thread, call), Done | Ends)
 
     def serve(self, thread: int, call: Call) -> Served:
-        """What comes of a thread's call. The kernel itself stays as it is; a new one is answered."""
+        """What comes of a thread's call. The kernel itself stays as it is; a new one is answered, in which a call that doesn't
+        block has ended the thread's reservation."""
+        served = self.served(thread, call)
+        if not isinstance(served, Blocked):
+            served.kernel = served.kernel.without_reservation(thread)
+        return served
+
+    def without_reservation(self, thread: int) -> "Kernel":
+        kept = {other: theirs for other, theirs in self.reservations.items() if other != thread}
+        return dataclasses.replace(self, reservations=kept)
+
+    def served(self, thread: int, call: Call) -> Served:
+        """The same but for the reservation."""
         calling = Calling(self, thread, call)
         if isinstance(call.which, int):
             return calling.system()
@@ -188,6 +276,27 @@ class Kernel:
             return calling.on_condition(call.which.removeprefix("pthread_cond_"))
         return {"pthread_create": calling.create, "pthread_join": calling.join, "pthread_exit": calling.exit,
                 "pthread_self": lambda: calling.answers(thread)}[call.which]()
+
+    def serve_atomic(self, thread: int, atomic: Atomic, word: int) -> Done:
+        """What comes of a thread's atomic instruction, where this word stands at its address. Its page is backed in any case."""
+        reservation = Reservation(atomic.address, word)
+        answer, stored = self.outcome(atomic, word, self.reservations.get(thread) == reservation)
+        kept = {other: theirs for other, theirs in self.reservations.items()
+                if other != thread and (stored is None or theirs.address != atomic.address)}
+        if atomic.kind == LR:
+            kept[thread] = reservation
+        data = b"" if stored is None else low_bytes(stored, 4)
+        effect = Effect(thread, answer, Goes.NEXT, atomic.address, data, atomic.address // PAGE, releases=True,
+                        register=atomic.register)
+        return Done(dataclasses.replace(self, reservations=kept), effect)
+
+    def outcome(self, atomic: Atomic, word: int, is_reserved: bool) -> tuple[int, int | None]:
+        """The answer, and what is stored, if anything is."""
+        if atomic.kind == LR:
+            return word, None
+        if atomic.kind == SC:
+            return (0, atomic.operand) if is_reserved else (1, None)
+        return word, AMOS[atomic.kind](word, atomic.operand)
 
 
 def opening_kernel(machine: Place) -> Kernel:

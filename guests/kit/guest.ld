@@ -28,12 +28,13 @@ SECTIONS
         PROVIDE_HIDDEN(__init_array_end = .);
     } :code
 
+    /* Each part that isn't empty ends with a whole word: an atomic byte is accessed by its word. */
     . = ALIGN(0x1000);
-    .data : { *(.data .data.*) } :data
-    .sdata : { __global_pointer$ = . + 0x800; *(.sdata .sdata.*) } :data
+    .data : { *(.data .data.*) . = ALIGN(. != 0 ? 4 : 1); } :data
+    .sdata : { __global_pointer$ = . + 0x800; *(.sdata .sdata.*) . = ALIGN(. != 0 ? 4 : 1); } :data
     PROVIDE(edata = .); PROVIDE(_edata = .); PROVIDE(__bss_start = .);
-    .sbss (NOLOAD) : { *(.sbss .sbss.* .scommon) } :data
-    .bss (NOLOAD) : { *(.bss .bss.* COMMON) } :data
+    .sbss (NOLOAD) : { *(.sbss .sbss.* .scommon) . = ALIGN(. != 0 ? 4 : 1); } :data
+    .bss (NOLOAD) : { *(.bss .bss.* COMMON) . = ALIGN(. != 0 ? 4 : 1); } :data
     _end = .;
     PROVIDE(end = .); PROVIDE(__bss_end = .);
     PROVIDE(__heap_start = ALIGN(0x1000)); PROVIDE(__heap_end = ALIGN(0x1000) + 0x100000);

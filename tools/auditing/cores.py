@@ -5,7 +5,7 @@ import dataclasses
 from auditing.jobs import Entry, Fault, Job
 from auditing.replicas import Change, PageFault, Replica, Stands, Stop, Trap, View
 from journals import Free, Put, Scrub, Take, Vote
-from kernel import PAGE, Blocked, Call, Done, Effect, Ends, Kernel, Parked, Served, opening_kernel
+from kernel import PAGE, Atomic, Blocked, Call, Done, Effect, Ends, Kernel, Parked, Served, opening_kernel
 
 
 class Illegal(Exception):
@@ -27,7 +27,7 @@ class Event:
     did: str
     kernel: Kernel
     effect: Effect
-    payload: bytes = b""
+    payload: bytes = b""  # that goes out
     blocked: Call | None = None  # the call on which the thread is blocked from now on
     due: str | None = None  # the end, if the program ended
 
@@ -196,6 +196,9 @@ class Core:
     def event(self, thread: int, stop: Stop, payload: bytes) -> Event:
         if isinstance(stop, Call):
             return self.call_event(thread, stop, payload, self.kernel.serve(thread, stop))
+        if isinstance(stop, Atomic):
+            served = self.kernel.serve_atomic(thread, stop, int.from_bytes(payload, "little"))
+            return Event("served", served.kernel, served.effect)
         if isinstance(stop, PageFault):
             return Event("mapped", self.kernel, Effect(thread, page=stop.page, releases=True))
         if isinstance(stop, Trap):

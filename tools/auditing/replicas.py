@@ -4,7 +4,7 @@ import dataclasses
 
 from auditing.jobs import Fault, Job
 from fuzzing.machine import EBREAK, ECALL, Machine
-from kernel import PAGE, WORD, Call, Effect, Kernel, low_bytes, moved
+from kernel import PAGE, WORD, Atomic, Call, Effect, Kernel, low_bytes, moved
 from racing.machine import made_registers
 
 
@@ -23,7 +23,7 @@ class Watchdog:
     pass
 
 
-Stop = Call | Trap | PageFault | Watchdog
+Stop = Call | Atomic | Trap | PageFault | Watchdog
 
 
 class Stands(Exception):
@@ -53,7 +53,7 @@ class Thread:
     stop: Stop | None = None
 
 
-View = tuple[list[int], int, int, Stop, bytes]  # registers, pc, instructions since, stop, bytes that go out
+View = tuple[list[int], int, int, Stop, bytes]  # registers, pc, instructions since, stop, and the payload
 Snapshot = tuple[dict[int, bytearray], list[tuple]]  # pages, and of each thread the same but the bytes
 
 
@@ -82,6 +82,9 @@ class Replica(Machine):
             raise Stands(Call(name.decode(), *x[10:14]))
         if word == ECALL:
             raise Stands(Call(x[17], *x[10:14]))
+        atomic = self.atomic_in(word, x)
+        if atomic:
+            raise Stands(atomic)
         if word == EBREAK:
             self.trap(9)
         self.storing = 0, b""
@@ -144,7 +147,9 @@ class Replica(Machine):
     # ---- Votes
 
     def payload(self, stop: Stop) -> bytes:
-        """The bytes that go out."""
+        """What is looked at in memory: the bytes that go out, or the word that an atomic instruction meets."""
+        if isinstance(stop, Atomic):
+            return self.bytes_at(stop.address, 4)
         if isinstance(stop, Call) and self.kernel.is_good_write(stop):
             return self.bytes_at(stop.a1, moved(stop))
         return b""
@@ -176,7 +181,7 @@ class Replica(Machine):
             thread.stop = None
         self.fill(effect.place, effect.data)
         if effect.page is not None:
-            self.pages.setdefault(effect.page, bytearray(PAGE))
+            self.back(effect.page)
         if effect.made:
             creator = self.threads[effect.made.creator].registers
             registers = made_registers(creator, len(self.threads), effect.made.argument)

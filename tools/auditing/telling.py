@@ -6,14 +6,14 @@ from auditing.reasons import core_behind, reason_of
 from auditing.replicas import PageFault, Stop, Thread, Trap, Watchdog
 from fuzzing import readers
 from journals import Vote
-from kernel import MAPPED, MAPPED_END, WORD, Call, Kernel
+from kernel import MAPPED, MAPPED_END, WORD, Atomic, Call, Kernel, atomic_of
 from racing.symbols import LOADS, REGISTERS, STORES, signed
 
 LEFT_OUT = "function", "text"  # what a file's symbols of functions tell, and the texts of instructions
 UNFETCHED = 1, 2  # causes of a trap before the instruction was fetched
 
 WORDS = {  # of the parts of a view
-    "pc": "the pc", "since": "the instructions since the last vote", "stop": "what it stands at", "payload": "what is written"}
+    "pc": "the pc", "since": "the instructions since the last vote", "stop": "what it stands at", "payload": "what is written or found"}
 
 ABI_NAMES = {f"x{number}": name for number, name in enumerate(REGISTERS)}
 
@@ -157,7 +157,10 @@ def instruction_told(core: Core, trapped: Thread) -> dict | None:
 
 
 def touched_by(word: int, registers: list[int]) -> int | None:
-    """The address that an instruction loads from or stores to."""
+    """The address that an instruction loads from or stores to, or both."""
+    atomic = atomic_of(word, registers)
+    if atomic:
+        return atomic.address
     opcode, function, base = word & 127, word >> 12 & 7, registers[word >> 15 & 31]
     if opcode == 0x03 and function in LOADS:
         return base + signed(word >> 20) & WORD
@@ -190,7 +193,7 @@ def mapped_words(told: dict | None) -> str:
 
 
 def stop_word(stop: Stop) -> str:
-    return {Call: "call", Trap: "trap", PageFault: "page_fault", Watchdog: "watchdog"}[type(stop)]
+    return {Call: "call", Atomic: "atomic", Trap: "trap", PageFault: "page_fault", Watchdog: "watchdog"}[type(stop)]
 
 
 def standing_told(core: Core, thread: int) -> dict:

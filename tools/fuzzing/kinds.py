@@ -95,7 +95,8 @@ class Executables:
     LIMITS = [200, 2_000, 10_000]
 
     def __init__(self):
-        files = [*sorted((GUESTS / "built").iterdir()), *sorted(SMALL.iterdir())]
+        built = [path for path in (GUESTS / "built").iterdir() if path.is_file()]
+        files = [*sorted(built), *sorted(SMALL.iterdir())]
         self.real = [file.read_bytes() for file in files]
 
     def file(self, draw):

@@ -1,8 +1,8 @@
 """The machine of docs/GUESTS.md for programs with one thread, written after that page: what a program writes, how it ends and
 after how many votes and steps."""
 from fuzzing import readers
-from kernel import (EXECUTE, HEAP_SIZE, PAGE, READ, THREADS, WORD, WRITE, Call, Done, Ends, Range, low_bytes, moved,
-                    opening_kernel)
+from kernel import (EXECUTE, HEAP_SIZE, PAGE, READ, THREADS, WORD, WRITE, Atomic, Call, Done, Ends, Range, atomic_of, low_bytes,
+                    moved, opening_kernel, signed)
 
 STACKS, STACK_SIZE, STACK_STEP = 0x70000000, 0x10000, 0x20000
 RETURN = 0x7FFFFFF0
@@ -15,10 +15,6 @@ class Ended(Exception):
 
 class Several(Exception):
     """A second thread would be made."""
-
-
-def signed(value):
-    return value - (1 << 32) if value >> 31 else value
 
 
 def extended(value, bits):
@@ -83,6 +79,10 @@ class Machine:
         for place, byte in enumerate(data, address):
             self.pages.setdefault(place // PAGE, bytearray(PAGE))[place % PAGE] = byte
 
+    def back(self, page):
+        """The page is there from now on."""
+        self.pages.setdefault(page, bytearray(PAGE))
+
     def bytes_at(self, address, size):
         return bytes(self.pages[place // PAGE][place % PAGE] if place // PAGE in self.pages else 0
                      for place in range(address, address + size))
@@ -91,7 +91,7 @@ class Machine:
         """The page of an address, and where it is in it. The first time it is needed its replicas stop there, for a vote."""
         while address // PAGE not in self.pages:
             self.vote(0)
-            self.pages[address // PAGE] = bytearray(PAGE)
+            self.back(address // PAGE)
         return self.pages[address // PAGE], address % PAGE
 
     # ---- Votes
@@ -126,6 +126,28 @@ class Machine:
         self.fill(served.effect.place, served.effect.data)
         served.effect.move(self)
 
+    # ---- Atomic instructions
+
+    def atomic_in(self, word, registers) -> Atomic | None:
+        """The atomic instruction that a word is, where it ends in no trap."""
+        atomic = atomic_of(word, registers)
+        cause = atomic.trap(self.kernel) if atomic else None
+        if cause is not None:
+            self.trap(cause)
+        return atomic
+
+    def word_at(self, address):
+        return int.from_bytes(self.bytes_at(address, 4), "little")
+
+    def atomic(self, atomic):
+        """An atomic instruction of the one thread there is."""
+        self.vote(1)
+        served = self.kernel.serve_atomic(0, atomic, self.word_at(atomic.address))
+        self.kernel = served.kernel
+        self.back(served.effect.page)
+        self.fill(served.effect.place, served.effect.data)
+        served.effect.move(self)
+
     # ---- Steps
 
     def run(self):
@@ -157,6 +179,10 @@ class Machine:
         name, word = self.fetched(pc)
         if name or word == ECALL:
             self.call(name.decode() if name else x[17])
+            return
+        atomic = self.atomic_in(word, x)
+        if atomic:
+            self.atomic(atomic)
             return
         self.carry_out(self, word)
         self.since += 1

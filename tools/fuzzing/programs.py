@@ -1,8 +1,12 @@
 """Drawn programs: each register gets a value, drawn instructions follow, all registers are written out."""
 import struct
 
+from kernel import AMOS, ATOMIC, LR, MAPPED, OF_A_WORD, SC
+
 BASE, HEADERS, PAGE = 0x10000, 52 + 32, 4096
 POINTER = 31  # the register with an address of the heap, which no drawn instruction changes
+STACK_END = 0x70010000  # of thread 0
+PLACE, TARGET = 30, 29  # the registers with the address of atomic instructions, which nothing else changes, and of jumps
 OPERANDS = [0, 1, 2, 31, 32, 0x7FF, 0x800, 0xFFFF, 0x10000, 0x7FFFFFFF, 0x80000000, 0x80000001, 0xFFFF8000, 0xFFFFFFFE,
             0xFFFFFFFF]
 # funct7 and funct3 of what two registers give.
@@ -32,6 +36,11 @@ def form_j(by, register):
             | register << 7 | 0x6F)
 
 
+def form_a(kind, second, first, register, order=0):
+    """An atomic instruction, by the bits 31 to 27, with the bits aq and rl."""
+    return kind << 27 | order << 25 | second << 20 | first << 15 | OF_A_WORD << 12 | register << 7 | ATOMIC
+
+
 def put(register, value):
     """LUI and ADDI of a value."""
     low = (value & 0xFFF) - ((value & 0x800) << 1)
@@ -52,14 +61,63 @@ def draw_mapping(draw):
     words += put(11, place & 0xFFFFFFFF) + [11 << 20 | 10 << 15 | 11 << 7 | 0x33]  # the answer and the place
     if draw.randrange(4):
         words.append(form_s(0, draw.randrange(32), 11, 2))
-    return words + [form_i(0, 11, 2, draw.randrange(POINTER), 0x03)]
+    return words + [form_i(0, 11, 2, draw.randrange(PLACE), 0x03)]
+
+
+def draw_place(draw):
+    """The address of a word to PLACE: of the heap, mostly one of two, or the header's last word or the stack; seldom no word's."""
+    kind = draw.randrange(100)
+    if kind == 0:
+        return put(PLACE, draw.choice((0, BASE - 4, 0x40000000, MAPPED, STACK_END, 0xFFFFFFFC)))
+    if kind == 1:
+        return [form_i(draw.choice((1, 2, 3)), POINTER, 0, PLACE, 0x13)]
+    if kind < 5:
+        return put(PLACE, BASE + HEADERS - 4)
+    if kind < 8:
+        return put(PLACE, STACK_END - 4 * draw.randrange(1, 9))
+    return [form_i(draw.choice((0, 0, 4, -2048, 4 * draw.randrange(-512, 512))), POINTER, 0, PLACE, 0x13)]
+
+
+def draw_atomic(draw):
+    """One atomic instruction on the word at PLACE; seldom a word of their opcode that is none."""
+    kind = draw.choice((LR, SC, *AMOS))
+    second, register, order = 0 if kind == LR else draw.randrange(32), draw.randrange(PLACE), draw.randrange(4)
+    word = form_a(kind, second, PLACE, register, order)
+    if draw.randrange(150):
+        return word
+    return draw.choice((form_a(LR, draw.randrange(1, 32), PLACE, register, order), draw.getrandbits(25) << 7 | ATOMIC,
+                        form_a(draw.randrange(32), second, PLACE, register, order), word ^ 1 << draw.randrange(12, 15)))
+
+
+def draw_between(draw):
+    """What comes between an LR and an SC: mostly nothing, a store to the word, a call, or another atomic instruction."""
+    kind = draw.randrange(8)
+    if kind == 0:
+        return [form_s(0, draw.randrange(32), PLACE, 2)]
+    if kind == 1:
+        return [form_i(draw.choice((214, 0)), 0, 0, 17, 0x13), 0x73]
+    if kind == 2:
+        return [form_i(0, PLACE, 2, TARGET, 0x03), form_s(0, TARGET, PLACE, 2)]
+    return [draw_atomic(draw)] if kind == 3 else []
+
+
+def draw_atomics(draw):
+    """Some atomic instructions on one word; or an LR and an SC, and what comes between."""
+    words = draw_place(draw)
+    if draw.randrange(2):
+        return words + [draw_atomic(draw) for _ in range(draw.choice((1, 1, 2, 3)))]
+    pair = [form_a(kind, second, PLACE, draw.choice((0, draw.randrange(PLACE))), draw.randrange(4))
+            for kind, second in ((LR, 0), (SC, draw.randrange(32)))]
+    return words + pair[:1] + draw_between(draw) + pair[1:]
 
 
 def draw_instructions(draw):
     """One instruction, or some that belong together. Jumps go ahead, so that programs end."""
     if draw.randrange(60) == 0:
         return draw_mapping(draw)
-    register, first, second = draw.randrange(POINTER), draw.randrange(32), draw.randrange(32)
+    if draw.randrange(15) == 0:
+        return draw_atomics(draw)
+    register, first, second = draw.randrange(PLACE), draw.randrange(32), draw.randrange(32)
     ahead = 4 * draw.randrange(2, 8) - (2 if draw.randrange(200) == 0 else 0)
     kind = draw.randrange(12)
     if kind < 4:
@@ -82,7 +140,7 @@ def draw_instructions(draw):
         return [form_b(ahead, second, first, draw.choice((0, 1, 4, 5, 6, 7)))]
     if kind == 10:
         return [form_j(ahead, register)]
-    return draw.choice(([30 << 7 | 0x17, form_i(4 + ahead + draw.randrange(2), 30, 0, register, 0x67)],
+    return draw.choice(([TARGET << 7 | 0x17, form_i(4 + ahead + draw.randrange(2), TARGET, 0, register, 0x67)],
                         [draw.getrandbits(32) & ~0x707F | 0x0F]))
 
 
@@ -96,7 +154,7 @@ def executable(words):
 def draw_program(draw, length):
     """An executable of so many drawn instructions and some."""
     words = []
-    for register in range(1, POINTER):
+    for register in range(1, PLACE):
         words += put(register, draw.choice((draw.choice(OPERANDS), draw.getrandbits(32))))
     ends = [form_s(4 * register, register, POINTER, 2) for register in range(32)]
     ends += [form_i(1, 0, 0, 10, 0x13), form_i(0, POINTER, 0, 11, 0x13), form_i(128, 0, 0, 12, 0x13), form_i(64, 0, 0, 17, 0x13),
@@ -105,6 +163,6 @@ def draw_program(draw, length):
     while len(body) < length:
         body += draw_instructions(draw)
     body += [0x13] * 8  # where the last jumps go
-    size = HEADERS + 4 * (2 + len(words) + len(body) + len(ends))
+    size = HEADERS + 4 * (3 + len(words) + len(body) + len(ends))
     heap = BASE + -(-size // PAGE) * PAGE
-    return executable(put(POINTER, heap + 2048) + words + body + ends)
+    return executable(put(POINTER, heap + 2048) + [form_i(0, POINTER, 0, PLACE, 0x13)] + words + body + ends)

@@ -3,29 +3,43 @@ each which bytes it accesses and what it means for the order of steps."""
 import collections.abc
 import dataclasses
 import enum
+import typing
 
 from fuzzing import readers
 from fuzzing.machine import ECALL, RETURN, STACKS, STACK_SIZE, STACK_STEP, Ended, Machine
-from kernel import HEAP_SIZE, THREADS, WORD, Blocked, Call, Effect, Ends, Parked, Range, Served, moved
+from kernel import HEAP_SIZE, LR, SC, THREADS, WORD, Atomic, Blocked, Call, Effect, Ends, Parked, Range, Served, moved
 
 NONE = range(0)  # no bytes
 SYSTEM_CALLS = {63: "read", 64: "write", 93: "exit", 94: "exit", 214: "brk", 222: "mmap"}
 
 
 class Relation(enum.Enum):
-    """What a step means for the order; `subject` of a step says of which mutex or thread."""
+    """What a step means for the order; `subject` of a step says of which mutex, thread or word."""
     NOTHING = "nothing"
     UNLOCKS = "unlocks"
     LOCKS = "locks"
     MAKES = "makes"
     JOINS = "joins"
     EXITS = "exits"
+    READS_WORD = "reads word"  # an LR
+    WRITES_WORD = "writes word"  # an AMO, or an SC that succeeds
 
 
 @dataclasses.dataclass
 class Thread:
     registers: list[int]
     pc: int
+
+
+class Access(typing.NamedTuple):
+    """How a step accesses bytes."""
+    stretch: range
+    writes: bool
+    is_atomic: bool = False
+
+    def conflicts(self, other: "Access", byte: int) -> bool:
+        both = byte in self.stretch and byte in other.stretch
+        return both and (self.writes or other.writes) and not (self.is_atomic and other.is_atomic)
 
 
 @dataclasses.dataclass
@@ -39,19 +53,24 @@ class Step:
     code: range = NONE  # the bytes that were read as an instruction
     loaded: range = NONE  # the bytes that it loads, or writes to the output
     stored: range = NONE  # the bytes that it stores, or that are given to the program
+    loaded_atomically: range = NONE
+    stored_atomically: range = NONE
     relation: Relation = Relation.NOTHING
     subject: int = 0
 
+    def accesses(self) -> list[Access]:
+        return [Access(self.code, False), Access(self.loaded, False), Access(self.stored, True),
+                Access(self.loaded_atomically, False, True), Access(self.stored_atomically, True, True)]
+
     def reads(self, byte: int) -> bool:
-        return byte in self.code or byte in self.loaded
+        return any(byte in access.stretch for access in self.accesses() if not access.writes)
 
     def writes(self, byte: int) -> bool:
-        return byte in self.stored
+        return any(byte in access.stretch for access in self.accesses() if access.writes)
 
     def conflicts(self, other: "Step", byte: int) -> bool:
-        """Whether both access the byte, and one of them writes it."""
-        both = (self.reads(byte) or self.writes(byte)) and (other.reads(byte) or other.writes(byte))
-        return both and (self.writes(byte) or other.writes(byte))
+        """Whether both access the byte, one of them to write it, and not both by atomic accesses."""
+        return any(one.conflicts(its, byte) for one in self.accesses() for its in other.accesses())
 
 
 def made_registers(creator: list[int], number: int, argument: int) -> list[int]:
@@ -132,6 +151,10 @@ class Replay(Machine):
             self.now.call = SYSTEM_CALLS.get(x[17], f"system call {x[17]}")
             self.serve(thread, Call(x[17], *x[10:14]))
             return
+        atomic = self.atomic_in(word, x)
+        if atomic:
+            self.serve_atomic(thread, atomic)
+            return
         self.carry_out(thread, word)
 
     # ---- Accesses
@@ -144,6 +167,21 @@ class Replay(Machine):
     def store(self, address, size, value):
         super().store(address, size, value)
         self.now.stored = range(address, address + size)
+
+    def serve_atomic(self, thread: Thread, atomic: Atomic):
+        """An atomic instruction of a thread."""
+        served = self.kernel.serve_atomic(self.now.thread, atomic, self.word_at(atomic.address))
+        self.kernel, stores = served.kernel, bool(served.effect.data)
+        touched = range(atomic.address, atomic.address + 4)
+        loaded, stored = NONE if atomic.kind == SC and stores else touched, touched if stores else NONE
+        if atomic.address == thread.pc:  # its own word, which was read before: plain accesses, and no order
+            self.now.loaded, self.now.stored = loaded, stored
+        else:
+            self.now.loaded_atomically, self.now.stored_atomically = loaded, stored
+            if stores or atomic.kind == LR:
+                self.now.relation, self.now.subject = Relation.WRITES_WORD if stores else Relation.READS_WORD, atomic.address
+        self.fill(served.effect.place, served.effect.data)
+        served.effect.move(thread)
 
     # ---- Calls
 

@@ -3,9 +3,9 @@ import random
 import struct
 
 from fuzzing.machine import EBREAK, ECALL
-from fuzzing.programs import BASE, HEADERS, PAGE, form_i, form_j, form_s, put
+from fuzzing.programs import BASE, HEADERS, PAGE, form_a, form_b, form_i, form_j, form_s, put
 from fuzzing.readers import NAMES
-from kernel import MAPPED
+from kernel import AMOS, LR, MAPPED, SC
 from racing.machine import NoStep, Plan, Replay
 from racing.symbols import FUNCTION, Symbol
 
@@ -36,9 +36,12 @@ STUBS = {name.decode(): CODE + 4 + 4 * i for i, name in enumerate(NAMES)}
 SHARED = CODE + 4 * (1 + len(NAMES))  # two words that all threads access
 MUTEXES = [SHARED + 8, SHARED + 12]
 CONDITIONS = [SHARED + 16, SHARED + 20]
-FIRST, ROOM = SHARED + 24, 4 * 180  # thread 0's function, and the room of each
+ATOMICS = [SHARED + 24, SHARED + 28]  # two words that are mostly accessed atomically
+FIRST, ROOM = SHARED + 32, 4 * 260  # thread 0's function, and the room of each
 POINTER, VALUE, RETURN_PLACE = 9, 5, 18  # registers: SHARED, what is loaded and stored, and where a thread returns to
+PLACE, RESULT = 6, 7  # registers: the address of an atomic instruction, and its answer
 NOP = 0x13
+SWAP, OR = 1, 8  # AMOs
 
 
 class Function:
@@ -100,6 +103,47 @@ def draw_mapped(draw: random.Random, function: Function):
         function.words += put(6, place) + [form_i(0, 6, size, VALUE, 0x03) if kind < 7 else form_s(0, VALUE, 6, size)]
 
 
+def draw_order(draw: random.Random) -> int:
+    """The bits aq and rl, which mean nothing."""
+    return draw.choice((0, 0, 1, 2, 3))
+
+
+def draw_atomic(draw: random.Random, function: Function):
+    """One or two atomic instructions on a word that is accessed so alone, or, seldom, on one that others load and store: one that
+    all threads access, what a thread begins with, mapped memory, or the instruction itself."""
+    kind, order = draw.randrange(24), draw_order(draw)
+    if kind == 0:
+        function.words += [PLACE << 7 | 0x17, form_i(8, PLACE, 0, PLACE, 0x13), form_a(OR, 0, PLACE, RESULT, order)]
+        return
+    if kind == 1:
+        function.words += [*put(PLACE, FIRST + ROOM * draw.randrange(3)), form_a(OR, 0, PLACE, RESULT, order)]
+        return
+    place = {2: SHARED, 3: SHARED, 4: SHARED + 4, 5: MAPPED}.get(kind, draw.choice((ATOMICS[0], *ATOMICS)))
+    function.words += put(PLACE, place)
+    how = draw.randrange(8)
+    if how < 3:
+        function.words.append(form_a(draw.choice(list(AMOS)), VALUE, PLACE, RESULT, order))
+    elif how < 5:
+        function.words.append(form_a(LR, 0, PLACE, RESULT, order))
+    elif how == 5:
+        function.words.append(form_a(SC, VALUE, PLACE, RESULT, order))
+    else:
+        function.words += [form_a(LR, 0, PLACE, RESULT, order), form_a(SC, VALUE, PLACE, RESULT, order)]
+
+
+def draw_message(draw: random.Random, function: Function):
+    """Sends a word: stores it and sets a word of the atomic ones to 1, seldom by a store that fails; or receives it: looks whether
+    that word is set, seldom by a plain load, and loads the word if it is."""
+    order = draw_order(draw)
+    function.words += put(PLACE, ATOMICS[1])
+    if draw.randrange(2):
+        function.words += [form_s(4, VALUE, POINTER, 2), form_i(1, 0, 0, VALUE, 0x13)]
+        function.words += [form_a(SC if draw.randrange(5) == 0 else SWAP, VALUE, PLACE, RESULT, order)]
+    else:
+        look = form_i(0, PLACE, 2, RESULT, 0x03) if draw.randrange(5) == 0 else form_a(LR, 0, PLACE, RESULT, order)
+        function.words += [look, form_b(8, 0, RESULT, 0), form_i(4, POINTER, 2, VALUE, 0x03)]
+
+
 def draw_condition(draw: random.Random, function: Function, mutex: int):
     """A signal or a broadcast, or a wait, seldom with another mutex. Nobody looks whether there is something to wait for."""
     condition = CONDITIONS[draw.randrange(8) == 0]
@@ -142,9 +186,10 @@ def draw_end(draw: random.Random, function: Function, is_first: bool):
 
 def draw_program(draw: random.Random) -> bytes:
     """An executable whose thread 0 makes a second thread, and thread 0 or that one perhaps a third; each does a few parts, of a
-    third of the programs some with mapped memory."""
+    third of the programs some with mapped memory, and of half of them some with atomic instructions."""
     makers = {1: 0, 2: draw.choice((0, 1, None))}
     functions, maps = [Function(number) for number in range(3)], draw.randrange(3) == 0
+    others = [draw_mapped] * maps + [draw_atomic, draw_message] * draw.randrange(2)
     if maps and draw.randrange(2):
         functions[0].call(222, 0, draw.choice((1, 2 * PAGE)), 3, 0x22)
     for number, function in enumerate(functions):
@@ -154,8 +199,8 @@ def draw_program(draw: random.Random) -> bytes:
         deeds += [("join", draw.randrange(3)) for _ in range(draw.choice((0, 1, 1, 2)) if number == 0 else draw.randrange(2))]
         deeds += [("part", 0)] * draw.randint(0, 1)
         for what, other in deeds:
-            for _ in range(draw.randrange(3) if maps else 0):
-                draw_mapped(draw, function)
+            for draw_other in draw.sample(others, draw.randrange(len(others) + 1)):
+                draw_other(draw, function)
             if what == "part":
                 draw_part(draw, function)
             elif what == "make":

@@ -9,6 +9,7 @@ import struct
 import subprocess
 
 from fuzzing import readers
+from kernel import LR, SC, atomic_kind
 
 PREFIXES = ["riscv64-unknown-elf-", "riscv64-linux-gnu-", "llvm-"]
 SECONDS = 20  # that another tool may take
@@ -20,6 +21,9 @@ REGISTERS = ["zero", "ra", "sp", "gp", "tp", "t0", "t1", "t2", "s0", "s1", *(f"a
              *(f"s{i}" for i in range(2, 12)), *(f"t{i}" for i in range(3, 7))]
 LOADS = {0: "lb", 1: "lh", 2: "lw", 4: "lbu", 5: "lhu"}
 STORES = {0: "sb", 1: "sh", 2: "sw"}
+ATOMICS = {LR: "lr", SC: "sc", 0: "amoadd", 1: "amoswap", 4: "amoxor", 8: "amoor", 12: "amoand", 16: "amomin", 20: "amomax",
+           24: "amominu", 28: "amomaxu"}
+ORDERS = ["", ".rl", ".aq", ".aqrl"]  # of the bits 26 and 25
 
 
 @dataclasses.dataclass
@@ -107,13 +111,21 @@ def output_of(name: str, *words: str) -> str:
 
 
 def decoded(word: int) -> str | None:
-    """The text of a load or a store, or of an ECALL."""
+    """The text of a load, a store or an atomic instruction, or of an ECALL."""
     opcode, function, base = word & 127, word >> 12 & 7, REGISTERS[word >> 15 & 31]
     if opcode == 0x03 and function in LOADS:
         return f"{LOADS[function]} {REGISTERS[word >> 7 & 31]}, {signed(word >> 20)}({base})"
     if opcode == 0x23 and function in STORES:
         return f"{STORES[function]} {REGISTERS[word >> 20 & 31]}, {signed(word >> 25 << 5 | word >> 7 & 31)}({base})"
-    return "ecall" if word == 0x73 else None
+    return "ecall" if word == 0x73 else decoded_atomic(word)
+
+
+def decoded_atomic(word: int) -> str | None:
+    kind, (register, base, second) = atomic_kind(word), (REGISTERS[word >> at & 31] for at in (7, 15, 20))
+    if kind is None:
+        return None
+    operand = "" if kind == LR else f"{second}, "
+    return f"{ATOMICS[kind]}.w{ORDERS[word >> 25 & 3]} {register}, {operand}({base})"
 
 
 def signed(field: int) -> int:

@@ -7,6 +7,13 @@ from racing.order import Placed, last_before
 from racing.symbols import Executable
 
 
+PLAINLY, ATOMICALLY = False, True
+CURE = ["One of the two is an atomic instruction, the other a plain load or store.",
+        "Make every access of that variable atomic.",
+        "With guests/kit/atomics.c each C11 atomic is a call, whose loads are LR and whose stores are AMOSWAP.",
+        "Without it compilers make a plain lw of an atomic load and a plain sw of an atomic store."]
+
+
 class NoRace(Exception):
     """What was called a race is none, and why."""
 
@@ -36,7 +43,9 @@ def race_at(steps: collections.abc.Iterable[Step], first: int, second: int, byte
     if one.thread == other.thread:
         raise NoRace(f"Steps {first} and {second} are both of thread {one.thread}.")
     if not one.conflicts(other, byte):
-        raise NoRace(f"Steps {first} and {second} don't both access the byte at {byte:08x}, one of them to write it.")
+        are_atomic = all(ways_of(step, byte) == {ATOMICALLY} for step in (one, other))
+        raise NoRace(f"Steps {first} and {second} both access the byte at {byte:08x} atomically." if are_atomic else
+                     f"Steps {first} and {second} don't both access the byte at {byte:08x}, one of them to write it.")
     before = last_before(earlier, one.thread, other)
     if before and before[0] >= first:
         raise NoRace(f"Step {first} is ordered before step {second}.")
@@ -57,6 +66,7 @@ class Teller:
             *([f"Step {place}: thread {step.thread} {self.does(step)}.", accesses(step, byte), self.holds(step)]
               for place, step in (race.first, race.second)),
             [self.order(race)],
+            *([CURE] if is_mixed(one, other, byte) else []),
         ]
         return "\n".join("".join(sentence + "\n" for sentence in part) for part in parts)
 
@@ -94,8 +104,20 @@ class Teller:
         if race.before is None:
             return f"No step of thread {thread} is ordered before step {second}."
         place, step = race.before
-        call = f"{part_of(step)}a call of {step.call}"
-        return f"Of thread {thread}, step {place}, {call}, is the last that is ordered before step {second}."
+        what = f"{part_of(step)}a call of {step.call}" if step.call else f"the atomic instruction at {self.place(step.pc)}"
+        return f"Of thread {thread}, step {place}, {what}, is the last that is ordered before step {second}."
+
+
+def ways_of(step: Step, byte: int) -> set[bool]:
+    """Whether a step accesses a byte atomically, otherwise, or in both ways."""
+    return {access.is_atomic for access in step.accesses() if byte in access.stretch}
+
+
+def is_mixed(one: Step, other: Step, byte: int) -> bool:
+    """Whether one of two steps is an atomic instruction on the byte, and the other one loads or stores it otherwise."""
+    plain, atomic = sorted((one, other), key=lambda step: ways_of(step, byte) == {ATOMICALLY})
+    is_plain = ways_of(plain, byte) == {PLAINLY} and byte not in plain.code and not plain.call
+    return is_plain and ways_of(atomic, byte) == {ATOMICALLY}
 
 
 def part_of(step: Step) -> str:
@@ -105,14 +127,18 @@ def part_of(step: Step) -> str:
 
 
 def verb(step: Step, byte: int) -> str:
-    return "writes" if step.writes(byte) else "reads"
+    does = "writes" if step.writes(byte) else "reads"
+    return f"atomically {does}" if ways_of(step, byte) == {ATOMICALLY} else does
 
 
 def accesses(step: Step, byte: int) -> str:
     """How a step accesses a byte."""
     whats = {"read": "with bytes of the input", "write": "for the output", "mmap": "with zeros",
              "pthread_create": "with the new thread's number", "pthread_join": f"with the exit value of thread {step.subject}"}
-    ways = [("writes", step.stored, whats.get(step.call)), ("reads", step.loaded, whats.get(step.call)),
+    what = whats.get(step.call)
+    atomic = [does for does, stretch in (("reads", step.loaded_atomically), ("writes", step.stored_atomically)) if byte in stretch]
+    ways = [("writes", step.stored, what), ("reads", step.loaded, what),
+            (f"atomically {' and '.join(atomic)}", step.loaded_atomically or step.stored_atomically, None),
             ("reads", step.code, "as a part of the instruction")]
     told = []
     for does, stretch, what in ways:

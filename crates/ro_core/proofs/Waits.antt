@@ -26,6 +26,7 @@ use Rattle.ro_region.specs.declared.Range.{Range}
 use Rattle.ro_region.specs.Permission.{with_range}
 use Rattle.ro_kernel.specs.State.{State}
 use Rattle.ro_kernel.proofs.Given.{given-done, given-ended}
+use Rattle.ro_kernel.proofs.Shapes.{IsOnMutex, on_lock, on_trylock, on_unlock, IsWaking, wakes_first, wakes_all, IsWaiting, for_thread, for_mutex, for_signal, Shape, says, reads, breaks, maps_more, owns, wakes, parks_at, resumes, makes, joins, leaves, of_word, waits, stops, stops_last, shape-of}
 use Rattle.ro_kernel.proofs.Kept.{IsServed, is_done, is_end, system-served, atomic-served}
 use Rattle.ro_kernel.specs.Served.{Brings}
 use Rattle.ro_kernel.specs.Serve.{Served, Done, Parked, Blocked, Ends, answers, fits, is_served, mapped, serve_read, serve_write, serve_brk, serve_mmap, serve_system, serve_join_at, lock_at, trylock_at, unlock_at, wait_at, on_word, serve_function, atomic_at, atomic_by, serve_by, serve_which, serve, serves}
@@ -46,60 +47,44 @@ data Leaving (old : Kernel) : Served → Type 0 where
   by_done : {after : Kernel} {effect : Effect} → LeavesRest old after → Leaving old (Done after effect)
   by_end : {after : Kernel} {how : How} → LeavesRest old after → Leaving old (Ends after how)
 
-leaving-cond : (old : Kernel) (b : Bool) (x y : Served) → Leaving old x → Leaving old y → Leaving old (cond b x y)
-leaving-cond old true x y p q = p
-leaving-cond old false x y p q = q
+-- a call on a mutex, one that wakes and one that waits are calls of a function
+of-mutex : {which : Which} → IsOnMutex which → (function : Posix) × (which ≡ Function function)
+of-mutex on_lock = (Lock, refl)
+of-mutex on_trylock = (TryLock, refl)
+of-mutex on_unlock = (Unlock, refl)
 
-module _ (setup : Setup) (kernel : Kernel) (u : ℕ) (call : Call) where
-  same : LeavesRest kernel kernel
-  same = record { lives = refl; owners = refl; waiters = refl }
+of-waking : {before after : List Waiter} {condition : ℕ} {which : Which} → IsWaking before condition which after → (function : Posix) × (which ≡ Function function)
+of-waking wakes_first = (Signal, refl)
+of-waking wakes_all = (Broadcast, refl)
 
-  reads-on : (n : ℕ) → LeavesRest kernel (record kernel { taken = n })
-  reads-on n = record { lives = refl; owners = refl; waiters = refl }
+of-waiting : {kernel : Kernel} {u : ℕ} {which : Which} → IsWaiting kernel u which → (function : Posix) × (which ≡ Function function)
+of-waiting for_thread = (Join, refl)
+of-waiting for_mutex = (Lock, refl)
+of-waiting (for_signal waiter e) = (Wait, refl)
 
-  breaks-at : (n : ℕ) → LeavesRest kernel (record kernel { heap_end = n })
-  breaks-at n = record { lives = refl; owners = refl; waiters = refl }
+module _ (setup : Setup) (kernel : Kernel) (u : ℕ) (call : Call) (other : (function : Posix) → call.which ≢ Function function) where
+  no-function : ((function : Posix) × (call.which ≡ Function function)) → ⊥
+  no-function f = other f.0 f.1
 
-  gives-more : LeavesRest kernel (record kernel { given = mapped kernel.given call ∷ kernel.given })
-  gives-more = record { lives = refl; owners = refl; waiters = refl }
+  leaving-of : {served : Served} → Shape setup kernel u call served → Leaving kernel served
+  leaving-of (says value) = by_done (record { lives = refl; owners = refl; waiters = refl })
+  leaving-of (reads number e xs h) = by_done (record { lives = refl; owners = refl; waiters = refl })
+  leaving-of (breaks e end) = by_done (record { lives = refl; owners = refl; waiters = refl })
+  leaving-of (maps_more e some room) = by_done (record { lives = refl; owners = refl; waiters = refl })
+  leaving-of (owns on fit owner) = absurd (no-function (of-mutex on))
+  leaving-of (wakes ws w) = absurd (no-function (of-waking w))
+  leaving-of (parks_at w e h) = absurd (other Wait w)
+  leaving-of (resumes w waiter e h) = absurd (other Wait w)
+  leaving-of (makes w f n) = absurd (other Create w)
+  leaving-of (joins w value e h) = absurd (other Join w)
+  leaving-of (leaves w) = absurd (other Exit w)
+  leaving-of (of_word word value reserved e low store) = by_done (record { lives = refl; owners = refl; waiters = refl })
+  leaving-of (waits w) = absurd (no-function (of-waiting w))
+  leaving-of (stops status) = by_end (record { lives = refl; owners = refl; waiters = refl })
+  leaving-of (stops_last w) = absurd (other Exit w)
 
-  reserves : (reserved : List (Option Reservation)) → LeavesRest kernel (record kernel { reserved = reserved })
-  reserves reserved = record { lives = refl; owners = refl; waiters = refl }
-
-  of-read : Leaving kernel (serve_read setup kernel u call)
-  of-read = search (leaving-cond, by_done, same, reads-on)
-
-  of-write : Leaving kernel (serve_write setup kernel u call)
-  of-write = search (leaving-cond, by_done, same)
-
-  of-brk : Leaving kernel (serve_brk setup kernel u call)
-  of-brk = search (leaving-cond, by_done, same, breaks-at)
-
-  of-mmap : Leaving kernel (serve_mmap kernel u call)
-  of-mmap = search (leaving-cond, by_done, same, gives-more) depth 8
-
-  system-leaves : (number : ℕ) → Leaving kernel (serve_system setup kernel u call number)
-  system-leaves number =
-      let rest = leaving-cond kernel (number == 214) _ _ of-brk (leaving-cond kernel (number == 222) _ _ of-mmap (by_done same)) in
-      leaving-cond kernel (number == 63) _ _ of-read (leaving-cond kernel (number == 64) _ _ of-write (leaving-cond kernel ((number == 93) || (number == 94)) _ _ (by_end same) rest))
-
-  of-access : (word : ℕ) (o : Option Reservation) (op : AtomicOp) → Leaving kernel (atomic_at kernel u call word o op)
-  of-access word o LoadReserved = by_done (reserves _)
-  of-access word o StoreConditional = leaving-cond kernel _ _ _ (by_done (reserves _)) (by_done same)
-  of-access word o op = by_done (reserves _)
-
-  of-atomic : (word : ℕ) (o : Option Reservation) (op : Option AtomicOp) → Leaving kernel (atomic_by setup kernel u call word o op)
-  of-atomic word o None = by_done same
-  of-atomic word o (Some op) = leaving-cond kernel _ _ _ (by_done same) (of-access word o op)
-
-  of-which : (o : Option Reservation) (which : Which) → ((function : Posix) → which ≢ Function function) → Leaving kernel (serve_by setup kernel u call o which)
-  of-which o (System number) other = system-leaves number
-  of-which o (Atomic word) other = of-atomic word o (atomic_in word)
-  of-which o (Function function) other = absurd (other function refl)
-
-others-leave : (setup : Setup) (kernel : Kernel) (u : ℕ) (call : Call) → ((function : Posix) → call.which ≢ Function function) → Leaving (released kernel u) (serve setup kernel u call)
-unfolding serve
-others-leave setup kernel u call other = of-which setup (released kernel u) u call (reservation_of kernel.reserved u) call.which other
+  others-leave : Leaving kernel (serve setup kernel u call)
+  others-leave = leaving-of (shape-of setup kernel u call)
 
 leaves-done : (old after : Kernel) (effect : Effect) → Leaving old (Done after effect) → LeavesRest old after
 leaves-done old after effect (by_done h) = h
@@ -107,8 +92,8 @@ leaves-done old after effect (by_done h) = h
 leaves-end : (old after : Kernel) (how : How) → Leaving old (Ends after how) → LeavesRest old after
 leaves-end old after how (by_end h) = h
 
-leaves-all : (old new : Kernel) (u : ℕ) → LeavesRest (released old u) new → new.given ≡ old.given → LeavesWaiting old new
-leaves-all old new u h given = record { lives = h.lives; owners = h.owners; waiters = h.waiters; given = given }
+leaves-all : (old new : Kernel) → LeavesRest old new → new.given ≡ old.given → LeavesWaiting old new
+leaves-all old new h given = record { lives = h.lives; owners = h.owners; waiters = h.waiters; given = given }
 
 not-parked : (old after : Kernel) → Leaving old (Parked after) → ⊥
 not-parked old after h = elim h [ ]
@@ -117,17 +102,17 @@ not-parked old after h = elim h [ ]
 pub brings-leaves : (old new : State) (u : ℕ) (call : Call) (served : Code) → ((function : Posix) → call.which ≢ Function function) → ((effect : Effect) → served ≡ CodeDone effect → effect.range ≡ None) → Brings (serve old.setup old.kernel u call) old new served → LeavesWaiting old.kernel new.kernel
 brings-leaves old new u call served other none b = by served none b
   where
-    left : Leaving (released old.kernel u) (serve old.setup old.kernel u call)
+    left : Leaving old.kernel (serve old.setup old.kernel u call)
     left = others-leave old.setup old.kernel u call other
 
     by : (code : Code) → ((effect : Effect) → code ≡ CodeDone effect → effect.range ≡ None) → Brings (serve old.setup old.kernel u call) old new code → LeavesWaiting old.kernel new.kernel
     by (CodeDone effect) unmapped h =
-        leaves-all old.kernel new.kernel u (leaves-done (released old.kernel u) new.kernel effect (subst (Leaving (released old.kernel u)) h.0 left))
+        leaves-all old.kernel new.kernel (leaves-done old.kernel new.kernel effect (subst (Leaving old.kernel) h.0 left))
         (given-done old.setup old.kernel u call new.kernel effect h.0 ∙ ap (λ (range : Option Range). with_range range old.kernel.given) (unmapped effect refl))
-    by CodeParked unmapped h = absurd (not-parked (released old.kernel u) new.kernel (subst (Leaving (released old.kernel u)) h.0 left))
+    by CodeParked unmapped h = absurd (not-parked old.kernel new.kernel (subst (Leaving old.kernel) h.0 left))
     by CodeBlocked unmapped h = record { lives = ap (λ (s : State). s.kernel.lives) h.1; owners = ap (λ (s : State). s.kernel.owners) h.1; waiters = ap (λ (s : State). s.kernel.waiters) h.1; given = ap (λ (s : State). s.kernel.given) h.1 }
     by (CodeEnds how) unmapped h =
-        leaves-all old.kernel new.kernel u (leaves-end (released old.kernel u) new.kernel how (subst (Leaving (released old.kernel u)) h.0 left))
+        leaves-all old.kernel new.kernel (leaves-end old.kernel new.kernel how (subst (Leaving old.kernel) h.0 left))
         (given-ended old.setup old.kernel u call new.kernel how h.0)
 
 -- ---- whether a call would be done hangs on nothing else

@@ -1,5 +1,5 @@
 //! What each instruction does.
-ghost use Rattle.std.specs.Prelude.{◌≡◌, ◌+◌, ◌*◌, ◌/◌, ◌%◌, ◌^◌, ◌<◌, true, Some};
+ghost use Rattle.std.specs.Prelude.{◌≡◌, ◌+◌, ◌*◌, ◌/◌, ◌%◌, ◌^◌, ◌<◌, ◌≤◌, true, Some};
 ghost use Rattle.ro_decode.specs.Table.{InRange};
 ghost use Rattle.ro_alu.specs.Results.{low_word};
 ghost use Rattle.ro_pages.specs.Bytes.{IsSize, number_at, bytes_of, stored};
@@ -25,6 +25,7 @@ pub fn load_size(op: LoadOp) -> u32
     ensures value { result ≡ load_size_of op }
     ensures size { IsSize result }
     ensures positive { 0 < result }
+    ensures few { result ≤ 4 }
 {
     match op {
         LoadOp::Lb | LoadOp::Lbu => 1,
@@ -39,6 +40,7 @@ pub fn store_size(op: StoreOp) -> u32
     ensures value { result ≡ store_size_of op }
     ensures size { IsSize result }
     ensures positive { 0 < result }
+    ensures few { result ≤ 4 }
 {
     match op {
         StoreOp::Sb => 1,

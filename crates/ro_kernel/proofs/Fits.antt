@@ -66,13 +66,13 @@ module _ (setup : Setup) (kernel : Kernel) (u : ℕ) (call : Call) where
   fit-of (wakes ws w) = fit-answers (record (released kernel u) { waiters = ws }) 0 refl
   fit-of (parks_at w e h) = fit_parked refl
   fit-of (resumes w waiter e h) = fit-answers (record (released kernel u) { owners = with_owner kernel.owners call.a1 (Some u); waiters = without kernel.waiters u }) 0 refl
-  fit-of (makes f n) = fit_done (record { one_life_each = length-append kernel.lives (Live ∷ []); few = omega arith; place_left = below (length kernel.lives) n; backs_low = tt })
-  fit-of (joins value e h) = fit_done (record { one_life_each = length-set kernel.lives call.a0 Joined ∙ add-none (length kernel.lives); few = few-bytes (call.a1 == 0) value; place_left = tt; backs_low = tt })
-  fit-of leaves = fit_done (record { one_life_each = length-set kernel.lives u (Exited call.a0) ∙ add-none (length kernel.lives); few = omega arith; place_left = tt; backs_low = tt })
+  fit-of (makes w f n) = fit_done (record { one_life_each = length-append kernel.lives (Live ∷ []); few = omega arith; place_left = below (length kernel.lives) n; backs_low = tt })
+  fit-of (joins w value e h) = fit_done (record { one_life_each = length-set kernel.lives call.a0 Joined ∙ add-none (length kernel.lives); few = few-bytes (call.a1 == 0) value; place_left = tt; backs_low = tt })
+  fit-of (leaves w) = fit_done (record { one_life_each = length-set kernel.lives u (Exited call.a0) ∙ add-none (length kernel.lives); few = omega arith; place_left = tt; backs_low = tt })
   fit-of (of_word word value reserved e low store) = fit_done (record { one_life_each = add-none (length kernel.lives); few = word-few store; place_left = tt; backs_low = low })
   fit-of (waits w) = fit_blocked
   fit-of (stops status) = fit_end refl
-  fit-of stops_last = fit_end (length-set kernel.lives u (Exited call.a0))
+  fit-of (stops_last w) = fit_end (length-set kernel.lives u (Exited call.a0))
 
   serve-fit : Fit kernel (serve setup kernel u call)
   serve-fit = fit-of (shape-of setup kernel u call)

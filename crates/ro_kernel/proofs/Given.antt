@@ -28,13 +28,13 @@ module _ (setup : Setup) (kernel : Kernel) (u : ℕ) (call : Call) where
   gives-of (wakes ws w) = refl
   gives-of (parks_at w e h) = refl
   gives-of (resumes w waiter e h) = refl
-  gives-of (makes f n) = refl
-  gives-of (joins value e h) = refl
-  gives-of leaves = refl
+  gives-of (makes w f n) = refl
+  gives-of (joins w value e h) = refl
+  gives-of (leaves w) = refl
   gives-of (of_word word value reserved e low store) = refl
   gives-of (waits w) = tt
   gives-of (stops status) = refl
-  gives-of stops_last = refl
+  gives-of (stops_last w) = refl
 
   pub serve-gives : Gives kernel (serve setup kernel u call)
   serve-gives = gives-of (shape-of setup kernel u call)
@@ -85,13 +85,13 @@ module _ (setup : Setup) (kernel : Kernel) (u : ℕ) (call : Call) where
   maps-of (wakes ws w) = λ h. h
   maps-of (parks_at w e o) = λ h. h
   maps-of (resumes w waiter e o) = λ h. h
-  maps-of (makes f n) = λ h. h
-  maps-of (joins value e o) = λ h. h
-  maps-of leaves = λ h. h
+  maps-of (makes w f n) = λ h. h
+  maps-of (joins w value e o) = λ h. h
+  maps-of (leaves w) = λ h. h
   maps-of (of_word word value reserved e low store) = λ h. h
   maps-of (waits w) = tt
   maps-of (stops status) = λ h. h
-  maps-of stops_last = λ h. h
+  maps-of (stops_last w) = λ h. h
 
   pub serve-maps : MapsMore kernel (serve setup kernel u call)
   serve-maps = maps-of (shape-of setup kernel u call)
@@ -109,13 +109,13 @@ module _ (setup : Setup) (kernel : Kernel) (u : ℕ) (call : Call) where
   room-of (wakes ws w) h = tt
   room-of (parks_at w e o) h = tt
   room-of (resumes w waiter e o) h = tt
-  room-of (makes f n) h = tt
-  room-of (joins value e o) h = tt
-  room-of leaves h = tt
+  room-of (makes w f n) h = tt
+  room-of (joins w value e o) h = tt
+  room-of (leaves w) h = tt
   room-of (of_word word value reserved e low store) h = tt
   room-of (waits w) h = tt
   room-of (stops status) h = tt
-  room-of stops_last h = tt
+  room-of (stops_last w) h = tt
 
   pub range-room : (after : Kernel) (effect : Effect) → serve setup kernel u call ≡ Done after effect → IsMapped kernel.given → IfSome effect.range (λ range. length kernel.given < 4096)
   range-room after effect e h = subst (HasRoom kernel) e (room-of (shape-of setup kernel u call) h)
@@ -135,13 +135,13 @@ module _ (setup : Setup) (kernel : Kernel) (u : ℕ) (call : Call) where
   alone-of (wakes ws w) = tt
   alone-of (parks_at w e o) = tt
   alone-of (resumes w waiter e o) = tt
-  alone-of (makes f n) = tt
-  alone-of (joins value e o) = tt
-  alone-of leaves = tt
+  alone-of (makes w f n) = tt
+  alone-of (joins w value e o) = tt
+  alone-of (leaves w) = tt
   alone-of (of_word word value reserved e low store) = tt
   alone-of (waits w) = tt
   alone-of (stops status) = tt
-  alone-of stops_last = tt
+  alone-of (stops_last w) = tt
 
   pub range-alone : (after : Kernel) (effect : Effect) → serve setup kernel u call ≡ Done after effect → IfSome effect.range (λ range. (effect.bytes ≡ []) × (range.start + range.length ≤ 0x51000000))
   range-alone after effect e = subst GivesAlone e (alone-of (shape-of setup kernel u call))

@@ -52,13 +52,13 @@ module _ (setup : Setup) (kernel : Kernel) (u : ℕ) (call : Call) where
   after-of (wakes ws w) = as_before refl
   after-of (parks_at w e h) = one_freed w refl
   after-of (resumes w waiter e h) = one_back (Some u) w refl
-  after-of (makes f n) = as_before refl
-  after-of (joins value e h) = as_before refl
-  after-of leaves = as_before refl
+  after-of (makes w f n) = as_before refl
+  after-of (joins w value e h) = as_before refl
+  after-of (leaves w) = as_before refl
   after-of (of_word word value reserved e low store) = as_before refl
   after-of (waits w) = none_there
   after-of (stops status) = at_the_end
-  after-of stops_last = at_the_end
+  after-of (stops_last w) = at_the_end
 
   pub owners-after : OwnersAfter kernel call (serve setup kernel u call)
   owners-after = after-of (shape-of setup kernel u call)

@@ -66,13 +66,13 @@ module _ (setup : Setup) (kernel : Kernel) (thread : ℕ) (call : Call) where
   refuses-of (wakes ws w) = fine 0 _ _ refl (no-error call.which)
   refuses-of (parks_at w e h) = parked
   refuses-of (resumes w waiter e h) = fine 0 _ _ refl (no-error call.which)
-  refuses-of (makes f n) = fine 0 _ _ refl (no-error call.which)
-  refuses-of (joins value e h) = fine 0 _ _ refl (no-error call.which)
-  refuses-of leaves = done (λ value (e : None ≡ Some value) h. absurd (let f : None ≡ Some value = e in cc))
+  refuses-of (makes w f n) = fine 0 _ _ refl (no-error call.which)
+  refuses-of (joins w value e h) = fine 0 _ _ refl (no-error call.which)
+  refuses-of (leaves w) = done (λ value (e : None ≡ Some value) h. absurd (let f : None ≡ Some value = e in cc))
   refuses-of (of_word word value reserved e low store) = fine value _ _ refl (ap (λ (w : Which). is_error w value) e)
   refuses-of (waits w) = blocked
   refuses-of (stops status) = ends
-  refuses-of stops_last = ends
+  refuses-of (stops_last w) = ends
 
   pub error-alone : (after : Kernel) (effect : Effect) (value : ℕ) → serve setup kernel thread call ≡ Done after effect → effect.answer ≡ Some value → is_error call.which value ≡ true → (after ≡ released kernel thread) × (effect ≡ answer_effect thread call value)
   error-alone after effect value e = yields-done (Refuses kernel thread call) _ after effect (refuses-of (shape-of setup kernel thread call)) e value

@@ -71,22 +71,22 @@ pub data Shape (setup : Setup) (kernel : Kernel) (u : ℕ) (call : Call) : Serve
   -- a wait ends, and has its mutex back
   resumes : call.which ≡ Function Wait → (waiter : Waiter) → wait_of kernel.waiters u ≡ Some waiter → (waiter.signalled && is_free (owner_of kernel.owners call.a1)) ≡ true → Shape setup kernel u call (ends_wait (released kernel u) u call)
   -- a thread is made
-  makes : fits (ranges_in setup kernel) call.a0 ≡ true → nat_le 16 (length kernel.lives) ≡ false → Shape setup kernel u call (Done (record (released kernel u) { lives = kernel.lives ++ Live ∷ [] }) (record (storing u call.a0 (bytes_of 4 (length kernel.lives))) {
+  makes : call.which ≡ Function Create → fits (ranges_in setup kernel) call.a0 ≡ true → nat_le 16 (length kernel.lives) ≡ false → Shape setup kernel u call (Done (record (released kernel u) { lives = kernel.lives ++ Live ∷ [] }) (record (storing u call.a0 (bytes_of 4 (length kernel.lives))) {
     answer = Some 0;
     goes = Returns;
     made = Some (record { start = call.a2; argument = call.a3; creator = u });
   }))
   -- a thread that has exited is joined
-  joins : (value : ℕ) → slice_get kernel.lives call.a0 ≡ Some (Exited value) → (not (call.a1 == 0) && not (fits (ranges_in setup kernel) call.a1)) ≡ false → Shape setup kernel u call (joined setup (released kernel u) u call value)
+  joins : call.which ≡ Function Join → (value : ℕ) → slice_get kernel.lives call.a0 ≡ Some (Exited value) → (not (call.a1 == 0) && not (fits (ranges_in setup kernel) call.a1)) ≡ false → Shape setup kernel u call (joined setup (released kernel u) u call value)
   -- the thread exits, and others live on
-  leaves : Shape setup kernel u call (Done (record (released kernel u) { lives = slice_set kernel.lives u (Exited call.a0) }) (quiet u))
+  leaves : call.which ≡ Function Exit → Shape setup kernel u call (Done (record (released kernel u) { lives = slice_set kernel.lives u (Exited call.a0) }) (quiet u))
   -- a word is loaded, stored, or both, and reservations change
   of_word : (word value : ℕ) (reserved : List (Option Reservation)) {place : ℕ} {bytes : List ℕ} → call.which ≡ Atomic word → page_of call.a0 < 2 ^ 20 → IsWordStore (ranges_in setup kernel) call.a0 place bytes → Shape setup kernel u call (Done (record (released kernel u) { reserved = reserved }) (record (atomic_effect u call word value) { place = place; bytes = bytes }))
   -- it blocks
   waits : IsWaiting kernel u call.which → Shape setup kernel u call Blocked
   -- the program exits, by a call or with its last thread
   stops : (status : ℕ) → Shape setup kernel u call (Ends (released kernel u) (ExitHow status))
-  stops_last : Shape setup kernel u call (Ends (record (released kernel u) { lives = slice_set kernel.lives u (Exited call.a0) }) (ExitHow 0))
+  stops_last : call.which ≡ Function Exit → Shape setup kernel u call (Ends (record (released kernel u) { lives = slice_set kernel.lives u (Exited call.a0) }) (ExitHow 0))
 
 pub set-by : (b : Bool) → not b ≡ false → b ≡ true
 set-by true h = refl
@@ -133,20 +133,20 @@ module _ (setup : Setup) (kernel : Kernel) (u : ℕ) (call : Call) where
       let b = tested (number == 214) _ _ (λ h. of-brk (is 214 h)) (λ h. m) in
       either (number == 63) _ _ r (either (number == 64) _ _ of-write (either ((number == 93) || (number == 94)) _ _ (stops (call.a0 % 256)) b))
 
-  of-create : Shape setup kernel u call (serve_create setup (released kernel u) u call)
-  of-create =
-      let l = tested (not (fits (ranges_in setup kernel) call.a0)) _ _ (λ h. says 14) (λ h. tested (nat_le 16 (length kernel.lives)) _ _ (λ k. says 11) (λ k. makes (set-by _ h) k)) in
+  of-create : call.which ≡ Function Create → Shape setup kernel u call (serve_create setup (released kernel u) u call)
+  of-create e =
+      let l = tested (not (fits (ranges_in setup kernel) call.a0)) _ _ (λ h. says 14) (λ h. tested (nat_le 16 (length kernel.lives)) _ _ (λ k. says 11) (λ k. makes e (set-by _ h) k)) in
       search (l, either, says)
 
-  of-join_at : (o : Option Life) → slice_get kernel.lives call.a0 ≡ o → IsWaiting kernel u call.which → Shape setup kernel u call (serve_join_at setup (released kernel u) u call o)
-  of-join_at None e w = says 3
-  of-join_at (Some Joined) e w = search (either, says)
-  of-join_at (Some Live) e w = search (either, says, waits, w)
-  of-join_at (Some (Exited value)) e w =
-      let l = tested (not (call.a1 == 0) && not (fits (ranges_in setup kernel) call.a1)) _ _ (λ h. says 14) (λ h. joins value e h) in search (l, either, says)
+  of-join_at : call.which ≡ Function Join → (o : Option Life) → slice_get kernel.lives call.a0 ≡ o → Shape setup kernel u call (serve_join_at setup (released kernel u) u call o)
+  of-join_at w None e = says 3
+  of-join_at w (Some Joined) e = search (either, says)
+  of-join_at w (Some Live) e = let l : IsWaiting kernel u call.which = subst (IsWaiting kernel u) (sym w) for_thread in search (either, says, waits, l)
+  of-join_at w (Some (Exited value)) e =
+      let l = tested (not (call.a1 == 0) && not (fits (ranges_in setup kernel) call.a1)) _ _ (λ h. says 14) (λ h. joins w value e h) in search (l, either, says)
 
-  of-exit : Shape setup kernel u call (serve_exit (released kernel u) u call)
-  of-exit = search (either, leaves, stops_last)
+  of-exit : call.which ≡ Function Exit → Shape setup kernel u call (serve_exit (released kernel u) u call)
+  of-exit e = search (either, leaves, stops_last, e)
 
   module _ (on : IsOnMutex call.which) (fit : fits (ranges_in setup kernel) call.a0 ≡ true) where
     sets : (owner : Option ℕ) → Shape setup kernel u call (answers (record (released kernel u) { owners = with_owner kernel.owners call.a0 owner }) u call 0)
@@ -204,9 +204,9 @@ module _ (setup : Setup) (kernel : Kernel) (u : ℕ) (call : Call) where
 
   of-which : (which : Which) → call.which ≡ which → Shape setup kernel u call (serve_which setup kernel u call which)
   of-which (System number) e = of-system number e
-  of-which (Function Create) e = of-create
-  of-which (Function Join) e = of-join_at (slice_get kernel.lives call.a0) refl (subst (IsWaiting kernel u) (sym e) for_thread)
-  of-which (Function Exit) e = of-exit
+  of-which (Function Create) e = of-create e
+  of-which (Function Join) e = of-join_at e (slice_get kernel.lives call.a0) refl
+  of-which (Function Exit) e = of-exit e
   of-which (Function ThreadSelf) e = says u
   of-which (Function MutexInit) e = of-word _ (says 0)
   of-which (Function MutexDestroy) e = of-word _ (says 0)

@@ -60,13 +60,13 @@ module _ (setup : Setup) (kernel : Kernel) (thread : ℕ) (call : Call) where
   stores-of (wakes ws w) = done (permits-none (ranges_in setup kernel) Write)
   stores-of (parks_at w e h) = parked
   stores-of (resumes w waiter e h) = done (permits-none (ranges_in setup kernel) Write)
-  stores-of (makes f n) = done (fits-permits call.a0 f)
-  stores-of (joins value e h) = done (value-fits value (call.a1 == 0) refl h)
-  stores-of leaves = done (permits-none (ranges_in setup kernel) Write)
+  stores-of (makes w f n) = done (fits-permits call.a0 f)
+  stores-of (joins w value e h) = done (value-fits value (call.a1 == 0) refl h)
+  stores-of (leaves w) = done (permits-none (ranges_in setup kernel) Write)
   stores-of (of_word word value reserved e low store) = done (word-permits store)
   stores-of (waits w) = blocked
   stores-of (stops status) = ends
-  stores-of stops_last = ends
+  stores-of (stops_last w) = ends
 
   pub stores-permitted : (after : Kernel) (effect : Effect) → serve setup kernel thread call ≡ Done after effect → permits_of (ranges_in setup kernel) Write effect.place (length effect.bytes) ≡ true
   stores-permitted after effect e = yields-done (Stores (ranges_in setup kernel)) _ after effect (stores-of (shape-of setup kernel thread call)) e

@@ -59,13 +59,13 @@ module _ (setup : Setup) (kernel : Kernel) (table : TableFits setup kernel) wher
     fits-of (wakes ws w) = table
     fits-of (parks_at w e h) = fits-set call.a1 None (table call.a1 (owner-inside u (owner_of kernel.owners call.a1) h))
     fits-of (resumes w waiter e h) = fits-set call.a1 (Some u) (table call.a1 (free-inside (owner_of kernel.owners call.a1) (and_parts waiter.signalled (is_free (owner_of kernel.owners call.a1)) h).1))
-    fits-of (makes f n) = table
-    fits-of (joins value e h) = table
-    fits-of leaves = table
+    fits-of (makes w f n) = table
+    fits-of (joins w value e h) = table
+    fits-of (leaves w) = table
     fits-of (of_word word value reserved e low store) = table
     fits-of (waits w) = tt
     fits-of (stops status) = table
-    fits-of stops_last = table
+    fits-of (stops_last w) = table
 
     pub serve-fits : FitsAfter setup (serve setup kernel u call)
     serve-fits = fits-of (shape-of setup kernel u call)

@@ -40,13 +40,13 @@ module _ (setup : Setup) (kernel : Kernel) (u : ℕ) (call : Call) where
       let mine : Waiter = record { thread = u; condition = call.a0; signalled = false } in
       wait_parked (λ t k. listed-others kernel.waiters mine t (λ f. k (sym f))) (begun-waits kernel.waiters mine) (ap is_some e)
   others-of (resumes w waiter e h) = wait_done (λ t k. ended-others kernel.waiters u t (λ f. k (sym f)))
-  others-of (makes f n) = wait_done (λ t h. refl)
-  others-of (joins value e h) = wait_done (λ t k. refl)
-  others-of leaves = wait_done (λ t h. refl)
+  others-of (makes w f n) = wait_done (λ t h. refl)
+  others-of (joins w value e h) = wait_done (λ t k. refl)
+  others-of (leaves w) = wait_done (λ t h. refl)
   others-of (of_word word value reserved e low store) = wait_done (λ t h. refl)
   others-of (waits w) = wait_blocked
   others-of (stops status) = wait_ends
-  others-of stops_last = wait_ends
+  others-of (stops_last w) = wait_ends
 
   pub others-wait : OthersWait kernel u (serve setup kernel u call)
   others-wait = others-of (shape-of setup kernel u call)
@@ -132,13 +132,13 @@ module _ (setup : Setup) (kernel : Kernel) (u : ℕ) (call : Call) where
   parks-so (wakes ws w) h = absurd (false≢true h)
   parks-so (parks_at w e o) h = w
   parks-so (resumes w waiter e o) h = absurd (false≢true h)
-  parks-so (makes f n) h = absurd (false≢true h)
-  parks-so (joins value e p) h = absurd (false≢true h)
-  parks-so leaves h = absurd (false≢true h)
+  parks-so (makes w f n) h = absurd (false≢true h)
+  parks-so (joins w value e p) h = absurd (false≢true h)
+  parks-so (leaves w) h = absurd (false≢true h)
   parks-so (of_word word value reserved e low store) h = absurd (false≢true h)
   parks-so (waits w) h = absurd (false≢true h)
   parks-so (stops status) h = absurd (false≢true h)
-  parks-so stops_last h = absurd (false≢true h)
+  parks-so (stops_last w) h = absurd (false≢true h)
 
   pub parked-waits : (after : Kernel) → serve setup kernel u call ≡ Parked after → call.which ≡ Function Wait
   parked-waits after e = parks-so (shape-of setup kernel u call) (ap is_parked e)
@@ -156,13 +156,13 @@ module _ (setup : Setup) (kernel : Kernel) (u : ℕ) (call : Call) where
   blocked-of (wakes ws w) h = absurd (false≢true h)
   blocked-of (parks_at w e o) h = absurd (false≢true h)
   blocked-of (resumes w waiter e o) h = absurd (false≢true h)
-  blocked-of (makes f n) h = absurd (false≢true h)
-  blocked-of (joins value e p) h = absurd (false≢true h)
-  blocked-of leaves h = absurd (false≢true h)
+  blocked-of (makes w f n) h = absurd (false≢true h)
+  blocked-of (joins w value e p) h = absurd (false≢true h)
+  blocked-of (leaves w) h = absurd (false≢true h)
   blocked-of (of_word word value reserved e low store) h = absurd (false≢true h)
   blocked-of (waits w) h = w
   blocked-of (stops status) h = absurd (false≢true h)
-  blocked-of stops_last h = absurd (false≢true h)
+  blocked-of (stops_last w) h = absurd (false≢true h)
 
   waits-already : {which : Which} → IsWaiting kernel u which → which ≡ Function Wait → is_waiting kernel.waiters u ≡ true
   waits-already for_thread e = absurd (let f : Function Join ≡ Function Wait = e in cc)

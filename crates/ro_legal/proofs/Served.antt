@@ -77,17 +77,17 @@ module _ (setup : Setup) (kernel : Kernel) (u : ℕ) (call : Call) where
   tidy-of (wakes ws w) = tidy-answers kernel (record (released kernel u) { waiters = ws }) u call 0 refl
   tidy-of (parks_at w e h) = tidy_parked
   tidy-of (resumes w waiter e h) = tidy-answers kernel (record (released kernel u) { owners = with_owner kernel.owners call.a1 (Some u); waiters = without kernel.waiters u }) u call 0 refl
-  tidy-of (makes f n) = tidy_done (record {
+  tidy-of (makes w f n) = tidy_done (record {
     one_life_each = length-append kernel.lives (Live ∷ []);
     stays_dead = λ t d short h. ap live_option (sym (get-append-short kernel.lives (Live ∷ []) t short)) ∙ h;
     goes_on = refl;
   })
-  tidy-of (joins value e h) = tidy_done (record {
+  tidy-of (joins w value e h) = tidy_done (record {
     one_life_each = length-set kernel.lives call.a0 Joined ∙ add-none (length kernel.lives);
     stays_dead = λ t d short h. set-dead call.a0 t Joined refl h;
     goes_on = refl;
   })
-  tidy-of leaves = tidy_done (record {
+  tidy-of (leaves w) = tidy_done (record {
     one_life_each = length-set kernel.lives u (Exited call.a0) ∙ add-none (length kernel.lives);
     stays_dead = λ t d short h. set-dead u t (Exited call.a0) refl h;
     goes_on = refl;
@@ -95,7 +95,7 @@ module _ (setup : Setup) (kernel : Kernel) (u : ℕ) (call : Call) where
   tidy-of (of_word word value reserved e low store) = tidy_done (record { one_life_each = add-none (length kernel.lives); stays_dead = λ t d short h. h; goes_on = refl })
   tidy-of (waits w) = tidy_blocked
   tidy-of (stops status) = tidy_end refl exits
-  tidy-of stops_last = tidy_end (length-set kernel.lives u (Exited call.a0)) exits
+  tidy-of (stops_last w) = tidy_end (length-set kernel.lives u (Exited call.a0)) exits
 
   -- what comes of a call
   pub serve-tidy : Tidy kernel u (serve setup kernel u call)

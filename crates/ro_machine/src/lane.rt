@@ -1,15 +1,12 @@
 //! A thread that takes plain steps in a row, with its registers at hand.
-ghost use Rattle.std.specs.Prelude.{ℕ, ◌≡◌, ◌+◌, ◌*◌, ◌%◌, ◌^◌, ◌<◌, ◌≤◌, IfSome, slice_get};
-ghost use Rattle.ro_decode.specs.Table.{InRange};
-ghost use Rattle.ro_exec.specs.Meaning.{loads, stores};
+ghost use Rattle.std.specs.Prelude.{◌≡◌, ◌+◌, ◌*◌, ◌%◌, ◌^◌, ◌≤◌, IfSome, slice_get};
 ghost use Rattle.ro_exec.specs.Stretches.{IsKept};
 ghost use Rattle.ro_pages.specs.Held.{memory_of};
-ghost use Rattle.ro_machine.specs.Watched.{span_of};
 ghost use Rattle.ro_machine.specs.Lanes.{cpu_of, Spells};
 
-use crate::looking::{Look, load_size, store_size};
-use crate::watching::{NO_BYTES, Stretch};
-use ro_decode::{Instr, decode};
+use crate::looking::{Look, loads_of, stores_of};
+use crate::watching::Stretch;
+use ro_decode::decode;
 use ro_exec::{Bank, Open, Stretch as Code};
 use ro_pages::{Memory, Pages};
 
@@ -50,38 +47,5 @@ pub(crate) fn look_quickly(lane: &Lane, pages: &Pages) -> Option<Look>
             stores: stores_of(instr, &lane.registers),
         }),
         None => None,
-    }
-}
-
-/// The bytes that an instruction loads.
-#[inline(always)]
-fn loads_of(instr: Instr, registers: &Bank) -> Stretch
-    requires { InRange instr }
-    ensures bytes { (pc : ℕ) → span_of result ≡ loads instr (record { registers = registers.now; pc = pc }) }
-    ensures few { result.count ≤ 4 }
-{
-    match instr {
-        Instr::Load { op, rs1, imm, .. } => Stretch {
-            place: registers.get(rs1).wrapping_add(imm),
-            count: load_size(op),
-        },
-        _ => NO_BYTES,
-    }
-}
-
-/// The bytes that it stores.
-#[inline(always)]
-fn stores_of(instr: Instr, registers: &Bank) -> Stretch
-    requires { InRange instr }
-    ensures bytes { (pc : ℕ) → span_of result ≡ stores instr (record { registers = registers.now; pc = pc }) }
-    ensures few { result.count ≤ 4 }
-    ensures at { result.place < 2 ^ 32 }
-{
-    match instr {
-        Instr::Store { op, rs1, imm, .. } => Stretch {
-            place: registers.get(rs1).wrapping_add(imm),
-            count: store_size(op),
-        },
-        _ => NO_BYTES,
     }
 }

@@ -1,17 +1,17 @@
 //! What is known of a thread's step before it is taken.
-ghost use Rattle.std.specs.Prelude.{[], ◌∷◌, ◌≡◌, ◌+◌, ◌%◌, ◌^◌, ◌<◌, ◌≤◌, is_none, true};
+ghost use Rattle.std.specs.Prelude.{ℕ, [], ◌∷◌, ◌≡◌, ◌+◌, ◌%◌, ◌^◌, ◌<◌, ◌≤◌, is_none, true};
 ghost use Rattle.ro_pages.specs.Bytes.{number_at, number_of};
 ghost use Rattle.ro_pages.specs.Held.{memory_of};
 ghost use Rattle.ro_decode.specs.Table.{InRange};
-ghost use Rattle.ro_exec.specs.Meaning.{loads, stores, load_size as load_size_of, store_size as store_size_of};
+ghost use Rattle.ro_exec.specs.Meaning.{loads, stores};
 ghost use Rattle.ro_exec.specs.Next.{all_backed, fetch_stop};
 ghost use Rattle.ro_machine.specs.Watched.{LooksAt, span_of};
 ghost use Rattle.ro_region.specs.Permission.{ranges_of};
 
 use crate::watching::{NO_BYTES, Stretch};
-use ro_decode::{Instr, LoadOp, StoreOp, decode};
+use ro_decode::{Instr, decode};
 use ro_event::CallTable;
-use ro_exec::{Cpu, EXIT_PLACE};
+use ro_exec::{Bank, Cpu, EXIT_PLACE, load_size, store_size};
 use ro_pages::Pages;
 use ro_region::{Kind, Regions};
 
@@ -51,12 +51,15 @@ pub(crate) fn look_ahead(cpu: &Cpu, pages: &Pages, regions: &Regions, calls: &Ca
         count: 4,
     };
     match decode(word_at(pages, cpu.pc)) {
-        Some(instr) => Look {
-            pc: cpu.pc,
-            code,
-            loads: loads_of(instr, cpu),
-            stores: stores_of(instr, cpu),
-        },
+        Some(instr) => {
+            let registers = Bank::new(&cpu.registers);
+            Look {
+                pc: cpu.pc,
+                code,
+                loads: loads_of(instr, &registers),
+                stores: stores_of(instr, &registers),
+            }
+        }
         None => Look {
             pc: cpu.pc,
             code,
@@ -67,14 +70,15 @@ pub(crate) fn look_ahead(cpu: &Cpu, pages: &Pages, regions: &Regions, calls: &Ca
 }
 
 /// The bytes that an instruction loads.
-fn loads_of(instr: Instr, cpu: &Cpu) -> Stretch
+#[inline(always)]
+pub(crate) fn loads_of(instr: Instr, registers: &Bank) -> Stretch
     requires { InRange instr }
-    ensures bytes { span_of result ≡ loads instr cpu.now }
+    ensures bytes { (pc : ℕ) → span_of result ≡ loads instr (record { registers = registers.now; pc = pc }) }
     ensures few { result.count ≤ 4 }
 {
     match instr {
         Instr::Load { op, rs1, imm, .. } => Stretch {
-            place: cpu.get(rs1).wrapping_add(imm),
+            place: registers.get(rs1).wrapping_add(imm),
             count: load_size(op),
         },
         _ => NO_BYTES,
@@ -82,15 +86,16 @@ fn loads_of(instr: Instr, cpu: &Cpu) -> Stretch
 }
 
 /// The bytes that it stores.
-fn stores_of(instr: Instr, cpu: &Cpu) -> Stretch
+#[inline(always)]
+pub(crate) fn stores_of(instr: Instr, registers: &Bank) -> Stretch
     requires { InRange instr }
-    ensures bytes { span_of result ≡ stores instr cpu.now }
+    ensures bytes { (pc : ℕ) → span_of result ≡ stores instr (record { registers = registers.now; pc = pc }) }
     ensures few { result.count ≤ 4 }
     ensures at { result.place < 2 ^ 32 }
 {
     match instr {
         Instr::Store { op, rs1, imm, .. } => Stretch {
-            place: cpu.get(rs1).wrapping_add(imm),
+            place: registers.get(rs1).wrapping_add(imm),
             count: store_size(op),
         },
         _ => NO_BYTES,
@@ -130,28 +135,4 @@ fn spelled(first: u8, second: u8, third: u8, fourth: u8) -> u32
 {
     u32::from(first)
         + 256 * (u32::from(second) + 256 * (u32::from(third) + 256 * u32::from(fourth)))
-}
-
-/// How many bytes a load reads.
-pub(crate) fn load_size(op: LoadOp) -> u32
-    ensures value { result ≡ load_size_of op }
-    ensures few { result ≤ 4 }
-{
-    match op {
-        LoadOp::Lb | LoadOp::Lbu => 1,
-        LoadOp::Lh | LoadOp::Lhu => 2,
-        LoadOp::Lw => 4,
-    }
-}
-
-/// How many bytes a store writes.
-pub(crate) fn store_size(op: StoreOp) -> u32
-    ensures value { result ≡ store_size_of op }
-    ensures few { result ≤ 4 }
-{
-    match op {
-        StoreOp::Sb => 1,
-        StoreOp::Sh => 2,
-        StoreOp::Sw => 4,
-    }
 }

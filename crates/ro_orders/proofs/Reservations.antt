@@ -109,13 +109,13 @@ module _ (setup : Setup) (kernel : Kernel) (u : ℕ) (call : Call) where
     shape-after (wakes ws w) = h
     shape-after (parks_at w e o) = h
     shape-after (resumes w waiter e o) = h
-    shape-after (makes f n) = h
-    shape-after (joins value e p) = h
-    shape-after leaves = h
+    shape-after (makes w f n) = h
+    shape-after (joins w value e p) = h
+    shape-after (leaves w) = h
     shape-after (of_word word value reserved e low store) = absurd (true≢false (sym (ap is_atomic e) ∙ plain))
     shape-after (waits w) = tt
     shape-after (stops status) = h
-    shape-after stops_last = h
+    shape-after (stops_last w) = h
 
 pub serve-reserves : (setup : Setup) (kernel : Kernel) → Reserves setup kernel → (u : ℕ) (call : Call) → ReservesAfter setup (serve setup kernel u call)
 unfolding serve

@@ -121,13 +121,13 @@ module _ (setup : Setup) (kernel : Kernel) (u : ℕ) (call : Call) where
   waiters-of (wakes ws w) = woken_waiters w
   waiters-of (parks_at w e h) = one_more refl
   waiters-of (resumes w waiter e h) = one_less refl
-  waiters-of (makes f n) = same_waiters refl
-  waiters-of (joins value e h) = same_waiters refl
-  waiters-of leaves = same_waiters refl
+  waiters-of (makes w f n) = same_waiters refl
+  waiters-of (joins w value e h) = same_waiters refl
+  waiters-of (leaves w) = same_waiters refl
   waiters-of (of_word word value reserved e low store) = same_waiters refl
   waiters-of (waits w) = none_at_all
   waiters-of (stops status) = at_the_end refl
-  waiters-of stops_last = at_the_end refl
+  waiters-of (stops_last w) = at_the_end refl
 
 -- ---- what is known of each who waits
 

@@ -201,7 +201,7 @@ class Kernel:
     machine: Place
     lives: list[Life]  # one for each thread that was made
     values: dict[int, int]  # by thread, what it exited with
-    owners: dict[int, int | None]  # of each mutex that was ever locked
+    owners: dict[int, int | None]  # of each mutex that was ever initialised or locked
     broken: int  # the program's break
     taken: int = 0  # how much of the input was read
     waiters: tuple[Waiter, ...] = ()  # in the order in which they began to wait
@@ -415,7 +415,7 @@ class Calling:
         mutex, owners = self.call.a0, self.kernel.owners
         if not self.kernel.has_room(mutex):
             return self.answers(EFAULT)
-        if what in ("init", "destroy"):
+        if what == "destroy" or what == "init" and mutex in owners:
             return self.answers(0)
         owner = owners.get(mutex)
         if what == "unlock":
@@ -426,7 +426,7 @@ class Calling:
             return self.answers(EDEADLK) if owner == self.thread else Blocked()
         if mutex not in owners and len(owners) >= MOST_MUTEXES:
             return self.answers(EAGAIN)
-        return self.answers(0, owners=owners | {mutex: self.thread})
+        return self.answers(0, owners=owners | {mutex: None if what == "init" else self.thread})
 
     # ---- Condition variables
 

@@ -29,7 +29,7 @@ use Rattle.ro_kernel.proofs.Given.{given-done, given-ended}
 use Rattle.ro_kernel.proofs.Shapes.{IsOnMutex, on_lock, on_trylock, on_unlock, IsWaking, wakes_first, wakes_all, IsWaiting, for_thread, for_mutex, for_signal, Shape, says, reads, breaks, maps_more, owns, wakes, parks_at, resumes, makes, joins, leaves, of_word, waits, stops, stops_last, shape-of}
 use Rattle.ro_kernel.proofs.Kept.{IsServed, is_done, is_end, system-served, atomic-served}
 use Rattle.ro_kernel.specs.Served.{Brings}
-use Rattle.ro_kernel.specs.Serve.{Served, Done, Parked, Blocked, Ends, answers, fits, is_served, mapped, serve_read, serve_write, serve_brk, serve_mmap, serve_system, serve_join_at, lock_at, trylock_at, unlock_at, wait_at, on_word, serve_function, atomic_at, atomic_by, serve_by, serve_which, serve, serves}
+use Rattle.ro_kernel.specs.Serve.{Served, Done, Parked, Blocked, Ends, answers, fits, is_served, mapped, serve_read, serve_write, serve_brk, serve_mmap, serve_system, serve_join_at, init_at, lock_at, trylock_at, unlock_at, wait_at, on_word, serve_function, atomic_at, atomic_by, serve_by, serve_which, serve, serves}
 use Rattle.ro_legal.specs.Action.{lowest_below}
 use Rattle.ro_core.specs.Fields.{blocked_at, is_unblocked, first_unblocked}
 use Rattle.ro_core.specs.Happening.{LeavesWaiting}
@@ -146,6 +146,10 @@ module _ (setup : Setup) (kernel : Kernel) (heap_end taken : ℕ) (reserved : Li
   same-join (Some Live) = search (alike-cond, both_done, both_blocked)
   same-join (Some (Exited value)) = search (alike-cond, both_done)
 
+  same-init : (o : Option (Option ℕ)) → Alike (init_at other u call o) (init_at kernel u call o)
+  same-init None = search (alike-cond, both_done)
+  same-init (Some owner) = both_done
+
   same-lock : (o : Option (Option ℕ)) → Alike (lock_at other u call o) (lock_at kernel u call o)
   same-lock None = search (alike-cond, both_done)
   same-lock (Some None) = both_done
@@ -170,7 +174,7 @@ module _ (setup : Setup) (kernel : Kernel) (heap_end taken : ℕ) (reserved : Li
   same-function Join = same-join (slice_get kernel.lives call.a0)
   same-function Exit = search (alike-cond, both_done, both_end)
   same-function ThreadSelf = both_done
-  same-function MutexInit = same-word (answers other u call 0) (answers kernel u call 0) both_done
+  same-function MutexInit = same-word _ _ (same-init (owner_of kernel.owners call.a0))
   same-function MutexDestroy = same-word (answers other u call 0) (answers kernel u call 0) both_done
   same-function Lock = same-word _ _ (same-lock (owner_of kernel.owners call.a0))
   same-function TryLock = same-word _ _ (same-trylock (owner_of kernel.owners call.a0))

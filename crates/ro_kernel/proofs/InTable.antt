@@ -36,7 +36,7 @@ same-table owners m a o h =
 -- none, or the one of its mutex
 pub data OwnersAfter (kernel : Kernel) (call : Call) : Served → Type 0 where
   as_before : {after : Kernel} {effect : Effect} → after.owners ≡ kernel.owners → OwnersAfter kernel call (Done after effect)
-  one_set : {after : Kernel} {effect : Effect} → (o : Option ℕ) → IsOnMutex call.which → after.owners ≡ with_owner kernel.owners call.a0 o → OwnersAfter kernel call (Done after effect)
+  one_set : {after : Kernel} {effect : Effect} → (o : Option ℕ) → IsOnMutex kernel.owners call.a0 call.which → after.owners ≡ with_owner kernel.owners call.a0 o → OwnersAfter kernel call (Done after effect)
   one_back : {after : Kernel} {effect : Effect} → (o : Option ℕ) → call.which ≡ Function Wait → after.owners ≡ with_owner kernel.owners call.a1 o → OwnersAfter kernel call (Done after effect)
   one_freed : {after : Kernel} → call.which ≡ Function Wait → after.owners ≡ with_owner kernel.owners call.a1 None → OwnersAfter kernel call (Parked after)
   none_there : OwnersAfter kernel call Blocked

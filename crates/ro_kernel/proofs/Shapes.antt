@@ -18,7 +18,7 @@ use Rattle.ro_region.specs.declared.Range.{Range}
 use Rattle.ro_region.specs.Permission.{permits_of}
 use Rattle.ro_pages.specs.Bytes.{bytes_of, page_of}
 use Rattle.ro_journal.specs.declared.How.TheVariants.{Exit as ExitHow}
-use Rattle.ro_mutex.specs.Owners.{owner_of, with_owner}
+use Rattle.ro_mutex.specs.Owners.{Owners, owner_of, with_owner}
 use Rattle.ro_condition.specs.declared.waiters.Waiter.{Waiter}
 use Rattle.ro_condition.specs.Waiters.{wait_of, with_signal, with_broadcast}
 use Rattle.ro_kernel.proofs.Payloads.{permitted_ends}
@@ -28,13 +28,14 @@ use Rattle.ro_kernel.specs.Kernel.{Setup, Kernel, ranges_in, released}
 use Rattle.ro_kernel.specs.Mapped.{mapped_to, in_pages}
 use Rattle.ro_kernel.specs.declared.reservations.Reservation.{Reservation}
 use Rattle.ro_kernel.specs.Reserved.{reservation_of, is_reserved}
-use Rattle.ro_kernel.specs.Serve.{atomic_effect, stores_word, atomic_at, reaches, atomic_by, Served, Done, Blocked, Ends, answers, stores_effect, minus, capped, fits, is_owner, is_free, begins_wait, ends_wait, wait_at, signals, serve_read, serve_write, serve_brk, maps, serve_mmap, serve_system, serve_create, joined, serve_join_at, serve_exit, lock_at, trylock_at, unlock_at, on_word, serve_which, serve}
+use Rattle.ro_kernel.specs.Serve.{atomic_effect, stores_word, atomic_at, reaches, atomic_by, Served, Done, Blocked, Ends, answers, stores_effect, minus, capped, fits, is_owner, is_free, begins_wait, ends_wait, wait_at, signals, serve_read, serve_write, serve_brk, maps, serve_mmap, serve_system, serve_create, joined, serve_join_at, serve_exit, init_at, lock_at, trylock_at, unlock_at, on_word, serve_which, serve}
 
--- a call that may set the owner of a mutex
-pub data IsOnMutex : Which → Type 0 where
-  on_lock : IsOnMutex (Function Lock)
-  on_trylock : IsOnMutex (Function TryLock)
-  on_unlock : IsOnMutex (Function Unlock)
+-- a call that may set the owner of the mutex at an address: an init only where it is not in the table
+pub data IsOnMutex (owners : Owners) (address : ℕ) : Which → Type 0 where
+  on_init : owner_of owners address ≡ None → IsOnMutex owners address (Function MutexInit)
+  on_lock : IsOnMutex owners address (Function Lock)
+  on_trylock : IsOnMutex owners address (Function TryLock)
+  on_unlock : IsOnMutex owners address (Function Unlock)
 
 -- a call that wakes waiters, with those before and behind it
 pub data IsWaking (before : List Waiter) (condition : ℕ) : Which → List Waiter → Type 0 where
@@ -63,7 +64,7 @@ pub data Shape (setup : Setup) (kernel : Kernel) (u : ℕ) (call : Call) : Serve
   -- a range of addresses, within what may be given
   maps_more : call.which ≡ System 222 → (call.a1 == 0) ≡ false → nat_lt 0x51000000 (mapped_to kernel.given + in_pages call.a1) ≡ false → Shape setup kernel u call (maps (released kernel u) u call)
   -- a mutex has another owner, or none: its word can be stored
-  owns : IsOnMutex call.which → fits (ranges_in setup kernel) call.a0 ≡ true → (owner : Option ℕ) → Shape setup kernel u call (answers (record (released kernel u) { owners = with_owner kernel.owners call.a0 owner }) u call 0)
+  owns : IsOnMutex kernel.owners call.a0 call.which → fits (ranges_in setup kernel) call.a0 ≡ true → (owner : Option ℕ) → Shape setup kernel u call (answers (record (released kernel u) { owners = with_owner kernel.owners call.a0 owner }) u call 0)
   -- those who wait on a condition variable are signalled, or one of them is
   wakes : (after : List Waiter) → IsWaking kernel.waiters call.a0 call.which after → Shape setup kernel u call (signals (released kernel u) u call after)
   -- a wait begins, and gives its mutex up
@@ -148,7 +149,7 @@ module _ (setup : Setup) (kernel : Kernel) (u : ℕ) (call : Call) where
   of-exit : call.which ≡ Function Exit → Shape setup kernel u call (serve_exit (released kernel u) u call)
   of-exit e = search (either, leaves, stops_last, e)
 
-  module _ (on : IsOnMutex call.which) (fit : fits (ranges_in setup kernel) call.a0 ≡ true) where
+  module _ (on : IsOnMutex kernel.owners call.a0 call.which) (fit : fits (ranges_in setup kernel) call.a0 ≡ true) where
     sets : (owner : Option ℕ) → Shape setup kernel u call (answers (record (released kernel u) { owners = with_owner kernel.owners call.a0 owner }) u call 0)
     sets owner = owns on fit owner
 
@@ -166,6 +167,10 @@ module _ (setup : Setup) (kernel : Kernel) (u : ℕ) (call : Call) where
     of-unlock_at None = says 1
     of-unlock_at (Some None) = says 1
     of-unlock_at (Some (Some owner)) = search (either, says, sets)
+
+  of-init_at : (o : Option (Option ℕ)) → owner_of kernel.owners call.a0 ≡ o → call.which ≡ Function MutexInit → fits (ranges_in setup kernel) call.a0 ≡ true → Shape setup kernel u call (init_at (released kernel u) u call o)
+  of-init_at None e w fit = either _ _ _ (says 11) (owns (subst (IsOnMutex kernel.owners call.a0) (sym w) (on_init e)) fit None)
+  of-init_at (Some owner) e w fit = says 0
 
   of-wait_at : (o : Option Waiter) → wait_of kernel.waiters u ≡ o → call.which ≡ Function Wait → Shape setup kernel u call (wait_at setup (released kernel u) u call o)
   of-wait_at None e w =
@@ -208,11 +213,11 @@ module _ (setup : Setup) (kernel : Kernel) (u : ℕ) (call : Call) where
   of-which (Function Join) e = of-join_at e (slice_get kernel.lives call.a0) refl
   of-which (Function Exit) e = of-exit e
   of-which (Function ThreadSelf) e = says u
-  of-which (Function MutexInit) e = of-word _ (says 0)
+  of-which (Function MutexInit) e = of-fit _ (λ fit. of-init_at (owner_of kernel.owners call.a0) refl e fit)
   of-which (Function MutexDestroy) e = of-word _ (says 0)
-  of-which (Function Lock) e = of-fit _ (λ fit. of-lock_at (subst IsOnMutex (sym e) on_lock) fit (owner_of kernel.owners call.a0) (subst (IsWaiting kernel u) (sym e) for_mutex))
-  of-which (Function TryLock) e = of-fit _ (λ fit. of-trylock_at (subst IsOnMutex (sym e) on_trylock) fit (owner_of kernel.owners call.a0))
-  of-which (Function Unlock) e = of-fit _ (λ fit. of-unlock_at (subst IsOnMutex (sym e) on_unlock) fit (owner_of kernel.owners call.a0))
+  of-which (Function Lock) e = of-fit _ (λ fit. of-lock_at (subst (IsOnMutex kernel.owners call.a0) (sym e) on_lock) fit (owner_of kernel.owners call.a0) (subst (IsWaiting kernel u) (sym e) for_mutex))
+  of-which (Function TryLock) e = of-fit _ (λ fit. of-trylock_at (subst (IsOnMutex kernel.owners call.a0) (sym e) on_trylock) fit (owner_of kernel.owners call.a0))
+  of-which (Function Unlock) e = of-fit _ (λ fit. of-unlock_at (subst (IsOnMutex kernel.owners call.a0) (sym e) on_unlock) fit (owner_of kernel.owners call.a0))
   of-which (Function ConditionInit) e = of-word _ (says 0)
   of-which (Function ConditionDestroy) e = of-word _ (says 0)
   of-which (Function Wait) e = of-word _ (of-wait_at (wait_of kernel.waiters u) refl e)

@@ -1,9 +1,9 @@
 //! What holds of every call that is served.
-ghost use Rattle.std.specs.Prelude.{ℕ, ◌≡◌, ◌≢◌, true, false, Some, None, is_some, length};
+ghost use Rattle.std.specs.Prelude.{ℕ, ◌≡◌, ◌≢◌, true, false, [], ◌∷◌, ◌++◌, Option, Some, None, is_some, length};
 ghost use Rattle.ro_region.specs.declared.Kind.TheVariants.{Write};
 ghost use Rattle.ro_region.specs.Permission.{permits_of};
 ghost use Rattle.ro_event.specs.declared.calls.Which.TheVariants.{System, Function};
-ghost use Rattle.ro_event.specs.declared.functions.Function.TheVariants.{Lock, TryLock, Unlock, Wait};
+ghost use Rattle.ro_event.specs.declared.functions.Function.TheVariants.{MutexInit, Lock, TryLock, Unlock, Wait};
 ghost use Rattle.ro_event.specs.declared.calls.Call.{Call};
 ghost use Rattle.ro_event.specs.Effects.{Effect};
 ghost use Rattle.ro_condition.specs.declared.waiters.Waiter.{Waiter};
@@ -49,6 +49,15 @@ pub fn locks_and_unlocks_set_the_owner()
     ensures locked { (setup : Setup) (kernel after : Kernel) (thread : ℕ) (call : Call) (effect : Effect) → call.which ≡ Function Lock → serve setup kernel thread call ≡ Done after effect → effect.answer ≡ Some 0 → owner_of after.owners call.a0 ≡ Some (Some thread) }
     ensures tried { (setup : Setup) (kernel after : Kernel) (thread : ℕ) (call : Call) (effect : Effect) → call.which ≡ Function TryLock → serve setup kernel thread call ≡ Done after effect → effect.answer ≡ Some 0 → owner_of after.owners call.a0 ≡ Some (Some thread) }
     ensures unlocked { (setup : Setup) (kernel after : Kernel) (thread : ℕ) (call : Call) (effect : Effect) → call.which ≡ Function Unlock → serve setup kernel thread call ≡ Done after effect → effect.answer ≡ Some 0 → owner_of after.owners call.a0 ≡ Some None }
+{}
+
+/// A mutex whose init answers 0 stands in the table. One that stood there stays as it was, held or free, as all others do; one
+/// that did not came to the end of the table, and nobody holds it.
+#[tactic(auto, using(crate::proofs::Inits::init_laws))]
+pub fn inits_enter_the_mutex()
+    ensures stands { (setup : Setup) (kernel after : Kernel) (thread : ℕ) (call : Call) (effect : Effect) → call.which ≡ Function MutexInit → serve setup kernel thread call ≡ Done after effect → effect.answer ≡ Some 0 → is_some (owner_of after.owners call.a0) ≡ true }
+    ensures known { (setup : Setup) (kernel after : Kernel) (thread : ℕ) (call : Call) (effect : Effect) (owner : Option ℕ) → call.which ≡ Function MutexInit → serve setup kernel thread call ≡ Done after effect → owner_of kernel.owners call.a0 ≡ Some owner → after.owners ≡ kernel.owners }
+    ensures entered { (setup : Setup) (kernel after : Kernel) (thread : ℕ) (call : Call) (effect : Effect) → call.which ≡ Function MutexInit → serve setup kernel thread call ≡ Done after effect → effect.answer ≡ Some 0 → owner_of kernel.owners call.a0 ≡ None → after.owners ≡ kernel.owners ++ (call.a0, None) ∷ [] }
 {}
 
 /// An error answer changes nothing but the caller's a0 and pc, and ends its reservation.

@@ -1,7 +1,7 @@
 //! The calls on mutexes. The kernel neither reads nor writes a mutex's own bytes.
 ghost use Rattle.std.specs.Prelude.{◌≡◌};
 ghost use Rattle.ro_mutex.specs.Owners.{owner_of};
-ghost use Rattle.ro_kernel.specs.Serve.{answers, on_word, lock_at, trylock_at, unlock_at, is_owner, is_blocked};
+ghost use Rattle.ro_kernel.specs.Serve.{answers, on_word, init_at, lock_at, trylock_at, unlock_at, is_owner, is_blocked};
 ghost use Rattle.ro_kernel.specs.Served.{Brings};
 
 use crate::answers::answer;
@@ -9,15 +9,28 @@ use crate::errors::{EAGAIN, EBUSY, EDEADLK, EFAULT, EPERM};
 use crate::outcome::Served;
 use crate::state::Kernel;
 use ro_event::Call;
-use ro_mutex::{Locked, Tried, Unlocked};
+use ro_mutex::{Entered, Locked, Tried, Unlocked};
 
 impl Kernel {
-    /// pthread_mutex_init(m, attr), pthread_mutex_destroy(m), pthread_cond_init(c, attr) and pthread_cond_destroy(c), which
-    /// do nothing but look at the address.
+    /// pthread_mutex_destroy(m), pthread_cond_init(c, attr) and pthread_cond_destroy(c), which do nothing but look at the address.
     pub(crate) fn check_word(&mut self, thread: u32, call: Call) -> Served
         ensures { let kernel = self.old.kernel in Brings (on_word self.old.setup kernel thread call (answers kernel thread call 0)) self.old self.new result }
     {
         let value = if self.fits(call.a0) { 0 } else { EFAULT };
+        answer(self.alloc, thread, call, value)
+    }
+
+    /// pthread_mutex_init(m, attr): m comes into the table, unless it is there.
+    pub(crate) fn init(&mut self, thread: u32, call: Call) -> Served
+        ensures { let kernel = self.old.kernel in Brings (on_word self.old.setup kernel thread call (init_at kernel thread call (owner_of kernel.owners call.a0))) self.old self.new result }
+    {
+        if !self.fits(call.a0) {
+            return answer(self.alloc, thread, call, EFAULT);
+        }
+        let value = match self.mutexes.enter(call.a0) {
+            Entered::Added | Entered::Known => 0,
+            Entered::Full => EAGAIN,
+        };
         answer(self.alloc, thread, call, value)
     }
 

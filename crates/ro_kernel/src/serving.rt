@@ -68,10 +68,10 @@ impl Kernel {
             Function::Join => self.join(thread, call),
             Function::Exit => Ok(self.exit(thread, call)),
             Function::ThreadSelf => Ok(answer(self.alloc, thread, call, thread)),
-            Function::MutexInit
-            | Function::MutexDestroy
-            | Function::ConditionInit
-            | Function::ConditionDestroy => Ok(self.check_word(thread, call)),
+            Function::MutexInit => Ok(self.init(thread, call)),
+            Function::MutexDestroy | Function::ConditionInit | Function::ConditionDestroy => {
+                Ok(self.check_word(thread, call))
+            }
             Function::Lock => Ok(self.lock(thread, call)),
             Function::TryLock => Ok(self.trylock(thread, call)),
             Function::Unlock => Ok(self.unlock(thread, call)),

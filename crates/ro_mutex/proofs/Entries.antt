@@ -44,7 +44,7 @@ pub with_owner-there : (owners : Owners) (address place : ℕ) (owner : Option �
 with_owner-there owners address place owner h =
     with_owner-insert owners address owner ∙ insert_entry-first nat_eq address owner owners place (Found-position (nat_eq address) owners place h).first
 
--- an address that is no key was never locked
+-- an address that is no key is not in the table
 pub owner_of-absent : (owners : Owners) (address : ℕ) → false ≡ is_some (lookup (nat_eq address) owners) → owner_of owners address ≡ None
 owner_of-absent owners address h = owner_of-lookup owners address ∙ absent (lookup (nat_eq address) owners) h
   where

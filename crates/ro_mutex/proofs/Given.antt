@@ -1,5 +1,5 @@
--- Setting an owner changes the owner of that address alone.
-use Rattle.std.specs.Prelude.{◌≡◌, ◌≢◌, ℕ, Bool, true, false, cond, [], ◌∷◌, Option, Some, ◌==◌}
+-- Setting an owner changes the owner of that address alone, and an address that is not in the table comes to its end.
+use Rattle.std.specs.Prelude.{◌≡◌, ◌≢◌, ℕ, Bool, true, false, cond, [], ◌∷◌, ◌++◌, Option, Some, None, ◌==◌}
 use Rattle.std.proofs.Common.{refl, sym, ap, ◌∙◌}
 use Rattle.std.proofs.lemmas.Bool.{eqb-true, eq-eqb}
 use Rattle.ro_mutex.specs.Owners.{Owners, owner_of, with_owner}
@@ -41,3 +41,15 @@ owner_of-other (e ∷ owners) address other owner different =
     other-cons e owners address other owner (e.0 == address) refl different (owner_of-other owners address other owner different)
 
 pub ruleset one_owner = (owner_of-given, owner_of-other)
+
+last-cons : (e : ℕ × Option ℕ) (owners : Owners) (address : ℕ) (owner : Option ℕ) (b : Bool) → cond b (Some e.1) (owner_of owners address) ≡ None
+    → (owner_of owners address ≡ None → with_owner owners address owner ≡ owners ++ (address, owner) ∷ [])
+    → cond b ((address, owner) ∷ owners) (e ∷ with_owner owners address owner) ≡ e ∷ owners ++ (address, owner) ∷ []
+last-cons e owners address owner true h rest = absurd (let f : Some e.1 ≡ None = h in cc)
+last-cons e owners address owner false h rest = ap (λ (r : Owners). e ∷ r) (rest h)
+
+pub comes-last : (owners : Owners) (address : ℕ) (owner : Option ℕ) → owner_of owners address ≡ None → with_owner owners address owner ≡ owners ++ (address, owner) ∷ []
+comes-last [] address owner h = refl
+comes-last (e ∷ owners) address owner h = last-cons e owners address owner (e.0 == address) h (comes-last owners address owner)
+
+pub ruleset at_the_end = (comes-last)

@@ -1,5 +1,16 @@
 //! What the calls on a mutex come to.
 
+/// What the entry of an address into the table came to.
+#[derive(Clone, Copy, PartialEq, Eq, Debug)]
+pub enum Entered {
+    /// It was not in the table; from now on it is, and nobody holds it.
+    Added,
+    /// It was in the table, held or free; nothing changed.
+    Known,
+    /// It is not in the table, and there is no place for another address; nothing changed.
+    Full,
+}
+
 /// What a lock came to.
 #[derive(Clone, Copy, PartialEq, Eq, Debug)]
 pub enum Locked {
@@ -9,7 +20,7 @@ pub enum Locked {
     Held,
     /// The caller holds it already; nothing changed.
     Deadlock,
-    /// It was never locked, and there is no place for another address; nothing changed.
+    /// It is not in the table, and there is no place for another address; nothing changed.
     Full,
 }
 
@@ -20,7 +31,7 @@ pub enum Tried {
     Got,
     /// A thread holds it, the caller or another; nothing changed.
     Busy,
-    /// It was never locked, and there is no place for another address; nothing changed.
+    /// It is not in the table, and there is no place for another address; nothing changed.
     Full,
 }
 

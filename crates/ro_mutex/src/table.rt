@@ -1,9 +1,9 @@
 //! The table of owners.
 ghost use Rattle.std.specs.Prelude.{◌≡◌, [], ◌<◌, ◌≤◌, length, IfOk, IsTrue, ◌↔◌, None};
 ghost use Rattle.ro_mutex.specs.Owners.{owner_of, with_owner};
-ghost use Rattle.ro_mutex.specs.Outcomes.{IsLock, IsTry, IsUnlock};
+ghost use Rattle.ro_mutex.specs.Outcomes.{IsEnter, IsLock, IsTry, IsUnlock};
 
-use crate::outcomes::{Locked, Tried, Unlocked};
+use crate::outcomes::{Entered, Locked, Tried, Unlocked};
 use indexmap::IndexMap;
 use std::alloc::{AllocError, Global};
 use std::marker::Model;
@@ -11,7 +11,7 @@ use std::marker::Model;
 /// How many addresses the table can hold.
 const MOST: usize = 256;
 
-/// The addresses that were ever locked, each with the thread that holds it, if any.
+/// The addresses that were ever entered or locked, each with the thread that holds it, if any.
 #[derive(Drop)]
 pub struct MutexTable {
     owners: IndexMap<u32, Option<u32>>,
@@ -38,12 +38,26 @@ impl MutexTable {
         Ok(MutexTable { owners })
     }
 
-    /// The thread that holds an address, if it was ever locked.
+    /// The thread that holds an address, if it is in the table.
     #[tactic(auto, using(crate::proofs::Entries::of_owners))]
     pub fn owner(&self, address: u32) -> Option<Option<u32>>
         ensures { result ≡ owner_of self.now address }
     {
         self.owners.get(&address).copied()
+    }
+
+    /// Enters an address that is not in the table, as one that nobody holds; one that is there stays as it is.
+    pub fn enter(&mut self, address: u32) -> Entered
+        ensures { IsEnter result self.old self.new address }
+    {
+        if self.owner(address).is_some() {
+            return Entered::Known;
+        }
+        if self.is_full() {
+            return Entered::Full;
+        }
+        self.set_owner(address, None);
+        Entered::Added
     }
 
     /// Locks an address for a thread.

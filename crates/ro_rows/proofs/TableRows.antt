@@ -119,6 +119,10 @@ pub errors-mutex : answer (kernel_with four two_held) (Function Lock) 0 0 0 ∷ 
 unfolding serve permits_of payload_of
 errors-mutex = refl
 
+pub errors-init : answer (kernel_with four two_held) (Function MutexInit) 0 0 0 ∷ answer (kernel_with four two_held) (Function MutexInit) 0x100E4 0 0 ∷ answer (kernel_with four two_held) (Function MutexInit) 0x100E0 0 0 ∷ answer (kernel_with four two_held) (Function MutexInit) 0x100E8 0 0 ∷ answer (kernel_with four (unheld 256)) (Function MutexInit) 0 0 0 ∷ answer (kernel_with four (unheld 256)) (Function MutexInit) 0x100E0 0 0 ∷ answer (kernel_with four (unheld 255)) (Function MutexInit) 0x100E0 0 0 ∷ [] ≡ Some 14 ∷ Some 0 ∷ Some 0 ∷ Some 0 ∷ Some 14 ∷ Some 11 ∷ Some 0 ∷ []
+unfolding serve permits_of payload_of
+errors-init = refl
+
 pub errors-condition : answer (kernel_with four two_held) (Function ConditionInit) 0 0 0 ∷ answer (kernel_with four two_held) (Function ConditionDestroy) 0 0 0 ∷ answer (kernel_with four two_held) (Function Wait) 0 0x100E4 0 ∷ answer (kernel_with four two_held) (Function Wait) 0x100E8 0 0 ∷ answer (kernel_with four two_held) (Function Wait) 0x100E8 0x100E0 0 ∷ answer (kernel_with four two_held) (Function Wait) 0x100E8 0x100EC 0 ∷ answer (kernel_with four two_held) (Function Wait) 0x100E8 0x100E4 0 ∷ answer (kernel_with four two_held) (Function Signal) 0 0 0 ∷ answer (kernel_with four two_held) (Function Broadcast) 0 0 0 ∷ answer (kernel_with four two_held) (Function Signal) 0x100E8 0 0 ∷ answer (kernel_with four two_held) (Function Broadcast) 0x100E8 0 0 ∷ [] ≡ Some 14 ∷ Some 14 ∷ Some 14 ∷ Some 14 ∷ Some 1 ∷ Some 1 ∷ None ∷ Some 14 ∷ Some 14 ∷ Some 0 ∷ Some 0 ∷ []
 unfolding serve permits_of payload_of
 errors-condition = refl

@@ -251,6 +251,30 @@ const THREADS_AND_MUTEXES: &[Row] = &[
     (0, THREAD_EXIT, [5, 0, 0, 0], Want::Ends(0)),
 ];
 
+const INITS: &[Row] = &[
+    // the address first
+    (0, MUTEX_INIT, [MUTEX + 2, 0, 0, 0], Want::Answers(14)),
+    (0, MUTEX_INIT, [CODE, 0, 0, 0], Want::Answers(14)),
+    // a mutex that comes to the table so is free
+    (0, MUTEX_INIT, [MUTEX, 0, 0, 0], Want::Answers(0)),
+    (0, UNLOCK, [MUTEX, 0, 0, 0], Want::Answers(1)),
+    (0, LOCK, [MUTEX, 0, 0, 0], Want::Answers(0)),
+    // one that is held stays so
+    (0, MUTEX_INIT, [MUTEX, 0, 0, 0], Want::Answers(0)),
+    (1, MUTEX_INIT, [MUTEX, 0, 0, 0], Want::Answers(0)),
+    (0, TRYLOCK, [MUTEX, 0, 0, 0], Want::Answers(16)),
+    (1, LOCK, [MUTEX, 0, 0, 0], Want::Blocks),
+    (1, UNLOCK, [MUTEX, 0, 0, 0], Want::Answers(1)),
+    (0, UNLOCK, [MUTEX, 0, 0, 0], Want::Answers(0)),
+    // and one that is free
+    (1, MUTEX_INIT, [MUTEX, 0, 0, 0], Want::Answers(0)),
+    (1, LOCK, [MUTEX, 0, 0, 0], Want::Answers(0)),
+    // so does one that was locked without it
+    (2, LOCK, [MUTEX + 12, 0, 0, 0], Want::Answers(0)),
+    (3, MUTEX_INIT, [MUTEX + 12, 0, 0, 0], Want::Answers(0)),
+    (3, LOCK, [MUTEX + 12, 0, 0, 0], Want::Blocks),
+];
+
 const CONDITIONS: &[Row] = &[
     (
         0,
@@ -266,7 +290,7 @@ const CONDITIONS: &[Row] = &[
     (0, SIGNAL, [CONDITION, 0, 0, 0], Want::Answers(0)),
     (0, BROADCAST, [CONDITION + 1, 0, 0, 0], Want::Answers(14)),
     (0, BROADCAST, [CONDITION, 0, 0, 0], Want::Answers(0)),
-    // wait: the condition variable, then the mutex, then its owner: it was never locked, is another's, or is free
+    // wait: the condition variable, then the mutex, then its owner: it is not in the table, is another's, or is free
     (0, WAIT, [CODE, MUTEX, 0, 0], Want::Answers(14)),
     (0, WAIT, [CONDITION, CODE, 0, 0], Want::Answers(14)),
     (0, WAIT, [CONDITION, MUTEX, 0, 0], Want::Answers(1)),
@@ -489,6 +513,14 @@ fn serves_threads_and_mutexes(rt: HostRuntime) -> Result<(), Fail> {
 }
 
 #[test]
+fn initialises_mutexes(rt: HostRuntime) -> Result<(), Fail> {
+    let mut kernel = kernel(rt.alloc(), b"")?;
+    make_three(&rt, &mut kernel)?;
+    check(&rt, &mut kernel, INITS)?;
+    Ok(())
+}
+
+#[test]
 fn answers_errors_of_conditions(rt: HostRuntime) -> Result<(), Fail> {
     let mut kernel = kernel(rt.alloc(), b"")?;
     check(&rt, &mut kernel, CONDITIONS)?;
@@ -529,6 +561,31 @@ fn makes_16_threads(rt: HostRuntime) -> Result<(), Fail> {
             (0, CREATE, [DATA, 0, CODE, 7], Want::Answers(11)),
             (0, CREATE, [0, 0, CODE, 7], Want::Answers(14)),
             (0, CREATE, [DATA, 1, CODE, 7], Want::Answers(22)),
+        ],
+    )?;
+    Ok(())
+}
+
+#[test]
+fn initialises_256_mutexes(rt: HostRuntime) -> Result<(), Fail> {
+    let mut kernel = kernel(rt.alloc(), b"")?;
+    for place in 0..256u32 {
+        check(
+            &rt,
+            &mut kernel,
+            &[(0, MUTEX_INIT, [DATA + 4 * place, 0, 0, 0], Want::Answers(0))],
+        )?;
+    }
+    check(
+        &rt,
+        &mut kernel,
+        &[
+            (0, MUTEX_INIT, [DATA + 0x800, 0, 0, 0], Want::Answers(11)),
+            (0, LOCK, [DATA + 0x800, 0, 0, 0], Want::Answers(11)),
+            (0, TRYLOCK, [DATA + 0x800, 0, 0, 0], Want::Answers(11)),
+            (0, MUTEX_INIT, [CODE, 0, 0, 0], Want::Answers(14)),
+            (0, MUTEX_INIT, [DATA, 0, 0, 0], Want::Answers(0)),
+            (0, LOCK, [DATA + 4 * 255, 0, 0, 0], Want::Answers(0)),
         ],
     )?;
     Ok(())

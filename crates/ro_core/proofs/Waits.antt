@@ -12,7 +12,7 @@ use Rattle.ro_event.specs.declared.functions.Function.TheVariants.{Create, Join,
 use Rattle.ro_event.specs.declared.calls.Call.{Call}
 use Rattle.ro_event.specs.Effects.{Effect}
 use Rattle.ro_journal.specs.declared.How.{How}
-use Rattle.ro_mutex.specs.Owners.{owner_of}
+use Rattle.ro_mutex.specs.Owners.{Owners, owner_of}
 use Rattle.ro_condition.specs.declared.waiters.Waiter.{Waiter}
 use Rattle.ro_condition.specs.Waiters.{wait_of}
 use Rattle.ro_kernel.specs.declared.Life.{Life}
@@ -26,7 +26,7 @@ use Rattle.ro_region.specs.declared.Range.{Range}
 use Rattle.ro_region.specs.Permission.{with_range}
 use Rattle.ro_kernel.specs.State.{State}
 use Rattle.ro_kernel.proofs.Given.{given-done, given-ended}
-use Rattle.ro_kernel.proofs.Shapes.{IsOnMutex, on_lock, on_trylock, on_unlock, IsWaking, wakes_first, wakes_all, IsWaiting, for_thread, for_mutex, for_signal, Shape, says, reads, breaks, maps_more, owns, wakes, parks_at, resumes, makes, joins, leaves, of_word, waits, stops, stops_last, shape-of}
+use Rattle.ro_kernel.proofs.Shapes.{IsOnMutex, on_init, on_lock, on_trylock, on_unlock, IsWaking, wakes_first, wakes_all, IsWaiting, for_thread, for_mutex, for_signal, Shape, says, reads, breaks, maps_more, owns, wakes, parks_at, resumes, makes, joins, leaves, of_word, waits, stops, stops_last, shape-of}
 use Rattle.ro_kernel.proofs.Kept.{IsServed, is_done, is_end, system-served, atomic-served}
 use Rattle.ro_kernel.specs.Served.{Brings}
 use Rattle.ro_kernel.specs.Serve.{Served, Done, Parked, Blocked, Ends, answers, fits, is_served, mapped, serve_read, serve_write, serve_brk, serve_mmap, serve_system, serve_join_at, init_at, lock_at, trylock_at, unlock_at, wait_at, on_word, serve_function, atomic_at, atomic_by, serve_by, serve_which, serve, serves}
@@ -48,12 +48,13 @@ data Leaving (old : Kernel) : Served → Type 0 where
   by_end : {after : Kernel} {how : How} → LeavesRest old after → Leaving old (Ends after how)
 
 -- a call on a mutex, one that wakes and one that waits are calls of a function
-of-mutex : {which : Which} → IsOnMutex which → (function : Posix) × (which ≡ Function function)
+of-mutex : {owners : Owners} {address : ℕ} {which : Which} → IsOnMutex owners address which → (function : Posix) × (which ≡ Function function)
+of-mutex (on_init e) = (MutexInit, refl)
 of-mutex on_lock = (Lock, refl)
 of-mutex on_trylock = (TryLock, refl)
 of-mutex on_unlock = (Unlock, refl)
 
-of-waking : {before after : List Waiter} {condition : ℕ} {which : Which} → IsWaking before condition which after → (function : Posix) × (which ≡ Function function)
+of-waking : {before : List Waiter} {condition : ℕ} {which : Which} {after : List Waiter} → IsWaking before condition which after → (function : Posix) × (which ≡ Function function)
 of-waking wakes_first = (Signal, refl)
 of-waking wakes_all = (Broadcast, refl)
 

@@ -1,4 +1,4 @@
-use Rattle.std.proofs.Common.{ap, sym, ◌∙◌, ◌≡◌, refl, subst, Some, None, arith}
+use Rattle.std.proofs.Common.{ℕ, List, ap, sym, ◌∙◌, ◌≡◌, refl, subst, Some, None, arith}
 use Rattle.ro_decode.specs.declared.Instr.{Instr}
 use Rattle.ro_decode.specs.Table.{instruction_of}
 use Rattle.ro_exec.specs.Meaning.{loads, stores}
@@ -15,8 +15,8 @@ returns-then-not-is_fetched c = look-unread (record { ranges = ranges_of c.args.
 pub returns-in-Some : goal.returns-in-Some
 returns-in-Some c =
     look-read (record { ranges = ranges_of c.args.regions.now; calls = c.args.calls.now }) (memory_of c.args.pages.now.pages) c.args.cpu.now (record { pc = c.args.cpu.now.pc; code = record { place = c.args.cpu.now.pc; count = 4 }; loads = c.loads_of.result; stores = c.stores_of.result }) refl (sym c.if-not-is_fetched.false ∙ c.is_fetched.ensures.fetched) refl
-    (λ instr e. subst (λ (i : Instr). span_of c.loads_of.result ≡ loads i c.args.cpu.now) (some-injective (sym c.in-Some.is ∙ (c.decode.ensures.instruction ∙ (ap instruction_of c.word_at.ensures ∙ e)))) (c.loads_of.ensures.bytes c.args.cpu.now.pc))
-    (λ instr e. subst (λ (i : Instr). span_of c.stores_of.result ≡ stores i c.args.cpu.now) (some-injective (sym c.in-Some.is ∙ (c.decode.ensures.instruction ∙ (ap instruction_of c.word_at.ensures ∙ e)))) (c.stores_of.ensures.bytes c.args.cpu.now.pc))
+    (λ instr e. subst (λ (i : Instr). span_of c.loads_of.result ≡ loads i c.args.cpu.now) (some-injective (sym c.in-Some.is ∙ (c.decode.ensures.instruction ∙ (ap instruction_of c.word_at.ensures ∙ e)))) (subst (λ (registers : List ℕ). span_of c.loads_of.result ≡ loads c.in-Some.instr (record { registers = registers; pc = c.args.cpu.now.pc })) c.new-registers.ensures (c.loads_of.ensures.bytes c.args.cpu.now.pc)))
+    (λ instr e. subst (λ (i : Instr). span_of c.stores_of.result ≡ stores i c.args.cpu.now) (some-injective (sym c.in-Some.is ∙ (c.decode.ensures.instruction ∙ (ap instruction_of c.word_at.ensures ∙ e)))) (subst (λ (registers : List ℕ). span_of c.stores_of.result ≡ stores c.in-Some.instr (record { registers = registers; pc = c.args.cpu.now.pc })) c.new-registers.ensures (c.stores_of.ensures.bytes c.args.cpu.now.pc)))
     c.loads_of.ensures.few c.stores_of.ensures.few c.stores_of.ensures.at
 
 pub returns-in-None : goal.returns-in-None

@@ -27,20 +27,24 @@ pub fn drive<R: Wait, P: Post, G: Gate>(
     ensures over { OnOk result (P.is_over pass.new) }
     ensures wants { OnErr result (P.wants pass.new) }
 {
+    let mut back = None;
     for _ in rt.forever() {
-        match post.turn(rt, pass) {
+        back = match post.next(rt, pass, back) {
             Ok(Turn::Leased(lease)) => {
                 let (driver, replica, thread) = P::place(&lease);
                 let passed = gate.pass(rt, driver, replica, thread);
                 let back = P::run::<G>(lease, &passed);
                 gate.leave(passed);
-                post.give_back(rt, pass, back);
+                Some(back)
             }
-            Ok(Turn::Did) => {}
-            Ok(Turn::Wait) => post.rest(rt),
+            Ok(Turn::Did) => None,
+            Ok(Turn::Wait) => {
+                post.rest(rt);
+                None
+            }
             Ok(Turn::Over) => return Ok(()),
             Err(e) => return Err(e),
-        }
+        };
     }
     unreachable!()
 }

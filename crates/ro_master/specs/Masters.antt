@@ -1,11 +1,12 @@
 -- What a master says once its lock is let go.
-use Rattle.std.specs.Prelude.{◌≡◌, ◌+◌, ℕ, zero, suc, List, [], ◌∷◌, ◌++◌, None, Result, MatchResult}
+use Rattle.std.specs.Prelude.{◌≡◌, ◌+◌, ℕ, zero, suc, List, [], ◌∷◌, ◌++◌, Option, None, Result, MatchResult}
 use Rattle.std.specs.declared.alloc.AllocError.{AllocError}
 use Rattle.ro_legal.specs.Core.{Job}
 use Rattle.ro_legal.specs.Action.{next_action}
 use Rattle.ro_core.specs.Seen.{CoreOf, state}
 use Rattle.ro_post.specs.declared.posts.Turn.{Turn}
 use Rattle.ro_post.specs.declared.posts.Driver.{Driver}
+use Rattle.std.specs.Option.{MatchOption}
 use Rattle.ro_master.specs.Passes.{PassOf, CountOf, Knew, fresh_pass}
 use Rattle.ro_lease.specs.Loans.{LentOf, BackOf}
 use Rattle.ro_master.specs.Desks.{DeskOf, Tied, AtRest, Looked, TurnIs, PutIs, TakesMemory}
@@ -29,6 +30,12 @@ pub record PutDid (start : CoreOf) (back : BackOf) (p q : PassOf) : Type 0 where
   pub new : DeskOf
   pub tied : Tied start old.core old.count
   pub did : PutIs old new p q back
+
+-- The put, where there was a lease, did what it was to do, and the turn behind it what it answers.
+pub record NextDid (start : CoreOf) (back : Option BackOf) (r : Result (Turn LentOf) AllocError) (p q : PassOf) : Type 0 where
+  pub between : PassOf
+  pub put : MatchOption back (between ≡ p) (λ b. PutDid start b p between)
+  pub turn : TurnDid start r between q
 
 abbrev pub PassDriver : Type 0
 PassDriver = Driver PassOf

@@ -1,12 +1,13 @@
 //! The master: a lock round the desk.
 ghost use Rattle.std.specs.Prelude.{◌≡◌, [], IfErr, IfOk, MatchResult, OnErr, length, vec_capacity};
 ghost use Rattle.std.specs.List.{All};
+ghost use Rattle.std.specs.Option.{MatchOption};
 ghost use Rattle.ro_post.specs.Turns.{IfOver};
 ghost use Rattle.ro_core.specs.Seen.{state};
 ghost use Rattle.ro_legal.specs.Jobs.{CanRun};
 ghost use Rattle.ro_master.specs.Driven.{IsDriven, IsHome, Goes, KeepsLast};
 ghost use Rattle.ro_master.specs.Desks.{AtRest, MayGiveBack, Rests, IsOver, AreWithin, Owned};
-ghost use Rattle.ro_master.specs.Masters.{TurnDid, PutDid, WantsMemory, fresh_drivers, AreAll, AllKnew};
+ghost use Rattle.ro_master.specs.Masters.{TurnDid, PutDid, NextDid, WantsMemory, fresh_drivers, AreAll, AllKnew};
 ghost use Rattle.ro_master.specs.History.{journal_of};
 ghost use Rattle.ro_master.specs.Passes.{CountOf, empty_count};
 
@@ -104,8 +105,59 @@ impl<K: Sink, N: Naming> Master<K, N> {
         desk.woken_by_put()
     }
 
-    // Wakes them, with the lock let go.
+    /// Gives back what became of the pass's lease, if it has one, and takes the next turn, under one lock.
+    ///
+    /// # Errors
+    /// Where there is no memory.
+    pub fn take_next<R: Wait>(
+        &self,
+        rt: &R,
+        pass: &mut Pass<N>,
+        back: Option<Back>,
+    ) -> Result<Turn<Lent>, AllocError>
+        requires { MatchOption back (AtRest N.start.job pass.old) (MayGiveBack N.start.job pass.old) }
+        ensures did { NextDid N.start back result pass.old pass.new }
+        ensures number { pass.new.number ≡ pass.old.number }
+        ensures rest { MatchResult result (λ t. Rests N.start.job t pass.new) (λ _. AtRest N.start.job pass.new) }
+        ensures over { IfOk result (λ t. IfOver t (IsOver N.start.job pass.new)) }
+        ensures wants { OnErr result (WantsMemory N.start pass.new) }
+    {
+        let (answer, put, wakes) = self.locked_next(rt, pass, back);
+        self.wake(put);
+        self.wake(wakes);
+        answer
+    }
+
+    // The put and the turn, and who is to be woken for each once the lock is let go.
+    fn locked_next<R: Wait>(
+        &self,
+        rt: &R,
+        pass: &mut Pass<N>,
+        back: Option<Back>,
+    ) -> (Result<Turn<Lent>, AllocError>, Wakes, Wakes)
+        requires { MatchOption back (AtRest N.start.job pass.old) (MayGiveBack N.start.job pass.old) }
+        ensures did { NextDid N.start back result.0 pass.old pass.new }
+        ensures number { pass.new.number ≡ pass.old.number }
+        ensures rest { MatchResult result.0 (λ t. Rests N.start.job t pass.new) (λ _. AtRest N.start.job pass.new) }
+        ensures over { IfOk result.0 (λ t. IfOver t (IsOver N.start.job pass.new)) }
+    {
+        let mut desk = self.desk.lock(rt);
+        let put = put_if_any(&mut desk, pass, back);
+        let answer = desk.turn(pass);
+        let wakes = desk.woken_by_turn(&answer);
+        (answer, put, wakes)
+    }
+
+    // Wakes them, with the lock let go. Mostly that is nobody.
     fn wake(&self, wakes: Wakes) {
+        if wakes != Wakes::Nobody {
+            self.wake_some(wakes);
+        }
+    }
+
+    #[cold]
+    #[inline(never)]
+    fn wake_some(&self, wakes: Wakes) {
         match wakes {
             Wakes::Nobody => {}
             Wakes::Helpers(count) => {
@@ -224,6 +276,22 @@ impl<K: Sink, N: Naming> Post for Master<K, N> {
         self.take_back(rt, pass, back);
     }
 
+    fn next<R: Wait>(
+        &self,
+        rt: &R,
+        pass: &mut Pass<N>,
+        back: Option<Back>,
+    ) -> Result<Turn<Lent>, AllocError>
+        requires { Unit {0} × MatchOption back (AtRest N.start.job pass.old) (MayGiveBack N.start.job pass.old) }
+        ensures same { Unit {0} × (pass.new.number ≡ pass.old.number) }
+        ensures lease { MatchResult result (λ t. Rests N.start.job t pass.new) (λ _. AtRest N.start.job pass.new) }
+        ensures over { IfOk result (λ t. IfOver t (IsOver N.start.job pass.new)) }
+        ensures wants { OnErr result (WantsMemory N.start pass.new) }
+        ensures did { NextDid N.start back result pass.old pass.new }
+    {
+        self.take_next(rt, pass, back)
+    }
+
     // It sleeps until something can be done, or, where it is spare, until a driver has left.
     fn rest<R: Wait>(&self, rt: &R) {
         let mut desk = self.desk.lock(rt);
@@ -233,6 +301,24 @@ impl<K: Sink, N: Naming> Post for Master<K, N> {
             let _desk = self.moved.wait_while(rt, desk, |desk| desk.waits());
         }
     }
+}
+
+// Puts back what became of the pass's lease, if it has one, and answers who is to be woken for that.
+fn put_if_any<K: Sink, N: Naming>(
+    desk: &mut Desk<K, N>,
+    pass: &mut Pass<N>,
+    back: Option<Back>,
+) -> Wakes
+    requires { MatchOption back (AtRest N.start.job pass.old) (MayGiveBack N.start.job pass.old) }
+    ensures did { MatchOption back (pass.new ≡ pass.old) (λ b. PutDid N.start b pass.old pass.new) }
+    ensures rest { AtRest N.start.job pass.new }
+    ensures number { pass.new.number ≡ pass.old.number }
+{
+    let Some(back) = back else {
+        return Wakes::Nobody;
+    };
+    desk.put(pass, back);
+    desk.woken_by_put()
 }
 
 // A driver with a pass for each number.

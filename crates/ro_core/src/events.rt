@@ -169,10 +169,24 @@ fn event_of_call(alloc: Global, thread: u32, call: Call, served: Served) -> Even
         },
         Served::Parked => waiting_event(alloc, Did::Parked, thread, call),
         Served::Blocked => waiting_event(alloc, Did::Blocked, thread, call),
-        Served::Ends(how) => Event {
-            moves: true,
-            ..quiet_event(alloc, Did::Served, thread, None, false, Some(how))
-        },
+        Served::Ends(how) => ending_event(alloc, thread, how),
+    }
+}
+
+// The event of a call that ends the program. It, and the others that change little, are functions of their own, so that the
+// effect of a call that was served is copied once.
+#[cold]
+#[inline(never)]
+fn ending_event(alloc: Global, thread: u32, how: How) -> Event
+    ensures { result ≡ record { did = Did.Served; effect = quiet_effect thread None false; blocked = None; due = Some how; writes = false; moves = true } }
+{
+    Event {
+        did: Did::Served,
+        effect: quiet_effect(alloc, thread, None, false),
+        blocked: None,
+        due: Some(how),
+        writes: false,
+        moves: true,
     }
 }
 
@@ -191,6 +205,8 @@ fn puts_out(call: Call) -> bool
 }
 
 // An event that leaves the thread blocked at its call.
+#[cold]
+#[inline(never)]
 fn waiting_event(alloc: Global, did: Did, thread: u32, call: Call) -> Event
     ensures { result ≡ record { did = did; effect = quiet_effect thread None false; blocked = Some call; due = None; writes = false; moves = true } }
 {
@@ -205,6 +221,7 @@ fn waiting_event(alloc: Global, did: Did, thread: u32, call: Call) -> Event
 }
 
 // An event that changes no more than the thread's stop, a page, or whether the program goes on.
+#[inline(never)]
 fn quiet_event(
     alloc: Global,
     did: Did,

@@ -8,7 +8,6 @@ use Rattle.ro_kernel.specs.State.{State}
 use Rattle.ro_region.specs.Permission.{with_range}
 use Rattle.ro_settings.proofs.Counts.{few-replicas}
 use Rattle.ro_core.specs.declared.cores.Core.{Core as Run}
-use Rattle.ro_core.specs.declared.voting.Occurrence.{Occurrence}
 use Rattle.ro_legal.specs.Streaks.{after_event}
 use Rattle.ro_legal.specs.Core.{Job, Core, is_going}
 use Rattle.ro_legal.specs.Event.{Event, all_applied, core_after}
@@ -17,7 +16,7 @@ use Rattle.ro_legal.specs.Sound.{IsOrdered}
 use Rattle.ro_core.specs.Fields.{Fields, core_in, blocked_at, first_unblocked, AreHome, CanTake, Holds}
 use Rattle.ro_core.specs.Grouped.{AreGrouped}
 use Rattle.ro_core.specs.Happening.{event_by}
-use Rattle.ro_core.specs.Runs.{job_of, payload_by, LastWrote, CanOccur}
+use Rattle.ro_core.specs.Runs.{job_of, payload_by, LastWrote, Occurrence, CanOccur}
 use Rattle.ro_legal.proofs.Journals.{replay_more, legal_more}
 use Rattle.ro_core.proofs.Held.{Goes, goes}
 use Rattle.ro_legal.proofs.Happens.{Happens}

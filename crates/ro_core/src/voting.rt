@@ -23,11 +23,10 @@ pub struct Voted {
     pub writer: Option<u32>,
 }
 
-/// An event that has changed the kernel, and what is to be noted of it.
-#[derive(Drop)]
-pub(crate) struct Occurrence {
+/// What is to be noted of an event that has changed the kernel.
+#[derive(Clone, Copy)]
+pub(crate) struct Noted {
     pub thread: u32,
-    pub event: Event,
     pub entry: Entry,
     /// By how much the plan grows.
     pub steps: u64,
@@ -128,14 +127,14 @@ impl Core {
             did: coming.did,
         };
         let writer = event.writes.then_some(won.won);
-        self.occur(Occurrence {
+        let noted = Noted {
             thread,
-            event,
             entry,
             steps: next,
             writer,
             threads,
-        });
+        };
+        self.occur(&event, &noted);
         Ok(Voted { entry, writer })
     }
 
@@ -163,14 +162,14 @@ impl Core {
         let threads = self.kernel.made();
         let event = serve(self.alloc, &mut self.kernel, thread, call)?;
         let entry = Entry::Free { thread };
-        self.occur(Occurrence {
+        let noted = Noted {
             thread,
-            event,
             entry,
             steps: 1,
             writer: None,
             threads,
-        });
+        };
+        self.occur(&event, &noted);
         Ok(entry)
     }
 
@@ -187,28 +186,26 @@ impl Core {
         Ok(())
     }
 
-    // An event that has changed the kernel is done in every replica and noted.
-    fn occur(&mut self, occurrence: Occurrence)
-        requires can { CanOccur self.old occurrence }
+    // An event that has changed the kernel is done in every replica and noted. It stays where it is: to move it would copy it.
+    fn occur(&mut self, event: &Event, noted: &Noted)
+        requires can { CanOccur self.old (record { thread = noted.now.thread; event = event.now; entry = noted.now.entry; steps = noted.now.steps; writer = noted.now.writer; threads = noted.now.threads }) }
         ensures holds { Holds (fields_of self.new) }
         ensures job { job_of self.new ≡ job_of self.old }
-        ensures journal { self.new.journal.items ≡ self.old.journal.items ++ occurrence.entry ∷ [] }
-        ensures wrote { LastWrote (fields_of self.new) (output_of (job_of self.old) self.old.journal.items) (payload_by self.old.views.items occurrence.writer) }
+        ensures journal { self.new.journal.items ≡ self.old.journal.items ++ noted.now.entry ∷ [] }
+        ensures wrote { LastWrote (fields_of self.new) (output_of (job_of self.old) self.old.journal.items) (payload_by self.old.views.items noted.now.writer) }
         ensures views { self.new.views.items ≡ self.old.views.items }
     {
-        let thread = occurrence.thread;
-        // It stays where it is: to take it out would copy it.
-        let event = &occurrence.event;
-        let written = self.payload(occurrence.writer).len();
+        let thread = noted.thread;
+        let written = self.payload(noted.writer).len();
         let was = self.blocked[thread as usize];
         let streak = self.streak.after_event(thread, was);
         let stays = leaves_blocked(event, was);
-        self.seats.apply(&event.effect, occurrence.threads);
-        self.journal.push_reserved(occurrence.entry);
+        self.seats.apply(&event.effect, noted.threads);
+        self.journal.push_reserved(noted.entry);
         self.streak = streak;
         self.blocked[thread as usize] = event.blocked;
         self.unblocked = unblocked_behind(&self.kernel, &self.blocked, self.unblocked, stays);
-        self.steps += occurrence.steps;
+        self.steps += noted.steps;
         self.sent += written as u64;
         self.wrote = written as u32;
         self.due = event.due;

@@ -1,10 +1,7 @@
 -- On what hangs whether the call of a thread that is blocked would be done, and which calls leave that.
-use Rattle.std.specs.Prelude.{◌≡◌, ◌≢◌, ◌==◌, ◌||◌, ℕ, zero, suc, Bool, true, false, cond, not, List, [], ◌∷◌, length, Option, Some, None, slice_get, slice_set}
+use Rattle.std.specs.Prelude.{◌≡◌, ◌≢◌, ℕ, zero, suc, Bool, true, false, cond, not, List, [], ◌∷◌, length, Option, Some, None, slice_get, slice_set}
 use Rattle.std.proofs.Common.{refl, sym, ap, ◌∙◌, subst}
 use Rattle.std.specs.Option.{option_map_or}
-use Rattle.ro_decode.specs.declared.AtomicOp.{AtomicOp}
-use Rattle.ro_decode.specs.declared.AtomicOp.TheVariants.{LoadReserved, StoreConditional}
-use Rattle.ro_decode.specs.Table.{atomic_in}
 use Rattle.ro_event.specs.declared.calls.Which.{Which}
 use Rattle.ro_event.specs.declared.calls.Which.TheVariants.{System, Function, Atomic}
 use Rattle.ro_event.specs.declared.functions.Function.{Function as Posix}
@@ -20,7 +17,6 @@ use Rattle.ro_kernel.specs.declared.Life.TheVariants.{Live, Exited, Joined}
 use Rattle.ro_kernel.specs.declared.outcome.Served.{Served as Code}
 use Rattle.ro_kernel.specs.declared.outcome.Served.TheVariants.{Done as CodeDone, Parked as CodeParked, Blocked as CodeBlocked, Ends as CodeEnds}
 use Rattle.ro_kernel.specs.declared.reservations.Reservation.{Reservation}
-use Rattle.ro_kernel.specs.Reserved.{reservation_of}
 use Rattle.ro_kernel.specs.Kernel.{Setup, Kernel, ranges_in, released}
 use Rattle.ro_region.specs.declared.Range.{Range}
 use Rattle.ro_region.specs.Permission.{with_range}
@@ -29,7 +25,7 @@ use Rattle.ro_kernel.proofs.Given.{given-done, given-ended}
 use Rattle.ro_kernel.proofs.Shapes.{IsOnMutex, on_init, on_lock, on_trylock, on_unlock, IsWaking, wakes_first, wakes_all, IsWaiting, for_thread, for_mutex, for_signal, Shape, says, reads, breaks, maps_more, owns, wakes, parks_at, resumes, makes, joins, leaves, of_word, waits, stops, stops_last, shape-of}
 use Rattle.ro_kernel.proofs.Kept.{IsServed, is_done, is_end, system-served, atomic-served}
 use Rattle.ro_kernel.specs.Served.{Brings}
-use Rattle.ro_kernel.specs.Serve.{Served, Done, Parked, Blocked, Ends, answers, fits, is_served, mapped, serve_read, serve_write, serve_brk, serve_mmap, serve_system, serve_join_at, init_at, lock_at, trylock_at, unlock_at, wait_at, on_word, serve_function, atomic_at, atomic_by, serve_by, serve_which, serve, serves}
+use Rattle.ro_kernel.specs.Serve.{Served, Done, Parked, Blocked, Ends, answers, fits, is_served, serve_join_at, init_at, lock_at, trylock_at, unlock_at, wait_at, on_word, serve_function, serve_which, serve, serves}
 use Rattle.ro_legal.specs.Action.{lowest_below}
 use Rattle.ro_core.specs.Fields.{blocked_at, is_unblocked, first_unblocked}
 use Rattle.ro_core.specs.Happening.{LeavesWaiting}

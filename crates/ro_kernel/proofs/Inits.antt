@@ -9,7 +9,7 @@ use Rattle.ro_event.specs.Effects.{Effect}
 use Rattle.ro_mutex.specs.Owners.{Owners, owner_of}
 use Rattle.ro_mutex.proofs.Given.{comes-last, owner_of-given}
 use Rattle.ro_kernel.specs.Kernel.{Setup, Kernel, released}
-use Rattle.ro_kernel.specs.Serve.{Served, Done, init_at, on_word, serve_which, serve}
+use Rattle.ro_kernel.specs.Serve.{Done, init_at, on_word, serve_which, serve}
 use Rattle.ro_kernel.proofs.Yields.{Yields, done, yields-cond, yields-done}
 
 -- the owners are these

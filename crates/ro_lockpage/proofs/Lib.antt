@@ -3,3 +3,4 @@ pub mod Notes
 pub mod Hands
 pub mod Moves
 pub mod Closing
+pub mod Tries

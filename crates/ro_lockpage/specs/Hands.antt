@@ -1,8 +1,8 @@
 -- What the holder of a pass knows.
 use Rattle.std.specs.Prelude.{ℕ, zero, suc, ◌+◌, List, [], ◌∷◌}
-use Rattle.ro_lockpage.specs.Rows.{Decided, Asked}
+use Rattle.ro_lockpage.specs.Ranks.{Decided, Asked}
 
--- what a pass knows: the rows whose thread it was told, the rows that it filled, and what each of its steps found
+-- what a pass knows: the ranks whose thread it was told, the ranks that it decided, and what each of its steps found
 pub record Hand : Type 0 where
   pub number : ℕ
   pub known : List Decided

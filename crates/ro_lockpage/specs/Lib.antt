@@ -1,4 +1,4 @@
-pub mod Rows
+pub mod Ranks
 pub mod Hands
 pub mod Seats
 pub mod Pages

@@ -1,12 +1,14 @@
 //! The page, its passes, and what is left of it.
-ghost use Rattle.std.specs.Prelude.{◌≡◌, ◌+◌, ◌*◌, ◌<◌, ◌≤◌, ℕ, List, [], ◌∷◌, ◌++◌, length, map, Some, IfOk, IfSome, vec_capacity};
-ghost use Rattle.ro_lockpage.specs.Rows.{decided, map_of, told, asked, once, of_row, thread_in};
+ghost use Rattle.std.specs.Prelude.{◌≡◌, ◌+◌, ◌*◌, ◌%◌, ◌<◌, ◌≤◌, ◌⊎◌, ℕ, List, [], ◌∷◌, ◌++◌, length, map, Some, IfOk, IfSome, vec_capacity};
+ghost use Rattle.ro_lockpage.specs.Ranks.{map_of, told, asked, steps, once, of_rank, row_in, thread_in, given, won_then, AreOlder, IfFor, Tells};
 ghost use Rattle.ro_lockpage.specs.Hands.{first_of, fresh_hands};
-ghost use Rattle.ro_lockpage.specs.Seats.{given, won_then, holding};
-ghost use Rattle.ro_lockpage.specs.Pages.{HasShape, fresh_passes, AreFrom, AllAgree, all_won, seen_of, threads, IsPassSeat};
+ghost use Rattle.ro_lockpage.specs.Seats.{holding};
+ghost use Rattle.ro_lockpage.specs.Pages.{HasShape, fresh_passes, AreFrom, AllAgree, AllSince, all_won, history, seen_of, row_of as row_told, IsPassSeat};
+ghost use Rattle.ro_lockpage.specs.declared.words.Answer.TheVariants.{For, Passed};
 
 use crate::seats::{Law, Shape, View};
-use crate::steps::{Chair, deal, decide_at, gather, look_at};
+use crate::steps::{Bid, Chair, deal, decide_at, gather, look_at};
+use crate::words::{Answer, answered, row_of};
 use atomic_table::{Closed as ClosedTable, Table};
 use std::alloc::{AllocError, Global};
 use std::marker::Model;
@@ -14,8 +16,11 @@ use std::marker::Model;
 /// How many passes a page has.
 const PASSES: u32 = 8;
 
-/// Rows of mutexes. Each row stands for no thread at first, and from the call that decides it on for one thread, which
-/// never changes. Threads share it by `&`, each with a pass of its own.
+/// Ranks of mutexes: the first time that a mutex is got, the second, and so on. No rank is decided at first; from the
+/// call that decides it on it is decided for one thread, which never changes. A mutex has so many rows; the rank r stands
+/// in the row r mod rows, which is used anew for each rank that is decided there, and tells of the newest of them. Where
+/// no rank is asked for beyond the number of rows, each has a row of its own, and none is passed. Threads share the page
+/// by `&`, each with a pass of its own.
 #[derive(Drop)]
 pub struct LockPage {
     table: Table<(), View, Shape, Law, Global>,
@@ -34,7 +39,7 @@ impl Model for LockPage {
     ghost invariant = { λ p. (p.table.shared.key ≡ p.shape) × (p.table.shared.table_id.words ≡ p.shape.mutexes * p.shape.rows) × (p.table.shared.table_id.slots ≡ 0) × HasShape p.shape.mutexes p.shape.rows };
 }
 
-/// What a thread asks with. Contracts see its page and number, what it was told, which rows it filled, and what each of
+/// What a thread asks with. Contracts see its page and number, what it was told, which ranks it decided, and what each of
 /// its steps found.
 #[derive(Drop)]
 pub struct Pass {
@@ -59,9 +64,9 @@ pub struct Closed {
     shape: Shape,
 }
 
-// Contracts see its shape, and the thread that each row stands for.
+// Contracts see its shape and its words, each of which tells of the newest of its ranks that was decided.
 impl Model for Closed {
-    ghost use Rattle.std.specs.Prelude.{◌≡◌, ◌≤◌, ◌*◌, ℕ, slice_index};
+    ghost use Rattle.std.specs.Prelude.{◌≡◌, ◌*◌};
     ghost use Rattle.std.specs.Mem.Slots.{slots_items, slots_len, IsFull};
     ghost use Rattle.ro_lockpage.specs.Pages.{ClosedOf, HasShape};
 
@@ -69,12 +74,12 @@ impl Model for Closed {
 
     ghost view = { λ c. record { mutexes = c.shape.mutexes; rows = c.shape.rows; words = slots_items c.words.words } };
 
-    ghost invariant = { λ c. IsFull c.words.words × (slots_len c.words.words ≡ c.shape.mutexes * c.shape.rows) × (slots_len c.words.slots ≡ 0) × HasShape c.shape.mutexes c.shape.rows × ((p : ℕ) → slice_index (slots_items c.words.words) p ≤ 16) };
+    ghost invariant = { λ c. IsFull c.words.words × (slots_len c.words.words ≡ c.shape.mutexes * c.shape.rows) × (slots_len c.words.slots ≡ 0) × HasShape c.shape.mutexes c.shape.rows };
 }
 
 impl LockPage {
-    /// A page of 1 to 256 mutexes with 1 to 1,024 rows each, none of which stands for a thread, and its eight passes,
-    /// with the numbers 0 to 7 in order.
+    /// A page of 1 to 256 mutexes with 1 to 1,024 rows each, no rank of which is decided, and its eight passes, with
+    /// the numbers 0 to 7 in order.
     ///
     /// # Errors
     /// Where there is no memory.
@@ -110,43 +115,45 @@ impl LockPage {
         passes
     }
 
-    /// Decides a row for a thread (0 to 15) if it stands for none, by one `compare_exchange`, and answers the thread
-    /// that it stands for then.
-    pub fn decide(&self, pass: &mut Pass, mutex: u32, row: u32, thread: u32) -> u32
+    /// Decides a rank of a mutex for a thread (0 to 15) if its row tells of older ranks alone, and answers the thread for
+    /// which the rank was decided then. A load finds what the row tells, and where that is older a `compare_exchange`
+    /// decides, again and again as long as others decide older ranks there in between. Where the row tells of a newer
+    /// rank, nothing is decided: that the caller asks for no rank that is as far behind is up to the caller.
+    pub fn decide(&self, pass: &mut Pass, mutex: u32, rank: u32, thread: u32) -> Answer
         requires pass { pass.old.page ≡ self.now.name }
-        requires range { (mutex < self.now.mutexes) × (row < self.now.rows) }
+        requires range { mutex < self.now.mutexes }
         requires thread { thread < 16 }
         ensures same { (pass.new.page ≡ pass.old.page) × (pass.new.number ≡ pass.old.number) }
-        ensures known { pass.new.known ≡ decided mutex row result ∷ pass.old.known }
-        ensures did { (found : ℕ) × (result ≡ given found thread) × (pass.new.won ≡ won_then pass.old.won found mutex row thread) × (pass.new.asked ≡ pass.old.asked ++ asked mutex row found ∷ []) }
-        ensures knew { IfSome (map_of pass.old.known mutex row) (λ t. (result ≡ t) × (pass.new.won ≡ pass.old.won)) }
-        ensures thread { result < 16 }
+        ensures known { pass.new.known ≡ told pass.old.known mutex rank (thread_in (Some result)) }
+        ensures did { (older : List ℕ) × (found : ℕ) × AreOlder rank older × (result ≡ given (row_in rank found) thread) × (pass.new.won ≡ won_then pass.old.won (row_in rank found) mutex rank thread) × (pass.new.asked ≡ pass.old.asked ++ steps mutex rank (older ++ found ∷ [])) }
+        ensures knew { IfSome (map_of pass.old.known mutex rank) (λ t. ((result ≡ For t) ⊎ (result ≡ Passed)) × (pass.new.won ≡ pass.old.won)) }
+        ensures thread { IfFor result (λ t. t < 16) }
     {
-        let place = place_of(self.shape, mutex, row);
-        let found = decide_at(
-            &self.table.shared,
-            &mut pass.seat,
+        let place = place_of(self.shape, mutex, rank);
+        let bid = Bid {
             place,
             mutex,
-            row,
+            rank,
             thread,
-        );
-        answered(found, thread)
+        };
+        let found = decide_at(&self.table.shared, &mut pass.seat, bid);
+        answered(found, rank, thread)
     }
 
-    /// The thread that a row stands for, by one load, or `None` where it found that it stands for none.
-    pub fn look(&self, pass: &mut Pass, mutex: u32, row: u32) -> Option<u32>
+    /// The thread for which a rank was decided, by one load, or `None` where it found that the rank's row tells of none
+    /// or of an older rank.
+    pub fn look(&self, pass: &mut Pass, mutex: u32, rank: u32) -> Option<Answer>
         requires pass { pass.old.page ≡ self.now.name }
-        requires range { (mutex < self.now.mutexes) × (row < self.now.rows) }
+        requires range { mutex < self.now.mutexes }
         ensures same { (pass.new.page ≡ pass.old.page) × (pass.new.number ≡ pass.old.number) × (pass.new.won ≡ pass.old.won) }
-        ensures known { pass.new.known ≡ told pass.old.known mutex row result }
-        ensures did { (found : ℕ) × (result ≡ thread_in found) × (pass.new.asked ≡ pass.old.asked ++ asked mutex row found ∷ []) }
-        ensures knew { IfSome (map_of pass.old.known mutex row) (λ t. result ≡ Some t) }
-        ensures thread { IfSome result (λ t. t < 16) }
+        ensures known { pass.new.known ≡ told pass.old.known mutex rank (thread_in result) }
+        ensures did { (found : ℕ) × (result ≡ row_in rank found) × (pass.new.asked ≡ pass.old.asked ++ asked mutex rank found ∷ []) }
+        ensures knew { IfSome (map_of pass.old.known mutex rank) (λ t. (result ≡ Some (For t)) ⊎ (result ≡ Some Passed)) }
+        ensures thread { IfSome result (λ a. IfFor a (λ t. t < 16)) }
     {
-        let place = place_of(self.shape, mutex, row);
-        let found = look_at(&self.table.shared, &mut pass.seat, place, mutex, row);
-        thread_of(found)
+        let place = place_of(self.shape, mutex, rank);
+        let found = look_at(&self.table.shared, &mut pass.seat, place, mutex, rank);
+        row_of(found, rank)
     }
 
     // The seat that has the hands of all passes.
@@ -169,8 +176,10 @@ impl LockPage {
     pub fn close(self, mut passes: Vec<Pass>) -> Closed
         requires { AreFrom self.name 0 passes.items × (length passes.items ≡ 8) }
         ensures shape { (result.mutexes ≡ self.mutexes) × (result.rows ≡ self.rows) }
-        ensures known { AllAgree (threads result) passes.items }
-        ensures won { (mutex row : ℕ) → of_row mutex row (all_won passes.items) ≡ once mutex row (threads result mutex row) }
+        ensures known { AllAgree (history passes.items) passes.items }
+        ensures won { (mutex rank : ℕ) → of_rank mutex rank (all_won passes.items) ≡ once mutex rank (history passes.items mutex rank) }
+        ensures rows { (mutex rank : ℕ) → Tells self.rows (history passes.items) mutex rank (row_told result mutex rank) }
+        ensures since { AllSince result passes.items }
     {
         let seat = self.gathered(passes);
         let LockPage { table, shape } = self;
@@ -199,14 +208,14 @@ impl Pass {
 }
 
 impl Closed {
-    /// The thread that a row stands for.
-    pub fn row(&self, mutex: u32, row: u32) -> Option<u32>
-        requires range { (mutex < self.now.mutexes) × (row < self.now.rows) }
-        ensures row { result ≡ threads self.now mutex row }
-        ensures thread { IfSome result (λ t. t < 16) }
+    /// The thread for which a rank was decided, or `None` where its row tells of none or of an older rank.
+    pub fn row(&self, mutex: u32, rank: u32) -> Option<Answer>
+        requires range { mutex < self.now.mutexes }
+        ensures row { result ≡ row_told self.now mutex rank }
+        ensures thread { IfSome result (λ a. IfFor a (λ t. t < 16)) }
     {
-        let place = place_of(self.shape, mutex, row);
-        thread_of(self.words.word(place))
+        let place = place_of(self.shape, mutex, rank);
+        row_of(self.words.word(place), rank)
     }
 }
 
@@ -217,39 +226,14 @@ impl Drop for Closed {
     }
 }
 
-// The word of a row.
-fn place_of(shape: Shape, mutex: u32, row: u32) -> usize
+// The word of a rank.
+fn place_of(shape: Shape, mutex: u32, rank: u32) -> usize
     requires shape { HasShape shape.mutexes shape.rows }
-    requires range { (mutex < shape.mutexes) × (row < shape.rows) }
-    ensures { (result ≡ mutex * shape.rows + row) × (result < shape.mutexes * shape.rows) }
+    requires range { mutex < shape.mutexes }
+    ensures { (result ≡ mutex * shape.rows + rank % shape.rows) × (result < shape.mutexes * shape.rows) }
 {
+    let row = rank % shape.rows;
     mutex as usize * shape.rows as usize + row as usize
-}
-
-// The thread of a word.
-fn thread_of(word: u64) -> Option<u32>
-    requires { word ≤ 16 }
-    ensures thread { result ≡ thread_in word }
-    ensures range { IfSome result (λ t. t < 16) }
-{
-    if word == 0 {
-        None
-    } else {
-        Some((word - 1) as u32)
-    }
-}
-
-// The thread that a decide answers which found this word.
-fn answered(found: u64, thread: u32) -> u32
-    requires { (found ≤ 16) × (thread < 16) }
-    ensures thread { result ≡ given found thread }
-    ensures range { result < 16 }
-{
-    if found == 0 {
-        thread
-    } else {
-        (found - 1) as u32
-    }
 }
 
 // A table of words that are all 0.

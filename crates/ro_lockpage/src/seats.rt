@@ -1,4 +1,4 @@
-//! The table of the page, and what each seat knows of its rows.
+//! The table of the page, and what each seat knows of its ranks.
 ghost use Rattle.std.specs.Prelude.{ℕ, List};
 ghost use Rattle.ro_lockpage.specs.Hands.{Hand};
 ghost use base.Fml.{ftrue};
@@ -22,21 +22,25 @@ impl Model for View {
     ghost also_owns = { λ _. ftrue };
 }
 
-/// Names a row of a mutex, and a thread.
+/// Names a rank of a mutex, a thread, and the word that is to be exchanged.
 pub trait Asking {
     ghost at_mutex: { ℕ };
 
-    ghost at_row: { ℕ };
+    ghost at_rank: { ℕ };
 
     ghost for_thread: { ℕ };
+
+    ghost on_word: { ℕ };
 }
 
 impl Asking for Brand {
     ghost at_mutex = { 0 };
 
-    ghost at_row = { 0 };
+    ghost at_rank = { 0 };
 
     ghost for_thread = { 0 };
+
+    ghost on_word = { 0 };
 }
 
 /// The rule.
@@ -51,22 +55,22 @@ impl TableRule<(), View, Shape> for Law {
     ghost first = { λ _. holding (fresh_hands 0 8) };
 }
 
-/// A step that fills the row where it is empty.
-pub struct Fill<A>(PhantomData<A>);
+/// A step that decides the rank where the word is still that of an older one.
+pub struct Exchange<A>(PhantomData<A>);
 
-impl<A: Asking> Play<(), View> for Fill<A> {
-    ghost use Rattle.ro_lockpage.specs.Seats.{Fills};
+impl<A: Asking> Play<(), View> for Exchange<A> {
+    ghost use Rattle.ro_lockpage.specs.Seats.{Exchanges};
 
-    ghost then = { Fills A.at_mutex A.at_row A.for_thread };
+    ghost then = { Exchanges A.at_mutex A.at_rank A.for_thread A.on_word };
 }
 
-/// A step that looks at the row.
+/// A step that looks at the word of the rank.
 pub struct Look<A>(PhantomData<A>);
 
 impl<A: Asking> Play<(), View> for Look<A> {
     ghost use Rattle.ro_lockpage.specs.Seats.{Looks};
 
-    ghost then = { Looks A.at_mutex A.at_row };
+    ghost then = { Looks A.at_mutex A.at_rank };
 }
 
 /// A seat gives its first hand to another.

@@ -1,11 +1,13 @@
 //! The steps on the table, of seats alone.
-ghost use Rattle.std.specs.Prelude.{◌≡◌, ◌+◌, ◌*◌, ◌<◌, ◌≤◌, ℕ, suc, [], ◌∷◌, ◌++◌};
+ghost use Rattle.std.specs.Prelude.{◌≡◌, ◌+◌, ◌*◌, ◌%◌, ◌<◌, ◌≤◌, ℕ, suc, List, [], ◌∷◌, ◌++◌};
 ghost use mathlib.Core.Option.{none};
 ghost use Rattle.atomic_table.specs.Table.{step};
+ghost use Rattle.ro_lockpage.specs.Ranks.{first_word, word_of, AreOlder};
 ghost use Rattle.ro_lockpage.specs.Hands.{first_of, others_of, fresh_hands};
-ghost use Rattle.ro_lockpage.specs.Seats.{Fills, Looks, Shows, holding, after_decide, after_look};
+ghost use Rattle.ro_lockpage.specs.Seats.{Exchanges, Looks, Shows, Keeps, holding, after_exchange, after_look, after_decide};
 
-use crate::seats::{Asking, Deal, Fill, Gather, Law, Look, Shape, View};
+use crate::seats::{Asking, Deal, Exchange, Gather, Law, Look, Shape, View};
+use crate::words::first_of_rank;
 use atomic_table::{Seat, Shared};
 use std::marker::Brand;
 
@@ -13,36 +15,39 @@ pub type Words = Shared<(), View, Shape, Law>;
 
 pub type Chair = Seat<(), View>;
 
-// The compare_exchange on the row that `A` names, for the thread that it names.
-fn fill<A: Asking>(
-    words: &Words,
-    seat: &mut Chair,
-    place: usize,
-    mutex: u32,
-    row: u32,
-    thread: u32,
-) -> u64
-    requires asking { (mutex ≡ A.at_mutex) × (row ≡ A.at_row) × (thread ≡ A.for_thread) × (thread < 16) }
-    requires place { (place ≡ A.at_mutex * words.now.key.rows + A.at_row) × (A.at_mutex < words.now.key.mutexes) × (A.at_row < words.now.key.rows) }
-    requires seat { (seat.old.table_id ≡ words.now.table_id) × (place < words.now.table_id.words) }
-    requires one { seat.old.me.0.hands ≡ first_of seat.old.me.0.hands ∷ [] }
-    ensures seat { (seat.new.table_id ≡ seat.old.table_id) × (seat.new.id ≡ seat.old.id) }
-    ensures filled { Fills A.at_mutex A.at_row A.for_thread (step words.now.table_id.slots place 0 (thread + 1) none) seat.old.me result seat.new.me }
-{
-    let _ = (mutex, row);
-    words.compare_exchange::<Fill<A>>(seat, place, 0, u64::from(thread) + 1)
+/// A rank of a mutex, its word, and a thread.
+#[derive(Clone, Copy)]
+pub struct Bid {
+    pub place: usize,
+    pub mutex: u32,
+    pub rank: u32,
+    pub thread: u32,
 }
 
-// The load of the row that `A` names.
-fn load<A: Asking>(words: &Words, seat: &mut Chair, place: usize, mutex: u32, row: u32) -> u64
-    requires asking { (mutex ≡ A.at_mutex) × (row ≡ A.at_row) }
-    requires place { (place ≡ A.at_mutex * words.now.key.rows + A.at_row) × (A.at_row < words.now.key.rows) }
+// The compare_exchange of the word of the rank that `A` names, for the thread that it names.
+fn exchange<A: Asking>(words: &Words, seat: &mut Chair, bid: Bid, was: u64) -> u64
+    requires asking { (bid.mutex ≡ A.at_mutex) × (bid.rank ≡ A.at_rank) × (bid.thread ≡ A.for_thread) × (was ≡ A.on_word) }
+    requires older { (bid.thread < 16) × (was < first_word bid.rank) }
+    requires place { (bid.place ≡ bid.mutex * words.now.key.rows + bid.rank % words.now.key.rows) × (bid.mutex < words.now.key.mutexes) × (0 < words.now.key.rows) }
+    requires seat { (seat.old.table_id ≡ words.now.table_id) × (bid.place < words.now.table_id.words) }
+    requires one { seat.old.me.0.hands ≡ first_of seat.old.me.0.hands ∷ [] }
+    ensures seat { (seat.new.table_id ≡ seat.old.table_id) × (seat.new.id ≡ seat.old.id) }
+    ensures exchanged { Exchanges A.at_mutex A.at_rank A.for_thread A.on_word (step words.now.table_id.slots bid.place was (word_of bid.rank bid.thread) none) seat.old.me result seat.new.me }
+{
+    let new = first_of_rank(bid.rank) + u64::from(bid.thread);
+    words.compare_exchange::<Exchange<A>>(seat, bid.place, was, new)
+}
+
+// The load of the word of the rank that `A` names.
+fn load<A: Asking>(words: &Words, seat: &mut Chair, place: usize, mutex: u32, rank: u32) -> u64
+    requires asking { (mutex ≡ A.at_mutex) × (rank ≡ A.at_rank) }
+    requires place { place ≡ mutex * words.now.key.rows + rank % words.now.key.rows }
     requires seat { (seat.old.table_id ≡ words.now.table_id) × (place < words.now.table_id.words) }
     requires one { seat.old.me.0.hands ≡ first_of seat.old.me.0.hands ∷ [] }
     ensures seat { (seat.new.table_id ≡ seat.old.table_id) × (seat.new.id ≡ seat.old.id) }
-    ensures looked { Looks A.at_mutex A.at_row (step words.now.table_id.slots place 0 0 none) seat.old.me result seat.new.me }
+    ensures looked { Looks A.at_mutex A.at_rank (step words.now.table_id.slots place 0 0 none) seat.old.me result seat.new.me }
 {
-    let _ = (mutex, row);
+    let _ = (mutex, rank);
     words.load::<Look<A>>(seat, place)
 }
 
@@ -66,32 +71,47 @@ pub fn gather(words: &Words, seat: &mut Chair, other: Chair)
     words.join_seat::<Gather>(seat, other);
 }
 
-/// Fills the row of a mutex for a thread where it is empty, and answers what its word held.
-pub fn decide_at(
-    words: &Words,
-    seat: &mut Chair,
-    place: usize,
-    mutex: u32,
-    row: u32,
-    thread: u32,
-) -> u64
-    requires thread { thread < 16 }
-    requires place { (place ≡ mutex * words.now.key.rows + row) × (mutex < words.now.key.mutexes) × (row < words.now.key.rows) }
-    requires seat { (seat.old.table_id ≡ words.now.table_id) × (place < words.now.table_id.words) }
+/// Exchanges the word of a rank for that of the rank and a thread, where it is this older one, and answers what it was.
+fn exchange_at(words: &Words, seat: &mut Chair, bid: Bid, was: u64) -> u64
+    requires older { (bid.thread < 16) × (was < first_word bid.rank) }
+    requires place { (bid.place ≡ bid.mutex * words.now.key.rows + bid.rank % words.now.key.rows) × (bid.mutex < words.now.key.mutexes) × (0 < words.now.key.rows) }
+    requires seat { (seat.old.table_id ≡ words.now.table_id) × (bid.place < words.now.table_id.words) }
     requires one { seat.old.me.0.hands ≡ first_of seat.old.me.0.hands ∷ [] }
-    ensures seat { (seat.new.table_id ≡ seat.old.table_id) × (seat.new.me ≡ (holding (after_decide (first_of seat.old.me.0.hands) mutex row thread result ∷ []), seat.old.me.1)) }
-    ensures shows { Shows (first_of seat.old.me.0.hands) mutex row result }
+    ensures seat { (seat.new.table_id ≡ seat.old.table_id) × (seat.new.me ≡ (holding (after_exchange (first_of seat.old.me.0.hands) bid.mutex bid.rank bid.thread was result ∷ []), seat.old.me.1)) }
+    ensures shows { Shows (first_of seat.old.me.0.hands) bid.mutex bid.rank result }
 {
-    fill::<Brand>(words, seat, place, mutex, row, thread)
+    exchange::<Brand>(words, seat, bid, was)
 }
 
-/// What the word of a row holds.
-pub fn look_at(words: &Words, seat: &mut Chair, place: usize, mutex: u32, row: u32) -> u64
-    requires place { (place ≡ mutex * words.now.key.rows + row) × (row < words.now.key.rows) }
+/// Decides a rank for a thread where its word is still that of an older one, and answers what the last step found.
+pub fn decide_at(words: &Words, seat: &mut Chair, bid: Bid) -> u64
+    requires thread { bid.thread < 16 }
+    requires place { (bid.place ≡ bid.mutex * words.now.key.rows + bid.rank % words.now.key.rows) × (bid.mutex < words.now.key.mutexes) × (0 < words.now.key.rows) }
+    requires seat { (seat.old.table_id ≡ words.now.table_id) × (bid.place < words.now.table_id.words) }
+    requires one { seat.old.me.0.hands ≡ first_of seat.old.me.0.hands ∷ [] }
+    ensures seat { (seat.new.table_id ≡ seat.old.table_id) × (seat.new.me.1 ≡ seat.old.me.1) }
+    ensures decided { (older : List ℕ) × AreOlder bid.rank older × (seat.new.me.0 ≡ holding (after_decide (first_of seat.old.me.0.hands) bid.mutex bid.rank bid.thread older result ∷ [])) }
+    ensures keeps { Keeps (first_of seat.old.me.0.hands).known bid.mutex bid.rank result }
+{
+    let first = first_of_rank(bid.rank);
+    let mut found = look_at(words, seat, bid.place, bid.mutex, bid.rank);
+    while found < first {
+        let was = found;
+        found = exchange_at(words, seat, bid, was);
+        if found == was {
+            return found;
+        }
+    }
+    found
+}
+
+/// What the word of a rank holds.
+pub fn look_at(words: &Words, seat: &mut Chair, place: usize, mutex: u32, rank: u32) -> u64
+    requires place { place ≡ mutex * words.now.key.rows + rank % words.now.key.rows }
     requires seat { (seat.old.table_id ≡ words.now.table_id) × (place < words.now.table_id.words) }
     requires one { seat.old.me.0.hands ≡ first_of seat.old.me.0.hands ∷ [] }
-    ensures seat { (seat.new.table_id ≡ seat.old.table_id) × (seat.new.me ≡ (holding (after_look (first_of seat.old.me.0.hands) mutex row result ∷ []), seat.old.me.1)) }
-    ensures shows { Shows (first_of seat.old.me.0.hands) mutex row result }
+    ensures seat { (seat.new.table_id ≡ seat.old.table_id) × (seat.new.me ≡ (holding (after_look (first_of seat.old.me.0.hands) mutex rank result ∷ []), seat.old.me.1)) }
+    ensures shows { Shows (first_of seat.old.me.0.hands) mutex rank result }
 {
-    load::<Brand>(words, seat, place, mutex, row)
+    load::<Brand>(words, seat, place, mutex, rank)
 }

@@ -1,4 +1,4 @@
-//! Tests that start threads: drivers that run side by side, and threads that decide rows of the lock page at once.
+//! Tests that start threads: drivers that run side by side, and threads that decide ranks of the lock page at once.
 #![tactic(auto)]
 
 #[cfg(test)]

@@ -1,5 +1,5 @@
 use Rattle.std.proofs.Common.{◌≡◌}
 use Rattle.test_threaded.proofs.lock_pages.Hall.ask.Given as goal
 
-abbrev pub invariant-loop-row : goal.invariant-loop-row
-invariant-loop-row l = (l.self ≡ l.fn.self) × (l.pass.page ≡ l.fn.pass.page)
+abbrev pub invariant-loop-rank : goal.invariant-loop-rank
+invariant-loop-rank l = (l.self ≡ l.fn.self) × (l.pass.page ≡ l.fn.pass.page)

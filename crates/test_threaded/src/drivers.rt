@@ -1,4 +1,8 @@
 //! Two drivers are inside their runs at once.
+ghost use Rattle.std.specs.Prelude.{◌≡◌, MatchResult, IfOk, OnErr};
+ghost use Rattle.std.specs.Option.{MatchOption};
+ghost use Rattle.ro_post.specs.Turns.{MatchLeased, IfOver};
+
 use ro_drive::drive_all;
 use ro_io::{Gate, OpenGate, Place};
 use ro_post::{Driver, Post, Turn};
@@ -89,6 +93,24 @@ impl<'a> Post for Hall<'a> {
     }
 
     fn give_back<R: Wait>(&self, _rt: &R, _pass: &mut Ticket, _back: ()) {}
+
+    fn next<R: Wait>(
+        &self,
+        rt: &R,
+        pass: &mut Ticket,
+        back: Option<()>,
+    ) -> Result<Turn<Visit<'a>>, AllocError>
+        requires { Unit {0} × MatchOption back (Unit {0}) (λ b. Unit {0}) }
+        ensures same { Unit {0} × (pass.new.number ≡ pass.old.number) }
+        ensures lease { MatchResult result (λ t. MatchLeased t (λ l. (b : Unit {0}) → Unit {0} → Unit {0}) (Unit {0})) (λ _. Unit {0}) }
+        ensures over { IfOk result (λ t. IfOver t (Unit {0})) }
+        ensures wants { OnErr result (Unit {0}) }
+    {
+        if let Some(back) = back {
+            self.give_back(rt, pass, back);
+        }
+        self.turn(rt, pass)
+    }
 
     fn rest<R: Wait>(&self, _rt: &R) {}
 }

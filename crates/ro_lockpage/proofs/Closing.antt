@@ -8,9 +8,9 @@ use native.Mathlib.Decide.{ℕ_discrete}
 use mathlib.Core.Logic.{dite}
 use Rattle.atomic_table.specs.Seated.{TableId}
 use Rattle.atomic_table.specs.Table.{Final, Seen}
-use Rattle.ro_lockpage.specs.Ranks.{Ranks, Decided, decided, is_at, noted, map_of, word_at, row_in, of_rank, once, Tells, Since}
+use Rattle.ro_lockpage.specs.Ranks.{Ranks, Decided, decided, is_at, map_of, word_at, row_in, of_rank, once, Tells, Since}
 use Rattle.ro_lockpage.specs.Hands.{Hand}
-use Rattle.ro_lockpage.specs.Seats.{Fits, Each, Kept, Rule}
+use Rattle.ro_lockpage.specs.Seats.{Fits, Each, Rule}
 use Rattle.ro_lockpage.specs.Pages.{PassOf, ClosedOf, seen_of, AreFrom, AllAgree, AllSince, all_won, history}
 use Rattle.ro_lockpage.specs.declared.seats.View.{View}
 use Rattle.ro_lockpage.specs.declared.seats.Shape.{Shape}

@@ -1,8 +1,8 @@
 -- What a rank that is decided leaves of each hand.
-use Rattle.std.proofs.Common.{◌≡◌, ◌≢◌, ◌⊎◌, inl, inr, ℕ, zero, suc, ◌<◌, ◌≤◌, ◌==◌, Bool, true, false, if◌then◌else◌, List, [], ◌∷◌, ◌++◌, refl, sym, ap, ◌∙◌, subst, arith, eq-eqb, ne_eqb, append_assoc, Option, Some, None}
+use Rattle.std.proofs.Common.{◌≡◌, ◌≢◌, ℕ, ◌≤◌, ◌==◌, Bool, true, false, if◌then◌else◌, List, [], ◌∷◌, ◌++◌, refl, sym, ap, ◌∙◌, subst, arith, eq-eqb, ne_eqb, append_assoc, Option, Some, None}
 use Rattle.std.proofs.lemmas.List.{append-nil}
 use Rattle.std.proofs.lemmas.List.Elements.{filter-append}
-use Rattle.ro_lockpage.specs.Ranks.{Ranks, Decided, decided, Asked, asked, is_at, noted, map_of, of_rank, once, row_in, word_of, thread_in, told, steps, Since}
+use Rattle.ro_lockpage.specs.Ranks.{Ranks, Decided, decided, Asked, asked, is_at, noted, map_of, of_rank, once, thread_in, told, steps, Since}
 use Rattle.ro_lockpage.specs.Hands.{Hand}
 use Rattle.ro_lockpage.specs.Seats.{Fits, after_win}
 use Rattle.ro_lockpage.specs.declared.words.Answer.{Answer}

@@ -2,17 +2,16 @@
 use Rattle.std.proofs.Common.{◌≡◌, ◌≢◌, ◌⊎◌, inl, inr, ℕ, zero, suc, ◌+◌, ◌*◌, ◌%◌, ◌<◌, ◌≤◌, ◌==◌, Bool, true, false, if◌then◌else◌, List, [], ◌∷◌, ◌++◌, length, set, slice_index, refl, sym, ap, ◌∙◌, subst, ⊎_elim, arith, eq-eqb, ne_eqb, length-set, Option, Some, None}
 use Rattle.std.specs.Prelude.{replicate}
 use Rattle.std.proofs.Math.Nat.{mod-lt}
-use Rattle.std.proofs.lemmas.Bool.{eqb-true, eqb-false}
+use Rattle.std.proofs.lemmas.Bool.{eqb-true}
 use Rattle.std.proofs.lemmas.List.{set-get_or}
 use mathlib.Core.Option.{some, none, some-ne-none, some-injective}
 use lib.ListN.{get_elem?}
 use prog.Atomic.{either}
 use Rattle.atomic_table.specs.Table.{State, Act, keeps, step, carried_after, Valid, Allows, Splits, Joins}
 use Rattle.atomic_table.proofs.Lists.{at_set}
-use Rattle.ro_lockpage.specs.Ranks.{Ranks, Asked, asked, is_at, noted, map_of, once, row_in, first_word, word_of, word_at, thread_in, Since}
+use Rattle.ro_lockpage.specs.Ranks.{Ranks, Asked, asked, is_at, noted, once, row_in, first_word, word_of, word_at, Since}
 use Rattle.ro_lockpage.specs.Hands.{Hand, fresh, fresh_hands, first_of}
-use Rattle.ro_lockpage.specs.Seats.{Fits, Each, Newest, Kept, Rule, Sat, Shows, Keeps, Exchanges, Looks, holding, after_win, after_look, after_exchange}
-use Rattle.ro_lockpage.specs.declared.words.Answer.{Answer}
+use Rattle.ro_lockpage.specs.Seats.{Fits, Each, Kept, Rule, Sat, Shows, Exchanges, Looks, holding, after_win, after_look}
 use Rattle.ro_lockpage.specs.declared.words.Answer.TheVariants.{For, Passed}
 use Rattle.ro_lockpage.specs.declared.seats.View.{View}
 use Rattle.ro_lockpage.specs.declared.seats.Shape.{Shape}

@@ -1,12 +1,11 @@
 -- A rank that is noted, and the words that tell it.
-use Rattle.std.proofs.Common.{◌≡◌, ◌≢◌, ◌⊎◌, inl, inr, ℕ, zero, suc, ◌+◌, ◌-◌, ◌*◌, ◌%◌, ◌<◌, ◌≤◌, ◌==◌, ◌&&◌, Bool, true, false, true≢false, if◌then◌else◌, List, length, set, slice_index, refl, sym, ap, ◌∙◌, subst, arith, eq-eqb, Option, Some, None}
+use Rattle.std.proofs.Common.{◌≡◌, ◌≢◌, ℕ, ◌+◌, ◌-◌, ◌*◌, ◌%◌, ◌<◌, ◌≤◌, ◌==◌, ◌&&◌, Bool, true, false, true≢false, if◌then◌else◌, List, length, set, slice_index, refl, sym, ap, ◌∙◌, subst, arith, eq-eqb, Option, Some, None}
 use Rattle.std.specs.Prelude.{nat_lt}
 use Rattle.std.proofs.Math.Nat.{mod-lt}
 use Rattle.std.proofs.lemmas.Bool.{eqb-true, ltb-true, ltb-false, lt-ltb}
 use Rattle.std.proofs.lemmas.List.{get_or-set_same, get_or-set_other}
-use Rattle.ro_lockpage.specs.Ranks.{Ranks, is_at, noted, first_word, word_of, word_at, row_in, thread_in, Tells}
+use Rattle.ro_lockpage.specs.Ranks.{Ranks, is_at, noted, first_word, word_of, word_at, row_in, Tells}
 use Rattle.ro_lockpage.specs.Seats.{Newest}
-use Rattle.ro_lockpage.specs.declared.words.Answer.{Answer}
 use Rattle.ro_lockpage.specs.declared.words.Answer.TheVariants.{For, Passed}
 use Rattle.ro_lockpage.proofs.Lists.{apart}
 

@@ -1,7 +1,7 @@
 -- What one exchange more leaves of a hand whose steps found older words.
-use Rattle.std.proofs.Common.{◌≡◌, ℕ, zero, suc, ◌<◌, ◌≤◌, ◌==◌, Bool, true, false, List, [], ◌∷◌, ◌++◌, refl, sym, ap, ◌∙◌, subst, Option, Some, None}
+use Rattle.std.proofs.Common.{◌≡◌, ℕ, ◌<◌, ◌≤◌, ◌==◌, true, false, List, [], ◌∷◌, ◌++◌, sym, ap, ◌∙◌, subst, Option, Some, None}
 use Rattle.std.proofs.lemmas.Bool.{eqb-true}
-use Rattle.ro_lockpage.specs.Ranks.{Decided, decided, Asked, asked, first_word, row_in, thread_in, given, told, won_then, steps, AreOlder}
+use Rattle.ro_lockpage.specs.Ranks.{Decided, decided, asked, first_word, row_in, thread_in, given, told, won_then, steps, AreOlder}
 use Rattle.ro_lockpage.specs.Hands.{Hand}
 use Rattle.ro_lockpage.specs.Seats.{Shows, Keeps, after_exchange, after_looks, after_decide}
 use Rattle.ro_lockpage.specs.declared.words.Answer.{Answer}

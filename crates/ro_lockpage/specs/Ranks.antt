@@ -1,5 +1,5 @@
 -- Ranks of mutexes, each of which is decided for a thread once, and the words that tell of them.
-use Rattle.std.specs.Prelude.{◌≡◌, ℕ, ◌+◌, ◌-◌, ◌*◌, ◌%◌, ◌<◌, ◌≤◌, ◌⊎◌, ◌==◌, ◌&&◌, if◌then◌else◌, nat_lt, Bool, List, [], ◌∷◌, ◌++◌, slice_index, Option, Some, None}
+use Rattle.std.specs.Prelude.{◌≡◌, ℕ, ◌+◌, ◌-◌, ◌*◌, ◌%◌, ◌<◌, ◌≤◌, ◌==◌, ◌&&◌, if◌then◌else◌, nat_lt, Bool, List, [], ◌∷◌, ◌++◌, slice_index, Option, Some, None}
 use Rattle.std.specs.List.{filter}
 use Rattle.ro_lockpage.specs.declared.words.Answer.{Answer}
 use Rattle.ro_lockpage.specs.declared.words.Answer.TheVariants.{For, Passed}

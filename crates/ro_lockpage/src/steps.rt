@@ -1,5 +1,5 @@
 //! The steps on the table, of seats alone.
-ghost use Rattle.std.specs.Prelude.{◌≡◌, ◌+◌, ◌*◌, ◌%◌, ◌<◌, ◌≤◌, ℕ, suc, List, [], ◌∷◌, ◌++◌};
+ghost use Rattle.std.specs.Prelude.{◌≡◌, ◌+◌, ◌*◌, ◌%◌, ◌<◌, ℕ, suc, List, [], ◌∷◌, ◌++◌};
 ghost use mathlib.Core.Option.{none};
 ghost use Rattle.atomic_table.specs.Table.{step};
 ghost use Rattle.ro_lockpage.specs.Ranks.{first_word, word_of, AreOlder};

@@ -1,6 +1,6 @@
 //! What the words of a page tell: each of the newest of its ranks that was decided.
-ghost use Rattle.std.specs.Prelude.{◌≡◌, ◌+◌, ◌*◌, ◌<◌, ℕ, IfSome, Some};
-ghost use Rattle.ro_lockpage.specs.Ranks.{row_in, word_of, first_word, given, IfFor};
+ghost use Rattle.std.specs.Prelude.{◌≡◌, ◌+◌, ◌*◌, ◌<◌, IfSome, Some};
+ghost use Rattle.ro_lockpage.specs.Ranks.{row_in, first_word, given, IfFor};
 
 /// What is told of a rank that was decided.
 #[derive(Clone, Copy, PartialEq, Eq, Debug)]

@@ -1,4 +1,4 @@
-use Rattle.std.proofs.Common.{◌≡◌, ◌≢◌, ◌<◌, ◌==◌, ◌++◌, ◌∷◌, [], ℕ, Bool, true, false, sym, ap, ◌∙◌, subst, arith, eq-eqb, ne_eqb}
+use Rattle.std.proofs.Common.{◌≢◌, ◌<◌, ◌++◌, ◌∷◌, [], ℕ, true, false, ap, ◌∙◌, subst, arith, eq-eqb, ne_eqb}
 use Rattle.ro_lockpage.specs.Ranks.{first_word}
 use Rattle.ro_lockpage.specs.Hands.{Hand, first_of}
 use Rattle.ro_lockpage.specs.Seats.{Shows, holding, after_exchange}

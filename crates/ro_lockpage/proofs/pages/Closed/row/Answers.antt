@@ -1,4 +1,4 @@
-use Rattle.std.proofs.Common.{slice_index, ◌+◌, ◌*◌, ◌%◌, ◌<◌, ◌≤◌, ℕ, sym, ap, ◌∙◌, subst}
+use Rattle.std.proofs.Common.{slice_index, ℕ, sym, ap, ◌∙◌}
 use Rattle.std.specs.Mem.Slots.{slots_items}
 use Rattle.ro_lockpage.specs.Ranks.{row_in}
 use Rattle.ro_lockpage.specs.Pages.{ClosedOf, row_of}

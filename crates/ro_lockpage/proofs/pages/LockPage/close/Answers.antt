@@ -1,9 +1,9 @@
-use Rattle.std.proofs.Common.{◌≡◌, ℕ, List, length, refl, sym, ap, subst}
+use Rattle.std.proofs.Common.{ℕ, List, refl, sym, ap, subst}
 use Rattle.std.specs.Mem.Slots.{slots_items}
 use Rattle.atomic_table.specs.Table.{Final, Seen}
 use Rattle.ro_lockpage.specs.Ranks.{row_in, word_at, Tells}
 use Rattle.ro_lockpage.specs.Seats.{Rule}
-use Rattle.ro_lockpage.specs.Pages.{PageOf, PassOf, ClosedOf, AreFrom, AllSince, history}
+use Rattle.ro_lockpage.specs.Pages.{PageOf, PassOf, ClosedOf, AllSince, history}
 use Rattle.ro_lockpage.specs.declared.seats.Shape.{Shape}
 use Rattle.ro_lockpage.proofs.Closing.{ended, all_since}
 use Rattle.ro_lockpage.proofs.pages.LockPage.close.Goals as goal

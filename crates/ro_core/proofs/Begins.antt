@@ -1,5 +1,5 @@
 -- The fields of a run at its opening.
-use Rattle.std.proofs.Common.{◌≡◌, ◌⊎◌, inl, inr, ℕ, zero, suc, ◌<◌, ◌≤◌, List, [], ◌∷◌, ◌++◌, length, Option, Some, None, refl, sym, ap, ◌∙◌, subst, arith}
+use Rattle.std.proofs.Common.{◌≡◌, ◌⊎◌, inl, inr, ℕ, zero, suc, ◌<◌, ◌≤◌, true≢false, List, [], ◌∷◌, ◌++◌, length, Option, Some, None, refl, sym, ap, ◌∙◌, subst, arith}
 use Rattle.std.specs.Prelude.{false, replicate, slice_get}
 use Rattle.std.specs.Option.{option_map_or}
 use Rattle.std.proofs.lemmas.Option.{slice_get_within}
@@ -57,10 +57,10 @@ nothing-blocked (suc n) (suc thread) = nothing-blocked n thread
 
 pub opening-holds : (f : Fields) → InRange f.job.settings → f.journal ≡ [] → AreFirst f.job.program.image f.job.faults f.job.settings.watchdog f.seats → length f.seats ≡ f.job.settings.replicas
     → f.leases ≡ [] → f.kernel.setup ≡ setup_of f.job.program → f.kernel.kernel ≡ opening_kernel f.job.program.image.heap
-    → f.blocked ≡ replicate 16 None → f.unblocked ≡ None → f.steps ≡ 0 → f.scrubbed ≡ 0 → f.streak ≡ no_streak → f.due ≡ None → f.ended ≡ None → f.sent ≡ 0 → f.wrote ≡ 0
+    → f.blocked ≡ replicate 16 None → f.unblocked ≡ None → f.others_sleep ≡ false → f.steps ≡ 0 → f.scrubbed ≡ 0 → f.streak ≡ no_streak → f.due ≡ None → f.ended ≡ None → f.sent ≡ 0 → f.wrote ≡ 0
     → length f.views ≡ f.job.settings.replicas → NoneStands f.job.settings.replicas f.groups → 1 ≤ f.places → Holds f
 unfolding opening_core
-opening-holds f in_range journal first count leases setup kernel blocked unblocked steps scrubbed streak due ended sent wrote views none room =
+opening-holds f in_range journal first count leases setup kernel blocked unblocked others steps scrubbed streak due ended sent wrote views none room =
     let core : replay f.job f.journal ≡ opening_core f.job = ap (replay f.job) journal in
     record {
       in_range = in_range;
@@ -71,6 +71,7 @@ opening-holds f in_range journal first count leases setup kernel blocked unblock
       blocked_count = ap length blocked;
       blocked_are = λ t. ap (λ (bs : List (Option Call)). blocked_at bs t) blocked ∙ nothing-blocked 16 t ∙ sym (ap (λ (x : Core). x.blocked t) core);
       unblocked_is = unblocked ∙ sym (ap (first_unblocked f.kernel) blocked ∙ lowest-never (is_unblocked f.kernel.setup f.kernel.kernel (replicate 16 None)) (length f.kernel.kernel.lives) (λ t. ap (λ (o : Option Call). option_map_or (λ call. serves f.kernel.setup f.kernel.kernel t call) o false) (nothing-blocked 16 t)));
+      others_do = λ e. absurd (true≢false (sym e ∙ others));
       steps_are = steps ∙ sym (ap (λ (x : Core). x.steps) core);
       scrubbed_are = scrubbed ∙ sym (ap (λ (x : Core). x.scrubbed) core);
       streak_is = streak ∙ sym (ap (λ (x : Core). x.streak) core);

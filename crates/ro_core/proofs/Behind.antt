@@ -18,7 +18,7 @@ use Rattle.ro_legal.specs.Event.{Event, all_applied, core_after}
 use Rattle.ro_legal.specs.Legal.{after, IsAllowed, replay}
 use Rattle.ro_core.specs.Seen.{IsOfJob}
 use Rattle.ro_core.specs.Grouped.{AreGrouped}
-use Rattle.ro_core.specs.Fields.{AreSeated, AreHome, AreSpared, CanTake, one_end, Fields, core_in, blocked_at, first_unblocked, CountsBytes, Holds}
+use Rattle.ro_core.specs.Fields.{AreSeated, AreHome, AreSpared, CanTake, one_end, Fields, core_in, blocked_at, first_unblocked, OthersSleep, CountsBytes, Holds}
 use Rattle.ro_legal.proofs.Happens.{Happens}
 use Rattle.ro_legal.proofs.Journals.{outcome_of-append, replay_more}
 use Rattle.ro_core.proofs.Tests.{seated-home}
@@ -64,9 +64,9 @@ module _ (f f' : Fields) (h : Holds f) (entry : Entry) (allowed : IsAllowed f.jo
 
   -- the fields behind the event
   pub happened-holds : f'.job ≡ f.job → AreHome f.job event.kernel f'.seats (all_applied event.effect replicas) → AreGrouped (all_applied event.effect replicas) f'.groups → f'.leases ≡ f.leases → f'.kernel.setup ≡ f.kernel.setup → f'.kernel.kernel ≡ event.kernel
-      → f'.blocked ≡ slice_set f.blocked thread event.blocked → f'.unblocked ≡ first_unblocked f'.kernel f'.blocked → f'.steps ≡ f.steps + count + event_steps event.did → f'.scrubbed ≡ f.scrubbed → f'.streak ≡ after_event f.streak thread (blocked_at f.blocked thread) → f'.due ≡ event.due → f'.ended ≡ f.ended → length f'.views ≡ length f'.seats
+      → f'.blocked ≡ slice_set f.blocked thread event.blocked → f'.unblocked ≡ first_unblocked f'.kernel f'.blocked → (f'.others_sleep ≡ true → OthersSleep f'.kernel.kernel f'.blocked f'.groups f'.streak []) → f'.steps ≡ f.steps + count + event_steps event.did → f'.scrubbed ≡ f.scrubbed → f'.streak ≡ after_event f.streak thread (blocked_at f.blocked thread) → f'.due ≡ event.due → f'.ended ≡ f.ended → length f'.views ≡ length f'.seats
       → length event.payload ≤ 4096 * event_steps event.did → f'.sent ≡ f.sent + length event.payload → f'.wrote ≡ length event.payload → outcome_of (entry ∷ []) ≡ None → 1 ≤ f'.places → Holds f'
-  happened-holds job home groups leases setup kernel blocked unblocked steps scrubbed streak due ended views written sent wrote no_end room = holds-step f f' entry h allowed (record {
+  happened-holds job home groups leases setup kernel blocked unblocked others steps scrubbed streak due ended views written sent wrote no_end room = holds-step f f' entry h allowed (record {
     job = job;
     journal = journal;
     leases = leases ∙ h.leases_are ∙ sym (ap (λ (c : Core). c.leases) came);
@@ -76,6 +76,7 @@ module _ (f f' : Fields) (h : Holds f) (entry : Entry) (allowed : IsAllowed f.jo
     blocked = λ t. ap (λ (bs : List (Option Call)). blocked_at bs t) blocked ∙ blocked-set f.blocked thread t event.blocked (let n = h.blocked_count in omega arith)
         ∙ ap (λ (o : Option Call). if t == thread then event.blocked else o) (h.blocked_are t) ∙ sym (ap (λ (c : Core). c.blocked t) came);
     unblocked = unblocked;
+    others = λ e. subst (OthersSleep f'.kernel.kernel f'.blocked f'.groups f'.streak) (sym (leases ∙ alone)) (others e);
     steps = steps ∙ ap (λ (n : ℕ). n + count + event_steps event.did) h.steps_are ∙ sym (ap (λ (c : Core). c.steps) came);
     scrubbed = scrubbed ∙ h.scrubbed_are ∙ sym (ap (λ (c : Core). c.scrubbed) came);
     streak = streak ∙ ap (λ (s : Streak). after_event s thread (blocked_at f.blocked thread)) h.streak_is ∙ ap (after_event (core_in f).streak thread) (h.blocked_are thread) ∙ sym (ap (λ (c : Core). c.streak) came);

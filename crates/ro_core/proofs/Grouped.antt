@@ -42,6 +42,19 @@ ready-all (r ∷ replicas) (row ∷ rows) thread h =
     ap (λ (b : Bool). b && list_all (stands_in thread) rows) (h.each 0 thread r refl)
     ∙ ap (λ (b : Bool). is_some (stop_of r thread) && b) (ready-all replicas rows thread (record { count = (let n = h.count in omega arith); each = λ number t x e. h.each (suc number) t x e }))
 
+-- a thread is ready as it was where it stands in each replica as it did
+pub ready-same : (old new : Groups) (thread : ℕ) → length new ≡ length old → ((number : ℕ) → stands new number thread ≡ stands old number thread) → is_ready new thread ≡ is_ready old thread
+ready-same [] [] thread count same = refl
+ready-same [] (x ∷ new) thread count same = absurd (omega arith)
+ready-same (x ∷ old) [] thread count same = absurd (omega arith)
+ready-same (x ∷ old) (y ∷ new) thread count same =
+    ap (λ (b : Bool). b && list_all (stands_in thread) new) (same 0) ∙ ap (λ (b : Bool). stands_in thread x && b) (ready-same old new thread (omega arith) (λ number. same (suc number)))
+
+-- so is each other thread where one comes back
+pub returned-ready : (replica back : ℕ) (stopped : Bool) (old new : Groups) → Returns replica back stopped old new → (thread : ℕ) → thread ≢ back → is_ready new thread ≡ is_ready old thread
+returned-ready replica back true old new r thread other = let c = r.noted refl in ready-same old new thread c.count (λ number. c.others number thread (inr other))
+returned-ready replica back false old new r thread other = ap (λ (gs : Groups). is_ready gs thread) (r.same refl)
+
 -- ---- the opening
 
 pub opening-grouped : (job : Job) (groups : Groups) → NoneStands job.settings.replicas groups → AreGrouped (opening_core job).replicas groups

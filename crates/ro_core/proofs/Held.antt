@@ -1,5 +1,5 @@
 -- The fields of a run behind one entry more.
-use Rattle.std.proofs.Common.{◌≡◌, ◌⊎◌, inl, inr, ℕ, ◌+◌, ◌≤◌, true, List, [], ◌∷◌, ◌++◌, length, Some, None, sym, ap, ◌∙◌, subst, arith}
+use Rattle.std.proofs.Common.{◌≡◌, ◌⊎◌, inl, inr, ℕ, ◌+◌, ◌≤◌, true, List, [], ◌∷◌, ◌++◌, length, Option, Some, None, sym, ap, ◌∙◌, subst, arith}
 use Rattle.ro_journal.specs.declared.How.{How}
 use Rattle.ro_journal.specs.declared.How.TheVariants.{Limit, Differ, NoMajority}
 use Rattle.ro_journal.specs.declared.Entry.{Entry}
@@ -12,7 +12,11 @@ use Rattle.ro_plain.specs.Machine.{setup_of}
 use Rattle.ro_legal.specs.Core.{Job, Core, is_going}
 use Rattle.ro_legal.specs.Legal.{after, IsAllowed, Legal, replay}
 use Rattle.ro_core.specs.Seen.{CoreOf, KeepsViews}
-use Rattle.ro_core.specs.Fields.{AreSeated, one_end, Fields, core_in, blocked_at, first_unblocked, CountsBytes, Holds}
+use Rattle.ro_journal.specs.declared.Lease.{Lease}
+use Rattle.ro_event.specs.declared.calls.Call.{Call}
+use Rattle.ro_group.specs.Groups.{Groups}
+use Rattle.ro_legal.specs.declared.actions.Streak.{Streak}
+use Rattle.ro_core.specs.Fields.{AreSeated, one_end, Fields, core_in, blocked_at, first_unblocked, OthersSleep, DoOthersSleep, CountsBytes, Holds}
 use Rattle.ro_core.specs.Grouped.{AreGrouped}
 use Rattle.ro_legal.proofs.Journals.{outcome_of-append, replay_more, legal_more}
 use Rattle.ro_legal.proofs.Ordered.{going-parts}
@@ -61,6 +65,7 @@ pub record Becomes (f f' : Fields) (entry : Entry) : Type 0 where
   pub blocked_count : length f'.blocked ≡ 16
   pub blocked : (thread : ℕ) → blocked_at f'.blocked thread ≡ (after f.job (core_in f) entry).blocked thread
   pub unblocked : f'.unblocked ≡ first_unblocked f'.kernel f'.blocked
+  pub others : f'.others_sleep ≡ true → DoOthersSleep f'
   pub steps : f'.steps ≡ (after f.job (core_in f) entry).steps
   pub scrubbed : f'.scrubbed ≡ (after f.job (core_in f) entry).scrubbed
   pub streak : f'.streak ≡ (after f.job (core_in f) entry).streak
@@ -87,6 +92,7 @@ module _ (f f' : Fields) (entry : Entry) (h : Holds f) (allowed : IsAllowed f.jo
     blocked_count = b.blocked_count;
     blocked_are = λ t. b.blocked t ∙ sym (ap (λ (c : Core). c.blocked t) core_is);
     unblocked_is = b.unblocked;
+    others_do = b.others;
     steps_are = b.steps ∙ sym (ap (λ (c : Core). c.steps) core_is);
     scrubbed_are = b.scrubbed ∙ sym (ap (λ (c : Core). c.scrubbed) core_is);
     streak_is = b.streak ∙ sym (ap (λ (c : Core). c.streak) core_is);
@@ -104,6 +110,14 @@ module _ (f f' : Fields) (entry : Entry) (h : Holds f) (allowed : IsAllowed f.jo
 pub same-unblocked : (f f' : Fields) → Holds f → f'.kernel ≡ f.kernel → f'.blocked ≡ f.blocked → f'.unblocked ≡ f.unblocked → f'.unblocked ≡ first_unblocked f'.kernel f'.blocked
 same-unblocked f f' h kernel blocked unblocked =
     unblocked ∙ h.unblocked_is ∙ ap (first_unblocked f.kernel) (sym blocked) ∙ ap (λ (k : State). first_unblocked k f'.blocked) (sym kernel)
+
+pub same-asleep : (f f' : Fields) → Holds f → f'.kernel ≡ f.kernel → f'.blocked ≡ f.blocked → f'.groups ≡ f.groups → f'.streak ≡ f.streak → f'.leases ≡ f.leases → f'.others_sleep ≡ f.others_sleep → f'.others_sleep ≡ true → DoOthersSleep f'
+same-asleep f f' h kernel blocked groups streak leases others e =
+    subst (λ (k : State). OthersSleep k.kernel f'.blocked f'.groups f'.streak f'.leases) (sym kernel)
+    (subst (λ (bs : List (Option Call)). OthersSleep f.kernel.kernel bs f'.groups f'.streak f'.leases) (sym blocked)
+    (subst (λ (gs : Groups). OthersSleep f.kernel.kernel f.blocked gs f'.streak f'.leases) (sym groups)
+    (subst (λ (s : Streak). OthersSleep f.kernel.kernel f.blocked f.groups s f'.leases) (sym streak)
+    (subst (OthersSleep f.kernel.kernel f.blocked f.groups f.streak) (sym leases) (h.others_do (sym others ∙ e))))))
 
 -- no byte is written
 pub same-counts : (f f' : Fields) → Holds f → (core : Core) → core.output ≡ (core_in f).output → core.wrote ≡ 0 → f'.sent ≡ f.sent → f'.wrote ≡ 0 → f'.steps ≡ f.steps → CountsBytes f'.sent f'.wrote f'.steps core

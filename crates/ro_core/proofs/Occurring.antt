@@ -1,5 +1,5 @@
 -- An event that is done in every replica and noted, in the fields of a run.
-use Rattle.std.proofs.Common.{◌≡◌, ℕ, ◌+◌, ◌*◌, ◌<◌, ◌≤◌, List, [], ◌∷◌, ◌++◌, length, None, sym, ap, ◌∙◌, subst, arith}
+use Rattle.std.proofs.Common.{◌≡◌, ℕ, ◌+◌, ◌*◌, ◌<◌, ◌≤◌, List, [], ◌∷◌, ◌++◌, length, true, None, sym, ap, ◌∙◌, subst, arith}
 use Rattle.std.specs.Prelude.{◌^◌, false, is_none, slice_set, IfSome}
 use Rattle.std.proofs.lemmas.Bool.{and_from}
 use Rattle.ro_journal.specs.Plan.{event_steps}
@@ -13,7 +13,7 @@ use Rattle.ro_legal.specs.Core.{Job, Core, is_going}
 use Rattle.ro_legal.specs.Event.{Event, all_applied, core_after}
 use Rattle.ro_legal.specs.Legal.{replay, output_of}
 use Rattle.ro_legal.specs.Sound.{IsOrdered}
-use Rattle.ro_core.specs.Fields.{Fields, core_in, blocked_at, first_unblocked, AreHome, CanTake, Holds}
+use Rattle.ro_core.specs.Fields.{Fields, core_in, blocked_at, first_unblocked, OthersSleep, AreHome, CanTake, Holds}
 use Rattle.ro_core.specs.Grouped.{AreGrouped}
 use Rattle.ro_core.specs.Happening.{event_by}
 use Rattle.ro_core.specs.Runs.{job_of, payload_by, LastWrote, Occurrence, CanOccur}
@@ -120,11 +120,11 @@ module _ (r : Run) (o : Occurrence) (can : CanOccur r o) where
 
   module _ (f' : Fields) (job : f'.job ≡ f.job) (journal : f'.journal ≡ f.journal ++ o.entry ∷ []) (due : f'.due ≡ o.event.due) where
     pub occurs-holds : AreHome f.job r.kernel.kernel f'.seats (all_applied o.event.effect can.replicas) → AreGrouped (all_applied o.event.effect can.replicas) f'.groups → f'.leases ≡ f.leases → f'.kernel ≡ r.kernel → f'.blocked ≡ slice_set r.blocked o.thread o.event.blocked → f'.unblocked ≡ first_unblocked f'.kernel f'.blocked
-        → f'.steps ≡ r.steps + o.steps → f'.scrubbed ≡ r.scrubbed → f'.streak ≡ after_event r.streak o.thread (blocked_at r.blocked o.thread) → f'.ended ≡ f.ended → f'.views ≡ f.views → f'.sent ≡ r.sent + length payload → f'.wrote ≡ length payload → 1 ≤ f'.places → Holds f'
-    occurs-holds home groups leases kernel blocked unblocked counted scrubbed streak ended views sent wrote room =
+        → (f'.others_sleep ≡ true → OthersSleep f'.kernel.kernel f'.blocked f'.groups f'.streak []) → f'.steps ≡ r.steps + o.steps → f'.scrubbed ≡ r.scrubbed → f'.streak ≡ after_event r.streak o.thread (blocked_at r.blocked o.thread) → f'.ended ≡ f.ended → f'.views ≡ f.views → f'.sent ≡ r.sent + length payload → f'.wrote ≡ length payload → 1 ≤ f'.places → Holds f'
+    occurs-holds home groups leases kernel blocked unblocked others counted scrubbed streak ended views sent wrote room =
         happened-holds f f' h o.entry can.allowed o.thread can.count can.replicas event can.came goes-on can.alone happens occurs-few journal
         job home groups leases (ap (λ (k : State). k.setup) kernel ∙ can.amid.setup) (ap (λ (k : State). k.kernel) kernel)
-        (blocked ∙ ap (λ bs. slice_set bs o.thread o.event.blocked) can.amid.blocked) unblocked
+        (blocked ∙ ap (λ bs. slice_set bs o.thread o.event.blocked) can.amid.blocked) unblocked others
         (let a = can.counted in let b = can.amid.steps in omega arith) (scrubbed ∙ can.amid.scrubbed)
         (streak ∙ ap (λ s. after_event s o.thread (blocked_at r.blocked o.thread)) can.amid.streak ∙ ap (λ bs. after_event f.streak o.thread (blocked_at bs o.thread)) can.amid.blocked) due ended
         (ap length views ∙ h.views_count goes-on.not_ended ∙ h.seats_are.count ∙ (ordered f.job f.journal h.legal).replica_count ∙ sym many ∙ sym (length-applied o.event.effect can.replicas) ∙ sym (home-count f.job r.kernel.kernel f'.seats (all_applied o.event.effect can.replicas) home))

@@ -1,7 +1,8 @@
 -- A put, in the fields of a run.
-use Rattle.std.proofs.Common.{◌≡◌, ℕ, ◌+◌, ◌<◌, ◌≤◌, true, true≢false, not, List, [], ◌∷◌, ◌++◌, length, Option, Some, None, refl, sym, ap, ◌∙◌, subst, arith}
+use Rattle.std.proofs.Common.{◌≡◌, ℕ, ◌+◌, ◌<◌, ◌≤◌, ◌≢◌, ◌⊎◌, inl, inr, Bool, true, false, true≢false, not, ◌&&◌, ◌||◌, cond, eqb-true, List, [], ◌∷◌, ◌++◌, length, Option, Some, None, refl, sym, ap, ◌∙◌, subst, arith}
 use Rattle.std.specs.Prelude.{◌==◌, is_some, slice_get, slice_set}
-use Rattle.std.specs.List.{filter, find, list_any}
+use Rattle.std.specs.List.{filter, list_all, find, list_any}
+use Rattle.std.proofs.lemmas.Bool.{and_parts, and_from}
 use Rattle.std.proofs.lemmas.List.{length-set}
 use Rattle.ro_journal.specs.declared.How.{How}
 use Rattle.ro_journal.specs.declared.Entry.{Entry}
@@ -15,17 +16,18 @@ use Rattle.ro_journal.specs.declared.Lease.{Lease}
 use Rattle.ro_legal.specs.Core.{Job, Core, is_lease, is_out, lease_of}
 use Rattle.ro_legal.specs.Legal.{lease_run, core_after_put, after, MayPut, replay, output_of}
 use Rattle.ro_core.specs.Seen.{IsOfJob}
-use Rattle.ro_core.specs.Fields.{AreSeated, one_end, Fields, core_in, blocked_at, Holds}
+use Rattle.ro_legal.specs.Streaks.{comes_last}
+use Rattle.ro_core.specs.Fields.{AreSeated, one_end, Fields, core_in, blocked_at, IsAsleep, DoOthersSleep, Holds}
 use Rattle.ro_legal.proofs.Journals.{replay_more, outcome_of-append}
 use Rattle.ro_core.proofs.Homes.{put_seated, seat_within}
 use Rattle.ro_legal.proofs.Leases.{fewer, put-only, leases_apart}
 use Rattle.ro_core.specs.Grouped.{Returns}
 use Rattle.std.proofs.lemmas.Option.{slice_get_within}
 use Rattle.ro_legal.proofs.Grants.{lent-go, lent-thread}
-use Rattle.ro_core.proofs.Grouped.{put-grouped}
+use Rattle.ro_core.proofs.Grouped.{put-grouped, returned-ready}
 use Rattle.ro_legal.proofs.Ordered.{ordered}
 use Rattle.ro_core.proofs.Held.{no-views, no-outcome, same-counts, same-unblocked, holds-step}
-use Rattle.ro_core.proofs.Takes.{Rest}
+use Rattle.ro_core.proofs.Takes.{Rest, moved-asleep}
 
 -- the lease that a driver holds stands among those that the fields have, and no other
 pub held-lease : (f : Fields) → Holds f → (driver : ℕ) (lease : Lease) → lease_of (core_in f) driver ≡ Some lease → find (λ l. l.driver == driver) f.leases ≡ Some lease
@@ -82,6 +84,41 @@ module _ (f : Fields) (h : Holds f) (lease : Lease) (count hit : ℕ) (allowed :
   pub put-outcome : outcome_of f.journal ≡ None
   put-outcome = no-outcome f h still
 
+  -- it was the thread that comes last, where the others sleep
+  put-last : (leases : List Lease) → list_any (is_lease lease) leases ≡ true → list_all (λ l. comes_last f.streak l.thread) leases ≡ true → comes_last f.streak lease.thread ≡ true
+  put-last [] any all = absurd (true≢false (sym any))
+  put-last (l ∷ leases) any all =
+      let parts = and_parts (comes_last f.streak l.thread) (list_all (λ l. comes_last f.streak l.thread) leases) all in
+      by (is_lease lease l) refl parts.0 (λ others. put-last leases others parts.1)
+    where
+      by : (b : Bool) → is_lease lease l ≡ b → comes_last f.streak l.thread ≡ true → (list_any (is_lease lease) leases ≡ true → comes_last f.streak lease.thread ≡ true) → comes_last f.streak lease.thread ≡ true
+      by true e last rest =
+          subst (λ (t : ℕ). comes_last f.streak t ≡ true) (eqb-true l.thread lease.thread (and_parts ((l.driver == lease.driver) && (l.replica == lease.replica)) (l.thread == lease.thread) e).1) last
+      by false e last rest = rest (ap (λ (b : Bool). b || list_any (is_lease lease) leases) (sym e) ∙ any)
+
+  kept-last : (leases : List Lease) → list_all (λ l. comes_last f.streak l.thread) leases ≡ true → list_all (λ l. comes_last f.streak l.thread) (filter (λ l. not (is_lease lease l)) leases) ≡ true
+  kept-last [] all = refl
+  kept-last (l ∷ leases) all =
+      let parts = and_parts (comes_last f.streak l.thread) (list_all (λ l. comes_last f.streak l.thread) leases) all in by (not (is_lease lease l)) parts.0 (kept-last leases parts.1)
+    where
+      by : (b : Bool) → comes_last f.streak l.thread ≡ true → list_all (λ l. comes_last f.streak l.thread) (filter (λ l. not (is_lease lease l)) leases) ≡ true
+          → list_all (λ l. comes_last f.streak l.thread) (cond b (l ∷ filter (λ l. not (is_lease lease l)) leases) (filter (λ l. not (is_lease lease l)) leases)) ≡ true
+      by true last kept = and_from (comes_last f.streak l.thread) (list_all (λ l. comes_last f.streak l.thread) (filter (λ l. not (is_lease lease l)) leases)) last kept
+      by false last kept = kept
+
+  put-asleep : (f' : Fields) (value : ReplicaOf) → Rest f f' → f'.leases ≡ filter (λ l. not (is_lease lease l)) f.leases → Returns lease.replica lease.thread (is_some (stop_of (replica_of value) lease.thread)) f.groups f'.groups → DoOthersSleep f → DoOthersSleep f'
+  put-asleep f' value r leases back others = moved-asleep f f' r (record { asleep = λ t less early. by t early (others.asleep t less early); unlent = ap (list_all (λ l. comes_last f.streak l.thread)) leases ∙ kept-last f.leases others.unlent })
+    where
+      last : comes_last f.streak lease.thread ≡ true
+      last = put-last f.leases (ap (list_any (is_lease lease)) h.leases_are ∙ allowed.out) others.unlent
+
+      other : (t : ℕ) → comes_last f.streak t ≡ false → t ≢ lease.thread
+      other t early e = true≢false (sym last ∙ ap (comes_last f.streak) (sym e) ∙ early)
+
+      by : (t : ℕ) → comes_last f.streak t ≡ false → IsAsleep f.kernel.kernel f.blocked f.groups t → IsAsleep f.kernel.kernel f.blocked f'.groups t
+      by t early (inl dead) = inl dead
+      by t early (inr (some, ready)) = inr (some, returned-ready lease.replica lease.thread (is_some (stop_of (replica_of value) lease.thread)) f.groups f'.groups back t (other t early) ∙ ready)
+
   pub put-holds : (f' : Fields) (value : ReplicaOf) → IsOfJob f.job (core_in f).kernel value → slice_get (after f.job (core_in f) (Put lease count hit)).replicas lease.replica ≡ Some (replica_of value)
       → Rest f f' → f'.wrote ≡ 0 → f'.journal ≡ f.journal ++ Put lease count hit ∷ [] → f'.leases ≡ filter (λ l. not (is_lease lease l)) f.leases
       → f'.seats ≡ slice_set f.seats lease.replica (Some value) → Returns lease.replica lease.thread (is_some (stop_of (replica_of value) lease.thread)) f.groups f'.groups → f.places ≡ f'.places + 1 → Holds f'
@@ -98,6 +135,7 @@ module _ (f : Fields) (h : Holds f) (lease : Lease) (count hit : ℕ) (allowed :
         blocked_count = ap length r.blocked ∙ h.blocked_count;
         blocked = λ t. ap (λ (bs : List (Option Call)). blocked_at bs t) r.blocked ∙ h.blocked_are t ∙ sym (ap (λ (c : Core). c.blocked t) is);
         unblocked = same-unblocked f f' h r.kernel r.blocked r.unblocked;
+        others = λ e. put-asleep f' value r leases back (h.others_do (sym r.others_sleep ∙ e));
         steps = r.steps ∙ h.steps_are ∙ sym (ap (λ (c : Core). c.steps) is);
         scrubbed = r.scrubbed ∙ h.scrubbed_are ∙ sym (ap (λ (c : Core). c.scrubbed) is);
         streak = r.streak ∙ h.streak_is ∙ sym (ap (λ (c : Core). c.streak) is);

@@ -1,8 +1,9 @@
 -- A take, in the fields of a run.
-use Rattle.std.proofs.Common.{◌≡◌, ℕ, zero, suc, ◌+◌, ◌*◌, ◌^◌, ◌<◌, ◌≤◌, Bool, true, false, cond, List, [], ◌∷◌, ◌++◌, length, Option, Some, None, refl, sym, ap, ◌∙◌, subst, arith, lt-ltb}
+use Rattle.std.proofs.Common.{◌≡◌, ℕ, zero, suc, ◌+◌, ◌*◌, ◌^◌, ◌<◌, ◌≤◌, Bool, true, false, true≢false, not, cond, ◌⊎◌, inl, inr, List, [], ◌∷◌, ◌++◌, length, Option, Some, None, refl, sym, ap, ◌∙◌, subst, arith, lt-ltb}
 use Rattle.std.specs.Prelude.{IfSome, slice_get, slice_set}
 use Rattle.std.specs.Option.{option_map_or}
-use Rattle.std.proofs.lemmas.Bool.{and_parts}
+use Rattle.std.specs.List.{list_all}
+use Rattle.std.proofs.lemmas.Bool.{and_parts, and_from}
 use Rattle.std.proofs.lemmas.List.{length-set}
 use Rattle.ro_journal.specs.declared.How.{How}
 use Rattle.ro_journal.specs.declared.Entry.{Entry}
@@ -18,12 +19,16 @@ use Rattle.ro_legal.specs.Core.{Job, Core}
 use Rattle.ro_legal.specs.Legal.{after, MayTake, output_of}
 use Rattle.ro_core.specs.Seen.{IsOfJob}
 use Rattle.ro_legal.specs.Sound.{Counts}
-use Rattle.ro_core.specs.Fields.{spare_of, Seated, AreSeated, IsSeat, one_end, Fields, core_in, blocked_at, Holds}
+use Rattle.ro_group.specs.Groups.{Groups}
+use Rattle.ro_legal.specs.declared.actions.Streak.{Streak}
+use Rattle.ro_legal.specs.Streaks.{comes_last}
+use Rattle.ro_core.specs.Fields.{spare_of, Seated, AreSeated, IsSeat, one_end, Fields, core_in, blocked_at, IsAsleep, OthersSleep, DoOthersSleep, Holds}
 use Rattle.ro_legal.proofs.Journals.{replay_more, outcome_of-append}
 use Rattle.ro_legal.proofs.Leases.{AtHome, lendable_there}
 use Rattle.ro_core.proofs.Homes.{seat_there, take_seated}
 use Rattle.ro_core.specs.Grouped.{AreGrouped}
 use Rattle.ro_legal.proofs.Counted.{counted}
+use Rattle.ro_core.proofs.Tests.{made-is, gone, standing, lent-made}
 use Rattle.ro_core.proofs.Held.{Goes, goes, no-views, no-outcome, same-counts, same-unblocked, holds-step}
 
 one-end-le : (o : Option How) → one_end o ≤ 1
@@ -41,6 +46,7 @@ pub record Rest (f f' : Fields) : Type 0 where
   pub kernel : f'.kernel ≡ f.kernel
   pub blocked : f'.blocked ≡ f.blocked
   pub unblocked : f'.unblocked ≡ f.unblocked
+  pub others_sleep : f'.others_sleep ≡ f.others_sleep
   pub steps : f'.steps ≡ f.steps
   pub scrubbed : f'.scrubbed ≡ f.scrubbed
   pub streak : f'.streak ≡ f.streak
@@ -48,6 +54,13 @@ pub record Rest (f f' : Fields) : Type 0 where
   pub due : f'.due ≡ f.due
   pub ended : f'.ended ≡ f.ended
   pub views : f'.views ≡ f.views
+
+-- other threads sleep by the same kernel, calls and streak
+pub moved-asleep : (f f' : Fields) → Rest f f' → OthersSleep f.kernel.kernel f.blocked f'.groups f.streak f'.leases → DoOthersSleep f'
+moved-asleep f f' r others =
+    subst (λ (k : State). OthersSleep k.kernel f'.blocked f'.groups f'.streak f'.leases) (sym r.kernel)
+    (subst (λ (bs : List (Option Call)). OthersSleep f.kernel.kernel bs f'.groups f'.streak f'.leases) (sym r.blocked)
+    (subst (λ (s : Streak). OthersSleep f.kernel.kernel f.blocked f'.groups s f'.leases) (sym r.streak) others))
 
 times-le : (a b n : ℕ) → a ≤ b → a * n ≤ b * n
 times-le a b n h = grind arith
@@ -67,6 +80,26 @@ module _ (f : Fields) (h : Holds f) (lease : Lease) (allowed : MayTake f.job (co
   pub take-seat : IsSeat f.seats lease.replica
   take-seat = seat_there f.job (core_in f) f.seats lease.replica at-home.value h.seats_are at-home.home at-home.there
 
+  -- it is the thread that comes last, where the others sleep
+  take-last : DoOthersSleep f → comes_last f.streak lease.thread ≡ true
+  take-last others = by (comes_last f.streak lease.thread) refl
+    where
+      within : lease.thread < length f.kernel.kernel.lives
+      within = let n = lent-made (core_in f) lease.replica lease.thread allowed.lendable in let m = made-is f h in omega arith
+
+      awake : IsAsleep f.kernel.kernel f.blocked f.groups lease.thread → ⊥
+      awake (inl dead) = true≢false (sym allowed.lendable ∙ gone f h lease.thread dead lease.replica)
+      awake (inr (some, ready)) = true≢false (sym allowed.lendable ∙ standing f h lease.thread (ap not ready) lease.replica)
+
+      by : (b : Bool) → comes_last f.streak lease.thread ≡ b → comes_last f.streak lease.thread ≡ true
+      by true e = e
+      by false e = absurd (awake (others.asleep lease.thread within e))
+
+  take-asleep : (f' : Fields) → Rest f f' → f'.groups ≡ f.groups → f'.leases ≡ lease ∷ f.leases → DoOthersSleep f → DoOthersSleep f'
+  take-asleep f' r groups leases others = moved-asleep f f' r
+      (subst (λ (gs : Groups). OthersSleep f.kernel.kernel f.blocked gs f.streak f'.leases) (sym groups)
+      (subst (OthersSleep f.kernel.kernel f.blocked f.groups f.streak) (sym leases) (record { asleep = others.asleep; unlent = and_from (comes_last f.streak lease.thread) (list_all (λ l. comes_last f.streak l.thread) f.leases) (take-last others) others.unlent })))
+
   -- the fields after the take
   pub take-holds : (f' : Fields) → Rest f f' → f'.wrote ≡ 0 → f'.journal ≡ f.journal ++ Take lease ∷ [] → f'.leases ≡ lease ∷ f.leases
       → f'.seats ≡ slice_set f.seats lease.replica None → f'.groups ≡ f.groups → length f.leases + 3 ≤ f'.places + 1 → Holds f'
@@ -80,6 +113,7 @@ module _ (f : Fields) (h : Holds f) (lease : Lease) (allowed : MayTake f.job (co
     blocked_count = ap length r.blocked ∙ h.blocked_count;
     blocked = λ t. ap (λ (bs : List (Option Call)). blocked_at bs t) r.blocked ∙ h.blocked_are t;
     unblocked = same-unblocked f f' h r.kernel r.blocked r.unblocked;
+    others = λ e. take-asleep f' r groups leases (h.others_do (sym r.others_sleep ∙ e));
     steps = r.steps ∙ h.steps_are;
     scrubbed = r.scrubbed ∙ h.scrubbed_are;
     streak = r.streak ∙ h.streak_is;

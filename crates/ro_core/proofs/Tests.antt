@@ -1,6 +1,6 @@
 -- What the core's tests say, from its fields.
-use Rattle.std.proofs.Common.{◌≡◌, ℕ, zero, suc, ◌+◌, ◌-◌, ◌<◌, Bool, true, false, true≢false, not, cond, ◌&&◌, ◌||◌, List, [], ◌∷◌, length, Option, Some, None, refl, sym, ap, ◌∙◌, subst, arith}
-use Rattle.std.specs.Prelude.{◌==◌, is_none, is_some, slice_get, slice_index_or}
+use Rattle.std.proofs.Common.{◌≡◌, ℕ, zero, suc, ◌+◌, ◌-◌, ◌<◌, Bool, true, false, true≢false, not, cond, ◌&&◌, ◌||◌, List, [], ◌∷◌, length, Option, Some, None, refl, sym, ap, ◌∙◌, subst, arith, ◌⊎◌, inl, inr}
+use Rattle.std.specs.Prelude.{IsSome, ◌==◌, is_none, is_some, slice_get, slice_index_or}
 use Rattle.std.proofs.lemmas.Bool.{and_from, and_parts, and_left, and_right, eqb-true, eq-eqb, ne_eqb}
 use Rattle.std.proofs.lemmas.Option.{slice_get-get_or, slice_get_within}
 use Rattle.std.specs.List.{list_all, list_any}
@@ -23,7 +23,7 @@ use Rattle.ro_legal.specs.declared.actions.Streak.{Streak}
 use Rattle.ro_legal.specs.Streaks.{is_long, comes_last}
 use Rattle.ro_legal.specs.Action.{or_else, lowest_below, map_action, threads_made, is_turn, may_vote_in, may_lend_in, lend_in, lend_turn, turn_next}
 use Rattle.ro_core.specs.Seen.{IsOfJob}
-use Rattle.ro_core.specs.Fields.{Seated, AreSeated, AreHome, seat_unstopped, Fields, core_in, blocked_at, is_unblocked, Holds, Sleeps}
+use Rattle.ro_core.specs.Fields.{Seated, AreSeated, AreHome, seat_unstopped, Fields, core_in, blocked_at, is_unblocked, IsAsleep, DoOthersSleep, Holds}
 use Rattle.ro_core.specs.Grouped.{seat_stopped}
 use Rattle.ro_group.specs.Groups.{is_ready}
 use Rattle.ro_core.proofs.Grouped.{ready-all}
@@ -347,6 +347,11 @@ others-unlent core stand =
     by r t less true e = and_left (not (comes_last core.streak t)) (is_lendable core r t) (ap not e)
     by r t less false e = and_right (not (comes_last core.streak t)) (is_lendable core r t) (stand t less e r)
 
+-- the thread can be neither voted on nor lent
+pub record Sleeps (core : Core) (thread : ℕ) : Type 0 where
+  pub unvoted : may_vote core thread ≡ false
+  pub unlent : (replica : ℕ) → is_lendable core replica thread ≡ false
+
 -- where each other thread sleeps
 pub others-asleep : (core : Core) → ((t : ℕ) → t < threads_made core → comes_last core.streak t ≡ false → Sleeps core t) → turn_next core false ≡ None
 others-asleep core asleep =
@@ -356,3 +361,18 @@ others-asleep core asleep =
     by : (t : ℕ) → t < threads_made core → (b : Bool) → comes_last core.streak t ≡ b → (not (comes_last core.streak t) && may_vote core t) ≡ false
     by t less true e = and_left (not (comes_last core.streak t)) (may_vote core t) (ap not e)
     by t less false e = and_right (not (comes_last core.streak t)) (may_vote core t) (asleep t less e).unvoted
+
+-- a thread that is asleep sleeps, by the fields
+asleep-sleeps : (f : Fields) → Holds f → (thread : ℕ) → IsAsleep f.kernel.kernel f.blocked f.groups thread → Sleeps (core_in f) thread
+asleep-sleeps f h thread (inl dead) = record { unvoted = gone-unvoted f h thread dead; unlent = gone f h thread dead }
+asleep-sleeps f h thread (inr (some, ready)) = by (blocked_at f.blocked thread) refl some
+  where
+    by : (o : Option Call) → blocked_at f.blocked thread ≡ o → IsSome o → Sleeps (core_in f) thread
+    by None e is = absurd (true≢false (sym is))
+    by (Some call) e is = record { unvoted = blocked-unvoted f h thread call (blocked-is f h thread ∙ e); unlent = standing f h thread (ap not ready) }
+
+-- where it is known that the others sleep
+pub known-asleep : (f : Fields) → Holds f → DoOthersSleep f → turn_next (core_in f) false ≡ None
+known-asleep f h others = others-asleep (core_in f) (λ t less early.
+    let made : t < length f.kernel.kernel.lives = omega (arith, less, made-is f h) in
+    asleep-sleeps f h t (others.asleep t made (ap (λ (s : Streak). comes_last s t) (sym (streak-is f h)) ∙ early)))

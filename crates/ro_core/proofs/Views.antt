@@ -22,6 +22,7 @@ viewed-holds f views h still same = record {
   blocked_count = h.blocked_count;
   blocked_are = h.blocked_are;
   unblocked_is = h.unblocked_is;
+  others_do = h.others_do;
   steps_are = h.steps_are;
   scrubbed_are = h.scrubbed_are;
   streak_is = h.streak_is;

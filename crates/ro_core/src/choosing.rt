@@ -1,19 +1,22 @@
 //! What the core does next.
-ghost use Rattle.std.specs.Prelude.{◌≡◌, ◌<◌, ◌&&◌, ℕ, None, length, not, true, false};
+ghost use Rattle.std.specs.Prelude.{◌≡◌, ◌⊎◌, ◌<◌, ◌&&◌, ℕ, [], IsSome, None, length, not, true, false};
 ghost use Rattle.std.specs.Option.{option_map_or};
+ghost use Rattle.ro_group.specs.Groups.{is_ready};
+ghost use Rattle.ro_kernel.specs.Kernel.{lives_on};
 ghost use Rattle.ro_kernel.specs.Serve.{serves};
 ghost use Rattle.ro_legal.specs.Core.{is_going, nothing_lent, is_lendable, may_vote, may_free};
 ghost use Rattle.ro_legal.specs.Legal.{is_stuck, may_scrub};
 ghost use Rattle.ro_legal.specs.Streaks.{is_long};
 ghost use Rattle.ro_legal.specs.Action.{lowest_below, threads_made, may_vote_in, may_lend_in, lend_turn, turn_next, lend_next, first_action, is_scrub_due, scrub_action, next_action as next};
-ghost use Rattle.ro_core.specs.Fields.{first_unblocked, Holds, Sleeps};
+ghost use Rattle.ro_core.specs.Fields.{first_unblocked, Holds, OthersSleep};
 ghost use Rattle.ro_core.specs.Runs.{fields_of, job_of, state_of};
 
 use crate::cores::{Core, THREADS};
+use crate::seats::Seats;
 use ro_event::Call;
 use ro_journal::How;
 use ro_kernel::Kernel;
-use ro_legal::Action;
+use ro_legal::{Action, Streak};
 
 impl Core {
     /// What comes next: an end that is due; else, where nothing is lent, the lowest thread is freed or voted on; else the
@@ -84,7 +87,7 @@ impl Core {
         requires holds { Holds (fields_of self.now) }
         ensures { result ≡ turn_next (state_of self.now) false }
     {
-        if self.do_others_sleep() {
+        if self.others_sleep() {
             return None;
         }
         match self.lowest_to_vote() {
@@ -93,32 +96,12 @@ impl Core {
         }
     }
 
-    // Whether a thread comes last, and all others sleep, so that none of these can be voted on or lent.
-    fn do_others_sleep(&self) -> bool
+    // Whether it is known that a thread comes last and all others sleep, so that none of these can be voted on or lent.
+    fn others_sleep(&self) -> bool
         requires holds { Holds (fields_of self.now) }
         ensures { result ≡ true → turn_next (state_of self.now) false ≡ None }
     {
-        if !self.streak.is_long() {
-            return false;
-        }
-        for thread in 0..self.kernel.made() {
-            if !self.sleeps(thread) && !self.streak.comes_last(thread) {
-                return false;
-            }
-        }
-        true
-    }
-
-    // Whether a thread has exited, or is blocked and stands still in every replica.
-    fn sleeps(&self, thread: u32) -> bool
-        requires holds { Holds (fields_of self.now) }
-        requires thread { thread < 16 }
-        ensures { result ≡ true → Sleeps (state_of self.now) thread }
-    {
-        match self.blocked_call(thread) {
-            Some(_) => self.seats.ready(thread),
-            None => !self.kernel.lives_on(thread),
-        }
+        self.others_sleep
     }
 
     // The vote or the first lease of the thread that comes last.
@@ -304,6 +287,39 @@ impl Core {
         ensures { result ≡ is_lendable (state_of self.now) replica thread }
     {
         self.seats.is_unstopped(replica, thread) && self.kernel.lives_on(thread)
+    }
+}
+
+/// Whether a thread comes last, and all others sleep.
+pub(crate) fn do_others_sleep(
+    streak: Streak,
+    kernel: &Kernel,
+    blocked: &[Option<Call>; THREADS],
+    seats: &Seats,
+) -> bool
+    ensures { result ≡ true → OthersSleep kernel.now.kernel blocked.now seats.now.groups streak [] }
+{
+    if !streak.is_long() {
+        return false;
+    }
+    for thread in 0..kernel.made() {
+        if !streak.comes_last(thread)
+            && !is_asleep(kernel, &blocked[thread as usize], seats, thread)
+        {
+            return false;
+        }
+    }
+    true
+}
+
+// Whether a thread has exited, or is blocked on this call, if it is, and stands still in every replica.
+fn is_asleep(kernel: &Kernel, blocked: &Option<Call>, seats: &Seats, thread: u32) -> bool
+    requires { thread < 16 }
+    ensures { result ≡ true → (lives_on kernel.now.kernel thread ≡ false) ⊎ (IsSome blocked.now × (is_ready seats.now.groups thread ≡ true)) }
+{
+    match blocked {
+        Some(_) => seats.ready(thread),
+        None => !kernel.lives_on(thread),
     }
 }
 

@@ -37,6 +37,8 @@ pub struct Core {
     pub(crate) blocked: [Option<Call>; THREADS],
     /// The lowest thread whose call, on which it is blocked, would be done now. Only an event changes which one that is.
     pub(crate) unblocked: Option<u32>,
+    /// Whether it is known that one thread comes last and all others sleep. Each event looks it up.
+    pub(crate) others_sleep: bool,
     /// The length of the plan so far.
     pub(crate) steps: u64,
     /// How long it was at the last scrub.
@@ -121,6 +123,7 @@ impl Core {
             kernel: _,
             blocked: _,
             unblocked: _,
+            others_sleep: _,
             steps: _,
             scrubbed: _,
             streak: _,

@@ -60,6 +60,7 @@ impl Core {
                 kernel: opening.kernel,
                 blocked: [None; THREADS],
                 unblocked: None,
+                others_sleep: false,
                 steps: 0,
                 scrubbed: 0,
                 streak: Streak::new(),

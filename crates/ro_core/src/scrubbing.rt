@@ -62,6 +62,7 @@ impl Core {
         self.journal.push_reserved(entry);
         self.wrote = 0;
         self.scrubbed = self.steps;
+        self.others_sleep = false;
         Ok(entry)
     }
 }

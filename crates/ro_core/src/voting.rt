@@ -8,7 +8,7 @@ ghost use Rattle.ro_core.specs.Seen.{Appends, IsOfMajority, Stays};
 ghost use Rattle.ro_legal.specs.Decides.{DecidesVote, DecidesFree, IsSplit};
 ghost use Rattle.ro_core.specs.Runs.{fields_of, job_of, state_of, silent, payload_by, MakesRoom, IsHeld, CanOccur, LastWrote};
 
-use crate::choosing::unblocked_behind;
+use crate::choosing::{do_others_sleep, unblocked_behind};
 use crate::cores::Core;
 use crate::events::{Coming, Event, serve};
 use ro_event::Call;
@@ -205,6 +205,7 @@ impl Core {
         self.streak = streak;
         self.blocked[thread as usize] = event.blocked;
         self.unblocked = unblocked_behind(&self.kernel, &self.blocked, self.unblocked, stays);
+        self.others_sleep = do_others_sleep(streak, &self.kernel, &self.blocked, &self.seats);
         self.steps += noted.steps;
         self.sent += written as u64;
         self.wrote = written as u32;

@@ -41,7 +41,7 @@ returns-clause-holds c =
     let can = c.requires.can in
     let stands = c.apply.ensures.stands can.before.job (core_in can.before).kernel c.args.self.now.kernel.kernel can.replicas (occurs-given _ _ can) can.stands can.made can.wait in
     occurs-holds _ _ can _ can.amid.job (c.push_reserved.ensures.items ∙ ap (λ js. js ++ c.args.noted.now.entry ∷ []) can.amid.journal) refl
-    stands.home stands.grouped can.amid.leases refl refl c.unblocked_behind-self.ensures refl refl c.after_event-streak.ensures can.amid.ended can.amid.views (ap (λ xs. c.args.self.now.sent + length xs) c.payload-written.ensures) (ap (λ xs. length xs) c.payload-written.ensures) (let room = can.amid.room in omega (arith, c.push_reserved.ensures.len, c.push_reserved.ensures.capacity))
+    stands.home stands.grouped can.amid.leases refl refl c.unblocked_behind-self.ensures c.do_others_sleep-self.ensures refl refl c.after_event-streak.ensures can.amid.ended can.amid.views (ap (λ xs. c.args.self.now.sent + length xs) c.payload-written.ensures) (ap (λ xs. length xs) c.payload-written.ensures) (let room = can.amid.room in omega (arith, c.push_reserved.ensures.len, c.push_reserved.ensures.capacity))
 
 pub returns-clause-wrote : goal.returns-clause-wrote
 returns-clause-wrote c = let can = c.requires.can in occurs-wrote _ _ can _ can.amid.job (c.push_reserved.ensures.items ∙ ap (λ js. js ++ c.args.noted.now.entry ∷ []) can.amid.journal) refl

@@ -53,7 +53,7 @@ returns-clause-holds c =
     let room = put-room f c.requires.holds r.lease c.args.ran.count c.args.ran.hit r.allowed in
     put-holds f c.requires.holds r.lease c.args.ran.count c.args.ran.hit r.allowed _ c.args.lent r.program
     r.became
-    (record { job = refl; kernel = refl; blocked = refl; unblocked = refl; steps = refl; scrubbed = refl; streak = refl; sent = refl; due = refl; ended = refl; views = refl }) refl
+    (record { job = refl; kernel = refl; blocked = refl; unblocked = refl; others_sleep = refl; steps = refl; scrubbed = refl; streak = refl; sent = refl; due = refl; ended = refl; views = refl }) refl
     (c.push_reserved.ensures.items ∙ ap (λ (l : Lease). f.journal ++ Put l c.args.ran.count c.args.ran.hit ∷ []) (sym same))
     (c.give_back.ensures.items ∙ ap (λ (k : Lease). filter (λ (l : Lease). not (is_lease k l)) f.leases) (sym same))
     (c.come_home.ensures.homes ∙ ap (λ (l : Lease). slice_set f.seats l.replica (Some c.args.lent)) (sym same))

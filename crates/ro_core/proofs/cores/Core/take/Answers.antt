@@ -20,7 +20,7 @@ returns-clause-holds c =
     let h = c.requires.holds in
     let parts = spare_parts _ f.places f.lease_places c.requires.room in
     let same = ap length h.leases_are in
-    take-holds f h c.args.lease c.requires.allowed _ (record { job = refl; kernel = refl; blocked = refl; unblocked = refl; steps = refl; scrubbed = refl; streak = refl; sent = refl; due = refl; ended = refl; views = refl }) refl
+    take-holds f h c.args.lease c.requires.allowed _ (record { job = refl; kernel = refl; blocked = refl; unblocked = refl; others_sleep = refl; steps = refl; scrubbed = refl; streak = refl; sent = refl; due = refl; ended = refl; views = refl }) refl
     c.push_reserved.ensures.items c.lend.ensures.items c.leave.ensures.homes c.leave.ensures.groups
     (omega (arith, parts.0, same, c.push_reserved.ensures.len, c.push_reserved.ensures.capacity))
 

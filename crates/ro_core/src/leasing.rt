@@ -1,5 +1,5 @@
 //! Leases: a replica's thread goes out to a driver, and comes back.
-ghost use Rattle.std.specs.Prelude.{◌≡◌, ◌<◌, ◌==◌, ◌∷◌, OnOk, vec_len, vec_capacity, not};
+ghost use Rattle.std.specs.Prelude.{◌≡◌, ◌<◌, ◌==◌, ◌∷◌, [], OnOk, vec_len, vec_capacity, not, true};
 ghost use Rattle.std.specs.List.{filter, find};
 ghost use Rattle.ro_journal.specs.declared.Entry.TheVariants.{Take};
 ghost use Rattle.ro_legal.specs.Core.{is_lease};
@@ -74,7 +74,11 @@ fn lend(leases: &mut Vec<Lease>, lease: Lease)
     requires { vec_len leases.old < vec_capacity leases.old }
     ensures items { leases.new.items ≡ lease ∷ leases.old.items }
 {
-    leases.insert(0, lease).unwrap();
+    if leases.is_empty() {
+        leases.push_reserved(lease);
+    } else {
+        leases.insert(0, lease).unwrap();
+    }
 }
 
 // The lease that a driver holds.
@@ -93,7 +97,18 @@ fn lease_of(leases: &[Lease], driver: u32) -> Option<Lease>
 fn give_back(leases: &mut Vec<Lease>, lease: Lease)
     ensures items { leases.new.items ≡ filter (λ other. not (is_lease lease other)) leases.old.items }
 {
-    leases.retain(|other| is_another(other, &lease));
+    if is_alone(leases.as_slice(), &lease) {
+        leases.clear();
+    } else {
+        leases.retain(|other| is_another(other, &lease));
+    }
+}
+
+// Whether there is no other lease than this one.
+fn is_alone(leases: &[Lease], lease: &Lease) -> bool
+    ensures { result ≡ true → filter (λ other. not (is_lease lease.now other)) leases.now ≡ [] }
+{
+    leases.len() == 1 && !is_another(&leases[0], lease)
 }
 
 fn is_another(lease: &Lease, gone: &Lease) -> bool

@@ -53,5 +53,13 @@ backs_page old new o p e f = fun_ext (λ page. ap (λ g. g page) f ∙ page_test
 pub covered : (old new : ℕ → Bool) (place n m page : ℕ) → n ≡ m → new ≡ (λ q. old q || covers_page (record { place = place; count = n }) q) → covers_page (record { place = place; count = m }) page ≡ true → new page ≡ true
 covered old new place n m page e f h = ap (λ g. g page) f ∙ or_right (old page) _ (ap (λ k. covers_page (record { place = place; count = k }) page) e ∙ h)
 
+-- a stretch of no byte backs none
+pub backs_nothing : (first old : ℕ → Bool) (place n : ℕ) → n ≡ 0 → old ≡ first → old ≡ (λ q. first q || covers_page (record { place = place; count = n }) q)
+backs_nothing first old place n e d = d ∙ fun_ext (λ page. none (first page) ∙ ap (λ (k : ℕ). first page || covers_page (record { place = place; count = k }) page) (sym e))
+  where
+    none : (b : Bool) → b ≡ (b || false)
+    none true = refl
+    none false = refl
+
 pub backs_stretch : (first old new : ℕ → Bool) (place n m : ℕ) → n ≡ m → old ≡ first → new ≡ (λ q. old q || covers_page (record { place = place; count = n }) q) → new ≡ (λ q. first q || covers_page (record { place = place; count = m }) q)
 backs_stretch first old new place n m e d f = f ∙ ap₂ (λ (g : ℕ → Bool) (k : ℕ). λ q. g q || covers_page (record { place = place; count = k }) q) d e

@@ -41,8 +41,23 @@ pub fn store(pages: &mut Pages, effect: &Effect)
     ensures stay { (place page : ℕ) → slice_get pages.old.numbers place ≡ Some page → slice_get pages.new.numbers place ≡ Some page }
 {
     back_page(pages, effect.page);
-    back_stretch(pages, effect.place, effect.bytes.len() as u32);
-    pages.write_bytes(effect.place, effect.bytes.as_slice());
+    if effect.bytes.is_empty() {
+        return;
+    }
+    store_bytes(pages, effect.place, effect.bytes.as_slice());
+}
+
+/// Backs the pages of some bytes, and stores these.
+fn store_bytes(pages: &mut Pages, place: u32, bytes: &[u8])
+    requires few { length bytes.now ≤ 4096 }
+    requires within { place + length bytes.now ≤ 2 ^ 32 }
+    requires spare { 2 ≤ pages.old.spare }
+    ensures bytes { memory_of pages.new.pages ≡ stored (memory_of pages.old.pages) place bytes.now }
+    ensures backed { has_page pages.new.pages ≡ (λ page. has_page pages.old.pages page || covers_page (record { place = place; count = length bytes.now }) page) }
+    ensures stay { (at page : ℕ) → slice_get pages.old.numbers at ≡ Some page → slice_get pages.new.numbers at ≡ Some page }
+{
+    back_stretch(pages, place, bytes.len() as u32);
+    pages.write_bytes(place, bytes);
 }
 
 /// Backs a page, if there is one to back.

@@ -71,23 +71,23 @@ take-follows old new lease lent lent' output quantum value f may a holds same it
 -- ---- a put
 
 module _ (job : Job) (core : Core) (driver : ℕ) (lent : LentOf) (back : BackOf) (s : Lends job core driver lent) (g : Gives lent back) where
-  runs : Runs (layout_in job.program core.kernel) job.settings.watchdog job.settings.quantum lent.lease.thread (replica_of lent.replica) (replica_of back.replica) back.ran.count back.ran.hit back.ran.stop
+  runs : Runs (layout_in job.program core.kernel) job.settings.watchdog job.settings.quantum lent.lease.thread (replica_of lent.replica) (replica_of back.replica) back.took.count back.took.hit g.stop
   runs =
-      subst (λ (n : ℕ). Runs (layout_in job.program core.kernel) job.settings.watchdog n lent.lease.thread (replica_of lent.replica) (replica_of back.replica) back.ran.count back.ran.hit back.ran.stop) s.quantum_is
-      (subst (λ (w : ℕ). Runs (layout_in job.program core.kernel) w lent.quantum lent.lease.thread (replica_of lent.replica) (replica_of back.replica) back.ran.count back.ran.hit back.ran.stop) s.program.watchdog
-      (subst (λ (l : Layout). Runs l lent.replica.watchdog lent.quantum lent.lease.thread (replica_of lent.replica) (replica_of back.replica) back.ran.count back.ran.hit back.ran.stop) s.program.layout g.runs))
+      subst (λ (n : ℕ). Runs (layout_in job.program core.kernel) job.settings.watchdog n lent.lease.thread (replica_of lent.replica) (replica_of back.replica) back.took.count back.took.hit g.stop) s.quantum_is
+      (subst (λ (w : ℕ). Runs (layout_in job.program core.kernel) w lent.quantum lent.lease.thread (replica_of lent.replica) (replica_of back.replica) back.took.count back.took.hit g.stop) s.program.watchdog
+      (subst (λ (l : Layout). Runs l lent.replica.watchdog lent.quantum lent.lease.thread (replica_of lent.replica) (replica_of back.replica) back.took.count back.took.hit g.stop) s.program.layout g.runs))
 
-  lease-runs : lease_run job core lent.lease back.ran.count ≡ Some runs.end
-  lease-runs = ap (option_and_then (λ (r : Replica). run_of (layout_in job.program core.kernel) job.settings.watchdog back.ran.count r lent.lease.thread)) s.there ∙ runs.runs
+  lease-runs : lease_run job core lent.lease back.took.count ≡ Some runs.end
+  lease-runs = ap (option_and_then (λ (r : Replica). run_of (layout_in job.program core.kernel) job.settings.watchdog back.took.count r lent.lease.thread)) s.there ∙ runs.runs
 
-  arrives : Arrives (layout_in job.program core.kernel) job.settings.watchdog lent.lease.thread job.settings.quantum back.ran.count runs.end.replica
+  arrives : Arrives (layout_in job.program core.kernel) job.settings.watchdog lent.lease.thread job.settings.quantum back.took.count runs.end.replica
   arrives = by runs.arrives
     where
-      by : (back.ran.count ≡ job.settings.quantum) ⊎ ((back.ran.count < job.settings.quantum) × IsSome back.ran.stop) → Arrives (layout_in job.program core.kernel) job.settings.watchdog lent.lease.thread job.settings.quantum back.ran.count runs.end.replica
+      by : (back.took.count ≡ job.settings.quantum) ⊎ ((back.took.count < job.settings.quantum) × IsSome g.stop) → Arrives (layout_in job.program core.kernel) job.settings.watchdog lent.lease.thread job.settings.quantum back.took.count runs.end.replica
       by (inl whole) = inl whole
       by (inr early) = inr (early.0, subst (λ (o : Option Stop). IsSome o) runs.stop_is early.1)
 
-  pub run-may-put : MayPut job core lent.lease back.ran.count back.ran.hit
+  pub run-may-put : MayPut job core lent.lease back.took.count back.took.hit
   run-may-put = record {
     not_ended = s.not_ended;
     out = out_found driver lent.lease core.leases s.held;
@@ -97,26 +97,26 @@ module _ (job : Job) (core : Core) (driver : ℕ) (lent : LentOf) (back : BackOf
     arrives = arrives;
   }
 
-  pub run-became : slice_get (after job core (Put lent.lease back.ran.count back.ran.hit)).replicas lent.lease.replica ≡ Some (replica_of back.replica)
+  pub run-became : slice_get (after job core (Put lent.lease back.took.count back.took.hit)).replicas lent.lease.replica ≡ Some (replica_of back.replica)
   run-became =
-      put_became job core lent.lease back.ran.count back.ran.hit (replica_of lent.replica) runs.end s.there lease-runs ∙ ap (λ (r : Replica). Some r) (sym arrived-is)
+      put_became job core lent.lease back.took.count back.took.hit (replica_of lent.replica) runs.end s.there lease-runs ∙ ap (λ (r : Replica). Some r) (sym arrived-is)
     where
-      arrived-is : replica_of back.replica ≡ arrived job core.kernel lent.lease.thread back.ran.count runs.end.replica
+      arrived-is : replica_of back.replica ≡ arrived job core.kernel lent.lease.thread back.took.count runs.end.replica
       arrived-is = runs.new_is ∙ ap (λ (o : Option Stop). record runs.end.replica { threads = changed_at (with_stop o) runs.end.replica.threads lent.lease.thread }) runs.stop_is
 
   -- no other count and no other number of faults may come back
-  pub run-is-one : (count hit : ℕ) → MayPut job core lent.lease count hit → (back.ran.count ≡ count) × (back.ran.hit ≡ hit)
+  pub run-is-one : (count hit : ℕ) → MayPut job core lent.lease count hit → (back.took.count ≡ count) × (back.took.hit ≡ hit)
   run-is-one count hit m =
       let there : run_of (layout_in job.program core.kernel) job.settings.watchdog count (replica_of lent.replica) lent.lease.thread ≡ Some m.ran =
       sym (ap (option_and_then (λ (r : Replica). run_of (layout_in job.program core.kernel) job.settings.watchdog count r lent.lease.thread)) s.there) ∙ m.runs
       in
-      let one = one-run (layout_in job.program core.kernel) job.settings.watchdog lent.lease.thread job.settings.quantum back.ran.count count (replica_of lent.replica) runs.end m.ran runs.runs there arrives
+      let one = one-run (layout_in job.program core.kernel) job.settings.watchdog lent.lease.thread job.settings.quantum back.took.count count (replica_of lent.replica) runs.end m.ran runs.runs there arrives
       m.arrives
       in
       (one.0, sym runs.hit_is ∙ one.1 ∙ m.struck)
 
 -- what the driver may put back
-pub may-return : (core : Fields) (driver : ℕ) (lent : LentOf) (back : BackOf) → Lends core.job (core_in core) driver lent → Gives lent back → (m : MayReturn (seen core) driver back.replica back.ran.count back.ran.hit) × (m.lease ≡ lent.lease)
+pub may-return : (core : Fields) (driver : ℕ) (lent : LentOf) (back : BackOf) → Lends core.job (core_in core) driver lent → Gives lent back → (m : MayReturn (seen core) driver back.replica back.took.count back.took.hit) × (m.lease ≡ lent.lease)
 may-return core driver lent back s g = (
   record {
     lease = lent.lease;
@@ -311,21 +311,21 @@ other-lent core lease count hit lent answer legal s is fails = not-out core leas
 
 -- its run comes to something else
 pub other-run : (core : Fields) (lease : Lease) (count hit : ℕ) (lent : LentOf) (back : BackOf) (answer : Bool) → Lends core.job (core_in core) lease.driver lent → Gives lent back → lent.lease ≡ lease
-    → IsTrue answer ↔ ((back.ran.count ≡ count) × (back.ran.hit ≡ hit)) → answer ≡ false → Refuses core (Put lease count hit) (Ran back.ran.count back.ran.hit)
+    → IsTrue answer ↔ ((back.took.count ≡ count) × (back.took.hit ≡ hit)) → answer ≡ false → Refuses core (Put lease count hit) (Ran back.took.count back.took.hit)
 other-run core lease count hit lent back answer s g its is fails = (
   λ m. true≢false (sym (is.1 (run-is-one core.job (core_in core) lease.driver lent back s g count hit (subst (λ (l : Lease). MayPut core.job (core_in core) l count hit) (sym its) m))) ∙ fails),
-  (subst (λ (l : Lease). MayPut core.job (core_in core) l back.ran.count back.ran.hit) its (run-may-put core.job (core_in core) lease.driver lent back s g), λ same. true≢false (sym (is.1 same) ∙ fails)),
+  (subst (λ (l : Lease). MayPut core.job (core_in core) l back.took.count back.took.hit) its (run-may-put core.job (core_in core) lease.driver lent back s g), λ same. true≢false (sym (is.1 same) ∙ fails)),
 )
 
 -- a put that was followed
 pub put-followed : (core new : Fields) (lease : Lease) (count hit : ℕ) (lent : LentOf) (back : BackOf) (items items' : List (Option LentOf)) (output : List ℕ) → Follows core items output → Lends core.job (core_in core) lease.driver lent → Gives lent back
-    → lent.lease ≡ lease → (back.ran.count ≡ count) × (back.ran.hit ≡ hit) → ReturnIs (seen core) (seen new) lease.driver back.ran.count back.ran.hit → Holds new → output_of new.job new.journal ≡ output_of core.job core.journal
+    → lent.lease ≡ lease → (back.took.count ≡ count) × (back.took.hit ≡ hit) → ReturnIs (seen core) (seen new) lease.driver back.took.count back.took.hit → Holds new → output_of new.job new.journal ≡ output_of core.job core.journal
     → lease.driver < length items → items' ≡ slice_set items lease.driver None → Followed core (Put lease count hit) None new items' output
 put-followed core new lease count hit lent back items items' output f s g its ran r holds same within is =
-    let may = subst (λ (l : Lease). MayPut core.job (core_in core) l back.ran.count back.ran.hit) its (run-may-put core.job (core_in core) lease.driver lent back s g) in
-    let appends : Appends (seen core) (seen new) (Put lease back.ran.count back.ran.hit) = r lease (s.held ∙ ap (λ (l : Lease). Some l) its) in
-    let done : Followed core (Put lease back.ran.count back.ran.hit) None new items' output = (may, appends, put-follows core new lease back.ran.count back.ran.hit items items' output f may appends holds same within is) in
-    let the_same : Put lease back.ran.count back.ran.hit ≡ Put lease count hit = ap (λ (n : ℕ). Put lease n back.ran.hit) ran.0 ∙ ap (Put lease count) ran.1 in
+    let may = subst (λ (l : Lease). MayPut core.job (core_in core) l back.took.count back.took.hit) its (run-may-put core.job (core_in core) lease.driver lent back s g) in
+    let appends : Appends (seen core) (seen new) (Put lease back.took.count back.took.hit) = r lease (s.held ∙ ap (λ (l : Lease). Some l) its) in
+    let done : Followed core (Put lease back.took.count back.took.hit) None new items' output = (may, appends, put-follows core new lease back.took.count back.took.hit items items' output f may appends holds same within is) in
+    let the_same : Put lease back.took.count back.took.hit ≡ Put lease count hit = ap (λ (n : ℕ). Put lease n back.took.hit) ran.0 ∙ ap (Put lease count) ran.1 in
     subst (λ (e : Entry). Followed core e None new items' output) the_same done
 
 -- what holds of a journal holds of the same one

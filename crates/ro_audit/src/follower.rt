@@ -17,10 +17,9 @@ use ro_core::{Core, Finished};
 use ro_faults::Fault;
 use ro_image::Executable;
 use ro_journal::{Entry, How, Lease, Lost};
-use ro_lease::{Back, Lent};
+use ro_lease::{Back, Lent, Took};
 use ro_legal::Action;
 use ro_post::Work;
-use ro_replica::Ran;
 use ro_settings::Settings;
 use std::alloc::{AllocError, Global};
 
@@ -220,16 +219,16 @@ impl Follower {
         }
         let Back {
             replica: returned,
-            ran,
+            took,
             ..
         } = lent.run();
-        if !came_to(&ran, count, hit) {
+        if !came_to(&took, count, hit) {
             return Some(Why::Ran {
-                count: ran.count,
-                hit: ran.hit,
+                count: took.count,
+                hit: took.hit,
             });
         }
-        self.core.put(lease.driver, returned, ran);
+        self.core.put(lease.driver, returned, took.count, took.hit);
         None
     }
 
@@ -500,10 +499,10 @@ fn is_of(lent: &Lent, lease: Lease) -> bool
 }
 
 // Whether a run came to so many instructions and faults.
-fn came_to(ran: &Ran, count: u32, hit: u32) -> bool
-    ensures { IsTrue result ↔ ((ran.now.count ≡ count) × (ran.now.hit ≡ hit)) }
+fn came_to(took: &Took, count: u32, hit: u32) -> bool
+    ensures { IsTrue result ↔ ((took.now.count ≡ count) × (took.now.hit ≡ hit)) }
 {
-    ran.count == count && ran.hit == hit
+    took.count == count && took.hit == hit
 }
 
 // What came, where it is not this entry.

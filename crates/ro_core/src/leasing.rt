@@ -10,7 +10,7 @@ ghost use Rattle.ro_core.specs.Runs.{fields_of, job_of, state_of, silent};
 
 use crate::cores::Core;
 use ro_journal::{Entry, Lease};
-use ro_replica::{Ran, ReplicaBox};
+use ro_replica::ReplicaBox;
 use std::alloc::AllocError;
 
 impl Core {
@@ -46,23 +46,19 @@ impl Core {
         self.seats.leave(lease.replica)
     }
 
-    /// Puts a replica back that a driver has run.
-    pub fn put(&mut self, driver: u32, lent: ReplicaBox, ran: Ran)
+    /// Puts a replica back that a driver has run, for so many instructions and faults.
+    pub fn put(&mut self, driver: u32, lent: ReplicaBox, count: u32, hit: u32)
         requires holds { Holds (fields_of self.old) }
-        requires returns { MayReturn (silent self.old) driver lent ran.count ran.hit }
+        requires returns { MayReturn (silent self.old) driver lent count hit }
         ensures holds { Holds (fields_of self.new) }
-        ensures entry { ReturnIs (silent self.old) (silent self.new) driver ran.count ran.hit }
+        ensures entry { ReturnIs (silent self.old) (silent self.new) driver count hit }
         ensures output { output_of (job_of self.new) (fields_of self.new).journal ≡ output_of (job_of self.old) (fields_of self.old).journal }
         ensures ended { (fields_of self.new).ended ≡ (fields_of self.old).ended }
     {
         let Some(lease) = lease_of(self.leases.as_slice(), driver) else {
             unreachable!()
         };
-        self.journal.push_reserved(Entry::Put {
-            lease,
-            count: ran.count,
-            hit: ran.hit,
-        });
+        self.journal.push_reserved(Entry::Put { lease, count, hit });
         self.wrote = 0;
         give_back(&mut self.leases, lease);
         self.seats.come_home(lease.replica, lease.thread, lent);

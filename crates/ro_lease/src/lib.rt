@@ -52,12 +52,21 @@ impl Lent {
     }
 }
 
+/// What a run took.
+#[derive(Clone, Copy)]
+pub struct Took {
+    /// How many instructions were retired.
+    pub count: u32,
+    /// How many faults were struck.
+    pub hit: u32,
+}
+
 /// The replica after its run.
 #[derive(Drop)]
 pub struct Back {
     pub lease: Lease,
     pub replica: ReplicaBox,
-    pub ran: Ran,
+    pub took: Took,
 }
 
 impl Model for Back {
@@ -69,7 +78,7 @@ impl Model for Back {
 
     ghost coded = { Prim.hlevel (codes, coded_held) };
 
-    ghost view = { λ b. record { lease = b.lease; replica = b.replica; ran = b.ran } };
+    ghost view = { λ b. record { lease = b.lease; replica = b.replica; took = b.took } };
 }
 
 impl Work for Lent {
@@ -93,11 +102,15 @@ impl Work for Lent {
             quantum,
             mut replica,
         } = self;
-        let ran = replica.run(lease.thread, quantum);
+        let Ran {
+            count,
+            hit,
+            stop: _,
+        } = replica.run(lease.thread, quantum);
         Back {
             lease,
             replica,
-            ran,
+            took: Took { count, hit },
         }
     }
 }

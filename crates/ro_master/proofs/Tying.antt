@@ -201,7 +201,7 @@ module _ (start core : CoreOf) (count : CountOf) (p : PassOf) (back : BackOf) (t
   abbrev plain : CoreOf
   plain = record { job = core.job; journal = core.journal; failed = None; room = core.room; views = core.views; held = core.held; failures = core.failures; sure = core.sure }
 
-  first : (m : MayReturn plain p.number back.replica back.ran.count back.ran.hit) × (m.lease ≡ may.returns.lease)
+  first : (m : MayReturn plain p.number back.replica back.took.count back.took.hit) × (m.lease ≡ may.returns.lease)
   first = still_returns start.job p count plain back t.goes.job t.journal refl k legal t.owned may
 
   pub put_calm : core.failed ≡ None
@@ -210,27 +210,27 @@ module _ (start core : CoreOf) (count : CountOf) (p : PassOf) (back : BackOf) (t
   put_at : state core ≡ replay core.job core.journal
   put_at = calm_state core put_calm
 
-  here : (m : MayReturn core p.number back.replica back.ran.count back.ran.hit) × (m.lease ≡ may.returns.lease)
+  here : (m : MayReturn core p.number back.replica back.took.count back.took.hit) × (m.lease ≡ may.returns.lease)
   here = still_returns start.job p count core back t.goes.job t.journal put_at k legal t.owned may
 
   -- what the core asks
-  pub put_returns : MayReturn core back.lease.driver back.replica back.ran.count back.ran.hit
-  put_returns = subst (λ (d : ℕ). MayReturn core d back.replica back.ran.count back.ran.hit) (sym may.driver) here.0
+  pub put_returns : MayReturn core back.lease.driver back.replica back.took.count back.took.hit
+  put_returns = subst (λ (d : ℕ). MayReturn core d back.replica back.took.count back.took.hit) (sym may.driver) here.0
 
   -- the entry
   abbrev pub put_entry : Entry
-  put_entry = Put back.lease back.ran.count back.ran.hit
+  put_entry = Put back.lease back.took.count back.took.hit
 
-  module _ (new : CoreOf) (returned : ReturnIs core new back.lease.driver back.ran.count back.ran.hit) (q : Quiet core new) where
+  module _ (new : CoreOf) (returned : ReturnIs core new back.lease.driver back.took.count back.took.hit) (q : Quiet core new) where
     pub put_appends : Appends core new put_entry
     put_appends =
         let held : lease_of (state core) back.lease.driver ≡ Some here.0.lease = ap (lease_of (state core)) may.driver ∙ here.0.held in
-        subst (λ (l : Lease). Appends core new (Put l back.ran.count back.ran.hit)) (here.1 ∙ may.lease) (returned here.0.lease held)
+        subst (λ (l : Lease). Appends core new (Put l back.took.count back.took.hit)) (here.1 ∙ may.lease) (returned here.0.lease held)
 
     put_allowed : IsAllowed core.job (replay core.job core.journal) put_entry
     put_allowed =
         subst (λ (c : Core). IsAllowed core.job c put_entry) put_at
-        (subst (λ (l : Lease). IsAllowed core.job (state core) (Put l back.ran.count back.ran.hit)) (here.1 ∙ may.lease) here.0.allowed)
+        (subst (λ (l : Lease). IsAllowed core.job (state core) (Put l back.took.count back.took.hit)) (here.1 ∙ may.lease) here.0.allowed)
 
     put_open : outcome_of core.journal ≡ None
     put_open = sym (ended_is_outcome core.job core.journal legal) ∙ ap (λ (c : Core). c.ended) (sym put_at) ∙ here.0.allowed.not_ended
@@ -277,13 +277,13 @@ lease_rests start old new p q replica thread lent t next m is back gives =
     seen : state (seen_core core.job q') ≡ lending (replay core.job core.journal) lease
     seen = seen_added start core old.count p (Take lease) t
 
-    all : (k : MayReturn (seen_core core.job q') p.number back.replica back.ran.count back.ran.hit) × (k.lease ≡ lease)
+    all : (k : MayReturn (seen_core core.job q') p.number back.replica back.took.count back.took.hit) × (k.lease ≡ lease)
     all =
-        lent_returns core.job (replay core.job core.journal) lease lent.quantum back.ran.count back.ran.hit lent.replica back.replica back.ran.stop
+        lent_returns core.job (replay core.job core.journal) lease lent.quantum back.took.count back.took.hit lent.replica back.replica gives.stop
         (ap (λ (c : Core). c.ended) (sym at) ∙ (going-parts (state core) parts.0).1)
         (ap (λ (c : Core). slice_get c.replicas replica) (sym at) ∙ is.lends.replica)
         (subst (λ (c : Core). IsOfJob core.job c.kernel lent.replica) at is.lends.program) gives.program is.quantum
-        (subst (λ (l : Lease). Runs lent.replica.layout lent.replica.watchdog lent.quantum l.thread (replica_of lent.replica) (replica_of back.replica) back.ran.count back.ran.hit back.ran.stop) is.lease gives.runs)
+        (subst (λ (l : Lease). Runs lent.replica.layout lent.replica.watchdog lent.quantum l.thread (replica_of lent.replica) (replica_of back.replica) back.took.count back.took.hit gives.stop) is.lease gives.runs)
         (seen_core core.job q') refl seen
 
 -- where the entry is a vote, a free, a scrub or an end, the pass stays at rest
@@ -384,22 +384,22 @@ put_rests start old new p q back t may m =
     (subst (AtRest core.job) (sym m.pass)
     (ap (λ (c : Core). is_idle c p.number) (seen_added start core old.count p entry t)
     ∙ ap (is_idle (after core.job (replay core.job core.journal) entry)) (sym may.driver)
-    ∙ idle_after_put core.job (replay core.job core.journal) back.lease back.ran.count back.ran.hit (one_each core.job core.journal t.driven.legal) allowed))
+    ∙ idle_after_put core.job (replay core.job core.journal) back.lease back.took.count back.took.hit (one_each core.job core.journal t.driven.legal) allowed))
   where
     core : CoreOf
     core = old.core
 
     entry : Entry
-    entry = Put back.lease back.ran.count back.ran.hit
+    entry = Put back.lease back.took.count back.took.hit
 
     plain : CoreOf
     plain = record { job = core.job; journal = core.journal; failed = None; room = core.room; views = core.views; held = core.held; failures = core.failures; sure = core.sure }
 
-    first : (k : MayReturn plain p.number back.replica back.ran.count back.ran.hit) × (k.lease ≡ may.returns.lease)
+    first : (k : MayReturn plain p.number back.replica back.took.count back.took.hit) × (k.lease ≡ may.returns.lease)
     first = still_returns start.job p old.count plain back t.goes.job t.journal refl m.knew t.driven.legal t.owned may
 
     allowed : IsAllowed core.job (replay core.job core.journal) entry
-    allowed = subst (λ (l : Lease). IsAllowed core.job (replay core.job core.journal) (Put l back.ran.count back.ran.hit)) (first.1 ∙ may.lease) first.0.allowed
+    allowed = subst (λ (l : Lease). IsAllowed core.job (replay core.job core.journal) (Put l back.took.count back.took.hit)) (first.1 ∙ may.lease) first.0.allowed
 
 -- ---- the opening
 

@@ -16,7 +16,7 @@ use crate::sessions::Session;
 use crate::waking::{Wakes, Waking};
 use ro_io::Sink;
 use ro_journal::{Entry, How, Lease};
-use ro_lease::{Back, Lent};
+use ro_lease::{Back, Lent, Took};
 use ro_legal::Action;
 use ro_post::Turn;
 use std::alloc::AllocError;
@@ -295,18 +295,11 @@ impl<K: Sink, N: Naming> Desk<K, N> {
         let Back {
             lease,
             replica,
-            ran,
+            took: Took { count, hit },
         } = back;
         let _entries = self.core.entries();
-        pass.add(
-            &mut self.count,
-            &Entry::Put {
-                lease,
-                count: ran.count,
-                hit: ran.hit,
-            },
-        );
-        self.waking.came_back(ran.count);
-        self.core.put(lease.driver, replica, ran);
+        pass.add(&mut self.count, &Entry::Put { lease, count, hit });
+        self.waking.came_back(count);
+        self.core.put(lease.driver, replica, count, hit);
     }
 }

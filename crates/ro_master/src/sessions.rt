@@ -19,7 +19,7 @@ use ro_image::Executable;
 use ro_io::{Sink, send};
 use ro_journal::{Entry, How, Lease};
 use ro_legal::Action;
-use ro_replica::{Ran, ReplicaBox};
+use ro_replica::ReplicaBox;
 use ro_settings::Settings;
 use std::alloc::{AllocError, Global};
 use std::marker::Model;
@@ -126,13 +126,13 @@ impl<K: Sink> Session<K> {
         self.core.take(lease)
     }
 
-    /// Puts a replica back that a driver has run.
-    pub fn put(&mut self, driver: u32, lent: ReplicaBox, ran: Ran)
-        requires { MayReturn self.old driver lent ran.count ran.hit }
-        ensures entry { ReturnIs self.old self.new driver ran.count ran.hit }
+    /// Puts a replica back that a driver has run, for so many instructions and faults.
+    pub fn put(&mut self, driver: u32, lent: ReplicaBox, count: u32, hit: u32)
+        requires { MayReturn self.old driver lent count hit }
+        ensures entry { ReturnIs self.old self.new driver count hit }
         ensures quiet { Quiet self.old self.new }
     {
-        self.core.put(driver, lent, ran);
+        self.core.put(driver, lent, count, hit);
     }
 
     /// Votes on a thread that stands still in every replica: its event is done once, what it writes is sent, and the entry

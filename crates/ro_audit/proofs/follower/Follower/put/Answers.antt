@@ -26,7 +26,7 @@ returns-then-not-came_to-clause-followed c =
     let core = fields_of c.args.self.now.core in
     let slot : slice_index_or c.args.self.now.lent.items c.args.lease.driver None ≡ Some c.in-Some.lent = ap (λ (xs : List (Option LentOf)). slice_index_or xs c.args.lease.driver None) (sym c.as_mut_slice.ensures.value) ∙ sym c.take_back.ensures.lent ∙ c.in-Some.is in
     let lends = subst (Slot core.job (core_in core) c.args.lease.driver) slot (c.requires.slots c.args.lease.driver) in
-    let back : BackOf = record { lease = c.returned.inside.lease; replica = c.returned.inside.replica; ran = c.returned.inside.ran } in
+    let back : BackOf = record { lease = c.returned.inside.lease; replica = c.returned.inside.replica; took = c.returned.inside.took } in
     let gives : Gives c.in-Some.lent back = subst (Gives c.in-Some.lent) (sym c.returned.view_is) c.run.ensures in
     other-run core c.args.lease c.args.count c.args.hit c.in-Some.lent back c.came_to.result lends gives (c.is_of.ensures.0 c.if-not-is_of.false) c.came_to.ensures c.if-not-came_to.true
 
@@ -35,7 +35,7 @@ put-requires-clause-returns c =
     let core = fields_of c.args.self.now.core in
     let slot : slice_index_or c.args.self.now.lent.items c.args.lease.driver None ≡ Some c.in-Some.lent = ap (λ (xs : List (Option LentOf)). slice_index_or xs c.args.lease.driver None) (sym c.as_mut_slice.ensures.value) ∙ sym c.take_back.ensures.lent ∙ c.in-Some.is in
     let lends = subst (Slot core.job (core_in core) c.args.lease.driver) slot (c.requires.slots c.args.lease.driver) in
-    let back : BackOf = record { lease = c.returned.inside.lease; replica = c.returned.inside.replica; ran = c.returned.inside.ran } in
+    let back : BackOf = record { lease = c.returned.inside.lease; replica = c.returned.inside.replica; took = c.returned.inside.took } in
     let gives : Gives c.in-Some.lent back = subst (Gives c.in-Some.lent) (sym c.returned.view_is) c.run.ensures in
     (may-return core c.args.lease.driver c.in-Some.lent back lends gives).0
 
@@ -44,7 +44,7 @@ returns-clause-followed c =
     let core = fields_of c.args.self.now.core in
     let slot : slice_index_or c.args.self.now.lent.items c.args.lease.driver None ≡ Some c.in-Some.lent = ap (λ (xs : List (Option LentOf)). slice_index_or xs c.args.lease.driver None) (sym c.as_mut_slice.ensures.value) ∙ sym c.take_back.ensures.lent ∙ c.in-Some.is in
     let lends = subst (Slot core.job (core_in core) c.args.lease.driver) slot (c.requires.slots c.args.lease.driver) in
-    let back : BackOf = record { lease = c.returned.inside.lease; replica = c.returned.inside.replica; ran = c.returned.inside.ran } in
+    let back : BackOf = record { lease = c.returned.inside.lease; replica = c.returned.inside.replica; took = c.returned.inside.took } in
     let gives : Gives c.in-Some.lent back = subst (Gives c.in-Some.lent) (sym c.returned.view_is) c.run.ensures in
     let vacant = c.take_back.ensures.vacant (ap is_some c.in-Some.is) in
     let items = with_items_is c.args.self.now.lent c.take_back.new.lent (ap length vacant.0 ∙ length-set c.as_mut_slice.result.now c.args.lease.driver None ∙ c.as_mut_slice.ensures.len) in

@@ -254,6 +254,20 @@ impl<K: Sink, N: Naming> Desk<K, N> {
         self.waking.becomes_spare()
     }
 
+    /// A driver that waits for a lease falls asleep.
+    pub fn fell_asleep(&mut self)
+        ensures { self.new ≡ self.old }
+    {
+        self.waking.fell_asleep();
+    }
+
+    /// It is awake.
+    pub fn woke_up(&mut self)
+        ensures { self.new ≡ self.old }
+    {
+        self.waking.woke_up();
+    }
+
     /// Whether spare drivers rest.
     pub fn spares_rest(&self) -> bool {
         self.waking.spares_rest()

@@ -16,15 +16,23 @@ use crate::passes::{Counter, Opened, Pass};
 use crate::seats::Naming;
 use crate::sessions::Session;
 use crate::waking::Wakes;
+use crossbeam_utils::Backoff;
 use ro_io::{Gate, Sink};
 use ro_lease::{Back, Lent};
 use ro_post::{Driver, Post, Turn, Work};
 use std::alloc::{AllocError, Global};
+use std::sync::atomic::AtomicU64;
+use std::sync::atomic::Ordering::Relaxed;
 use std::sync::{Condvar, Mutex, Wait};
+
+/// How often a driver that waits looks whether it is woken before it sleeps: about as long as a sleeper takes to wake.
+const LOOKS: u32 = 40;
 
 /// The core of a run behind a lock.
 pub struct Master<K: Sink, N: Naming> {
     desk: Mutex<Desk<K, N>>,
+    /// How often those that wait for a lease were woken.
+    woken: AtomicU64,
     /// It tells those that wait for a lease that there is something to be done.
     moved: Condvar,
     /// It tells those that are spare that the run is over for a driver.
@@ -161,14 +169,28 @@ impl<K: Sink, N: Naming> Master<K, N> {
         match wakes {
             Wakes::Nobody => {}
             Wakes::Helpers(count) => {
+                self.woken.fetch_add(1, Relaxed);
                 for _ in 0..count {
                     self.moved.notify_one();
                 }
             }
             Wakes::All => {
+                self.woken.fetch_add(1, Relaxed);
                 self.moved.notify_all();
                 self.left.notify_all();
             }
+        }
+    }
+
+    // Looks for a while whether those that wait are woken, so that a short wait is no sleep.
+    fn look_out(&self) {
+        let woken = self.woken.load(Relaxed);
+        let backoff = Backoff::new();
+        for _ in 0..LOOKS {
+            if self.woken.load(Relaxed) != woken {
+                return;
+            }
+            backoff.snooze();
         }
     }
 
@@ -197,6 +219,7 @@ impl<K: Sink, N: Naming> Master<K, N> {
         let desk = Desk::new(core, count);
         let master = Master {
             desk: Mutex::new(desk),
+            woken: AtomicU64::new(0),
             moved: Condvar::new(),
             left: Condvar::new(),
         };
@@ -214,6 +237,7 @@ impl<K: Sink, N: Naming> Master<K, N> {
     {
         let Master {
             desk,
+            woken: _,
             moved: _,
             left: _,
         } = self;
@@ -292,13 +316,16 @@ impl<K: Sink, N: Naming> Post for Master<K, N> {
         self.take_next(rt, pass, back)
     }
 
-    // It sleeps until something can be done, or, where it is spare, until a driver has left.
+    // It looks out for a while, and then sleeps until something can be done, or, where it is spare, until a driver has left.
     fn rest<R: Wait>(&self, rt: &R) {
+        self.look_out();
         let mut desk = self.desk.lock(rt);
         if desk.waits() && desk.becomes_spare() {
             let _desk = self.left.wait_while(rt, desk, |desk| desk.spares_rest());
         } else {
-            let _desk = self.moved.wait_while(rt, desk, |desk| desk.waits());
+            desk.fell_asleep();
+            let mut desk = self.moved.wait_while(rt, desk, |desk| desk.waits());
+            desk.woke_up();
         }
     }
 }

@@ -12,7 +12,7 @@ const WORTH_A_WAKE: u32 = 1_000;
 pub enum Wakes {
     /// Nobody.
     Nobody,
-    /// So many of those that wait for a lease.
+    /// Those that wait for a lease, of whom so many sleep.
     Helpers(u32),
     /// All: the run is over, or a driver found no memory and leaves the run to the others.
     All,
@@ -29,6 +29,8 @@ pub struct Waking {
     of_use: u32,
     /// How many drivers are not spare.
     active: u32,
+    /// How many of these sleep.
+    asleep: u32,
     /// The run is over for a driver, and so no driver is spare any more.
     is_left: bool,
     /// The helpers were not woken at the last vote.
@@ -42,6 +44,7 @@ impl Waking {
         Waking {
             of_use: settings.replicas.min(settings.drivers),
             active: settings.drivers,
+            asleep: 0,
             is_left: false,
             is_alone: false,
             due: Wakes::Nobody,
@@ -90,6 +93,16 @@ impl Waking {
         is_spare
     }
 
+    /// A driver that waits for a lease falls asleep.
+    pub fn fell_asleep(&mut self) {
+        self.asleep = self.asleep.saturating_add(1);
+    }
+
+    /// It is awake.
+    pub fn woke_up(&mut self) {
+        self.asleep = self.asleep.saturating_sub(1);
+    }
+
     /// Whether spare drivers rest.
     pub fn spares_rest(&self) -> bool {
         !self.is_left
@@ -98,7 +111,7 @@ impl Waking {
     // The helpers, where they are wanted.
     fn helpers_if(&self, is_wanted: bool) -> Wakes {
         if is_wanted {
-            Wakes::Helpers(self.of_use.saturating_sub(1))
+            Wakes::Helpers(self.asleep.min(self.of_use.saturating_sub(1)))
         } else {
             Wakes::Nobody
         }

@@ -377,6 +377,28 @@ const TWO_CONDITIONS: &[Row] = &[
     (1, WAIT, [CONDITION, MUTEX, 0, 0], Want::Answers(0)),
 ];
 
+const BESIDE_16_THREADS: &[Row] = &[
+    (0, CREATE, [DATA, 0, CODE, 7], Want::Answers(11)),
+    (0, CREATE, [0, 0, CODE, 7], Want::Answers(14)),
+    (0, CREATE, [DATA, 1, CODE, 7], Want::Answers(22)),
+];
+
+const BESIDE_256_INITS: &[Row] = &[
+    (0, MUTEX_INIT, [DATA + 0x800, 0, 0, 0], Want::Answers(11)),
+    (0, LOCK, [DATA + 0x800, 0, 0, 0], Want::Answers(11)),
+    (0, TRYLOCK, [DATA + 0x800, 0, 0, 0], Want::Answers(11)),
+    (0, MUTEX_INIT, [CODE, 0, 0, 0], Want::Answers(14)),
+    (0, MUTEX_INIT, [DATA, 0, 0, 0], Want::Answers(0)),
+    (0, LOCK, [DATA + 4 * 255, 0, 0, 0], Want::Answers(0)),
+];
+
+const BESIDE_256_LOCKS: &[Row] = &[
+    (0, LOCK, [DATA + 0x800, 0, 0, 0], Want::Answers(11)),
+    (0, TRYLOCK, [DATA + 0x800, 0, 0, 0], Want::Answers(11)),
+    (0, LOCK, [CODE, 0, 0, 0], Want::Answers(14)),
+    (0, LOCK, [DATA, 0, 0, 0], Want::Answers(35)),
+];
+
 fn ranges() -> [Range; 2] {
     let range = |start, write| Range {
         start,
@@ -554,83 +576,56 @@ fn makes_16_threads(rt: HostRuntime) -> Result<(), Fail> {
         assert_eq!(rt; effect.place, DATA);
         assert_eq!(rt; kernel.made(), number + 1);
     }
-    check(
-        &rt,
-        &mut kernel,
-        &[
-            (0, CREATE, [DATA, 0, CODE, 7], Want::Answers(11)),
-            (0, CREATE, [0, 0, CODE, 7], Want::Answers(14)),
-            (0, CREATE, [DATA, 1, CODE, 7], Want::Answers(22)),
-        ],
-    )?;
+    check(&rt, &mut kernel, BESIDE_16_THREADS)?;
+    Ok(())
+}
+
+/// Calls of thread 0 that answer 0, one for each of the first 256 words of `DATA`.
+fn answers_256_words(rt: &impl Abort, kernel: &mut Kernel, which: Which) -> Result<(), AllocError> {
+    for place in 0..256u32 {
+        let row = (0, which, [DATA + 4 * place, 0, 0, 0], Want::Answers(0));
+        check(rt, kernel, &[row])?;
+    }
     Ok(())
 }
 
 #[test]
 fn initialises_256_mutexes(rt: HostRuntime) -> Result<(), Fail> {
     let mut kernel = kernel(rt.alloc(), b"")?;
-    for place in 0..256u32 {
-        check(
-            &rt,
-            &mut kernel,
-            &[(0, MUTEX_INIT, [DATA + 4 * place, 0, 0, 0], Want::Answers(0))],
-        )?;
-    }
-    check(
-        &rt,
-        &mut kernel,
-        &[
-            (0, MUTEX_INIT, [DATA + 0x800, 0, 0, 0], Want::Answers(11)),
-            (0, LOCK, [DATA + 0x800, 0, 0, 0], Want::Answers(11)),
-            (0, TRYLOCK, [DATA + 0x800, 0, 0, 0], Want::Answers(11)),
-            (0, MUTEX_INIT, [CODE, 0, 0, 0], Want::Answers(14)),
-            (0, MUTEX_INIT, [DATA, 0, 0, 0], Want::Answers(0)),
-            (0, LOCK, [DATA + 4 * 255, 0, 0, 0], Want::Answers(0)),
-        ],
-    )?;
+    answers_256_words(&rt, &mut kernel, MUTEX_INIT)?;
+    check(&rt, &mut kernel, BESIDE_256_INITS)?;
     Ok(())
 }
 
 #[test]
 fn holds_256_mutexes(rt: HostRuntime) -> Result<(), Fail> {
     let mut kernel = kernel(rt.alloc(), b"")?;
-    for place in 0..256u32 {
-        check(
-            &rt,
-            &mut kernel,
-            &[(0, LOCK, [DATA + 4 * place, 0, 0, 0], Want::Answers(0))],
-        )?;
-    }
-    check(
-        &rt,
-        &mut kernel,
-        &[
-            (0, LOCK, [DATA + 0x800, 0, 0, 0], Want::Answers(11)),
-            (0, TRYLOCK, [DATA + 0x800, 0, 0, 0], Want::Answers(11)),
-            (0, LOCK, [CODE, 0, 0, 0], Want::Answers(14)),
-            (0, LOCK, [DATA, 0, 0, 0], Want::Answers(35)),
-        ],
-    )?;
+    answers_256_words(&rt, &mut kernel, LOCK)?;
+    check(&rt, &mut kernel, BESIDE_256_LOCKS)?;
     Ok(())
 }
 
 /// LR, whatever its registers are.
 const ATOMIC: Which = Which::Atomic(0x1003_22AF);
 
+/// A call with its arguments; where its payload stands, and how long it is.
+const COMPARED: &[(Which, [u32; 4], u32, u32)] = &[
+    (WRITE, [1, CODE, 4, 0], CODE, 4),
+    (WRITE, [2, DATA, 5000, 0], DATA, 4096),
+    (WRITE, [0, DATA, 4, 0], 0, 0),
+    (WRITE, [1, DATA, 0, 0], 0, 0),
+    (WRITE, [1, NOWHERE, 1, 0], 0, 0),
+    (READ, [1, DATA, 4, 0], 0, 0),
+    (LOCK, [1, DATA, 4, 0], 0, 0),
+    (ATOMIC, [DATA + 8, 1, 0, 0], DATA + 8, 4),
+    (ATOMIC, [DATA + 2, 1, 0, 0], 0, 0),
+];
+
 #[test]
 fn compares_what_may_be_read(rt: HostRuntime) -> Result<(), Fail> {
     let regions = Regions::new(rt.alloc(), &ranges())?;
-    for (which, arguments, address, len) in [
-        (WRITE, [1, CODE, 4, 0], CODE, 4),
-        (WRITE, [2, DATA, 5000, 0], DATA, 4096),
-        (WRITE, [0, DATA, 4, 0], 0, 0),
-        (WRITE, [1, DATA, 0, 0], 0, 0),
-        (WRITE, [1, NOWHERE, 1, 0], 0, 0),
-        (READ, [1, DATA, 4, 0], 0, 0),
-        (LOCK, [1, DATA, 4, 0], 0, 0),
-        (ATOMIC, [DATA + 8, 1, 0, 0], DATA + 8, 4),
-        (ATOMIC, [DATA + 2, 1, 0, 0], 0, 0),
-    ] {
+    for row in COMPARED {
+        let (which, arguments, address, len) = *row;
         assert_eq!(rt;
             payload_place(&regions, call(which, arguments)),
             Place { address, len },

@@ -52,6 +52,19 @@ fn memory(rt: &impl Abort, alloc: Global) -> Result<Pages, AllocError> {
     Ok(pages)
 }
 
+// whether the stretch from CODE on holds a pc
+const KEPT: &[(u32, bool)] = &[
+    (CODE, true),
+    (CALL - 4, true),
+    (CALL, false),
+    (CODE + 2, false),
+    (CODE + 1, false),
+    (CODE - 4, false),
+    (0xFFFF_FFFC, false),
+];
+
+const NO_CODE: &[u32] = &[DATA, UNBACKED, 0x7FFF_FFF0, 0xFFFF_FFFC];
+
 #[test]
 fn keeps_code(rt: HostRuntime) -> Result<(), Fail> {
     let regions = regions(rt.alloc())?;
@@ -67,16 +80,8 @@ fn keeps_code(rt: HostRuntime) -> Result<(), Fail> {
             place: 0
         }
     );
-    for (pc, want) in [
-        (CODE, true),
-        (CALL - 4, true),
-        (CALL, false),
-        (CODE + 2, false),
-        (CODE + 1, false),
-        (CODE - 4, false),
-        (0xFFFF_FFFC, false),
-    ] {
-        assert_eq!(rt; first.holds(pc), want, "at {pc:x}");
+    for (pc, want) in KEPT {
+        assert_eq!(rt; first.holds(*pc), *want, "at {pc:x}");
     }
     let mut second = first;
     assert!(rt; second.follow(CODE + 0x40, &pages, &regions, &calls));
@@ -90,9 +95,9 @@ fn keeps_code(rt: HostRuntime) -> Result<(), Fail> {
             place: 0
         }
     );
-    for pc in [DATA, UNBACKED, 0x7FFF_FFF0u32, 0xFFFF_FFFC] {
+    for pc in NO_CODE {
         let mut none = first;
-        assert!(rt; !none.follow(pc, &pages, &regions, &calls), "at {pc:x}");
+        assert!(rt; !none.follow(*pc, &pages, &regions, &calls), "at {pc:x}");
         assert_eq!(rt; none.words, 0, "at {pc:x}");
     }
     Ok(())
@@ -120,6 +125,22 @@ fn looks_where_code_was_left(rt: HostRuntime) -> Result<(), Fail> {
 }
 
 // an address and a size; whether a store there is shown, once its page was learnt
+const SHOWN: &[(u32, u32, bool)] = &[
+    (DATA + 4, 4, true),
+    (DATA + 5, 1, true),
+    (DATA + 6, 2, true),
+    (DATA + 6, 4, false),
+    (DATA + 7, 2, false),
+    // permitted, but no whole word
+    (DATA + 2, 2, false),
+    (DATA, 4, false),
+    (DATA + 0xFF8, 4, true),
+    (DATA + 0xFFC, 1, false),
+    (CODE, 4, false),
+    (UNBACKED, 4, false),
+    (0xFFFF_FFFC, 4, false),
+];
+
 #[test]
 fn shows_data(rt: HostRuntime) -> Result<(), Fail> {
     let list = [
@@ -129,21 +150,8 @@ fn shows_data(rt: HostRuntime) -> Result<(), Fail> {
     ];
     let regions = Regions::new(rt.alloc(), &list)?;
     let pages = memory(&rt, rt.alloc())?;
-    for (address, size, want) in [
-        (DATA + 4, 4u32, true),
-        (DATA + 5, 1, true),
-        (DATA + 6, 2, true),
-        (DATA + 6, 4, false),
-        (DATA + 7, 2, false),
-        // permitted, but no whole word
-        (DATA + 2, 2, false),
-        (DATA, 4, false),
-        (DATA + 0xFF8, 4, true),
-        (DATA + 0xFFC, 1, false),
-        (CODE, 4, false),
-        (UNBACKED, 4, false),
-        (0xFFFF_FFFC, 4, false),
-    ] {
+    for row in SHOWN {
+        let (address, size, want) = *row;
         assert!(rt; size == 1 || size == 2 || size == 4);
         let mut open = Open::new();
         let before = open.shows(address, size, &pages, &regions, Kind::Write);
@@ -187,18 +195,40 @@ fn does(
     )
 }
 
+// x7 with x5 and x6: an operation, one with an immediate of 1, and a multiplication or a division
+const OF_EACH_FUNCT3: &[u32] = &[0x0062_83B3, 0x0012_8393, 0x0262_83B3];
+
+// lui, auipc, jal, jalr, sub, sra, srai
+const OF_ONE_FUNCT3: &[u32] = &[
+    0x8000_03B7,
+    0xFFFF_F397,
+    0xFFDF_F3EF,
+    0x0002_83E7,
+    0x4062_83B3,
+    0x4062_D3B3,
+    0x4012_D393,
+];
+
+// lw from where no load is permitted, sw to the code, ecall, ebreak, a compressed word, zeros
+const NOT_QUICK: &[u32] = &[
+    0x0000_2383,
+    0x8062_A023,
+    0x0000_0073,
+    0x0010_0073,
+    0x0000_0001,
+    0,
+];
+
 #[test]
 fn does_each_row(rt: HostRuntime) -> Result<(), Fail> {
     let regions = regions(rt.alloc())?;
     let calls = calls();
     let mut pages = memory(&rt, rt.alloc())?;
-    let funct3 = [0u32, 1, 2, 3, 4, 5, 6, 7];
-    for k in funct3 {
+    for k in 0..8u32 {
         let op = k * 0x1000;
-        // x7 with x5 and x6: an operation, one with an immediate of 1, and a multiplication or a division
-        for word in [0x0062_83B3u32, 0x0012_8393, 0x0262_83B3] {
+        for word in OF_EACH_FUNCT3 {
             assert!(rt;
-                does(&rt, &mut pages, &regions, &calls, word + op),
+                does(&rt, &mut pages, &regions, &calls, *word + op),
                 "{word:x} {k}"
             );
         }
@@ -210,28 +240,11 @@ fn does_each_row(rt: HostRuntime) -> Result<(), Fail> {
         let store = does(&rt, &mut pages, &regions, &calls, 0x0062_8023 + op);
         assert_eq!(rt; store, k < 3, "a store of {k}");
     }
-    // lui, auipc, jal, jalr, sub, sra, srai
-    for word in [
-        0x8000_03B7u32,
-        0xFFFF_F397,
-        0xFFDF_F3EF,
-        0x0002_83E7,
-        0x4062_83B3,
-        0x4062_D3B3,
-        0x4012_D393,
-    ] {
-        assert!(rt; does(&rt, &mut pages, &regions, &calls, word), "{word:x}");
+    for word in OF_ONE_FUNCT3 {
+        assert!(rt; does(&rt, &mut pages, &regions, &calls, *word), "{word:x}");
     }
-    // lw from where no load is permitted, sw to the code, ecall, ebreak, a compressed word, zeros
-    for word in [
-        0x0000_2383u32,
-        0x8062_A023,
-        0x0000_0073,
-        0x0010_0073,
-        0x0000_0001,
-        0,
-    ] {
-        assert!(rt; !does(&rt, &mut pages, &regions, &calls, word), "{word:x}");
+    for word in NOT_QUICK {
+        assert!(rt; !does(&rt, &mut pages, &regions, &calls, *word), "{word:x}");
     }
     Ok(())
 }

@@ -152,20 +152,47 @@ fn assert_after(rt: &impl Abort, ran: RunEnd, thread: &Thread, pages: &Pages, af
     assert_eq!(rt; get(rt, pages, DATA), after.stored);
 }
 
+const SYSTEM_EXIT: Call = Call {
+    which: Which::System(93),
+    a0: 0,
+    a1: 0,
+    a2: 0,
+    a3: 0,
+};
+
+const MUTEX_INIT: Call = Call {
+    which: Which::Function(Function::MutexInit),
+    a0: 0,
+    a1: 0,
+    a2: 0,
+    a3: 0,
+};
+
+const THREAD_EXIT: Call = Call {
+    which: Which::Function(Function::Exit),
+    a0: 0,
+    a1: 0,
+    a2: 0,
+    a3: 0,
+};
+
 // a word behind the loop, and x7; the stop at it
+const STOPS: &[(u32, u32, Stop)] = &[
+    (ECALL, 0, Stop::Calls(SYSTEM_EXIT)),
+    (EBREAK, 0, Stop::Trap(TrapCause::Breakpoint)),
+    (0, 0, Stop::Trap(TrapCause::NoInstruction)),
+    (LOAD, DATA + 1, Stop::Trap(TrapCause::MisalignedLoad)),
+    (LOAD, DATA + 4, Stop::Trap(TrapCause::ForbiddenLoad)),
+    (LOAD, UNBACKED + 8, Stop::PageFault(0x12)),
+    (JUMP, 2, Stop::Trap(TrapCause::MisalignedTarget)),
+];
+
 #[test]
 fn stops(rt: HostRuntime) -> Result<(), Fail> {
     let guest = small_guest(rt.alloc())?;
     let mut pages = memory(&rt, rt.alloc(), ECALL)?;
-    for (word, x7, stop) in [
-        (ECALL, 0, Stop::Calls(call(Which::System(93)))),
-        (EBREAK, 0, Stop::Trap(TrapCause::Breakpoint)),
-        (0, 0, Stop::Trap(TrapCause::NoInstruction)),
-        (LOAD, DATA + 1, Stop::Trap(TrapCause::MisalignedLoad)),
-        (LOAD, DATA + 4, Stop::Trap(TrapCause::ForbiddenLoad)),
-        (LOAD, UNBACKED + 8, Stop::PageFault(0x12)),
-        (JUMP, 2, Stop::Trap(TrapCause::MisalignedTarget)),
-    ] {
+    for row in STOPS {
+        let (word, x7, stop) = *row;
         put(&rt, &mut pages, CODE + 12, word);
         put(&rt, &mut pages, DATA, 77);
         let mut thread = thread(5, x7);
@@ -187,22 +214,19 @@ fn stops(rt: HostRuntime) -> Result<(), Fail> {
 }
 
 // x7, to which the loop's end jumps; the stop there
+const JUMPS: &[(u32, Stop)] = &[
+    (CODE + 0x18, Stop::Calls(MUTEX_INIT)),
+    (0x7FFF_FFF0, Stop::Calls(THREAD_EXIT)),
+    (DATA, Stop::Trap(TrapCause::ForbiddenFetch)),
+    (UNBACKED, Stop::PageFault(0x12)),
+];
+
 #[test]
 fn stops_where_it_jumps(rt: HostRuntime) -> Result<(), Fail> {
     let guest = small_guest(rt.alloc())?;
     let mut pages = memory(&rt, rt.alloc(), JUMP)?;
-    for (x7, stop) in [
-        (
-            CODE + 0x18,
-            Stop::Calls(call(Which::Function(Function::MutexInit))),
-        ),
-        (
-            0x7FFF_FFF0,
-            Stop::Calls(call(Which::Function(Function::Exit))),
-        ),
-        (DATA, Stop::Trap(TrapCause::ForbiddenFetch)),
-        (UNBACKED, Stop::PageFault(0x12)),
-    ] {
+    for row in JUMPS {
+        let (x7, stop) = *row;
         let mut thread = thread(0, x7);
         let ran = ran(&rt, &mut thread, &mut pages, &guest, 4096, 10_000);
         let after = After {
@@ -222,58 +246,63 @@ fn stops_where_it_jumps(rt: HostRuntime) -> Result<(), Fail> {
 }
 
 // since before the call, most and the watchdog; the count, the stop, x6, pc, and what was stored
+type Counted = (u32, u32, u32, u32, Option<Stop>, u32, u32, u32);
+
+const COUNTED: &[Counted] = &[
+    (0, 0, 10_000, 0, None, 3, CODE, 77),
+    (0, 1, 10_000, 1, None, 3, CODE + 4, 3),
+    (0, 4, 10_000, 4, None, 2, CODE + 4, 2),
+    // all of the loop, where a stop stands then, and one more
+    (0, 9, 10_000, 9, None, 0, CODE + 12, 1),
+    (
+        0,
+        10,
+        10_000,
+        9,
+        Some(Stop::Trap(TrapCause::Breakpoint)),
+        0,
+        CODE + 12,
+        1,
+    ),
+    // the watchdog before the first instruction, with nothing to do and with all
+    (7, 0, 7, 0, None, 3, CODE, 77),
+    (7, 9, 7, 0, Some(Stop::Watchdog), 3, CODE, 77),
+    (0, 9, 0, 0, Some(Stop::Watchdog), 3, CODE, 77),
+    // and behind one and four
+    (6, 1, 7, 1, None, 3, CODE + 4, 3),
+    (6, 2, 7, 1, Some(Stop::Watchdog), 3, CODE + 4, 3),
+    (3, 9, 7, 4, Some(Stop::Watchdog), 2, CODE + 4, 2),
+    // at the place of another stop it is the watchdog's
+    (1, 4096, 10, 9, Some(Stop::Watchdog), 0, CODE + 12, 1),
+    (
+        1,
+        4096,
+        11,
+        9,
+        Some(Stop::Trap(TrapCause::Breakpoint)),
+        0,
+        CODE + 12,
+        1,
+    ),
+    (0, 9, 4_294_967_295, 9, None, 0, CODE + 12, 1),
+    (
+        4_294_967_294,
+        9,
+        4_294_967_295,
+        1,
+        Some(Stop::Watchdog),
+        3,
+        CODE + 4,
+        3,
+    ),
+];
+
 #[test]
 fn counts(rt: HostRuntime) -> Result<(), Fail> {
     let guest = small_guest(rt.alloc())?;
     let mut pages = memory(&rt, rt.alloc(), EBREAK)?;
-    for (since, most, watchdog, count, stop, x6, pc, stored) in [
-        (0, 0, 10_000, 0, None, 3, CODE, 77),
-        (0, 1, 10_000, 1, None, 3, CODE + 4, 3),
-        (0, 4, 10_000, 4, None, 2, CODE + 4, 2),
-        // all of the loop, where a stop stands then, and one more
-        (0, 9, 10_000, 9, None, 0, CODE + 12, 1),
-        (
-            0,
-            10,
-            10_000,
-            9,
-            Some(Stop::Trap(TrapCause::Breakpoint)),
-            0,
-            CODE + 12,
-            1,
-        ),
-        // the watchdog before the first instruction, with nothing to do and with all
-        (7, 0, 7, 0, None, 3, CODE, 77),
-        (7, 9, 7, 0, Some(Stop::Watchdog), 3, CODE, 77),
-        (0, 9, 0, 0, Some(Stop::Watchdog), 3, CODE, 77),
-        // and behind one and four
-        (6, 1, 7, 1, None, 3, CODE + 4, 3),
-        (6, 2, 7, 1, Some(Stop::Watchdog), 3, CODE + 4, 3),
-        (3, 9, 7, 4, Some(Stop::Watchdog), 2, CODE + 4, 2),
-        // at the place of another stop it is the watchdog's
-        (1, 4096, 10, 9, Some(Stop::Watchdog), 0, CODE + 12, 1),
-        (
-            1,
-            4096,
-            11,
-            9,
-            Some(Stop::Trap(TrapCause::Breakpoint)),
-            0,
-            CODE + 12,
-            1,
-        ),
-        (0, 9, 4_294_967_295, 9, None, 0, CODE + 12, 1),
-        (
-            4_294_967_294,
-            9,
-            4_294_967_295,
-            1,
-            Some(Stop::Watchdog),
-            3,
-            CODE + 4,
-            3,
-        ),
-    ] {
+    for row in COUNTED {
+        let (since, most, watchdog, count, stop, x6, pc, stored) = *row;
         put(&rt, &mut pages, DATA, 77);
         assert!(rt; since <= watchdog);
         assert!(rt; count <= watchdog - since);
@@ -292,43 +321,47 @@ fn counts(rt: HostRuntime) -> Result<(), Fail> {
     Ok(())
 }
 
+// the quantum and the watchdog; all that is counted, the stop, x6, pc, and what was stored
+const IN_QUANTA: &[(u32, u32, u32, Stop, u32, u32, u32)] = &[
+    (
+        1,
+        10_000,
+        9,
+        Stop::Trap(TrapCause::Breakpoint),
+        0,
+        CODE + 12,
+        1,
+    ),
+    (
+        2,
+        10_000,
+        9,
+        Stop::Trap(TrapCause::Breakpoint),
+        0,
+        CODE + 12,
+        1,
+    ),
+    (
+        4096,
+        10_000,
+        9,
+        Stop::Trap(TrapCause::Breakpoint),
+        0,
+        CODE + 12,
+        1,
+    ),
+    (1, 8, 8, Stop::Watchdog, 0, CODE + 8, 1),
+    (2, 8, 8, Stop::Watchdog, 0, CODE + 8, 1),
+    (4096, 8, 8, Stop::Watchdog, 0, CODE + 8, 1),
+];
+
 // by quanta the same, to the stop
 #[test]
 fn quanta(rt: HostRuntime) -> Result<(), Fail> {
     let guest = small_guest(rt.alloc())?;
     let mut pages = memory(&rt, rt.alloc(), EBREAK)?;
-    for (quantum, watchdog, count, stop, x6, pc, stored) in [
-        (
-            1,
-            10_000,
-            9,
-            Stop::Trap(TrapCause::Breakpoint),
-            0,
-            CODE + 12,
-            1,
-        ),
-        (
-            2,
-            10_000,
-            9,
-            Stop::Trap(TrapCause::Breakpoint),
-            0,
-            CODE + 12,
-            1,
-        ),
-        (
-            4096,
-            10_000,
-            9,
-            Stop::Trap(TrapCause::Breakpoint),
-            0,
-            CODE + 12,
-            1,
-        ),
-        (1, 8, 8, Stop::Watchdog, 0, CODE + 8, 1),
-        (2, 8, 8, Stop::Watchdog, 0, CODE + 8, 1),
-        (4096, 8, 8, Stop::Watchdog, 0, CODE + 8, 1),
-    ] {
+    for row in IN_QUANTA {
+        let (quantum, watchdog, count, stop, x6, pc, stored) = *row;
         put(&rt, &mut pages, DATA, 77);
         let mut thread = thread(0, 0);
         let mut all = 0;
@@ -360,14 +393,4 @@ fn quanta(rt: HostRuntime) -> Result<(), Fail> {
         assert_after(&rt, ran, &thread, &pages, &after);
     }
     Ok(())
-}
-
-fn call(which: Which) -> Call {
-    Call {
-        which,
-        a0: 0,
-        a1: 0,
-        a2: 0,
-        a3: 0,
-    }
 }

@@ -559,23 +559,34 @@ fn waits_for_signals(rt: HostRuntime) -> Result<(), Fail> {
     Ok(())
 }
 
-#[test]
-fn makes_16_threads(rt: HostRuntime) -> Result<(), Fail> {
-    let mut kernel = kernel(rt.alloc(), b"")?;
-    let create = call(CREATE, [DATA, 0, CODE, 7]);
+/// Whether a thread is made as it was asked for, with its number put at `DATA`.
+fn is_made(served: &Served) -> bool {
     let wanted = Made {
         start: CODE,
         argument: 7,
         creator: 0,
     };
+    match served {
+        Served::Done(effect) => effect.made == Some(wanted) && effect.place == DATA,
+        _ => false,
+    }
+}
+
+/// Makes threads 1 to 15.
+fn make_15(rt: &impl Abort, kernel: &mut Kernel) -> Result<(), AllocError> {
     for number in 1..16u32 {
-        let Served::Done(effect) = serve(&rt, &mut kernel, 0, create)? else {
-            return Err("not served".into());
-        };
-        assert_eq!(rt; effect.made, Some(wanted), "{number}");
-        assert_eq!(rt; effect.place, DATA);
+        let create = call(CREATE, [DATA, 0, CODE, 7]);
+        let served = serve(rt, kernel, 0, create)?;
+        assert!(rt; is_made(&served), "{number} {served:?}");
         assert_eq!(rt; kernel.made(), number + 1);
     }
+    Ok(())
+}
+
+#[test]
+fn makes_16_threads(rt: HostRuntime) -> Result<(), Fail> {
+    let mut kernel = kernel(rt.alloc(), b"")?;
+    make_15(&rt, &mut kernel)?;
     check(&rt, &mut kernel, BESIDE_16_THREADS)?;
     Ok(())
 }

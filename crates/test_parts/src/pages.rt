@@ -86,6 +86,16 @@ fn stores_and_reads_stretches(rt: HostRuntime) -> Result<(), Fail> {
     Ok(())
 }
 
+const STORED: &[(u32, u32, u32, u32)] = &[
+    (0, 1, 0x1234_5678, 0xDDCC_BB78),
+    (1, 1, 0x1234_5678, 0xDDCC_78AA),
+    (2, 1, 0x1234_5678, 0xDD78_BBAA),
+    (3, 1, 0x1234_5678, 0x78CC_BBAA),
+    (0, 2, 0x1234_5678, 0xDDCC_5678),
+    (2, 2, 0x1234_5678, 0x5678_BBAA),
+    (0, 4, 0x1234_5678, 0x1234_5678),
+];
+
 // each size at each alignment, over a word of 0xDDCCBBAA
 #[test]
 fn stores_and_loads(rt: HostRuntime) -> Result<(), Fail> {
@@ -95,15 +105,8 @@ fn stores_and_loads(rt: HostRuntime) -> Result<(), Fail> {
     pages.back(0xF_FFFF);
     assert!(rt; !pages.backed(0));
     pages.back(0);
-    for (offset, size, value, want) in [
-        (0, 1, 0x1234_5678, 0xDDCC_BB78),
-        (1, 1, 0x1234_5678, 0xDDCC_78AA),
-        (2, 1, 0x1234_5678, 0xDD78_BBAA),
-        (3, 1, 0x1234_5678, 0x78CC_BBAA),
-        (0, 2, 0x1234_5678, 0xDDCC_5678),
-        (2, 2, 0x1234_5678, 0x5678_BBAA),
-        (0, 4, 0x1234_5678, 0x1234_5678u32),
-    ] {
+    for row in STORED {
+        let (offset, size, value, want) = *row;
         let word = 0xFFFF_FFFCu32;
         put(&rt, &mut pages, word, 4, 0xDDCC_BBAA);
         put(&rt, &mut pages, word.wrapping_add(offset), size, value);

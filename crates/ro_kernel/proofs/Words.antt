@@ -1,5 +1,5 @@
 -- Atomic instructions: what they store, and which calls are served with what a vote found.
-use Rattle.std.specs.Prelude.{◌≡◌, ◌⊎◌, ℕ, Bool, true, false, cond, List, [], length, Option, Some, None}
+use Rattle.std.specs.Prelude.{◌≡◌, ◌⊎◌, ℕ, true, false, List, [], length, Option, Some, None}
 use Rattle.std.proofs.Common.{refl, sym, subst, inl, inr}
 use Rattle.std.proofs.lemmas.Bool.{true≢false}
 use Rattle.ro_decode.specs.declared.AtomicOp.{AtomicOp}
@@ -12,8 +12,8 @@ use Rattle.ro_event.specs.Effects.{Effect}
 use Rattle.ro_kernel.specs.declared.reservations.Reservation.{Reservation}
 use Rattle.ro_kernel.specs.Reserved.{reservation_of}
 use Rattle.ro_kernel.specs.Kernel.{Setup, Kernel, released}
-use Rattle.ro_kernel.specs.Serve.{Served, Done, Blocked, is_atomic, found_by, asked, atomic_at, atomic_by, is_blocked, serve_which, serve}
-use Rattle.ro_kernel.proofs.Kept.{IsServed, is_done, is_end, atomic-served}
+use Rattle.ro_kernel.specs.Serve.{Served, Done, Blocked, is_atomic, found_by, asked, atomic_at, atomic_by, serve_which, serve}
+use Rattle.ro_kernel.proofs.Kept.{IsServed, is_done, atomic-served}
 use Rattle.ro_kernel.proofs.Yields.{Yields, done, yields-cond, yields-done}
 
 -- nothing is made or given, and nothing is stored but the word

@@ -1,6 +1,4 @@
-use Rattle.std.specs.Prelude.{◌≡◌, ◌++◌, List, take, length}
-use Rattle.std.proofs.Common.{rules, refl, sym, ap, ◌∙◌}
-use Rattle.ro_kernel.specs.Reserved.{unless_at}
+use Rattle.std.proofs.Common.{rules, refl, ◌∙◌}
 use Rattle.ro_kernel.proofs.Ended.{done-one, done-all}
 use Rattle.ro_kernel.proofs.reservations.end_all.Goals as goal
 

@@ -1,4 +1,4 @@
-use Rattle.std.specs.Prelude.{◌≡◌, ◌++◌, map, take, drop}
+use Rattle.std.specs.Prelude.{◌≡◌, ◌++◌, take, drop}
 use Rattle.ro_kernel.specs.Reserved.{without_at}
 use Rattle.ro_kernel.proofs.reservations.end_all.Given as goal
 

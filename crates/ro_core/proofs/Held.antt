@@ -12,7 +12,6 @@ use Rattle.ro_plain.specs.Machine.{setup_of}
 use Rattle.ro_legal.specs.Core.{Job, Core, is_going}
 use Rattle.ro_legal.specs.Legal.{after, IsAllowed, Legal, replay}
 use Rattle.ro_core.specs.Seen.{CoreOf, KeepsViews}
-use Rattle.ro_journal.specs.declared.Lease.{Lease}
 use Rattle.ro_event.specs.declared.calls.Call.{Call}
 use Rattle.ro_group.specs.Groups.{Groups}
 use Rattle.ro_legal.specs.declared.actions.Streak.{Streak}

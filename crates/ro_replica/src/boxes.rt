@@ -1,13 +1,15 @@
 //! A replica in a block of its own, so that it moves as one word.
-ghost use Rattle.std.specs.Prelude.{◌≡◌, ◌≤◌, ◌↔◌, IfOk, IsTrue, OnOk, Some, is_some};
-ghost use Rattle.ro_replica.specs.Replica.{applied, cancelled, stop_of, word_at};
+ghost use Rattle.std.specs.Prelude.{◌≡◌, ◌<◌, ◌≤◌, ◌↔◌, IfOk, IsTrue, OnOk, None, Some, is_some, length};
+ghost use Rattle.ro_event.specs.declared.stops.Stop.TheVariants.{Calls};
+ghost use Rattle.ro_replica.specs.Replica.{applied, cancelled, changed_at, stop_of, went_on, word_at};
+ghost use Rattle.ro_replica.specs.Runs.{with_stop, standing_at};
 ghost use Rattle.ro_replica.specs.Seen.{replica_of, AreTwins, CanApply, CanCount, Keeps, Recovers, Runs, SameProgram, Widens};
 ghost use Rattle.ro_replica.specs.Snapshots.{snapshot_of};
 ghost use Rattle.ro_replica.specs.Views.{is_unstopped, view_of};
 
 use crate::replicas::Replica;
 use crate::running::Ran;
-use ro_event::{Effect, Stop, View};
+use ro_event::{Call, Effect, Stop, View};
 use ro_kernel::Kernel;
 use ro_recover::Twin;
 use std::alloc::{AllocError, Global};
@@ -52,6 +54,13 @@ impl ReplicaBox {
         ensures spare { OnOk result (count ≤ self.new.held.spare) }
     {
         self.replica.reserve(count)
+    }
+
+    /// How many threads were made.
+    pub fn thread_count(&self) -> u32
+        ensures { result ≡ length self.now.threads }
+    {
+        self.replica.thread_count()
     }
 
     /// Whether a thread was made and is not stopped.
@@ -110,6 +119,26 @@ impl ReplicaBox {
         ensures runs { Runs self.old.layout self.old.watchdog quantum thread (replica_of self.old) (replica_of self.new) result.count result.hit result.stop }
     {
         self.replica.run(thread, quantum)
+    }
+
+    /// Forgets where a thread stands still.
+    pub fn forget_stop(&mut self, thread: u32)
+        requires { thread < length self.old.threads }
+        ensures program { SameProgram self.new self.old }
+        ensures forgotten { replica_of self.new ≡ record (replica_of self.old) { threads = changed_at (with_stop None) self.old.threads thread } }
+        ensures few { length self.new.threads ≤ 16 }
+    {
+        self.replica.forget_stop(thread);
+    }
+
+    /// Answers the call at which a thread stands: it goes on behind it. That counts as an instruction.
+    pub fn answer(&mut self, thread: u32, call: Call, value: u32)
+        requires standing { standing_at self.old.layout self.old.watchdog (replica_of self.old) thread ≡ Some (Calls call) }
+        requires countable { CanCount 1 self.old thread }
+        ensures program { SameProgram self.new self.old }
+        ensures answered { replica_of self.new ≡ record (replica_of self.old) { threads = changed_at (went_on call thread value) self.old.threads thread } }
+    {
+        self.replica.answer(thread, call, value);
     }
 }
 

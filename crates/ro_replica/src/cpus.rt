@@ -1,11 +1,15 @@
 //! Registers and pc of threads as they begin, and after an effect.
-ghost use Rattle.std.specs.Prelude.{◌≡◌, ◌<◌};
+ghost use Rattle.std.specs.Prelude.{ℕ, ◌≡◌, ◌<◌};
+ghost use Rattle.ro_kernel.specs.Serve.{answer_effect, goes_after};
 ghost use Rattle.ro_exec.specs.Registers.{register};
 ghost use Rattle.ro_exec.specs.Threads.{with_stack, first_cpu as first, made_cpu as made_of, goes_on, cpu_after};
 
-use ro_event::{Effect, Goes, Made};
+use ro_event::{Call, Effect, Goes, Made, Which};
 use ro_exec::{Cpu, EXIT_PLACE};
 use ro_limits::{FIRST_STACK, STACK_SIZE, STACK_STEP};
+
+/// The number of the register a0, in which calls are answered.
+const A0: u8 = 10;
 
 /// Where the first stack ends.
 const FIRST_STACK_END: u32 = FIRST_STACK + STACK_SIZE;
@@ -65,5 +69,24 @@ pub fn change(cpu: &mut Cpu, effect: &Effect)
     if let Some(answer) = effect.answer {
         cpu.put(effect.register, answer);
     }
+    cpu.pc = pc;
+}
+
+// Where a thread goes on behind a call.
+fn goes_after(which: Which) -> Goes
+    ensures { result ≡ goes_after which }
+{
+    match which {
+        Which::System(_) | Which::Atomic(_) => Goes::Next,
+        Which::Function(_) => Goes::Returns,
+    }
+}
+
+/// Does to a thread's registers and pc what the answer of a call does that does nothing else.
+pub(crate) fn answer(cpu: &mut Cpu, call: Call, value: u32)
+    ensures { (number : ℕ) → cpu.new ≡ cpu_after (answer_effect number call value) cpu.old }
+{
+    let pc = next_pc(goes_after(call.which), cpu);
+    cpu.put(A0, value);
     cpu.pc = pc;
 }

@@ -1,5 +1,5 @@
 //! Replicas.
-ghost use Rattle.std.specs.Prelude.{◌≡◌, ◌≤◌, OnOk};
+ghost use Rattle.std.specs.Prelude.{◌≡◌, ◌≤◌, OnOk, length};
 ghost use Rattle.ro_replica.specs.Replica.{stop_of, word_at};
 ghost use Rattle.ro_replica.specs.Views.{is_unstopped};
 ghost use Rattle.ro_replica.specs.Seen.{replica_of, Keeps};
@@ -56,6 +56,13 @@ impl Replica {
         ensures spare { OnOk result (count ≤ self.new.held.spare) }
     {
         self.pages.reserve(count)
+    }
+
+    /// How many threads were made.
+    pub fn thread_count(&self) -> u32
+        ensures { result ≡ length self.now.threads }
+    {
+        self.threads.len() as u32
     }
 
     /// Whether a thread was made and is not stopped.

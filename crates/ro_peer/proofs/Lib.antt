@@ -1,0 +1,7 @@
+pub mod Answering
+pub mod Forgetting
+pub mod Joining
+pub mod Parts
+pub mod Places
+pub mod Steps
+pub mod Winning

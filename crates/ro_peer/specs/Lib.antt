@@ -1,0 +1,5 @@
+pub mod Peers
+pub mod Gets
+pub mod Seen
+pub mod Leases
+pub mod Events

@@ -1,0 +1,108 @@
+//! The mutexes whose calls a peer answers.
+ghost use Rattle.std.specs.Prelude.{◌≡◌, ◌+◌, ◌<◌, ◌≤◌, ◌^◌, ◌∷◌, ◌++◌, [], true, IfOk, IfSome, Some, length, slice_get};
+ghost use Rattle.ro_replica.specs.Replica.{changed_at};
+ghost use Rattle.ro_peer.specs.Peers.{is_got, mutex_after};
+ghost use Rattle.ro_peer.specs.Seen.{number_of};
+
+use std::alloc::{AllocError, Global};
+use std::marker::Model;
+
+/// How many mutexes there can be, as in the kernel's table.
+const MOST: usize = 256;
+
+/// A mutex in a peer.
+#[derive(Clone, Copy, PartialEq, Eq, Debug)]
+pub struct Mutex {
+    pub address: u32,
+    /// The thread that holds it in this peer, if any.
+    pub owner: Option<u32>,
+    /// How often it was got in this peer.
+    pub rank: u32,
+}
+
+/// The mutexes whose calls a peer answers, in the order in which they were entered. There is room for 256 from the start, so
+/// that nothing later takes memory.
+#[derive(Drop)]
+pub struct Mutexes {
+    mutexes: Vec<Mutex>,
+}
+
+impl Model for Mutexes {
+    ghost use Rattle.std.specs.Prelude.{◌≤◌, List, length, vec_capacity};
+    ghost use Rattle.ro_peer.specs.declared.mutexes.Mutex.{Mutex};
+
+    ghost Value = { List Mutex };
+
+    ghost view = { λ m. m.mutexes.items };
+
+    ghost invariant = { λ m. (length m.mutexes.items ≤ 256) × (256 ≤ vec_capacity m.mutexes) };
+}
+
+impl Mutexes {
+    /// No mutexes.
+    ///
+    /// # Errors
+    /// Where there is no memory.
+    pub fn new(alloc: Global) -> Result<Mutexes, AllocError>
+        ensures { IfOk result (λ mutexes. mutexes ≡ []) }
+    {
+        let mutexes = Vec::with_capacity(alloc, MOST)?;
+        Ok(Mutexes { mutexes })
+    }
+
+    /// The number of the mutex at an address, if it was entered.
+    pub fn number(&self, address: u32) -> Option<u32>
+        ensures number { result ≡ number_of self.now address }
+        ensures within { IfSome result (λ number. (number < length self.now) × (number < 256)) }
+    {
+        for place in 0..self.mutexes.len() {
+            if self.mutexes[place].address == address {
+                return Some(place as u32);
+            }
+        }
+        None
+    }
+
+    /// The mutex of a number.
+    pub fn mutex(&self, number: u32) -> Mutex
+        requires { number < length self.now }
+        ensures { slice_get self.now number ≡ Some result }
+    {
+        self.mutexes[number as usize]
+    }
+
+    /// Changes the owner of a mutex, if there is a new one, and counts who gets it.
+    pub fn change(&mut self, number: u32, change: Option<Option<u32>>)
+        requires counted { IfSome (slice_get self.old number) (λ mutex. is_got change ≡ true → mutex.rank + 1 < 2 ^ 32) }
+        requires number { number < length self.old }
+        ensures { self.new ≡ changed_at (mutex_after change) self.old number }
+    {
+        change_mutex(&mut self.mutexes[number as usize], change);
+    }
+
+    /// Enters a mutex that nobody got so far.
+    pub fn enter(&mut self, address: u32, owner: Option<u32>)
+        requires { length self.old < 256 }
+        ensures { self.new ≡ self.old ++ record { address = address; owner = owner; rank = 0 } ∷ [] }
+    {
+        self.mutexes.push_reserved(Mutex {
+            address,
+            owner,
+            rank: 0,
+        });
+    }
+}
+
+// The same for one mutex.
+fn change_mutex(mutex: &mut Mutex, change: Option<Option<u32>>)
+    requires { is_got change ≡ true → mutex.old.rank + 1 < 2 ^ 32 }
+    ensures { mutex.new ≡ mutex_after change mutex.old }
+{
+    let Some(owner) = change else {
+        return;
+    };
+    mutex.owner = owner;
+    if owner.is_some() {
+        mutex.rank += 1;
+    }
+}

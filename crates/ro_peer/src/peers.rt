@@ -1,0 +1,49 @@
+//! Peers.
+ghost use Rattle.std.specs.Prelude.{◌≡◌, [], IfOk, false, replicate};
+
+use crate::mutexes::Mutexes;
+use ro_replica::ReplicaBox;
+use std::alloc::{AllocError, Global};
+
+/// How many threads a program may make.
+const THREADS: usize = ro_limits::MOST_THREADS as usize;
+
+/// A replica that answers the calls on some mutexes by itself.
+#[derive(Drop)]
+pub struct Peer {
+    pub(crate) replica: ReplicaBox,
+    pub(crate) mutexes: Mutexes,
+    /// Of each thread, whether the peer answered a call of it since the kernel last served one.
+    pub(crate) answered: [bool; THREADS],
+}
+
+impl Peer {
+    /// A peer that answers for no mutex so far.
+    ///
+    /// # Errors
+    /// Where there is no memory.
+    pub fn new(alloc: Global, replica: ReplicaBox) -> Result<Peer, AllocError>
+        ensures { IfOk result (λ peer. (peer.replica ≡ replica) × (peer.mutexes ≡ []) × (peer.answered ≡ replicate 16 false)) }
+    {
+        let mutexes = Mutexes::new(alloc)?;
+        Ok(Peer {
+            replica,
+            mutexes,
+            answered: [false; THREADS],
+        })
+    }
+
+    /// Its replica.
+    pub fn replica(&self) -> &ReplicaBox
+        ensures { result.now ≡ self.now.replica }
+    {
+        &self.replica
+    }
+
+    /// The mutexes that it answers for.
+    pub fn mutexes(&self) -> &Mutexes
+        ensures { result.now ≡ self.now.mutexes }
+    {
+        &self.mutexes
+    }
+}

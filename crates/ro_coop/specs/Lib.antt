@@ -1,0 +1,5 @@
+pub mod Core
+pub mod Sound
+pub mod Stuck
+pub mod Rowless
+pub mod Guests

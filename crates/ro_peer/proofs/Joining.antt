@@ -17,11 +17,11 @@ use Rattle.ro_peer.proofs.Steps.{Kept, run_kept, run_then}
 
 -- ---- rows
 
-in_more_rows : (one two : Rows) (gets : List Get) → ((address rank thread : ℕ) → one address rank ≡ Some thread → two address rank ≡ Some thread) → InRows one gets → InRows two gets
+pub in_more_rows : (one two : Rows) (gets : List Get) → ((address rank thread : ℕ) → one address rank ≡ Some thread → two address rank ≡ Some thread) → InRows one gets → InRows two gets
 in_more_rows one two [] more in_rows = tt
 in_more_rows one two (get ∷ gets) more in_rows = (more get.mutex get.rank get.thread in_rows.0, in_more_rows one two gets more in_rows.1)
 
-in_rows_both : (rows : Rows) (one two : List Get) → InRows rows one → InRows rows two → InRows rows (one ++ two)
+pub in_rows_both : (rows : Rows) (one two : List Get) → InRows rows one → InRows rows two → InRows rows (one ++ two)
 in_rows_both rows [] two first rest = rest
 in_rows_both rows (get ∷ one) two first rest = (first.0, in_rows_both rows one two first.1 rest)
 

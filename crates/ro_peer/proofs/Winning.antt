@@ -25,12 +25,12 @@ pub wins_nothing : (won : Won) (mutexes : List Mutex) (gets : List Get) → Wins
 wins_nothing won mutexes gets number rank thread is = inl is
 
 -- in the first of two lists, and in the second
-among_first : (mutexes : List Mutex) (one two : List Get) (number rank thread : ℕ) → IsAmong mutexes one number rank thread → IsAmong mutexes (one ++ two) number rank thread
+pub among_first : (mutexes : List Mutex) (one two : List Get) (number rank thread : ℕ) → IsAmong mutexes one number rank thread → IsAmong mutexes (one ++ two) number rank thread
 among_first mutexes [] two number rank thread is = absurd is
 among_first mutexes (get ∷ one) two number rank thread (inl here) = inl here
 among_first mutexes (get ∷ one) two number rank thread (inr later) = inr (among_first mutexes one two number rank thread later)
 
-among_second : (mutexes : List Mutex) (one two : List Get) (number rank thread : ℕ) → IsAmong mutexes two number rank thread → IsAmong mutexes (one ++ two) number rank thread
+pub among_second : (mutexes : List Mutex) (one two : List Get) (number rank thread : ℕ) → IsAmong mutexes two number rank thread → IsAmong mutexes (one ++ two) number rank thread
 among_second mutexes [] two number rank thread is = is
 among_second mutexes (get ∷ one) two number rank thread is = inr (among_second mutexes one two number rank thread is)
 

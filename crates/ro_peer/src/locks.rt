@@ -21,11 +21,17 @@ pub trait Locks {
     // The thread of each rank of each mutex, by the mutex's number, as far as it is known.
     ghost rows: { Self → Rows };
 
+    // What asking leaves as it was.
+    ghost Stays: { Type 0 } = { Unit {0} };
+
+    ghost stays: { Self → Self.Stays };
+
     /// Decides a rank of a mutex for a thread if it was decided for none, and answers whether it is the thread's.
     fn decide(&mut self, number: u32, rank: u32, thread: u32) -> Decision
         requires number { number < 256 }
         requires thread { thread < 16 }
         ensures keeps { (other at owner : ℕ) → rows self.old other at ≡ Some owner → rows self.new other at ≡ Some owner }
         ensures asker { result ≡ Decision.Asker → rows self.new number rank ≡ Some thread }
+        ensures stays { stays self.new ≡ stays self.old }
         ensures wins { (other at owner : ℕ) → won self.new other at owner → won self.old other at owner ⊎ ((result ≡ Decision.Asker) × (other ≡ number) × (at ≡ rank) × (owner ≡ thread)) };
 }

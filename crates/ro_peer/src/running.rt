@@ -65,6 +65,7 @@ impl Peer {
         ensures faultless { self.new.replica.waiting ≡ [] }
         ensures runs { PeerRuns self.old.replica.layout self.old.replica.watchdog quantum thread (L.rows locks.new) (peer_of self.old) (peer_of self.new) result.count result.came }
         ensures keeps { KeepsRows (L.rows locks.old) (L.rows locks.new) }
+        ensures stays { L.stays locks.new ≡ L.stays locks.old }
         ensures wins { Wins (L.won locks.old) (L.won locks.new) self.old.mutexes (got_in self.old.replica.layout self.old.replica.watchdog result.count (peer_of self.old) thread) }
     {
         let mut count = 0;
@@ -86,6 +87,7 @@ impl Peer {
         ensures faultless { self.new.replica.waiting ≡ [] }
         ensures goes { GoesOn self.old.replica.layout self.old.replica.watchdog most thread (L.rows locks.new) (peer_of self.old) (peer_of self.new) result.count result.came }
         ensures keeps { KeepsRows (L.rows locks.old) (L.rows locks.new) }
+        ensures stays { L.stays locks.new ≡ L.stays locks.old }
         ensures wins { Wins (L.won locks.old) (L.won locks.new) self.old.mutexes (got_in self.old.replica.layout self.old.replica.watchdog result.count (peer_of self.old) thread) }
     {
         let ran = self.replica.run(thread, most);
@@ -142,6 +144,7 @@ impl Peer {
         ensures waiting { self.new.replica.waiting ≡ self.old.replica.waiting }
         ensures meets { Meets self.old.replica.layout self.old.replica.watchdog thread (L.rows locks.new) (peer_of self.old) (peer_of self.new) result }
         ensures keeps { KeepsRows (L.rows locks.old) (L.rows locks.new) }
+        ensures stays { L.stays locks.new ≡ L.stays locks.old }
         ensures wins { Wins (L.won locks.old) (L.won locks.new) self.old.mutexes (met_gets result (get_of self.old.replica.layout (peer_of self.old) thread)) }
     {
         let mutex = self.mutexes.mutex(own.number);
@@ -179,6 +182,7 @@ fn permit<L: Locks>(
     requires thread { thread < 16 }
     ensures permits { Permits (L.rows locks.new) change number rank thread result }
     ensures keeps { KeepsRows (L.rows locks.old) (L.rows locks.new) }
+    ensures stays { L.stays locks.new ≡ L.stays locks.old }
     ensures wins { (other at owner : ℕ) → L.won locks.new other at owner → L.won locks.old other at owner ⊎ ((result ≡ None) × (is_got change ≡ true) × (other ≡ number) × (at ≡ rank) × (owner ≡ thread)) }
 {
     let Some(Some(_)) = change else {

@@ -50,6 +50,8 @@ impl Locks for All {
 
     ghost rows = { λ all number rank. Some all.thread };
 
+    ghost stays = { λ all. tt };
+
     fn decide(&mut self, _number: u32, _rank: u32, thread: u32) -> Decision {
         if thread == self.thread {
             Decision::Asker

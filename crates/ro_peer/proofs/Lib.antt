@@ -1,5 +1,6 @@
 pub mod Answering
 pub mod Forgetting
+pub mod Indexing
 pub mod Joining
 pub mod Parts
 pub mod Places

@@ -1,10 +1,8 @@
 -- Mutexes by their addresses and by their numbers.
-use Rattle.std.specs.Prelude.{◌≡◌, ℕ, zero, suc, ◌+◌, ◌<◌, Bool, true, false, cond, ◌==◌, List, [], ◌∷◌, length, Option, Some, None, slice_get, slice_set, slice_index_or, drop}
+use Rattle.std.specs.Prelude.{◌≡◌, ℕ, zero, suc, ◌<◌, Bool, true, false, cond, ◌==◌, List, [], ◌∷◌, length, Option, Some, None, slice_get}
 use Rattle.std.specs.Option.{option_map}
-use Rattle.std.proofs.Common.{refl, sym, ap, ◌∙◌, subst, arith}
-use Rattle.std.proofs.lemmas.Option.{slice_get_read}
+use Rattle.std.proofs.Common.{refl, ap, ◌∙◌, arith}
 use Rattle.ro_replica.specs.Replica.{changed_at}
-use Rattle.ro_replica.proofs.Elements.{changed_is_set}
 use Rattle.ro_peer.specs.declared.mutexes.Mutex.{Mutex}
 use Rattle.ro_peer.specs.Peers.{mutex_in, mutex_after, with_mutex}
 use Rattle.ro_peer.specs.Seen.{number_of}
@@ -53,7 +51,7 @@ changed_there change (first ∷ mutexes) address number e = by (first.address ==
     by false (Some i) n rest (suc k) e = let same : suc i ≡ suc k = cc in let is : i ≡ k = omega arith in ap {B = List _} (λ ms. first ∷ ms) (rest k (n ∙ ap Some is))
 
 -- a change leaves the address
-after_address : (change : Option (Option ℕ)) (m : Mutex) → (mutex_after change m).address ≡ m.address
+pub after_address : (change : Option (Option ℕ)) (m : Mutex) → (mutex_after change m).address ≡ m.address
 after_address None m = refl
 after_address (Some owner) m = refl
 
@@ -65,17 +63,3 @@ numbers_kept change (first ∷ mutexes) address other = by (first.address == add
     by : (b : Bool) → number_of (with_mutex mutexes address change) other ≡ number_of mutexes other → number_of (cond b (mutex_after change first ∷ mutexes) (first ∷ with_mutex mutexes address change)) other ≡ number_of (first ∷ mutexes) other
     by true rest = ap (λ (a : ℕ). cond (a == other) (Some 0) (option_map suc (number_of mutexes other))) (after_address change first)
     by false rest = ap (λ (o : Option ℕ). cond (first.address == other) (Some 0) (option_map suc o)) rest
-
--- ---- the look-up
-
--- so far none has the address
-abbrev pub SearchedTo : List Mutex → (address place : ℕ) → Type 0
-SearchedTo mutexes address place = number_of mutexes address ≡ option_map (λ n. place + n) (number_of (drop place mutexes) address)
-
--- a mutex in its place becomes what a change makes of it
-pub mutex_changed : (value old : List Mutex) (number : ℕ) (m n : Mutex) (change : Option (Option ℕ)) → value ≡ old → number < length old → m ≡ slice_index_or value number m → n ≡ mutex_after change m → slice_set value number n ≡ changed_at (mutex_after change) old number
-mutex_changed value old number m n change same within read is =
-    let inside : number < length value = subst (λ (v : List Mutex). number < length v) (sym same) within in
-    ap (slice_set value number) is
-    ∙ sym (changed_is_set (mutex_after change) value number m (slice_get_read value (length value) number m refl inside read))
-    ∙ ap (λ (v : List Mutex). changed_at (mutex_after change) v number) same

@@ -1,9 +1,11 @@
 //! The mutexes whose calls a peer answers.
 ghost use Rattle.std.specs.Prelude.{◌≡◌, ◌+◌, ◌<◌, ◌≤◌, ◌^◌, ◌∷◌, ◌++◌, [], true, IfOk, IfSome, Some, length, slice_get};
 ghost use Rattle.ro_replica.specs.Replica.{changed_at};
+ghost use Rattle.ro_peer.specs.Indexed.{IsNextCopy};
 ghost use Rattle.ro_peer.specs.Peers.{is_got, mutex_after};
 ghost use Rattle.ro_peer.specs.Seen.{number_of};
 
+use indexmap::IndexMap;
 use std::alloc::{AllocError, Global};
 use std::marker::Model;
 
@@ -20,22 +22,32 @@ pub struct Mutex {
     pub rank: u32,
 }
 
+/// By what a mutex is looked up.
+#[derive(Clone, Copy, PartialEq, Eq, Hash)]
+struct MutexKey {
+    address: u32,
+    /// 0 for the first mutex that was entered at its address, which is the one that is found there; its place for each later one.
+    copy: u32,
+}
+
 /// The mutexes whose calls a peer answers, in the order in which they were entered. There is room for 256 from the start, so
 /// that nothing later takes memory.
 #[derive(Drop)]
 pub struct Mutexes {
-    mutexes: Vec<Mutex>,
+    mutexes: IndexMap<MutexKey, Mutex>,
 }
 
 impl Model for Mutexes {
-    ghost use Rattle.std.specs.Prelude.{◌≤◌, List, length, vec_capacity};
+    ghost use Rattle.std.specs.Prelude.{◌≤◌, ◌+◌, List};
+    ghost use Rattle.indexmap.specs.IndexMap.{index_map_len, spare, values};
+    ghost use Rattle.ro_peer.specs.Indexed.{IsIndexed};
     ghost use Rattle.ro_peer.specs.declared.mutexes.Mutex.{Mutex};
 
     ghost Value = { List Mutex };
 
-    ghost view = { λ m. m.mutexes.items };
+    ghost view = { λ m. values m.mutexes };
 
-    ghost invariant = { λ m. (length m.mutexes.items ≤ 256) × (256 ≤ vec_capacity m.mutexes) };
+    ghost invariant = { λ m. (index_map_len m.mutexes ≤ 256) × (256 ≤ index_map_len m.mutexes + spare m.mutexes) × IsIndexed m.mutexes.entries };
 }
 
 impl Mutexes {
@@ -43,10 +55,11 @@ impl Mutexes {
     ///
     /// # Errors
     /// Where there is no memory.
+    #[tactic(auto, using(crate::proofs::Indexing::of_keys))]
     pub fn new(alloc: Global) -> Result<Mutexes, AllocError>
         ensures { IfOk result (λ mutexes. mutexes ≡ []) }
     {
-        let mutexes = Vec::with_capacity(alloc, MOST)?;
+        let mutexes = IndexMap::with_capacity(alloc, MOST)?;
         Ok(Mutexes { mutexes })
     }
 
@@ -55,12 +68,10 @@ impl Mutexes {
         ensures number { result ≡ number_of self.now address }
         ensures within { IfSome result (λ number. (number < length self.now) × (number < 256)) }
     {
-        for place in 0..self.mutexes.len() {
-            if self.mutexes[place].address == address {
-                return Some(place as u32);
-            }
+        match self.mutexes.get_index_of(&MutexKey { address, copy: 0 }) {
+            Some(place) => Some(place as u32),
+            None => None,
         }
-        None
     }
 
     /// The mutex of a number.
@@ -85,11 +96,25 @@ impl Mutexes {
         requires { length self.old < 256 }
         ensures { self.new ≡ self.old ++ record { address = address; owner = owner; rank = 0 } ∷ [] }
     {
-        self.mutexes.push_reserved(Mutex {
+        let copy = self.next_copy(address);
+        let mutex = Mutex {
             address,
             owner,
             rank: 0,
-        });
+        };
+        self.mutexes
+            .insert(MutexKey { address, copy }, mutex)
+            .unwrap();
+    }
+
+    // The copy of the next mutex at an address.
+    fn next_copy(&self, address: u32) -> u32
+        ensures { IsNextCopy self.now address result }
+    {
+        match self.number(address) {
+            None => 0,
+            Some(_) => self.mutexes.len() as u32,
+        }
     }
 }
 

@@ -182,7 +182,7 @@ meets_refused layout watchdog thread rows peer call number m change value came s
 
     by : (came : Option Came) → Permits rows change number m.rank thread came → is_some came ≡ true → Meets layout watchdog thread rows peer peer came
     by None permits some = absurd (cc)
-    by (Some Row) got some = (refl, (m, at_lock got, free got))
+    by (Some Row) permits some = (refl, (m, at_lock permits.0, free permits.0, permits.1))
     by (Some Full) permits some = (refl, (m, at_lock permits.0, free permits.0, permits.1))
     by (Some Quantum) permits some = absurd permits
     by (Some (Stopped stop)) permits some = absurd permits

@@ -23,11 +23,12 @@ pub record IsAtLock (layout : Layout) (watchdog thread : ℕ) (peer : Peer) (mut
   pub locks : call.which ≡ Function Lock
   pub own : mutex_in peer.mutexes call.a0 ≡ Some mutex
 
--- why a lock was not answered: another thread owns the mutex; it is free, and the row is not the thread's, or it was got as often as is counted
+-- why a lock was not answered: another thread owns the mutex; it is free, and can be got once more; it is free, and was got as often as is counted
 abbrev pub LockWaits : Layout → (watchdog thread : ℕ) → Peer → Came → Type 0
 LockWaits layout watchdog thread peer Owned =
     (mutex : Mutex) × IsAtLock layout watchdog thread peer mutex × (owner : ℕ) × (mutex.owner ≡ Some owner) × (owner ≢ thread)
-LockWaits layout watchdog thread peer Row = (mutex : Mutex) × IsAtLock layout watchdog thread peer mutex × (mutex.owner ≡ None)
+LockWaits layout watchdog thread peer Row =
+    (mutex : Mutex) × IsAtLock layout watchdog thread peer mutex × (mutex.owner ≡ None) × (mutex.rank + 1 < 2 ^ 32)
 LockWaits layout watchdog thread peer Full =
     (mutex : Mutex) × IsAtLock layout watchdog thread peer mutex × (mutex.owner ≡ None) × (mutex.rank + 1 ≡ 2 ^ 32)
 LockWaits layout watchdog thread peer came = ⊥
@@ -89,7 +90,7 @@ Meets layout watchdog thread rows old new (Some came) = (new ≡ old) × LockWai
 -- Whether a change may be made: where a thread gets the mutex by it, the row is known to be its own, and its rank is counted.
 abbrev pub Permits : Rows → Option (Option ℕ) → (number rank thread : ℕ) → Option Came → Type 0
 Permits rows change number rank thread None = is_got change ≡ true → (rank + 1 < 2 ^ 32) × (rows number rank ≡ Some thread)
-Permits rows change number rank thread (Some Row) = is_got change ≡ true
+Permits rows change number rank thread (Some Row) = (is_got change ≡ true) × (rank + 1 < 2 ^ 32)
 Permits rows change number rank thread (Some Full) = (is_got change ≡ true) × (rank + 1 ≡ 2 ^ 32)
 Permits rows change number rank thread (Some came) = ⊥
 

@@ -24,7 +24,7 @@ pub enum Came {
     Stopped(Stop),
     /// It stands at the lock of a mutex that another thread owns.
     Owned,
-    /// It stands at the lock of a free mutex, and another thread gets it first.
+    /// It stands at the lock of a free mutex that can be got once more.
     Row,
     /// It stands at the lock of a free mutex that was got as often as is counted.
     Full,

@@ -1,5 +1,5 @@
 -- Mutexes by the keys of a map and by their addresses.
-use Rattle.std.specs.Prelude.{◌≡◌, ℕ, zero, suc, ◌+◌, ◌<◌, ◌≤◌, Bool, true, false, cond, is_some, ◌&&◌, ◌==◌, List, [], ◌∷◌, ◌++◌, length, position, Option, Some, None, MatchOption, slice_get, OnOk, IsOk}
+use Rattle.std.specs.Prelude.{◌≡◌, ℕ, zero, suc, ◌+◌, ◌<◌, ◌≤◌, Bool, true, false, cond, is_some, ◌&&◌, ◌==◌, List, [], ◌∷◌, ◌++◌, length, position, Option, Some, None, nat_eq, slice_get, OnOk, IsOk}
 use Rattle.std.specs.Option.{option_map}
 use Rattle.std.specs.List.{position_from}
 use Rattle.std.specs.Map.{keys_of, values_of, lookup}
@@ -10,14 +10,13 @@ use Rattle.indexmap.proofs.CallerLemmas.{insert_entry-new, index_map_len-with_va
 use Rattle.indexmap.proofs.MapLemmas.{some_index}
 use Rattle.ro_replica.specs.Replica.{changed_at}
 use Rattle.ro_peer.specs.declared.mutexes.Mutex.{Mutex}
-use Rattle.ro_peer.specs.declared.mutexes.MutexKey.{MutexKey}
 use Rattle.ro_peer.specs.Peers.{mutex_after}
 use Rattle.ro_peer.specs.Seen.{number_of}
-use Rattle.ro_peer.specs.Indexed.{is_key, first_key, IsNextCopy, CopiesBelow, IsIndexed}
+use Rattle.ro_peer.specs.Indexed.{IsIndexed}
 use Rattle.ro_peer.proofs.Places.{after_address}
 
 abbrev pub Entries : Type 0
-Entries = List (MutexKey × Mutex)
+Entries = List (ℕ × Mutex)
 
 -- ---- keys and values of entries
 
@@ -29,15 +28,15 @@ pub length_values : (entries : Entries) → length (values_of entries) ≡ lengt
 length_values [] = refl
 length_values (e ∷ entries) = ap suc (length_values entries)
 
-length_more : (entries : Entries) (e : MutexKey × Mutex) → length (entries ++ e ∷ []) ≡ suc (length entries)
+length_more : (entries : Entries) (e : ℕ × Mutex) → length (entries ++ e ∷ []) ≡ suc (length entries)
 length_more [] e = refl
 length_more (x ∷ entries) e = ap suc (length_more entries e)
 
-keys_more : (entries : Entries) (e : MutexKey × Mutex) → keys_of (entries ++ e ∷ []) ≡ keys_of entries ++ e.0 ∷ []
+keys_more : (entries : Entries) (e : ℕ × Mutex) → keys_of (entries ++ e ∷ []) ≡ keys_of entries ++ e.0 ∷ []
 keys_more [] e = refl
 keys_more (x ∷ entries) e = ap {B = List _} (λ ks. x.0 ∷ ks) (keys_more entries e)
 
-values_more : (entries : Entries) (e : MutexKey × Mutex) → values_of (entries ++ e ∷ []) ≡ values_of entries ++ e.1 ∷ []
+values_more : (entries : Entries) (e : ℕ × Mutex) → values_of (entries ++ e ∷ []) ≡ values_of entries ++ e.1 ∷ []
 values_more [] e = refl
 values_more (x ∷ entries) e = ap {B = List _} (λ ms. x.1 ∷ ms) (values_more entries e)
 
@@ -88,124 +87,67 @@ number_more (x ∷ mutexes) m address = by (x.address == address) (number_of mut
     by false None true rest = ap (option_map suc) rest
     by false None false rest = ap (option_map suc) rest
 
--- at an address that has none so far, the last is found
-last_found : (mutexes : List Mutex) (address copy : ℕ) → (number_of mutexes address ≡ None → copy ≡ 0) → (a : ℕ)
-    → or_last (number_of mutexes a) ((a == address) && (0 == copy)) (length mutexes) ≡ or_last (number_of mutexes a) (address == a) (length mutexes)
-unfolding or_last
-last_found mutexes address copy is_first a = by (number_of mutexes a) refl (a == address) refl
-  where
-    choice : Bool → Option ℕ
-    choice b = cond b (Some (length mutexes)) None
-
-    by : (o : Option ℕ) → number_of mutexes a ≡ o → (b : Bool) → (a == address) ≡ b → or_last o (b && (0 == copy)) (length mutexes) ≡ or_last o (address == a) (length mutexes)
-    by (Some i) at b e = refl
-    by None at true e =
-        let same : a ≡ address = eqb-true a address e in
-        let none : copy ≡ 0 = is_first (ap (number_of mutexes) (sym same) ∙ at) in
-        ap choice (eq-eqb 0 copy (sym none) ∙ sym (eq-eqb address a (sym same)))
-    by None at false e =
-        ap choice (sym (ne_eqb address a (λ same. let both : (a == address) ≡ true = eq-eqb a address (sym same) in let bad : true ≡ false = sym both ∙ e in cc)))
-
 -- ---- a new key
 
-no_copy : (n address : ℕ) (entries : Entries) → CopiesBelow n (keys_of entries) → lookup (is_key (record { address = address; copy = n })) entries ≡ None
-no_copy n address [] below = refl
-no_copy n address (e ∷ entries) below =
-    let small : e.0.copy < n = below.0 in
-    let other : (n == e.0.copy) ≡ false = ne_eqb n e.0.copy (λ same. let is : n ≡ e.0.copy = same in omega (arith, is, small)) in
-    ap (λ (b : Bool). cond ((address == e.0.address) && b) (Some e.1) (lookup (is_key (record { address = address; copy = n })) entries)) other
-    ∙ by (address == e.0.address) (no_copy n address entries below.1)
+flip : (a b : ℕ) → (a == b) ≡ (b == a)
+flip a b = by (a == b) refl
   where
-    by : (b : Bool) → lookup (is_key (record { address = address; copy = n })) entries ≡ None → cond (b && false) (Some e.1) (lookup (is_key (record { address = address; copy = n })) entries) ≡ None
-    by true rest = rest
-    by false rest = rest
+    by : (c : Bool) → (a == b) ≡ c → (a == b) ≡ (b == a)
+    by true e = e ∙ sym (eq-eqb b a (sym (eqb-true a b e)))
+    by false e = e ∙ sym (ne_eqb b a (λ same. let bad : true ≡ false = sym (eq-eqb a b (sym same)) ∙ e in cc))
 
 none_is : {X : Type 0} (o : Option X) → is_some o ≡ false → o ≡ None
 none_is None e = refl
 none_is (Some x) e = absurd (cc)
 
-is_new : (entries : Entries) (address copy : ℕ) → IsIndexed entries → IsNextCopy (values_of entries) address copy → lookup (is_key (record { address = address; copy = copy })) entries ≡ None
-is_new entries address copy indexed next = by (number_of (values_of entries) address) refl next
-  where
-    with_copy : ℕ → Type 0
-    with_copy n = lookup (is_key (record { address = address; copy = n })) entries ≡ None
+is_new : (entries : Entries) (address : ℕ) → IsIndexed entries → number_of (values_of entries) address ≡ None → lookup (nat_eq address) entries ≡ None
+is_new entries address indexed none =
+    none_is (lookup (nat_eq address) entries) (sym (some_index (nat_eq address) entries) ∙ ap is_some (indexed.found address ∙ none))
 
-    by : (o : Option ℕ) → number_of (values_of entries) address ≡ o → MatchOption o (copy ≡ 0) (λ number. copy ≡ length (values_of entries)) → with_copy copy
-    by None at is =
-        subst with_copy (sym is) (none_is (lookup (is_key (first_key address)) entries) (sym (some_index (is_key (first_key address)) entries) ∙ ap is_some (indexed.found address ∙ at)))
-    by (Some i) at is = subst with_copy (sym (is ∙ length_values entries)) (no_copy (length entries) address entries indexed.copies)
-
-copies_more : (n : ℕ) (keys : List MutexKey) (key : MutexKey) → CopiesBelow n keys → key.copy < suc n → CopiesBelow (suc n) (keys ++ key ∷ [])
-copies_more n [] key below small = (small, tt)
-copies_more n (k ∷ keys) key below small =
-    let less : k.copy < n = below.0 in
-    let more : k.copy < suc n = omega (arith, less) in (more, copies_more n keys key below.1 small)
-
-copy_small : (entries : Entries) (address copy : ℕ) → IsNextCopy (values_of entries) address copy → copy < suc (length entries)
-copy_small entries address copy next = by (number_of (values_of entries) address) next
-  where
-    by : (o : Option ℕ) → MatchOption o (copy ≡ 0) (λ number. copy ≡ length (values_of entries)) → copy < suc (length entries)
-    by None is = let zero : copy ≡ 0 = is in omega (arith, zero)
-    by (Some i) is = let all : copy ≡ length entries = is ∙ length_values entries in omega (arith, all)
-
-more_indexed : (entries : Entries) (address copy : ℕ) (m : Mutex) → m.address ≡ address → IsIndexed entries → IsNextCopy (values_of entries) address copy → IsIndexed (entries ++ (record { address = address; copy = copy }, m) ∷ [])
-more_indexed entries address copy m its indexed next = record {
+more_indexed : (entries : Entries) (m : Mutex) → IsIndexed entries → IsIndexed (entries ++ (m.address, m) ∷ [])
+more_indexed entries m indexed = record {
   found = λ a.
-      ap (position (is_key (first_key a))) (keys_more entries e)
-      ∙ position_more (is_key (first_key a)) (keys_of entries) key
-      ∙ ap (λ (o : Option ℕ). or_last o ((a == address) && (0 == copy)) (length (keys_of entries))) (indexed.found a)
-      ∙ ap (or_last (number_of ms a) ((a == address) && (0 == copy))) (length_keys entries ∙ sym (length_values entries))
-      ∙ last_found ms address copy is_first a
-      ∙ ap (λ (n : ℕ). or_last (number_of ms a) (n == a) (length ms)) (sym its)
+      ap (position (nat_eq a)) (keys_more entries (m.address, m))
+      ∙ position_more (nat_eq a) (keys_of entries) m.address
+      ∙ ap (λ (o : Option ℕ). or_last o (a == m.address) (length (keys_of entries))) (indexed.found a)
+      ∙ ap (or_last (number_of ms a) (a == m.address)) (length_keys entries ∙ sym (length_values entries))
+      ∙ ap (λ (b : Bool). or_last (number_of ms a) b (length ms)) (flip a m.address)
       ∙ sym (number_more ms m a)
-      ∙ ap (λ (xs : List Mutex). number_of xs a) (sym (values_more entries e));
-  copies = subst (λ (n : ℕ). CopiesBelow n (keys_of (entries ++ e ∷ []))) (sym (length_more entries e)) (subst (CopiesBelow (suc (length entries))) (sym (keys_more entries e)) (copies_more (length entries) (keys_of entries) key indexed.copies (copy_small entries address copy next)));
+      ∙ ap (λ (xs : List Mutex). number_of xs a) (sym (values_more entries (m.address, m)));
 }
   where
-    key : MutexKey
-    key = record { address = address; copy = copy }
-
-    e : MutexKey × Mutex
-    e = (key, m)
-
     ms : List Mutex
     ms = values_of entries
-
-    is_first : number_of ms address ≡ None → copy ≡ 0
-    is_first none = subst (λ (o : Option ℕ). MatchOption o (copy ≡ 0) (λ number. copy ≡ length ms)) none next
 
 on_ok : {T E P : Type 0} (r : Result T E) → IsOk r → OnOk r P → P
 on_ok (Ok x) ok p = p
 on_ok (Err e) ok p = absurd (cc)
 
 -- a map behind an insertion
-pub entered : {S E : Type 0} (old new : IndexMap MutexKey Mutex S) (r : Result (Option Mutex) E) (ms : List Mutex) (address copy : ℕ) (m : Mutex)
-    → values old ≡ ms → m.address ≡ address → length ms < 256 → IsNextCopy ms address copy
-    → (0 < spare old → IsOk r) → OnOk r (new.entries ≡ insert_entry is_key old.entries (record { address = address; copy = copy }) m) → spare old ≤ spare new + 1
+pub entered : {S E : Type 0} (old new : IndexMap ℕ Mutex S) (r : Result (Option Mutex) E) (ms : List Mutex) (m : Mutex)
+    → values old ≡ ms → length ms < 256 → number_of ms m.address ≡ None
+    → (0 < spare old → IsOk r) → OnOk r (new.entries ≡ insert_entry nat_eq old.entries m.address m) → spare old ≤ spare new + 1
     → (index_map_len old ≤ 256) × (256 ≤ index_map_len old + spare old) × IsIndexed old.entries
     → ((index_map_len new ≤ 256) × (256 ≤ index_map_len new + spare new) × IsIndexed new.entries) × (values new ≡ ms ++ m ∷ [])
-entered old new r ms address copy m view its few next succeeds is spared holds =
+entered old new r ms m view few none succeeds is spared holds =
     let len : index_map_len old ≡ length ms = sym (length_values old.entries) ∙ ap length view in
     let small : index_map_len old < 256 = subst (λ (n : ℕ). n < 256) (sym len) few in
     let room : 256 ≤ index_map_len old + spare old = holds.1 in
     let some : 0 < spare old = omega (arith, small, room) in
-    let before : IsNextCopy (values old) address copy = subst (λ (xs : List Mutex). IsNextCopy xs address copy) (sym view) next in
-    let entries : new.entries ≡ old.entries ++ (key, m) ∷ [] = on_ok r (succeeds some) is ∙ insert_entry-new is_key old key m (is_new old.entries address copy holds.2 before) in
-    let more : index_map_len new ≡ suc (index_map_len old) = ap length entries ∙ length_more old.entries (key, m) in
+    let before : number_of (values old) m.address ≡ None = ap (λ (xs : List Mutex). number_of xs m.address) view ∙ none in
+    let entries : new.entries ≡ old.entries ++ (m.address, m) ∷ [] = on_ok r (succeeds some) is ∙ insert_entry-new nat_eq old m.address m (is_new old.entries m.address holds.2 before) in
+    let more : index_map_len new ≡ suc (index_map_len old) = ap length entries ∙ length_more old.entries (m.address, m) in
     let within : index_map_len new ≤ 256 = omega (arith, more, small) in
     let left : spare old ≤ spare new + 1 = spared in
     let still : 256 ≤ index_map_len new + spare new = omega (arith, more, room, left) in (
-      (within, still, subst IsIndexed (sym entries) (more_indexed old.entries address copy m its holds.2 before)),
-      ap values_of entries ∙ values_more old.entries (key, m) ∙ ap (λ (xs : List Mutex). xs ++ m ∷ []) view,
+      (within, still, subst IsIndexed (sym entries) (more_indexed old.entries m holds.2)),
+      ap values_of entries ∙ values_more old.entries (m.address, m) ∙ ap (λ (xs : List Mutex). xs ++ m ∷ []) view,
     )
-  where
-    key : MutexKey
-    key = record { address = address; copy = copy }
 
 -- ---- no key, and a change
 
 pub none_indexed : (entries : Entries) → entries ≡ [] → IsIndexed entries
-none_indexed entries none = subst IsIndexed (sym none) (record { found = λ a. refl; copies = tt })
+none_indexed entries none = subst IsIndexed (sym none) (record { found = λ a. refl })
 
 changed_numbers : (change : Option (Option ℕ)) (mutexes : List Mutex) (place address : ℕ) → number_of (changed_at (mutex_after change) mutexes place) address ≡ number_of mutexes address
 changed_numbers change [] place address = refl
@@ -216,17 +158,15 @@ changed_indexed : (change : Option (Option ℕ)) (entries : Entries) (place : �
 changed_indexed change entries place m at indexed =
     let now = set_value_at entries place (mutex_after change m) in
     let keys : keys_of now ≡ keys_of entries = keys_set entries place (mutex_after change m) in
-    let len : length now ≡ length entries = sym (length_keys now) ∙ ap length keys ∙ length_keys entries in
     record {
       found = λ a.
-          ap (position (is_key (first_key a))) keys
+          ap (position (nat_eq a)) keys
           ∙ indexed.found a
           ∙ sym (changed_numbers change (values_of entries) place a)
           ∙ ap (λ (ms : List Mutex). number_of ms a) (sym (values_set (mutex_after change) entries place m at));
-      copies = subst (λ (n : ℕ). CopiesBelow n (keys_of now)) (sym len) (subst (CopiesBelow (length entries)) (sym keys) indexed.copies);
     }
 
-pub changed_keeps : {S : Type 0} (map : IndexMap MutexKey Mutex S) (place : ℕ) (m n : Mutex) (change : Option (Option ℕ)) → slice_get (values map) place ≡ Some m → n ≡ mutex_after change m
+pub changed_keeps : {S : Type 0} (map : IndexMap ℕ Mutex S) (place : ℕ) (m n : Mutex) (change : Option (Option ℕ)) → slice_get (values map) place ≡ Some m → n ≡ mutex_after change m
     → (index_map_len map ≤ 256) × (256 ≤ index_map_len map + spare map) × IsIndexed map.entries
     → (index_map_len (with_value_at map place n) ≤ 256) × (256 ≤ index_map_len (with_value_at map place n) + spare map) × IsIndexed (with_value_at map place n).entries
 changed_keeps map place m n change at is holds =
@@ -236,7 +176,7 @@ changed_keeps map place m n change at is holds =
       subst (λ (x : Mutex). IsIndexed (set_value_at map.entries place x)) (sym is) (changed_indexed change map.entries place m at holds.2),
     )
 
-pub changed_values : {S : Type 0} (map : IndexMap MutexKey Mutex S) (old : List Mutex) (place : ℕ) (m n : Mutex) (change : Option (Option ℕ)) → values map ≡ old → slice_get (values map) place ≡ Some m → n ≡ mutex_after change m
+pub changed_values : {S : Type 0} (map : IndexMap ℕ Mutex S) (old : List Mutex) (place : ℕ) (m n : Mutex) (change : Option (Option ℕ)) → values map ≡ old → slice_get (values map) place ≡ Some m → n ≡ mutex_after change m
     → values (with_value_at map place n) ≡ changed_at (mutex_after change) old place
 changed_values map old place m n change view at is =
     ap (λ (x : Mutex). values_of (set_value_at map.entries place x)) is

@@ -1,9 +1,9 @@
 //! What an event does to a peer.
-ghost use Rattle.std.specs.Prelude.{◌≡◌, ◌<◌, ◌≤◌, OnOk, length, map};
+ghost use Rattle.std.specs.Prelude.{◌≡◌, ◌<◌, ◌≤◌, None, OnOk, length, map};
 ghost use Rattle.ro_replica.specs.Replica.{changed_at};
 ghost use Rattle.ro_replica.specs.Seen.{replica_of, CanApply, Keeps, SameProgram, Widens};
 ghost use Rattle.ro_peer.specs.Gets.{is_own_call};
-ghost use Rattle.ro_peer.specs.Seen.{peer_of};
+ghost use Rattle.ro_peer.specs.Seen.{number_of, peer_of};
 ghost use Rattle.ro_peer.specs.Events.{affected, entering, unanswered, with_entered, without_own};
 
 use crate::mutexes::Mutexes;
@@ -35,9 +35,10 @@ impl Peer {
         self.replica.apply(effect);
     }
 
-    /// Answers for a mutex from now on, and forgets the stops at calls that it answers itself.
+    /// Answers for a mutex more from now on, and forgets the stops at calls that it answers itself.
     pub fn enter(&mut self, address: u32, owner: Option<u32>)
-        requires { length self.old.mutexes < 256 }
+        requires room { length self.old.mutexes < 256 }
+        requires new { number_of self.old.mutexes address ≡ None }
         ensures program { SameProgram self.new.replica self.old.replica }
         ensures entering { peer_of self.new ≡ entering address owner (peer_of self.old) }
     {

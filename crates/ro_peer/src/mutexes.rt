@@ -1,7 +1,6 @@
 //! The mutexes whose calls a peer answers.
-ghost use Rattle.std.specs.Prelude.{◌≡◌, ◌+◌, ◌<◌, ◌≤◌, ◌^◌, ◌∷◌, ◌++◌, [], true, IfOk, IfSome, Some, length, slice_get};
+ghost use Rattle.std.specs.Prelude.{◌≡◌, ◌+◌, ◌<◌, ◌≤◌, ◌^◌, ◌∷◌, ◌++◌, [], true, IfOk, IfSome, None, Some, length, slice_get};
 ghost use Rattle.ro_replica.specs.Replica.{changed_at};
-ghost use Rattle.ro_peer.specs.Indexed.{IsNextCopy};
 ghost use Rattle.ro_peer.specs.Peers.{is_got, mutex_after};
 ghost use Rattle.ro_peer.specs.Seen.{number_of};
 
@@ -22,19 +21,12 @@ pub struct Mutex {
     pub rank: u32,
 }
 
-/// By what a mutex is looked up.
-#[derive(Clone, Copy, PartialEq, Eq, Hash)]
-struct MutexKey {
-    address: u32,
-    /// 0 for the first mutex that was entered at its address, which is the one that is found there; its place for each later one.
-    copy: u32,
-}
-
 /// The mutexes whose calls a peer answers, in the order in which they were entered. There is room for 256 from the start, so
 /// that nothing later takes memory.
 #[derive(Drop)]
 pub struct Mutexes {
-    mutexes: IndexMap<MutexKey, Mutex>,
+    /// By their addresses.
+    mutexes: IndexMap<u32, Mutex>,
 }
 
 impl Model for Mutexes {
@@ -68,7 +60,7 @@ impl Mutexes {
         ensures number { result ≡ number_of self.now address }
         ensures within { IfSome result (λ number. (number < length self.now) × (number < 256)) }
     {
-        match self.mutexes.get_index_of(&MutexKey { address, copy: 0 }) {
+        match self.mutexes.get_index_of(&address) {
             Some(place) => Some(place as u32),
             None => None,
         }
@@ -91,30 +83,18 @@ impl Mutexes {
         change_mutex(&mut self.mutexes[number as usize], change);
     }
 
-    /// Enters a mutex that nobody got so far.
+    /// Enters a mutex that nobody got so far, and that doesn't stand yet.
     pub fn enter(&mut self, address: u32, owner: Option<u32>)
-        requires { length self.old < 256 }
+        requires room { length self.old < 256 }
+        requires new { number_of self.old address ≡ None }
         ensures { self.new ≡ self.old ++ record { address = address; owner = owner; rank = 0 } ∷ [] }
     {
-        let copy = self.next_copy(address);
         let mutex = Mutex {
             address,
             owner,
             rank: 0,
         };
-        self.mutexes
-            .insert(MutexKey { address, copy }, mutex)
-            .unwrap();
-    }
-
-    // The copy of the next mutex at an address.
-    fn next_copy(&self, address: u32) -> u32
-        ensures { IsNextCopy self.now address result }
-    {
-        match self.number(address) {
-            None => 0,
-            Some(_) => self.mutexes.len() as u32,
-        }
+        self.mutexes.insert(address, mutex).unwrap();
     }
 }
 

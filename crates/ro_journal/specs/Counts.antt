@@ -1,7 +1,7 @@
 -- What is counted of a journal.
 use Rattle.std.specs.Prelude.{ℕ, Bool, true, false, List, length, count_by, sum_by}
 use Rattle.ro_journal.specs.declared.Entry.{Entry}
-use Rattle.ro_journal.specs.declared.Entry.TheVariants.{Put, Vote, Scrub}
+use Rattle.ro_journal.specs.declared.Entry.TheVariants.{Put, Part, Vote, Scrub}
 use Rattle.ro_journal.specs.Losers.{numbers}
 use Rattle.ro_journal.specs.Plan.{plan_of}
 
@@ -18,6 +18,7 @@ copies_of _ = 0
 -- the faults that were struck in the run that the entry puts back
 abbrev pub hits_of : Entry → ℕ
 hits_of (Put lease count hit) = hit
+hits_of (Part lease count hit) = hit
 hits_of _ = 0
 
 abbrev pub votes_in : List Entry → ℕ

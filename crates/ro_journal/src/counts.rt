@@ -84,7 +84,7 @@ impl Entry {
         ensures { result ≡ hits_of self.now }
     {
         match *self {
-            Entry::Put { hit, .. } => u64::from(hit),
+            Entry::Put { hit, .. } | Entry::Part { hit, .. } => u64::from(hit),
             _ => 0,
         }
     }

@@ -2,6 +2,7 @@
 use Rattle.std.proofs.Common.{ℕ, Bool, true, false, ◌≡◌, ◌+◌, ◌^◌, ◌<◌, ◌&&◌, ◌||◌, ◌==◌, not, nat_le, nat_lt, List, [], ◌∷◌, ◌++◌, Option, Some, Ok, Err, length, decimal, codes, cond, arith, refl, ap, ◌∙◌, length-append}
 use Rattle.std.specs.Char.{is_ascii_digit}
 use Rattle.std.specs.List.{list_all}
+use Rattle.std.specs.Option.{option_map}
 use Rattle.std.specs.Str.{bytes_eq}
 use Rattle.std.proofs.lemmas.Bool.{and_parts, and_from, false≢true, leb-true, ltb-true, not-true}
 use Rattle.std.proofs.lemmas.List.Splits.{slice_split_none, slice_split_at}
@@ -19,12 +20,13 @@ use Rattle.ro_journal.specs.declared.losers.Lost.{Lost}
 use Rattle.ro_journal.specs.declared.losers.Lost.TheVariants.{Nobody, One, Two}
 use Rattle.ro_journal.specs.declared.Lease.{Lease}
 use Rattle.ro_journal.specs.declared.Entry.{Entry}
-use Rattle.ro_journal.specs.declared.Entry.TheVariants.{Take, Put, Vote, Free, Scrub, End}
+use Rattle.ro_journal.specs.declared.Entry.TheVariants.{Take, Put, Part, Vote, Free, Scrub, End}
+use Rattle.ro_journal_text.specs.declared.entries.Run.{Run}
 use Rattle.ro_journal_text.specs.declared.versions.Version.{Version}
 use Rattle.ro_journal_text.specs.declared.versions.Version.TheVariants.{First, Second}
 use Rattle.ro_journal_text.specs.declared.errors.JournalCode.TheVariants.{Range}
-use Rattle.ro_journal_text.specs.Texts.{did_word, lost_word, how_words, entry_words, entries_text, header_word, text_in}
-use Rattle.ro_journal_text.specs.Reading.{did_of, has_did, listed, several_of, lost_of, how_of, entry_of, most_replica, is_lost, is_how, is_lease, is_entry, ranged, line_entry, is_end, before, behind, in_line, lines_entries, file_journal, ends_last}
+use Rattle.ro_journal_text.specs.Texts.{did_word, lost_word, how_words, run_words, entry_words, entries_text, header_word, text_in}
+use Rattle.ro_journal_text.specs.Reading.{did_of, has_did, listed, several_of, lost_of, how_of, run_of, entry_of, most_replica, is_lost, is_how, is_lease, is_run, is_entry, ranged, line_entry, is_end, before, behind, in_line, lines_entries, file_journal, ends_last}
 use Rattle.ro_journal_text.proofs.Steps.{cut_before, header_read}
 use Rattle.ro_journal_text.proofs.Listed.{no_comma, digits_of}
 use Rattle.ro_journal_text.proofs.Wording.{same}
@@ -153,17 +155,26 @@ lease_back version lease h =
       thread = spelled 0 15 lease.thread (omega arith) two.1;
     }
 
-entry_back : (version : Version) (entry : Entry) → is_entry version entry ≡ true → Back (entry_words entry) (entry_of version) entry
-entry_back version (Take lease) h =
-    let l = lease_back version lease h in
-    (rw (l.driver.plain, l.replica.plain, l.thread.plain) refl, rw (l.driver.spells, l.replica.spells, l.thread.spells, l.driver.value, l.replica.value, l.thread.value) refl)
-entry_back version (Put lease count hit) h =
+run_back : (version : Version) (lease : Lease) (count hit : ℕ) → is_run version (record { lease = lease; count = count; hit = hit }) ≡ true → Back (run_words lease count hit) run_of (record { lease = lease; count = count; hit = hit })
+run_back version lease count hit h =
     let four = and_parts (is_lease version lease && within 0 65536 count) (within 0 256 hit) h in
     let three = and_parts (is_lease version lease) (within 0 65536 count) four.0 in
     let l = lease_back version lease three.0 in
     let n = spelled 0 65536 count (omega arith) three.1 in
     let s = spelled 0 256 hit (omega arith) four.1 in
     (rw (l.driver.plain, l.replica.plain, l.thread.plain, n.plain, s.plain) refl, rw (l.driver.spells, l.replica.spells, l.thread.spells, n.spells, s.spells, l.driver.value, l.replica.value, l.thread.value, n.value, s.value) refl)
+
+entry_back : (version : Version) (entry : Entry) → is_entry version entry ≡ true → Back (entry_words entry) (entry_of version) entry
+entry_back version (Take lease) h =
+    let l = lease_back version lease h in
+    (rw (l.driver.plain, l.replica.plain, l.thread.plain) refl, rw (l.driver.spells, l.replica.spells, l.thread.spells, l.driver.value, l.replica.value, l.thread.value) refl)
+entry_back version (Put lease count hit) h =
+    let r = run_back version lease count hit h in
+    (r.0, ap (option_map (λ run. Put run.lease run.count run.hit)) r.1)
+entry_back First (Part lease count hit) h = absurd (false≢true h)
+entry_back Second (Part lease count hit) h =
+    let r = run_back Second lease count hit h in
+    (r.0, ap (option_map (λ run. Part run.lease run.count run.hit)) r.1)
 entry_back version (Vote thread count won lost did) h =
     let four = and_parts (within 0 15 thread && within 0 1000000 count && within 0 (most_replica version) won && is_lost version lost) (has_did version did) h in
     let three = and_parts (within 0 15 thread && within 0 1000000 count && within 0 (most_replica version) won) (is_lost version lost) four.0 in
@@ -187,6 +198,7 @@ entry_back version (End how) h = let e = how_back how h in (e.0, rw (e.1) refl)
 nonempty : (entry : Entry) → 0 < length (entry_words entry)
 nonempty (Take lease) = omega arith
 nonempty (Put lease count hit) = omega arith
+nonempty (Part lease count hit) = omega arith
 nonempty (Vote thread count won lost did) = omega arith
 nonempty (Free thread) = omega arith
 nonempty (Scrub won lost) = omega arith

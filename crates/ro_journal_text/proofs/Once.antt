@@ -10,13 +10,14 @@ use Rattle.ro_journal.specs.declared.Did.{Did}
 use Rattle.ro_journal.specs.declared.How.{How}
 use Rattle.ro_journal.specs.Leases.{lease_to}
 use Rattle.ro_journal.specs.declared.Entry.{Entry}
-use Rattle.ro_journal.specs.declared.Entry.TheVariants.{Take, Put, Vote, Free, Scrub, End}
+use Rattle.ro_journal.specs.declared.Entry.TheVariants.{Take, Put, Part, Vote, Free, Scrub, End}
 use Rattle.ro_journal.specs.declared.losers.Lost.{Lost}
+use Rattle.ro_journal_text.specs.declared.entries.Run.{Run}
 use Rattle.ro_journal_text.specs.declared.versions.Version.{Version}
 use Rattle.ro_journal_text.specs.declared.versions.Version.TheVariants.{First, Second}
 use Rattle.ro_journal_text.specs.declared.errors.JournalCode.TheVariants.{Range}
-use Rattle.ro_journal_text.specs.Texts.{entry_words}
-use Rattle.ro_journal_text.specs.Reading.{did_of, has_did, lost_of, how_of, take_of, put_of, vote_with, vote_of, free_of, scrub_in, scrub_of, end_of, entry_of, most_replica, is_lost, is_entry, ranged, line_entry}
+use Rattle.ro_journal_text.specs.Texts.{run_words, entry_words}
+use Rattle.ro_journal_text.specs.Reading.{did_of, has_did, lost_of, how_of, take_of, run_of, put_of, part_of, vote_with, vote_of, free_of, scrub_in, scrub_of, end_of, entry_of, most_replica, is_lost, is_run, is_entry, ranged, line_entry}
 use Rattle.ro_journal_text.proofs.Wording.{same, pick, chosen, inner, once, replica_once, did_once, lost_once, how_once}
 
 take_once : (version : Version) (fields : List (List ℕ)) (entry : Entry) → take_of fields ≡ Some entry → is_entry version entry ≡ true → entry_words entry ≡ codes "take" ∷ fields
@@ -33,26 +34,45 @@ take_once version (driver ∷ replica ∷ thread ∷ []) entry h fits =
     ap entry_words (sym e) ∙ rw (once 0 7 driver (omega arith) one.0 f.0, replica_once version replica one.1 f.1, once 0 15 thread (omega arith) two.1 g.1) refl
 take_once version (a ∷ b ∷ c ∷ d ∷ fields) entry h fits = absurd (cc)
 
-put_once : (version : Version) (fields : List (List ℕ)) (entry : Entry) → put_of fields ≡ Some entry → is_entry version entry ≡ true → entry_words entry ≡ codes "put" ∷ fields
-put_once version [] entry h fits = absurd (cc)
-put_once version (a ∷ []) entry h fits = absurd (cc)
-put_once version (a ∷ b ∷ []) entry h fits = absurd (cc)
-put_once version (a ∷ b ∷ c ∷ []) entry h fits = absurd (cc)
-put_once version (a ∷ b ∷ c ∷ d ∷ []) entry h fits = absurd (cc)
-put_once version (driver ∷ replica ∷ thread ∷ count ∷ hit ∷ []) entry h fits =
-    let made = Put (lease_to (value_of driver) (value_of replica) (value_of thread)) (value_of count) (value_of hit) in
-    let p = chosen (is_number driver && is_number replica && is_number thread && is_number count && is_number hit) (Some made) entry h in
-    let e = inner made entry p.1 in
+run_once : (version : Version) (fields : List (List ℕ)) (run : Run) → run_of fields ≡ Some run → is_run version run ≡ true → run_words run.lease run.count run.hit ≡ fields
+run_once version [] run h fits = absurd (cc)
+run_once version (a ∷ []) run h fits = absurd (cc)
+run_once version (a ∷ b ∷ []) run h fits = absurd (cc)
+run_once version (a ∷ b ∷ c ∷ []) run h fits = absurd (cc)
+run_once version (a ∷ b ∷ c ∷ d ∷ []) run h fits = absurd (cc)
+run_once version (driver ∷ replica ∷ thread ∷ count ∷ hit ∷ []) run h fits =
+    let made : Run = record { lease = lease_to (value_of driver) (value_of replica) (value_of thread); count = value_of count; hit = value_of hit } in
+    let p = chosen (is_number driver && is_number replica && is_number thread && is_number count && is_number hit) (Some made) run h in
+    let e = inner made run p.1 in
     let four = and_parts (is_number driver && is_number replica && is_number thread && is_number count) (is_number hit) p.0 in
     let three = and_parts (is_number driver && is_number replica && is_number thread) (is_number count) four.0 in
     let two = and_parts (is_number driver && is_number replica) (is_number thread) three.0 in
     let one = and_parts (is_number driver) (is_number replica) two.0 in
-    let j = and_parts (within 0 7 (value_of driver) && within 0 (most_replica version) (value_of replica) && within 0 15 (value_of thread) && within 0 65536 (value_of count)) (within 0 256 (value_of hit)) (ap (is_entry version) e ∙ fits) in
+    let j = and_parts (within 0 7 (value_of driver) && within 0 (most_replica version) (value_of replica) && within 0 15 (value_of thread) && within 0 65536 (value_of count)) (within 0 256 (value_of hit)) (ap (is_run version) e ∙ fits) in
     let i = and_parts (within 0 7 (value_of driver) && within 0 (most_replica version) (value_of replica) && within 0 15 (value_of thread)) (within 0 65536 (value_of count)) j.0 in
     let g = and_parts (within 0 7 (value_of driver) && within 0 (most_replica version) (value_of replica)) (within 0 15 (value_of thread)) i.0 in
     let f = and_parts (within 0 7 (value_of driver)) (within 0 (most_replica version) (value_of replica)) g.0 in
-    ap entry_words (sym e) ∙ rw (once 0 7 driver (omega arith) one.0 f.0, replica_once version replica one.1 f.1, once 0 15 thread (omega arith) two.1 g.1, once 0 65536 count (omega arith) three.1 i.1, once 0 256 hit (omega arith) four.1 j.1) refl
-put_once version (a ∷ b ∷ c ∷ d ∷ e ∷ f ∷ fields) entry h fits = absurd (cc)
+    ap (λ (r : Run). run_words r.lease r.count r.hit) (sym e) ∙ rw (once 0 7 driver (omega arith) one.0 f.0, replica_once version replica one.1 f.1, once 0 15 thread (omega arith) two.1 g.1, once 0 65536 count (omega arith) three.1 i.1, once 0 256 hit (omega arith) four.1 j.1) refl
+run_once version (a ∷ b ∷ c ∷ d ∷ e ∷ f ∷ fields) run h fits = absurd (cc)
+
+put_once : (version : Version) (fields : List (List ℕ)) (entry : Entry) → put_of fields ≡ Some entry → is_entry version entry ≡ true → entry_words entry ≡ codes "put" ∷ fields
+put_once version fields entry h fits = by (run_of fields) refl h
+  where
+    by : (read : Option Run) → run_of fields ≡ read → option_map (λ run. Put run.lease run.count run.hit) read ≡ Some entry → entry_words entry ≡ codes "put" ∷ fields
+    by None r q = absurd (cc)
+    by (Some run) r q =
+        let e = inner (Put run.lease run.count run.hit) entry q in
+        ap entry_words (sym e) ∙ ap (λ ws. codes "put" ∷ ws) (run_once version fields run r (ap (is_entry version) e ∙ fits))
+
+part_once : (version : Version) (fields : List (List ℕ)) (entry : Entry) → part_of version fields ≡ Some entry → is_entry version entry ≡ true → entry_words entry ≡ codes "part" ∷ fields
+part_once First fields entry h fits = absurd (cc)
+part_once Second fields entry h fits = by (run_of fields) refl h
+  where
+    by : (read : Option Run) → run_of fields ≡ read → option_map (λ run. Part run.lease run.count run.hit) read ≡ Some entry → entry_words entry ≡ codes "part" ∷ fields
+    by None r q = absurd (cc)
+    by (Some run) r q =
+        let e = inner (Part run.lease run.count run.hit) entry q in
+        ap entry_words (sym e) ∙ ap (λ ws. codes "part" ∷ ws) (run_once Second fields run r (ap (is_entry Second) e ∙ fits))
 
 voted : (t n w : ℕ) (lost : Option Lost) (did : Option Did) (entry : Entry) → vote_with t n w lost did ≡ Some entry → (l : Lost) × ((d : Did) × (lost ≡ Some l) × (did ≡ Some d) × (Vote t n w l d ≡ entry))
 voted t n w None did entry h = absurd (cc)
@@ -122,14 +142,17 @@ entry_once version (kind ∷ fields) entry h fits = elim (pick (bytes_eq kind (c
   | inl p ↦ take_once version fields entry p.1 fits ∙ ap (λ k. k ∷ fields) (sym (same kind (codes "take") p.0))
   | inr q ↦ elim (pick (bytes_eq kind (codes "put")) (put_of fields) _ entry q.1) [
     | inl p ↦ put_once version fields entry p.1 fits ∙ ap (λ k. k ∷ fields) (sym (same kind (codes "put") p.0))
-    | inr q ↦ elim (pick (bytes_eq kind (codes "vote")) (vote_of version fields) _ entry q.1) [
-      | inl p ↦ vote_once version fields entry p.1 fits ∙ ap (λ k. k ∷ fields) (sym (same kind (codes "vote") p.0))
-      | inr q ↦ elim (pick (bytes_eq kind (codes "free")) (free_of fields) _ entry q.1) [
-        | inl p ↦ free_once version fields entry p.1 fits ∙ ap (λ k. k ∷ fields) (sym (same kind (codes "free") p.0))
-        | inr q ↦ elim (pick (bytes_eq kind (codes "scrub")) (scrub_of version fields) _ entry q.1) [
-          | inl p ↦ scrub_once version fields entry p.1 fits ∙ ap (λ k. k ∷ fields) (sym (same kind (codes "scrub") p.0))
-          | inr q ↦ let p = chosen (bytes_eq kind (codes "end")) (end_of fields) entry q.1 in
-              end_once version fields entry p.1 fits ∙ ap (λ k. k ∷ fields) (sym (same kind (codes "end") p.0))
+    | inr q ↦ elim (pick (bytes_eq kind (codes "part")) (part_of version fields) _ entry q.1) [
+      | inl p ↦ part_once version fields entry p.1 fits ∙ ap (λ k. k ∷ fields) (sym (same kind (codes "part") p.0))
+      | inr q ↦ elim (pick (bytes_eq kind (codes "vote")) (vote_of version fields) _ entry q.1) [
+        | inl p ↦ vote_once version fields entry p.1 fits ∙ ap (λ k. k ∷ fields) (sym (same kind (codes "vote") p.0))
+        | inr q ↦ elim (pick (bytes_eq kind (codes "free")) (free_of fields) _ entry q.1) [
+          | inl p ↦ free_once version fields entry p.1 fits ∙ ap (λ k. k ∷ fields) (sym (same kind (codes "free") p.0))
+          | inr q ↦ elim (pick (bytes_eq kind (codes "scrub")) (scrub_of version fields) _ entry q.1) [
+            | inl p ↦ scrub_once version fields entry p.1 fits ∙ ap (λ k. k ∷ fields) (sym (same kind (codes "scrub") p.0))
+            | inr q ↦ let p = chosen (bytes_eq kind (codes "end")) (end_of fields) entry q.1 in
+                end_once version fields entry p.1 fits ∙ ap (λ k. k ∷ fields) (sym (same kind (codes "end") p.0))
+          ]
         ]
       ]
     ]

@@ -1,12 +1,20 @@
 //! The entry of a line.
-ghost use Rattle.std.specs.Prelude.{◌≡◌, [], ◌∷◌, map};
-ghost use Rattle.ro_journal_text.specs.Reading.{take_of, put_of, vote_of, free_of, scrub_of, end_of, entry_of, is_entry, ranged, line_entry};
+ghost use Rattle.std.specs.Prelude.{◌≡◌, [], ◌∷◌, Some, true, map, IfOk};
+ghost use Rattle.ro_journal_text.specs.Reading.{take_of, run_of, put_of, part_of, is_run, vote_of, free_of, scrub_of, end_of, entry_of, is_entry, ranged, line_entry};
 
 use crate::errors::JournalCode;
 use crate::versions::Version;
 use crate::words::{read_did, read_how, read_lost};
 use ro_journal::{Entry, Lease};
 use ro_text::{is_number, split_words, value_within};
+
+// What comes back with a lease: how many instructions its run retired, and how many faults were struck.
+#[derive(Clone, Copy, Debug)]
+pub(crate) struct Run {
+    pub(crate) lease: Lease,
+    pub(crate) count: u32,
+    pub(crate) hit: u32,
+}
 
 // The entry of a line without its line feed.
 #[tactic(auto, using(crate::proofs::Many::many_words))]
@@ -36,6 +44,8 @@ fn read_kind(kind: &[u8], fields: &[&[u8]], version: Version) -> Result<Entry, J
         read_take(fields, version)
     } else if kind == b"put".as_slice() {
         read_put(fields, version)
+    } else if kind == b"part".as_slice() {
+        read_part(fields, version)
     } else if kind == b"vote".as_slice() {
         read_vote(fields, version)
     } else if kind == b"free".as_slice() {
@@ -86,23 +96,51 @@ fn take_entry(
 fn read_put(fields: &[&[u8]], version: Version) -> Result<Entry, JournalCode>
     ensures { result ≡ ranged (is_entry version) (put_of (map (λ word. word.now) fields.now)) }
 {
+    let Run { lease, count, hit } = read_run(fields, version)?;
+    Ok(Entry::Put { lease, count, hit })
+}
+
+fn read_part(fields: &[&[u8]], version: Version) -> Result<Entry, JournalCode>
+    ensures { result ≡ ranged (is_entry version) (part_of version (map (λ word. word.now) fields.now)) }
+{
+    match version {
+        Version::First => Err(JournalCode::Form),
+        Version::Second => read_second_part(fields),
+    }
+}
+
+fn read_second_part(fields: &[&[u8]]) -> Result<Entry, JournalCode>
+    ensures { result ≡ ranged (is_entry Version.Second) (part_of Version.Second (map (λ word. word.now) fields.now)) }
+{
+    let Run { lease, count, hit } = read_run(fields, Version::Second)?;
+    Ok(Entry::Part { lease, count, hit })
+}
+
+// A lease that comes back, with its run.
+fn read_run(fields: &[&[u8]], version: Version) -> Result<Run, JournalCode>
+    ensures read { result ≡ ranged (is_run version) (run_of (map (λ word. word.now) fields.now)) }
+    ensures given { IfOk result (λ run. run_of (map (λ word. word.now) fields.now) ≡ Some run) }
+    ensures inside { IfOk result (λ run. is_run version run ≡ true) }
+{
     match fields {
-        [driver, replica, thread, count, hit] => put_entry(
+        [driver, replica, thread, count, hit] => run_entry(
             driver, replica, thread, count, hit, version,
         ),
         _ => Err(JournalCode::Form),
     }
 }
 
-fn put_entry(
+fn run_entry(
     driver: &[u8],
     replica: &[u8],
     thread: &[u8],
     count: &[u8],
     hit: &[u8],
     version: Version,
-) -> Result<Entry, JournalCode>
-    ensures { result ≡ ranged (is_entry version) (put_of (driver.now ∷ replica.now ∷ thread.now ∷ count.now ∷ hit.now ∷ [])) }
+) -> Result<Run, JournalCode>
+    ensures read { result ≡ ranged (is_run version) (run_of (driver.now ∷ replica.now ∷ thread.now ∷ count.now ∷ hit.now ∷ [])) }
+    ensures given { IfOk result (λ run. run_of (driver.now ∷ replica.now ∷ thread.now ∷ count.now ∷ hit.now ∷ []) ≡ Some run) }
+    ensures inside { IfOk result (λ run. is_run version run ≡ true) }
 {
     if !is_number(driver)
         || !is_number(replica)
@@ -119,7 +157,7 @@ fn put_entry(
         value_within(count, 0, 65_536),
         value_within(hit, 0, 256),
     ) {
-        (Some(driver), Some(replica), Some(thread), Some(count), Some(hit)) => Ok(Entry::Put {
+        (Some(driver), Some(replica), Some(thread), Some(count), Some(hit)) => Ok(Run {
             lease: Lease {
                 driver: driver as u32,
                 replica: replica as u32,

@@ -20,6 +20,7 @@ pub fn entry_text(entry: &Entry) -> Line
     match *entry {
         Entry::Take(lease) => take_text(lease),
         Entry::Put { lease, count, hit } => put_text(lease, count, hit),
+        Entry::Part { lease, count, hit } => part_text(lease, count, hit),
         Entry::Vote {
             thread,
             count,
@@ -49,6 +50,19 @@ fn put_text(lease: Lease, count: u32, hit: u32) -> Line
 {
     let mut text = Text::new();
     text.push("put");
+    text.add_number(u64::from(lease.driver));
+    text.add_number(u64::from(lease.replica));
+    text.add_number(u64::from(lease.thread));
+    text.add_number(u64::from(count));
+    text.add_number(u64::from(hit));
+    text.end()
+}
+
+fn part_text(lease: Lease, count: u32, hit: u32) -> Line
+    ensures { result ≡ entry_text (Entry.Part lease count hit) }
+{
+    let mut text = Text::new();
+    text.push("part");
     text.add_number(u64::from(lease.driver));
     text.add_number(u64::from(lease.replica));
     text.add_number(u64::from(lease.thread));

@@ -5,9 +5,9 @@ ghost use Rattle.ro_journal_text.specs.Reading.{most_replica};
 /// Which first line a text has. `Second` is written, both are read.
 #[derive(Clone, Copy, PartialEq, Eq, Debug)]
 pub enum Version {
-    /// `romain 1`: replicas 0 to 2, of which one loses a vote at most; no scrub, and no call of two steps.
+    /// `romain 1`: replicas 0 to 2, of which one loses a vote at most; no scrub, no part, and no call of two steps.
     First,
-    /// `romain 2`: replicas 0 to 4, of which two lose a vote at most; scrubs, and calls that did their first step.
+    /// `romain 2`: replicas 0 to 4, of which two lose a vote at most; scrubs, parts, and calls that did their first step.
     Second,
 }
 

@@ -1,9 +1,0 @@
-use Rattle.std.proofs.Common.{arith}
-use Rattle.ro_journal_text.proofs.Many.{put_fields}
-use Rattle.ro_journal_text.proofs.entries.read_put.Goals as goal
-
-pub returns-in_default : goal.returns-in_default
-returns-in_default c = put_fields c.args.version c.args.fields.now (λ e. omega (arith, e, c.in_default.len_below))
-
-pub returns-in_default-2 : goal.returns-in_default-2
-returns-in_default-2 c = put_fields c.args.version c.args.fields.now (λ e. omega (arith, e, c.in_default.len_at_least))

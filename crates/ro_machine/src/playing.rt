@@ -134,9 +134,11 @@ fn play_entry<K: Sink>(
             ..
         } => play_vote(plain, *thread, *count, did.steps(), progress, out),
         Entry::Free { thread } => play_one(plain, *thread, progress, out),
-        Entry::Take(_) | Entry::Put { .. } | Entry::Scrub { .. } | Entry::End { .. } => {
-            Ok(progress)
-        }
+        Entry::Take(_)
+        | Entry::Put { .. }
+        | Entry::Part { .. }
+        | Entry::Scrub { .. }
+        | Entry::End { .. } => { Ok(progress) }
     }
 }
 

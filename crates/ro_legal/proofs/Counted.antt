@@ -8,7 +8,7 @@ use Rattle.ro_region.specs.declared.Range.{Range}
 use Rattle.ro_journal.specs.Losers.{numbers}
 use Rattle.ro_journal.specs.declared.Lease.{Lease}
 use Rattle.ro_journal.specs.declared.Entry.{Entry}
-use Rattle.ro_journal.specs.declared.Entry.TheVariants.{Take, Put, Vote, Free, Scrub, End}
+use Rattle.ro_journal.specs.declared.Entry.TheVariants.{Take, Put, Part, Vote, Free, Scrub, End}
 use Rattle.ro_exec.specs.Next.{Layout}
 use Rattle.ro_exec.specs.Threads.{made_cpu}
 use Rattle.ro_thread.specs.declared.Thread.{Thread}
@@ -157,6 +157,7 @@ counted-after most job core (Put lease count hit) may h =
     let came = counts-run most (layout_in job.program core.kernel) job.settings.watchdog count lease.thread parts.lent may.ran parts.runs (h lease.replica parts.lent parts.there) in
     subst (λ (o : Option RanTo). AreCounted (most + job.settings.quantum) (core_after_put job core lease count o)) (sym may.runs)
     (counted-put most job core lease count may.ran (counts-more (most + count) (most + job.settings.quantum) may.ran.replica (omega arith) came) h)
+counted-after most job core (Part lease count hit) may h = absurd may
 counted-after most job core (Vote thread count won lost did) may h =
     let e = event-parts job core thread won may.event may.comes in
     more-counted most (most + job.settings.quantum) (core_after_event core thread count (with_recovered won (numbers lost) core.replicas) (event_in job core thread won)) (omega arith)

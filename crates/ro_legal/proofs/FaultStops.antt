@@ -11,7 +11,7 @@ use Rattle.ro_region.specs.declared.Range.{Range}
 use Rattle.ro_journal.specs.Losers.{numbers}
 use Rattle.ro_journal.specs.declared.Lease.{Lease}
 use Rattle.ro_journal.specs.declared.Entry.{Entry}
-use Rattle.ro_journal.specs.declared.Entry.TheVariants.{Take, Put, Vote, Free, Scrub, End}
+use Rattle.ro_journal.specs.declared.Entry.TheVariants.{Take, Put, Part, Vote, Free, Scrub, End}
 use Rattle.ro_exec.specs.Next.{Layout, Backed}
 use Rattle.ro_pages.specs.Bytes.{covers_page}
 use Rattle.ro_exec.specs.Threads.{made_cpu}
@@ -211,6 +211,7 @@ fault-after job core (Put lease count hit) may h =
     let parts = put-parts job core lease count may.ran may.runs in
     let came = fault-run (layout_in job.program core.kernel) job.settings.watchdog count lease.thread parts.lent may.ran parts.runs (h lease.replica parts.lent parts.there) in
     subst (λ (o : Option RanTo). FaultsWait (core_after_put job core lease count o).replicas) (sym may.runs) (fault-put job core lease count may.ran came h)
+fault-after job core (Part lease count hit) may h = absurd may
 fault-after job core (Vote thread count won lost did) may h =
     let e = event-parts job core thread won may.event may.comes in
     fault-event core thread count (with_recovered won (numbers lost) core.replicas) (event_in job core thread won) (each-copied won e.winner (numbers lost) core.replicas e.there h) h

@@ -17,7 +17,7 @@ use Rattle.ro_vote.specs.Numbers.{is_among}
 use Rattle.ro_journal.specs.declared.Did.{Did}
 use Rattle.ro_journal.specs.declared.How.{How}
 use Rattle.ro_journal.specs.declared.Entry.{Entry}
-use Rattle.ro_journal.specs.declared.Entry.TheVariants.{Take, Put, Vote, Free, Scrub, End}
+use Rattle.ro_journal.specs.declared.Entry.TheVariants.{Take, Put, Part, Vote, Free, Scrub, End}
 use Rattle.ro_kernel.proofs.Kept.{slice_get-set_other}
 use Rattle.ro_kernel.specs.Kernel.{Setup, Kernel, lives_on}
 use Rattle.ro_kernel.specs.Serve.{Served as Serving, Done, Parked as Parks, Blocked as Blocks, Ends, serve, put_out, asked}
@@ -101,6 +101,7 @@ pub go-after : (job : Job) (core : Core) (entry : Entry) → IsAllowed job core 
 unfolding after
 go-after job core (Take lease) may apart h = go-take job core lease may.lendable h
 go-after job core (Put lease count hit) may apart h = go-put job core lease count hit may apart h
+go-after job core (Part lease count hit) may apart h = absurd may
 go-after job core (Vote thread count won lost did) may apart h =
     go-none (core_after_event core thread count (with_recovered won (numbers lost) core.replicas) (event_in job core thread won)) (event_leases core thread count (with_recovered won (numbers lost) core.replicas) (event_in job core thread won) ∙ (vote-parts core thread may.may).alone)
 go-after job core (Free thread) may apart h =
@@ -346,6 +347,7 @@ entry-keeps : (job : Job) (core : Core) (entry : Entry) → IsAllowed job core e
 unfolding after
 entry-keeps job core (Take lease) may go replica thread stands call f at = inl (found-is core replica thread stands f)
 entry-keeps job core (Put lease count hit) may go replica thread stands call f at = inl (put-keeps job core lease count hit may go replica thread stands call f at)
+entry-keeps job core (Part lease count hit) may go replica thread stands call f at = absurd may
 entry-keeps job core (Vote voted count won lost did) may go replica thread stands call f at = vote-keeps job core voted count won lost did may replica thread stands call f at
 entry-keeps job core (Free freed) may go replica thread stands call f at = free-keeps job core freed may replica thread stands call f at
 entry-keeps job core (Scrub won lost) may go replica thread stands call f at = scrub-keeps job core won lost replica thread stands f

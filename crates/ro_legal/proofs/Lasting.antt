@@ -3,7 +3,7 @@ use Rattle.std.proofs.Common.{◌≡◌, ◌≢◌, ℕ, ◌<◌, ◌==◌, Bool
 use Rattle.std.specs.List.{filter, find, list_any}
 use Rattle.ro_journal.specs.Losers.{numbers}
 use Rattle.ro_journal.specs.declared.Entry.{Entry}
-use Rattle.ro_journal.specs.declared.Entry.TheVariants.{Take, Put, Vote, Free, Scrub, End}
+use Rattle.ro_journal.specs.declared.Entry.TheVariants.{Take, Put, Part, Vote, Free, Scrub, End}
 use Rattle.ro_kernel.proofs.Kept.{slice_get-set_other}
 use Rattle.ro_replica.specs.Replica.{Replica}
 use Rattle.ro_replica.specs.Runs.{RanTo}
@@ -114,6 +114,7 @@ out_after job core driver lease value by (Take other) o apart m names ne out = r
 out_after job core driver lease value by (Put other count hit) o apart m names ne out =
     let differs : other.driver ≢ driver = λ e. ne (sym names ∙ e) in
     out_put job core driver lease value other count differs (other_replica driver other lease core.leases apart differs out.held m.out) out (lease_run job core other count)
+out_after job core driver lease value by (Part other count hit) o apart m names ne out = absurd m
 out_after job core driver lease value by (Vote thread count won lost did) o apart m names ne out = absurd (none_found driver lease core.leases (vote-parts core thread m.may).alone out.held)
 out_after job core driver lease value by (Free thread) o apart m names ne out = absurd (none_found driver lease core.leases (free-parts job core thread m.may).alone out.held)
 out_after job core driver lease value by (Scrub won lost) o apart m names ne out = absurd (none_found driver lease core.leases (scrub-parts core m.may).alone out.held)
@@ -131,6 +132,7 @@ pub out_kernel : (job : Job) (core : Core) (driver : ℕ) (lease : Lease) (value
 unfolding after
 out_kernel job core driver lease value (Take other) m out = refl
 out_kernel job core driver lease value (Put other count hit) m out = put_kernel job core other count (lease_run job core other count)
+out_kernel job core driver lease value (Part other count hit) m out = absurd m
 out_kernel job core driver lease value (Vote thread count won lost did) m out = absurd (none_found driver lease core.leases (vote-parts core thread m.may).alone out.held)
 out_kernel job core driver lease value (Free thread) m out = absurd (none_found driver lease core.leases (free-parts job core thread m.may).alone out.held)
 out_kernel job core driver lease value (Scrub won lost) m out = refl
@@ -152,6 +154,7 @@ pub idle_after : (job : Job) (core : Core) (driver by : ℕ) (entry : Entry) →
 unfolding after
 idle_after job core driver by (Take other) names ne idle = ap (λ (b : Bool). not (b || has_driver driver core.leases)) (ne_eqb other.driver driver (λ e. ne (sym names ∙ e))) ∙ idle
 idle_after job core driver by (Put other count hit) names ne idle = idle_put job core driver other count idle (lease_run job core other count)
+idle_after job core driver by (Part other count hit) names ne idle = idle
 idle_after job core driver by (Vote thread count won lost did) names ne idle = ap (λ (ls : List Lease). not (has_driver driver ls)) (event_leases core thread count (with_recovered won (numbers lost) core.replicas) (event_in job core thread won)) ∙ idle
 idle_after job core driver by (Free thread) names ne idle = ap (λ (ls : List Lease). not (has_driver driver ls)) (event_leases core thread 0 core.replicas (freed_event job core thread)) ∙ idle
 idle_after job core driver by (Scrub won lost) names ne idle = idle

@@ -7,7 +7,7 @@ use Rattle.std.proofs.lemmas.Bool.{and_parts}
 use Rattle.std.proofs.lemmas.List.Filters.{length-filter_both}
 use Rattle.ro_journal.specs.Losers.{numbers}
 use Rattle.ro_journal.specs.declared.Entry.{Entry}
-use Rattle.ro_journal.specs.declared.Entry.TheVariants.{Take, Put, Vote, Free, Scrub, End}
+use Rattle.ro_journal.specs.declared.Entry.TheVariants.{Take, Put, Part, Vote, Free, Scrub, End}
 use Rattle.ro_replica.specs.Replica.{Replica}
 use Rattle.ro_replica.specs.Runs.{RanTo}
 use Rattle.ro_replica.specs.Views.{is_unstopped}
@@ -133,6 +133,7 @@ leases_keep job Q fewer takes core (Put lease count hit) m h = by (lease_run job
     by : (ran : Option RanTo) → Q (core_after_put job core lease count ran).leases
     by None = h
     by (Some ran) = fewer (λ other. not (is_lease lease other)) core.leases h
+leases_keep job Q fewer takes core (Part lease count hit) m h = absurd m
 leases_keep job Q fewer takes core (Vote thread count won lost did) m h = subst Q (sym (event_leases core thread count (with_recovered won (numbers lost) core.replicas) (event_in job core thread won))) h
 leases_keep job Q fewer takes core (Free thread) m h = subst Q (sym (event_leases core thread 0 core.replicas (freed_event job core thread))) h
 leases_keep job Q fewer takes core (Scrub won lost) m h = h

@@ -6,7 +6,7 @@ use Rattle.ro_event.specs.declared.calls.Call.{Call}
 use Rattle.ro_event.specs.declared.stops.Stop.{Stop}
 use Rattle.ro_event.specs.declared.stops.Stop.TheVariants.{Calls, Trap, PageFault, Watchdog}
 use Rattle.ro_journal.specs.declared.Entry.{Entry}
-use Rattle.ro_journal.specs.declared.Entry.TheVariants.{Take, Put, Vote, Free, Scrub, End}
+use Rattle.ro_journal.specs.declared.Entry.TheVariants.{Take, Put, Part, Vote, Free, Scrub, End}
 use Rattle.ro_journal.specs.Losers.{numbers}
 use Rattle.ro_journal.specs.declared.Lease.{Lease}
 use Rattle.ro_kernel.specs.Kernel.{Setup, Kernel}
@@ -63,6 +63,7 @@ module _ (job : Job) (core : Core) (mapped : IsMapped core.kernel.given) where
   unfolding after
   after-mapped (Take lease) = mapped
   after-mapped (Put lease count hit) = put-mapped lease count (lease_run job core lease count)
+  after-mapped (Part lease count hit) = mapped
   after-mapped (Vote thread count won lost did) = vote-mapped thread count (with_recovered won (numbers lost) core.replicas) (slice_get core.replicas won)
   after-mapped (Free thread) = free-mapped thread (core.blocked thread)
   after-mapped (Scrub won lost) = mapped

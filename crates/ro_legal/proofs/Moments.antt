@@ -10,7 +10,7 @@ use Rattle.ro_exec.specs.Next.{Backed}
 use Rattle.ro_journal.specs.Losers.{numbers}
 use Rattle.ro_journal.specs.declared.Lease.{Lease}
 use Rattle.ro_journal.specs.declared.Entry.{Entry}
-use Rattle.ro_journal.specs.declared.Entry.TheVariants.{Take, Put, Vote, Free, Scrub, End}
+use Rattle.ro_journal.specs.declared.Entry.TheVariants.{Take, Put, Part, Vote, Free, Scrub, End}
 use Rattle.ro_faults.specs.declared.Fault.{Fault}
 use Rattle.ro_kernel.specs.Serve.{serve}
 use Rattle.ro_thread.specs.declared.Thread.{Thread}
@@ -394,6 +394,7 @@ unfolding after
 meets-after job journal core (Take lease) may ordered go h = λ number r e. meets-same job journal (Take lease) core (λ n. ((λ t. refl), refl)) h number r e
 meets-after job journal core (Put lease count hit) may ordered go h =
     subst (λ (o : Option RanTo). AllMeet job (journal ++ Put lease count hit ∷ []) (core_after_put job core lease count o)) (sym may.runs) (meets-ran job journal core lease count hit may go h)
+meets-after job journal core (Part lease count hit) may ordered go h = absurd may
 meets-after job journal core (Vote thread count won lost did) may ordered go h =
     let e = event-parts job core thread won may.event may.comes in
     subst (λ (o : Option Event). AllMeet job (journal ++ Vote thread count won lost did ∷ []) (core_after_event core thread count (with_recovered won (numbers lost) core.replicas) o)) (sym may.comes)

@@ -5,7 +5,7 @@ use Rattle.std.specs.List.{list_any}
 use Rattle.ro_journal.specs.declared.losers.Lost.{Lost}
 use Rattle.ro_journal.specs.Losers.{numbers}
 use Rattle.ro_journal.specs.declared.Entry.{Entry}
-use Rattle.ro_journal.specs.declared.Entry.TheVariants.{Take, Put, Vote, Free, Scrub, End}
+use Rattle.ro_journal.specs.declared.Entry.TheVariants.{Take, Put, Part, Vote, Free, Scrub, End}
 use Rattle.ro_replica.specs.Runs.{RanTo}
 use Rattle.ro_journal.specs.declared.Lease.{Lease}
 use Rattle.ro_legal.specs.Core.{Job, Core, opening_core, is_lease}
@@ -80,6 +80,7 @@ module _ (job : Job) (one : job.settings.drivers ≡ 1) where
       let o' = ordered-after job core (Take lease) legal.0 o in
       let home' : (after job (after job core (Take lease)) (Put back n k)).leases ≡ [] = ap (λ (c : Core). (after job c (Put back n k)).leases) (taken core lease home) ∙ put_home core lease back n k m in
       (zero_is, ap (λ (l : Lease). l.driver) (sym (same-lease back lease (its_put core lease back n k m))) ∙ zero_is, turns_from (after job (after job core (Take lease)) (Put back n k)) js (ordered-after job (after job core (Take lease)) (Put back n k) legal.1.0 o') legal.1.1 home' end)
+  turns_from core (Take lease ∷ Part back n k ∷ js) o legal home end = absurd legal.1.0
   turns_from core (Take lease ∷ Vote v n w l i ∷ js) o legal home end =
       still_lent core lease (sym (ap (λ (c : Core). c.leases) (taken core lease home)) ∙ (vote-parts (after job core (Take lease)) v legal.1.0.may).alone)
   turns_from core (Take lease ∷ Free v ∷ js) o legal home end =
@@ -90,6 +91,7 @@ module _ (job : Job) (one : job.settings.drivers ≡ 1) where
       still_lent core lease (sym (ap (λ (c : Core). c.leases) (taken core lease home)) ∙ end-alone job (after job core (Take lease)) how legal.1.0.1 (ordered-after job core (Take lease) legal.0 o))
   turns_from core (Put lease n k ∷ js) o legal home end =
       true≢false (sym legal.0.out ∙ ap (list_any (is_lease lease)) home)
+  turns_from core (Part lease n k ∷ js) o legal home end = absurd legal.0
   turns_from core (Vote t n w l i ∷ js) o legal home end =
       turns_from (after job core (Vote t n w l i)) js (ordered-after job core (Vote t n w l i) legal.0 o) legal.1 (voted_home core t n w l i home) end
   turns_from core (Free t ∷ js) o legal home end =

@@ -19,7 +19,7 @@ use Rattle.ro_journal.specs.declared.Did.TheVariants.{Served as WasServed}
 use Rattle.ro_journal.specs.declared.How.{How}
 use Rattle.ro_journal.specs.declared.How.TheVariants.{Deadlock, Sink}
 use Rattle.ro_journal.specs.declared.Entry.{Entry}
-use Rattle.ro_journal.specs.declared.Entry.TheVariants.{Take, Put, Vote, Free, Scrub, End}
+use Rattle.ro_journal.specs.declared.Entry.TheVariants.{Take, Put, Part, Vote, Free, Scrub, End}
 use Rattle.ro_journal.specs.Plan.{event_steps}
 use Rattle.ro_condition.proofs.Whose.{is_waiting}
 use Rattle.ro_kernel.specs.Kernel.{Kernel, lives_on}
@@ -392,6 +392,7 @@ ordered-opening job = record {
 pub ordered-after : (job : Job) (core : Core) (entry : Entry) → IsAllowed job core entry → IsOrdered job core → IsOrdered job (after job core entry)
 ordered-after job core (Take lease) may h = ordered-take job core lease may h
 ordered-after job core (Put lease count hit) may h = ordered-put job core lease count hit may h
+ordered-after job core (Part lease count hit) may h = absurd may
 ordered-after job core (Vote thread count won lost did) may h = ordered-vote job core thread count won lost did may h
 ordered-after job core (Free thread) may h = ordered-free job core thread may h
 ordered-after job core (Scrub won lost) may h = ordered-scrub job core won lost may h

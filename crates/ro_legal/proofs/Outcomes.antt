@@ -3,7 +3,7 @@ use Rattle.std.proofs.Common.{◌≡◌, ℕ, List, [], ◌∷◌, Option, Some,
 use Rattle.ro_journal.specs.Losers.{numbers}
 use Rattle.ro_journal.specs.declared.How.{How}
 use Rattle.ro_journal.specs.declared.Entry.{Entry}
-use Rattle.ro_journal.specs.declared.Entry.TheVariants.{Take, Put, Vote, Free, Scrub, End}
+use Rattle.ro_journal.specs.declared.Entry.TheVariants.{Take, Put, Part, Vote, Free, Scrub, End}
 use Rattle.ro_journal.specs.Plan.{outcome_of}
 use Rattle.ro_replica.specs.Replica.{Replica}
 use Rattle.ro_legal.specs.Core.{Job, Core, opening_core}
@@ -20,6 +20,7 @@ event_ended core thread count replicas (Some event) = refl
 pub ended-none : (job : Job) (core : Core) (entry : Entry) → IsAllowed job core entry → core.ended ≡ None
 ended-none job core (Take lease) may = (going-parts core may.going).1
 ended-none job core (Put lease count hit) may = may.not_ended
+ended-none job core (Part lease count hit) may = absurd may
 ended-none job core (Vote thread count won lost did) may = (vote-parts core thread may.may).not_ended
 ended-none job core (Free thread) may = (free-parts job core thread may.may).not_ended
 ended-none job core (Scrub won lost) may = (scrub-parts core may.may).not_ended
@@ -35,6 +36,7 @@ ended_from job core [] e legal = e
 ended_from job core (Take lease ∷ journal) e legal = ended_from job (after job core (Take lease)) journal e legal.1
 ended_from job core (Put lease count hit ∷ journal) e legal =
     ended_from job (after job core (Put lease count hit)) journal (ap (λ (c : Core). c.ended) (put-only job core lease count (lease_run job core lease count)) ∙ e) legal.1
+ended_from job core (Part lease count hit ∷ journal) e legal = absurd legal.0
 ended_from job core (Vote thread count won lost did ∷ journal) e legal =
     ended_from job (after job core (Vote thread count won lost did)) journal (event_ended core thread count (with_recovered won (numbers lost) core.replicas) (event_in job core thread won) ∙ e) legal.1
 ended_from job core (Free thread ∷ journal) e legal =

@@ -7,7 +7,7 @@ use Rattle.ro_event.specs.declared.stops.Stop.{Stop}
 use Rattle.ro_event.specs.declared.stops.Stop.TheVariants.{Calls, Trap, PageFault, Watchdog}
 use Rattle.ro_journal.specs.declared.Did.TheVariants.{Served as WasServed, Blocked as WasBlocked, Parked as WasParked, PageBacked, Watch, Trapped}
 use Rattle.ro_journal.specs.declared.Entry.{Entry}
-use Rattle.ro_journal.specs.declared.Entry.TheVariants.{Take, Put, Vote, Free, Scrub, End}
+use Rattle.ro_journal.specs.declared.Entry.TheVariants.{Take, Put, Part, Vote, Free, Scrub, End}
 use Rattle.ro_journal.specs.Losers.{numbers}
 use Rattle.ro_kernel.specs.Kernel.{Setup, Kernel}
 use Rattle.ro_kernel.specs.Serve.{Served, Done, Parked, Blocked, Ends, serve, put_out, asked}
@@ -65,6 +65,7 @@ goes-on : (job : Job) (core : Core) (entry : Entry) → IsAllowed job core entry
 unfolding after
 goes-on job core (Take lease) may thread answers due number replica e = absurd answers
 goes-on job core (Put lease count hit) may thread answers due number replica e = absurd answers
+goes-on job core (Part lease count hit) may thread answers due number replica e = absurd answers
 goes-on job core (Scrub won lost) may thread answers due number replica e = absurd answers
 goes-on job core (End how) may thread answers due number replica e = absurd answers
 goes-on job core (Vote voted count won lost did) may thread answers due number replica e =

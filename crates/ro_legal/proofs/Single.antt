@@ -4,7 +4,7 @@ use Rattle.ro_journal.specs.declared.Did.{Did}
 use Rattle.ro_journal.specs.declared.How.{How}
 use Rattle.ro_journal.specs.declared.How.TheVariants.{Exit, Deadlock, Trap, Limit, Differ, NoMajority, Sink}
 use Rattle.ro_journal.specs.declared.Entry.{Entry}
-use Rattle.ro_journal.specs.declared.Entry.TheVariants.{Take, Put, Vote, Free, Scrub, End}
+use Rattle.ro_journal.specs.declared.Entry.TheVariants.{Take, Put, Part, Vote, Free, Scrub, End}
 use Rattle.ro_journal.specs.declared.losers.Lost.{Lost}
 use Rattle.ro_journal.specs.declared.losers.Lost.TheVariants.{Nobody, One, Two}
 use Rattle.ro_journal.specs.Losers.{numbers}
@@ -138,16 +138,19 @@ module _ (job : Job) (core : Core) (thread : ℕ) where
   one-decides (Vote t count won lost did) (End how) m d n e = absurd (no-end count won lost did (subst (λ (x : ℕ). MayVote job core x count won lost did) d m) how e)
   one-decides (Vote t count won lost did) (Take lease) m d n e = absurd e
   one-decides (Vote t count won lost did) (Put lease ran hit) m d n e = absurd e
+  one-decides (Vote t count won lost did) (Part lease ran hit) m d n e = absurd e
   one-decides (Vote t count won lost did) (Free freed) m d n e = absurd e
   one-decides (Vote t count won lost did) (Scrub winner losers) m d n e = absurd e
   one-decides (End how) (Vote t count won lost did) m d n e = absurd (no-end count won lost did (subst (λ (x : ℕ). MayVote job core x count won lost did) e n) how d)
   one-decides (End how) (End other) m d n e = ap End (one-end how other d e)
   one-decides (End how) (Take lease) m d n e = absurd e
   one-decides (End how) (Put lease ran hit) m d n e = absurd e
+  one-decides (End how) (Part lease ran hit) m d n e = absurd e
   one-decides (End how) (Free freed) m d n e = absurd e
   one-decides (End how) (Scrub winner losers) m d n e = absurd e
   one-decides (Take lease) other m d n e = absurd d
   one-decides (Put lease ran hit) other m d n e = absurd d
+  one-decides (Part lease ran hit) other m d n e = absurd d
   one-decides (Free freed) other m d n e = absurd d
   one-decides (Scrub winner losers) other m d n e = absurd d
 
@@ -185,16 +188,19 @@ module _ (job : Job) (core : Core) (thread : ℕ) where
   one-frees (Free t) (End how) m d n e = absurd (free-no-end (subst (MayFree job core) d m) how e)
   one-frees (Free t) (Take lease) m d n e = absurd e
   one-frees (Free t) (Put lease ran hit) m d n e = absurd e
+  one-frees (Free t) (Part lease ran hit) m d n e = absurd e
   one-frees (Free t) (Vote voted count won lost did) m d n e = absurd e
   one-frees (Free t) (Scrub winner losers) m d n e = absurd e
   one-frees (End how) (Free t) m d n e = absurd (free-no-end (subst (MayFree job core) e n) how d)
   one-frees (End how) (End other) m d n e = ap End (one-free-end how other d e)
   one-frees (End how) (Take lease) m d n e = absurd e
   one-frees (End how) (Put lease ran hit) m d n e = absurd e
+  one-frees (End how) (Part lease ran hit) m d n e = absurd e
   one-frees (End how) (Vote voted count won lost did) m d n e = absurd e
   one-frees (End how) (Scrub winner losers) m d n e = absurd e
   one-frees (Take lease) other m d n e = absurd d
   one-frees (Put lease ran hit) other m d n e = absurd d
+  one-frees (Part lease ran hit) other m d n e = absurd d
   one-frees (Vote voted count won lost did) other m d n e = absurd d
   one-frees (Scrub winner losers) other m d n e = absurd d
 
@@ -244,15 +250,18 @@ module _ (job : Job) (core : Core) where
   one-scrubs (Scrub won lost) (End how) m d n e = absurd (scrub-no-end won lost m how e)
   one-scrubs (Scrub won lost) (Take lease) m d n e = absurd e
   one-scrubs (Scrub won lost) (Put lease ran hit) m d n e = absurd e
+  one-scrubs (Scrub won lost) (Part lease ran hit) m d n e = absurd e
   one-scrubs (Scrub won lost) (Vote voted count winner losers did) m d n e = absurd e
   one-scrubs (Scrub won lost) (Free freed) m d n e = absurd e
   one-scrubs (End how) (Scrub won lost) m d n e = absurd (scrub-no-end won lost n how d)
   one-scrubs (End how) (End other) m d n e = ap End (one-scrub-end how other d e)
   one-scrubs (End how) (Take lease) m d n e = absurd e
   one-scrubs (End how) (Put lease ran hit) m d n e = absurd e
+  one-scrubs (End how) (Part lease ran hit) m d n e = absurd e
   one-scrubs (End how) (Vote voted count winner losers did) m d n e = absurd e
   one-scrubs (End how) (Free freed) m d n e = absurd e
   one-scrubs (Take lease) other m d n e = absurd d
   one-scrubs (Put lease ran hit) other m d n e = absurd d
+  one-scrubs (Part lease ran hit) other m d n e = absurd d
   one-scrubs (Vote voted count winner losers did) other m d n e = absurd d
   one-scrubs (Free freed) other m d n e = absurd d

@@ -4,7 +4,7 @@ use Rattle.std.specs.Prelude.{◌==◌, nat_le, nat_lt, if◌then◌else◌}
 use Rattle.std.proofs.lemmas.Bool.{and_from, eq-eqb, ltb-false, le-leb}
 use Rattle.ro_journal.specs.Losers.{numbers}
 use Rattle.ro_journal.specs.declared.Entry.{Entry}
-use Rattle.ro_journal.specs.declared.Entry.TheVariants.{Take, Put, Vote, Free, Scrub, End}
+use Rattle.ro_journal.specs.declared.Entry.TheVariants.{Take, Put, Part, Vote, Free, Scrub, End}
 use Rattle.ro_legal.specs.declared.actions.Streak.{Streak}
 use Rattle.ro_legal.specs.declared.actions.Action.TheVariants as act
 use Rattle.ro_legal.specs.Streaks.{AreOfThread, votes_in, no_streak, after_vote, after_free, after_event, comes_last, streak_after, streak_from, streak_of}
@@ -23,6 +23,7 @@ entry-streak : (job : Job) (core : Core) (entry : Entry) → IsAllowed job core 
 unfolding after
 entry-streak job core (Take lease) may = refl
 entry-streak job core (Put lease count hit) may = ap (λ (c : Core). c.streak) (put-only job core lease count (lease_run job core lease count))
+entry-streak job core (Part lease count hit) may = absurd may
 entry-streak job core (Vote thread count won lost did) may =
     ap (λ (o : Option Event). (core_after_event core thread count (with_recovered won (numbers lost) core.replicas) o).streak) may.comes
     ∙ ap (after_event core.streak thread) (vote-parts core thread may.may).unblocked
@@ -77,6 +78,7 @@ row-grows thread k streak (Free freed ∷ row) own h =
     subst (λ (t : ℕ). IsRow thread (k + votes_in row) (streak_from (after_free streak t) row)) (sym own.0) (row-grows thread k (after_free streak thread) row own.1 (freed-own thread k streak h))
 row-grows thread k streak (Take lease ∷ row) own h = row-grows thread k streak row own h
 row-grows thread k streak (Put lease count hit ∷ row) own h = row-grows thread k streak row own h
+row-grows thread k streak (Part lease count hit ∷ row) own h = row-grows thread k streak row own h
 row-grows thread k streak (Scrub won lost ∷ row) own h = row-grows thread k streak row own h
 row-grows thread k streak (End how ∷ row) own h = row-grows thread k streak row own h
 
@@ -103,6 +105,7 @@ row-begins thread streak (Vote voted count won lost did ∷ row) own some =
 row-begins thread streak (Free freed ∷ row) own some = row-begins thread (after_free streak freed) row own.1 some
 row-begins thread streak (Take lease ∷ row) own some = row-begins thread streak row own some
 row-begins thread streak (Put lease count hit ∷ row) own some = row-begins thread streak row own some
+row-begins thread streak (Part lease count hit ∷ row) own some = row-begins thread streak row own some
 row-begins thread streak (Scrub won lost ∷ row) own some = row-begins thread streak row own some
 row-begins thread streak (End how ∷ row) own some = row-begins thread streak row own some
 

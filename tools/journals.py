@@ -22,6 +22,11 @@ class Put:
 
 
 @dataclasses.dataclass
+class Part(Put):
+    """The same before its quantum was over, its thread stopped for no vote."""
+
+
+@dataclasses.dataclass
 class Vote:
     """Thread `thread` was compared, `steps` instructions behind its event before; `losers` rise, none where all agreed."""
     thread: int
@@ -53,7 +58,7 @@ class End:
 
 @dataclasses.dataclass
 class Report:
-    entries: list  # Put, Vote, Free, Scrub, End in their order; without --journal none
+    entries: list  # Put, Part, Vote, Free, Scrub, End in their order; without --journal none
     summary: dict  # votes, copies, struck, steps, bytes; empty where nothing ran
     answer: str
 
@@ -77,6 +82,8 @@ def read_entry(line):
         return Take(*map(int, words))
     if kind == "put":
         return Put(*map(int, words))
+    if kind == "part":
+        return Part(*map(int, words))
     if kind == "vote":
         return Vote(int(words[0]), int(words[1]), int(words[2]), losers_of(words[3]), words[4])
     if kind == "free":

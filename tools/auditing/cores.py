@@ -4,7 +4,7 @@ import dataclasses
 
 from auditing.jobs import Entry, Fault, Job
 from auditing.replicas import Change, PageFault, Replica, Stands, Stop, Trap, View
-from journals import Free, Put, Scrub, Take, Vote
+from journals import Free, Part, Put, Scrub, Take, Vote
 from kernel import PAGE, Atomic, Blocked, Call, Done, Effect, Ends, Kernel, Parked, Served, opening_kernel
 
 
@@ -111,6 +111,8 @@ class Core:
         """What an entry does; Illegal where it isn't allowed."""
         if isinstance(entry, Take):
             self.take(entry)
+        elif isinstance(entry, Part):
+            raise Illegal("no lease comes back so")
         elif isinstance(entry, Put):
             self.put(entry)
         elif isinstance(entry, Vote):

@@ -9,7 +9,7 @@ from auditing.replicas import Change
 from fuzzing import readers
 from fuzzing.machine import STACKS, STACK_SIZE, STACK_STEP
 from fuzzing.programs import BASE, PAGE
-from journals import End, Free, Put, Scrub, Take, Vote
+from journals import End, Free, Part, Put, Scrub, Take, Vote
 from kernel import MAPPED
 
 HEAD = "romain 2"
@@ -113,7 +113,8 @@ def line_of(entry: Entry) -> str:
     if isinstance(entry, Take):
         return f"take {entry.driver} {entry.replica} {entry.thread}"
     if isinstance(entry, Put):
-        return f"put {entry.driver} {entry.replica} {entry.thread} {entry.retired} {entry.struck}"
+        kind = "part" if isinstance(entry, Part) else "put"
+        return f"{kind} {entry.driver} {entry.replica} {entry.thread} {entry.retired} {entry.struck}"
     if isinstance(entry, Vote):
         return f"vote {entry.thread} {entry.steps} {entry.winner} {losers_of(entry)} {entry.did}"
     if isinstance(entry, Scrub):
@@ -170,6 +171,16 @@ def change_scrub(draw: random.Random, lines: list[str]):
     lines[place:place + 1] = [[f"scrub {draw.randrange(5)} {losers}"], [f"scrub {winner} {draw.choice(LOSERS)}"], []][how]
 
 
+def change_back(draw: random.Random, lines: list[str]):
+    """A lease comes back in part in place of whole, or whole in place of in part."""
+    kinds = {"put": "part", "part": "put"}
+    places = [place for place, line in enumerate(lines) if line.split(" ")[0] in kinds]
+    if places:
+        place = draw.choice(places)
+        kind, rest = lines[place].split(" ", 1)
+        lines[place] = f"{kinds[kind]} {rest}"
+
+
 def drop(draw: random.Random, lines: list[str]):
     del lines[draw.randrange(len(lines))]
 
@@ -200,8 +211,8 @@ def take_end(draw: random.Random, lines: list[str]):
     del lines[draw.choice((len(lines) - 1, draw.randrange(len(lines)))):]
 
 
-CHANGES = [change_number] * 4 + [change_vote, change_scrub, change_scrub, drop, drop, double, swap, swap, put_end, put_end,
-                                 take_end]
+CHANGES = [change_number] * 4 + [change_vote, change_scrub, change_scrub, change_back, drop, drop, double, swap, swap, put_end,
+                                 put_end, take_end]
 
 
 def draw_change(draw: random.Random, lines: list[str]) -> list[str]:

@@ -3,7 +3,7 @@ from auditing.cores import STEPS, Core
 from auditing.drawing import line_of
 from auditing.jobs import Entry, Job
 from auditing.replicas import Change
-from journals import Free, Put, Scrub, Take, Vote
+from journals import Free, Part, Put, Scrub, Take, Vote
 
 
 def core_behind(job: Job, entries: list[Entry]) -> Core:
@@ -20,6 +20,8 @@ def reason_of(core: Core, entry: Entry) -> dict:
         return {"reason": "behind"}
     if isinstance(entry, Take):
         return {"reason": "not_lendable"}
+    if isinstance(entry, Part):
+        return {"reason": "no_part"}
     if isinstance(entry, Put):
         return reason_of_put(core, entry)
     if isinstance(entry, Vote):

@@ -246,11 +246,12 @@ class Journals:
         self.guest = (SMALL / "hello").read_bytes()
 
     def text(self, draw):
-        """A journal like those that a run of one driver has."""
+        """A journal like those that a run of one driver has, and now and then a lease that comes back in parts."""
         lines, left = [b"romain 2"], [13, 6]
         for steps in left:
             for replica in range(3):
-                lines += [b"take 0 %d 0" % replica, b"put 0 %d 0 %d 0" % (replica, steps)]
+                kind = draw.choice((b"put", b"put", b"put", b"part"))
+                lines += [b"take 0 %d 0" % replica, b"%s 0 %d 0 %d 0" % (kind, replica, steps)]
             lines += [b"scrub 0 %s" % draw.choice((b"-", b"1", b"1,2"))] * draw.choice((0, 0, 1))
             did = draw.choice((b"served", b"served", b"parked"))  # each a step
             lines.append(b"vote 0 %d 0 %s %s" % (steps, draw.choice((b"-", b"1", b"2")), did))

@@ -244,10 +244,11 @@ DRIVER, THREAD = (0, 7), (0, 15)
 
 
 def entries_of(replica):
-    """The ranges of the numbers of each kind of entry but an end, and but those of losers. The first version has no scrubs."""
-    return {b"take": [DRIVER, replica, THREAD], b"put": [DRIVER, replica, THREAD, (0, 65_536), (0, 256)],
-            b"vote": [THREAD, (0, 1_000_000), replica], b"free": [THREAD],
-            **({b"scrub": [replica]} if replica == HEADS[b"romain 2"] else {})}
+    """The ranges of the numbers of each kind of entry but an end, and but those of losers. The first version has no scrubs and
+    no parts."""
+    back = [DRIVER, replica, THREAD, (0, 65_536), (0, 256)]
+    return {b"take": [DRIVER, replica, THREAD], b"put": back, b"vote": [THREAD, (0, 1_000_000), replica], b"free": [THREAD],
+            **({b"part": back, b"scrub": [replica]} if replica == HEADS[b"romain 2"] else {})}
 
 
 def fields_code(fields, ranges):

@@ -8,7 +8,7 @@ use Rattle.ro_journal.specs.declared.How.{How}
 use Rattle.ro_journal.specs.declared.How.TheVariants.{Exit}
 use Rattle.ro_journal.specs.declared.Lease.{Lease}
 use Rattle.ro_journal.specs.declared.Entry.{Entry}
-use Rattle.ro_journal.specs.declared.Entry.TheVariants.{Take, Put, Vote, Free, Scrub, End}
+use Rattle.ro_journal.specs.declared.Entry.TheVariants.{Take, Put, Part, Vote, Free, Scrub, End}
 use Rattle.ro_journal.specs.declared.losers.Lost.{Lost}
 use Rattle.ro_journal.specs.Losers.{numbers}
 use Rattle.ro_journal.specs.Plan.{event_steps}
@@ -82,6 +82,7 @@ test_end _ _ = false
 abbrev pub test_entry : Job → Core → Entry → Bool
 test_entry job core (Take lease) = test_take job core lease
 test_entry job core (Put lease count hit) = test_put job core lease count hit
+test_entry job core (Part lease count hit) = false
 test_entry job core (Vote thread count won lost did) = test_vote job core thread count won lost did
 test_entry job core (Free thread) = may_free job core thread && nat_le (core.steps + 1) job.settings.limit
 test_entry job core (Scrub won lost) = false
@@ -152,6 +153,7 @@ entry-allowed job core (Take lease) e =
 entry-allowed job core (Put lease count hit) e =
     let a = and_parts _ _ e in let b = and_parts _ _ a.0 in
     put-allowed job core lease count hit (is-none-from core.ended b.0) b.1 _ refl a.1
+entry-allowed job core (Part lease count hit) e = absurd (false≢true e)
 entry-allowed job core (Vote thread count won lost did) e =
     let a = and_parts _ _ e in let b = and_parts _ _ a.0 in let c = and_parts _ _ b.0 in let d = and_parts _ _ c.0 in
     vote-allowed job core thread count won lost did d.0 (verdict-is _ won (numbers lost) d.1) (same-number _ _ c.1) _ refl b.1 (leb-true _ _ a.1)

@@ -7,7 +7,7 @@ use Rattle.ro_journal.specs.declared.Did.{Did}
 use Rattle.ro_journal.specs.declared.How.{How}
 use Rattle.ro_journal.specs.declared.Lease.{Lease}
 use Rattle.ro_journal.specs.declared.Entry.{Entry}
-use Rattle.ro_journal.specs.declared.Entry.TheVariants.{Take, Put, Vote, Free, Scrub, End}
+use Rattle.ro_journal.specs.declared.Entry.TheVariants.{Take, Put, Part, Vote, Free, Scrub, End}
 use Rattle.ro_journal.specs.declared.losers.Lost.{Lost}
 use Rattle.ro_journal.specs.Losers.{numbers}
 use Rattle.ro_journal.specs.Plan.{outcome_of}
@@ -85,6 +85,7 @@ step-leaves job core (Take lease) takes = record { output = sym (append-nil core
 step-leaves job core (Put lease count hit) puts =
     let is = put-only job core lease count (lease_run job core lease count) in
     record { output = ap (λ (c : Core). c.output) is ∙ sym (append-nil core.output); ended = ap (λ (c : Core). c.ended) is }
+step-leaves job core (Part lease count hit) kind = elim kind [ ]
 step-leaves job core (Vote thread count won lost did) votes = event-leaves core thread count (with_recovered won (numbers lost) core.replicas) (event_in job core thread won)
 step-leaves job core (Free thread) frees =
     subst (Leaves core (core_after_event core thread 0 core.replicas (freed_event job core thread))) (free-no-payload job core thread (core.blocked thread))
@@ -169,6 +170,7 @@ module _ (job : Job) (free : RaceFree job.program) (Q : List Entry → List ℕ 
   after-entry : (odds : List ℕ) (journal rest : List Entry) (q : Q journal odds) (entry : Entry) → whole ≡ journal ++ entry ∷ rest → (core : Core) (reached : Reached job odds journal core) → IsAllowed job core entry → AfterEntry job Q journal core entry
   after-entry odds journal rest q (Take lease) whole_is core reached h = is_step odds (policy.calm odds journal (Take lease) takes_calm q) takes (after-take job odds journal core reached.holds lease h)
   after-entry odds journal rest q (Put lease count hit) whole_is core reached h = after-put odds journal rest q lease count hit whole_is core reached h
+  after-entry odds journal rest q (Part lease count hit) whole_is core reached h = absurd h
   after-entry odds journal rest q (Vote thread count won lost did) whole_is core reached h = is_step odds (policy.calm odds journal (Vote thread count won lost did) votes_calm q) votes (after-vote job free odds journal core reached.holds thread count won did lost h).holds
   after-entry odds journal rest q (Free thread) whole_is core reached h = is_step odds (policy.calm odds journal (Free thread) frees_calm q) frees (after-free job free odds journal core reached.holds thread h)
   after-entry odds journal rest q (Scrub won lost) whole_is core reached h =

@@ -3,7 +3,7 @@ use Rattle.std.specs.Prelude.{◌≡◌, ℕ, zero, suc, ◌<◌, List, [], ◌�
 use Rattle.std.proofs.Common.{refl, sym, subst, arith, append_assoc, append-nil}
 use Rattle.ro_journal.specs.declared.Lease.{Lease}
 use Rattle.ro_journal.specs.declared.Entry.{Entry}
-use Rattle.ro_journal.specs.declared.Entry.TheVariants.{Take, Put, Vote, Free, Scrub, End}
+use Rattle.ro_journal.specs.declared.Entry.TheVariants.{Take, Put, Part, Vote, Free, Scrub, End}
 
 -- the property holds of what comes before each such put, and of its replica
 abbrev pub EachStrike : (List Entry → ℕ → Type 0) → List Entry → List Entry → Type 0
@@ -15,6 +15,7 @@ EachStrike P past (entry ∷ rest) = EachStrike P (past ++ entry ∷ []) rest
 later : (P : List Entry → ℕ → Type 0) (past : List Entry) (entry : Entry) (rest : List Entry) → EachStrike P past (entry ∷ rest) → EachStrike P (past ++ entry ∷ []) rest
 later P past (Put lease count (suc hit)) rest h = h.1
 later P past (Put lease count zero) rest h = h
+later P past (Part lease count hit) rest h = h
 later P past (Take lease) rest h = h
 later P past (Vote thread count won lost did) rest h = h
 later P past (Free thread) rest h = h

@@ -12,7 +12,7 @@ use Rattle.ro_journal.specs.declared.Did.TheVariants.{Served, Blocked, Parked, P
 use Rattle.ro_journal.specs.declared.How.{How}
 use Rattle.ro_journal.specs.declared.How.TheVariants.{Exit}
 use Rattle.ro_journal.specs.declared.Entry.{Entry}
-use Rattle.ro_journal.specs.declared.Entry.TheVariants.{Take, Put, Vote, Free, Scrub, End}
+use Rattle.ro_journal.specs.declared.Entry.TheVariants.{Take, Put, Part, Vote, Free, Scrub, End}
 use Rattle.ro_region.specs.declared.Range.{Range}
 use Rattle.ro_kernel.specs.Kernel.{lives_on}
 use Rattle.ro_kernel.specs.Serve.{blocks}
@@ -82,6 +82,7 @@ test_due _ _ = false
 abbrev pub test_entry : Job → Rows → Core → Entry → Bool
 test_entry job rows core (Take lease) = test_take core lease
 test_entry job rows core (Put lease count hit) = test_put job rows core lease count
+test_entry job rows core (Part lease count hit) = false
 test_entry job rows core (Vote thread count won lost did) = test_vote job core thread did
 test_entry job rows core (Free thread) = is_going core && is_nothing core.leases && test_blocked job core thread (core.blocked thread)
 test_entry job rows core (Scrub won lost) = false
@@ -160,6 +161,7 @@ entry-of job rows core (Put lease count hit) e =
     let b = and_parts (is_none core.ended) (is_out core lease) a.0 in
     let s = some-of (run_in job rows core lease count) a.1 in
     record { not_ended = none-of core.ended b.0; out = b.1; peer = s.0; runs = s.1 }
+entry-of job rows core (Part lease count hit) e = absurd (false≢true e)
 entry-of job rows core (Vote thread count won lost did) e =
     let a = and_parts (is_going core && is_nothing core.leases && lives_on core.kernel thread && is_none (core.blocked thread) && test_views (ranges_here job core) thread (zeroth_view job core thread) core.peers) (test_event did (vote_event job core thread)) e in
     let b = and_parts (is_going core && is_nothing core.leases && lives_on core.kernel thread && is_none (core.blocked thread)) (test_views (ranges_here job core) thread (zeroth_view job core thread) core.peers) a.0 in

@@ -19,7 +19,7 @@ use Rattle.ro_journal.specs.declared.Did.TheVariants.{Served as WasServed, Block
 use Rattle.ro_journal.specs.declared.How.{How}
 use Rattle.ro_journal.specs.declared.How.TheVariants.{Trap as TrapHow}
 use Rattle.ro_journal.specs.declared.Entry.{Entry}
-use Rattle.ro_journal.specs.declared.Entry.TheVariants.{Take, Put, Vote, Free, Scrub, End}
+use Rattle.ro_journal.specs.declared.Entry.TheVariants.{Take, Put, Part, Vote, Free, Scrub, End}
 use Rattle.ro_journal.specs.Plan.{event_steps}
 use Rattle.ro_exec.proofs.Backing.{a_call, a_trap}
 use Rattle.ro_kernel.specs.Kernel.{Setup, Kernel, lives_on, opening_kernel}
@@ -289,6 +289,7 @@ module _ (job : Job) (rows : Rows) (free : RaceFree job.program) (lacks : TakesB
   entry-holds core s (Put lease n hit) (is_on g) m = is_on (put-holds job rows core s g free lacks lease n hit m)
   entry-holds core s (Vote t count won lost did) (is_on g) m = vote-holds core s g t did m
   entry-holds core s (Free t) (is_on g) m = free-holds core s g t m
+  entry-holds core s (Part lease n hit) h m = absurd m
   entry-holds core s (Scrub won lost) h m = absurd m
   entry-holds core s (End how) (is_on g) m = is_on (end-on core s g how m.1)
   entry-holds core s (Take lease) (is_over o) m = absurd (stopped-not core o.stopped m.going)

@@ -8,7 +8,7 @@ use Rattle.ro_event.specs.declared.calls.Call.{Call}
 use Rattle.ro_event.specs.declared.stops.Stop.TheVariants.{Calls, Trap, PageFault, Watchdog}
 use Rattle.ro_journal.specs.declared.Lease.{Lease}
 use Rattle.ro_journal.specs.declared.Entry.{Entry}
-use Rattle.ro_journal.specs.declared.Entry.TheVariants.{Take, Put, Vote, Free, Scrub, End}
+use Rattle.ro_journal.specs.declared.Entry.TheVariants.{Take, Put, Part, Vote, Free, Scrub, End}
 use Rattle.ro_exec.specs.Next.{Layout, Next, Stands, Executes, next}
 use Rattle.ro_thread.specs.declared.Thread.{Thread}
 use Rattle.ro_orders.specs.Turns.{is_lock_or_unlock}
@@ -160,6 +160,7 @@ module _ (job : Job) (rows : Rows) where
   entry-so core (Put lease n hit) m h =
       let runs = put-so core lease n m.peer m.runs h in
       (record { not_ended = m.not_ended; out = m.out; peer = m.peer; runs = runs }, ap (after_put job core lease n) (m.runs ∙ sym runs))
+  entry-so core (Part lease n hit) m h = absurd m
   entry-so core (Vote t n won lost did) m h = (m, refl)
   entry-so core (Free t) m h = (m, refl)
   entry-so core (Scrub won lost) m h = (m, refl)
@@ -170,6 +171,7 @@ module _ (job : Job) (rows : Rows) where
   entry-back core (Put lease n hit) m =
       let b = put-back core lease n m.peer m.runs in
       (record { not_ended = m.not_ended; out = m.out; peer = m.peer; runs = b.0 }, b.1, ap (after_put job core lease n) (b.0 ∙ sym m.runs))
+  entry-back core (Part lease n hit) m = absurd m
   entry-back core (Vote t n won lost did) m = (m, tt, refl)
   entry-back core (Free t) m = (m, tt, refl)
   entry-back core (Scrub won lost) m = (m, tt, refl)

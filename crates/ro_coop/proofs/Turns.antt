@@ -9,7 +9,7 @@ use Rattle.ro_event.specs.declared.stops.Stop.{Stop}
 use Rattle.ro_event.specs.declared.stops.Stop.TheVariants.{Calls, Trap, PageFault, Watchdog}
 use Rattle.ro_journal.specs.declared.Lease.{Lease}
 use Rattle.ro_journal.specs.declared.Entry.{Entry}
-use Rattle.ro_journal.specs.declared.Entry.TheVariants.{Take, Put, Vote, Free, Scrub, End}
+use Rattle.ro_journal.specs.declared.Entry.TheVariants.{Take, Put, Part, Vote, Free, Scrub, End}
 use Rattle.ro_exec.specs.Next.{Layout, Next, Stands, Executes, next}
 use Rattle.ro_mutex.specs.Owners.{owner_of}
 use Rattle.ro_kernel.specs.Kernel.{Kernel}
@@ -277,6 +277,7 @@ module _ (job : Job) (rows : Rows) (r mutex : ℕ) where
   entry-turn core (Put lease n hit) m =
       subst (λ (o : Option Peer). InTurn rows mutex (rank_at core r mutex) (rank_at (after_put job core lease n o) r mutex) (got_at job core r (Put lease n hit))) (sym m.runs)
       (option_and_then_some (λ peer. leased_run (layout_here job core) rows job.settings.watchdog n peer lease.thread) (slice_get core.peers lease.replica) m.peer m.runs (λ peer at ran. put-turn core lease n peer m.peer at ran))
+  entry-turn core (Part lease n hit) m = absurd m
   entry-turn core (Vote t n won lost did) m = nothing-got rows mutex _ _ (event-turn core t (voted_stop core t) (vote_event job core t))
   entry-turn core (Free t) m = nothing-got rows mutex _ _ (event-turn core t (option_map Calls (core.blocked t)) (free_event job core t))
   entry-turn core (Scrub won lost) m = nothing-got rows mutex _ _ refl

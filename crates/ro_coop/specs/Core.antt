@@ -13,7 +13,7 @@ use Rattle.ro_journal.specs.declared.Did.{Did}
 use Rattle.ro_journal.specs.declared.How.{How}
 use Rattle.ro_journal.specs.declared.How.TheVariants.{Exit as ExitHow, Trap as TrapHow}
 use Rattle.ro_journal.specs.declared.Entry.{Entry}
-use Rattle.ro_journal.specs.declared.Entry.TheVariants.{Take, Put, Vote, Free, Scrub, End}
+use Rattle.ro_journal.specs.declared.Entry.TheVariants.{Take, Put, Part, Vote, Free, Scrub, End}
 use Rattle.ro_journal.specs.Plan.{event_steps}
 use Rattle.ro_mutex.specs.Owners.{owner_of}
 use Rattle.ro_exec.specs.Next.{Layout}
@@ -160,6 +160,7 @@ run_in job rows core lease count =
 abbrev pub after : Job → Rows → Core → Entry → Core
 after job rows core (Take lease) = record core { leases = lease ∷ core.leases }
 after job rows core (Put lease count hit) = after_put job core lease count (run_in job rows core lease count)
+after job rows core (Part lease count hit) = core
 after job rows core (Vote thread count won lost did) = after_event job.chosen core thread (voted_stop core thread) (vote_event job core thread)
 after job rows core (Free thread) = after_event job.chosen core thread (option_map Calls (core.blocked thread)) (free_event job core thread)
 after job rows core (Scrub won lost) = core
@@ -213,6 +214,8 @@ is_outcome _ = false
 abbrev pub IsAllowed : Job → Rows → Core → Entry → Type 0
 IsAllowed job rows core (Take lease) = MayTake core lease
 IsAllowed job rows core (Put lease count hit) = MayPut job rows core lease count
+-- no lease comes back so
+IsAllowed job rows core (Part lease count hit) = ⊥
 IsAllowed job rows core (Vote thread count won lost did) = MayVote job core thread did
 IsAllowed job rows core (Free thread) = MayFree job core thread
 IsAllowed job rows core (Scrub won lost) = ⊥

@@ -2,7 +2,7 @@
 use Rattle.std.proofs.Common.{◌≡◌, ◌≢◌, ◌⊎◌, inl, inr, ℕ, ◌+◌, ◌<◌, ◌≤◌, List, [], ◌∷◌, ◌++◌, length, Option, Some, None, refl, sym, ap, ◌∙◌, arith, length-append}
 use Rattle.ro_journal.specs.declared.How.{How}
 use Rattle.ro_journal.specs.declared.Entry.{Entry}
-use Rattle.ro_journal.specs.declared.Entry.TheVariants.{Take, Put, Vote, Free, Scrub, End}
+use Rattle.ro_journal.specs.declared.Entry.TheVariants.{Take, Put, Part, Vote, Free, Scrub, End}
 use Rattle.ro_journal.specs.Plan.{outcome_of}
 use Rattle.ro_journal.specs.Losers.{numbers}
 use Rattle.ro_replica.specs.Replica.{Replica}
@@ -30,6 +30,7 @@ entry_grows : (job : Job) (core : Core) (entry : Entry) → ((how : How) → ent
 unfolding after
 entry_grows job core (Take lease) other = omega arith
 entry_grows job core (Put lease count hit) other = let same = ap (λ (c : Core). c.output) (put-only job core lease count (lease_run job core lease count)) in let long = ap length same in omega arith
+entry_grows job core (Part lease count hit) other = omega arith
 entry_grows job core (Vote thread count won lost did) other = event_grows core thread count (with_recovered won (numbers lost) core.replicas) (event_in job core thread won)
 entry_grows job core (Free thread) other = event_grows core thread 0 core.replicas (freed_event job core thread)
 entry_grows job core (Scrub won lost) other = omega arith
@@ -46,6 +47,7 @@ Comes journal entry =
 comes : (journal : List Entry) (entry : Entry) → Comes journal entry
 comes [] (Take lease) = inr ((λ how e. let f : Take lease ≡ End how = e in cc), refl)
 comes [] (Put lease count hit) = inr ((λ how e. let f : Put lease count hit ≡ End how = e in cc), refl)
+comes [] (Part lease count hit) = inr ((λ how e. let f : Part lease count hit ≡ End how = e in cc), refl)
 comes [] (Vote thread count won lost did) = inr ((λ how e. let f : Vote thread count won lost did ≡ End how = e in cc), refl)
 comes [] (Free thread) = inr ((λ how e. let f : Free thread ≡ End how = e in cc), refl)
 comes [] (Scrub won lost) = inr ((λ how e. let f : Scrub won lost ≡ End how = e in cc), refl)

@@ -6,7 +6,7 @@ use Rattle.std.specs.declared.alloc.AllocError.{AllocError}
 use Rattle.ro_journal.specs.declared.How.{How}
 use Rattle.ro_journal.specs.declared.How.TheVariants.{Sink}
 use Rattle.ro_journal.specs.declared.Entry.{Entry}
-use Rattle.ro_journal.specs.declared.Entry.TheVariants.{Take, Put, Vote, Free, Scrub, End}
+use Rattle.ro_journal.specs.declared.Entry.TheVariants.{Take, Put, Part, Vote, Free, Scrub, End}
 use Rattle.ro_journal.specs.Plan.{outcome_of}
 use Rattle.ro_replica.specs.Seen.{replica_of, Runs}
 use Rattle.ro_legal.specs.declared.actions.Action.TheVariants as act
@@ -142,6 +142,7 @@ tied_vote start core new count count' number thread entry bytes t next allowed d
     named : (e : Entry) → DecidesVote core.job (state core) thread e → Names number e
     named (Take l) h = absurd h
     named (Put l n k) h = absurd h
+    named (Part l n k) h = absurd h
     named (Vote v n w l d) h = tt
     named (Free f) h = absurd h
     named (Scrub w l) h = absurd h
@@ -161,6 +162,7 @@ tied_free start core new count count' number thread entry t next allowed decides
     named : (e : Entry) → DecidesFree core.job (state core) thread e → Names number e
     named (Take l) h = absurd h
     named (Put l n k) h = absurd h
+    named (Part l n k) h = absurd h
     named (Vote v n w l d) h = absurd h
     named (Free f) h = tt
     named (Scrub w l) h = absurd h
@@ -180,6 +182,7 @@ tied_scrub start core new count count' number entry t next allowed decides a qui
     named : (e : Entry) → DecidesScrub (state core) e → Names number e
     named (Take l) h = absurd h
     named (Put l n k) h = absurd h
+    named (Part l n k) h = absurd h
     named (Vote v n w l d) h = absurd h
     named (Free f) h = absurd h
     named (Scrub w l) h = tt
@@ -299,6 +302,10 @@ idle_decided job core driver c entry d idle = by entry d idle
     keeps (Put l n k) (frees th x h) = absurd h
     keeps (Put l n k) (scrubs x h) = absurd h
     keeps (Put l n k) (ends how x h) = absurd (let f : Put l n k ≡ End how = h in cc)
+    keeps (Part l n k) (votes th x h) = absurd h
+    keeps (Part l n k) (frees th x h) = absurd h
+    keeps (Part l n k) (scrubs x h) = absurd h
+    keeps (Part l n k) (ends how x h) = absurd (let f : Part l n k ≡ End how = h in cc)
     keeps (Vote t n w l i) h = tt
     keeps (Free t) h = tt
     keeps (Scrub w l) h = tt

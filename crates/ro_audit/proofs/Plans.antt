@@ -3,7 +3,7 @@ use Rattle.std.proofs.Common.{◌≡◌, ℕ, ◌+◌, List, [], ◌∷◌, leng
 use Rattle.std.specs.Prelude.{replicate}
 use Rattle.std.proofs.lemmas.List.{length-replicate}
 use Rattle.ro_journal.specs.declared.Entry.{Entry}
-use Rattle.ro_journal.specs.declared.Entry.TheVariants.{Take, Put, Vote, Free, Scrub, End}
+use Rattle.ro_journal.specs.declared.Entry.TheVariants.{Take, Put, Part, Vote, Free, Scrub, End}
 use Rattle.ro_journal.specs.Losers.{numbers}
 use Rattle.ro_journal.specs.Plan.{entry_plan, event_steps, plan_of}
 use Rattle.ro_legal.specs.Core.{Job, Core, opening_core}
@@ -16,6 +16,7 @@ entry-steps : (job : Job) (core : Core) (entry : Entry) → IsAllowed job core e
 unfolding after
 entry-steps job core (Take lease) m = omega arith
 entry-steps job core (Put lease count hit) m = let same = ap (λ (c : Core). c.steps) (put-only job core lease count (lease_run job core lease count)) in omega arith
+entry-steps job core (Part lease count hit) m = absurd m
 entry-steps job core (Vote thread count won lost did) m =
     let comes : (core_after_event core thread count (with_recovered won (numbers lost) core.replicas) (event_in job core thread won)).steps ≡ core.steps + count + event_steps m.event.did =
     ap (λ (o : Option Event). (core_after_event core thread count (with_recovered won (numbers lost) core.replicas) o).steps) m.comes

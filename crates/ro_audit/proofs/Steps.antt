@@ -11,7 +11,7 @@ use Rattle.ro_journal.specs.Losers.{numbers}
 use Rattle.ro_journal.specs.declared.How.{How}
 use Rattle.ro_journal.specs.declared.How.TheVariants.{Exit, Deadlock, Trap, Limit, Differ, NoMajority, Sink}
 use Rattle.ro_journal.specs.declared.Entry.{Entry}
-use Rattle.ro_journal.specs.declared.Entry.TheVariants.{Take, Put, Vote, Free, Scrub, End}
+use Rattle.ro_journal.specs.declared.Entry.TheVariants.{Take, Put, Part, Vote, Free, Scrub, End}
 use Rattle.ro_plain.specs.Machine.{layout_in}
 use Rattle.ro_replica.specs.Replica.{Replica, changed_at}
 use Rattle.ro_replica.specs.Runs.{run_of, with_stop}
@@ -143,6 +143,7 @@ vote-leases job core thread (Vote t count won lost did) d = event_leases core t 
 vote-leases job core thread (End how) d = refl
 vote-leases job core thread (Take lease) d = absurd d
 vote-leases job core thread (Put lease count hit) d = absurd d
+vote-leases job core thread (Part lease count hit) d = absurd d
 vote-leases job core thread (Free freed) d = absurd d
 vote-leases job core thread (Scrub won lost) d = absurd d
 
@@ -158,6 +159,7 @@ free-leases job core thread (Free t) d = event_leases core t 0 core.replicas (fr
 free-leases job core thread (End how) d = refl
 free-leases job core thread (Take lease) d = absurd d
 free-leases job core thread (Put lease count hit) d = absurd d
+free-leases job core thread (Part lease count hit) d = absurd d
 free-leases job core thread (Vote t count won lost did) d = absurd d
 free-leases job core thread (Scrub won lost) d = absurd d
 
@@ -173,6 +175,7 @@ scrub-leases job core (Scrub won lost) d = refl
 scrub-leases job core (End how) d = refl
 scrub-leases job core (Take lease) d = absurd d
 scrub-leases job core (Put lease count hit) d = absurd d
+scrub-leases job core (Part lease count hit) d = absurd d
 scrub-leases job core (Vote t count won lost did) d = absurd d
 scrub-leases job core (Free freed) d = absurd d
 

@@ -2,14 +2,14 @@
 use Rattle.std.specs.Prelude.{◌≡◌, ◌≢◌, ◌⊎◌, ℕ, true, false, List, [], ◌∷◌, ◌++◌, length, Some, IsSome}
 use Rattle.ro_journal.specs.declared.How.TheVariants.{Differ, NoMajority}
 use Rattle.ro_journal.specs.declared.Entry.{Entry}
-use Rattle.ro_journal.specs.declared.Entry.TheVariants.{Take, Put, Vote, Free, Scrub, End}
+use Rattle.ro_journal.specs.declared.Entry.TheVariants.{Take, Put, Part, Vote, Free, Scrub, End}
 use Rattle.ro_journal.specs.Plan.{outcome_of, plan_of}
 use Rattle.ro_legal.specs.Core.{Job, Core, is_out, may_vote, may_free}
 use Rattle.ro_legal.specs.Decides.{DecidesVote, DecidesFree, DecidesScrub}
 use Rattle.ro_legal.specs.Legal.{IsAllowed, MayTake, MayPut, Legal, may_scrub, replay, output_of}
 use Rattle.ro_core.specs.Seen.{KeepsViews}
 use Rattle.ro_audit.specs.declared.follower.Why.{Why}
-use Rattle.ro_audit.specs.declared.follower.Why.TheVariants.{NotLendable, NotOut, Ran, NoVote, NoFree, NoScrub, Comes, NoEnd, Behind}
+use Rattle.ro_audit.specs.declared.follower.Why.TheVariants.{NotLendable, NotOut, Ran, NoPart, NoVote, NoFree, NoScrub, Comes, NoEnd, Behind}
 use Rattle.ro_audit.specs.declared.audits.Audited.{Audited}
 use Rattle.ro_audit.specs.declared.audits.AuditError.{AuditError}
 use Rattle.ro_audit.specs.declared.audits.AuditError.TheVariants.{Illegal, NoMemory}
@@ -23,8 +23,8 @@ Compete job core entry came =
     ⊎ ((may_scrub core ≡ true) × DecidesScrub core entry × DecidesScrub core came)
 
 -- What a reason says of an entry that is not allowed in a core: another comes in its stead, or the run has ended; the thread can't be
--- lent to the driver; no such lease is out, or its run comes back after other counts; the thread can't be voted on, or has no call
--- that may be served; no scrub may be made; the run does not end so.
+-- lent to the driver; no such lease is out, or its run comes back after other counts; no lease comes back so; the thread can't be
+-- voted on, or has no call that may be served; no scrub may be made; the run does not end so.
 abbrev pub IsReason : Job → Core → Entry → Why → Type 0
 IsReason job core entry (Comes came) = IsAllowed job core came × (came ≢ entry) × Compete job core entry came
 IsReason job core entry Behind = IsSome core.ended
@@ -32,6 +32,7 @@ IsReason job core (Take lease) NotLendable = MayTake job core lease → ⊥
 IsReason job core (Put lease count hit) NotOut = is_out core lease ≡ false
 IsReason job core (Put lease count hit) (Ran other struck) =
     MayPut job core lease other struck × ((other ≡ count) × (struck ≡ hit) → ⊥)
+IsReason job core (Part lease count hit) NoPart = IsAllowed job core (Part lease count hit) → ⊥
 IsReason job core (Vote thread count won lost did) NoVote = may_vote core thread ≡ false
 IsReason job core (Free thread) NoFree = may_free job core thread ≡ false
 IsReason job core (Scrub won lost) NoScrub = may_scrub core ≡ false

@@ -44,6 +44,8 @@ pub enum Why {
     NotOut,
     /// The run of the lease comes back after so many instructions and faults.
     Ran { count: u32, hit: u32 },
+    /// No lease comes back before its quantum is over with its thread stopped for no vote.
+    NoPart,
     /// The thread can't be voted on.
     NoVote,
     /// The thread has no call that may be served.
@@ -162,6 +164,7 @@ impl Follower {
         match *entry {
             Entry::Take(lease) => self.take(lease),
             Entry::Put { lease, count, hit } => Ok(self.put(lease, count, hit)),
+            Entry::Part { .. } => Ok(Some(Why::NoPart)),
             Entry::Vote {
                 thread,
                 won,

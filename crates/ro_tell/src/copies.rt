@@ -69,7 +69,7 @@ impl Copies<'_> {
         ensures { OnOk result (map copied_of self.new.made.items ≡ map copied_of self.old.made.items ++ copies_at place entry.now) }
     {
         match *entry {
-            Entry::Put { lease, count, .. } => {
+            Entry::Put { lease, count, .. } | Entry::Part { lease, count, .. } => {
                 self.strikes.count(lease.replica, lease.thread, count)
             }
             Entry::Vote { thread, lost, .. } => self.push_all(place, Some(thread), lost),

@@ -160,6 +160,8 @@ const CHANGED: &[(usize, Edit, usize)] = &[
     (1, Edit::To("put 0 1 0 2 0"), 1),
     (1, Edit::To("put 0 0 1 2 0"), 1),
     (1, Edit::To("put 1 0 0 2 0"), 1),
+    (1, Edit::To("part 0 0 0 2 0"), 1),
+    (1, Edit::To("part 0 0 0 1 0"), 1),
     (1, Edit::Dropped, 1),
     (1, Edit::Doubled, 2),
     (1, Edit::Swapped, 1),

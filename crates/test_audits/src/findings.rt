@@ -419,6 +419,11 @@ const WHYS: &[(Why, &str, &str)] = &[
         r#"{"count":5,"hit":1,"reason":"ran"}"#,
     ),
     (
+        Why::NoPart,
+        "No lease comes back so.",
+        r#"{"reason":"no_part"}"#,
+    ),
+    (
         Why::NoVote,
         "The thread can't be voted on.",
         r#"{"reason":"no_vote"}"#,

@@ -18,7 +18,7 @@ use Rattle.ro_top.specs.declared.done.Told.TheVariants.{Whole, Failed}
 abbrev pub status_found : Told → Verdict → ℕ
 status_found Failed verdict = untold
 status_found Whole (Legal steps end) = 0
-status_found Whole (Illegal place entry why) = 238
+status_found Whole (Illegal place entry why) = 236
 
 -- what a sink holds, where it tells, and how often it failed
 pub record Sunk : Type 0 where

@@ -10,11 +10,11 @@ use ro_top::{Told, UNTOLD, answered, give_all};
 use std::alloc::Global;
 
 /// The status where a journal is not legal.
-const ILLEGAL: u8 = 238;
+const ILLEGAL: u8 = 236;
 
 /// Audits what the words ask for, of which the first is the program's name, and answers the status with which the process ends.
 ///
-/// What is found goes to `out`, and the status is 0 where the journal is legal, and 238 where it is not. Where the words or the
+/// What is found goes to `out`, and the status is 0 where the journal is legal, and 236 where it is not. Where the words or the
 /// files are bad, or there is no memory, `report` gets the answer's line, and the status is that of the answer. It is 251 where the
 /// sink of what is to be told failed. Neither sink has failed before.
 pub fn audit<S: Store, K: Sink, E: Sink>(

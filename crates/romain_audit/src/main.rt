@@ -1,6 +1,6 @@
 //! Audits a journal: `romain audit EXE --journal F`, and the options of the run that it is said to be of.
 //!
-//! What is told goes to standard output. The process ends with 0 where the journal is legal, with 238 where it is not, and else
+//! What is told goes to standard output. The process ends with 0 where the journal is legal, with 236 where it is not, and else
 //! with the status of a run whose words or files are bad.
 #![tactic(auto)]
 

@@ -40,7 +40,7 @@ SECTIONS
     PROVIDE(__heap_start = ALIGN(0x1000)); PROVIDE(__heap_end = ALIGN(0x1000) + 0x100000);
 
     .thread_local : { *(.tdata .tdata.* .tbss .tbss.*) }
-    .old_constructors : { *(.ctors .ctors.*) }
+    .old_constructors : { KEEP(*(.ctors .ctors.*)) }
     /* Nothing is run behind main. */
     /DISCARD/ : { *(.fini_array .fini_array.* .dtors .dtors.*) }
     /DISCARD/ : { *(.comment .note .note.* .eh_frame .eh_frame_hdr) }

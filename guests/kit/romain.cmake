@@ -17,7 +17,7 @@ set(CMAKE_TRY_COMPILE_TARGET_TYPE STATIC_LIBRARY)
 
 set(machine "-march=rv32im -mabi=ilp32 -mstrict-align")
 set(atomics "-fno-inline-atomics -include \"${CMAKE_CURRENT_LIST_DIR}/atomics.h\"")
-set(options "${machine} -ffreestanding -fno-builtin -fno-pic -fno-asynchronous-unwind-tables ${atomics}")
+set(options "${machine} -ffreestanding -fno-builtin -fno-pic -fno-asynchronous-unwind-tables -ffunction-sections ${atomics}")
 set(CMAKE_C_FLAGS_INIT "${options}")
 set(CMAKE_CXX_FLAGS_INIT "${options} -fno-exceptions -fno-rtti -fno-threadsafe-statics -fno-use-cxa-atexit")
 set(CMAKE_ASM_FLAGS_INIT "${machine}")

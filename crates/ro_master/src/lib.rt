@@ -5,6 +5,7 @@
 
 mod desks;
 mod laws;
+mod lookout;
 mod masters;
 mod passes;
 mod seats;

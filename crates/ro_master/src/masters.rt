@@ -12,27 +12,22 @@ ghost use Rattle.ro_master.specs.History.{journal_of};
 ghost use Rattle.ro_master.specs.Passes.{CountOf, empty_count};
 
 use crate::desks::Desk;
+use crate::lookout::Lookout;
 use crate::passes::{Counter, Opened, Pass};
 use crate::seats::Naming;
 use crate::sessions::Session;
 use crate::waking::Wakes;
-use crossbeam_utils::Backoff;
 use ro_io::{Gate, Sink};
 use ro_lease::{Back, Lent};
 use ro_post::{Driver, Post, Turn, Work};
 use std::alloc::{AllocError, Global};
-use std::sync::atomic::AtomicU64;
-use std::sync::atomic::Ordering::Relaxed;
 use std::sync::{Condvar, Mutex, Wait};
-
-/// How often a driver that waits looks whether it is woken before it sleeps: about as long as a sleeper takes to wake.
-const LOOKS: u32 = 40;
 
 /// The core of a run behind a lock.
 pub struct Master<K: Sink, N: Naming> {
     desk: Mutex<Desk<K, N>>,
-    /// How often those that wait for a lease were woken.
-    woken: AtomicU64,
+    /// What those that wait for a lease look at before they sleep.
+    lookout: Lookout,
     /// It tells those that wait for a lease that there is something to be done.
     moved: Condvar,
     /// It tells those that are spare that the run is over for a driver.
@@ -130,7 +125,17 @@ impl<K: Sink, N: Naming> Master<K, N> {
         ensures over { IfOk result (λ t. IfOver t (IsOver N.start.job pass.new)) }
         ensures wants { OnErr result (WantsMemory N.start pass.new) }
     {
+        let home = pass.home();
+        let is_fresh = back.is_none();
+        if is_fresh {
+            self.lookout.await_turn(home);
+        }
         let (answer, put, wakes) = self.locked_next(rt, pass, back);
+        if is_fresh {
+            self.lookout.took(pass.home());
+        } else {
+            pass.settle(home);
+        }
         self.wake(put);
         self.wake(wakes);
         answer
@@ -168,29 +173,18 @@ impl<K: Sink, N: Naming> Master<K, N> {
     fn wake_some(&self, wakes: Wakes) {
         match wakes {
             Wakes::Nobody => {}
+            Wakes::Lookouts => self.lookout.call_in_order(),
             Wakes::Helpers(count) => {
-                self.woken.fetch_add(1, Relaxed);
+                self.lookout.call();
                 for _ in 0..count {
                     self.moved.notify_one();
                 }
             }
             Wakes::All => {
-                self.woken.fetch_add(1, Relaxed);
+                self.lookout.call();
                 self.moved.notify_all();
                 self.left.notify_all();
             }
-        }
-    }
-
-    // Looks for a while whether those that wait are woken, so that a short wait is no sleep.
-    fn look_out(&self) {
-        let woken = self.woken.load(Relaxed);
-        let backoff = Backoff::new();
-        for _ in 0..LOOKS {
-            if self.woken.load(Relaxed) != woken {
-                return;
-            }
-            backoff.snooze();
         }
     }
 
@@ -211,7 +205,8 @@ impl<K: Sink, N: Naming> Master<K, N> {
         ensures rest { IfOk result (λ m. All (λ d. AtRest N.start.job d.pass) m.1.items) }
         ensures back { IfErr result (λ r. (r.core ≡ core) × (r.opened ≡ opened)) }
     {
-        let drivers = core.settings().drivers;
+        let settings = core.settings();
+        let drivers = settings.drivers;
         let Ok(all) = Vec::with_capacity(alloc, drivers as usize) else {
             return Err(Refused { core, opened });
         };
@@ -219,7 +214,7 @@ impl<K: Sink, N: Naming> Master<K, N> {
         let desk = Desk::new(core, count);
         let master = Master {
             desk: Mutex::new(desk),
-            woken: AtomicU64::new(0),
+            lookout: Lookout::new(drivers.saturating_sub(settings.replicas)),
             moved: Condvar::new(),
             left: Condvar::new(),
         };
@@ -237,7 +232,7 @@ impl<K: Sink, N: Naming> Master<K, N> {
     {
         let Master {
             desk,
-            woken: _,
+            lookout: _,
             moved: _,
             left: _,
         } = self;
@@ -318,9 +313,12 @@ impl<K: Sink, N: Naming> Post for Master<K, N> {
 
     // It looks out for a while, and then sleeps until something can be done, or, where it is spare, until a driver has left.
     fn rest<R: Wait>(&self, rt: &R) {
-        self.look_out();
+        if self.lookout.is_called() {
+            return;
+        }
         let mut desk = self.desk.lock(rt);
         if desk.waits() && desk.becomes_spare() {
+            self.lookout.became_spare();
             let _desk = self.left.wait_while(rt, desk, |desk| desk.spares_rest());
         } else {
             desk.fell_asleep();

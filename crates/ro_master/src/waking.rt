@@ -12,6 +12,8 @@ const WORTH_A_WAKE: u32 = 1_000;
 pub enum Wakes {
     /// Nobody.
     Nobody,
+    /// Those that wait for a lease, of whom none sleeps, each for the replica that it had.
+    Lookouts,
     /// Those that wait for a lease, of whom so many sleep.
     Helpers(u32),
     /// All: the run is over, or a driver found no memory and leaves the run to the others.
@@ -58,7 +60,10 @@ impl Waking {
             _ => false,
         };
         self.is_alone = !is_long;
-        self.due = self.helpers_if(is_long);
+        self.due = match self.helpers_if(is_long) {
+            Wakes::Helpers(0) => Wakes::Lookouts,
+            due => due,
+        };
     }
 
     /// A replica came back from a run of so many instructions.

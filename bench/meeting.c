@@ -1,10 +1,11 @@
-/* What it costs threads to meet: each has a buffer and works on it, stretch after stretch. The rounds of four kinds run in turn.
+/* What it costs threads to meet: each has a buffer and works on it, stretch after stretch. The rounds of six kinds run in turn.
  *
  *     meeting THREADS ROUNDS STRETCHES KIBIBYTES MICROSECONDS
  *
  * apart: nobody waits for another; meet: behind each stretch all wait for the last one, and look at a word meanwhile; sleep: they
- * sleep meanwhile, and the last one wakes them; move: they meet, and each goes on with its neighbour's buffer. A line has the
- * kind and the least and the median of microseconds for a stretch, over all rounds. */
+ * sleep meanwhile, and the last one wakes them; move: they meet, and each goes on with its neighbour's buffer; rush: they meet, and
+ * each takes the next buffer under a lock, as they come; order: the same, but each waits until its own buffer is the next. A line
+ * has the kind and the least and the median of microseconds for a stretch, over all rounds. */
 #include <pthread.h>
 #include <stdatomic.h>
 #include <stdint.h>
@@ -12,8 +13,8 @@
 #include <stdlib.h>
 #include <time.h>
 
-enum kind { APART, MEET, SLEEP, MOVE, KINDS };
-static const char *const names[KINDS] = {"apart", "meet", "sleep", "move"};
+enum kind { APART, MEET, SLEEP, MOVE, RUSH, ORDER, KINDS };
+static const char *const names[KINDS] = {"apart", "meet", "sleep", "move", "rush", "order"};
 
 static int threads, stretches;
 static size_t words;
@@ -23,6 +24,7 @@ static enum kind kind;
 
 static atomic_int arrived;
 static atomic_uint meetings;
+static atomic_int next;
 static pthread_mutex_t lock = PTHREAD_MUTEX_INITIALIZER;
 static pthread_cond_t moved = PTHREAD_COND_INITIALIZER;
 static _Atomic uint64_t sink;
@@ -45,6 +47,7 @@ static void look(void) {
     unsigned meeting = atomic_load(&meetings);
     if (atomic_fetch_add(&arrived, 1) + 1 == threads) {
         atomic_store(&arrived, 0);
+        atomic_store(&next, 0);
         atomic_fetch_add(&meetings, 1);
     } else {
         while (atomic_load_explicit(&meetings, memory_order_acquire) == meeting)
@@ -66,11 +69,33 @@ static void sleep_until_all_came(void) {
     pthread_mutex_unlock(&lock);
 }
 
+static int take_next(void) {
+    pthread_mutex_lock(&lock);
+    int taken = atomic_fetch_add(&next, 1);
+    pthread_mutex_unlock(&lock);
+    return taken;
+}
+
+static int next_buffer(int number, int stretch) {
+    switch (kind) {
+    case MOVE:
+        return (number + stretch) % threads;
+    case RUSH:
+        return stretch == 0 ? number : take_next();
+    case ORDER:
+        while (stretch > 0 && atomic_load_explicit(&next, memory_order_acquire) != number)
+            __builtin_ia32_pause();
+        return stretch == 0 ? number : take_next();
+    default:
+        return number;
+    }
+}
+
 static void *run(void *argument) {
     int number = (int)(intptr_t)argument;
     uint64_t x = 0;
     for (int stretch = 0; stretch < stretches; stretch++) {
-        int buffer = kind == MOVE ? (number + stretch) % threads : number;
+        int buffer = next_buffer(number, stretch);
         x ^= work(buffers[buffer], passes);
         if (kind == SLEEP)
             sleep_until_all_came();

@@ -17,6 +17,7 @@ use Rattle.ro_legal.specs.Legal.{any_below, is_stuck, MayVote, EndsVote, may_scr
 use Rattle.ro_legal.specs.Action.{or_else, lowest_below, map_action, threads_made, is_turn, may_vote_in, may_lend_in, lend_in, lend_turn, lend_next, first_action}
 use Rattle.ro_core.specs.Fields.{Fields, core_in, Holds}
 use Rattle.ro_core.proofs.Tests.{any-lowest, count-is, lend-test, lends-none}
+use Rattle.ro_legal.proofs.Leases.{asleep-unlent}
 use Rattle.ro_legal.proofs.Nexts.{found_below}
 use Rattle.ro_legal.proofs.Single.{no-end, one-end, scrub-no-end, one-scrub-end}
 
@@ -42,7 +43,7 @@ none-ends job core thread count won lost did m other = (
 
 -- a replica that is not there is not lent
 pub lends-within : (f : Fields) → Holds f → (replica thread : ℕ) → f.job.settings.replicas ≤ replica → false ≡ is_lendable (core_in f) replica thread
-lends-within f h replica thread far = sym (by (slice_get (core_in f).replicas replica) refl)
+lends-within f h replica thread far = sym (asleep-unlent (core_in f) replica thread (by (slice_get (core_in f).replicas replica) refl))
   where
     by : (o : Option Replica) → slice_get (core_in f).replicas replica ≡ o → (is_home (core_in f) replica && lives_on (core_in f).kernel thread && option_map_or (is_unstopped thread) o false) ≡ false
     by None e = and-last (is_home (core_in f) replica && lives_on (core_in f).kernel thread)

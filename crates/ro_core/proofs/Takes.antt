@@ -24,7 +24,7 @@ use Rattle.ro_legal.specs.declared.actions.Streak.{Streak}
 use Rattle.ro_legal.specs.Streaks.{comes_last}
 use Rattle.ro_core.specs.Fields.{spare_of, Seated, AreSeated, IsSeat, one_end, Fields, core_in, blocked_at, IsAsleep, OthersSleep, DoOthersSleep, Holds}
 use Rattle.ro_legal.proofs.Journals.{replay_more, outcome_of-append}
-use Rattle.ro_legal.proofs.Leases.{AtHome, lendable_there}
+use Rattle.ro_legal.proofs.Leases.{AtHome, lendable-awake, lendable_there}
 use Rattle.ro_core.proofs.Homes.{seat_there, take_seated}
 use Rattle.ro_core.specs.Grouped.{AreGrouped}
 use Rattle.ro_legal.proofs.Counted.{counted}
@@ -135,7 +135,7 @@ module _ (f : Fields) (h : Holds f) (lease : Lease) (allowed : MayTake f.job (co
 
   pub take-going : (value : ReplicaOf) → slice_get f.seats lease.replica ≡ Some (Some value) → is_unstopped lease.thread (replica_of value) ≡ true
   take-going value there =
-      let lendable = (and_parts _ _ allowed.lendable).1 in
+      let lendable = (and_parts _ _ (lendable-awake (core_in f) lease.replica lease.thread allowed.lendable)).1 in
       ap (λ (o : Option Replica). option_map_or (is_unstopped lease.thread) o false) (sym (take-lent value there).1) ∙ lendable
 
   -- a thread's count leaves room for a quantum in 128 bits

@@ -17,7 +17,7 @@ use Rattle.ro_replica.specs.Views.{is_unstopped}
 use Rattle.ro_replica.specs.Seen.{ReplicaOf, replica_of}
 use Rattle.ro_legal.specs.declared.actions.Action.TheVariants.{Lend, Vote as DoVote}
 use Rattle.ro_journal.specs.declared.Lease.{Lease}
-use Rattle.ro_legal.specs.Core.{Job, Core, is_going, nothing_lent, is_home, is_lendable, may_vote, may_free}
+use Rattle.ro_legal.specs.Core.{Job, Core, is_going, nothing_lent, is_home, is_awake, is_lendable, may_vote, may_free}
 use Rattle.ro_legal.specs.Legal.{any_below}
 use Rattle.ro_legal.specs.declared.actions.Streak.{Streak}
 use Rattle.ro_legal.specs.Streaks.{is_long, comes_last}
@@ -27,6 +27,7 @@ use Rattle.ro_core.specs.Fields.{Seated, AreSeated, AreHome, seat_unstopped, Fie
 use Rattle.ro_core.specs.Grouped.{seat_stopped}
 use Rattle.ro_group.specs.Groups.{is_ready}
 use Rattle.ro_core.proofs.Grouped.{ready-all}
+use Rattle.ro_legal.proofs.Leases.{lendable-awake, asleep-unlent, awake-lendable}
 use Rattle.ro_legal.proofs.Ordered.{ordered, vote-parts}
 use Rattle.ro_core.proofs.Sitting.{home-count}
 
@@ -148,6 +149,10 @@ module _ (f : Fields) (h : Holds f) where
   pub blocked-is : (thread : ℕ) → (core_in f).blocked thread ≡ blocked_at f.blocked thread
   blocked-is thread = sym (h.blocked_are thread)
 
+  -- no replica answers calls by itself
+  no-sides : (core_in f).sides ≡ []
+  no-sides = (ordered f.job f.journal h.legal).no_sides
+
   pub streak-is : (core_in f).streak ≡ f.streak
   streak-is = sym h.streak_is
 
@@ -166,8 +171,8 @@ module _ (f : Fields) (h : Holds f) where
   free-test thread going lent kernel call = going && (lent == 0) && option_map_or (λ c. serves (setup_of f.job.program) kernel thread c) call false
 
   -- and that of a lease
-  pub is-lendable-is : (replica thread : ℕ) (seat : Option ReplicaOf) → slice_get f.seats replica ≡ Some seat → (seat_unstopped thread seat && lives_on f.kernel.kernel thread) ≡ is_lendable (core_in f) replica thread
-  is-lendable-is replica thread seat there = by seat (subst (λ (o : Option (Option ReplicaOf)). Seated f.job (core_in f) replica o) there (h.seats_are.each replica))
+  is-awake-is : (replica thread : ℕ) (seat : Option ReplicaOf) → slice_get f.seats replica ≡ Some seat → (seat_unstopped thread seat && lives_on f.kernel.kernel thread) ≡ is_awake (core_in f) replica thread
+  is-awake-is replica thread seat there = by seat (subst (λ (o : Option (Option ReplicaOf)). Seated f.job (core_in f) replica o) there (h.seats_are.each replica))
     where
       swap : (a b : Bool) → (a && b) ≡ (true && b && a)
       swap true true = refl
@@ -175,13 +180,16 @@ module _ (f : Fields) (h : Holds f) where
       swap false true = refl
       swap false false = refl
 
-      by : (seat : Option ReplicaOf) → Seated f.job (core_in f) replica (Some seat) → (seat_unstopped thread seat && lives_on f.kernel.kernel thread) ≡ is_lendable (core_in f) replica thread
+      by : (seat : Option ReplicaOf) → Seated f.job (core_in f) replica (Some seat) → (seat_unstopped thread seat && lives_on f.kernel.kernel thread) ≡ is_awake (core_in f) replica thread
       by None away = sym (ap (λ (b : Bool). b && lives_on (core_in f).kernel thread && option_map_or (is_unstopped thread) (slice_get (core_in f).replicas replica) false) away)
       by (Some value) s =
           swap (is_unstopped thread (replica_of value)) (lives_on f.kernel.kernel thread)
           ∙ ap (λ (b : Bool). b && lives_on f.kernel.kernel thread && is_unstopped thread (replica_of value)) (sym s.0)
           ∙ ap (λ (k : Kernel). is_home (core_in f) replica && lives_on k thread && is_unstopped thread (replica_of value)) (sym kernel-is)
           ∙ ap (λ (o : Option Replica). is_home (core_in f) replica && lives_on (core_in f).kernel thread && option_map_or (is_unstopped thread) o false) (sym s.2)
+
+  pub is-lendable-is : (replica thread : ℕ) (seat : Option ReplicaOf) → slice_get f.seats replica ≡ Some seat → (seat_unstopped thread seat && lives_on f.kernel.kernel thread) ≡ is_lendable (core_in f) replica thread
+  is-lendable-is replica thread seat there = is-awake-is replica thread seat there ∙ awake-lendable (core_in f) replica thread no-sides
 
   -- the run is over where its fields say so
   pub over-is : (b : Bool) → b ≡ is_some f.ended → is_some (core_in f).ended ≡ b
@@ -217,14 +225,14 @@ module _ (f : Fields) (h : Holds f) where
 
   -- a thread that has exited, or stands still in every replica, can be lent in none
   pub gone : (thread : ℕ) → lives_on f.kernel.kernel thread ≡ false → (replica : ℕ) → is_lendable (core_in f) replica thread ≡ false
-  gone thread dead replica =
-      and_left (is_home (core_in f) replica && lives_on (core_in f).kernel thread) (option_map_or (is_unstopped thread) (slice_get (core_in f).replicas replica) false)
-      (and_right (is_home (core_in f) replica) (lives_on (core_in f).kernel thread) (ap (λ (k : Kernel). lives_on k thread) kernel-is ∙ dead))
+  gone thread dead replica = asleep-unlent (core_in f) replica thread
+      (and_left (is_home (core_in f) replica && lives_on (core_in f).kernel thread) (option_map_or (is_unstopped thread) (slice_get (core_in f).replicas replica) false)
+      (and_right (is_home (core_in f) replica) (lives_on (core_in f).kernel thread) (ap (λ (k : Kernel). lives_on k thread) kernel-is ∙ dead)))
 
   pub standing : (thread : ℕ) → not (is_ready f.groups thread) ≡ false → (replica : ℕ) → is_lendable (core_in f) replica thread ≡ false
-  standing thread ready replica =
-      and_right (is_home (core_in f) replica && lives_on (core_in f).kernel thread) (option_map_or (is_unstopped thread) (slice_get (core_in f).replicas replica) false)
-      (unstopped (core_in f).replicas replica (sym (ready-all (core_in f).replicas f.groups thread h.groups_are) ∙ told (is_ready f.groups thread) ready))
+  standing thread ready replica = asleep-unlent (core_in f) replica thread
+      (and_right (is_home (core_in f) replica && lives_on (core_in f).kernel thread) (option_map_or (is_unstopped thread) (slice_get (core_in f).replicas replica) false)
+      (unstopped (core_in f).replicas replica (sym (ready-all (core_in f).replicas f.groups thread h.groups_are) ∙ told (is_ready f.groups thread) ready)))
     where
       one : (r : Replica) → is_some (stop_of r thread) ≡ true → is_unstopped thread r ≡ false
       one r e = by (slice_get r.threads thread) e
@@ -334,7 +342,7 @@ voted-made core thread e = lives-within core.kernel thread (vote-parts core thre
 
 pub lent-made : (core : Core) (replica thread : ℕ) → is_lendable core replica thread ≡ true → thread < threads_made core
 lent-made core replica thread e =
-    let parts = and_parts (is_home core replica && lives_on core.kernel thread) (option_map_or (is_unstopped thread) (slice_get core.replicas replica) false) e in
+    let parts = and_parts (is_home core replica && lives_on core.kernel thread) (option_map_or (is_unstopped thread) (slice_get core.replicas replica) false) (lendable-awake core replica thread e) in
     lives-within core.kernel thread (and_parts (is_home core replica) (lives_on core.kernel thread) parts.0).1
 
 -- where each other thread can be lent nowhere

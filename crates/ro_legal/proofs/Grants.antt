@@ -37,7 +37,7 @@ use Rattle.ro_legal.proofs.Copies.{copied-other}
 use Rattle.ro_legal.proofs.Effects.{backed_after, threads_after}
 use Rattle.ro_legal.proofs.Happens.{Happens, event-happens, call-happens}
 use Rattle.ro_legal.proofs.Journals.{LegalFrom-parts, legal-keeps, replay_more}
-use Rattle.ro_legal.proofs.Leases.{Apart, has_replica, same-lease, out_has, gone, event_leases, apart_after}
+use Rattle.ro_legal.proofs.Leases.{Apart, lendable-awake, has_replica, same-lease, out_has, gone, event_leases, apart_after}
 use Rattle.ro_legal.proofs.Ordered.{put-parts, vote-parts, free-parts, scrub-parts, event-parts, freed-is}
 use Rattle.ro_legal.proofs.Outcomes.{over_from}
 use Rattle.ro_legal.proofs.Retired.{RunMeets, meets}
@@ -73,7 +73,7 @@ unfolding after
 go-take job core lease lendable h other e = by (is_lease other lease) refl e
   where
     lent : goes_in core lease.replica lease.thread ≡ true
-    lent = (and_parts (is_home core lease.replica && lives_on core.kernel lease.thread) _ lendable).1
+    lent = (and_parts (is_home core lease.replica && lives_on core.kernel lease.thread) _ (lendable-awake core lease.replica lease.thread lendable)).1
 
     by : (b : Bool) → is_lease other lease ≡ b → (b || is_out core other) ≡ true → goes_in core other.replica other.thread ≡ true
     by true is f = subst (λ (l : Lease). goes_in core l.replica l.thread ≡ true) (same-lease other lease is) lent

@@ -13,11 +13,36 @@ use Rattle.ro_replica.specs.Runs.{RanTo}
 use Rattle.ro_replica.specs.Views.{is_unstopped}
 use Rattle.ro_journal.specs.declared.Lease.{Lease}
 use Rattle.ro_journal.specs.Leases.{lease_to}
-use Rattle.ro_legal.specs.Core.{Job, Core, opening_core, is_home, is_lease, is_lendable}
+use Rattle.ro_legal.specs.Sides.{Side}
+use Rattle.ro_legal.specs.Core.{Job, Core, opening_core, is_home, is_lease, is_kept, is_parked, is_awake, is_lendable}
 use Rattle.ro_kernel.specs.Kernel.{lives_on}
 use Rattle.ro_legal.specs.Event.{Event, with_recovered}
 use Rattle.ro_legal.specs.Legal.{core_after_put, core_after_event, lease_run, event_in, freed_event, after, MayTake, IsAllowed, Legal, replay}
 use Rattle.ro_legal.proofs.Journals.{legal-keeps}
+
+-- ---- what may be lent
+
+-- what may be lent is awake
+pub lendable-awake : (core : Core) (replica thread : ℕ) → is_lendable core replica thread ≡ true → is_awake core replica thread ≡ true
+lendable-awake core replica thread e = (and_parts (is_awake core replica thread) (not (is_parked core replica thread)) e).0
+
+-- what is not awake may not be lent
+pub asleep-unlent : (core : Core) (replica thread : ℕ) → is_awake core replica thread ≡ false → is_lendable core replica thread ≡ false
+asleep-unlent core replica thread e = ap (λ (b : Bool). b && not (is_parked core replica thread)) e
+
+-- where no replica answers calls by itself, what is awake may be lent
+pub awake-lendable : (core : Core) (replica thread : ℕ) → core.sides ≡ [] → is_awake core replica thread ≡ is_lendable core replica thread
+awake-lendable core replica thread none = by (is_awake core replica thread) (is_parked core replica thread) unparked
+  where
+    unparked : is_parked core replica thread ≡ false
+    unparked = ap (λ (sides : List Side). option_map_or (λ side. option_map_or (is_kept core side thread) (side.parked thread) false) (slice_get sides replica) false) none
+
+    by : (awake parked : Bool) → parked ≡ false → awake ≡ (awake && not parked)
+    by true false e = refl
+    by false false e = refl
+    by awake true e = absurd (true≢false e)
+
+-- ---- leases by their numbers
 
 -- whether a lease with this number is in the list, by what its number is
 abbrev pub has_number : (key : Lease → ℕ) → ℕ → List Lease → Bool
@@ -145,7 +170,7 @@ apart_after job core entry m h = leases_keep job (λ leases. Apart leases) (diff
   where
     takes : (core : Core) (lease : Lease) → MayTake job core lease → Apart core.leases → Apart (lease ∷ core.leases)
     takes core lease m h =
-        let p = and_parts (is_home core lease.replica && lives_on core.kernel lease.thread) _ m.lendable in
+        let p = and_parts (is_home core lease.replica && lives_on core.kernel lease.thread) _ (lendable-awake core lease.replica lease.thread m.lendable) in
         let q = and_parts (is_home core lease.replica) (lives_on core.kernel lease.thread) p.0 in
         (not_false (has_replica lease.replica core.leases) q.0, h)
 
@@ -198,7 +223,7 @@ pub record AtHome (core : Core) (replica : ℕ) : Type 0 where
 
 pub lendable_there : (core : Core) (replica thread : ℕ) → is_lendable core replica thread ≡ true → AtHome core replica
 lendable_there core replica thread e =
-    let p = and_parts (is_home core replica && lives_on core.kernel thread) (option_map_or (is_unstopped thread) (slice_get core.replicas replica) false) e in
+    let p = and_parts (is_home core replica && lives_on core.kernel thread) (option_map_or (is_unstopped thread) (slice_get core.replicas replica) false) (lendable-awake core replica thread e) in
     let q = and_parts (is_home core replica) (lives_on core.kernel thread) p.0 in
     some q.0 (slice_get core.replicas replica) refl p.1
   where

@@ -60,6 +60,7 @@ ordered-take : (job : Job) (core : Core) (lease : Lease) → MayTake job core le
 unfolding after
 ordered-take job core lease may h = record {
   replica_count = h.replica_count;
+  no_sides = h.no_sides;
   backed = h.backed;
   sound = λ number r e. sound-with job core (after job core (Take lease)) h.backed number r refl (h.sound number r e);
   some_life = h.some_life;
@@ -91,6 +92,7 @@ none-left p leases e = ap (filter p) e
 ordered-ran : (job : Job) (core : Core) (lease : Lease) (count hit : ℕ) (may : MayPut job core lease count hit) → IsOrdered job core → IsOrdered job (core_after_put job core lease count (Some may.ran))
 ordered-ran job core lease count hit may h = record {
   replica_count = length-set core.replicas lease.replica _ ∙ h.replica_count;
+  no_sides = h.no_sides;
   backed = h.backed;
   sound = λ number r e. by number r (get-set-cases core.replicas lease.replica number (arrived job core.kernel lease.thread count may.ran.replica) r e);
   some_life = h.some_life;
@@ -155,6 +157,7 @@ module _ (job : Job) (core : Core) (h : IsOrdered job core) (thread count : ℕ)
   unfolding new
   ordered-event = record {
     replica_count = length-mapped _ replicas ∙ (as_many ∙ h.replica_count);
+    no_sides = h.no_sides;
     backed = backed_after event.effect h.backed;
     sound = λ number r e. sound-after number r (get-map _ replicas number r e);
     some_life = let more : length event.kernel.lives ≡ length core.kernel.lives + made_count event.effect.made = happens.lives_are in let some = h.some_life in omega arith;
@@ -302,6 +305,7 @@ ordered-scrub : (job : Job) (core : Core) (won : ℕ) (lost : Lost) → MayScrub
 unfolding after
 ordered-scrub job core won lost may h = record {
   replica_count = length-with-copy won (numbers lost) core.replicas ∙ h.replica_count;
+  no_sides = h.no_sides;
   backed = h.backed;
   sound = λ number r e. let w = scrub-winner core won lost may in
       sound-with job core (after job core (Scrub won lost)) h.backed number r refl (copied-sound job core h.backed core.replicas won w.0 (numbers lost) w.1 h.sound number r e);
@@ -331,6 +335,7 @@ ordered-end : (job : Job) (core : Core) (how : How) → MayEnd job core how → 
 unfolding after
 ordered-end job core how may h = record {
   replica_count = h.replica_count;
+  no_sides = h.no_sides;
   backed = h.backed;
   sound = λ number r e. sound-with job core (after job core (End how)) h.backed number r refl (h.sound number r e);
   some_life = h.some_life;
@@ -375,6 +380,7 @@ pub ordered-opening : (job : Job) → IsOrdered job (opening_core job)
 unfolding opening_core
 ordered-opening job = record {
   replica_count = length-opening job job.settings.replicas;
+  no_sides = refl;
   backed = holds_file_byte job.program.image.pieces;
   sound = λ number r e. subst (IsSound job (opening_core job) (holds_file_byte job.program.image.pieces) number) (get-opening job job.settings.replicas number r e) (opening-sound job (opening_core job) number refl);
   some_life = omega arith;

@@ -1,4 +1,5 @@
 pub mod Streaks
+pub mod Sides
 pub mod Core
 pub mod Event
 pub mod Legal
@@ -9,3 +10,4 @@ pub mod Decides
 pub mod Turns
 pub mod Sound
 pub mod Laws
+pub mod Cooperative

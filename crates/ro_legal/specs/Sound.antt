@@ -36,6 +36,7 @@ pub data IsOver : How → Type 0 where
 -- What every legal journal keeps of its core.
 pub record IsOrdered (job : Job) (core : Core) : Type 0 where
   pub replica_count : length core.replicas ≡ job.settings.replicas
+  pub no_sides : core.sides ≡ []
   pub backed : Backed
   pub sound : (number : ℕ) (replica : Replica) → slice_get core.replicas number ≡ Some replica → IsSound job core backed number replica
   pub some_life : 0 < length core.kernel.lives

@@ -27,6 +27,7 @@ use Rattle.ro_journal.specs.declared.Lease.{Lease}
 use Rattle.ro_legal.specs.Core.{Job, Core, is_going, nothing_lent, is_home, is_lendable, may_vote, may_free, views_of, snapshots_of}
 use Rattle.ro_replica.specs.Views.{is_unstopped}
 use Rattle.ro_legal.specs.Legal.{any_below, is_stuck, may_scrub, MayEnd, due, alone, for_vote, for_free, for_scrub}
+use Rattle.ro_legal.proofs.Leases.{awake-lendable}
 use Rattle.ro_legal.proofs.Ordered.{scrub-parts}
 use Rattle.ro_vote.specs.Prevails.{NonePrevails}
 use Rattle.ro_simulation.proofs.Scrubs.{some-good as some-still, always-prevails}
@@ -146,7 +147,7 @@ module _ (job : Job) (odds : List ℕ) (journal : List Entry) (core : Core) (h :
     is-stopped i r e =
         let short = slice_get_within core.replicas i r e in
         let unlent : is_lendable core i u ≡ false = none-below (length core.replicas) (λ replica. is_lendable core replica u) nothing.2 i short in
-        let none : option_map_or (is_unstopped u) (slice_get core.replicas i) false ≡ false = last-false (is_home core i && lives_on core.kernel u) _ (and_from _ _ (at_home i) alive) unlent in
+        let none : option_map_or (is_unstopped u) (slice_get core.replicas i) false ≡ false = last-false (is_home core i && lives_on core.kernel u) _ (and_from _ _ (at_home i) alive) (awake-lendable core i u h.no_sides ∙ unlent) in
         let here : is_unstopped u r ≡ false = sym (ap (λ (o : Option Replica). option_map_or (is_unstopped u) o false) e) ∙ none in
         let thread = get-within r.threads u (let low = live-within core.kernel.lives u alive in let all = (h.sound i r e).all_made in omega arith) in
         let is_open : is_none thread.0.stop ≡ false = sym (ap (λ (o : Option Thread). option_map_or (λ t. is_none t.stop) o false) thread.1) ∙ here in

@@ -19,7 +19,7 @@ use Rattle.ro_legal.specs.Sound.{IsSound}
 use Rattle.ro_vote.specs.Numbers.{is_among, AtMostHalf}
 use Rattle.ro_simulation.specs.Invariant.{Agrees, TracksIdeal}
 use Rattle.ro_legal.proofs.Lists.{get-set-cases}
-use Rattle.ro_legal.proofs.Leases.{same-lease}
+use Rattle.ro_legal.proofs.Leases.{lendable-awake, same-lease}
 use Rattle.ro_legal.proofs.Ordered.{sound-with, PutParts, put-parts}
 use Rattle.ro_legal.proofs.Grants.{any-filter}
 use Rattle.ro_legal.proofs.Sound.{HasFault, StruckWell, run-well, sound-changed}
@@ -46,7 +46,7 @@ or-right false c e = e
 module _ (job : Job) (odds : List ℕ) (journal : List Entry) (core : Core) (h : TracksIdeal job odds journal core) (lease : Lease) (may : MayTake job core lease) where
   -- the taken thread lives
   live : IsTrue (lives_on core.kernel lease.thread)
-  live = (and_parts _ _ (and_parts _ _ may.lendable).0).1
+  live = (and_parts _ _ (and_parts _ _ (lendable-awake core lease.replica lease.thread may.lendable)).0).1
 
   -- the program goes on at a take
   going : h.machine.ended ≡ None
@@ -72,6 +72,7 @@ module _ (job : Job) (odds : List ℕ) (journal : List Entry) (core : Core) (h :
     as_many = h.as_many;
     few = h.few;
     replica_count = h.replica_count;
+    no_sides = h.no_sides;
     backed = h.backed;
     sound = λ number r e. sound-with job core (record core { leases = lease ∷ core.leases; wrote = 0 }) h.backed number r refl (h.sound number r e);
     lent_live = λ other e. lent-after other (or-cases (is_lease other lease) (is_out core other) e);
@@ -124,6 +125,7 @@ module _ (job : Job) (odds : List ℕ) (journal : List Entry) (core : Core) (h :
     as_many = h.as_many;
     few = few';
     replica_count = length-set core.replicas lease.replica _ ∙ h.replica_count;
+    no_sides = h.no_sides;
     backed = h.backed;
     sound = λ number r e. sound-with job core (record core { replicas = slice_set core.replicas lease.replica (arrived job core.kernel lease.thread count may.ran.replica); leases = filter (λ l. not (is_lease lease l)) core.leases; wrote = 0 }) h.backed number r refl
         (sound-at number r (get-set-cases core.replicas lease.replica number (arrived job core.kernel lease.thread count may.ran.replica) r e));

@@ -154,6 +154,7 @@ module _ (job : Job) (odds : List ℕ) (journal : List Entry) (core : Core) (h :
     as_many = step.as_many;
     few = few';
     replica_count = length-mapped _ replicas ∙ (as_many ∙ h.replica_count);
+    no_sides = h.no_sides;
     backed = backed_after event.effect h.backed;
     sound = λ number r e. sound_after number r (get-map _ replicas number r e);
     lent_live = λ lease e. absurd (true≢false (sym e ∙ none-out core.leases core lease refl no_lease));

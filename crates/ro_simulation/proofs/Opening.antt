@@ -76,6 +76,7 @@ opening-holds job odds few = record {
   not_ended = refl;
   as_many = refl;
   replica_count = length-opening job job.settings.replicas;
+  no_sides = refl;
   backed = holds_file_byte job.program.image.pieces;
   sound = λ number r e. subst (IsSound job _ (holds_file_byte job.program.image.pieces) number) (get-opening job job.settings.replicas number r e) (opening-sound job _ number refl);
   lent_live = λ lease e. absurd (false≢true e);

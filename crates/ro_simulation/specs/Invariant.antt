@@ -63,6 +63,7 @@ pub record TracksIdeal (job : Job) (odds : List ℕ) (journal : List Entry) (cor
   pub as_many : length machine.cpus ≡ length machine.kernel.lives
   pub few : AtMostHalf job.settings.replicas odds
   pub replica_count : length core.replicas ≡ job.settings.replicas
+  pub no_sides : core.sides ≡ []
   pub backed : Backed
   pub sound : (number : ℕ) (replica : Replica) → slice_get core.replicas number ≡ Some replica → IsSound job core backed number replica
   pub lent_live : (lease : Lease) → IsTrue (is_out core lease) → (machine.ended ≡ None) × IsTrue (lives_on machine.kernel lease.thread)

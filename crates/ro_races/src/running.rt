@@ -223,7 +223,11 @@ fn check_entry(alloc: Global, checker: &mut Checker, entry: &Entry) -> Result<()
             ..
         } => check_vote(alloc, checker, *thread, *count, did.steps()),
         Entry::Free { thread } => check_steps(alloc, checker, *thread, 1),
-        Entry::Take(_) | Entry::Put { .. } | Entry::Scrub { .. } | Entry::End { .. } => Ok(()),
+        Entry::Take(_)
+        | Entry::Put { .. }
+        | Entry::Part { .. }
+        | Entry::Scrub { .. }
+        | Entry::End { .. } => Ok(()),
     }
 }
 

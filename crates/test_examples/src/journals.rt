@@ -127,6 +127,18 @@ const WRITTEN: &[Written] = &[
         line: "vote 0 10000 0 - watch\n",
     },
     Written {
+        entry: Entry::Part {
+            lease: Lease {
+                driver: 7,
+                replica: 4,
+                thread: 15,
+            },
+            count: 65_536,
+            hit: 256,
+        },
+        line: "part 7 4 15 65536 256\n",
+    },
+    Written {
         entry: Entry::Free { thread: 3 },
         line: "free 3\n",
     },
@@ -213,6 +225,22 @@ const ROWS: &[Row] = &[
     Row {
         text: "romain 1\nput 0 0 0 0 257\n",
         want: Err((2, 2)),
+    },
+    Row {
+        text: "romain 2\ntake 0 4 0\npart 0 4 0 65536 256\nput 0 4 0 1 0\n",
+        want: Ok(3),
+    },
+    Row {
+        text: "romain 2\npart 0 0 0 65537 0\n",
+        want: Err((2, 2)),
+    },
+    Row {
+        text: "romain 2\npart 0 0 0 1\n",
+        want: Err((2, 1)),
+    },
+    Row {
+        text: "romain 1\npart 0 0 0 1 0\n",
+        want: Err((2, 1)),
     },
     Row {
         text: "romain 1\nvote 0 1000001 0 - watch\n",

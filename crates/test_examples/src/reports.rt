@@ -110,7 +110,8 @@ fn exit_alike(rt: HostRuntime) -> Result<(), AllocError> {
 fn copies_and_frees(rt: HostRuntime) {
     let journal = [
         put(0, 1),
-        put(1, 2),
+        put(1, 1),
+        part(1, 1),
         vote(100, Lost::Two(1, 4), Did::Blocked),
         vote(20, Lost::Nobody, Did::PageBacked),
         vote(3, Lost::One(0), Did::Trapped),
@@ -167,6 +168,16 @@ fn put(replica: u32, hit: u32) -> Entry
     ensures { result ≡ Entry.Put (lease_to 0 replica 0) 2 hit }
 {
     Entry::Put {
+        lease: lease(replica),
+        count: 2,
+        hit,
+    }
+}
+
+fn part(replica: u32, hit: u32) -> Entry
+    ensures { result ≡ Entry.Part (lease_to 0 replica 0) 2 hit }
+{
+    Entry::Part {
         lease: lease(replica),
         count: 2,
         hit,

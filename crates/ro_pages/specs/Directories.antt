@@ -19,6 +19,10 @@ pub record IsEntry (numbers : List ℕ) (page place : ℕ) : Type 0 where
   pub found : place < length numbers → slice_get numbers place ≡ Some page
   pub only : (other : ℕ) → slice_get numbers other ≡ Some page → other ≡ place
 
+-- no page stands at two places
+abbrev pub AreOnce : List ℕ → Type 0
+AreOnce numbers = (i j page : ℕ) → slice_get numbers i ≡ Some page → slice_get numbers j ≡ Some page → i ≡ j
+
 -- what the two tables have for a page
 abbrev pub entry_of : (firsts entries : List ℕ) → ℕ → ℕ
 entry_of firsts entries page = slice_index entries (slice_index firsts (page / 1024) + page % 1024)

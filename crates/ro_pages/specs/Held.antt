@@ -1,5 +1,5 @@
 -- What a memory of pages holds.
-use Rattle.std.specs.Prelude.{◌≡◌, ◌≢◌, ℕ, ◌/◌, ◌%◌, List, [], ◌∷◌, Option, Some, None, Bool, false, length, slice_get, slice_index, is_some, replicate, refl}
+use Rattle.std.specs.Prelude.{◌≡◌, ◌≢◌, ℕ, ◌/◌, ◌%◌, List, [], ◌∷◌, Option, Some, None, Bool, true, false, length, slice_get, slice_index, is_some, replicate, refl}
 use Rattle.ro_pages.specs.Directories.{is_listed}
 use Rattle.std.specs.Ordering.{nat_cmp}
 use Rattle.std.specs.FinMap as map
@@ -52,3 +52,21 @@ pub record CountsUnequal (m n : FinMap nat_cmp (List ℕ)) (count : ℕ) : Type 
   pub pages : List ℕ
   pub are : AreUnequal m n pages
   pub counted : length pages ≡ count
+
+-- a page goes from the one memory back into its place in the other
+pub record GoesBack (few few_after home home_after : FinMap nat_cmp (List ℕ)) (page : ℕ) : Type 0 where
+  pub back : map.get home_after page ≡ map.get few page
+  pub gone : map.get few_after page ≡ None
+  pub kept : (other : ℕ) → other ≢ page → map.get home_after other ≡ map.get home other
+  pub rest : (other : ℕ) → other ≢ page → map.get few_after other ≡ map.get few other
+
+-- all pages of a memory have gone back into their places in another
+pub record AllBack (few home home_after : FinMap nat_cmp (List ℕ)) : Type 0 where
+  pub back : (page : ℕ) → has_page few page ≡ true → map.get home_after page ≡ map.get few page
+  pub kept : (page : ℕ) → has_page few page ≡ false → map.get home_after page ≡ map.get home page
+
+-- some have, and the others are still there
+pub record SomeBack (few few_now home home_now : FinMap nat_cmp (List ℕ)) : Type 0 where
+  pub back : (page : ℕ) → has_page few page ≡ true → has_page few_now page ≡ false → map.get home_now page ≡ map.get few page
+  pub kept : (page : ℕ) → has_page few page ≡ false → map.get home_now page ≡ map.get home page
+  pub rest : (page : ℕ) → has_page few_now page ≡ true → map.get few_now page ≡ map.get few page

@@ -15,15 +15,15 @@ use std::alloc::{AllocError, Global};
 use std::marker::Model;
 
 /// The words of a backed page.
-type Page = Box<[u32; PAGE_WORDS]>;
+pub(crate) type Page = Box<[u32; PAGE_WORDS]>;
 
 /// Pages that are backed, in the order in which they were, and zeroed pages to back more with.
 #[derive(Drop)]
 pub struct Pages {
     /// The place of each backed page, with room for the spare ones.
-    directory: Directory,
+    pub(crate) directory: Directory,
     /// The backed pages, with room for the spare ones.
-    backed: Vec<Page>,
+    pub(crate) backed: Vec<Page>,
     spare: Vec<Page>,
     alloc: Global,
 }
@@ -279,7 +279,7 @@ impl Memory for Pages {
 
 /// A page of zeros.
 #[tactic(auto, using(crate::proofs::WordParts::zero_words))]
-fn zero_page(alloc: Global) -> Result<Page, AllocError>
+pub(crate) fn zero_page(alloc: Global) -> Result<Page, AllocError>
     ensures { IfOk result (λ b. bytes_in b.value ≡ zeros) }
 {
     Ok(Box::new(alloc, [0u32; PAGE_WORDS])?)

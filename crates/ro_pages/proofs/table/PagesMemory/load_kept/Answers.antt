@@ -1,21 +1,17 @@
-use Rattle.std.proofs.Common.{arith, ap, sym, ◌∙◌, ◌≡◌, ◌/◌, Some}
-use Rattle.std.specs.List.{slice_get}
-use Rattle.std.specs.FinMap as map
-use Rattle.std.proofs.lemmas.Option.{slice_get_within}
+use Rattle.std.proofs.Common.{arith, ap, ◌∙◌, ◌/◌}
 use Rattle.ro_pages.specs.Words.{bytes_in}
-use Rattle.ro_pages.proofs.PageBytes.{number_in_words, aligned_within}
-use Rattle.ro_pages.proofs.Places.{read_at}
+use Rattle.ro_pages.proofs.Shown.{shown, kept-listed, kept-there, inside, number-read}
 use Rattle.ro_pages.proofs.table.PagesMemory.load_kept.Goals as goal
 
 pub index-requires : goal.index-requires
 index-requires c =
-    omega (arith, c.self.invariant.0, slice_get_within c.self.inside.directory.numbers c.args.place _ (ap (λ h. slice_get h.numbers c.args.place) c.self.view_is ∙ c.requires.kept))
+    let shows = shown (λ b. bytes_in b.value) c.args.self.now c.self.inside.directory.numbers c.self.inside.backed.items _ c.self.view_is c.self.invariant.0 in
+    let page = c.args.address / 4096 in
+    omega (arith, inside shows page c.args.place (c.each_once.ensures page c.args.place (kept-listed shows c.args.place page c.requires.kept)) (kept-there shows c.args.place page c.requires.kept))
 
 pub returns-clause-value : goal.returns-clause-value
 returns-clause-value c =
-    let p = c.args.address / 4096 in
-    let at : slice_get c.self.inside.directory.numbers c.args.place ≡ Some p = ap (λ h. slice_get h.numbers c.args.place) c.self.view_is ∙ c.requires.kept in
-    let got : map.get c.args.self.now.pages p ≡ Some (bytes_in c.deref-words.result.now) =
-    read_at (λ b. bytes_in b.value) c.args.self.now.pages c.self.inside.directory.numbers c.self.inside.backed.items p c.args.place c.index.result.now (ap (λ h. h.pages) c.self.view_is) c.self.invariant.0 (c.each_once.ensures p c.args.place at) (omega (arith, c.self.invariant.0, slice_get_within c.self.inside.directory.numbers c.args.place p at)) c.index.ensures
-    ∙ ap (λ words. Some (bytes_in words)) (sym c.deref-words.ensures) in
-    c.load_from.ensures.value ∙ sym (number_in_words c.args.self.now.pages c.deref-words.result.now c.args.address c.args.size got (aligned_within c.args.address c.args.size c.requires.size c.requires.aligned).0)
+    let shows = shown (λ b. bytes_in b.value) c.args.self.now c.self.inside.directory.numbers c.self.inside.backed.items _ c.self.view_is c.self.invariant.0 in
+    let page = c.args.address / 4096 in
+    c.load_from.ensures.value
+    ∙ number-read shows c.args.address c.args.size c.args.place c.index.result.now c.deref-words.result.now (c.each_once.ensures page c.args.place (kept-listed shows c.args.place page c.requires.kept)) (kept-there shows c.args.place page c.requires.kept) c.requires.size c.requires.aligned c.index.ensures (ap bytes_in c.deref-words.ensures)

@@ -34,7 +34,7 @@ use Rattle.ro_plain.proofs.Calls.{some-injective, steppable-parts, Keeps, step_b
 use Rattle.ro_plain.proofs.Swap.{run-append, take-seam, slice_get-seam, slice_get-second, take-second, at-both}
 use Rattle.ro_plain.proofs.Exists.{HasStep, IsPassable, no_stop, a_trap, a_system_call, an_atomic, instruction-passable, fetched-step}
 use Rattle.ro_plain.proofs.Unordered.{happens-later}
-use Rattle.ro_plain.proofs.MorePages.{fetched-with-all}
+use Rattle.ro_exec.proofs.MorePages.{fetched-with-all}
 use Rattle.ro_plain.proofs.Wider.{widen, layout-widens, fetched-wider, Avoids, next-wider}
 
 -- the stretch of an instruction that is read

@@ -30,7 +30,7 @@ use Rattle.ro_exec.proofs.Frame.{fetched, next-stopped, next-fetched}
 use Rattle.ro_kernel.specs.Kernel.{Kernel}
 use Rattle.ro_kernel.specs.Serve.{is_atomic}
 use Rattle.ro_plain.specs.Machine.{Program, layout_in}
-use Rattle.ro_plain.proofs.MorePages.{fetched-with-all}
+use Rattle.ro_exec.proofs.MorePages.{fetched-with-all}
 
 -- the layout with a range more
 abbrev pub widen : Option Range → Layout → Layout

@@ -14,7 +14,8 @@ use Rattle.ro_plain.proofs.Calls.{some-injective}
 use Rattle.ro_plain.proofs.Swap.{mid, Swapped, run-append, quiet, race-free-swap, goes-on-too}
 use Rattle.ro_plain.proofs.Exists.{exists-too}
 use Rattle.ro_plain.proofs.Ahead.{Without, reach-one, PlainRun-going, plain-going}
-use Rattle.ro_plain.proofs.MorePages.{IsMore, executes-more}
+use Rattle.ro_exec.specs.Parts.{IsMore}
+use Rattle.ro_exec.proofs.MorePages.{executes-more}
 use Rattle.ro_plain.proofs.StaysAfter.{Stays, stays}
 
 -- the thread's step is a plain instruction that touches only backed pages

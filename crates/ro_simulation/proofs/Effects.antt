@@ -21,7 +21,8 @@ use Rattle.ro_plain.proofs.Calls.{some-injective}
 use Rattle.ro_legal.specs.Core.{Job}
 use Rattle.ro_legal.specs.Ideal.{ahead_from}
 use Rattle.ro_simulation.specs.Invariant.{Agrees}
-use Rattle.ro_plain.proofs.MorePages.{IsMore, stands-more}
+use Rattle.ro_exec.specs.Parts.{IsMore}
+use Rattle.ro_exec.proofs.MorePages.{stands-more}
 use Rattle.ro_plain.proofs.StaysAfter.{stays}
 use Rattle.ro_simulation.proofs.Ahead.{BackedRun-more}
 use Rattle.ro_legal.proofs.Lists.{get-set-same, ChangedFrom, unchanged, changed_here, get-changed, changed-is-set, length-changed, get-map, get-append-cases}

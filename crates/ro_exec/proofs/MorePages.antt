@@ -20,11 +20,8 @@ use Rattle.ro_region.specs.Permission.{permits_of}
 use Rattle.ro_pages.specs.Bytes.{Memory, Span, number_at, page_of}
 use Rattle.ro_exec.specs.declared.Cpu.{Cpu}
 use Rattle.ro_exec.specs.Meaning.{loads, stores}
+use Rattle.ro_exec.specs.Parts.{IsMore}
 use Rattle.ro_exec.specs.Next.{Layout, Backed, all_backed, exit_place, call_of, Next, Stands, Executes, first, stop_if, access_stop, fetch_stop, instruction_stop, unless_stop, next_at, next}
-
--- every page that is backed in the one is backed in the other
-pub record IsMore (backed more : Backed) : Type 0 where
-  pub keeps : (page : ℕ) → backed page ≡ true → more page ≡ true
 
 -- the stop with fewer pages, and with more of them
 pub data MoreStop (more : Backed) : Option Stop → Option Stop → Type 0 where

@@ -29,6 +29,20 @@ changed_is_set f [] i x h = refl
 changed_is_set f (y ∷ xs) zero x h = let e : y ≡ x = cc in ap {B = List _} (λ z. f z ∷ xs) e
 changed_is_set f (y ∷ xs) (suc i) x h = ap {B = List _} (λ r. y ∷ r) (changed_is_set f xs i x h)
 
+-- and a change of an element that was set is another one
+pub changed_of_set : {X : Type 0} (f : X → X) (xs : List X) (i : ℕ) (x : X) → changed_at f (slice_set xs i x) i ≡ slice_set xs i (f x)
+changed_of_set f [] i x = refl
+changed_of_set f (y ∷ xs) zero x = refl
+changed_of_set f (y ∷ xs) (suc i) x = ap {B = List _} (λ r. y ∷ r) (changed_of_set f xs i x)
+
+-- another element than the one that was set
+pub get_set_other : {X : Type 0} (xs : List X) (i j : ℕ) (x : X) → (i ≡ j → ⊥) → slice_get (slice_set xs i x) j ≡ slice_get xs j
+get_set_other [] i j x apart = refl
+get_set_other (y ∷ xs) zero zero x apart = absurd (apart refl)
+get_set_other (y ∷ xs) zero (suc j) x apart = refl
+get_set_other (y ∷ xs) (suc i) zero x apart = refl
+get_set_other (y ∷ xs) (suc i) (suc j) x apart = get_set_other xs i j x (λ e. apart (ap suc e))
+
 pub set_twice : {X : Type 0} (xs : List X) (i : ℕ) (x y : X) → slice_set (slice_set xs i x) i y ≡ slice_set xs i y
 set_twice [] i x y = refl
 set_twice (z ∷ xs) zero x y = refl

@@ -121,24 +121,28 @@ leads_struck layout watchdog thread most old mid new count hit stop leads is =
         let same : mid ≡ new = ap (λ (ran : RanTo). ran.replica) (sym nothing ∙ is) in
         inr (early, is_some, at ∙ ap (λ (r : Replica). standing_at layout watchdog r thread) same, subst (λ (r : Replica). IsStruck layout r thread) same nothing)
 
+-- another thread that is within the watchdog keeps what holds of every replica
+pub replica_with : (watchdog : ℕ) (threads : List Thread) (places : ℕ) (waiting : List Fault) (thread : ℕ) (end : Thread) → IsReplica watchdog threads places waiting → end.since ≤ watchdog → IsReplica watchdog (slice_set threads thread end) places waiting
+replica_with watchdog threads places waiting thread end is watched =
+    let same : length (slice_set threads thread end) ≡ length threads = length-set threads thread end in
+    let first : 0 < length threads = is.first in
+    let few : length threads ≤ 16 = is.few in
+    record {
+      first = omega arith;
+      few = omega arith;
+      room = is.room;
+      watched = All-set (λ t. t.since ≤ watchdog) threads thread end watched is.watched;
+      faults = is.faults;
+    }
+
 -- a run keeps what holds of every replica
 pub replica_kept : (layout : Layout) (watchdog : ℕ) (backed : Backed) (most count : ℕ) (stop : Option Stop) (threads : List Thread) (places : ℕ) (waiting : List Fault) (thread : ℕ) (x end : Thread) (before after : Memory)
     → IsReplica watchdog threads places waiting → thread < length threads → x ≡ slice_index_or threads thread x
     → IsRun layout watchdog backed most count stop (record { thread = x; memory = before }) (record { thread = end; memory = after })
     → IsReplica watchdog (slice_set threads thread end) places waiting
 replica_kept layout watchdog backed most count stop threads places waiting thread x end before after is within read run =
-    let same : length (slice_set threads thread end) ≡ length threads = length-set threads thread end in
-    let first : 0 < length threads = is.first in
-    let few : length threads ≤ 16 = is.few in
     let at : x.since ≤ watchdog = subst (λ (t : Thread). t.since ≤ watchdog) (sym read) (is.watched thread x within) in
-    let now : end.since ≤ watchdog = instructions_watched layout watchdog backed count (record { thread = x; memory = before }) (record { thread = end; memory = after }) at run.runs in
-    record {
-      first = omega arith;
-      few = omega arith;
-      room = is.room;
-      watched = All-set (λ t. t.since ≤ watchdog) threads thread end now is.watched;
-      faults = is.faults;
-    }
+    replica_with watchdog threads places waiting thread end is (instructions_watched layout watchdog backed count (record { thread = x; memory = before }) (record { thread = end; memory = after }) at run.runs)
 
 pub leads_same : (one two : ReplicaOf) (thread most : ℕ) (old new : Replica) (count hit : ℕ) (stop : Option Stop) → SameProgram one two → Leads one.layout one.watchdog thread most old new count hit stop → Leads two.layout two.watchdog thread most old new count hit stop
 leads_same one two thread most old new count hit stop same leads =

@@ -14,3 +14,6 @@ pub mod Strikes
 pub mod Remains
 pub mod Targets
 pub mod UnderWay
+pub mod Lent
+pub mod Lasts
+pub mod Backs

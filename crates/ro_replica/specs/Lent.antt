@@ -1,0 +1,62 @@
+-- A lane: a thread that is lent with some of its replica's pages, and what comes back of it.
+use Rattle.std.specs.Prelude.{◌≡◌, ◌<◌, ◌≤◌, ℕ, ◌+◌, true, List, [], Option, Some, None, slice_get, slice_set}
+use Rattle.std.specs.List.{filter}
+use Rattle.std.specs.Option.{option_and_then}
+use Rattle.ro_event.specs.declared.stops.Stop.{Stop}
+use Rattle.ro_event.specs.declared.stops.Stop.TheVariants.{PageFault}
+use Rattle.ro_region.specs.declared.Range.{Range}
+use Rattle.ro_pages.specs.Bytes.{Memory}
+use Rattle.ro_pages.specs.Held.{Held, memory_of, has_page}
+use Rattle.ro_exec.specs.Next.{Layout, Backed}
+use Rattle.ro_exec.specs.Parts.{SameIn, with_part, IsMore}
+use Rattle.ro_thread.specs.declared.Thread.{Thread}
+use Rattle.ro_thread.specs.Stops.{standing}
+use Rattle.ro_thread.specs.Parts.{missed}
+use Rattle.ro_replica.specs.Replica.{Replica, changed_at}
+use Rattle.ro_replica.specs.Runs.{RanTo, is_due, run_of, with_stop}
+use Rattle.ro_replica.specs.Seen.{Runs}
+
+-- What is lent is of the replica as it is: the thread, the bytes of the pages, which are backed. No fault of the thread is
+-- due within so many instructions.
+pub record LentIn (lent : Backed) (thread count : ℕ) (part : Memory) (begun : Thread) (replica : Replica) : Type 0 where
+  pub there : slice_get replica.threads thread ≡ Some begun
+  pub backed : IsMore lent replica.backed
+  pub same : SameIn lent part replica.memory
+  pub calm : (k : ℕ) → k ≤ count → filter (is_due thread (begun.done + k)) replica.waiting ≡ []
+
+-- the replica with the pages and the thread that came back, and a stop at which the thread stands still, or none
+abbrev pub put_back : (thread : ℕ) → (lent : Backed) → (after : Memory) → (end : Thread) → Option Stop → Replica → Replica
+put_back thread lent after end stop replica = record replica {
+  memory = with_part lent after replica.memory;
+  threads = slice_set replica.threads thread (with_stop stop end);
+}
+
+-- A run that comes back for the want of a page: one that is backed, and at whose fault the thread stands with the pages that
+-- it was lent.
+pub record RunsOut (layout : Layout) (watchdog quantum thread : ℕ) (lent : Backed) (old new : Replica) (count hit page : ℕ) : Type 0 where
+  pub end : RanTo
+  pub runs : run_of layout watchdog count old thread ≡ Some end
+  pub hit_is : end.hit ≡ hit
+  pub new_is : new ≡ record end.replica { threads = changed_at (with_stop None) end.replica.threads thread }
+  pub early : count < quantum
+  pub backed : end.replica.backed page ≡ true
+  pub wants : option_and_then (λ t. standing layout watchdog lent end.replica.memory t.cpu t.since) (slice_get end.replica.threads thread) ≡ Some (PageFault page)
+
+-- a lane as contracts see it
+pub record LaneOf : Type 0 where
+  pub layout : Layout
+  pub given : List Range  -- the ranges that were given since the opening, the newest first
+  pub watchdog : ℕ
+  pub held : Held
+  pub thread : Thread
+
+-- what never changes is the same
+pub record SameProgramOf (one other : LaneOf) : Type 0 where
+  pub layout : one.layout ≡ other.layout
+  pub given : one.given ≡ other.given
+  pub watchdog : one.watchdog ≡ other.watchdog
+
+-- What comes back of a lease that was run: a put of its replica as that is by then, or, for the want of a page, a part.
+pub record ComesHome (quantum thread count : ℕ) (stop : Option Stop) (lane after : LaneOf) (replica : Replica) : Type 0 where
+  pub put : missed replica.backed stop ≡ None → Runs lane.layout lane.watchdog quantum thread replica (put_back thread (has_page lane.held.pages) (memory_of after.held.pages) after.thread stop replica) count 0 stop
+  pub part : (page : ℕ) → missed replica.backed stop ≡ Some page → RunsOut lane.layout lane.watchdog quantum thread (has_page lane.held.pages) replica (put_back thread (has_page lane.held.pages) (memory_of after.held.pages) after.thread None replica) count 0 page

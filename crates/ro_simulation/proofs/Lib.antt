@@ -29,3 +29,4 @@ pub mod RowsScrub
 pub mod Limits
 pub mod LockingGuest
 pub mod Repeats
+pub mod Parted

@@ -1,14 +1,16 @@
 -- Where all mutexes of the table are cooperative, a call that is served makes none so but its own.
-use Rattle.std.specs.Prelude.{◌≡◌, ◌≢◌, ⊤, ℕ, true, Option, Some, None, is_some}
+use Rattle.std.specs.Prelude.{◌≡◌, ◌≢◌, ⊤, ℕ, Bool, true, false, cond, Option, Some, None, is_some}
 use Rattle.std.proofs.Common.{refl, sym, ap, ◌∙◌, subst, ⊎_elim}
-use Rattle.std.proofs.lemmas.Bool.{cases_eq, and_parts}
+use Rattle.std.proofs.lemmas.Bool.{cases_eq, and_parts, false≢true}
 use Rattle.ro_event.specs.declared.calls.Call.{Call}
+use Rattle.ro_event.specs.Functions.{functions}
 use Rattle.ro_mutex.specs.Owners.{owner_of, with_owner}
 use Rattle.ro_mutex.proofs.Given.{owner_of-given, owner_of-other}
 use Rattle.ro_kernel.specs.Kernel.{Setup, Kernel}
 use Rattle.ro_kernel.specs.Serve.{Served, Done, is_free}
 use Rattle.ro_kernel.proofs.Shapes.{Shape, says, reads, breaks, maps_more, owns, wakes, parks_at, resumes, makes, joins, leaves, of_word, waits, stops, stops_last, shape-of}
-use Rattle.ro_orders.specs.Choices.{in_table}
+use Rattle.ro_plain.specs.Machine.{Program}
+use Rattle.ro_orders.specs.Choices.{in_table, no_mutex, has_otherwise, chosen_of}
 use Rattle.ro_coop.specs.Core.{OneEnters}
 
 -- the same addresses stand in the table, but for that of the call
@@ -52,3 +54,18 @@ one-enters = record {
   own = λ setup kernel after thread call effect other e d. subst (SameBut kernel call) e (same-of setup kernel thread call (shape-of setup kernel thread call)) other d;
   news = λ setup kernel after thread call effect mutex e before now. before;
 }
+
+none-enters : OneEnters no_mutex
+unfolding no_mutex
+none-enters = record {
+  own = λ setup kernel after thread call effect other e d. refl;
+  news = λ setup kernel after thread call effect mutex e before now. absurd (false≢true now);
+}
+
+-- and so where they are chosen by the program's table of calls
+pub chosen-enters : (program : Program) → OneEnters (chosen_of program)
+chosen-enters program = by (has_otherwise program.image.calls.addresses functions)
+  where
+    by : (b : Bool) → OneEnters (cond b no_mutex in_table)
+    by true = none-enters
+    by false = one-enters

@@ -18,5 +18,7 @@ pub mod Journal
 pub mod Rowless
 pub mod Turns
 pub mod Choices
+pub mod Seen
+pub mod Rules
 pub mod Checks
 pub mod Worked

@@ -20,7 +20,7 @@ use Rattle.ro_peer.specs.Gets.{Get, get_answer, get_call, get_next, get_of, aske
 use Rattle.ro_coop.specs.Core.{Job, Core, layout_here, run_in, after_put, after, IsAllowed, LegalFrom}
 use Rattle.ro_coop.specs.Rowless.{rows_for, got_by, RowlessFrom, got_from}
 
-in-front : (rows : Rows) (xs ys : List Get) → InRows rows (xs ++ ys) → InRows rows xs × InRows rows ys
+pub in-front : (rows : Rows) (xs ys : List Get) → InRows rows (xs ++ ys) → InRows rows xs × InRows rows ys
 in-front rows [] ys h = (tt, h)
 in-front rows (x ∷ xs) ys h = let rest = in-front rows xs ys h.1 in ((h.0, rest.0), rest.1)
 
@@ -119,7 +119,7 @@ module _ (layout : Layout) (rows : Rows) (watchdog : ℕ) (peer : Peer) (number 
 
 -- ---- a lease
 
-run-so : (layout : Layout) (rows : Rows) (watchdog n : ℕ) (peer last : Peer) (number : ℕ) → leased_run layout (asker number) watchdog n peer number ≡ Some last → InRows rows (got_in layout watchdog n peer number) → leased_run layout rows watchdog n peer number ≡ Some last
+pub run-so : (layout : Layout) (rows : Rows) (watchdog n : ℕ) (peer last : Peer) (number : ℕ) → leased_run layout (asker number) watchdog n peer number ≡ Some last → InRows rows (got_in layout watchdog n peer number) → leased_run layout rows watchdog n peer number ≡ Some last
 run-so layout rows watchdog zero peer last number e h = e
 run-so layout rows watchdog (suc n) peer last number e h =
     option_and_then_some (λ mid. leased_run layout (asker number) watchdog n mid number) (leased layout (asker number) watchdog peer number) last e (λ mid f g.

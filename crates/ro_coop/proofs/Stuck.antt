@@ -26,10 +26,10 @@ use Rattle.ro_orders.proofs.Steps.{AtMutex, answer_at, step-waits, turn-answered
 use Rattle.ro_orders.proofs.Orders.{run-head, order-cons, nil-parts, not-who_takes}
 use Rattle.ro_orders.proofs.Copies.{runs-first}
 use Rattle.ro_peer.specs.declared.mutexes.Mutex.{Mutex}
-use Rattle.ro_peer.specs.Peers.{Peer, kernel_in, machine_of}
+use Rattle.ro_peer.specs.Peers.{Peer, is_row, kernel_in, machine_of}
 use Rattle.ro_peer.specs.Events.{unanswered}
 use Rattle.ro_coop.specs.Core.{Job, Core, layout_here, kernel_for, Steps}
-use Rattle.ro_coop.specs.Stuck.{Stopped, WaitsAtLock, IsStuck}
+use Rattle.ro_coop.specs.Stuck.{Stopped, Lags, IsNotIts, WaitsAtLock, IsStuck}
 use Rattle.ro_coop.proofs.Ended.{ended_served}
 use Rattle.ro_coop.proofs.Tables.{listed-coop, served_with, lives-in, layout-in, coop-in, owner-in, serve-in}
 use Rattle.ro_coop.proofs.Leases.{live-in, answers-fit}
@@ -53,7 +53,7 @@ module _ (job : Job) (rows : Rows) (free : RaceFree job.program) (lacks : TakesB
 
   -- ---- a thread that waits at a lock
 
-  module _ (n : ℕ) (r : Peer) (c : Copy) (k : slice_get g.copies n ≡ Some c) (p : Tied job g.common core.kernel core.output core.blocked s.taken n r c) (t : ℕ) (lives : lives_on core.kernel t ≡ true) (w : WaitsAtLock (layout_here job core) rows r t) (after : Machine) (steps : step job.program (machine_of core.kernel core.output r) t ≡ Some after) where
+  module _ (n : ℕ) (r : Peer) (c : Copy) (k : slice_get g.copies n ≡ Some c) (p : Tied job g.common core.kernel core.output core.blocked s.taken n r c) (t : ℕ) (lives : lives_on core.kernel t ≡ true) (w : WaitsAtLock (layout_here job core) rows core.peers r t) (after : Machine) (steps : step job.program (machine_of core.kernel core.output r) t ≡ Some after) where
     abbrev at_lock : AtMutex job.program (machine_of core.kernel core.output r) t
     at_lock = record {
       cpu = w.thread.cpu;
@@ -76,16 +76,14 @@ module _ (job : Job) (rows : Rows) (free : RaceFree job.program) (lacks : TakesB
     answer_there = answers-fit job.program core.kernel core.output r t at_lock fits_there
 
     -- since it has a step, it would get the mutex
-    gets-it : (turn_of job.program job.chosen (machine_of core.kernel core.output r) t ≡ Gets w.call.a0) × (u : ℕ) × (rows w.call.a0 w.mutex.rank ≡ Some u) × (u ≢ t)
+    gets-it : (turn_of job.program job.chosen (machine_of core.kernel core.output r) t ≡ Gets w.call.a0) × IsNotIts rows core.peers w.call.a0 w.mutex.rank t
     gets-it =
         ⊎_elim
         (λ (e : answer_by w.call.which t w.mutex.owner ≡ Waits). absurd (let f : None ≡ Some after = sym (step-waits job.program (machine_of core.kernel core.output r) t at_lock (answer_there ∙ e)) ∙ steps in cc))
-        (λ (e : (u : ℕ) × (rows w.call.a0 w.mutex.rank ≡ Some u) × (u ≢ t) × (value : ℕ) × (answer_by w.call.which t w.mutex.owner ≡ Answers (Some (Some t)) value)). (
-          turn-answered job.program (machine_of core.kernel core.output r) t at_lock job.chosen (Some (Some t)) e.3 coop_there (answer_there ∙ e.4)
-              ∙ ap (λ (b : Bool). cond b (Gets w.call.a0) Alone) (got-lock true t w.mutex.owner e.3 (is-mutex-call w.call.which w.is_mutex) e.4),
+        (λ (e : IsNotIts rows core.peers w.call.a0 w.mutex.rank t × ((value : ℕ) × (answer_by w.call.which t w.mutex.owner ≡ Answers (Some (Some t)) value))). (
+          turn-answered job.program (machine_of core.kernel core.output r) t at_lock job.chosen (Some (Some t)) e.1.0 coop_there (answer_there ∙ e.1.1)
+              ∙ ap (λ (b : Bool). cond b (Gets w.call.a0) Alone) (got-lock true t w.mutex.owner e.1.0 (is-mutex-call w.call.which w.is_mutex) e.1.1),
           e.0,
-          e.1,
-          e.2,
         ))
         w.waits
 
@@ -113,7 +111,7 @@ module _ (job : Job) (rows : Rows) (free : RaceFree job.program) (lacks : TakesB
       no-stop : Stopped r x → ⊥
       no-stop y = (subst (Without x) is (apart job rows free lacks core s g x lives n r c k p y.0 y.1 y.2 y.3)).0 refl
 
-      no-lock : WaitsAtLock (layout_here job core) rows r x → ⊥
+      no-lock : WaitsAtLock (layout_here job core) rows core.peers r x → ⊥
       no-lock w =
           let a = gets-it n r c k p x lives w head.0 steps in
           let turn : turn_of job.program job.chosen c.machine x ≡ Gets w.call.a0 = ap (λ (m : Machine). turn_of job.program job.chosen m x) p.is.machine_is ∙ a.0 in
@@ -125,7 +123,7 @@ module _ (job : Job) (rows : Rows) (free : RaceFree job.program) (lacks : TakesB
           let row : rows w.call.a0 (length (c.got w.call.a0)) ≡ Some x =
           first.in_rows w.call.a0 (length (c.got w.call.a0)) x
           (ap (λ (o : List ℕ). slice_get o (length (c.got w.call.a0))) (b.got w.call.a0 ∙ ap (λ (o : List ℕ). c.got w.call.a0 ++ o) next_one) ∙ slice_get-seam (c.got w.call.a0) x _) in
-          a.3 (some-injective (sym a.2 ∙ (ap (rows w.call.a0) (sym (p.is.ranks w.call.a0 w.mutex w.listed)) ∙ row)))
+          false≢true (sym a.1.0 ∙ (ap (λ (o : Option ℕ). is_row o x) (ap (rows w.call.a0) (sym (p.is.ranks w.call.a0 w.mutex w.listed)) ∙ row) ∙ eq-eqb x x refl))
 
       no-head : ⊥
       no-head = by (core.blocked x) refl
@@ -200,9 +198,15 @@ module _ (job : Job) (rows : Rows) (free : RaceFree job.program) (lacks : TakesB
         let q = stuck.none_voted t alive f in
         let h = each-get _ core.peers g.copies g.each q.0 q.1 q.2 in
         let a = gets-it q.0 q.1 h.0 h.1 h.2 t alive q.3 after (steps-in q.0 q.1 h.0 q.2 h.1 h.2) in
-        let o = stuck.all_taken q.3.call.a0 q.3.mutex.rank a.1 a.2 in
-        let i = each-get _ core.peers g.copies g.each o.0 o.1 o.2 in
-        too-long (length (h.0.got q.3.call.a0)) (length (i.0.got q.3.call.a0)) q.3.mutex.rank o.3.rank (h.2.is.ranks q.3.call.a0 q.3.mutex q.3.listed) (i.2.is.ranks q.3.call.a0 o.3 o.4) (both-got q.0 o.0 q.1 o.1 h.0 i.0 q.2 o.2 h.1 i.1 h.2 i.2 q.3.call.a0) o.5
+        ⊎_elim
+        (λ (row : (u : ℕ) × (rows q.3.call.a0 q.3.mutex.rank ≡ Some u)).
+          let o = stuck.all_taken q.3.call.a0 q.3.mutex.rank row.0 row.1 in
+          let i = each-get _ core.peers g.copies g.each o.0 o.1 o.2 in
+          too-long (length (h.0.got q.3.call.a0)) (length (i.0.got q.3.call.a0)) q.3.mutex.rank o.3.rank (h.2.is.ranks q.3.call.a0 q.3.mutex q.3.listed) (i.2.is.ranks q.3.call.a0 o.3 o.4) (both-got q.0 o.0 q.1 o.1 h.0 i.0 q.2 o.2 h.1 i.1 h.2 i.2 q.3.call.a0) o.5)
+        (λ (o : Lags core.peers q.3.call.a0 q.3.mutex.rank).
+          let i = each-get _ core.peers g.copies g.each o.0 o.1 o.2 in
+          too-long (length (i.0.got q.3.call.a0)) (length (h.0.got q.3.call.a0)) o.3.rank q.3.mutex.rank (i.2.is.ranks q.3.call.a0 o.3 o.4) (h.2.is.ranks q.3.call.a0 q.3.mutex q.3.listed) (both-got o.0 q.0 o.1 q.1 i.0 h.0 o.2 q.2 i.1 h.1 i.2 h.2 q.3.call.a0) o.5)
+        a.1.1
       where
         too-long : (a b k m : ℕ) → a ≡ k → b ≡ m → a ≡ b → k < m → ⊥
         too-long a b k m e f h less = omega arith

@@ -27,20 +27,17 @@ use Rattle.ro_peer.specs.Gets.{Get, get_answer, get_call, get_next, get_of, got_
 use Rattle.ro_peer.specs.Events.{unanswered}
 use Rattle.ro_coop.specs.Core.{Job, Core, layout_here, opening_core, opening_peer, entered_by, settled, peer_after_event, after_event, voted_stop, vote_event, free_event, after_put, arrived, after, IsAllowed, LegalFrom}
 use Rattle.ro_coop.specs.Rowless.{rows_for, threads_of, got_by_lease, got_at, got_in_replica}
+use Rattle.ro_legal.specs.Sides.{rank_in}
 use Rattle.ro_coop.proofs.Leases.{after-cases, known-after, rank-bits, row-is}
 use Rattle.ro_coop.proofs.Entered.{in-left, in-right}
 use Rattle.ro_coop.proofs.Rowless.{step-back, entry-back}
-
--- how often a mutex was got
-abbrev pub rank_in : List Mutex → (mutex : ℕ) → ℕ
-rank_in mutexes mutex = option_map_or (λ m. m.rank) (mutex_in mutexes mutex) 0
 
 -- what is got from one rank on has its rows, and the rank then
 pub record InTurn (rows : Rows) (mutex from to : ℕ) (gets : List Get) : Type 0 where
   pub grown : to ≡ from + length (threads_of mutex gets)
   pub each : (k u : ℕ) → slice_get (threads_of mutex gets) k ≡ Some u → rows mutex (from + k) ≡ Some u
 
-nothing-got : (rows : Rows) (mutex from to : ℕ) → to ≡ from → InTurn rows mutex from to []
+pub nothing-got : (rows : Rows) (mutex from to : ℕ) → to ≡ from → InTurn rows mutex from to []
 nothing-got rows mutex from to e = record { grown = none-more to from e; each = λ k u f. absurd (let g : None ≡ Some u = f in cc) }
   where
     none-more : (a b : ℕ) → a ≡ b → a ≡ b + 0
@@ -197,7 +194,7 @@ module _ (layout : Layout) (rows : Rows) (watchdog : ℕ) (peer : Peer) (number 
 
 -- ---- a lease
 
-run-turn : (layout : Layout) (rows : Rows) (watchdog n : ℕ) (peer last : Peer) (number mutex : ℕ) → leased_run layout rows watchdog n peer number ≡ Some last → InTurn rows mutex (rank_in peer.mutexes mutex) (rank_in last.mutexes mutex) (got_in layout watchdog n peer number)
+pub run-turn : (layout : Layout) (rows : Rows) (watchdog n : ℕ) (peer last : Peer) (number mutex : ℕ) → leased_run layout rows watchdog n peer number ≡ Some last → InTurn rows mutex (rank_in peer.mutexes mutex) (rank_in last.mutexes mutex) (got_in layout watchdog n peer number)
 run-turn layout rows watchdog zero peer last number mutex e = nothing-got rows mutex _ _ (ap (λ (r : Peer). rank_in r.mutexes mutex) (sym (some-injective e)))
 run-turn layout rows watchdog (suc n) peer last number mutex e =
     option_and_then_some (λ mid. leased_run layout rows watchdog n mid number) (leased layout rows watchdog peer number) last e (λ mid f g.
@@ -210,7 +207,7 @@ rank_at : Core → (number mutex : ℕ) → ℕ
 rank_at core number mutex = option_map_or (λ peer. rank_in peer.mutexes mutex) (slice_get core.peers number) 0
 
 -- a mutex that became cooperative was got by none so far
-entered-rank : (chosen : Chosen) (before after : Kernel) (stop : Option Stop) (mutexes : List Mutex) (mutex : ℕ) → rank_in (mutexes ++ entered_by chosen before after stop) mutex ≡ rank_in mutexes mutex
+pub entered-rank : (chosen : Chosen) (before after : Kernel) (stop : Option Stop) (mutexes : List Mutex) (mutex : ℕ) → rank_in (mutexes ++ entered_by chosen before after stop) mutex ≡ rank_in mutexes mutex
 entered-rank chosen before after stop mutexes mutex = by (mutex_in mutexes mutex) refl
   where
     fresh : (stop : Option Stop) → rank_in (entered_by chosen before after stop) mutex ≡ 0

@@ -19,7 +19,6 @@ use Rattle.ro_mutex.specs.Owners.{owner_of}
 use Rattle.ro_exec.specs.Next.{Layout}
 use Rattle.ro_kernel.specs.Kernel.{Setup, Kernel, ranges_in, lives_on, released, opening_kernel}
 use Rattle.ro_kernel.specs.Serve.{Done, serve, blocks}
-use Rattle.ro_thread.specs.declared.Thread.{Thread}
 use Rattle.ro_replica.specs.Replica.{opening_replica, changed_at, stop_of, applied, cancelled}
 use Rattle.ro_replica.specs.Runs.{standing_at, with_stop}
 use Rattle.ro_replica.specs.Views.{is_unstopped, payload_at, view_of}
@@ -241,11 +240,16 @@ pub record Steps : Type 0 where
 abbrev pub served_all : (thread count : ℕ) → Steps → Steps
 served_all thread count s = record { taken = λ r. s.taken r ++ replicate count thread; first = s.first ++ replicate count thread }
 
-abbrev pub steps_after : Steps → Entry → Steps
-steps_after s (Put lease count hit) = record {
+-- a lease that came back
+abbrev pub lease_steps : Lease → (count : ℕ) → Steps → Steps
+lease_steps lease count s = record {
   taken = λ r. if r == lease.replica then s.taken r ++ replicate count lease.thread else s.taken r;
   first = first_run lease.thread count s.first (s.taken lease.replica);
 }
+
+abbrev pub steps_after : Steps → Entry → Steps
+steps_after s (Put lease count hit) = lease_steps lease count s
+steps_after s (Part lease count hit) = lease_steps lease count s
 steps_after s (Vote thread count won lost did) = served_all thread (event_steps did) s
 steps_after s (Free thread) = served_all thread 1 s
 steps_after s entry = s

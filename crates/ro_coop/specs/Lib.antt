@@ -3,3 +3,4 @@ pub mod Sound
 pub mod Stuck
 pub mod Rowless
 pub mod Guests
+pub mod Runs

@@ -1,4 +1,5 @@
 -- Legality without the rows of the lock page: whoever asks gets the mutex; and what was got is held against the rows at the end.
+pub use Rattle.ro_legal.specs.Sides.{threads_of}
 use Rattle.std.specs.Prelude.{ℕ, ◌==◌, if◌then◌else◌, List, [], ◌∷◌, ◌++◌, None, slice_get}
 use Rattle.std.specs.Option.{option_map_or}
 use Rattle.ro_journal.specs.declared.Lease.{Lease}
@@ -31,11 +32,6 @@ RowlessFrom job core (entry ∷ journal) = IsAllowed job (rows_for entry) core e
 abbrev pub got_from : Job → Core → List Entry → List Get
 got_from job core [] = []
 got_from job core (entry ∷ journal) = got_by job core entry ++ got_from job (after job (rows_for entry) core entry) journal
-
--- who got a mutex, in order
-abbrev pub threads_of : (mutex : ℕ) → List Get → List ℕ
-threads_of mutex [] = []
-threads_of mutex (get ∷ gets) = if get.mutex == mutex then get.thread ∷ threads_of mutex gets else threads_of mutex gets
 
 -- what was got in a replica
 abbrev pub got_at : Job → Core → (number : ℕ) → Entry → List Get

@@ -2,6 +2,7 @@
 #![tactic(auto)]
 
 mod rows;
+mod runs;
 
 ghost use Rattle.std.specs.Prelude.{◌≡◌, ℕ, suc, true, false, ◌==◌, List, Some, None, slice_get};
 ghost use Rattle.ro_journal.specs.declared.Entry.{Entry};
@@ -20,6 +21,7 @@ ghost use Rattle.ro_coop.specs.Sound.{core_behind, IsSound};
 ghost use Rattle.ro_coop.specs.Stuck.{Stopped, IsStuck};
 
 pub use rows::{letters_row, reservation_row};
+pub use runs::{journals_are_executions, votes_agree};
 
 /// The first steps of a legal journal are an execution: threads get each cooperative mutex in it in the order of its rows,
 /// what was written is what it writes, and where the run ended by an exit or a trap, it ends so.

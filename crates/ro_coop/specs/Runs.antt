@@ -1,0 +1,21 @@
+-- What a legal journal of a cooperative run says of the unreplicated machine.
+use Rattle.std.specs.Prelude.{◌≡◌, ◌≢◌, ℕ, true, List, Some, None, take, slice_get}
+use Rattle.ro_journal.specs.declared.How.{How}
+use Rattle.ro_journal.specs.declared.How.TheVariants.{Sink}
+use Rattle.ro_plain.specs.Machine.{Machine, opening, run}
+use Rattle.ro_orders.specs.Turns.{OfMutex, order_of}
+use Rattle.ro_orders.specs.Choices.{chosen_of}
+use Rattle.ro_orders.specs.Copies.{Rows}
+use Rattle.ro_legal.specs.Core.{Job, Core}
+use Rattle.ro_coop.specs.Core.{is_outcome}
+
+-- The first steps are an execution, in which threads get each mutex in the order of its rows. What was written is what it writes, but for
+-- what a failing sink did not take, and where the run ended by an exit or a trap, it ends so.
+pub record IsExecutionOf (job : Job) (rows : Rows) (first : List ℕ) (core : Core) : Type 0 where
+  pub machine : Machine
+  pub reached : run job.program (opening job.program) first ≡ Some machine
+  pub prefix : (count : ℕ) × (core.output ≡ take count machine.output)
+  pub whole : ((bytes : ℕ) → core.ended ≢ Some (Sink bytes)) → core.output ≡ machine.output
+  pub goes_on : core.due ≡ None → core.ended ≡ None → machine.ended ≡ None
+  pub ends : (how : How) → is_outcome how ≡ true → core.ended ≡ Some how → machine.ended ≡ Some how
+  pub in_rows : (mutex rank thread : ℕ) → slice_get (order_of job.program (chosen_of job.program) (OfMutex mutex) (opening job.program) first) rank ≡ Some thread → rows mutex rank ≡ Some thread

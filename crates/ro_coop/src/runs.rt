@@ -1,0 +1,25 @@
+//! What holds of every cooperative run by its rules (`ro_legal`): laws.
+ghost use Rattle.std.specs.Prelude.{◌≡◌, ℕ, [], true, List};
+ghost use Rattle.ro_event.specs.Views.{View};
+ghost use Rattle.ro_journal.specs.declared.Entry.{Entry};
+ghost use Rattle.ro_plain.specs.Order.{RaceFree};
+ghost use Rattle.ro_settings.specs.Ranges.{InRange};
+ghost use Rattle.ro_orders.specs.Turns.{TakesByLocks};
+ghost use Rattle.ro_orders.specs.Copies.{Rows};
+ghost use Rattle.ro_peer.specs.Gets.{InRows};
+ghost use Rattle.ro_legal.specs.Core.{Job, may_vote};
+ghost use Rattle.ro_legal.specs.Cooperative.{opening_core, Legal, replay, gets_from, AgreeOn};
+ghost use Rattle.ro_coop.specs.Core.{first_of};
+ghost use Rattle.ro_coop.specs.Runs.{IsExecutionOf};
+
+/// The first steps of a legal journal are an execution, where each lock that was got has its thread in its row: threads get each
+/// mutex in it in the order of the rows, and it writes what was written, but for what a failing sink did not take. Where
+/// the run ended by an exit or a trap, it ends so.
+pub fn journals_are_executions()
+    ensures { (job : Job) (rows : Rows) → RaceFree job.program → TakesByLocks job.program → InRange job.settings → job.faults ≡ [] → (journal : List Entry) → Legal job journal → InRows rows (gets_from job (opening_core job) journal) → IsExecutionOf job rows (first_of journal) (replay job journal) }
+{}
+
+/// A vote finds equal views, so no run ends by a difference.
+pub fn votes_agree()
+    ensures { (job : Job) (rows : Rows) → RaceFree job.program → TakesByLocks job.program → InRange job.settings → job.faults ≡ [] → (journal : List Entry) → Legal job journal → InRows rows (gets_from job (opening_core job) journal) → (thread : ℕ) → may_vote (replay job journal) thread ≡ true → (view : View) × AgreeOn job (replay job journal) thread view }
+{}

@@ -113,7 +113,7 @@ other-changed f (x ∷ xs) zero (suc j) y d e = e
 other-changed f (x ∷ xs) (suc i) zero y d e = e
 other-changed f (x ∷ xs) (suc i) (suc j) y d e = other-changed f xs i j y (λ q. d (ap suc q)) e
 
-kept-made : (made : Option Made) (xs : List Thread) (i : ℕ) (y : Thread) → slice_get xs i ≡ Some y → slice_get (with_made made xs) i ≡ Some y
+pub kept-made : (made : Option Made) (xs : List Thread) (i : ℕ) (y : Thread) → slice_get xs i ≡ Some y → slice_get (with_made made xs) i ≡ Some y
 kept-made None xs i y e = e
 kept-made (Some made) [] i y e = absurd (let g : None ≡ Some y = e in cc)
 kept-made (Some made) (x ∷ xs) i y e = slice_get-append (x ∷ xs) _ i y e

@@ -94,7 +94,7 @@ put-none (Function function) = refl
 put-none (Atomic word) = refl
 
 -- only a wait does its first step alone
-parked-waits : (setup : Setup) (kernel after : Kernel) (t : ℕ) (call : Call) → serve setup kernel t call ≡ Parked after → call.which ≡ Function Wait
+pub parked-waits : (setup : Setup) (kernel after : Kernel) (t : ℕ) (call : Call) → serve setup kernel t call ≡ Parked after → call.which ≡ Function Wait
 parked-waits setup kernel after t call e = by (subst (OwnersAfter kernel call) e (owners-after setup kernel t call))
   where
     by : OwnersAfter kernel call (Parked after) → call.which ≡ Function Wait
@@ -284,7 +284,7 @@ module _ (job : Job) (rows : Rows) (free : RaceFree job.program) (lacks : TakesB
         (λ (d : (core.due ≡ None) × (is_outcome how ≡ false)). absurd (stopped-not core o.stopped (ap₂ (λ (a : Option How) (b : Option How). is_none a && is_none b) d.0 none))) e;
   }
 
-  entry-holds : (core : Core) (s : Steps) (entry : Entry) → Holds job rows core s → IsAllowed job rows core entry → Holds job rows (after job rows core entry) (steps_after s entry)
+  pub entry-holds : (core : Core) (s : Steps) (entry : Entry) → Holds job rows core s → IsAllowed job rows core entry → Holds job rows (after job rows core entry) (steps_after s entry)
   entry-holds core s (Take lease) (is_on g) m = is_on (take-holds job rows core s g lease m)
   entry-holds core s (Put lease n hit) (is_on g) m = is_on (put-holds job rows core s g free lacks lease n hit m)
   entry-holds core s (Vote t count won lost did) (is_on g) m = vote-holds core s g t did m
@@ -353,7 +353,7 @@ module _ (job : Job) (rows : Rows) (free : RaceFree job.program) (lacks : TakesB
       from zero f = tt
       from (suc n) f = (tied-opening (f 0), from n (λ i. f (suc i)))
 
-  opening-holds : (n : ℕ) → job.settings.replicas ≡ suc n → Going job rows (opening_core job) no_steps
+  pub opening-holds : (n : ℕ) → job.settings.replicas ≡ suc n → Going job rows (opening_core job) no_steps
   opening-holds n e = record {
     common = common_opening;
     copies = replicate (suc n) (opening_copy job.program);
@@ -392,7 +392,7 @@ module _ (job : Job) (rows : Rows) (free : RaceFree job.program) (lacks : TakesB
   legal-sound n e journal legal = sound (core_behind job rows (opening_core job) journal) (steps_from no_steps journal) (journal-holds (opening_core job) no_steps journal (is_on (opening-holds n e)) legal)
 
   -- where it goes on
-  still-on : (core : Core) (s : Steps) → Holds job rows core s → is_going core ≡ true → Going job rows core s
+  pub still-on : (core : Core) (s : Steps) → Holds job rows core s → is_going core ≡ true → Going job rows core s
   still-on core s (is_on g) e = g
   still-on core s (is_over o) e = absurd (stopped-not core o.stopped e)
 

@@ -20,5 +20,9 @@ pub mod Turns
 pub mod Choices
 pub mod Seen
 pub mod Rules
+pub mod Locks
+pub mod Parked
+pub mod Taken
+pub mod Deadlocks
 pub mod Checks
 pub mod Worked

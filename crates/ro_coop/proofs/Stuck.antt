@@ -1,5 +1,6 @@
 -- Where nothing can be done any more, every peer is the machine of the first steps, and none of its threads has a step.
 use Rattle.std.specs.Prelude.{◌≡◌, ◌≢◌, ℕ, ◌<◌, Bool, true, false, cond, List, [], ◌∷◌, ◌++◌, length, Option, Some, None, slice_get}
+use Rattle.std.specs.Option.{option_map_or}
 use Rattle.std.proofs.Common.{refl, sym, ap, ◌∙◌, subst, arith, ⊎_elim, append-nil}
 use Rattle.std.proofs.lemmas.Bool.{false≢true, eq-eqb}
 use Rattle.std.proofs.lemmas.Option.{option_and_then_some}
@@ -26,8 +27,9 @@ use Rattle.ro_orders.proofs.Steps.{AtMutex, answer_at, step-waits, turn-answered
 use Rattle.ro_orders.proofs.Orders.{run-head, order-cons, nil-parts, not-who_takes}
 use Rattle.ro_orders.proofs.Copies.{runs-first}
 use Rattle.ro_peer.specs.declared.mutexes.Mutex.{Mutex}
-use Rattle.ro_peer.specs.Peers.{Peer, is_row, kernel_in, machine_of}
+use Rattle.ro_peer.specs.Peers.{Peer, mutex_in, is_row, kernel_in, machine_of}
 use Rattle.ro_peer.specs.Events.{unanswered}
+use Rattle.ro_legal.specs.Sides.{rank_in}
 use Rattle.ro_coop.specs.Core.{Job, Core, layout_here, kernel_for, Steps}
 use Rattle.ro_coop.specs.Stuck.{Stopped, Lags, IsNotIts, WaitsAtLock, IsStuck}
 use Rattle.ro_coop.proofs.Ended.{ended_served}
@@ -146,6 +148,14 @@ module _ (job : Job) (rows : Rows) (free : RaceFree job.program) (lacks : TakesB
     all-got : (m : ℕ) → order_of job.program job.chosen (OfMutex m) (opening job.program) s.first ≡ c.got m
     all-got m = b.got m ∙ (ap (λ (o : List ℕ). c.got m ++ order_of job.program job.chosen (OfMutex m) c.machine o) nothing-behind ∙ append-nil (c.got m))
 
+  -- as often as the mutex's rank says
+  rank-got : (n : ℕ) (r : Peer) (c : Copy) → Tied job g.common core.kernel core.output core.blocked s.taken n r c → (a : ℕ) → length (c.got a) ≡ rank_in r.mutexes a
+  rank-got n r c p a = by (mutex_in r.mutexes a) refl
+    where
+      by : (o : Option Mutex) → mutex_in r.mutexes a ≡ o → length (c.got a) ≡ option_map_or (λ m. m.rank) o 0
+      by None e = ap length (p.is.fresh a e)
+      by (Some m) e = p.is.ranks a m e
+
   -- it was got as often in any two copies
   both-got : (n m : ℕ) (r q : Peer) (c d : Copy) → slice_get core.peers n ≡ Some r → slice_get core.peers m ≡ Some q → slice_get g.copies n ≡ Some c → slice_get g.copies m ≡ Some d
       → Tied job g.common core.kernel core.output core.blocked s.taken n r c → Tied job g.common core.kernel core.output core.blocked s.taken m q d → (a : ℕ) → length (c.got a) ≡ length (d.got a)
@@ -200,12 +210,12 @@ module _ (job : Job) (rows : Rows) (free : RaceFree job.program) (lacks : TakesB
         let a = gets-it q.0 q.1 h.0 h.1 h.2 t alive q.3 after (steps-in q.0 q.1 h.0 q.2 h.1 h.2) in
         ⊎_elim
         (λ (row : (u : ℕ) × (rows q.3.call.a0 q.3.mutex.rank ≡ Some u)).
-          let o = stuck.all_taken q.3.call.a0 q.3.mutex.rank row.0 row.1 in
-          let i = each-get _ core.peers g.copies g.each o.0 o.1 o.2 in
-          too-long (length (h.0.got q.3.call.a0)) (length (i.0.got q.3.call.a0)) q.3.mutex.rank o.3.rank (h.2.is.ranks q.3.call.a0 q.3.mutex q.3.listed) (i.2.is.ranks q.3.call.a0 o.3 o.4) (both-got q.0 o.0 q.1 o.1 h.0 i.0 q.2 o.2 h.1 i.1 h.2 i.2 q.3.call.a0) o.5)
+        let o = stuck.all_taken q.3.call.a0 q.3.mutex.rank row.0 row.1 in
+        let i = each-get _ core.peers g.copies g.each o.0 o.1 o.2 in
+        too-long (length (h.0.got q.3.call.a0)) (length (i.0.got q.3.call.a0)) q.3.mutex.rank (rank_in o.1.mutexes q.3.call.a0) (h.2.is.ranks q.3.call.a0 q.3.mutex q.3.listed) (rank-got o.0 o.1 i.0 i.2 q.3.call.a0) (both-got q.0 o.0 q.1 o.1 h.0 i.0 q.2 o.2 h.1 i.1 h.2 i.2 q.3.call.a0) o.3)
         (λ (o : Lags core.peers q.3.call.a0 q.3.mutex.rank).
-          let i = each-get _ core.peers g.copies g.each o.0 o.1 o.2 in
-          too-long (length (i.0.got q.3.call.a0)) (length (h.0.got q.3.call.a0)) o.3.rank q.3.mutex.rank (i.2.is.ranks q.3.call.a0 o.3 o.4) (h.2.is.ranks q.3.call.a0 q.3.mutex q.3.listed) (both-got o.0 q.0 o.1 q.1 i.0 h.0 o.2 q.2 i.1 h.1 i.2 h.2 q.3.call.a0) o.5)
+        let i = each-get _ core.peers g.copies g.each o.0 o.1 o.2 in
+        too-long (length (i.0.got q.3.call.a0)) (length (h.0.got q.3.call.a0)) (rank_in o.1.mutexes q.3.call.a0) q.3.mutex.rank (rank-got o.0 o.1 i.0 i.2 q.3.call.a0) (h.2.is.ranks q.3.call.a0 q.3.mutex q.3.listed) (both-got o.0 q.0 o.1 q.1 i.0 h.0 o.2 q.2 i.1 h.1 i.2 h.2 q.3.call.a0) o.3)
         a.1.1
       where
         too-long : (a b k m : ℕ) → a ≡ k → b ≡ m → a ≡ b → k < m → ⊥

@@ -13,6 +13,7 @@ use Rattle.ro_orders.specs.Answers.{Answers, Waits, answer_by}
 use Rattle.ro_orders.specs.Copies.{Rows}
 use Rattle.ro_peer.specs.declared.mutexes.Mutex.{Mutex}
 use Rattle.ro_peer.specs.Peers.{Peer, mutex_in, is_row}
+use Rattle.ro_legal.specs.Sides.{rank_in}
 use Rattle.ro_coop.specs.Core.{Job, Core, layout_here, kernel_for, is_going}
 
 -- a thread that is stopped in a peer
@@ -21,7 +22,7 @@ Stopped peer t = (x : Thread) × (slice_get peer.replica.threads t ≡ Some x) �
 
 -- some peer got a mutex less often than this
 abbrev pub Lags : List Peer → (address rank : ℕ) → Type 0
-Lags peers address rank = (n : ℕ) × (peer : Peer) × (slice_get peers n ≡ Some peer) × (mutex : Mutex) × (mutex_in peer.mutexes address ≡ Some mutex) × (mutex.rank < rank)
+Lags peers address rank = (n : ℕ) × (peer : Peer) × (slice_get peers n ≡ Some peer) × (rank_in peer.mutexes address < rank)
 
 -- a row is not the thread's: it is another's, or nobody's, and some peer got the mutex less often
 abbrev pub IsNotIts : Rows → List Peer → (address rank t : ℕ) → Type 0
@@ -46,4 +47,4 @@ pub record IsStuck (job : Job) (rows : Rows) (core : Core) : Type 0 where
   pub none_free : (t : ℕ) (call : Call) → core.blocked t ≡ Some call → blocks (setup_of job.program) (kernel_for core t) t call ≡ true
   pub none_lent : (t : ℕ) → lives_on core.kernel t ≡ true → core.blocked t ≡ None → (n : ℕ) (peer : Peer) → slice_get core.peers n ≡ Some peer → Stopped peer t ⊎ WaitsAtLock (layout_here job core) rows core.peers peer t
   pub none_voted : (t : ℕ) → lives_on core.kernel t ≡ true → core.blocked t ≡ None → (n : ℕ) × (peer : Peer) × (slice_get core.peers n ≡ Some peer) × WaitsAtLock (layout_here job core) rows core.peers peer t
-  pub all_taken : (mutex rank u : ℕ) → rows mutex rank ≡ Some u → (n : ℕ) × (peer : Peer) × (slice_get core.peers n ≡ Some peer) × (m : Mutex) × (mutex_in peer.mutexes mutex ≡ Some m) × (rank < m.rank)
+  pub all_taken : (mutex rank u : ℕ) → rows mutex rank ≡ Some u → (n : ℕ) × (peer : Peer) × (slice_get core.peers n ≡ Some peer) × (rank < rank_in peer.mutexes mutex)

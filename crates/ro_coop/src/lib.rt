@@ -21,7 +21,7 @@ ghost use Rattle.ro_coop.specs.Sound.{core_behind, IsSound};
 ghost use Rattle.ro_coop.specs.Stuck.{Stopped, IsStuck};
 
 pub use rows::{letters_row, reservation_row};
-pub use runs::{journals_are_executions, votes_agree};
+pub use runs::{deadlocks_are_real, journals_are_executions, votes_agree};
 
 /// The first steps of a legal journal are an execution: threads get each cooperative mutex in it in the order of its rows,
 /// what was written is what it writes, and where the run ended by an exit or a trap, it ends so.

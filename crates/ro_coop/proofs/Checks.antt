@@ -94,7 +94,7 @@ test_legal job rows core (entry ∷ journal) = test_entry job rows core entry &&
 
 -- ---- what passes is allowed
 
-none-of : {X : Type 0} (o : Option X) → is_none o ≡ true → o ≡ None
+pub none-of : {X : Type 0} (o : Option X) → is_none o ≡ true → o ≡ None
 none-of None e = refl
 none-of (Some x) e = absurd (false≢true e)
 
@@ -115,7 +115,7 @@ did-of Watch Watch e = refl
 did-of Trapped Trapped e = refl
 did-of a b e = absurd (false≢true e)
 
-event-of : (did : Did) (o : Option Event) → test_event did o ≡ true → (event : Event) × (o ≡ Some event) × (event.did ≡ did)
+pub event-of : (did : Did) (o : Option Event) → test_event did o ≡ true → (event : Event) × (o ≡ Some event) × (event.did ≡ did)
 event-of did None e = absurd (false≢true e)
 event-of did (Some event) e = (event, refl, did-of event.did did e)
 

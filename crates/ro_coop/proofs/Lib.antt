@@ -26,3 +26,6 @@ pub mod Taken
 pub mod Deadlocks
 pub mod Checks
 pub mod Worked
+pub mod Tests
+pub mod Unshared
+pub mod Contested

@@ -1,10 +1,7 @@
 -- What the rows say, computed.
-use Rattle.std.specs.Prelude.{◌≡◌, ◌==◌, ℕ, Bool, true, false, cond, [], ◌∷◌, ◌++◌, replicate, Option, Some, None}
-use Rattle.std.proofs.Common.{refl, sym, ap, ◌∙◌}
+use Rattle.std.specs.Prelude.{◌≡◌, true, [], ◌∷◌, ◌++◌, replicate, Option, Some, None}
+use Rattle.std.proofs.Common.{refl, sym, ◌∙◌}
 use Rattle.ro_decode.specs.Table.{instruction_of}
-use Rattle.ro_event.specs.declared.calls.Which.{Which}
-use Rattle.ro_event.specs.declared.calls.Which.TheVariants.{Function}
-use Rattle.ro_event.specs.declared.functions.Function.TheVariants.{Create, Join, Exit, Lock, Unlock}
 use Rattle.ro_event.specs.Table.{call_at}
 use Rattle.ro_region.specs.Permission.{permits_of}
 use Rattle.ro_alu.specs.Results.{alu_of, taken_by}
@@ -18,14 +15,14 @@ use Rattle.ro_legal.specs.Event.{event_of}
 use Rattle.ro_plain.specs.Order.{RaceFree}
 use Rattle.ro_simulation.specs.Guests.{locking_guest}
 use Rattle.ro_simulation.proofs.LockingGuest.{locking-free}
-use Rattle.ro_orders.specs.Turns.{takes_otherwise, TakesByLocks}
+use Rattle.ro_orders.specs.Turns.{TakesByLocks}
 use Rattle.ro_orders.specs.Choices.{in_table}
-use Rattle.ro_orders.proofs.Tables.{lacks-by-table}
 use Rattle.ro_peer.specs.Peers.{Peer, leased}
 use Rattle.ro_coop.specs.Core.{OneEnters, opening_core, kernel_for, settled, run_in, LegalFrom, first_of}
 use Rattle.ro_coop.specs.Rowless.{threads_of, got_in_replica}
 use Rattle.ro_coop.specs.Sound.{core_behind}
 use Rattle.ro_coop.specs.Guests.{letters_job, letters_mutex, page_of_thread, letters_front, letters_back, letters_journal, shown, a_reservation, kernel_reserving, core_answering, reserved_in, answer_to}
+use Rattle.ro_coop.proofs.Choices.{by-table}
 use Rattle.ro_coop.proofs.Checks.{test_legal, legal-of, legal-back}
 
 module _ (one : OneEnters in_table) where
@@ -91,23 +88,5 @@ the-first = refl
 pub letters-free : RaceFree locking_guest
 letters-free = locking-free
 
--- a call that may take a mutex otherwise than by a lock, if there is one
-abbrev is_taking : Option Which → Bool
-is_taking None = false
-is_taking (Some which) = takes_otherwise which
-
-no-taking-cond : (b : Bool) (x y : Option Which) → is_taking x ≡ false → is_taking y ≡ false → is_taking (cond b x y) ≡ false
-no-taking-cond true x y h k = h
-no-taking-cond false x y h k = k
-
-no-taking : (address : ℕ) → is_taking (call_at locking_guest.image.calls address) ≡ false
-unfolding call_at
-no-taking address =
-    no-taking-cond (0x100CC == address) (Some (Function Create)) _ refl
-    (no-taking-cond (0x100D0 == address) (Some (Function Join)) _ refl
-    (no-taking-cond (0x100DC == address) (Some (Function Exit)) _ refl
-    (no-taking-cond (0x100D4 == address) (Some (Function Lock)) _ refl
-    (no-taking-cond (0x100D8 == address) (Some (Function Unlock)) None refl refl))))
-
 pub letters-by-locks : TakesByLocks locking_guest
-letters-by-locks = lacks-by-table locking_guest (λ address which e. ap is_taking (sym e) ∙ no-taking address)
+letters-by-locks = by-table locking_guest refl

@@ -1,6 +1,7 @@
 //! The cooperative mode: replicas that answer the calls on some mutexes by themselves.
 #![tactic(auto)]
 
+mod contests;
 mod rows;
 mod runs;
 
@@ -20,6 +21,7 @@ ghost use Rattle.ro_coop.specs.Rowless.{RowlessFrom, got_from, threads_of, got_i
 ghost use Rattle.ro_coop.specs.Sound.{core_behind, IsSound};
 ghost use Rattle.ro_coop.specs.Stuck.{Stopped, IsStuck};
 
+pub use contests::{chosen_row, crossing_row, parked_row, rules_row, three_views_row};
 pub use rows::{letters_row, reservation_row};
 pub use runs::{deadlocks_are_real, journals_are_executions, votes_agree};
 

@@ -5,7 +5,7 @@ import dataclasses
 from auditing.jobs import Entry, Fault, Job
 from auditing.replicas import Change, PageFault, Replica, Stands, Stop, Trap, View
 from journals import Free, Part, Put, Scrub, Take, Vote
-from kernel import PAGE, Atomic, Blocked, Call, Done, Effect, Ends, Kernel, Parked, Served, opening_kernel
+from kernel import PAGE, Atomic, Blocked, Call, Done, Effect, Kernel, Parked, opening_kernel
 
 
 class Illegal(Exception):
@@ -112,7 +112,7 @@ class Core:
         if isinstance(entry, Take):
             self.take(entry)
         elif isinstance(entry, Part):
-            raise Illegal("no lease comes back so")
+            self.part(entry)
         elif isinstance(entry, Put):
             self.put(entry)
         elif isinstance(entry, Vote):
@@ -184,6 +184,9 @@ class Core:
         self.leases.remove(lease)
         self.wrote = 0
 
+    def part(self, entry: Part):
+        raise Illegal("no lease comes back so")
+
     # ---- A vote is held, a call that waits is served
 
     def won(self, thread: int) -> Won | None:
@@ -195,36 +198,47 @@ class Core:
         stop = winner.threads[thread].stop
         return Won(*found, winner.threads[thread].since, self.event(thread, stop, winner.payload(stop)))
 
+    def added(self, won: Won) -> int:
+        """How many steps the vote adds to the plan."""
+        return won.count + STEPS[won.event.did]
+
+    def kernel_for(self, thread: int) -> Kernel:
+        """That serves the thread."""
+        return self.kernel
+
     def event(self, thread: int, stop: Stop, payload: bytes) -> Event:
+        kernel = self.kernel_for(thread)
         if isinstance(stop, Call):
-            return self.call_event(thread, stop, payload, self.kernel.serve(thread, stop))
+            return self.call_event(thread, stop, payload)
         if isinstance(stop, Atomic):
-            served = self.kernel.serve_atomic(thread, stop, int.from_bytes(payload, "little"))
+            served = kernel.serve_atomic(thread, stop, int.from_bytes(payload, "little"))
             return Event("served", served.kernel, served.effect)
         if isinstance(stop, PageFault):
-            return Event("mapped", self.kernel, Effect(thread, page=stop.page, releases=True))
+            return Event("mapped", kernel, Effect(thread, page=stop.page, releases=True))
         if isinstance(stop, Trap):
-            return Event("trapped", self.kernel, Effect(thread), due=f"trap {stop.cause}")
-        return Event("watch", self.kernel, Effect(thread, releases=True))
+            return Event("trapped", kernel, Effect(thread), due=f"trap {stop.cause}")
+        return Event("watch", kernel, Effect(thread, releases=True))
 
-    def call_event(self, thread: int, call: Call, payload: bytes, served: Served) -> Event:
+    def call_event(self, thread: int, call: Call, payload: bytes) -> Event:
+        kernel = self.kernel_for(thread)
+        served = kernel.serve(thread, call)
         if isinstance(served, Done):
             return Event("served", served.kernel, served.effect, payload)
         if isinstance(served, Blocked):
-            return Event("blocked", self.kernel, Effect(thread), blocked=call)
+            return Event("blocked", kernel, Effect(thread), blocked=call)
         if isinstance(served, Parked):
             return Event("parked", served.kernel, Effect(thread), blocked=call)
         return Event("served", served.kernel, Effect(thread), due=f"exit {served.status}")
 
-    def occur(self, thread: int, count: int, event: Event):
-        """An event, so many instructions behind the thread's last release."""
+    def occur(self, thread: int, added: int, event: Event):
+        """An event, which adds so many steps to the plan."""
         for replica in self.replicas:
             replica.apply(event.kernel, event.effect)
         self.kernel = event.kernel
         self.blocked.pop(thread, None)
         if event.blocked is not None:
             self.blocked[thread] = event.blocked
-        self.steps += count + STEPS[event.did]
+        self.steps += added
         self.output += event.payload
         self.wrote = len(event.payload)
         self.due = event.due
@@ -235,14 +249,14 @@ class Core:
         needs(won is not None, "there is no majority")
         came = won.winner, won.losers, won.count, won.event.did
         needs(came == (entry.winner, entry.losers, entry.steps, entry.did), f"the vote comes to {came}")
-        needs(self.steps + won.count + STEPS[entry.did] <= self.job.limit, "it passes the limit")
+        needs(self.steps + self.added(won) <= self.job.limit, "it passes the limit")
         self.copies += [self.copy(entry.thread, won.winner, loser) for loser in won.losers]
         for loser in won.losers:
             self.replicas[loser].become(self.replicas[won.winner])
         if self.streak.thread != entry.thread:
             self.streak = Streak(entry.thread, 0)
         self.streak.votes += 1
-        self.occur(entry.thread, won.count, won.event)
+        self.occur(entry.thread, self.added(won), won.event)
 
     def copy(self, thread: int | None, winner: int, loser: int) -> Copy:
         """The copy that is about to be made, at a vote on the thread or at a scrub."""
@@ -257,8 +271,8 @@ class Core:
         needs(self.steps + 1 <= self.job.limit, "it passes the limit")
         if self.streak.thread != thread:
             self.streak = Streak(thread, 0)
-        call = self.blocked[thread]
-        self.occur(thread, 0, self.call_event(thread, call, b"", self.kernel.serve(thread, call)))
+        event = self.call_event(thread, self.blocked[thread], b"")
+        self.occur(thread, STEPS[event.did], event)
 
     # ---- All replicas are compared whole
 
@@ -306,7 +320,7 @@ class Core:
         won = self.won(thread)
         if won is None:
             return how == self.how_split()
-        return self.is_passed(how, won.count + STEPS[won.event.did])
+        return self.is_passed(how, self.added(won))
 
     def ends_scrub(self, how: str) -> bool:
         """Whether the end comes in the place of a scrub: no majority."""
@@ -334,7 +348,12 @@ class Judged:
 
 def judge(job: Job, entries: list[Entry], is_next=None) -> Judged:
     """Whether each entry is allowed in the core that those before it leave; and, by `is_next`, whether it is what comes next."""
-    core, other = Core(job), None
+    return judge_from(Core(job), entries, is_next)
+
+
+def judge_from(core: Core, entries: list[Entry], is_next=None) -> Judged:
+    """The same from this core on."""
+    other = None
     for place, entry in enumerate(entries):
         if is_next is not None and other is None and not is_next(core, entry):
             other = place

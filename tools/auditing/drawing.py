@@ -94,7 +94,7 @@ def vote_of(core: Core, thread: int) -> Vote | End:
     won = core.won(thread)
     if won is None:
         return End(core.how_split())
-    more = won.count + STEPS[won.event.did]
+    more = core.added(won)
     if core.steps + more > core.job.limit:
         return End(f"limit {core.steps} {more}")
     return Vote(thread, won.count, won.winner, won.losers, won.event.did)

@@ -1,5 +1,5 @@
 """Why an entry is not allowed in a core, as an audit tells it. What each reason means stands in crates/ro_audit/specs/Audits.antt."""
-from auditing.cores import STEPS, Core
+from auditing.cores import Core
 from auditing.drawing import line_of
 from auditing.jobs import Entry, Job
 from auditing.replicas import Change
@@ -55,7 +55,7 @@ def vote_comes_to(core: Core, thread: int) -> str:
     won = core.won(thread)
     if won is None:
         return f"end {core.how_split()}"
-    more = won.count + STEPS[won.event.did]
+    more = core.added(won)
     if core.steps + more > core.job.limit:
         return f"end limit {core.steps} {more}"
     return line_of(Vote(thread, won.count, won.winner, won.losers, won.event.did))

@@ -117,6 +117,10 @@ class Replica(Machine):
         change = self.next(thread)
         if not isinstance(change, Change):
             raise Stands(change)
+        self.carry(thread, change)
+
+    def carry(self, thread: Thread, change: Change):
+        """Carries out what the thread does next."""
         self.fill(change.place, change.data)
         if change.register:
             thread.registers[change.register] = change.value

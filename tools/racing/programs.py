@@ -65,11 +65,11 @@ class Function:
         return self.words + [EBREAK] * (ROOM // 4 - len(self.words))
 
 
-def linked(functions: list[Function]) -> bytes:
-    """The executable of a program's functions, which begins with the first."""
+def linked(functions: list[Function], left_out: tuple[str, ...] = ()) -> bytes:
+    """The executable of a program's functions, which begins with the first; some names of POSIX functions may be left out."""
     words = [form_j(FIRST - CODE, 0)] + [EBREAK] * len(NAMES) + [0] * ((FIRST - SHARED) // 4)
     words += [word for function in functions for word in function.whole()]
-    return executable(words, [Symbol(address, address + 4, FUNCTION, name) for name, address in STUBS.items()])
+    return executable(words, [Symbol(address, address + 4, FUNCTION, name) for name, address in STUBS.items() if name not in left_out])
 
 
 def draw_access(draw: random.Random, function: Function):

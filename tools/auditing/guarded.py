@@ -57,18 +57,17 @@ class Drawn:
         function.words += [form_i(self.draw.choice((2, 5, 30)), 0, 0, RESULT, 0x13), form_i(-1, RESULT, 0, RESULT, 0x13),
                            form_b(-4, 0, RESULT, 1)]
 
-    def guard(self, function: Function, mutex: int, inside: int = 0):
+    def guard(self, function: Function, mutex: int, outer: tuple[int, ...] = ()):
         """Locks a mutex, does something, and unlocks it; seldom another one between, or one lock more, or no unlock."""
         self.call(function, "pthread_mutex_lock", PLACES[mutex])
         if self.draw.randrange(12) == 0:
             self.call(function, "pthread_mutex_lock", PLACES[mutex])
         for _ in range(self.draw.randint(1, 2)):
             self.access(function, mutex)
-        if inside < 2 and self.draw.randrange(5) == 0:
-            other = self.draw.randrange(self.mutexes)
-            if other != mutex:
-                self.guard(function, other, inside + 1)
-                self.access(function, mutex)
+        others = [other for other in range(self.mutexes) if other != mutex and other not in outer]
+        if others and self.draw.randrange(5) == 0:
+            self.guard(function, self.draw.choice(others), (*outer, mutex))
+            self.access(function, mutex)
         if self.draw.randrange(25):
             self.call(function, "pthread_mutex_unlock", PLACES[mutex])
 

@@ -2,6 +2,7 @@
 ghost use Rattle.std.specs.Prelude.{ℕ, ◌≡◌, ◌≢◌, ◌+◌, ◌/◌, ◌^◌, ◌<◌, ◌≤◌, ◌++◌, ◌∷◌, [], List, IfOk, IfSome, MatchOption, Some, None, true, false, length, nat_lt};
 ghost use Rattle.std.specs.FinMap as map;
 ghost use Rattle.std.specs.List.{slice_get};
+ghost use Rattle.ro_pages.specs.Directories.{is_listed};
 ghost use Rattle.ro_pages.specs.Held.{memory_of, has_page};
 ghost use Rattle.ro_pages.specs.Words.{bytes_in};
 
@@ -13,6 +14,9 @@ use ro_limits::{PAGE_SIZE, PAGE_WORDS};
 use std::alloc::{AllocError, Global};
 use std::marker::Model;
 use std::mem;
+
+/// How many pages a memory of a few can be lent.
+pub const MOST_LENT: u32 = 8;
 
 /// Pages that a memory has lent, each with its number, and pages of its own for more of them.
 ///
@@ -39,7 +43,7 @@ impl Model for FewPages {
 
     ghost view = { λ s. record { pages = pages_of (λ b. bytes_in b.value) s.directory.numbers s.backed.items; spare = vec_len s.spare; numbers = s.directory.numbers } };
 
-    ghost invariant = { λ s. (length s.directory.numbers ≡ length s.backed.items) × (vec_len s.backed + vec_len s.spare ≤ vec_capacity s.backed) × (vec_len s.backed + vec_len s.spare ≤ vec_capacity s.spare) × (vec_len s.spare ≤ s.directory.room) };
+    ghost invariant = { λ s. (length s.directory.numbers ≡ length s.backed.items) × (vec_len s.backed + vec_len s.spare ≤ vec_capacity s.backed) × (vec_len s.backed + vec_len s.spare ≤ vec_capacity s.spare) × (vec_len s.spare ≤ s.directory.room) × (length s.directory.numbers + vec_len s.spare ≡ 8) };
 }
 
 impl FewPages {
@@ -104,15 +108,17 @@ impl Memory for FewPages {
 }
 
 impl FewPages {
-    /// A memory with no page, and with so many of its own. It fails only for want of memory.
-    pub fn new(alloc: Global, room: u32) -> Result<FewPages, AllocError>
+    /// A memory with no page that was lent, and with pages of its own for so many as it can be lent. It fails only for want
+    /// of memory.
+    pub fn new(alloc: Global) -> Result<FewPages, AllocError>
         ensures pages { IfOk result (λ f. f.pages ≡ map.empty) }
-        ensures spare { IfOk result (λ f. f.spare ≡ room) }
+        ensures numbers { IfOk result (λ f. f.numbers ≡ []) }
+        ensures spare { IfOk result (λ f. f.spare ≡ 8) }
     {
-        let directory = ShortDirectory::new(alloc, room)?;
-        let backed = Vec::with_capacity(alloc, room as usize)?;
-        let mut spare = Vec::with_capacity(alloc, room as usize)?;
-        for _ in 0..room {
+        let directory = ShortDirectory::new(alloc, MOST_LENT)?;
+        let backed = Vec::with_capacity(alloc, MOST_LENT as usize)?;
+        let mut spare = Vec::with_capacity(alloc, MOST_LENT as usize)?;
+        for _ in 0..MOST_LENT {
             spare.push(zero_page(alloc)?)?;
         }
         Ok(FewPages {
@@ -120,6 +126,15 @@ impl FewPages {
             backed,
             spare,
         })
+    }
+
+    /// Each page that it has is listed, and there is room for eight with those that it has.
+    #[inline(always)]
+    pub fn each_listed(&self)
+        ensures listed { (page : ℕ) → is_listed self.now.numbers page ≡ has_page self.now.pages page }
+        ensures room { length self.now.numbers + self.now.spare ≡ 8 }
+    {
+        let _spare = self.spare.len();
     }
 
     /// Whether one more page can be lent to it.

@@ -2,3 +2,4 @@ pub mod Each
 pub mod Granted
 pub mod Opened
 pub mod Wider
+pub mod Writable

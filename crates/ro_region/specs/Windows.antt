@@ -1,5 +1,5 @@
 -- What the windows of the pages say.
-use Rattle.std.specs.Prelude.{ℕ, ◌≡◌, ◌+◌, ◌*◌, ◌/◌, ◌%◌, ◌^◌, ◌<◌, ◌≤◌, Bool, true, ◌&&◌, nat_lt, List, length, slice_get, slice_index, Some}
+use Rattle.std.specs.Prelude.{ℕ, ◌≡◌, ◌+◌, ◌*◌, ◌/◌, ◌%◌, ◌^◌, ◌<◌, ◌≤◌, true, List, length, slice_get, slice_index, Some}
 use Rattle.ro_region.specs.declared.Kind.{Kind}
 use Rattle.ro_region.specs.declared.Range.{Range}
 use Rattle.ro_region.specs.declared.windows.Window.{Window}
@@ -51,7 +51,3 @@ pub record IsTable (ranges : List Range) (kind : Kind) (table first : ℕ) (new 
   pub within : first + 1024 ≤ length new
   pub same : (i : ℕ) → i < length old → slice_get new i ≡ slice_get old i
   pub sound : AreOpenFrom ranges kind table first new
-
--- whether a range has a byte in so many pages from one on
-abbrev pub meets : Range → (page count : ℕ) → Bool
-meets range page count = nat_lt range.start (4096 * (page + count)) && nat_lt (4096 * page) (range.start + range.length)

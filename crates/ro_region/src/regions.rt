@@ -1,12 +1,12 @@
 //! All ranges together: those that stand from the opening on, and those that were given since.
 ghost use Rattle.std.specs.Prelude.{ℕ, ◌≡◌, ◌+◌, ◌-◌, ◌*◌, ◌%◌, ◌^◌, ◌<◌, ◌≤◌, ◌∷◌, [], true, IsTrue, IfOk, length, reverse};
 ghost use Rattle.std.specs.Arc.{arc_value};
-ghost use Rattle.ro_region.specs.Permission.{lies_in_range, permits_byte, permits_each, permits_of, ranges_of};
+ghost use Rattle.ro_region.specs.Permission.{is_writable, lies_in_range, permits_byte, permits_each, permits_of, ranges_of};
 ghost use Rattle.ro_region.specs.Windows.{IsOpen};
 
 use crate::first::FirstRegions;
 use crate::grants::{Grant, grant_range, none_granted, window as granted_window};
-use crate::windows::Window;
+use crate::windows::{Window, is_met};
 use crate::{Kind, Range};
 use ro_limits::{MAPPED_PAGES, PAGE_SIZE};
 use std::alloc::{AllocError, Global};
@@ -25,7 +25,7 @@ pub struct Regions {
 }
 
 impl Model for Regions {
-    ghost use Rattle.std.specs.Prelude.{◌≤◌, vec_capacity, reverse};
+    ghost use Rattle.std.specs.Prelude.{◌≤◌, vec_capacity, vec_len, reverse};
     ghost use Rattle.std.specs.Arc.{arc_value};
     ghost use Rattle.ro_region.specs.Permission.{Ranges};
     ghost use Rattle.ro_region.specs.Grants.{AreGranted};
@@ -34,7 +34,7 @@ impl Model for Regions {
 
     ghost view = { λ s. record { given = reverse s.given.items; first = arc_value s.first } };
 
-    ghost invariant = { λ s. (4096 ≤ vec_capacity s.given) × AreGranted (reverse s.given.items) s.pages.items };
+    ghost invariant = { λ s. (4096 ≤ vec_capacity s.given) × AreGranted (reverse s.given.items) s.pages.items × (vec_len s.given ≤ 4096) };
 }
 
 impl Regions {
@@ -71,6 +71,22 @@ impl Regions {
             unreachable!()
         }
         grant_range(&mut self.pages, &range);
+    }
+
+    /// Becomes as other regions that have the same ranges from the opening on. It takes no memory.
+    pub fn copy_from(&mut self, other: &Regions)
+        requires { self.old.first ≡ other.now.first }
+        ensures { self.new ≡ other.now }
+    {
+        self.given.clear();
+        if self
+            .given
+            .extend_from_slice(other.given.as_slice())
+            .is_err()
+        {
+            unreachable!()
+        }
+        self.pages.copy_from_slice(other.pages.as_slice());
     }
 
     /// The ranges that were given, the oldest first.
@@ -131,6 +147,14 @@ impl Regions {
         ensures { result ≡ lies_in_range (ranges_of self.now) address }
     {
         lies_in(self.first.ranges(), address) || lies_in(self.given.as_slice(), address)
+    }
+
+    /// Whether a byte of a page may be written.
+    pub fn is_writable(&self, page: u32) -> bool
+        ensures { result ≡ is_writable (ranges_of self.now) page }
+    {
+        is_met(self.first.ranges(), Kind::Write, page, 1)
+            || is_met(self.given.as_slice(), Kind::Write, page, 1)
     }
 
     /// The window of a page.

@@ -1,10 +1,10 @@
 //! For each page a window: bytes of it, one after another, that are all permitted.
 ghost use Rattle.std.specs.Prelude.{ℕ, ◌≡◌, IsTrue, ◌↔◌, ◌+◌, ◌*◌, ◌^◌, ◌<◌, ◌≤◌, ◌⊎◌, ◌&&◌, List, length, IfOk, OnOk};
 ghost use Rattle.std.specs.List.{list_any};
-ghost use Rattle.ro_region.specs.Permission.{allows};
+ghost use Rattle.ro_region.specs.Permission.{allows, meets};
 ghost use Rattle.ro_region.specs.declared.Kind.{Kind as KindOf};
 ghost use Rattle.ro_region.specs.declared.Range.{Range as RangeOf};
-ghost use Rattle.ro_region.specs.Windows.{IsOpen, IsTable, AreClosed, AreAdded, AreOpenFrom, AreKept, AreTables, AreOpen, AreAll, meets};
+ghost use Rattle.ro_region.specs.Windows.{IsOpen, IsTable, AreClosed, AreAdded, AreOpenFrom, AreKept, AreTables, AreOpen, AreAll};
 
 use crate::{Kind, Range};
 use ro_limits::{PAGE_SIZE, PAGES};
@@ -95,7 +95,8 @@ fn meets(range: &Range, page: u32, count: u32) -> bool
 {
     let size = u64::from(PAGE_SIZE);
     let first = size * u64::from(page);
-    u64::from(range.start) < first + size * u64::from(count)
+    range.length > 0
+        && u64::from(range.start) < first + size * u64::from(count)
         && first < u64::from(range.start) + u64::from(range.length)
 }
 
@@ -172,7 +173,7 @@ fn met(range: &Range, table: u32) -> (u32, u32)
 }
 
 /// Whether a range that permits this kind has a byte in so many pages from one on.
-fn is_met(ranges: &[Range], kind: Kind, page: u32, count: u32) -> bool
+pub fn is_met(ranges: &[Range], kind: Kind, page: u32, count: u32) -> bool
     ensures { result ≡ list_any (λ range. allows range kind && meets range page count) ranges.now }
 {
     ranges

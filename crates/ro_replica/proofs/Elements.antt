@@ -2,7 +2,7 @@
 use Rattle.std.specs.Prelude.{◌≡◌, ℕ, zero, suc, Bool, true, false, not, cond, List, [], ◌∷◌, Some, None, slice_get, slice_set}
 use Rattle.std.specs.List.{filter}
 use Rattle.std.specs.Option.{option_map}
-use Rattle.std.proofs.Common.{refl, sym, ap}
+use Rattle.std.proofs.Common.{refl, sym, ap, ◌∙◌}
 use Rattle.ro_replica.specs.Replica.{changed_at}
 
 -- the element that was changed
@@ -47,6 +47,16 @@ pub set_twice : {X : Type 0} (xs : List X) (i : ℕ) (x y : X) → slice_set (sl
 set_twice [] i x y = refl
 set_twice (z ∷ xs) zero x y = refl
 set_twice (z ∷ xs) (suc i) x y = ap {B = List _} (λ r. z ∷ r) (set_twice xs i x y)
+
+-- lists that have the same at each place are the same
+pub same_by_places : {X : Type 0} (xs ys : List X) → ((i : ℕ) → slice_get xs i ≡ slice_get ys i) → xs ≡ ys
+same_by_places [] [] h = refl
+same_by_places [] (y ∷ ys) h = absurd (let e : None ≡ Some y = h 0 in cc)
+same_by_places (x ∷ xs) [] h = absurd (let e : Some x ≡ None = h 0 in cc)
+same_by_places (x ∷ xs) (y ∷ ys) h =
+    let first : Some x ≡ Some y = h 0 in
+    let e : x ≡ y = cc in
+    ap {B = List _} (λ z. z ∷ xs) e ∙ ap {B = List _} (λ r. y ∷ r) (same_by_places xs ys (λ i. h (suc i)))
 
 -- what was left out is not found again
 pub filter_other : {X : Type 0} (p : X → Bool) (xs : List X) → filter p (filter (λ x. not (p x)) xs) ≡ []

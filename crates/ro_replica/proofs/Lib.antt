@@ -17,3 +17,6 @@ pub mod UnderWay
 pub mod Lent
 pub mod Lasts
 pub mod Backs
+pub mod Wishes
+pub mod Loans
+pub mod Pools

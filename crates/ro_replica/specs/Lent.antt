@@ -1,11 +1,16 @@
 -- A lane: a thread that is lent with some of its replica's pages, and what comes back of it.
-use Rattle.std.specs.Prelude.{◌≡◌, ◌<◌, ◌≤◌, ℕ, ◌+◌, true, List, [], Option, Some, None, slice_get, slice_set}
+use Rattle.std.specs.Prelude.{◌≡◌, ◌<◌, ◌≤◌, ℕ, ◌+◌, Bool, true, false, ◌&&◌, List, [], ◌++◌, Option, Some, None, slice_get, slice_set}
 use Rattle.std.specs.List.{filter}
 use Rattle.std.specs.Option.{option_and_then}
+use Rattle.std.specs.Ordering.{nat_cmp}
+use Rattle.std.specs.FinMap as map
+use Rattle.std.specs.FinMap.{FinMap}
 use Rattle.ro_event.specs.declared.stops.Stop.{Stop}
 use Rattle.ro_event.specs.declared.stops.Stop.TheVariants.{PageFault}
 use Rattle.ro_region.specs.declared.Range.{Range}
 use Rattle.ro_pages.specs.Bytes.{Memory}
+use Rattle.ro_region.specs.Permission.{is_writable}
+use Rattle.ro_pages.specs.Directories.{is_listed}
 use Rattle.ro_pages.specs.Held.{Held, memory_of, has_page}
 use Rattle.ro_exec.specs.Next.{Layout, Backed}
 use Rattle.ro_exec.specs.Parts.{SameIn, with_part, IsMore}
@@ -14,7 +19,7 @@ use Rattle.ro_thread.specs.Stops.{standing}
 use Rattle.ro_thread.specs.Parts.{missed}
 use Rattle.ro_replica.specs.Replica.{Replica, changed_at}
 use Rattle.ro_replica.specs.Runs.{RanTo, is_due, run_of, with_stop}
-use Rattle.ro_replica.specs.Seen.{Runs}
+use Rattle.ro_replica.specs.Seen.{ReplicaOf, Runs}
 
 -- What is lent is of the replica as it is: the thread, the bytes of the pages, which are backed. No fault of the thread is
 -- due within so many instructions.
@@ -48,7 +53,29 @@ pub record LaneOf : Type 0 where
   pub given : List Range  -- the ranges that were given since the opening, the newest first
   pub watchdog : ℕ
   pub held : Held
+  pub moved : List ℕ  -- those of its pages that have left the replica for the time
   pub thread : Thread
+
+-- A lane for a replica: it is of the same program, and was perhaps given fewer ranges since the opening.
+pub record IsLaneFor (lane : LaneOf) (replica : ReplicaOf) : Type 0 where
+  pub first : List Range
+  pub lane_has : lane.layout.ranges ≡ lane.given ++ first
+  pub replica_has : replica.layout.ranges ≡ replica.given ++ first
+  pub calls : lane.layout.calls ≡ replica.layout.calls
+
+-- the lane has what never changes in a run as the replica has it now
+pub record HasProgram (lane : LaneOf) (replica : ReplicaOf) : Type 0 where
+  pub layout : lane.layout ≡ replica.layout
+  pub given : lane.given ≡ replica.given
+  pub watchdog : lane.watchdog ≡ replica.watchdog
+
+-- Pages that a memory has lent to one of a few: those that were wished for and that it had, with their bytes. Of those of which
+-- a byte may be written nothing is said in the memory for the time, and all others have the bytes there that they had.
+pub record AreLent (ranges : List Range) (wished : ℕ → Bool) (home home_now few : FinMap nat_cmp (List ℕ)) (moved : List ℕ) : Type 0 where
+  pub just : (page : ℕ) → has_page few page ≡ (wished page && has_page home page)
+  pub bytes : (page : ℕ) → has_page few page ≡ true → map.get few page ≡ map.get home page
+  pub left : (page : ℕ) → is_listed moved page ≡ (has_page few page && is_writable ranges page)
+  pub stay : (page : ℕ) → is_listed moved page ≡ false → map.get home_now page ≡ map.get home page
 
 -- what never changes is the same
 pub record SameProgramOf (one other : LaneOf) : Type 0 where

@@ -1,31 +1,36 @@
 //! A thread that is lent with some of its replica's pages.
-ghost use Rattle.std.specs.Prelude.{◌≡◌, ◌+◌, ◌<◌, ◌^◌, ℕ, [], false, true, length};
+ghost use Rattle.std.specs.Prelude.{◌≡◌, ◌+◌, ◌<◌, ◌^◌, ℕ, [], false, true, length, IfOk};
 ghost use Rattle.ro_pages.specs.Held.{has_page, memory_of};
 ghost use Rattle.ro_thread.specs.Runs.{IsRun};
 ghost use Rattle.ro_replica.specs.Replica.{Replica as ReplicaSeen};
 ghost use Rattle.ro_replica.specs.Seen.{replica_of, SameProgram};
-ghost use Rattle.ro_replica.specs.Lent.{LentIn, SameProgramOf, ComesHome, put_back};
+ghost use Rattle.ro_replica.specs.Lent.{LentIn, IsLaneFor, SameProgramOf, ComesHome, put_back};
 
+use crate::cpus::first_cpu;
+use crate::opening::unstopped;
 use crate::replicas::Replica;
 use ro_event::{CallTable, Stop};
 use ro_exec::Learnt;
-use ro_pages::FewPages;
+use ro_pages::{FewPages, MOST_LENT};
 use ro_region::Regions;
 use ro_thread::{RunEnd, Thread};
+use std::alloc::{AllocError, Global};
 use std::marker::Model;
 
-/// A lane is what a lease of a few pages has: a thread of a replica, and these pages.
+/// A lane is what a lease of a few pages has: a thread of a replica, and these pages. It can be lent again and again.
 #[derive(Drop)]
 pub struct Lane {
-    regions: Regions,
+    pub(crate) regions: Regions,
     calls: CallTable,
-    watchdog: u32,
-    pages: FewPages,
-    thread: Thread,
+    pub(crate) watchdog: u32,
+    pub(crate) pages: FewPages,
+    /// Those of its pages that have left the replica for the time; the others are copies. There is a place for each page.
+    pub(crate) moved: Vec<u32>,
+    pub(crate) thread: Thread,
 }
 
 impl Model for Lane {
-    ghost use Rattle.std.specs.Prelude.{◌≤◌};
+    ghost use Rattle.std.specs.Prelude.{◌≤◌, length, vec_capacity};
     ghost use Rattle.std.specs.Coded.{codes};
     ghost use Rattle.ro_pages.specs.Held.{coded_held};
     ghost use Rattle.ro_region.specs.Permission.{ranges_of};
@@ -35,12 +40,39 @@ impl Model for Lane {
 
     ghost coded = { Prim.hlevel (codes, coded_held) };
 
-    ghost view = { λ l. record { layout = record { ranges = ranges_of l.regions; calls = l.calls }; given = l.regions.given; watchdog = l.watchdog; held = l.pages; thread = l.thread } };
+    ghost view = { λ l. record { layout = record { ranges = ranges_of l.regions; calls = l.calls }; given = l.regions.given; watchdog = l.watchdog; held = l.pages; moved = l.moved.items; thread = l.thread } };
 
-    ghost invariant = { λ l. l.thread.since ≤ l.watchdog };
+    ghost invariant = { λ l. (l.thread.since ≤ l.watchdog) × (length l.moved.items ≤ length l.pages.numbers) × (8 ≤ vec_capacity l.moved) };
 }
 
 impl Lane {
+    /// A lane for replicas of the same program as a given one, with no page and with room for eight. What it needs of memory
+    /// it takes here.
+    ///
+    /// # Errors
+    /// Where there is no memory.
+    pub fn new(alloc: Global, replica: &Replica) -> Result<Lane, AllocError>
+        ensures lane { IfOk result (λ lane. IsLaneFor lane replica.now) }
+        ensures none { IfOk result (λ lane. lane.held.numbers ≡ []) }
+        ensures room { IfOk result (λ lane. lane.held.spare ≡ 8) }
+    {
+        Ok(Lane {
+            regions: replica.regions.opening(alloc)?,
+            calls: CallTable::new(*replica.calls.addresses()),
+            watchdog: replica.watchdog,
+            pages: FewPages::new(alloc)?,
+            moved: Vec::with_capacity(alloc, MOST_LENT as usize)?,
+            thread: unstopped(first_cpu(0)),
+        })
+    }
+
+    /// The pages that have left the replica for the time.
+    pub fn moved(&self) -> &[u32]
+        ensures { result.now ≡ self.now.moved }
+    {
+        self.moved.as_slice()
+    }
+
     /// Runs the thread until it stands at a stop, or for a quantum of instructions. It sees the pages that it was lent, and
     /// stands at the fault of any other page that it needs.
     pub fn run(&mut self, quantum: u32) -> RunEnd
@@ -48,6 +80,8 @@ impl Lane {
         ensures program { SameProgramOf self.new self.old }
         ensures run { IsRun self.old.layout self.old.watchdog (has_page self.old.held.pages) quantum result.count result.stop (record { thread = self.old.thread; memory = memory_of self.old.held.pages }) (record { thread = self.new.thread; memory = memory_of self.new.held.pages }) }
         ensures pages { has_page self.new.held.pages ≡ has_page self.old.held.pages }
+        ensures numbers { self.new.held.numbers ≡ self.old.held.numbers }
+        ensures moved { self.new.moved ≡ self.old.moved }
         ensures home { (replica : ReplicaSeen) (thread : ℕ) → LentIn (has_page self.old.held.pages) thread result.count (memory_of self.old.held.pages) self.old.thread replica → ComesHome quantum thread result.count result.stop self.old self.new replica }
     {
         let mut learnt = Learnt::nothing();
@@ -75,9 +109,12 @@ impl Replica {
         ensures spare { self.new.held.spare ≡ self.old.held.spare }
         ensures same_lane { SameProgramOf lane.new lane.old }
         ensures gone { (page : ℕ) → has_page lane.new.held.pages page ≡ false }
+        ensures none { lane.new.held.numbers ≡ [] }
+        ensures moved { lane.new.moved ≡ [] }
         ensures room { lane.new.held.spare ≡ lane.old.held.spare + length lane.old.held.numbers }
     {
         self.pages.take_all_back(&mut lane.pages);
+        lane.moved.clear();
         self.threads[thread as usize] = Thread {
             stop,
             ..lane.thread

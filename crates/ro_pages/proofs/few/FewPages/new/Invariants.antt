@@ -5,8 +5,8 @@ use Rattle.ro_pages.proofs.few.FewPages.new.Given as goal
 abbrev pub invariant-loop : goal.invariant-loop
 invariant-loop l = record {
   spare : vec_len l.spare ≡ l.counter;
-  places : l.room ≤ vec_capacity l.spare;
+  places : 8 ≤ vec_capacity l.spare;
   none : l.backed.items ≡ [];
-  room : l.room ≤ vec_capacity l.backed;
+  room : 8 ≤ vec_capacity l.backed;
   numbers : l.directory-inside ≡ l.initial.directory-inside;
 }

@@ -13,7 +13,7 @@ take_all_back-requires-clause-mine c = λ page there.
 pub invariant_of-self : goal.invariant_of-self
 invariant_of-self c =
     let watchdog : c.lane.inside.watchdog ≡ c.self.inside.watchdog = ap (λ v. v.watchdog) c.lane.view_is ∙ (c.requires.program ∙ sym (ap (λ v. v.watchdog) c.self.view_is)) in
-    let watched : c.lane.inside.thread.since ≤ c.self.inside.watchdog = omega (arith, watchdog, c.lane.invariant) in (
+    let watched : c.lane.inside.thread.since ≤ c.self.inside.watchdog = omega (arith, watchdog, c.lane.invariant.0) in (
       replica_with _ _ _ _ c.args.thread _ c.self.invariant.0 watched,
       same_pages _ c.self.inside.calls c.self.inside.pages c.take_all_back.new.self _ (λ page. ap (λ (f : ℕ → Bool). f page) (sym c.take_all_back.ensures.pages)) (ap slice_get c.take_all_back.ensures.numbers) c.self.invariant.1,
     )

@@ -53,42 +53,26 @@ impl Totals {
         ensures struck { self.new.struck ≡ self.old.struck + hits_of entry.now }
         ensures steps { self.new.steps ≡ self.old.steps + length (entry_plan entry.now) }
     {
-        if entry.is_vote() {
-            self.votes += 1;
+        match *entry {
+            Entry::Take(_) | Entry::End { .. } => {}
+            Entry::Put { hit, .. } | Entry::Part { hit, .. } => self.struck += u64::from(hit),
+            Entry::Vote {
+                count,
+                lost,
+                did,
+                ..
+            } => {
+                self.votes += 1;
+                self.copies += lost.count() as u64;
+                self.steps += u64::from(count) + did.steps();
+            }
+            Entry::Free { .. } => self.steps += 1,
+            Entry::Scrub { lost, .. } => self.copies += lost.count() as u64,
         }
-        self.copies += entry.copies();
-        self.struck += entry.hits();
-        self.steps += entry.steps();
     }
 }
 
 impl Entry {
-    fn is_vote(&self) -> bool
-        ensures { result ≡ is_vote self.now }
-    {
-        matches!(self, Entry::Vote { .. })
-    }
-
-    // How many losers became copies of the winner.
-    fn copies(&self) -> u64
-        ensures { result ≡ copies_of self.now }
-    {
-        match *self {
-            Entry::Vote { lost, .. } | Entry::Scrub { lost, .. } => lost.count() as u64,
-            _ => 0,
-        }
-    }
-
-    // How many faults were struck in the run that it puts back.
-    fn hits(&self) -> u64
-        ensures { result ≡ hits_of self.now }
-    {
-        match *self {
-            Entry::Put { hit, .. } | Entry::Part { hit, .. } => u64::from(hit),
-            _ => 0,
-        }
-    }
-
     /// How many steps the entry adds to the plan.
     pub fn steps(&self) -> u64
         ensures { result ≡ length (entry_plan self.now) }

@@ -4,6 +4,7 @@ ghost use Rattle.ro_condition.specs.Waiters.{wait_of};
 ghost use Rattle.ro_kernel.specs.Kernel.{ranges_in, released, is_live, lives_on, any_live, opening_kernel};
 ghost use Rattle.ro_kernel.specs.Reserved.{reservation_of};
 ghost use Rattle.ro_kernel.specs.Serve.{fits};
+ghost use Rattle.ro_mutex.specs.Owners.{owner_of};
 
 use crate::Life;
 use crate::reservations::Reservation;
@@ -114,7 +115,7 @@ impl Kernel {
 
     /// Ends a live thread's reservation, and answers which one it was.
     #[tactic(auto, using(crate::proofs::Reserving::lives_below))]
-    pub(crate) fn release(&mut self, thread: u32) -> Option<Reservation>
+    pub fn release(&mut self, thread: u32) -> Option<Reservation>
         requires { lives_on self.old.kernel thread ≡ true }
         ensures was { result ≡ reservation_of self.old.kernel.reserved thread }
         ensures kernel { self.new ≡ record self.old { kernel = released self.old.kernel thread } }
@@ -126,7 +127,7 @@ impl Kernel {
 
     /// Gives a live thread a reservation back.
     #[tactic(auto, using(crate::proofs::Reserving::lives_below))]
-    pub(crate) fn restore(&mut self, thread: u32, reservation: Option<Reservation>)
+    pub fn restore(&mut self, thread: u32, reservation: Option<Reservation>)
         requires { lives_on self.old.kernel thread ≡ true }
         ensures { self.new ≡ record self.old { kernel = record self.old.kernel { reserved = slice_set self.old.kernel.reserved thread reservation } } }
     {
@@ -138,6 +139,13 @@ impl Kernel {
         ensures { result ≡ wait_of self.now.kernel.waiters thread }
     {
         self.waiters.of(thread)
+    }
+
+    /// The owner of the mutex at an address, if it stands in the table.
+    pub fn owner(&self, address: u32) -> Option<Option<u32>>
+        ensures { result ≡ owner_of self.now.kernel.owners address }
+    {
+        self.mutexes.owner(address)
     }
 
     pub(crate) fn any_live(&self) -> bool

@@ -55,7 +55,7 @@ two-views job backed machine base n t one other cpu cpu' since since' stop stop'
     same-since : (n b k l : ℕ) → n ≡ b + k → n ≡ b + l → k ≡ l
     same-since n b k l e f = omega arith
 
-module _ (job : Job) (rows : Rows) (free : RaceFree job.program) (lacks : TakesByLocks job.program) (core : Core) (s : Steps) (g : Going job rows core s) (t : ℕ) (lives : lives_on core.kernel t ≡ true) where
+module _ (job : Job) (rows : Rows) (free : RaceFree job.program) (lacks : TakesByLocks job.program job.chosen) (core : Core) (s : Steps) (g : Going job rows core s) (t : ℕ) (lives : lives_on core.kernel t ≡ true) where
   abbrev pub first : IsFirst job.program job.chosen g.common.backed rows g.copies s.first
   first = runs-first job.program job.chosen free lacks g.common.backed rows g.runs
 

@@ -1,22 +1,16 @@
 -- Where all mutexes of the table are cooperative, a call that is served makes none so but its own.
-use Rattle.std.specs.Prelude.{◌≡◌, ◌≢◌, ◌||◌, ◌==◌, ⊤, ℕ, Bool, true, false, cond, List, [], ◌∷◌, Option, Some, None, is_some}
+use Rattle.std.specs.Prelude.{◌≡◌, ◌≢◌, ⊤, ℕ, Bool, true, false, cond, Option, Some, None, is_some}
 use Rattle.std.proofs.Common.{refl, sym, ap, ◌∙◌, subst, ⊎_elim}
 use Rattle.std.proofs.lemmas.Bool.{cases_eq, and_parts, false≢true}
 use Rattle.ro_event.specs.declared.calls.Call.{Call}
-use Rattle.ro_event.specs.declared.calls.Which.{Which}
-use Rattle.ro_event.specs.declared.calls.Which.TheVariants.{Function}
-use Rattle.ro_event.specs.declared.functions.Function.{Function as Posix}
 use Rattle.ro_event.specs.Functions.{functions}
-use Rattle.ro_event.specs.Table.{function_at, call_at}
 use Rattle.ro_mutex.specs.Owners.{owner_of, with_owner}
 use Rattle.ro_mutex.proofs.Given.{owner_of-given, owner_of-other}
 use Rattle.ro_kernel.specs.Kernel.{Setup, Kernel}
 use Rattle.ro_kernel.specs.Serve.{Served, Done, is_free}
 use Rattle.ro_kernel.proofs.Shapes.{Shape, says, reads, breaks, maps_more, owns, wakes, parks_at, resumes, makes, joins, leaves, of_word, waits, stops, stops_last, shape-of}
 use Rattle.ro_plain.specs.Machine.{Program}
-use Rattle.ro_orders.specs.Turns.{takes_otherwise, TakesByLocks}
 use Rattle.ro_orders.specs.Choices.{in_table, no_mutex, has_otherwise, chosen_of}
-use Rattle.ro_orders.proofs.Tables.{lacks-by-table}
 use Rattle.ro_coop.specs.Core.{OneEnters}
 
 -- the same addresses stand in the table, but for that of the call
@@ -75,33 +69,3 @@ chosen-enters program = by (has_otherwise program.image.calls.addresses function
     by : (b : Bool) → OneEnters (cond b no_mutex in_table)
     by true = none-enters
     by false = one-enters
-
--- ---- a table of calls with neither trylock nor wait
-
--- a call that may take a mutex otherwise than by a lock, if there is one
-abbrev is_taking : Option Which → Bool
-is_taking None = false
-is_taking (Some which) = takes_otherwise which
-
-neither : (a b : Bool) → (a || b) ≡ false → (a ≡ false) × (b ≡ false)
-neither true b e = absurd (false≢true (sym e))
-neither false b e = (refl, e)
-
-taking-cond : (b : Bool) (x y : Option Which) → is_taking x ≡ false → is_taking y ≡ false → is_taking (cond b x y) ≡ false
-taking-cond true x y h k = h
-taking-cond false x y h k = k
-
-none-listed : (addresses : List (Option ℕ)) (fs : List Posix) (pc : ℕ) → has_otherwise addresses fs ≡ false → is_taking (function_at addresses fs pc) ≡ false
-none-listed [] fs pc e = refl
-none-listed (a ∷ addresses) [] pc e = refl
-none-listed (None ∷ addresses) (f ∷ fs) pc e = none-listed addresses fs pc e
-none-listed (Some a ∷ addresses) (f ∷ fs) pc e =
-    let both = neither (takes_otherwise (Function f)) (has_otherwise addresses fs) e in
-    taking-cond (a == pc) (Some (Function f)) (function_at addresses fs pc) both.0 (none-listed addresses fs pc both.1)
-
-none-at : (program : Program) → has_otherwise program.image.calls.addresses functions ≡ false → (address : ℕ) → is_taking (call_at program.image.calls address) ≡ false
-unfolding call_at
-none-at program e address = none-listed program.image.calls.addresses functions address e
-
-pub by-table : (program : Program) → has_otherwise program.image.calls.addresses functions ≡ false → TakesByLocks program
-by-table program h = lacks-by-table program (λ address which e. ap is_taking (sym e) ∙ none-at program h address)

@@ -25,6 +25,7 @@ use Rattle.ro_orders.specs.Turns.{TakesByLocks}
 use Rattle.ro_orders.specs.Choices.{in_table, no_mutex, chosen_of}
 use Rattle.ro_orders.specs.Copies.{Rows}
 use Rattle.ro_orders.specs.Guests.{two_locks, two_trylocks, two_waits}
+use Rattle.ro_orders.proofs.Tables.{by-table}
 use Rattle.ro_peer.specs.Peers.{Peer, leased}
 use Rattle.ro_peer.specs.Gets.{Get, InRows}
 use Rattle.ro_legal.specs.Core.{opening_core as opening_voted, is_lendable, may_vote, views_of}
@@ -32,8 +33,7 @@ use Rattle.ro_legal.specs.Event.{event_of}
 use Rattle.ro_legal.specs.Legal.{is_stuck}
 use Rattle.ro_legal.specs.Cooperative.{opening_core, after, lease_run, MayPart, for_vote, EndsVote, Legal, replay, gets_from}
 use Rattle.ro_coop.specs.Core.{first_of}
-use Rattle.ro_coop.specs.Contests.{contest_job, lease_by, writers_guest, writers_job, writers_mutex, page_of_threads, writers_asked, writers_got, writers_parted, writers_wrote, writers_freed, writers_freed_too, writers_journal, contest_shown, crossing_guest, crossing_job, crossing_again, crossing_stuck, crossing_journal, byte_guest, byte_job, byte_front, byte_journal}
-use Rattle.ro_coop.proofs.Choices.{by-table}
+use Rattle.ro_coop.specs.Contests.{contest_job, lease_by, writers_guest, writers_job, writers_mutex, page_of_threads, writers_asked, writers_got, writers_parted, writers_wrote, writers_freed, writers_freed_too, writers_journal, contest_shown, crossing_guest, crossing_job, crossing_again, crossing_stuck, crossing_journal, waiting_guest, waiting_job, waiting_stuck, waiting_journal, byte_guest, byte_job, byte_front, byte_journal}
 use Rattle.ro_coop.proofs.Rules.{views-agree}
 use Rattle.ro_coop.proofs.Unshared.{unshared-free}
 use Rattle.ro_coop.proofs.Tests.{test_legal, are_apart, is_parked_at, legal-of, legal-more, apart-of}
@@ -47,8 +47,8 @@ pub writers-free : RaceFree writers_guest
 unfolding sync_of accesses opening steppable step first_cpu made_cpu next fetch_stop instruction_stop instruction_of call_at permits_of alu_of taken_by meaning serve payload_of
 writers-free = unshared-free (record { place = 0x100D8; count = 4 }) 40 writers_guest refl
 
-pub writers-by-locks : TakesByLocks writers_guest
-writers-by-locks = by-table writers_guest refl
+pub writers-by-locks : TakesByLocks writers_guest in_table
+writers-by-locks = by-table writers_guest in_table refl
 
 pub writers-range : InRange writers_job.settings
 writers-range = range-of writers_guest 2 (inl refl) (lit≤ tt) (lit≤ tt)
@@ -147,8 +147,8 @@ pub crossing-free : RaceFree crossing_guest
 unfolding sync_of accesses opening steppable step first_cpu made_cpu next fetch_stop instruction_stop instruction_of call_at permits_of alu_of taken_by meaning serve payload_of
 crossing-free = explored-free 22 crossing_guest refl
 
-pub crossing-by-locks : TakesByLocks crossing_guest
-crossing-by-locks = by-table crossing_guest refl
+pub crossing-by-locks : TakesByLocks crossing_guest in_table
+crossing-by-locks = by-table crossing_guest in_table refl
 
 pub crossing-range : InRange crossing_job.settings
 crossing-range = range-of crossing_guest 2 (inl refl) (lit≤ tt) (lit≤ tt)
@@ -182,10 +182,51 @@ crossing-end = refl
 pub crossing-first : first_of crossing_journal ≡ replicate 12 0 ++ replicate 2 1 ++ replicate 2 0 ++ replicate 2 1
 crossing-first = refl
 
+-- ---- no cooperative mutex
+
+pub waiting-free : RaceFree waiting_guest
+unfolding sync_of accesses opening steppable step first_cpu made_cpu next fetch_stop instruction_stop instruction_of call_at permits_of alu_of taken_by meaning serve payload_of
+waiting-free = explored-free 12 waiting_guest refl
+
+pub waiting-chosen : chosen_of waiting_guest ≡ no_mutex
+waiting-chosen = refl
+
+pub waiting-range : InRange waiting_job.settings
+waiting-range = range-of waiting_guest 2 (inl refl) (lit≤ tt) (lit≤ tt)
+
+waiting-pass : test_legal waiting_job (opening_core waiting_job) waiting_journal ≡ true
+unfolding no_mutex opening_core opening_voted after opening_replica first_cpu made_cpu next fetch_stop instruction_stop instruction_of call_at permits_of alu_of taken_by meaning serve payload_of event_of applied cancelled leased
+waiting-pass = refl
+
+pub waiting-legal : Legal waiting_job waiting_journal
+waiting-legal = legal-of waiting_job (opening_core waiting_job) waiting_journal waiting-pass
+
+waiting-passes : test_legal waiting_job (opening_core waiting_job) waiting_stuck ≡ true
+unfolding no_mutex opening_core opening_voted after opening_replica first_cpu made_cpu next fetch_stop instruction_stop instruction_of call_at permits_of alu_of taken_by meaning serve payload_of event_of applied cancelled leased
+waiting-passes = refl
+
+pub waiting-before : Legal waiting_job waiting_stuck
+waiting-before = legal-of waiting_job (opening_core waiting_job) waiting_stuck waiting-passes
+
+pub waiting-got : gets_from waiting_job (opening_core waiting_job) waiting_stuck ≡ []
+unfolding no_mutex opening_core opening_voted after opening_replica first_cpu made_cpu next fetch_stop instruction_stop instruction_of call_at permits_of alu_of taken_by meaning serve payload_of event_of applied cancelled leased
+waiting-got = refl
+
+pub waiting-is-stuck : is_stuck waiting_job (replay waiting_job waiting_stuck) ≡ true
+unfolding no_mutex opening_core opening_voted after opening_replica first_cpu made_cpu next fetch_stop instruction_stop instruction_of call_at permits_of alu_of taken_by meaning serve payload_of event_of applied cancelled leased
+waiting-is-stuck = refl
+
+pub waiting-end : contest_shown (replay waiting_job waiting_journal) ≡ ([], Some Deadlock, 8, [] ∷ [] ∷ [])
+unfolding no_mutex opening_core opening_voted after opening_replica first_cpu made_cpu next fetch_stop instruction_stop instruction_of call_at permits_of alu_of taken_by meaning serve payload_of event_of applied cancelled leased
+waiting-end = refl
+
+pub waiting-first : first_of waiting_journal ≡ replicate 8 0
+waiting-first = refl
+
 -- ---- a race
 
-pub byte-by-locks : TakesByLocks byte_guest
-byte-by-locks = by-table byte_guest refl
+pub byte-by-locks : TakesByLocks byte_guest in_table
+byte-by-locks = by-table byte_guest in_table refl
 
 pub byte-range : InRange byte_job.settings
 byte-range = range-of byte_guest 3 (inr (inl refl)) (lit≤ tt) (lit≤ tt)
@@ -222,7 +263,7 @@ byte-ends = legal-more byte_job (opening_core byte_job) byte_front (End Differ) 
 pub byte-races : RaceFree byte_guest → ⊥
 byte-races free =
     let rows : Rows = λ mutex rank. None in
-    let agreed = views-agree byte_job rows free byte-by-locks byte-range refl byte_front byte-legal (subst (InRows rows) (sym byte-got) tt) 0 byte-may in
+    let agreed = views-agree byte_job rows free byte-range refl byte_front byte-legal (subst (InRows rows) (sym byte-got) tt) 0 byte-may in
     byte-differs agreed.0 agreed.1
 
 -- ---- which mutexes are chosen

@@ -16,7 +16,6 @@ use Rattle.ro_journal.specs.declared.How.{How}
 use Rattle.ro_journal.specs.declared.Lease.{Lease}
 use Rattle.ro_journal.specs.declared.Entry.{Entry}
 use Rattle.ro_journal.specs.declared.Entry.TheVariants.{Take, Put, Part, Vote, Free, Scrub, End}
-use Rattle.ro_exec.proofs.Backing.{a_call}
 use Rattle.ro_kernel.specs.declared.Life.{Life}
 use Rattle.ro_kernel.specs.Kernel.{Kernel, live_option, lives_on, released}
 use Rattle.ro_kernel.specs.Serve.{Served, Done, Parked, Blocked, Ends, serve, is_blocked, is_served, blocks, serves}
@@ -29,11 +28,12 @@ use Rattle.ro_plain.specs.Machine.{setup_of, layout_in, Machine, opening, step, 
 use Rattle.ro_plain.specs.Order.{RaceFree}
 use Rattle.ro_plain.proofs.Calls.{some-injective}
 use Rattle.ro_orders.specs.Answers.{Answers, Waits, answer_by}
-use Rattle.ro_orders.specs.Turns.{is_lock_or_unlock, takes_otherwise, TakesByLocks}
+use Rattle.ro_orders.specs.Turns.{is_lock_or_unlock}
 use Rattle.ro_orders.specs.Choices.{chosen_of}
 use Rattle.ro_orders.specs.Copies.{Rows}
+use Rattle.ro_orders.proofs.Tables.{chosen-by-locks}
 use Rattle.ro_peer.specs.declared.mutexes.Mutex.{Mutex}
-use Rattle.ro_peer.specs.Peers.{Peer, mutex_in, is_row, kernel_in, leased_run}
+use Rattle.ro_peer.specs.Peers.{Peer, mutex_in, is_row, leased_run}
 use Rattle.ro_peer.specs.Gets.{Get, asker, got_in, InRows}
 use Rattle.ro_legal.specs.Core.{Job as Asked, Core as Run, is_going, nothing_lent, is_home, is_barred, is_kept, is_parked, is_awake, is_lendable, may_vote, may_free}
 use Rattle.ro_legal.specs.Sides.{Parking, Side, opening_side, peer_with, peers_of, taker_of, rank_in, most_apart, is_ahead}
@@ -49,10 +49,9 @@ use Rattle.ro_legal.proofs.Ordered.{none-lent-is, free-parts}
 use Rattle.ro_coop.specs.Core.{Core, opening_core, kernel_for, after, Steps, steps_after, first_of}
 use Rattle.ro_coop.specs.Sound.{core_behind}
 use Rattle.ro_coop.specs.Stuck.{Stopped, Lags, IsNotIts, WaitsAtLock, IsStuck}
-use Rattle.ro_coop.proofs.Standing.{next-here}
 use Rattle.ro_coop.proofs.Lists.{each-get}
-use Rattle.ro_coop.proofs.Holds.{IsWaiting, Going, Holds, is_on, is_over, thread-made}
-use Rattle.ro_coop.proofs.Journal.{parked-waits, entry-holds, opening-holds, still-on, legal-stuck}
+use Rattle.ro_coop.proofs.Holds.{IsWaiting, not-again, Going, Holds, is_on, is_over, thread-made}
+use Rattle.ro_coop.proofs.Journal.{entry-holds, opening-holds, still-on, legal-stuck}
 use Rattle.ro_coop.proofs.Turns.{InTurn, nothing-got, turn-append, run-turn, entered-rank}
 use Rattle.ro_coop.proofs.Rowless.{in-front, run-so, entry-so}
 use Rattle.ro_coop.proofs.Seen.{as-job, seen, as-put, IsPeerOf, peers-get, peer-parts, peer-of, kernel-same}
@@ -304,7 +303,7 @@ pub record Along (job : Asked) (rows : Rows) (core : Run) (journal : List Entry)
   pub taken : AllTaken (rules.replay_from job core journal).sides (rules.gets_from job core journal)
   pub grown : Grown core.sides (rules.replay_from job core journal).sides
 
-module _ (job : Asked) (rows : Rows) (free : RaceFree job.program) (lacks : TakesByLocks job.program) (range : InRange job.settings) where
+module _ (job : Asked) (rows : Rows) (free : RaceFree job.program) (range : InRange job.settings) where
   ends-it : (core : Run) (how : How) (later : List Entry) → rules.LegalFrom job (rules.after job core (End how)) later → is_going (rules.replay_from job (rules.after job core (End how)) later) ≡ true → ⊥
   unfolding rules.after
   ends-it core how [] legal going = false≢true going
@@ -324,7 +323,7 @@ module _ (job : Asked) (rows : Rows) (free : RaceFree job.program) (lacks : Take
           let parts = in-front rows (rules.gets_of job core entry) _ r in
           let one = entry-so (as-job job) rows (seen core) (as-put entry) (entry-may job core k.as_many entry never legal.0) (subst (InRows rows) (sym (got-same job core k.as_many entry)) parts.0) in
           let same : after (as-job job) rows (seen core) (as-put entry) ≡ seen (rules.after job core entry) = sym one.1 ∙ entry-same job core k.as_many entry never legal.0 in
-          let holds = subst (λ (c : Core). Holds (as-job job) rows c (steps_after s (as-put entry))) same (entry-holds (as-job job) rows free lacks (is-watched job range) (seen core) s (as-put entry) h one.0) in
+          let holds = subst (λ (c : Core). Holds (as-job job) rows c (steps_after s (as-put entry))) same (entry-holds (as-job job) rows free (chosen-by-locks job.program) (is-watched job range) (seen core) s (as-put entry) h one.0) in
           let goes = entry-goes job rows core k s h entry never legal.0 parts.0 in
           let rest = later (steps_after s (as-put entry)) holds goes.kept legal.1 parts.1 in
           record {
@@ -459,7 +458,7 @@ live-within lives t e = by (slice_get lives t) refl e
     by None f g = absurd (false≢true g)
     by (Some life) f g = slice_get_within lives t life f
 
-module _ (job : Asked) (rows : Rows) (lacks : TakesByLocks job.program) (others : ℕ) (core : Run) (replicas : length core.replicas ≡ suc others) (k : Kept job rows core) (s : Steps) (g : Going (as-job job) rows (seen core) s) (stuck : is_stuck job core ≡ true) (output : List ℕ) where
+module _ (job : Asked) (rows : Rows) (others : ℕ) (core : Run) (replicas : length core.replicas ≡ suc others) (k : Kept job rows core) (s : Steps) (g : Going (as-job job) rows (seen core) s) (stuck : is_stuck job core ≡ true) (output : List ℕ) where
   parts : (is_going core ≡ true) × (nothing_lent core ≡ true)
   parts = and_parts _ _ (and_parts _ _ stuck).0
 
@@ -484,14 +483,6 @@ module _ (job : Asked) (rows : Rows) (lacks : TakesByLocks job.program) (others 
     waiting : IsWaiting core.kernel t call
     waiting = g.waiting t call blocked
 
-    no-wait : takes_otherwise call.which ≡ false
-    no-wait =
-        let r = get-within core.replicas 0 (omega arith) in
-        let p = peer-of job core k.as_many t 0 r.0 r.1 in
-        let h = each-get _ (seen core).peers g.copies g.each 0 (peer_with r.0 p.0) p.2 in
-        let w = h.2.waits t call blocked in
-        lacks (kernel_in core.kernel (peer_with r.0 p.0)) r.0.memory w.0.cpu call (next-here (as-job job) lacks core.kernel core.output (peer_with r.0 p.0) h.0 h.2.is h.2.stops t waiting.lives w.0 w.1 (Calls call) w.2 a_call)
-
     unserved : serves (setup_of job.program) core.kernel t call ≡ false
     unserved =
         ap (λ (o : Option Call). option_map_or (λ (c : Call). serves (setup_of job.program) core.kernel t c) o false) (sym blocked)
@@ -502,7 +493,7 @@ module _ (job : Asked) (rows : Rows) (lacks : TakesByLocks job.program) (others 
       where
         by : (served : Served) → serve (setup_of job.program) core.kernel t call ≡ served → is_served served ≡ false → is_blocked served ≡ true
         by (Done kernel effect) e f = absurd (true≢false f)
-        by (Parked kernel) e f = absurd (true≢false (sym (ap takes_otherwise (parked-waits (setup_of job.program) core.kernel kernel t call e)) ∙ no-wait))
+        by (Parked kernel) e f = absurd (not-again (setup_of job.program) core.kernel kernel t call waiting e)
         by Blocked e f = refl
         by (Ends kernel how) e f = absurd (true≢false f)
 
@@ -600,7 +591,7 @@ module _ (job : Asked) (rows : Rows) (lacks : TakesByLocks job.program) (others 
 
 -- ---- a legal journal
 
-module _ (job : Asked) (rows : Rows) (free : RaceFree job.program) (lacks : TakesByLocks job.program) (range : InRange job.settings) (unstruck : job.faults ≡ []) (journal : List Entry) (legal : rules.Legal job journal) (in_rows : InRows rows (rules.gets_from job (rules.opening_core job) journal)) (stuck : is_stuck job (rules.replay job journal) ≡ true) where
+module _ (job : Asked) (rows : Rows) (free : RaceFree job.program) (range : InRange job.settings) (unstruck : job.faults ≡ []) (journal : List Entry) (legal : rules.Legal job journal) (in_rows : InRows rows (rules.gets_from job (rules.opening_core job) journal)) (stuck : is_stuck job (rules.replay job journal) ≡ true) where
   abbrev last : Run
   last = rules.replay job journal
 
@@ -611,10 +602,10 @@ module _ (job : Asked) (rows : Rows) (free : RaceFree job.program) (lacks : Take
   going = (and_parts _ _ (and_parts _ _ stuck).0).0
 
   opening-on : Holds (as-job job) rows (seen (rules.opening_core job)) nothing
-  opening-on = subst (λ (c : Core). Holds (as-job job) rows c nothing) (sym (seen-opening job unstruck)) (is_on (opening-holds (as-job job) rows free lacks (is-watched job range) some.0 some.1))
+  opening-on = subst (λ (c : Core). Holds (as-job job) rows c nothing) (sym (seen-opening job unstruck)) (is_on (opening-holds (as-job job) rows free (chosen-by-locks job.program) (is-watched job range) some.0 some.1))
 
   its : Along job rows (rules.opening_core job) journal
-  its = along job rows free lacks range (rules.opening_core job) nothing opening-on (kept-opening job rows) journal legal in_rows going
+  its = along job rows free range (rules.opening_core job) nothing opening-on (kept-opening job rows) journal legal in_rows going
 
   -- what was got has its takers as rows
   by_takers : InRows (taker_of last.sides) (rules.gets_from job (rules.opening_core job) journal)
@@ -622,11 +613,11 @@ module _ (job : Asked) (rows : Rows) (free : RaceFree job.program) (lacks : Take
 
   pub real-deadlock : (machine : Machine) → run job.program (opening job.program) (first_of journal) ≡ Some machine → (machine.ended ≡ None) × ((t : ℕ) (later : Machine) → step job.program machine t ≡ Some later → ⊥)
   real-deadlock machine reached =
-      let behind = its-behind job (taker_of last.sides) free lacks range unstruck journal legal by_takers in
+      let behind = its-behind job (taker_of last.sides) free range unstruck journal legal by_takers in
       let its_core = core_behind (as-job job) (taker_of last.sides) (opening_core (as-job job)) (map as-put journal) in
-      let on : Going (as-job job) rows (seen last) its.steps = still-on (as-job job) rows free lacks (is-watched job range) (seen last) its.steps its.holds going in
+      let on : Going (as-job job) rows (seen last) its.steps = still-on (as-job job) rows free (chosen-by-locks job.program) (is-watched job range) (seen last) its.steps its.holds going in
       let nothing_goes : IsStuck (as-job job) (taker_of last.sides) (record (seen last) { output = its_core.output }) =
-      stuck-seen job rows lacks some.0 last (count-kept job (rules.opening_core job) (opening-many job) journal ∙ (opening-count job ∙ some.1)) its.kept its.steps on stuck its_core.output in
-      legal-stuck (as-job job) (taker_of last.sides) free lacks (is-watched job range) some.0 some.1 (map as-put journal) (its-legal job (taker_of last.sides) free lacks range unstruck journal legal by_takers)
+      stuck-seen job rows some.0 last (count-kept job (rules.opening_core job) (opening-many job) journal ∙ (opening-count job ∙ some.1)) its.kept its.steps on stuck its_core.output in
+      legal-stuck (as-job job) (taker_of last.sides) free (chosen-by-locks job.program) (is-watched job range) some.0 some.1 (map as-put journal) (its-legal job (taker_of last.sides) free range unstruck journal legal by_takers)
       (subst (λ (c : Core). IsStuck (as-job job) (taker_of last.sides) c) (sym behind.same) nothing_goes)
       machine (ap (λ (steps : Steps). run job.program (opening job.program) steps.first) (steps-same nothing journal) ∙ reached)

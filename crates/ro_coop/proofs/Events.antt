@@ -101,7 +101,7 @@ payload-in job kernel output peer call = ap (λ (l : Layout). payload_of l.range
 
 -- ---- one peer
 
-module _ (job : Job) (free : RaceFree job.program) (lacks : TakesByLocks job.program) (kernel : Kernel) (output : List ℕ) (peer : Peer) (copy : Copy) (c : IsCopy job kernel output peer copy) (stops : StopsStand job kernel AnyThread peer) (reached : run job.program (opening job.program) copy.taken ≡ Some copy.machine) (t : ℕ) (alive : lives_on kernel t ≡ true) (x : Thread) (there : slice_get peer.replica.threads t ≡ Some x) (call : Call) (stopped : x.stop ≡ Some (Calls call)) (none : peer.answered t ≡ false) (bytes : List ℕ) (reads : payload_of (ranges_in (setup_of job.program) kernel) peer.replica.memory call ≡ bytes) (after : Kernel) (effect : Effect) (served : serve (setup_of job.program) kernel t (asked call bytes) ≡ Done after effect) (own : IsOwn kernel t after effect) (tidy : IsTidy kernel t after effect) where
+module _ (job : Job) (free : RaceFree job.program) (lacks : TakesByLocks job.program job.chosen) (kernel : Kernel) (output : List ℕ) (peer : Peer) (copy : Copy) (c : IsCopy job kernel output peer copy) (stops : StopsStand job kernel AnyThread peer) (reached : run job.program (opening job.program) copy.taken ≡ Some copy.machine) (t : ℕ) (alive : lives_on kernel t ≡ true) (x : Thread) (there : slice_get peer.replica.threads t ≡ Some x) (call : Call) (stopped : x.stop ≡ Some (Calls call)) (none : peer.answered t ≡ false) (bytes : List ℕ) (reads : payload_of (ranges_in (setup_of job.program) kernel) peer.replica.memory call ≡ bytes) (after : Kernel) (effect : Effect) (served : serve (setup_of job.program) kernel t (asked call bytes) ≡ Done after effect) (own : IsOwn kernel t after effect) (tidy : IsTidy kernel t after effect) where
   abbrev entered : List Mutex
   entered = entered_by job.chosen kernel after (Some (Calls call))
 

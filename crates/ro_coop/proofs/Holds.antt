@@ -3,18 +3,22 @@ use Rattle.std.specs.Prelude.{◌≡◌, ◌≢◌, ℕ, zero, suc, ◌+◌, ◌
 use Rattle.std.specs.List.{filter, list_any}
 use Rattle.std.specs.Option.{option_map_or}
 use Rattle.std.proofs.Common.{refl, sym, ap, ◌∙◌, subst, arith}
-use Rattle.std.proofs.lemmas.Bool.{false≢true, eqb-true, eq-eqb, and_parts}
+use Rattle.std.proofs.lemmas.Bool.{true≢false, false≢true, eqb-true, eq-eqb, and_parts}
 use Rattle.std.proofs.lemmas.Option.{option_and_then_some}
 use Rattle.ro_event.specs.declared.calls.Call.{Call}
+use Rattle.ro_event.specs.declared.calls.Which.TheVariants.{Function}
+use Rattle.ro_event.specs.declared.functions.Function.TheVariants.{Wait}
 use Rattle.ro_event.specs.declared.stops.Stop.{Stop}
 use Rattle.ro_event.specs.declared.stops.Stop.TheVariants.{Calls}
 use Rattle.ro_journal.specs.declared.How.{How}
 use Rattle.ro_journal.specs.declared.Entry.TheVariants.{Put}
 use Rattle.ro_mutex.specs.Owners.{owner_of}
+use Rattle.ro_condition.proofs.Whose.{is_waiting}
 use Rattle.ro_exec.specs.Next.{Backed}
 use Rattle.ro_kernel.specs.declared.Life.{Life}
-use Rattle.ro_kernel.specs.Kernel.{Kernel, live_option, lives_on}
-use Rattle.ro_kernel.specs.Serve.{is_write, is_atomic}
+use Rattle.ro_kernel.specs.Kernel.{Setup, Kernel, live_option, lives_on}
+use Rattle.ro_kernel.specs.Serve.{Parked, serve, is_parked, is_write, is_atomic}
+use Rattle.ro_kernel.proofs.Waiting.{waiter-unparked, parked-waits}
 use Rattle.ro_thread.specs.declared.Thread.{Thread}
 use Rattle.ro_replica.specs.Runs.{with_stop}
 use Rattle.ro_replica.specs.Views.{is_unstopped}
@@ -59,6 +63,11 @@ pub record IsWaiting (kernel : Kernel) (t : ℕ) (call : Call) : Type 0 where
   pub no_write : is_write call.which ≡ false
   pub no_atomic : is_atomic call.which ≡ false
   pub in_table : is_lock_or_unlock call.which ≡ true → is_some (owner_of kernel.owners call.a0) ≡ true
+  pub begun : call.which ≡ Function Wait → is_waiting kernel.waiters t ≡ true
+
+-- it does not begin to wait again
+pub not-again : (setup : Setup) (kernel after : Kernel) (t : ℕ) (call : Call) → IsWaiting kernel t call → serve setup kernel t call ≡ Parked after → ⊥
+not-again setup kernel after t call w e = true≢false (sym (ap is_parked e) ∙ waiter-unparked setup kernel t call (w.begun (parked-waits setup kernel t call after e)))
 
 -- each thread that is lent lives and is not blocked
 abbrev pub AllLent : Kernel → (ℕ → Option Call) → List Lease → Type 0
@@ -152,7 +161,7 @@ module _ (job : Job) (rows : Rows) (core : Core) (s : Steps) (g : Going job rows
 
   -- ---- a lease comes back
 
-  module _ (free : RaceFree job.program) (lacks : TakesByLocks job.program) (lease : Lease) (n : ℕ) where
+  module _ (free : RaceFree job.program) (lacks : TakesByLocks job.program job.chosen) (lease : Lease) (n : ℕ) where
     abbrev r : ℕ
     r = lease.replica
 

@@ -7,7 +7,6 @@ use Rattle.std.proofs.lemmas.Bool.{true≢false, false≢true, and_parts}
 use Rattle.std.proofs.lemmas.Option.{option_and_then_some}
 use Rattle.ro_event.specs.declared.calls.Which.{Which}
 use Rattle.ro_event.specs.declared.calls.Which.TheVariants.{System, Function, Atomic}
-use Rattle.ro_event.specs.declared.functions.Function.TheVariants.{Wait}
 use Rattle.ro_event.specs.declared.calls.Call.{Call}
 use Rattle.ro_event.specs.declared.stops.Stop.{Stop}
 use Rattle.ro_event.specs.declared.stops.Stop.TheVariants.{Calls, Trap, PageFault, Watchdog}
@@ -22,9 +21,9 @@ use Rattle.ro_journal.specs.declared.Entry.{Entry}
 use Rattle.ro_journal.specs.declared.Entry.TheVariants.{Take, Put, Part, Vote, Free, Scrub, End}
 use Rattle.ro_journal.specs.Plan.{event_steps}
 use Rattle.ro_exec.proofs.Backing.{a_call, a_trap}
-use Rattle.ro_kernel.specs.Kernel.{Setup, Kernel, lives_on, opening_kernel}
-use Rattle.ro_kernel.specs.Serve.{Served, Done, Parked, Blocked, Ends, serve, is_blocked, put_out, asked}
-use Rattle.ro_kernel.proofs.InTable.{OwnersAfter, one_freed, owners-after}
+use Rattle.ro_kernel.specs.Kernel.{Kernel, lives_on, opening_kernel}
+use Rattle.ro_kernel.specs.Serve.{Served, Done, Parked, Blocked, Ends, serve, is_blocked, is_served, put_out, asked}
+use Rattle.ro_kernel.proofs.Waiting.{blocked-waits}
 use Rattle.ro_kernel.proofs.Words.{asked-same}
 use Rattle.ro_thread.specs.declared.Thread.{Thread}
 use Rattle.ro_replica.specs.Replica.{opening_replica, stop_of}
@@ -36,7 +35,7 @@ use Rattle.ro_plain.proofs.Stays.{no-payload}
 use Rattle.ro_legal.specs.Core.{is_lease}
 use Rattle.ro_legal.specs.Event.{Event, quiet_effect, call_event, event_of}
 use Rattle.ro_legal.proofs.Lists.{MappedFrom}
-use Rattle.ro_orders.specs.Turns.{takes_otherwise, TakesByLocks}
+use Rattle.ro_orders.specs.Turns.{TakesByLocks}
 use Rattle.ro_orders.specs.Copies.{Copy, opening_copy, Rows, at_opening}
 use Rattle.ro_orders.proofs.Copies.{runs-first}
 use Rattle.ro_orders.proofs.Stands.{output-alike}
@@ -51,11 +50,12 @@ use Rattle.ro_coop.proofs.Standing.{next-here, live-here, turn-here, avoids-here
 use Rattle.ro_coop.proofs.Events.{avoid-asked, payload-in}
 use Rattle.ro_coop.proofs.Blocked.{Blocks, blocks-so}
 use Rattle.ro_coop.proofs.Lists.{Each, each-get, each-back}
-use Rattle.ro_coop.proofs.Holds.{Common, Tied, IsWaiting, Going, Over, Holds, is_on, is_over, take-holds, put-holds}
+use Rattle.ro_coop.proofs.Holds.{Common, Tied, IsWaiting, not-again, Going, Over, Holds, is_on, is_over, take-holds, put-holds}
 use Rattle.ro_coop.proofs.Alike.{views-alike}
 use Rattle.ro_coop.proofs.Settled.{settled-holds, settled-ranges, settled-lives, settled-peer, settled-none}
 use Rattle.ro_coop.proofs.Stuck.{no-step}
 use Rattle.ro_coop.proofs.Votes.{StandsAt, it_goes, it_waits, served-holds, quiet-holds, over-holds}
+use Rattle.ro_coop.proofs.Begun.{begun-holds}
 
 -- ---- what a view says
 
@@ -93,26 +93,10 @@ put-none (System number) = refl
 put-none (Function function) = refl
 put-none (Atomic word) = refl
 
--- only a wait does its first step alone
-pub parked-waits : (setup : Setup) (kernel after : Kernel) (t : ℕ) (call : Call) → serve setup kernel t call ≡ Parked after → call.which ≡ Function Wait
-parked-waits setup kernel after t call e = by (subst (OwnersAfter kernel call) e (owners-after setup kernel t call))
-  where
-    by : OwnersAfter kernel call (Parked after) → call.which ≡ Function Wait
-    by (one_freed w f) = w
-
-module _ (job : Job) (rows : Rows) (free : RaceFree job.program) (lacks : TakesByLocks job.program) (watched : (0 == job.settings.watchdog) ≡ false) where
+module _ (job : Job) (rows : Rows) (free : RaceFree job.program) (lacks : TakesByLocks job.program job.chosen) (watched : (0 == job.settings.watchdog) ≡ false) where
   -- ---- an event, by the thread's stop
 
   module _ (core : Core) (s : Steps) (g : Going job rows core s) (nothing_lent : core.leases ≡ []) (not_ended : core.ended ≡ None) (t : ℕ) (lives : lives_on core.kernel t ≡ true) (clear : (number : ℕ) (peer : Peer) → slice_get core.peers number ≡ Some peer → peer.answered t ≡ false) where
-    -- the call is no wait
-    module _ (call : Call) (payload : List ℕ) (at : (number : ℕ) (peer : Peer) → slice_get core.peers number ≡ Some peer → StandsAt (ranges_here job core) peer t (Calls call) payload) where
-      takes-none : takes_otherwise call.which ≡ false
-      takes-none =
-          let f = runs-first job.program job.chosen free lacks g.common.backed rows g.runs in
-          let h = each-back _ core.peers g.copies g.each 0 f.some_copy.0 f.some_copy.1 in
-          let a = at 0 h.0 h.1 in
-          lacks (kernel_in core.kernel h.0) h.0.replica.memory a.0.cpu call (next-here job lacks core.kernel core.output h.0 f.some_copy.0 h.2.is h.2.stops t lives a.0 a.1 (Calls call) a.2 a_call)
-
     abbrev ended_by : Kernel → How → Peer → Machine
     ended_by kernel how r = record (machine_of core.kernel core.output r) { kernel = with_mutexes (ended r.answered kernel) r.mutexes; ended = Some how }
 
@@ -128,14 +112,14 @@ module _ (job : Job) (rows : Rows) (free : RaceFree job.program) (lacks : TakesB
           ∙ ap (λ (x : Served). served_with r.mutexes (ended_served r.answered x)) e)))
 
     call-holds : (call : Call) (payload : List ℕ) → ((number : ℕ) (peer : Peer) → slice_get core.peers number ≡ Some peer → StandsAt (ranges_here job core) peer t (Calls call) payload)
-        → (served : Served) → serve (setup_of job.program) core.kernel t (asked call payload) ≡ served → (is_blocked served ≡ true → Alike core t) → Holds job rows (core_after job.chosen core t (Some (Calls call)) (call_event core.kernel t call (put_out call.which payload) served)) (served_all t (event_steps (call_event core.kernel t call (put_out call.which payload) served).did) s)
+        → (served : Served) → serve (setup_of job.program) core.kernel t (asked call payload) ≡ served → (is_served served ≡ false → Alike core t) → Holds job rows (core_after job.chosen core t (Some (Calls call)) (call_event core.kernel t call (put_out call.which payload) served)) (served_all t (event_steps (call_event core.kernel t call (put_out call.which payload) served).did) s)
     call-holds call payload at (Done kernel effect) e alike = is_on (served-holds job rows free lacks watched core s g nothing_lent not_ended t lives (Calls call) payload at clear call refl kernel effect e)
     call-holds call payload at (Parked kernel) e alike =
-        absurd (true≢false (sym (ap takes_otherwise (parked-waits (setup_of job.program) core.kernel kernel t (asked call payload) e)) ∙ takes-none call payload at))
+        is_on (begun-holds job rows free lacks watched core s g nothing_lent not_ended t lives call payload at clear kernel e (alike refl).0 (alike refl).1)
     call-holds call payload at Blocked e alike =
         let b : Blocks core.kernel (asked call payload) = blocks-so (setup_of job.program) core.kernel t (asked call payload) e in
         is_on (quiet-holds job rows free lacks watched core s g nothing_lent not_ended t lives (Calls call) payload at clear None false (Some call)
-        (it_waits call refl (record { lives = lives; no_write = b.no_write; no_atomic = b.no_atomic; in_table = b.in_table })) WasBlocked refl (alike refl).0 (alike refl).1)
+        (it_waits call refl (record { lives = lives; no_write = b.no_write; no_atomic = b.no_atomic; in_table = b.in_table; begun = λ w. blocked-waits (setup_of job.program) core.kernel t (asked call payload) e w })) WasBlocked refl (alike refl).0 (alike refl).1)
     call-holds call payload at (Ends kernel how) e alike =
         is_over (over-holds job rows free lacks watched core s g nothing_lent not_ended t lives (Calls call) payload at clear how kernel (quiet_effect t None false) WasServed refl (λ r c there p. let a = at 0 r there in (
           ended_by kernel how r,
@@ -236,17 +220,21 @@ module _ (job : Job) (rows : Rows) (free : RaceFree job.program) (lacks : TakesB
       not_ended : core.ended ≡ None
       not_ended = (going-parts core m.going).1
 
-      called-so : (served : Served) → serve (setup_of job.program) (kernel_for core t) t m.call ≡ served → is_blocked served ≡ false → Holds job rows (core_after job.chosen (settled core t) t (Some (Calls m.call)) (call_event (kernel_for core t) t m.call [] served)) (served_all t (event_steps (call_event (kernel_for core t) t m.call [] served).did) s)
+      -- a wait that has begun
+      waits : IsWaiting (kernel_for core t) t m.call
+      waits = (settled-on core s g m.nothing_lent not_ended t w.lives (Calls m.call) [] stands).waiting t m.call m.is_blocked
+
+      called-so : (served : Served) → serve (setup_of job.program) (kernel_for core t) t m.call ≡ served → is_served served ≡ true → Holds job rows (core_after job.chosen (settled core t) t (Some (Calls m.call)) (call_event (kernel_for core t) t m.call [] served)) (served_all t (event_steps (call_event (kernel_for core t) t m.call [] served).did) s)
       called-so served e f =
           subst (λ (xs : List ℕ). Holds job rows (core_after job.chosen (settled core t) t (Some (Calls m.call)) (call_event (kernel_for core t) t m.call xs served)) (served_all t (event_steps (call_event (kernel_for core t) t m.call xs served).did) s)) (put-none m.call.which)
           (call-holds (settled core t) s (settled-on core s g m.nothing_lent not_ended t w.lives (Calls m.call) [] stands) m.nothing_lent not_ended t (settled-alive core s g m.nothing_lent not_ended t w.lives (Calls m.call) [] stands) (settled-none core t) m.call []
-          (settled-at core s g m.nothing_lent not_ended t w.lives (Calls m.call) [] stands) served (ap (serve (setup_of job.program) (kernel_for core t) t) (asked-same m.call [] w.no_atomic) ∙ e) (λ k. absurd (true≢false (sym k ∙ f))))
+          (settled-at core s g m.nothing_lent not_ended t w.lives (Calls m.call) [] stands) served (ap (serve (setup_of job.program) (kernel_for core t) t) (asked-same m.call [] w.no_atomic) ∙ e) (λ k. absurd (true≢false (sym f ∙ k))))
 
       by : (served : Served) → serve (setup_of job.program) (kernel_for core t) t m.call ≡ served → is_blocked served ≡ false → Holds job rows (core_after job.chosen (settled core t) t (Some (Calls m.call)) (call_event (kernel_for core t) t m.call [] served)) (served_all t 1 s)
-      by (Done kernel effect) e f = called-so (Done kernel effect) e f
-      by (Parked kernel) e f = called-so (Parked kernel) e f
+      by (Done kernel effect) e f = called-so (Done kernel effect) e refl
+      by (Parked kernel) e f = absurd (not-again (setup_of job.program) (kernel_for core t) kernel t m.call waits e)
       by Blocked e f = absurd (true≢false f)
-      by (Ends kernel how) e f = called-so (Ends kernel how) e f
+      by (Ends kernel how) e f = called-so (Ends kernel how) e refl
 
       at : (o : Option Call) → o ≡ Some m.call → Holds job rows (after_event job.chosen core t (option_map Calls o) (option_map (λ call. call_event (kernel_for core t) t call [] (serve (setup_of job.program) (kernel_for core t) t call)) o)) (served_all t 1 s)
       at None e = absurd (let h : None ≡ Some m.call = e in cc)

@@ -13,6 +13,8 @@ pub mod Holds
 pub mod Alike
 pub mod Settled
 pub mod Votes
+pub mod Begins
+pub mod Begun
 pub mod Stuck
 pub mod Journal
 pub mod Rowless

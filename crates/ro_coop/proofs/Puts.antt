@@ -65,7 +65,7 @@ none-listed : (o p : Option Mutex) → is_some o ≡ is_some p → o ≡ None �
 none-listed o None h e = refl
 none-listed o (Some x) h e = absurd (true≢false (sym h ∙ ap is_some e))
 
-module _ (job : Job) (rows : Rows) (free : RaceFree job.program) (lacks : TakesByLocks job.program) (backed : Backed) (kernel : Kernel) (output : List ℕ) (number t : ℕ) (lives : lives_on kernel t ≡ true) where
+module _ (job : Job) (rows : Rows) (free : RaceFree job.program) (lacks : TakesByLocks job.program job.chosen) (backed : Backed) (kernel : Kernel) (output : List ℕ) (number t : ℕ) (lives : lives_on kernel t ≡ true) where
   -- ---- one step
 
   module _ (copies : List Copy) (first : List ℕ) (runs : Runs job.program job.chosen backed rows copies first) (copy : Copy) (there : slice_get copies number ≡ Some copy) (peer mid : Peer) (c : IsCopy job kernel output peer copy) (b : peer.replica.backed ≡ backed) (o : IsOwnStep job.program job.chosen rows kernel output peer t mid) where

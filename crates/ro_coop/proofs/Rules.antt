@@ -28,9 +28,10 @@ use Rattle.ro_replica.specs.Views.{is_unstopped, view_with, view_of}
 use Rattle.ro_plain.specs.Machine.{setup_of, opening, run}
 use Rattle.ro_plain.specs.Order.{RaceFree}
 use Rattle.ro_plain.proofs.Calls.{some-injective}
-use Rattle.ro_orders.specs.Turns.{OfMutex, order_of, TakesByLocks}
+use Rattle.ro_orders.specs.Turns.{OfMutex, order_of}
 use Rattle.ro_orders.specs.Choices.{chosen_of}
 use Rattle.ro_orders.specs.Copies.{Rows}
+use Rattle.ro_orders.proofs.Tables.{chosen-by-locks}
 use Rattle.ro_peer.specs.declared.mutexes.Mutex.{Mutex}
 use Rattle.ro_peer.specs.Peers.{Peer}
 use Rattle.ro_peer.specs.Gets.{InRows}
@@ -426,7 +427,7 @@ some-replica settings range = ⊎_elim (λ e. (1, e)) (λ (rest : (settings.repl
 pub is-watched : (job : Asked) → InRange job.settings → (0 == job.settings.watchdog) ≡ false
 is-watched job range = ne_eqb 0 job.settings.watchdog (λ e. let least = range.watchdog.0 in absurd (omega (arith, least, e)))
 
-module _ (job : Asked) (rows : Rows) (free : RaceFree job.program) (lacks : TakesByLocks job.program) (range : InRange job.settings) (unstruck : job.faults ≡ []) (journal : List Entry) (legal : rules.Legal job journal) (in_rows : InRows rows (rules.gets_from job (rules.opening_core job) journal)) where
+module _ (job : Asked) (rows : Rows) (free : RaceFree job.program) (range : InRange job.settings) (unstruck : job.faults ≡ []) (journal : List Entry) (legal : rules.Legal job journal) (in_rows : InRows rows (rules.gets_from job (rules.opening_core job) journal)) where
   its : IsTheirs job rows (rules.opening_core job) journal
   its = theirs job rows (rules.opening_core job) (opening-many job) journal legal in_rows
 
@@ -444,7 +445,7 @@ module _ (job : Asked) (rows : Rows) (free : RaceFree job.program) (lacks : Take
 
   pub is-execution : IsExecutionOf job rows (first_of journal) (rules.replay job journal)
   is-execution =
-      let sound = legal-sound (as-job job) rows free lacks watched count.0 count.1 (map as-put journal) its-legal in
+      let sound = legal-sound (as-job job) rows free (chosen-by-locks job.program) watched count.0 count.1 (map as-put journal) its-legal in
       let same = its-behind.same in
       record {
         machine = sound.machine;
@@ -505,7 +506,7 @@ module _ (job : Asked) (rows : Rows) (free : RaceFree job.program) (lacks : Take
           let one = peer-at n r e in
           let zero = peer-at 0 first.0 first.2 in
           let kernels : behind.kernel ≡ last.kernel = ap (λ (c : Core). c.kernel) its-behind.same in
-          let equal = legal-views (as-job job) rows free lacks watched count.0 count.1 (map as-put journal) its-legal
+          let equal = legal-views (as-job job) rows free (chosen-by-locks job.program) watched count.0 count.1 (map as-put journal) its-legal
           (ap (λ (c : Core). is_none c.due && is_none c.ended) its-behind.same ∙ p.going) thread (ap (λ (k : Kernel). lives_on k thread) kernels ∙ p.live) all-stopped n 0 one.0 zero.0 one.2 zero.2 in
           ap (λ (x : Replica). view_of ranges thread x) (sym one.1)
           ∙ (ap (λ (k : Kernel). view_of (ranges_in (setup_of job.program) k) thread one.0.replica) (sym kernels)

@@ -122,7 +122,7 @@ module _ (job : Job) where
   complete-by false kernel t mutexes complete a h = complete a h
 
   waiting-by : (b : Bool) (kernel : Kernel) (t u : ℕ) (call : Call) → IsWaiting kernel u call → IsWaiting (kernel_by b kernel t) u call
-  waiting-by true kernel t u call w = record { lives = w.lives; no_write = w.no_write; no_atomic = w.no_atomic; in_table = w.in_table }
+  waiting-by true kernel t u call w = record { lives = w.lives; no_write = w.no_write; no_atomic = w.no_atomic; in_table = w.in_table; begun = w.begun }
   waiting-by false kernel t u call w = w
 
   module _ (common : Common) (kernel : Kernel) (output : List ℕ) (blocked : ℕ → Option Call) (taken : ℕ → List ℕ) (number t : ℕ) (peer : Peer) (copy : Copy) (p : Tied job common kernel output blocked taken number peer copy) where
@@ -160,7 +160,7 @@ module _ (job : Job) where
       unmade = p.unmade;
     }
 
-module _ (job : Job) (rows : Rows) (free : RaceFree job.program) (lacks : TakesByLocks job.program) (core : Core) (s : Steps) (g : Going job rows core s) (nothing_lent : core.leases ≡ []) (t : ℕ) (lives : lives_on core.kernel t ≡ true) (stopped : (n : ℕ) (peer : Peer) → slice_get core.peers n ≡ Some peer → Stopped peer t) where
+module _ (job : Job) (rows : Rows) (free : RaceFree job.program) (lacks : TakesByLocks job.program job.chosen) (core : Core) (s : Steps) (g : Going job rows core s) (nothing_lent : core.leases ≡ []) (t : ℕ) (lives : lives_on core.kernel t ≡ true) (stopped : (n : ℕ) (peer : Peer) → slice_get core.peers n ≡ Some peer → Stopped peer t) where
   abbrev first : IsFirst job.program job.chosen g.common.backed rows g.copies s.first
   first = runs-first job.program job.chosen free lacks g.common.backed rows g.runs
 

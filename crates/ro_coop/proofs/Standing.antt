@@ -19,7 +19,7 @@ use Rattle.ro_thread.specs.Stops.{standing}
 use Rattle.ro_replica.specs.Runs.{standing_in}
 use Rattle.ro_plain.specs.Machine.{layout_in, setup_of, next_of, steppable}
 use Rattle.ro_plain.proofs.Calls.{some-injective}
-use Rattle.ro_orders.specs.Turns.{is_cooperative, is_lock_or_unlock, Serves, turn_served, turn_by, turn_of, takes_otherwise, TakesByLocks}
+use Rattle.ro_orders.specs.Turns.{Chosen, is_cooperative, is_lock_or_unlock, Serves, turn_served, turn_by, turn_of, takes_otherwise, TakesByLocks}
 use Rattle.ro_orders.specs.Copies.{Copy}
 use Rattle.ro_orders.proofs.Served.{avoids_by}
 use Rattle.ro_orders.proofs.Steps.{turn-at}
@@ -27,7 +27,7 @@ use Rattle.ro_peer.specs.declared.mutexes.Mutex.{Mutex}
 use Rattle.ro_peer.specs.Peers.{Peer, mutex_in, kernel_in, machine_of}
 use Rattle.ro_peer.specs.Gets.{is_own_call, voted}
 use Rattle.ro_coop.specs.Core.{Job}
-use Rattle.ro_coop.proofs.Tables.{AllAvoid, layout-in, coop-in}
+use Rattle.ro_coop.proofs.Tables.{AllCooperative, AllAvoid, layout-in, coop-in}
 use Rattle.ro_coop.proofs.Leases.{live-in}
 use Rattle.ro_coop.proofs.Puts.{IsCopy, StopsStand, AnyThread}
 
@@ -72,15 +72,15 @@ listed-not m mutexes a e = by (m.address == a) refl e
     by true q f = absurd (let g : Some m ≡ None = f in cc)
     by false q f = (λ s. true≢false (sym (eq-eqb m.address a (sym s)) ∙ q), f)
 
-pub all-avoid : (call : Call) (mutexes : List Mutex) → (is_lock_or_unlock call.which ≡ true → mutex_in mutexes call.a0 ≡ None) → takes_otherwise call.which ≡ false → AllAvoid call mutexes
-all-avoid call [] h other = tt
-all-avoid call (m ∷ mutexes) h other = (by call.which refl, all-avoid call mutexes (λ w. (listed-not m mutexes call.a0 (h w)).1) other)
+pub all-avoid : (chosen : Chosen) (kernel : Kernel) (call : Call) (mutexes : List Mutex) → AllCooperative chosen kernel mutexes → (is_lock_or_unlock call.which ≡ true → mutex_in mutexes call.a0 ≡ None) → ((m : ℕ) → is_cooperative chosen kernel m ≡ true → takes_otherwise call.which ≡ false) → AllAvoid call mutexes
+all-avoid chosen kernel call [] all h other = tt
+all-avoid chosen kernel call (m ∷ mutexes) all h other = (by call.which refl, all-avoid chosen kernel call mutexes all.1 (λ w. (listed-not m mutexes call.a0 (h w)).1) other)
   where
     by : (which : Which) → call.which ≡ which → avoids_by which call.a0 m.address
     by (Function Lock) w = (listed-not m mutexes call.a0 (h (ap is_lock_or_unlock w))).0
-    by (Function TryLock) w = absurd (true≢false (sym (ap takes_otherwise w) ∙ other))
+    by (Function TryLock) w = absurd (true≢false (sym (ap takes_otherwise w) ∙ other m.address all.0))
     by (Function Unlock) w = (listed-not m mutexes call.a0 (h (ap is_lock_or_unlock w))).0
-    by (Function Wait) w = absurd (true≢false (sym (ap takes_otherwise w) ∙ other))
+    by (Function Wait) w = absurd (true≢false (sym (ap takes_otherwise w) ∙ other m.address all.0))
     by which w = tt
 
 not-some : (o : Option Mutex) → is_some o ≡ false → o ≡ None
@@ -97,7 +97,7 @@ not-listed mutexes call e w = unlisted (is_lock_or_unlock call.which) (mutex_in 
 
 -- ---- the thread
 
-module _ (job : Job) (lacks : TakesByLocks job.program) (kernel : Kernel) (output : List ℕ) (peer : Peer) (copy : Copy) (c : IsCopy job kernel output peer copy) (stops : StopsStand job kernel AnyThread peer) (t : ℕ) (alive : lives_on kernel t ≡ true) (x : Thread) (there : slice_get peer.replica.threads t ≡ Some x) (stop : Stop) (stopped : x.stop ≡ Some stop) where
+module _ (job : Job) (lacks : TakesByLocks job.program job.chosen) (kernel : Kernel) (output : List ℕ) (peer : Peer) (copy : Copy) (c : IsCopy job kernel output peer copy) (stops : StopsStand job kernel AnyThread peer) (t : ℕ) (alive : lives_on kernel t ≡ true) (x : Thread) (there : slice_get peer.replica.threads t ≡ Some x) (stop : Stop) (stopped : x.stop ≡ Some stop) where
   stands-parts : (standing_in (layout_in job.program kernel) job.settings.watchdog peer.replica x ≡ Some stop) × (is_own_call peer.mutexes stop ≡ false)
   stands-parts = voted-parts peer.mutexes _ stop (stops t x stop tt alive there stopped)
 
@@ -136,5 +136,5 @@ module _ (job : Job) (lacks : TakesByLocks job.program) (kernel : Kernel) (outpu
   -- and a call is on none of the peer's mutexes
   pub avoids-here : (call : Call) → stop ≡ Calls call → AllAvoid call peer.mutexes
   avoids-here call e =
-      all-avoid call peer.mutexes (not-listed peer.mutexes call (ap (is_own_call peer.mutexes) (sym e) ∙ not-own))
-      (lacks (kernel_in kernel peer) peer.replica.memory x.cpu call (next-here (subst IsNoFault (sym e) a_call) ∙ ap Stands e))
+      all-avoid job.chosen kernel call peer.mutexes c.all (not-listed peer.mutexes call (ap (is_own_call peer.mutexes) (sym e) ∙ not-own))
+      (λ m coop. lacks (kernel_in kernel peer) peer.replica.memory x.cpu call (next-here (subst IsNoFault (sym e) a_call) ∙ ap Stands e) m (coop-in job.chosen job.one_enters kernel peer c.all m ∙ coop))

@@ -49,7 +49,7 @@ lives-of-step program kernel output peer t after e =
     option_and_then_some (λ cpu. step_by program (machine_of kernel output peer) t cpu (next_of program (machine_of kernel output peer) cpu)) (steppable (machine_of kernel output peer) t) after (step-opens program (machine_of kernel output peer) t after e)
     (λ cpu live f. sym (ap (λ (l : List Life). live_option (slice_get l t)) (lives-in kernel peer)) ∙ (steppable-parts (machine_of kernel output peer) t cpu live).live)
 
-module _ (job : Job) (rows : Rows) (free : RaceFree job.program) (lacks : TakesByLocks job.program) (core : Core) (s : Steps) (g : Going job rows core s) (stuck : IsStuck job rows core) where
+module _ (job : Job) (rows : Rows) (free : RaceFree job.program) (lacks : TakesByLocks job.program job.chosen) (core : Core) (s : Steps) (g : Going job rows core s) (stuck : IsStuck job rows core) where
   abbrev pub first : IsFirst job.program job.chosen g.common.backed rows g.copies s.first
   first = runs-first job.program job.chosen free lacks g.common.backed rows g.runs
 

@@ -17,6 +17,7 @@ use Rattle.ro_kernel.specs.Kernel.{Kernel, lives_on}
 use Rattle.ro_region.specs.declared.Range.{Range}
 use Rattle.ro_kernel.specs.Serve.{Done, serve, payload_of, put_out, asked}
 use Rattle.ro_kernel.proofs.InTable.{table-lasts, owners-after}
+use Rattle.ro_kernel.proofs.Waiting.{served-others}
 use Rattle.ro_kernel.proofs.Kept.{Own, done, IsOwn, serve-own}
 use Rattle.ro_thread.specs.declared.Thread.{Thread}
 use Rattle.ro_replica.specs.Replica.{applied, cancelled}
@@ -75,7 +76,7 @@ backed-is : (effect : Effect) (entered : List Mutex) (peer : Peer) (backed : Bac
 unfolding applied cancelled
 backed-is effect entered peer backed e = ap (backed_after effect) e
 
-module _ (job : Job) (rows : Rows) (free : RaceFree job.program) (lacks : TakesByLocks job.program) (watched : (0 == job.settings.watchdog) ≡ false) (core : Core) (s : Steps) (g : Going job rows core s) (nothing_lent : core.leases ≡ []) (not_ended : core.ended ≡ None) (t : ℕ) (lives : lives_on core.kernel t ≡ true) (stop : Stop) (payload : List ℕ) (at : (number : ℕ) (peer : Peer) → slice_get core.peers number ≡ Some peer → StandsAt (ranges_here job core) peer t stop payload) (clear : (number : ℕ) (peer : Peer) → slice_get core.peers number ≡ Some peer → peer.answered t ≡ false) where
+module _ (job : Job) (rows : Rows) (free : RaceFree job.program) (lacks : TakesByLocks job.program job.chosen) (watched : (0 == job.settings.watchdog) ≡ false) (core : Core) (s : Steps) (g : Going job rows core s) (nothing_lent : core.leases ≡ []) (not_ended : core.ended ≡ None) (t : ℕ) (lives : lives_on core.kernel t ≡ true) (stop : Stop) (payload : List ℕ) (at : (number : ℕ) (peer : Peer) → slice_get core.peers number ≡ Some peer → StandsAt (ranges_here job core) peer t stop payload) (clear : (number : ℕ) (peer : Peer) → slice_get core.peers number ≡ Some peer → peer.answered t ≡ false) where
   reached : (n : ℕ) (c : Copy) → slice_get g.copies n ≡ Some c → run job.program (opening job.program) c.taken ≡ Some c.machine
   reached n c e = ((runs-first job.program job.chosen free lacks g.common.backed rows g.runs).behind n c e).reached
 
@@ -175,7 +176,7 @@ module _ (job : Job) (rows : Rows) (free : RaceFree job.program) (lacks : TakesB
         by (its_own_call same f) = absurd (let h : None ≡ Some other = f in cc)
         by (of_another different f) =
             let w = g.waiting u other f in
-            record { lives = own.keeps_live u different w.lives; no_write = w.no_write; no_atomic = w.no_atomic; in_table = λ k. table-lasts core.kernel (asked call payload) other.a0 _ (owners-after (setup_of job.program) core.kernel t (asked call payload)) after effect served (w.in_table k) }
+            record { lives = own.keeps_live u different w.lives; no_write = w.no_write; no_atomic = w.no_atomic; in_table = λ k. table-lasts core.kernel (asked call payload) other.a0 _ (owners-after (setup_of job.program) core.kernel t (asked call payload)) after effect served (w.in_table k); begun = λ k. served-others (setup_of job.program) core.kernel t (asked call payload) after effect served u different ∙ w.begun k }
 
     pub served-holds : Going job rows (core_after job.chosen core t (Some (Calls call)) (call_event core.kernel t call written (Done after effect))) (served_all t 1 s)
     served-holds =

@@ -17,12 +17,12 @@ use Rattle.ro_simulation.specs.Guests.{locking_guest}
 use Rattle.ro_simulation.proofs.LockingGuest.{locking-free}
 use Rattle.ro_orders.specs.Turns.{TakesByLocks}
 use Rattle.ro_orders.specs.Choices.{in_table}
+use Rattle.ro_orders.proofs.Tables.{by-table}
 use Rattle.ro_peer.specs.Peers.{Peer, leased}
 use Rattle.ro_coop.specs.Core.{OneEnters, opening_core, kernel_for, settled, run_in, LegalFrom, first_of}
 use Rattle.ro_coop.specs.Rowless.{threads_of, got_in_replica}
 use Rattle.ro_coop.specs.Sound.{core_behind}
 use Rattle.ro_coop.specs.Guests.{letters_job, letters_mutex, page_of_thread, letters_front, letters_back, letters_journal, shown, a_reservation, kernel_reserving, core_answering, reserved_in, answer_to}
-use Rattle.ro_coop.proofs.Choices.{by-table}
 use Rattle.ro_coop.proofs.Checks.{test_legal, legal-of, legal-back}
 
 module _ (one : OneEnters in_table) where
@@ -88,5 +88,5 @@ the-first = refl
 pub letters-free : RaceFree locking_guest
 letters-free = locking-free
 
-pub letters-by-locks : TakesByLocks locking_guest
-letters-by-locks = by-table locking_guest refl
+pub letters-by-locks : TakesByLocks locking_guest in_table
+letters-by-locks = by-table locking_guest in_table refl

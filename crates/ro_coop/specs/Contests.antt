@@ -1,7 +1,7 @@
 -- Guests whose threads contend for mutexes, and journals of theirs by the rules of a cooperative run.
 use Rattle.std.specs.Prelude.{ℕ, true, ◌==◌, if◌then◌else◌, List, [], ◌∷◌, ◌++◌, map, Option, Some, None, slice_get}
 use Rattle.ro_event.specs.declared.table.CallTable.{CallTable}
-use Rattle.ro_journal.specs.declared.Did.TheVariants.{Served as WasServed}
+use Rattle.ro_journal.specs.declared.Did.TheVariants.{Served as WasServed, Parked as WasParked}
 use Rattle.ro_journal.specs.declared.How.{How}
 use Rattle.ro_journal.specs.declared.How.TheVariants.{Exit as ExitHow, Deadlock, Differ}
 use Rattle.ro_journal.specs.declared.Lease.{Lease}
@@ -107,6 +107,23 @@ crossing_stuck =
 
 abbrev pub crossing_journal : List Entry
 crossing_journal = crossing_stuck ++ End Deadlock ∷ []
+
+-- ---- no cooperative mutex
+
+-- the thread gets a mutex by a trylock, and waits on a condition variable
+abbrev pub waiting_guest : Program
+waiting_guest = guest (record { addresses = None ∷ None ∷ None ∷ None ∷ None ∷ None ∷ None ∷ Some 0x10070 ∷ None ∷ None ∷ None ∷ Some 0x10074 ∷ [] }) true 128
+    (0x000101B7 ∷ 0x07818513 ∷ 0x014000EF ∷ 0x07C18513 ∷ 0x07818593 ∷ 0x00C000EF ∷ 0x00100073 ∷ 0x00008067 ∷ 0x00008067 ∷ 0x00000000 ∷ 0x00000000 ∷ [])
+
+abbrev pub waiting_job : Job
+waiting_job = contest_job waiting_guest 2
+
+-- nobody signals it
+abbrev pub waiting_stuck : List Entry
+waiting_stuck = then_served 0 3 ++ both_leases 0 3 3 ++ vote_on 0 3 WasParked ∷ []
+
+abbrev pub waiting_journal : List Entry
+waiting_journal = waiting_stuck ++ End Deadlock ∷ []
 
 -- ---- a race
 

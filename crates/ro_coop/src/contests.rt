@@ -11,17 +11,17 @@ ghost use Rattle.ro_legal.specs.Core.{is_lendable, may_vote};
 ghost use Rattle.ro_legal.specs.Legal.{is_stuck};
 ghost use Rattle.ro_legal.specs.Cooperative.{opening_core, lease_run, EndsVote, IsAllowed, Legal, replay, gets_from};
 ghost use Rattle.ro_coop.specs.Core.{first_of};
-ghost use Rattle.ro_coop.specs.Contests.{lease_by, part_by, writers_guest, writers_job, page_of_threads, writers_asked, writers_got, writers_parted, writers_wrote, writers_freed, writers_freed_too, writers_journal, contest_shown, crossing_guest, crossing_job, crossing_again, crossing_stuck, crossing_journal, byte_guest, byte_job, byte_front, byte_journal};
+ghost use Rattle.ro_coop.specs.Contests.{lease_by, part_by, writers_guest, writers_job, page_of_threads, writers_asked, writers_got, writers_parted, writers_wrote, writers_freed, writers_freed_too, writers_journal, contest_shown, crossing_guest, crossing_job, crossing_again, crossing_stuck, crossing_journal, waiting_guest, waiting_job, waiting_stuck, waiting_journal, byte_guest, byte_job, byte_front, byte_journal};
 
 /// A row: a journal of two replicas by the rules of a cooperative run. Thread 0's first lock is voted, and brings the mutex into the
 /// table. Later thread 1 comes back at the free mutex in replica 1, and gets it in replica 0; thread 0 comes back at its lock in both,
 /// in replica 0 since thread 1 owns the mutex, in replica 1 since that row is thread 1's. Each thread writes a letter, and thread 0
 /// exits with 0. The journal is legal, and what was got has its rows on a page that has thread 1 before thread 0, and not on the
-/// other. The core's steps are as many as the first ones. The guest has no races, takes mutexes by locks alone, and the
-/// settings are in their ranges, as the laws ask.
+/// other. The core's steps are as many as the first ones. The guest has no races, and the settings are in their ranges, as the
+/// laws ask; it takes mutexes by locks alone.
 pub fn rules_row()
     ensures free { RaceFree writers_guest }
-    ensures by_locks { TakesByLocks writers_guest }
+    ensures by_locks { TakesByLocks writers_guest in_table }
     ensures in_range { InRange writers_job.settings }
     ensures legal { Legal writers_job writers_journal }
     ensures in_rows { InRows (page_of_threads (1 ∷ 0 ∷ [])) (gets_from writers_job (opening_core writers_job) writers_journal) }
@@ -53,7 +53,7 @@ pub fn parked_row()
 /// law of deadlocks, whose premises all hold of it, is not empty.
 pub fn crossing_row()
     ensures free { RaceFree crossing_guest }
-    ensures by_locks { TakesByLocks crossing_guest }
+    ensures by_locks { TakesByLocks crossing_guest in_table }
     ensures in_range { InRange crossing_job.settings }
     ensures legal { Legal crossing_job crossing_journal }
     ensures before { Legal crossing_job crossing_stuck }
@@ -63,11 +63,26 @@ pub fn crossing_row()
     ensures first { first_of crossing_journal ≡ replicate 12 0 ++ replicate 2 1 ++ replicate 2 0 ++ replicate 2 1 }
 {}
 
+/// A row: of a guest whose table of calls has a trylock and a wait no mutex is cooperative, so all its calls are voted on. Its thread gets
+/// a mutex by a trylock, and waits for a signal that nobody gives. The journal that ends by a deadlock is legal, and all that the
+/// laws ask for holds of it.
+pub fn waiting_row()
+    ensures free { RaceFree waiting_guest }
+    ensures chosen { chosen_of waiting_guest ≡ no_mutex }
+    ensures in_range { InRange waiting_job.settings }
+    ensures legal { Legal waiting_job waiting_journal }
+    ensures before { Legal waiting_job waiting_stuck }
+    ensures got { gets_from waiting_job (opening_core waiting_job) waiting_stuck ≡ [] }
+    ensures stuck { is_stuck waiting_job (replay waiting_job waiting_stuck) ≡ true }
+    ensures comes_to { contest_shown (replay waiting_job waiting_journal) ≡ ([], Some Deadlock, 8, [] ∷ [] ∷ []) }
+    ensures first { first_of waiting_journal ≡ replicate 8 0 }
+{}
+
 /// A row: three replicas of a guest with a race. In one of them a byte is stored before it is loaded, in the others not, so the views of
 /// the thread that loads it are not one, and the journal may end by a difference in the place of the vote. So the law of equal
 /// views, whose other premises hold of it, needs that there are no races.
 pub fn three_views_row()
-    ensures by_locks { TakesByLocks byte_guest }
+    ensures by_locks { TakesByLocks byte_guest in_table }
     ensures in_range { InRange byte_job.settings }
     ensures legal { Legal byte_job byte_journal }
     ensures before { Legal byte_job byte_front }

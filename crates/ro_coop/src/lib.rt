@@ -21,25 +21,25 @@ ghost use Rattle.ro_coop.specs.Rowless.{RowlessFrom, got_from, threads_of, got_i
 ghost use Rattle.ro_coop.specs.Sound.{core_behind, IsSound};
 ghost use Rattle.ro_coop.specs.Stuck.{Stopped, IsStuck};
 
-pub use contests::{chosen_row, crossing_row, parked_row, rules_row, three_views_row};
+pub use contests::{chosen_row, crossing_row, parked_row, rules_row, three_views_row, waiting_row};
 pub use rows::{letters_row, reservation_row};
 pub use runs::{deadlocks_are_real, journals_are_executions, votes_agree};
 
 /// The first steps of a legal journal are an execution: threads get each cooperative mutex in it in the order of its rows,
 /// what was written is what it writes, and where the run ended by an exit or a trap, it ends so.
 pub fn legal_sound()
-    ensures { (job : Job) (rows : Rows) → RaceFree job.program → TakesByLocks job.program → (0 == job.settings.watchdog) ≡ false → (others : ℕ) → job.settings.replicas ≡ suc others → (journal : List Entry) → LegalFrom job rows (opening_core job) journal → IsSound job rows (first_of journal) (core_behind job rows (opening_core job) journal) }
+    ensures { (job : Job) (rows : Rows) → RaceFree job.program → TakesByLocks job.program job.chosen → (0 == job.settings.watchdog) ≡ false → (others : ℕ) → job.settings.replicas ≡ suc others → (journal : List Entry) → LegalFrom job rows (opening_core job) journal → IsSound job rows (first_of journal) (core_behind job rows (opening_core job) journal) }
 {}
 
 /// A vote finds equal views: where a run goes on and every replica has stopped a thread, all views of it are one.
 pub fn views_agree()
-    ensures { (job : Job) (rows : Rows) → RaceFree job.program → TakesByLocks job.program → (0 == job.settings.watchdog) ≡ false → (others : ℕ) → job.settings.replicas ≡ suc others → (journal : List Entry) → LegalFrom job rows (opening_core job) journal → is_going (core_behind job rows (opening_core job) journal) ≡ true → (t : ℕ) → lives_on (core_behind job rows (opening_core job) journal).kernel t ≡ true → ((i : ℕ) (peer : Peer) → slice_get (core_behind job rows (opening_core job) journal).peers i ≡ Some peer → Stopped peer t) → (i j : ℕ) (one other : Peer) → slice_get (core_behind job rows (opening_core job) journal).peers i ≡ Some one → slice_get (core_behind job rows (opening_core job) journal).peers j ≡ Some other → view_of (ranges_here job (core_behind job rows (opening_core job) journal)) t one.replica ≡ view_of (ranges_here job (core_behind job rows (opening_core job) journal)) t other.replica }
+    ensures { (job : Job) (rows : Rows) → RaceFree job.program → TakesByLocks job.program job.chosen → (0 == job.settings.watchdog) ≡ false → (others : ℕ) → job.settings.replicas ≡ suc others → (journal : List Entry) → LegalFrom job rows (opening_core job) journal → is_going (core_behind job rows (opening_core job) journal) ≡ true → (t : ℕ) → lives_on (core_behind job rows (opening_core job) journal).kernel t ≡ true → ((i : ℕ) (peer : Peer) → slice_get (core_behind job rows (opening_core job) journal).peers i ≡ Some peer → Stopped peer t) → (i j : ℕ) (one other : Peer) → slice_get (core_behind job rows (opening_core job) journal).peers i ≡ Some one → slice_get (core_behind job rows (opening_core job) journal).peers j ≡ Some other → view_of (ranges_here job (core_behind job rows (opening_core job) journal)) t one.replica ≡ view_of (ranges_here job (core_behind job rows (opening_core job) journal)) t other.replica }
 {}
 
 /// A deadlock is real: where nothing can be done any more, and each row that is written was taken by some replica, no
 /// thread has a step in the machine of the first steps, which has not ended.
 pub fn stuck_stays()
-    ensures { (job : Job) (rows : Rows) → RaceFree job.program → TakesByLocks job.program → (0 == job.settings.watchdog) ≡ false → (others : ℕ) → job.settings.replicas ≡ suc others → (journal : List Entry) → LegalFrom job rows (opening_core job) journal → IsStuck job rows (core_behind job rows (opening_core job) journal) → (machine : Machine) → run job.program (opening job.program) (first_of journal) ≡ Some machine → (machine.ended ≡ None) × ((t : ℕ) (after : Machine) → step job.program machine t ≡ Some after → ⊥) }
+    ensures { (job : Job) (rows : Rows) → RaceFree job.program → TakesByLocks job.program job.chosen → (0 == job.settings.watchdog) ≡ false → (others : ℕ) → job.settings.replicas ≡ suc others → (journal : List Entry) → LegalFrom job rows (opening_core job) journal → IsStuck job rows (core_behind job rows (opening_core job) journal) → (machine : Machine) → run job.program (opening job.program) (first_of journal) ≡ Some machine → (machine.ended ≡ None) × ((t : ℕ) (after : Machine) → step job.program machine t ≡ Some after → ⊥) }
 {}
 
 /// A journal is legal with the rows of a lock page exactly where it is legal without them, whoever asks getting the mutex,

@@ -14,10 +14,10 @@ ghost use Rattle.ro_coop.specs.Guests.{letters_job, letters_mutex, page_of_threa
 /// lock is voted, and brings the mutex into the table; thread 2 comes to its lock in one replica, waits there, and gets the
 /// mutex later, in each replica by itself. The journal is legal where the mutex's first row is thread 2's, writes both letters
 /// and exits with 0; its first steps have thread 2's lock behind thread 1's unlock. Where the row is thread 1's, it is not legal.
-/// The guest has no races and takes mutexes by locks alone, as the laws ask.
+/// The guest has no races and takes cooperative mutexes by locks alone, as the laws ask.
 pub fn letters_row()
     ensures free { RaceFree locking_guest }
-    ensures by_locks { TakesByLocks locking_guest }
+    ensures by_locks { TakesByLocks locking_guest in_table }
     ensures legal { (one : OneEnters in_table) → LegalFrom (letters_job one) (page_of_thread 2) (opening_core (letters_job one)) letters_journal }
     ensures comes_to { (one : OneEnters in_table) → shown (core_behind (letters_job one) (page_of_thread 2) (opening_core (letters_job one)) letters_journal) ≡ (0x41 ∷ 0x42 ∷ [], Some (ExitHow 0), ((None, 1) ∷ []) ∷ ((None, 1) ∷ []) ∷ []) }
     ensures first { first_of letters_journal ≡ replicate 14 0 ++ replicate 5 1 ++ replicate 4 2 ++ replicate 11 1 ++ 0 ∷ [] ++ replicate 12 2 ++ replicate 6 0 }

@@ -1,11 +1,11 @@
-//! What holds of every cooperative run by its rules (`ro_legal`): laws.
+//! What holds of every cooperative run by its rules (`ro_legal`), of a program without races: laws. The program may have trylocks and
+//! waits; then no mutex is cooperative, and all its calls are voted on.
 ghost use Rattle.std.specs.Prelude.{◌≡◌, ℕ, [], true, List, Some, None};
 ghost use Rattle.ro_event.specs.Views.{View};
 ghost use Rattle.ro_journal.specs.declared.Entry.{Entry};
 ghost use Rattle.ro_plain.specs.Machine.{Machine, opening, step, run};
 ghost use Rattle.ro_plain.specs.Order.{RaceFree};
 ghost use Rattle.ro_settings.specs.Ranges.{InRange};
-ghost use Rattle.ro_orders.specs.Turns.{TakesByLocks};
 ghost use Rattle.ro_orders.specs.Copies.{Rows};
 ghost use Rattle.ro_peer.specs.Gets.{InRows};
 ghost use Rattle.ro_legal.specs.Core.{Job, may_vote};
@@ -18,16 +18,16 @@ ghost use Rattle.ro_coop.specs.Runs.{IsExecutionOf};
 /// mutex in it in the order of the rows, and it writes what was written, but for what a failing sink did not take. Where
 /// the run ended by an exit or a trap, it ends so.
 pub fn journals_are_executions()
-    ensures { (job : Job) (rows : Rows) → RaceFree job.program → TakesByLocks job.program → InRange job.settings → job.faults ≡ [] → (journal : List Entry) → Legal job journal → InRows rows (gets_from job (opening_core job) journal) → IsExecutionOf job rows (first_of journal) (replay job journal) }
+    ensures { (job : Job) (rows : Rows) → RaceFree job.program → InRange job.settings → job.faults ≡ [] → (journal : List Entry) → Legal job journal → InRows rows (gets_from job (opening_core job) journal) → IsExecutionOf job rows (first_of journal) (replay job journal) }
 {}
 
 /// A vote finds equal views, so no run ends by a difference.
 pub fn votes_agree()
-    ensures { (job : Job) (rows : Rows) → RaceFree job.program → TakesByLocks job.program → InRange job.settings → job.faults ≡ [] → (journal : List Entry) → Legal job journal → InRows rows (gets_from job (opening_core job) journal) → (thread : ℕ) → may_vote (replay job journal) thread ≡ true → (view : View) × AgreeOn job (replay job journal) thread view }
+    ensures { (job : Job) (rows : Rows) → RaceFree job.program → InRange job.settings → job.faults ≡ [] → (journal : List Entry) → Legal job journal → InRows rows (gets_from job (opening_core job) journal) → (thread : ℕ) → may_vote (replay job journal) thread ≡ true → (view : View) × AgreeOn job (replay job journal) thread view }
 {}
 
 /// A deadlock is real: where nothing can be done any more, no thread has a step in the machine of the first steps, which has
 /// not ended.
 pub fn deadlocks_are_real()
-    ensures { (job : Job) (rows : Rows) → RaceFree job.program → TakesByLocks job.program → InRange job.settings → job.faults ≡ [] → (journal : List Entry) → Legal job journal → InRows rows (gets_from job (opening_core job) journal) → is_stuck job (replay job journal) ≡ true → (machine : Machine) → run job.program (opening job.program) (first_of journal) ≡ Some machine → (machine.ended ≡ None) × ((t : ℕ) (after : Machine) → step job.program machine t ≡ Some after → ⊥) }
+    ensures { (job : Job) (rows : Rows) → RaceFree job.program → InRange job.settings → job.faults ≡ [] → (journal : List Entry) → Legal job journal → InRows rows (gets_from job (opening_core job) journal) → is_stuck job (replay job journal) ≡ true → (machine : Machine) → run job.program (opening job.program) (first_of journal) ≡ Some machine → (machine.ended ≡ None) × ((t : ℕ) (after : Machine) → step job.program machine t ≡ Some after → ⊥) }
 {}

@@ -136,7 +136,7 @@ same-bit true c f g = sym (f refl)
 same-bit false true f g = g refl
 same-bit false false f g = refl
 
-set-again : (reserved : List (Option Reservation)) (t : ℕ) (x y : Option Reservation) → slice_set (slice_set reserved t x) t y ≡ slice_set reserved t y
+pub set-again : (reserved : List (Option Reservation)) (t : ℕ) (x y : Option Reservation) → slice_set (slice_set reserved t x) t y ≡ slice_set reserved t y
 set-again [] t x y = refl
 set-again (z ∷ reserved) zero x y = refl
 set-again (z ∷ reserved) (suc t) x y = ap (λ (rest : List (Option Reservation)). z ∷ rest) (set-again reserved t x y)

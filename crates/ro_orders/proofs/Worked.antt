@@ -1,12 +1,12 @@
 -- What the rows say, computed.
-use Rattle.std.specs.Prelude.{◌≡◌, ℕ, ◌+◌, Bool, true, false, cond, ◌==◌, List, [], ◌∷◌, ◌++◌, map, replicate, Option, Some, None, slice_get, slice_set}
+use Rattle.std.specs.Prelude.{◌≡◌, ℕ, ◌+◌, true, false, List, [], ◌∷◌, ◌++◌, map, replicate, Option, Some, None, slice_get, slice_set}
 use Rattle.std.specs.Option.{option_map}
 use Rattle.std.proofs.Common.{refl, sym, ap, ◌∙◌, arith}
 use Rattle.std.proofs.lemmas.Bool.{true≢false}
 use Rattle.ro_decode.specs.Table.{instruction_of}
 use Rattle.ro_event.specs.declared.calls.Which.{Which}
 use Rattle.ro_event.specs.declared.calls.Which.TheVariants.{Function}
-use Rattle.ro_event.specs.declared.functions.Function.TheVariants.{Create, Lock, TryLock, Unlock, Wait}
+use Rattle.ro_event.specs.declared.functions.Function.TheVariants.{Lock, TryLock, Unlock, Wait}
 use Rattle.ro_event.specs.declared.stops.Stop.TheVariants.{Calls}
 use Rattle.ro_event.specs.Table.{call_at}
 use Rattle.ro_region.specs.Permission.{permits_of}
@@ -21,11 +21,11 @@ use Rattle.ro_plain.specs.Accesses.{accesses}
 use Rattle.ro_plain.specs.Order.{sync_of, RaceFree}
 use Rattle.ro_plain.proofs.Calls.{some-injective}
 use Rattle.ro_plain.proofs.Explore.{explored-free}
-use Rattle.ro_orders.specs.Turns.{Turn, Alone, Gets, Serves, turn_by, turn_of, OfMutex, OfKernel, who_takes, order_of, times, takes_otherwise, TakesByLocks, SameCounts, SameOrders}
+use Rattle.ro_orders.specs.Turns.{Turn, Alone, Gets, Serves, turn_by, turn_of, OfMutex, OfKernel, who_takes, order_of, times, TakesByLocks, SameCounts, SameOrders}
 use Rattle.ro_orders.specs.Choices.{in_table}
 use Rattle.ro_orders.specs.Copies.{Copy, opening_copy, Rows, is_backed, StepsAlone, first_after, Runs, at_opening, then_alone}
 use Rattle.ro_orders.specs.Guests.{two_locks, two_trylocks, two_waits, its_mutex, first_then_second, in_between, second_then_first, turns_from, byte_after, kernel_with, call_on, copy_of}
-use Rattle.ro_orders.proofs.Tables.{lacks-by-table}
+use Rattle.ro_orders.proofs.Tables.{by-table}
 use Rattle.ro_orders.proofs.Same.{times-middle, same-machine}
 use Rattle.ro_orders.proofs.Copies.{times-append}
 
@@ -127,24 +127,8 @@ pub no-races : RaceFree two_locks
 unfolding sync_of accesses opening steppable step first_cpu made_cpu next fetch_stop instruction_stop instruction_of call_at permits_of alu_of taken_by meaning serve payload_of
 no-races = explored-free 28 two_locks refl
 
--- a call that may take a mutex otherwise, if there is one
-abbrev is_taking : Option Which → Bool
-is_taking None = false
-is_taking (Some which) = takes_otherwise which
-
-no-taking-cond : (b : Bool) (x y : Option Which) → is_taking x ≡ false → is_taking y ≡ false → is_taking (cond b x y) ≡ false
-no-taking-cond true x y h k = h
-no-taking-cond false x y h k = k
-
-no-taking : (address : ℕ) → is_taking (call_at two_locks.image.calls address) ≡ false
-unfolding call_at
-no-taking address =
-    no-taking-cond (0x100A4 == address) (Some (Function Create)) _ refl
-    (no-taking-cond (0x100A8 == address) (Some (Function Lock)) _ refl
-    (no-taking-cond (0x100AC == address) (Some (Function Unlock)) None refl refl))
-
-pub by-locks : TakesByLocks two_locks
-by-locks = lacks-by-table two_locks (λ address which e. ap is_taking (sym e) ∙ no-taking address)
+pub by-locks : TakesByLocks two_locks in_table
+by-locks = by-table two_locks in_table refl
 
 pub orders-between : SameOrders two_locks in_table (opening two_locks) first_then_second in_between
 unfolding in_table turn_of opening steppable step first_cpu made_cpu next fetch_stop instruction_stop instruction_of call_at permits_of alu_of taken_by meaning serve payload_of
@@ -167,13 +151,14 @@ same-between =
 
 -- ---- a trylock or a wait in the table
 
-pub has-trylock : TakesByLocks two_trylocks → ⊥
-unfolding first_cpu next fetch_stop call_at
-has-trylock h = true≢false (h (opening_kernel 0) (λ a. 0) (first_cpu 0x100A8) (call_on (Function TryLock) 0) refl)
+-- where a mutex is cooperative
+pub has-trylock : TakesByLocks two_trylocks in_table → ⊥
+unfolding in_table first_cpu next fetch_stop call_at
+has-trylock h = true≢false (h (kernel_with None) (λ a. 0) (first_cpu 0x100A8) (call_on (Function TryLock) 0) refl its_mutex refl)
 
-pub has-wait : TakesByLocks two_waits → ⊥
-unfolding first_cpu next fetch_stop call_at
-has-wait h = true≢false (h (opening_kernel 0) (λ a. 0) (first_cpu 0x100A8) (call_on (Function Wait) 0) refl)
+pub has-wait : TakesByLocks two_waits in_table → ⊥
+unfolding in_table first_cpu next fetch_stop call_at
+has-wait h = true≢false (h (kernel_with None) (λ a. 0) (first_cpu 0x100A8) (call_on (Function Wait) 0) refl its_mutex refl)
 
 -- ---- copies
 

@@ -10,7 +10,7 @@ ghost use Rattle.ro_kernel.specs.Kernel.{opening_kernel};
 ghost use Rattle.ro_plain.specs.Machine.{Machine, opening, run};
 ghost use Rattle.ro_plain.specs.Order.{RaceFree};
 ghost use Rattle.ro_orders.specs.Turns.{Alone, Gets, Serves, turn_by, OfMutex, OfKernel, takes, order_of, TakesByLocks, SameCounts, SameOrders};
-ghost use Rattle.ro_orders.specs.Choices.{in_table};
+ghost use Rattle.ro_orders.specs.Choices.{in_table, no_mutex};
 ghost use Rattle.ro_orders.specs.Answers.{Answers, Waits, answer_of};
 ghost use Rattle.ro_orders.specs.Copies.{Copy, StepsAlone, first_after, Runs};
 ghost use Rattle.ro_orders.specs.Guests.{two_locks, two_trylocks, two_waits, its_mutex, first_then_second, in_between, second_then_first, turns_from, byte_after, kernel_with, call_on, copy_of};
@@ -77,17 +77,19 @@ pub fn orders_row()
 /// late, the machine is the same.
 pub fn meeting_row()
     ensures free { RaceFree two_locks }
-    ensures by_locks { TakesByLocks two_locks }
+    ensures by_locks { TakesByLocks two_locks in_table }
     ensures counts { SameCounts first_then_second in_between }
     ensures orders { SameOrders two_locks in_table (opening two_locks) first_then_second in_between }
     ensures runs { (machine : Machine) × (run two_locks (opening two_locks) first_then_second ≡ Some machine) }
     ensures same { run two_locks (opening two_locks) first_then_second ≡ run two_locks (opening two_locks) in_between }
 {}
 
-/// A row: where a trylock or a wait stands in the table of calls, the program does not take mutexes by locks alone.
+/// A row: a program with a trylock or a wait in its table of calls does not take cooperative mutexes by locks alone, where all that
+/// stand in the kernel's table are cooperative. Where none is, it does.
 pub fn trylock_row()
-    ensures trylock { TakesByLocks two_trylocks → ⊥ }
-    ensures wait { TakesByLocks two_waits → ⊥ }
+    ensures trylock { TakesByLocks two_trylocks in_table → ⊥ }
+    ensures wait { TakesByLocks two_waits in_table → ⊥ }
+    ensures no_mutex { TakesByLocks two_trylocks no_mutex × TakesByLocks two_waits no_mutex }
 {}
 
 /// A row: the list of first steps grows by a step of a thread that has made all of its first steps in the copy, and by no

@@ -3,4 +3,4 @@ use Rattle.ro_orders.proofs.Tables.{lacks-by-table}
 use Rattle.ro_orders.proofs.lacks_by_table.Goals as goal
 
 pub returns : goal.returns
-returns c program lacks = lacks-by-table program lacks
+returns c program chosen lacks = lacks-by-table program chosen lacks

@@ -38,7 +38,7 @@ numbers_before (m ∷ mutexes) more address number e = by (m.address == address)
 pub numbers_entered : (mutexes : List Mutex) (address : ℕ) (owner : Option ℕ) → KeepsNumbers mutexes (with_entered mutexes address owner)
 numbers_entered mutexes address owner = numbers_before mutexes (record { address = address; owner = owner; rank = 0 } ∷ [])
 
-same_mutexes : (thread : ℕ) (came : Came) (peer : Peer) → (stopped thread came peer).mutexes ≡ peer.mutexes
+pub same_mutexes : (thread : ℕ) (came : Came) (peer : Peer) → (stopped thread came peer).mutexes ≡ peer.mutexes
 same_mutexes thread (Stopped stop) peer = refl
 same_mutexes thread came peer = refl
 

@@ -1,3 +1,4 @@
 pub mod Deciding
 pub mod Adding
 pub mod Closing
+pub mod Below

@@ -1,5 +1,5 @@
 -- A pass of a lock page as the locks of a peer.
-use Rattle.std.specs.Prelude.{◌≡◌, ℕ, ◌==◌, if◌then◌else◌, Some}
+use Rattle.std.specs.Prelude.{◌≡◌, ℕ, ◌==◌, if◌then◌else◌, min, ◌^◌, nat_lt, List, Some, None, slice_index}
 use Rattle.atomic_table.specs.Seated.{TableId}
 use Rattle.ro_lockpage.specs.Ranks.{map_of}
 use Rattle.ro_lockpage.specs.Pages.{PassOf}
@@ -9,17 +9,33 @@ use Rattle.ro_orders.specs.Copies.{Rows}
 use Rattle.ro_peer.specs.declared.locks.Decision.{Decision}
 use Rattle.ro_peer.specs.declared.locks.Decision.TheVariants.{Asker, Other}
 
--- the rows that a pass knows, by the mutexes' numbers
+-- a pass, and below which rank each mutex may be got by it, by the mutexes' numbers
+pub record Asking : Type 0 where
+  pub pass : PassOf
+  pub ceilings : List ℕ
+
+-- below which rank a mutex may be got: below none where it has no ceiling, and below 2 ^ 32, which is as far as ranks are counted
+abbrev pub ceiling_of : (ceilings : List ℕ) → (number : ℕ) → ℕ
+ceiling_of ceilings number = min (slice_index ceilings number) (2 ^ 32)
+
+-- the rows of ranks below the ceilings
+abbrev pub below : (ceilings : List ℕ) → Rows → Rows
+below ceilings rows number rank = if nat_lt rank (ceiling_of ceilings number) then rows number rank else None
+
+-- the rows that a pass knows, by the mutexes' numbers, and those of them that may be got
 abbrev pub known_by : PassOf → Rows
 known_by pass = map_of pass.known
+
+abbrev pub rows_of : Asking → Rows
+rows_of asking = below asking.ceilings (known_by asking.pass)
 
 -- a pass won a rank of a mutex for a thread
 abbrev pub won_by : PassOf → (number rank thread : ℕ) → Type 0
 won_by pass number rank thread = map_of pass.won number rank ≡ Some thread
 
--- which pass of which page it is
-abbrev pub seat_of : PassOf → TableId × ℕ
-seat_of pass = (pass.page, pass.number)
+-- which pass of which page it is, and the ceilings
+abbrev pub seat_of : Asking → TableId × ℕ × List ℕ
+seat_of asking = (asking.pass.page, asking.pass.number, asking.ceilings)
 
 -- what the page's answer is to the thread that asked
 abbrev pub decision_of : Answer → (thread : ℕ) → Decision

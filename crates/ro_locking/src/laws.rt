@@ -1,5 +1,5 @@
 //! What peers got whose locks a page decides, and its rows: laws.
-ghost use Rattle.std.specs.Prelude.{◌≡◌, ◌<◌, ◌++◌, ℕ, List, [], Option, Some, Contains, length};
+ghost use Rattle.std.specs.Prelude.{◌≡◌, ◌<◌, ◌++◌, ℕ, List, [], Option, Some, None, ◌∷◌, Contains, length};
 ghost use Rattle.ro_exec.specs.Next.{Layout};
 ghost use Rattle.ro_orders.specs.Copies.{Rows};
 ghost use Rattle.ro_lockpage.specs.Ranks.{word_of, row_in, given};
@@ -12,8 +12,8 @@ ghost use Rattle.ro_peer.specs.Gets.{Get, InRows};
 ghost use Rattle.ro_peer.specs.Seen.{by_address};
 ghost use Rattle.ro_peer.specs.Leases.{PeerRuns, KeepsRows, Wins};
 ghost use Rattle.ro_peer.specs.Events.{with_entered};
-ghost use Rattle.ro_locking.specs.Asking.{decision_of, known_by, won_by};
-ghost use Rattle.ro_locking.specs.Got.{HasGot, KeepsNumbers, AllGot, AreAmong};
+ghost use Rattle.ro_locking.specs.Asking.{below, decision_of, known_by, won_by};
+ghost use Rattle.ro_locking.specs.Got.{HasGot, KeepsNumbers, AllGot, AreAmong, AreBelow};
 
 /// What runs by a pass got adds up: by a pass that won nothing they got nothing; a run adds what it got, by the clauses of
 /// its call; and it stays so where mutexes are entered.
@@ -21,6 +21,12 @@ pub fn gets_add_up()
     ensures first { (mutexes : List Mutex) (pass : PassOf) → pass.won ≡ [] → HasGot mutexes pass [] }
     ensures more { (mutexes : List Mutex) (old new : PassOf) (gets more : List Get) → HasGot mutexes old gets → KeepsRows (known_by old) (known_by new) → InRows (by_address mutexes (known_by new)) more → Wins (won_by old) (won_by new) mutexes more → HasGot mutexes new (gets ++ more) }
     ensures later { (old new : List Mutex) (pass : PassOf) (gets : List Get) → KeepsNumbers old new → HasGot old pass gets → HasGot new pass gets }
+{}
+
+/// What is got by the rows below the ceilings is got by all rows, and is below the ceiling of its mutex.
+pub fn gets_are_below()
+    ensures in_rows { (mutexes : List Mutex) (ceilings : List ℕ) (rows : Rows) (gets : List Get) → InRows (by_address mutexes (below ceilings rows)) gets → InRows (by_address mutexes rows) gets }
+    ensures under { (mutexes : List Mutex) (ceilings : List ℕ) (rows : Rows) (gets : List Get) → InRows (by_address mutexes (below ceilings rows)) gets → AreBelow mutexes ceilings gets }
 {}
 
 /// Mutexes keep their numbers where one is entered, and in a run.
@@ -43,4 +49,12 @@ pub fn decision_row()
     ensures again { decision_of (given (row_in 3 (word_of 3 4)) 4) 4 ≡ Asker }
     ensures other { decision_of (given (row_in 3 (word_of 3 4)) 5) 5 ≡ Other }
     ensures passed { decision_of (given (row_in 3 (word_of 7 4)) 4) 4 ≡ Other }
+{}
+
+/// A row: below a ceiling of 4 the mutex 0 may be got at rank 3 and not at rank 4, and the mutex 1, which has no ceiling, not
+/// at all.
+pub fn ceiling_row()
+    ensures under { (rows : Rows) → below (4 ∷ []) rows 0 3 ≡ rows 0 3 }
+    ensures at { (rows : Rows) → below (4 ∷ []) rows 0 4 ≡ None }
+    ensures none { (rows : Rows) → below (4 ∷ []) rows 1 0 ≡ None }
 {}

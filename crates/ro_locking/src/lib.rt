@@ -4,5 +4,7 @@
 mod laws;
 mod page_locks;
 
-pub use laws::{decision_row, gets_add_up, numbers_stay, rows_are_gets};
+pub use laws::{
+    ceiling_row, decision_row, gets_add_up, gets_are_below, numbers_stay, rows_are_gets,
+};
 pub use page_locks::PageLocks;

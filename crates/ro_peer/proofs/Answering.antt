@@ -164,29 +164,29 @@ meets_answered layout watchdog thread rows old replica mutexes call number m cha
 
 pub meets_owned : (layout : Layout) (watchdog thread : ℕ) (peer : Peer) (call : Call) (number : ℕ) (m : Mutex)
     → standing_at layout watchdog peer.replica thread ≡ Some (Calls call) → is_lock_or_unlock call.which ≡ true → number_of peer.mutexes call.a0 ≡ Some number → slice_get peer.mutexes number ≡ Some m → answer_by call.which thread m.owner ≡ Waits
-    → LockWaits layout watchdog thread peer Owned
+    → LockWaits layout watchdog thread peer (Owned number)
 meets_owned layout watchdog thread peer call number m stands locks numbered there waits =
     let why = waits_at_lock call.which thread m.owner locks waits in
-    (m, record { call = call; standing = stands; locks = why.0; own = at_its_number peer.mutexes call.a0 number m numbered there }, why.1, why.2, why.3)
+    (m, record { call = call; standing = stands; locks = why.0; own = at_its_number peer.mutexes call.a0 number m numbered there; numbered = numbered }, why.1, why.2, why.3)
 
 pub meets_refused : (layout : Layout) (watchdog thread : ℕ) (rows : Rows) (peer : Peer) (call : Call) (number : ℕ) (m : Mutex) (change : Option (Option ℕ)) (value : ℕ) (came : Option Came)
     → standing_at layout watchdog peer.replica thread ≡ Some (Calls call) → number_of peer.mutexes call.a0 ≡ Some number → slice_get peer.mutexes number ≡ Some m → answer_by call.which thread m.owner ≡ Answers change value
     → Permits rows change number m.rank thread came → is_some came ≡ true → Meets layout watchdog thread rows peer peer came
 meets_refused layout watchdog thread rows peer call number m change value came stands numbered there answers permits some = by came permits some
   where
-    at_lock : is_got change ≡ true → IsAtLock layout watchdog thread peer m
-    at_lock got = record { call = call; standing = stands; locks = (gets_by_lock call.which thread m.owner change value answers got).0; own = at_its_number peer.mutexes call.a0 number m numbered there }
+    at_lock : is_got change ≡ true → IsAtLock layout watchdog thread peer number m
+    at_lock got = record { call = call; standing = stands; locks = (gets_by_lock call.which thread m.owner change value answers got).0; own = at_its_number peer.mutexes call.a0 number m numbered there; numbered = numbered }
 
     free : is_got change ≡ true → m.owner ≡ None
     free got = (gets_by_lock call.which thread m.owner change value answers got).1
 
     by : (came : Option Came) → Permits rows change number m.rank thread came → is_some came ≡ true → Meets layout watchdog thread rows peer peer came
     by None permits some = absurd (cc)
-    by (Some Row) permits some = (refl, (m, at_lock permits.0, free permits.0, permits.1))
-    by (Some Full) permits some = (refl, (m, at_lock permits.0, free permits.0, permits.1))
+    by (Some (Row at)) permits some = (refl, subst (λ (n : ℕ). LockWaits layout watchdog thread peer (Row n)) (sym permits.0) (m, at_lock permits.1, free permits.1, permits.2))
+    by (Some (Full at)) permits some = (refl, subst (λ (n : ℕ). LockWaits layout watchdog thread peer (Full n)) (sym permits.0) (m, at_lock permits.1, free permits.1, permits.2))
     by (Some Quantum) permits some = absurd permits
     by (Some (Stopped stop)) permits some = absurd permits
-    by (Some Owned) permits some = absurd permits
+    by (Some (Owned at)) permits some = absurd permits
 
 -- an answer that is none waits
 pub says_waits : (s : Said) → ((change : Option (Option ℕ)) (value : ℕ) → s ≡ SaysAnswers change value → ⊥) → said s ≡ Waits

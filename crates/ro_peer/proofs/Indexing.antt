@@ -1,5 +1,5 @@
 -- Mutexes by the keys of a map and by their addresses.
-use Rattle.std.specs.Prelude.{◌≡◌, ℕ, zero, suc, ◌+◌, ◌<◌, ◌≤◌, Bool, true, false, cond, is_some, ◌&&◌, ◌==◌, List, [], ◌∷◌, ◌++◌, length, position, Option, Some, None, nat_eq, slice_get, OnOk, IsOk}
+use Rattle.std.specs.Prelude.{◌≡◌, ℕ, zero, suc, ◌+◌, ◌<◌, ◌≤◌, Bool, true, false, cond, is_some, ◌==◌, List, [], ◌∷◌, ◌++◌, length, position, Option, Some, None, nat_eq, slice_get, OnOk, IsOk}
 use Rattle.std.specs.Option.{option_map}
 use Rattle.std.specs.List.{position_from}
 use Rattle.std.specs.Map.{keys_of, values_of, lookup}

@@ -75,9 +75,9 @@ under_way_ends layout watchdog quantum thread m n before rows old mid new came f
     by : (c : Came) → CameBy layout watchdog (quantum - m) thread n rest.end c → CameBy layout watchdog quantum thread (m + n) rest.end c
     by Quantum all = omega arith
     by (Stopped stop) why = let early : n < quantum - m = why.0 in (omega arith, why.1, why.2)
-    by Owned why = let early : n < quantum - m = why.0 in (omega arith, why.1)
-    by Row why = let early : n < quantum - m = why.0 in (omega arith, why.1)
-    by Full why = let early : n < quantum - m = why.0 in (omega arith, why.1)
+    by (Owned at) why = let early : n < quantum - m = why.0 in (omega arith, why.1)
+    by (Row at) why = let early : n < quantum - m = why.0 in (omega arith, why.1)
+    by (Full at) why = let early : n < quantum - m = why.0 in (omega arith, why.1)
 
 -- the same by another replica of the program
 pub goes_same : (one two : ReplicaOf) (most thread : ℕ) (rows : Rows) (old new : Peer) (count : ℕ) (came : Option Came) → SameProgram one two → GoesOn one.layout one.watchdog most thread rows old new count came → GoesOn two.layout two.watchdog most thread rows old new count came

@@ -157,16 +157,16 @@ came_on layout watchdog most thread rows peer mid new ran count stop s steps is 
 
 -- a lock that waits
 waits_come : (layout : Layout) (watchdog most thread count : ℕ) (peer : Peer) (came : Came) → count < most → LockWaits layout watchdog thread peer came → CameBy layout watchdog most thread count peer came
-waits_come layout watchdog most thread count peer Owned early why = (early, why)
-waits_come layout watchdog most thread count peer Row early why = (early, why)
-waits_come layout watchdog most thread count peer Full early why = (early, why)
+waits_come layout watchdog most thread count peer (Owned number) early why = (early, why)
+waits_come layout watchdog most thread count peer (Row number) early why = (early, why)
+waits_come layout watchdog most thread count peer (Full number) early why = (early, why)
 waits_come layout watchdog most thread count peer Quantum early why = absurd why
 waits_come layout watchdog most thread count peer (Stopped s) early why = absurd why
 
 waits_unstopped : (layout : Layout) (watchdog thread : ℕ) (peer : Peer) (came : Came) → LockWaits layout watchdog thread peer came → stopped thread came peer ≡ peer
-waits_unstopped layout watchdog thread peer Owned why = refl
-waits_unstopped layout watchdog thread peer Row why = refl
-waits_unstopped layout watchdog thread peer Full why = refl
+waits_unstopped layout watchdog thread peer (Owned number) why = refl
+waits_unstopped layout watchdog thread peer (Row number) why = refl
+waits_unstopped layout watchdog thread peer (Full number) why = refl
 waits_unstopped layout watchdog thread peer Quantum why = refl
 waits_unstopped layout watchdog thread peer (Stopped s) why = absurd why
 

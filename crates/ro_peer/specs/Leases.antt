@@ -16,22 +16,30 @@ use Rattle.ro_peer.specs.Peers.{Peer, mutex_in, is_got, leased, leased_run}
 use Rattle.ro_peer.specs.Gets.{Get, InRows, asker, get_of, got_in, is_own_call}
 use Rattle.ro_peer.specs.Seen.{number_of, by_address}
 
--- a thread stands at a lock of a mutex that the peer answers for
-pub record IsAtLock (layout : Layout) (watchdog thread : ℕ) (peer : Peer) (mutex : Mutex) : Type 0 where
+-- a thread stands at a lock of a mutex that the peer answers for, by its number
+pub record IsAtLock (layout : Layout) (watchdog thread : ℕ) (peer : Peer) (number : ℕ) (mutex : Mutex) : Type 0 where
   pub call : Call
   pub standing : standing_at layout watchdog peer.replica thread ≡ Some (Calls call)
   pub locks : call.which ≡ Function Lock
   pub own : mutex_in peer.mutexes call.a0 ≡ Some mutex
+  pub numbered : number_of peer.mutexes call.a0 ≡ Some number
 
 -- why a lock was not answered: another thread owns the mutex; it is free, and can be got once more; it is free, and was got as often as is counted
 abbrev pub LockWaits : Layout → (watchdog thread : ℕ) → Peer → Came → Type 0
-LockWaits layout watchdog thread peer Owned =
-    (mutex : Mutex) × IsAtLock layout watchdog thread peer mutex × (owner : ℕ) × (mutex.owner ≡ Some owner) × (owner ≢ thread)
-LockWaits layout watchdog thread peer Row =
-    (mutex : Mutex) × IsAtLock layout watchdog thread peer mutex × (mutex.owner ≡ None) × (mutex.rank + 1 < 2 ^ 32)
-LockWaits layout watchdog thread peer Full =
-    (mutex : Mutex) × IsAtLock layout watchdog thread peer mutex × (mutex.owner ≡ None) × (mutex.rank + 1 ≡ 2 ^ 32)
+LockWaits layout watchdog thread peer (Owned number) =
+    (mutex : Mutex) × IsAtLock layout watchdog thread peer number mutex × (owner : ℕ) × (mutex.owner ≡ Some owner) × (owner ≢ thread)
+LockWaits layout watchdog thread peer (Row number) =
+    (mutex : Mutex) × IsAtLock layout watchdog thread peer number mutex × (mutex.owner ≡ None) × (mutex.rank + 1 < 2 ^ 32)
+LockWaits layout watchdog thread peer (Full number) =
+    (mutex : Mutex) × IsAtLock layout watchdog thread peer number mutex × (mutex.owner ≡ None) × (mutex.rank + 1 ≡ 2 ^ 32)
 LockWaits layout watchdog thread peer came = ⊥
+
+-- the number of the mutex at whose lock a thread waits that came back so
+abbrev pub waiting_at : Came → Option ℕ
+waiting_at (Owned number) = Some number
+waiting_at (Row number) = Some number
+waiting_at (Full number) = Some number
+waiting_at came = None
 
 -- why a run of so many instructions came back
 abbrev pub CameBy : Layout → (watchdog quantum thread count : ℕ) → Peer → Came → Type 0
@@ -90,8 +98,8 @@ Meets layout watchdog thread rows old new (Some came) = (new ≡ old) × LockWai
 -- Whether a change may be made: where a thread gets the mutex by it, the row is known to be its own, and its rank is counted.
 abbrev pub Permits : Rows → Option (Option ℕ) → (number rank thread : ℕ) → Option Came → Type 0
 Permits rows change number rank thread None = is_got change ≡ true → (rank + 1 < 2 ^ 32) × (rows number rank ≡ Some thread)
-Permits rows change number rank thread (Some Row) = (is_got change ≡ true) × (rank + 1 < 2 ^ 32)
-Permits rows change number rank thread (Some Full) = (is_got change ≡ true) × (rank + 1 ≡ 2 ^ 32)
+Permits rows change number rank thread (Some (Row at)) = (at ≡ number) × (is_got change ≡ true) × (rank + 1 < 2 ^ 32)
+Permits rows change number rank thread (Some (Full at)) = (at ≡ number) × (is_got change ≡ true) × (rank + 1 ≡ 2 ^ 32)
 Permits rows change number rank thread (Some came) = ⊥
 
 -- what a call got that was answered, or waits

@@ -18,8 +18,11 @@ pub trait Locks {
     // A rank of a mutex, by the mutex's number, was decided here for a thread.
     ghost won: { Self → ℕ → ℕ → ℕ → Type 0 };
 
-    // The thread of each rank of each mutex, by the mutex's number, as far as it is known.
+    // The thread of each rank of each mutex, by the mutex's number, as far as it is known, of the ranks that may be got.
     ghost rows: { Self → Rows };
+
+    // The same of all ranks.
+    ghost known: { Self → Rows };
 
     // What asking leaves as it was.
     ghost Stays: { Type 0 } = { Unit {0} };
@@ -31,6 +34,7 @@ pub trait Locks {
         requires number { number < 256 }
         requires thread { thread < 16 }
         ensures keeps { (other at owner : ℕ) → rows self.old other at ≡ Some owner → rows self.new other at ≡ Some owner }
+        ensures knows { (other at owner : ℕ) → known self.old other at ≡ Some owner → known self.new other at ≡ Some owner }
         ensures asker { result ≡ Decision.Asker → rows self.new number rank ≡ Some thread }
         ensures stays { stays self.new ≡ stays self.old }
         ensures wins { (other at owner : ℕ) → won self.new other at owner → won self.old other at owner ⊎ ((result ≡ Decision.Asker) × (other ≡ number) × (at ≡ rank) × (owner ≡ thread)) };

@@ -66,6 +66,14 @@ impl Mutexes {
         }
     }
 
+    /// How many there are.
+    pub fn count(&self) -> usize
+        ensures count { result ≡ length self.now }
+        ensures most { result ≤ 256 }
+    {
+        self.mutexes.len()
+    }
+
     /// The mutex of a number.
     pub fn mutex(&self, number: u32) -> Mutex
         requires { number < length self.now }

@@ -1,5 +1,5 @@
 //! Peers.
-ghost use Rattle.std.specs.Prelude.{◌≡◌, [], IfOk, false, replicate};
+ghost use Rattle.std.specs.Prelude.{◌≡◌, [], IfOk, false, replicate, slice_index_or};
 
 use crate::mutexes::Mutexes;
 use ro_replica::ReplicaBox;
@@ -45,5 +45,15 @@ impl Peer {
         ensures { result.now ≡ self.now.mutexes }
     {
         &self.mutexes
+    }
+
+    /// Whether it answered a call of a thread since the kernel last served one.
+    pub fn has_answered(&self, thread: u32) -> bool
+        ensures { result ≡ slice_index_or self.now.answered thread false }
+    {
+        match self.answered.get(thread as usize) {
+            Some(answered) => *answered,
+            None => false,
+        }
     }
 }

@@ -8,7 +8,7 @@ ghost use Rattle.ro_orders.specs.Turns.{is_lock_or_unlock};
 ghost use Rattle.ro_peer.specs.Peers.{is_got};
 ghost use Rattle.ro_peer.specs.Gets.{get_of, got_in, is_own_call};
 ghost use Rattle.ro_peer.specs.Seen.{peer_of, number_of};
-ghost use Rattle.ro_peer.specs.Leases.{PeerRuns, GoesOn, Meets, Permits, KeepsRows, Wins, met_gets};
+ghost use Rattle.ro_peer.specs.Leases.{waiting_at, PeerRuns, GoesOn, Meets, Permits, KeepsRows, Wins, met_gets};
 
 use crate::answers::{Answer, answer_to};
 use crate::locks::{Decision, Locks};
@@ -22,12 +22,24 @@ pub enum Came {
     Quantum,
     /// It stands at a stop that the peer doesn't answer by itself.
     Stopped(Stop),
-    /// It stands at the lock of a mutex that another thread owns.
-    Owned,
-    /// It stands at the lock of a free mutex that can be got once more.
-    Row,
-    /// It stands at the lock of a free mutex that was got as often as is counted.
-    Full,
+    /// It stands at the lock of a mutex, by its number, that another thread owns.
+    Owned(u32),
+    /// It stands at the lock of a free mutex, by its number, that can be got once more.
+    Row(u32),
+    /// It stands at the lock of a free mutex, by its number, that was got as often as is counted.
+    Full(u32),
+}
+
+impl Came {
+    /// The number of the mutex at whose lock it waits, where it does.
+    pub fn waits_at(self) -> Option<u32>
+        ensures { result ≡ waiting_at self }
+    {
+        match self {
+            Came::Quantum | Came::Stopped(_) => None,
+            Came::Owned(number) | Came::Row(number) | Came::Full(number) => Some(number),
+        }
+    }
 }
 
 /// What a run of a peer's thread came to.
@@ -65,6 +77,7 @@ impl Peer {
         ensures faultless { self.new.replica.waiting ≡ [] }
         ensures runs { PeerRuns self.old.replica.layout self.old.replica.watchdog quantum thread (L.rows locks.new) (peer_of self.old) (peer_of self.new) result.count result.came }
         ensures keeps { KeepsRows (L.rows locks.old) (L.rows locks.new) }
+        ensures knows { KeepsRows (L.known locks.old) (L.known locks.new) }
         ensures stays { L.stays locks.new ≡ L.stays locks.old }
         ensures wins { Wins (L.won locks.old) (L.won locks.new) self.old.mutexes (got_in self.old.replica.layout self.old.replica.watchdog result.count (peer_of self.old) thread) }
     {
@@ -87,6 +100,7 @@ impl Peer {
         ensures faultless { self.new.replica.waiting ≡ [] }
         ensures goes { GoesOn self.old.replica.layout self.old.replica.watchdog most thread (L.rows locks.new) (peer_of self.old) (peer_of self.new) result.count result.came }
         ensures keeps { KeepsRows (L.rows locks.old) (L.rows locks.new) }
+        ensures knows { KeepsRows (L.known locks.old) (L.known locks.new) }
         ensures stays { L.stays locks.new ≡ L.stays locks.old }
         ensures wins { Wins (L.won locks.old) (L.won locks.new) self.old.mutexes (got_in self.old.replica.layout self.old.replica.watchdog result.count (peer_of self.old) thread) }
     {
@@ -144,13 +158,14 @@ impl Peer {
         ensures waiting { self.new.replica.waiting ≡ self.old.replica.waiting }
         ensures meets { Meets self.old.replica.layout self.old.replica.watchdog thread (L.rows locks.new) (peer_of self.old) (peer_of self.new) result }
         ensures keeps { KeepsRows (L.rows locks.old) (L.rows locks.new) }
+        ensures knows { KeepsRows (L.known locks.old) (L.known locks.new) }
         ensures stays { L.stays locks.new ≡ L.stays locks.old }
         ensures wins { Wins (L.won locks.old) (L.won locks.new) self.old.mutexes (met_gets result (get_of self.old.replica.layout (peer_of self.old) thread)) }
     {
         let mutex = self.mutexes.mutex(own.number);
         let Answer::Answers { change, value } = answer_to(own.call.which, thread, mutex.owner)
         else {
-            return Some(Came::Owned);
+            return Some(Came::Owned(own.number));
         };
         let came = permit(locks, change, own.number, mutex.rank, thread);
         if came.is_some() {
@@ -182,6 +197,7 @@ fn permit<L: Locks>(
     requires thread { thread < 16 }
     ensures permits { Permits (L.rows locks.new) change number rank thread result }
     ensures keeps { KeepsRows (L.rows locks.old) (L.rows locks.new) }
+    ensures knows { KeepsRows (L.known locks.old) (L.known locks.new) }
     ensures stays { L.stays locks.new ≡ L.stays locks.old }
     ensures wins { (other at owner : ℕ) → L.won locks.new other at owner → L.won locks.old other at owner ⊎ ((result ≡ None) × (is_got change ≡ true) × (other ≡ number) × (at ≡ rank) × (owner ≡ thread)) }
 {
@@ -189,10 +205,10 @@ fn permit<L: Locks>(
         return None;
     };
     if rank == u32::MAX {
-        return Some(Came::Full);
+        return Some(Came::Full(number));
     }
     match locks.decide(number, rank, thread) {
         Decision::Asker => None,
-        Decision::Other => Some(Came::Row),
+        Decision::Other => Some(Came::Row(number)),
     }
 }

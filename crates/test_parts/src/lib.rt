@@ -1,5 +1,5 @@
-//! Worked rows of the guest machine's parts, as tests: arithmetic and instructions, memory and its ranges, calls, mutexes,
-//! groups of threads, votes.
+//! Worked rows of the guest machine's parts, as tests: arithmetic and instructions, memory and its ranges, calls, mutexes
+//! and who got them, groups of threads, votes.
 #![tactic(auto)]
 
 #[cfg(test)]
@@ -16,5 +16,7 @@ mod mutexes;
 mod pages;
 #[cfg(test)]
 mod regions;
+#[cfg(test)]
+mod takers;
 #[cfg(test)]
 mod votes;

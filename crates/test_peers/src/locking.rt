@@ -50,6 +50,8 @@ impl Locks for All {
 
     ghost rows = { λ all number rank. Some all.thread };
 
+    ghost known = { λ all number rank. Some all.thread };
+
     ghost stays = { λ all. tt };
 
     fn decide(&mut self, _number: u32, _rank: u32, thread: u32) -> Decision {
@@ -135,7 +137,7 @@ const ROWS: &[Row] = &[
         gets: 1,
         quantum: 4096,
         count: 2,
-        end: End::Back(Came::Row),
+        end: End::Back(Came::Row(0)),
         after: None,
         rank: 0,
     },
@@ -144,7 +146,7 @@ const ROWS: &[Row] = &[
         gets: 0,
         quantum: 4096,
         count: 2,
-        end: End::Back(Came::Owned),
+        end: End::Back(Came::Owned(0)),
         after: Some(1),
         rank: 0,
     },

@@ -1,8 +1,7 @@
 use Rattle.std.proofs.Common.{◌≡◌, List, Option, Some, sym, ap, ◌∙◌, inl, inr, ⊎_elim}
 use Rattle.ro_lockpage.specs.Ranks.{Decided, map_of, row_in, won_then}
-use Rattle.ro_lockpage.specs.Pages.{PassOf}
 use Rattle.ro_lockpage.specs.declared.words.Answer.{Answer}
-use Rattle.ro_locking.specs.Asking.{decision_of}
+use Rattle.ro_locking.specs.Asking.{Asking, decision_of}
 use Rattle.ro_locking.proofs.Deciding.{wins_asked}
 use Rattle.ro_locking.proofs.page_locks.PageLocksLocks.decide.Goals as goal
 
@@ -12,6 +11,6 @@ returns-clause-wins c other at owner won =
     let row : Option Answer = row_in c.args.rank did.1 in
     let more : map_of (won_then c.self.inside.pass.won row c.args.number c.args.rank c.args.thread) other at ≡ Some owner = sym (ap (λ (ds : List Decided). map_of ds other at) did.4) ∙ won in
     ⊎_elim
-    (λ (was : map_of c.self.inside.pass.won other at ≡ Some owner). inl (sym (ap (λ (p : PassOf). map_of p.won other at) c.self.view_is) ∙ was))
+    (λ (was : map_of c.self.inside.pass.won other at ≡ Some owner). inl (sym (ap (λ (a : Asking). map_of a.pass.won other at) c.self.view_is) ∙ was))
     (λ one. inr (c.decision.ensures ∙ ap (λ (a : Answer). decision_of a c.args.thread) did.3 ∙ one.0, one.1, one.2, one.3))
     (wins_asked c.self.inside.pass.won c.args.number c.args.rank c.args.thread row other at owner more)

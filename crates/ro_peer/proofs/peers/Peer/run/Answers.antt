@@ -31,6 +31,7 @@ parts-preserved g c =
       faultless = c.go_on-went.ensures.faultless;
       countable = room_left c.args.thread (count + more) (c.args.quantum - (count + more)) c.args.quantum old.threads c.go_on-went.new.self.replica.threads kept.done all c.requires.countable;
       keeps = keeps_both (g.L.Locks.rows c.args.locks.now) (g.L.Locks.rows c.parts.locks) rows c.parts.invariant.keeps c.go_on-went.ensures.keeps;
+      knows = keeps_both (g.L.Locks.known c.args.locks.now) (g.L.Locks.known c.parts.locks) (g.L.Locks.known c.go_on-went.new.locks) c.parts.invariant.knows c.go_on-went.ensures.knows;
       stays = c.go_on-went.ensures.stays ∙ c.parts.invariant.stays;
       wins = wins;
       way = way;

@@ -12,6 +12,7 @@ invariant-parts g l = record {
   faultless : l.self.replica.waiting ≡ [];
   countable : CanCount (l.quantum - l.count) l.self.replica l.thread;
   keeps : KeepsRows (g.L.Locks.rows l.fn.locks) (g.L.Locks.rows l.locks);
+  knows : KeepsRows (g.L.Locks.known l.fn.locks) (g.L.Locks.known l.locks);
   stays : g.L.Locks.stays l.locks ≡ g.L.Locks.stays l.fn.locks;
   wins : Wins (g.L.Locks.won l.fn.locks) (g.L.Locks.won l.locks) l.fn.self.mutexes (got_in l.fn.self.replica.layout l.fn.self.replica.watchdog l.count (peer_of l.fn.self) l.thread);
   way : IsUnderWay l.fn.self.replica.layout l.fn.self.replica.watchdog l.thread (g.L.Locks.rows l.locks) (peer_of l.fn.self) (peer_of l.self) l.count;

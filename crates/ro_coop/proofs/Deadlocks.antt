@@ -36,7 +36,8 @@ use Rattle.ro_peer.specs.declared.mutexes.Mutex.{Mutex}
 use Rattle.ro_peer.specs.Peers.{Peer, mutex_in, is_row, leased_run}
 use Rattle.ro_peer.specs.Gets.{Get, asker, got_in, InRows}
 use Rattle.ro_legal.specs.Core.{Job as Asked, Core as Run, is_going, nothing_lent, is_home, is_barred, is_kept, is_parked, is_awake, is_lendable, may_vote, may_free}
-use Rattle.ro_legal.specs.Sides.{Parking, Side, opening_side, peer_with, peers_of, taker_of, rank_in, most_apart, is_ahead}
+use Rattle.ro_legal.specs.declared.parkings.Parking.{Parking}
+use Rattle.ro_legal.specs.Sides.{Side, opening_side, peer_with, peers_of, taker_of, rank_in, most_apart, is_ahead}
 use Rattle.ro_legal.specs.Event.{Event, call_event}
 use Rattle.ro_legal.specs.Legal.{any_below, is_stuck, event_with}
 use Rattle.ro_legal.specs.Cooperative as rules

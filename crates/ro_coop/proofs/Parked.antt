@@ -29,7 +29,8 @@ use Rattle.ro_peer.specs.Peers.{Peer, mutex_in, mutex_after, with_mutex, is_row,
 use Rattle.ro_peer.specs.Gets.{voted}
 use Rattle.ro_peer.specs.Events.{without_own}
 use Rattle.ro_legal.specs.Core.{Job as Asked}
-use Rattle.ro_legal.specs.Sides.{Parking, Side}
+use Rattle.ro_legal.specs.declared.parkings.Parking.{Parking}
+use Rattle.ro_legal.specs.Sides.{Side}
 use Rattle.ro_legal.specs.Cooperative.{is_lock, parking_by, parking_at, parking_of, stopped, replica_after}
 use Rattle.ro_legal.proofs.Effects.{backed_after, threads_after}
 use Rattle.ro_legal.proofs.Lists.{changed-is-set, get-set-same, get-map-there}

@@ -30,7 +30,8 @@ use Rattle.ro_peer.specs.Peers.{Peer, mutex_in, leased_run}
 use Rattle.ro_peer.specs.Gets.{Get, asker, got_in, is_own_call, voted}
 use Rattle.ro_peer.specs.Events.{unanswered}
 use Rattle.ro_legal.specs.Core.{Job as Asked, Core as Run}
-use Rattle.ro_legal.specs.Sides.{Side, Parking, peer_with, peers_of}
+use Rattle.ro_legal.specs.declared.parkings.Parking.{Parking}
+use Rattle.ro_legal.specs.Sides.{Side, peer_with, peers_of}
 use Rattle.ro_legal.specs.Event.{Event, event_of, call_event}
 use Rattle.ro_legal.specs.Cooperative as rules
 use Rattle.ro_coop.specs.Core.{Job, Core, kernel_for, peer_after_event, core_after, arrival, after_put, run_in, vote_event, voted_stop, free_event, after_event, MayPut}

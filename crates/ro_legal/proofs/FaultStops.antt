@@ -20,7 +20,7 @@ use Rattle.ro_faults.specs.declared.Fault.{Fault}
 use Rattle.ro_faults.specs.declared.Target.{Target}
 use Rattle.ro_faults.specs.declared.Target.TheVariants.{Register, Pc, Byte}
 use Rattle.ro_replica.specs.Replica.{Replica, unstopped, changed_at, thread_after, creator_of, with_made, is_cancelled, without_cancelled, is_page, applied, cancelled, copied_threads, recovered, stop_of, opening_replica}
-use Rattle.ro_replica.specs.Runs.{is_due, struck_by, RanTo, strike_in, struck, run_of, with_stop, standing_in}
+use Rattle.ro_replica.specs.Runs.{is_due, struck_by, RanTo, strike_in, struck, run_of, with_stop, standing_in, standing_at}
 use Rattle.ro_plain.specs.Machine.{layout_in}
 use Rattle.ro_plain.proofs.Calls.{some-injective}
 use Rattle.ro_legal.specs.Core.{Job, Core, opening_core}
@@ -36,7 +36,7 @@ use Rattle.ro_legal.proofs.Ordered.{put-parts, get-opening, one-thread, event-pa
 use Rattle.ro_legal.proofs.FaultPages.{fault-standing}
 use Rattle.ro_kernel.specs.Kernel.{Kernel}
 
-fault-changed : (backed : Backed) (f : Thread → Thread) → ((x : Thread) → IsFault backed x.stop → IsFault backed (f x).stop) → (threads : List Thread) (t : ℕ) → ((place : ℕ) (x : Thread) → slice_get threads place ≡ Some x → IsFault backed x.stop) → (place : ℕ) (x : Thread) → slice_get (changed_at f threads t) place ≡ Some x → IsFault backed x.stop
+pub fault-changed : (backed : Backed) (f : Thread → Thread) → ((x : Thread) → IsFault backed x.stop → IsFault backed (f x).stop) → (threads : List Thread) (t : ℕ) → ((place : ℕ) (x : Thread) → slice_get threads place ≡ Some x → IsFault backed x.stop) → (place : ℕ) (x : Thread) → slice_get (changed_at f threads t) place ≡ Some x → IsFault backed x.stop
 fault-changed backed f keeps threads t low place x e = by (get-changed f threads t place x e)
   where
     by : ChangedFrom f threads t place x → IsFault backed x.stop
@@ -78,20 +78,13 @@ fault-run layout watchdog (suc n) t replica ran e h =
     let one = fault-executed layout watchdog (struck layout.ranges replica t).replica t parts.after (instructs layout watchdog (struck layout.ranges replica t).replica t parts.after parts.executes) (fault-struck layout.ranges t replica h) in
     subst (λ (r : RanTo). HasFaults r.replica) parts.sum (fault-run layout watchdog n t parts.after parts.rest parts.runs one)
 
--- the stop at which a run arrives
-fault-arrival : (job : Job) (kernel : Kernel) (thread count : ℕ) (replica : Replica) → IsFault replica.backed (arrival job kernel thread count replica)
-fault-arrival job kernel thread count replica = by (count == job.settings.quantum)
+-- the stop that stands at a thread
+pub fault-standing-at : (job : Job) (kernel : Kernel) (thread : ℕ) (replica : Replica) → IsFault replica.backed (standing_at (layout_in job.program kernel) job.settings.watchdog replica thread)
+fault-standing-at job kernel thread replica = by (slice_get replica.threads thread)
   where
-    none : IsFault replica.backed None
-    none page e = absurd (let f : None ≡ Some (PageFault page) = e in cc)
-
-    at : (o : Option Thread) → IsFault replica.backed (option_and_then (standing_in (layout_in job.program kernel) job.settings.watchdog replica) o)
-    at None = none
-    at (Some t) = fault-standing (layout_in job.program kernel) job.settings.watchdog replica.backed replica.memory t.cpu t.since
-
-    by : (b : Bool) → IsFault replica.backed (cond b None (option_and_then (standing_in (layout_in job.program kernel) job.settings.watchdog replica) (slice_get replica.threads thread)))
-    by true = none
-    by false = at (slice_get replica.threads thread)
+    by : (o : Option Thread) → IsFault replica.backed (option_and_then (standing_in (layout_in job.program kernel) job.settings.watchdog replica) o)
+    by None = λ page e. absurd (let f : None ≡ Some (PageFault page) = e in cc)
+    by (Some t) = fault-standing (layout_in job.program kernel) job.settings.watchdog replica.backed replica.memory t.cpu t.since
 
 -- ---- effects and copies
 
@@ -105,9 +98,13 @@ fault-made backed (Some made) (y ∷ threads) all place x e = by (get-append-cas
     by (inr f) = subst (λ (z : Thread). IsFault backed z.stop) f.1 (λ page g. absurd (let k : None ≡ Some (PageFault page) = g in cc))
 
 -- a stop that goes or stays
-fault-cond : (backed : Backed) (b : Bool) (o : Option Stop) → IsFault backed o → IsFault backed (cond b None o)
+pub fault-cond : (backed : Backed) (b : Bool) (o : Option Stop) → IsFault backed o → IsFault backed (cond b None o)
 fault-cond backed true o h = λ page e. absurd (let f : None ≡ Some (PageFault page) = e in cc)
 fault-cond backed false o h = h
+
+-- the stop at which a run arrives
+fault-arrival : (job : Job) (kernel : Kernel) (thread count : ℕ) (replica : Replica) → IsFault replica.backed (arrival job kernel thread count replica)
+fault-arrival job kernel thread count replica = fault-cond replica.backed (count == job.settings.quantum) _ (fault-standing-at job kernel thread replica)
 
 -- stops for pages that are backed by now are gone
 kept-fault : (old new : Backed) (o : Option Stop) → IsFault old o → IsFault new (cond (is_cancelled new o) None o)
@@ -129,7 +126,7 @@ stops-wait effect replica h =
     fault-made replica.backed effect.made (changed_at (thread_after effect) replica.threads effect.thread)
     (fault-changed replica.backed (thread_after effect) (λ x k. fault-cond replica.backed effect.releases x.stop k) replica.threads effect.thread h)
 
-fault-applied : (effect : Effect) (replica : Replica) → HasFaults replica → HasFaults (cancelled (applied effect replica))
+pub fault-applied : (effect : Effect) (replica : Replica) → HasFaults replica → HasFaults (cancelled (applied effect replica))
 unfolding applied cancelled
 fault-applied effect replica h place thread e = by (get-map (without_cancelled (backed_after effect replica.backed)) (threads_after effect replica.threads) place thread e)
   where
@@ -219,7 +216,7 @@ fault-after job core (Free thread) may h = fault-event core thread 0 core.replic
 fault-after job core (Scrub won lost) may h = let w = scrub-winner core won lost may in each-copied won w.0 (numbers lost) core.replicas w.1 h
 fault-after job core (End how) may h = h
 
-opening-faults : (job : Job) (number : ℕ) → HasFaults (opening_replica job.program.image job.faults number)
+pub opening-faults : (job : Job) (number : ℕ) → HasFaults (opening_replica job.program.image job.faults number)
 unfolding opening_replica
 opening-faults job number place thread e = λ page f. absurd (let g : None ≡ Some (PageFault page) = ap (λ (x : Thread). x.stop) (one-thread _ place thread e).1 ∙ f in cc)
 

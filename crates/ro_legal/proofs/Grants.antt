@@ -1,5 +1,5 @@
 -- A thread that stands at a call stands there until it is answered, or its replica becomes a copy.
-use Rattle.std.specs.Prelude.{◌≡◌, ◌≢◌, ℕ, zero, suc, ◌⊎◌, Bool, true, false, not, cond, ◌&&◌, ◌||◌, List, [], ◌∷◌, ◌++◌, Option, Some, None, is_none, slice_get}
+use Rattle.std.specs.Prelude.{◌≡◌, ◌≢◌, ℕ, ◌⊎◌, Bool, true, false, not, cond, ◌&&◌, ◌||◌, List, [], ◌∷◌, ◌++◌, Option, Some, None, is_none, slice_get}
 use Rattle.std.specs.List.{filter, list_any}
 use Rattle.std.specs.Option.{option_map_or, option_and_then}
 use Rattle.std.proofs.Common.{refl, sym, ap, ◌∙◌, subst, inl, inr}
@@ -32,7 +32,7 @@ use Rattle.ro_legal.specs.Core.{Job, Core, opening_core, is_home, is_lease, is_o
 use Rattle.ro_legal.specs.Event.{Event, quiet_effect, call_event, event_of, with_recovered}
 use Rattle.ro_legal.specs.Legal.{lease_run, arrival, arrived, core_after_put, core_after_event, event_in, freed_event, after, IsAllowed, MayPut, MayVote, MayFree, Legal, replay}
 use Rattle.ro_legal.specs.Laws.{thread_in, leaves_blocked, LeavesBlocked, LetsGoOn}
-use Rattle.ro_legal.proofs.Lists.{get-map-there, get-set-same, changed-is-set}
+use Rattle.ro_legal.proofs.Lists.{get-map-there, get-set-same, changed-is-set, changed-other}
 use Rattle.ro_legal.proofs.Copies.{copied-other}
 use Rattle.ro_legal.proofs.Effects.{backed_after, threads_after}
 use Rattle.ro_legal.proofs.Happens.{Happens, event-happens, call-happens}
@@ -172,13 +172,6 @@ made-keeps : (made : Option Made) (threads : List Thread) (i : ℕ) (x : Thread)
 made-keeps None threads i x e = e
 made-keeps (Some made) [] i x e = e
 made-keeps (Some made) (y ∷ threads) i x e = slice_get-append (y ∷ threads) _ i x e
-
-pub changed-other : (f : Thread → Thread) (xs : List Thread) (t i : ℕ) → i ≢ t → slice_get (changed_at f xs t) i ≡ slice_get xs i
-changed-other f [] t i d = refl
-changed-other f (x ∷ xs) zero zero d = absurd (d refl)
-changed-other f (x ∷ xs) zero (suc i) d = refl
-changed-other f (x ∷ xs) (suc t) zero d = refl
-changed-other f (x ∷ xs) (suc t) (suc i) d = changed-other f xs t i (λ e. d (ap suc e))
 
 -- an effect of another thread leaves it
 effect-keeps : (effect : Effect) (replica : Replica) (thread : ℕ) (stands : Thread) (call : Call) → thread ≢ effect.thread → slice_get replica.threads thread ≡ Some stands → stands.stop ≡ Some (Calls call)

@@ -35,11 +35,11 @@ put_idles job journal lease count hit legal =
 
 -- ---- what another driver's entry leaves
 
-none_found : (driver : ℕ) (lease : Lease) (leases : List Lease) → leases ≡ [] → find (λ l. l.driver == driver) leases ≡ Some lease → ⊥
+pub none_found : (driver : ℕ) (lease : Lease) (leases : List Lease) → leases ≡ [] → find (λ l. l.driver == driver) leases ≡ Some lease → ⊥
 none_found driver lease leases none e = let f : None ≡ Some lease = sym (ap (find (λ (l : Lease). l.driver == driver)) none) ∙ e in cc
 
 -- a lease that is not of the driver may go
-found_in_rest : (driver : ℕ) (lease : Lease) (p : Lease → Bool) (leases : List Lease) → ((l : Lease) → (l.driver == driver) ≡ true → p l ≡ true) → find (λ l. l.driver == driver) leases ≡ Some lease → find (λ l. l.driver == driver) (filter p leases) ≡ Some lease
+pub found_in_rest : (driver : ℕ) (lease : Lease) (p : Lease → Bool) (leases : List Lease) → ((l : Lease) → (l.driver == driver) ≡ true → p l ≡ true) → find (λ l. l.driver == driver) leases ≡ Some lease → find (λ l. l.driver == driver) (filter p leases) ≡ Some lease
 found_in_rest driver lease p [] keeps e = e
 found_in_rest driver lease p (l ∷ leases) keeps e = by (l.driver == driver) refl (p l) refl e (λ f. found_in_rest driver lease p leases keeps f)
   where
@@ -61,7 +61,7 @@ has_found driver lease (l ∷ leases) e = by (l.driver == driver) e (λ f. has_f
     by false f rest = or_true (l.replica == lease.replica) (has_replica lease.replica leases) (rest f)
 
 -- the leases of two drivers are of two replicas
-other_replica : (driver : ℕ) (other lease : Lease) (leases : List Lease) → Apart leases → other.driver ≢ driver → find (λ l. l.driver == driver) leases ≡ Some lease → list_any (is_lease other) leases ≡ true → other.replica ≢ lease.replica
+pub other_replica : (driver : ℕ) (other lease : Lease) (leases : List Lease) → Apart leases → other.driver ≢ driver → find (λ l. l.driver == driver) leases ≡ Some lease → list_any (is_lease other) leases ≡ true → other.replica ≢ lease.replica
 other_replica driver other lease [] apart ne e out = absurd (let f : None ≡ Some lease = e in cc)
 other_replica driver other lease (l ∷ leases) apart ne e out =
     by (l.driver == driver) refl e (is_lease other l) refl out (λ f g. other_replica driver other lease leases apart.1 ne f g)
@@ -167,7 +167,7 @@ abbrev pub AreBelow : ℕ → List Lease → Type 0
 AreBelow n [] = Unit {0}
 AreBelow n (lease ∷ leases) = (lease.driver < n) × AreBelow n leases
 
-below-filter : (n : ℕ) (p : Lease → Bool) (leases : List Lease) → AreBelow n leases → AreBelow n (filter p leases)
+pub below-filter : (n : ℕ) (p : Lease → Bool) (leases : List Lease) → AreBelow n leases → AreBelow n (filter p leases)
 below-filter n p [] h = tt
 below-filter n p (lease ∷ leases) h = by (p lease) (below-filter n p leases h.1)
   where
@@ -180,7 +180,7 @@ unfolding opening_core
 leases_below job journal legal =
     legal-keeps job (λ core. AreBelow job.settings.drivers core.leases) (leases_keep job (λ leases. AreBelow job.settings.drivers leases) (below-filter job.settings.drivers) (λ core lease m h. (m.driver_exists, h))) (opening_core job) journal legal tt
 
-none_left : (n : ℕ) (leases : List Lease) → AreBelow n leases → ((k : ℕ) → k < n → not (has_driver k leases) ≡ true) → leases ≡ []
+pub none_left : (n : ℕ) (leases : List Lease) → AreBelow n leases → ((k : ℕ) → k < n → not (has_driver k leases) ≡ true) → leases ≡ []
 none_left n [] below idle = refl
 none_left n (lease ∷ leases) below idle =
     let held : has_driver lease.driver (lease ∷ leases) ≡ true = ap (λ (b : Bool). b || has_driver lease.driver leases) (eq-eqb lease.driver lease.driver refl) in

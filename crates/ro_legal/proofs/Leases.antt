@@ -1,9 +1,9 @@
 -- The leases that are out: no two of them are of one replica, nor of one driver.
 use Rattle.std.proofs.Common.{◌≡◌, ℕ, ◌+◌, ◌≤◌, Bool, true, false, true≢false, not, cond, ◌&&◌, ◌||◌, List, [], ◌∷◌, length, Option, Some, None, refl, sym, ap, ◌∙◌, subst, arith, eqb-true, eq-eqb}
 use Rattle.std.specs.Prelude.{◌==◌, slice_get}
-use Rattle.std.specs.List.{filter, list_any}
+use Rattle.std.specs.List.{filter, find, list_any}
 use Rattle.std.specs.Option.{option_map_or}
-use Rattle.std.proofs.lemmas.Bool.{and_parts}
+use Rattle.std.proofs.lemmas.Bool.{and_parts, and_from}
 use Rattle.std.proofs.lemmas.List.Filters.{length-filter_both}
 use Rattle.ro_journal.specs.Losers.{numbers}
 use Rattle.ro_journal.specs.declared.Entry.{Entry}
@@ -85,6 +85,19 @@ same-lease lease other e =
     let q = and_parts (other.driver == lease.driver) (other.replica == lease.replica) p.0 in
     (λ t. lease_to (eqb-true other.driver lease.driver q.0 t) (eqb-true other.replica lease.replica q.1 t) (eqb-true other.thread lease.thread p.1 t))
 
+-- a lease that is found is out
+pub out_found : (driver : ℕ) (lease : Lease) (leases : List Lease) → find (λ l. l.driver == driver) leases ≡ Some lease → list_any (is_lease lease) leases ≡ true
+out_found driver lease [] e = absurd (let f : None ≡ Some lease = e in cc)
+out_found driver lease (l ∷ leases) e = by (l.driver == driver) e (λ f. out_found driver lease leases f)
+  where
+    own : is_lease lease lease ≡ true
+    own = and_from _ _ (and_from _ _ (eq-eqb lease.driver lease.driver refl) (eq-eqb lease.replica lease.replica refl)) (eq-eqb lease.thread lease.thread refl)
+
+    by : (b : Bool) → cond b (Some l) (find (λ x. x.driver == driver) leases) ≡ Some lease → (find (λ x. x.driver == driver) leases ≡ Some lease → list_any (is_lease lease) leases ≡ true)
+        → (is_lease lease l || list_any (is_lease lease) leases) ≡ true
+    by true f rest = let its : l ≡ lease = (let x : Some l ≡ Some lease = f in cc) in ap (λ (b : Bool). b || list_any (is_lease lease) leases) (ap (is_lease lease) its ∙ own)
+    by false f rest = or_true (is_lease lease l) (list_any (is_lease lease) leases) (rest f)
+
 -- ---- leases by a number of theirs
 
 module _ (key : Lease → ℕ) where
@@ -164,15 +177,20 @@ leases_keep job Q fewer takes core (Free thread) m h = subst Q (sym (event_lease
 leases_keep job Q fewer takes core (Scrub won lost) m h = h
 leases_keep job Q fewer takes core (End how) m h = h
 
+-- no take lends a replica twice
+pub apart_take : (job : Job) (core : Core) (lease : Lease) → MayTake job core lease → Apart core.leases → Apart (lease ∷ core.leases)
+apart_take job core lease m h =
+    let p = and_parts (is_home core lease.replica && lives_on core.kernel lease.thread) _ (lendable-awake core lease.replica lease.thread m.lendable) in
+    let q = and_parts (is_home core lease.replica) (lives_on core.kernel lease.thread) p.0 in
+    (not_false (has_replica lease.replica core.leases) q.0, h)
+
+-- nor to a driver twice
+pub one_take : (job : Job) (core : Core) (lease : Lease) → MayTake job core lease → OneEach core.leases → OneEach (lease ∷ core.leases)
+one_take job core lease m h = (not_false (has_driver lease.driver core.leases) m.driver_is_idle, h)
+
 -- each entry keeps them apart
 pub apart_after : (job : Job) (core : Core) (entry : Entry) → IsAllowed job core entry → Apart core.leases → Apart (after job core entry).leases
-apart_after job core entry m h = leases_keep job (λ leases. Apart leases) (differ-filter (λ lease. lease.replica)) takes core entry m h
-  where
-    takes : (core : Core) (lease : Lease) → MayTake job core lease → Apart core.leases → Apart (lease ∷ core.leases)
-    takes core lease m h =
-        let p = and_parts (is_home core lease.replica && lives_on core.kernel lease.thread) _ (lendable-awake core lease.replica lease.thread m.lendable) in
-        let q = and_parts (is_home core lease.replica) (lives_on core.kernel lease.thread) p.0 in
-        (not_false (has_replica lease.replica core.leases) q.0, h)
+apart_after job core entry m h = leases_keep job (λ leases. Apart leases) (differ-filter (λ lease. lease.replica)) (apart_take job) core entry m h
 
 -- in a legal journal no two leases are of one replica
 pub leases_apart : (job : Job) (journal : List Entry) → Legal job journal → Apart (replay job journal).leases
@@ -182,10 +200,7 @@ leases_apart job journal legal = legal-keeps job (λ core. Apart core.leases) (a
 -- nor of one driver
 pub one_each : (job : Job) (journal : List Entry) → Legal job journal → OneEach (replay job journal).leases
 unfolding opening_core
-one_each job journal legal = legal-keeps job (λ core. OneEach core.leases) (leases_keep job (λ leases. OneEach leases) (differ-filter (λ lease. lease.driver)) takes) (opening_core job) journal legal tt
-  where
-    takes : (core : Core) (lease : Lease) → MayTake job core lease → OneEach core.leases → OneEach (lease ∷ core.leases)
-    takes core lease m h = (not_false (has_driver lease.driver core.leases) m.driver_is_idle, h)
+one_each job journal legal = legal-keeps job (λ core. OneEach core.leases) (leases_keep job (λ leases. OneEach leases) (differ-filter (λ lease. lease.driver)) (one_take job)) (opening_core job) journal legal tt
 
 -- a lease that is out is of its replica
 pub out_has : (lease : Lease) (leases : List Lease) → list_any (is_lease lease) leases ≡ true → has_replica lease.replica leases ≡ true

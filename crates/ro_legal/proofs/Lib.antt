@@ -34,6 +34,8 @@ pub mod Outcomes
 pub mod Lasts
 -- what the next action says of the core
 pub mod Nexts
+-- the lowest number that passes a test, and what can be done next by it
+pub mod Lowest
 -- a vote comes to one entry, or to one end in its place
 pub mod Single
 -- ---- the laws
@@ -57,3 +59,24 @@ pub mod OneDriver
 pub mod Streaks
 -- scrubs come in time
 pub mod InTime
+-- ---- cooperative runs
+-- journals that grow at their end
+pub mod TogetherJournals
+-- what a lease's run keeps of its replica
+pub mod TogetherRuns
+-- how many steps there are, and how many each thread has retired
+pub mod TogetherCounts
+-- what an event keeps
+pub mod TogetherEvents
+-- what each entry keeps
+pub mod Together
+-- what a lease's run keeps of the mutexes that a replica answers for
+pub mod MutexRuns
+-- and what an event does to them
+pub mod MutexEvents
+-- what every legal cooperative journal keeps of them
+pub mod Mutexes
+-- a lease lasts until its own driver brings it back
+pub mod TogetherLeases
+-- and ranks only grow
+pub mod TogetherRanks

@@ -1,8 +1,8 @@
 -- Elements of lists that are changed in one place, filtered, mapped or made longer.
 use Rattle.std.specs.Prelude.{◌≡◌, ◌≢◌, ℕ, zero, suc, Bool, true, false, cond, ◌||◌, ◌==◌, List, [], ◌∷◌, ◌++◌, length, map, Option, Some, None, is_some, slice_get, slice_set}
-use Rattle.std.specs.List.{filter, list_all, filter_map, cons_option}
+use Rattle.std.specs.List.{filter, list_all, list_any, filter_map, cons_option}
 use Rattle.std.proofs.Common.{refl, sym, ap, ◌∙◌, arith}
-use Rattle.std.proofs.lemmas.Bool.{true≢false, and_parts, and_from, eq-eqb}
+use Rattle.std.proofs.lemmas.Bool.{true≢false, and_parts, and_from, or_parts, eq-eqb}
 use Rattle.ro_journal.specs.declared.losers.Lost.{Lost}
 use Rattle.ro_journal.specs.declared.losers.Lost.TheVariants.{One, Two}
 use Rattle.ro_journal.specs.Losers.{numbers}
@@ -64,6 +64,14 @@ get-changed f (x ∷ xs) (suc t) (suc i) y h = by (get-changed f xs t i y h)
     by (unchanged d e) = unchanged (λ (g : suc i ≡ suc t). d (omega arith)) e
     by (changed_here z e g k) = changed_here z (ap suc e) g k
 
+-- every other element stays
+pub changed-other : {X : Type 0} (f : X → X) (xs : List X) (t i : ℕ) → i ≢ t → slice_get (changed_at f xs t) i ≡ slice_get xs i
+changed-other f [] t i d = refl
+changed-other f (x ∷ xs) zero zero d = absurd (d refl)
+changed-other f (x ∷ xs) zero (suc i) d = refl
+changed-other f (x ∷ xs) (suc t) zero d = refl
+changed-other f (x ∷ xs) (suc t) (suc i) d = changed-other f xs t i (λ e. d (ap suc e))
+
 -- a change in one place sets that element
 pub changed-is-set : {X : Type 0} (f : X → X) (xs : List X) (t : ℕ) (x : X) → slice_get xs t ≡ Some x → changed_at f xs t ≡ slice_set xs t (f x)
 changed-is-set f [] t x h = refl
@@ -121,6 +129,17 @@ get-all p (y ∷ xs) h (suc i) x e = get-all p xs (and_parts _ _ h).1 i x e
 pub all-from : {X : Type 0} (p : X → Bool) (xs : List X) → ((i : ℕ) (x : X) → slice_get xs i ≡ Some x → p x ≡ true) → list_all p xs ≡ true
 all-from p [] h = refl
 all-from p (y ∷ xs) h = and_from _ _ (h 0 y refl) (all-from p xs (λ i x e. h (suc i) x e))
+
+-- where none passes in the whole, none passes at a place
+pub get-none : {X : Type 0} (p : X → Bool) (xs : List X) → list_any p xs ≡ false → (i : ℕ) (x : X) → slice_get xs i ≡ Some x → p x ≡ false
+get-none p [] h i x e = absurd (let f : None ≡ Some x = e in cc)
+get-none p (y ∷ xs) h zero x e = ap p (some-injective (sym e)) ∙ (or_parts _ _ h).0
+get-none p (y ∷ xs) h (suc i) x e = get-none p xs (or_parts _ _ h).1 i x e
+
+-- where none passes at any place, none passes in the whole
+pub none-from : {X : Type 0} (p : X → Bool) (xs : List X) → ((i : ℕ) (x : X) → slice_get xs i ≡ Some x → p x ≡ false) → list_any p xs ≡ false
+none-from p [] h = refl
+none-from p (y ∷ xs) h = ap (λ (b : Bool). b || list_any p xs) (h 0 y refl) ∙ none-from p xs (λ i x e. h (suc i) x e)
 
 -- ---- lists of one or two numbers
 

@@ -86,7 +86,7 @@ put-parts job core lease count ran e =
     option_and_then_some (λ r. run_of (layout_in job.program core.kernel) job.settings.watchdog count r lease.thread) (slice_get core.replicas lease.replica) ran e (λ lent there runs. record { lent = lent; there = there; runs = runs })
 
 -- no lease is left where none was
-none-left : (p : Lease → Bool) (leases : List Lease) → leases ≡ [] → filter p leases ≡ []
+pub none-left : (p : Lease → Bool) (leases : List Lease) → leases ≡ [] → filter p leases ≡ []
 none-left p leases e = ap (filter p) e
 
 ordered-ran : (job : Job) (core : Core) (lease : Lease) (count hit : ℕ) (may : MayPut job core lease count hit) → IsOrdered job core → IsOrdered job (core_after_put job core lease count (Some may.ran))

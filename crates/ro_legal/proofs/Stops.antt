@@ -9,7 +9,7 @@ use Rattle.ro_event.specs.Effects.{Effect}
 use Rattle.ro_exec.specs.Next.{Backed}
 use Rattle.ro_thread.specs.declared.Thread.{Thread}
 use Rattle.ro_replica.specs.Replica.{Replica, changed_at, thread_after, with_made, applied, is_cancelled, without_cancelled, cancelled, copied_threads, stop_of}
-use Rattle.ro_legal.proofs.Grants.{changed-other}
+use Rattle.ro_legal.proofs.Lists.{changed-other}
 
 -- the stop of a thread in a list
 abbrev pub stop_in : List Thread → (thread : ℕ) → Option Stop

@@ -4,7 +4,6 @@
 use Rattle.std.specs.Prelude.{◌≡◌, ◌⊎◌, ℕ, ◌+◌, ◌-◌, ◌<◌, ◌≤◌, max, IsTrue, IsSome, Bool, true, false, not, ◌&&◌, List, [], ◌∷◌, ◌++◌, length, map, replicate, Option, Some, None, is_none, ◌==◌, if◌then◌else◌, slice_get, slice_set}
 use Rattle.std.specs.List.{filter, list_all}
 use Rattle.std.specs.Option.{option_and_then, option_map, option_map_or}
-use Rattle.ro_event.specs.declared.calls.Call.{Call}
 use Rattle.ro_event.specs.declared.calls.Which.{Which}
 use Rattle.ro_event.specs.declared.calls.Which.TheVariants.{Function}
 use Rattle.ro_event.specs.declared.functions.Function.TheVariants.{Lock}
@@ -22,11 +21,10 @@ use Rattle.ro_journal.specs.declared.losers.Lost.{Lost}
 use Rattle.ro_journal.specs.declared.losers.Lost.TheVariants.{Nobody}
 use Rattle.ro_journal.specs.Plan.{event_steps}
 use Rattle.ro_mutex.specs.Owners.{owner_of}
-use Rattle.ro_exec.specs.Next.{Layout}
 use Rattle.ro_kernel.specs.Kernel.{Kernel, released}
 use Rattle.ro_replica.specs.Replica.{Replica, changed_at, stop_of, applied, cancelled}
 use Rattle.ro_replica.specs.Runs.{standing_at, with_stop}
-use Rattle.ro_plain.specs.Machine.{setup_of, layout_in}
+use Rattle.ro_plain.specs.Machine.{layout_in}
 use Rattle.ro_orders.specs.Turns.{Chosen, is_cooperative}
 use Rattle.ro_orders.specs.Choices.{chosen_of}
 use Rattle.ro_peer.specs.declared.mutexes.Mutex.{Mutex}
@@ -34,7 +32,7 @@ use Rattle.ro_peer.specs.Peers.{Peer, mutex_in, leased_run}
 use Rattle.ro_peer.specs.Gets.{Get, asker, got_in, voted}
 use Rattle.ro_peer.specs.Events.{without_own}
 use Rattle.ro_legal.specs.Sides.{Parking, Side, opening_side, peer_with, is_ahead}
-use Rattle.ro_legal.specs.Core.{Job, Core, is_going, is_lease, is_out, may_vote, may_free, views_of}
+use Rattle.ro_legal.specs.Core.{Job, Core, is_lease, is_out, may_vote, may_free, views_of}
 use Rattle.ro_legal.specs.Core.{opening_core as opening_voted}
 use Rattle.ro_legal.specs.Event.{Event}
 use Rattle.ro_legal.specs.Streaks.{after_event}

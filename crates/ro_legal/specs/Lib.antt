@@ -11,3 +11,6 @@ pub mod Turns
 pub mod Sound
 pub mod Laws
 pub mod Cooperative
+pub mod Lent
+pub mod Kept
+pub mod Choices

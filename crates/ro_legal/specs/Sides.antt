@@ -1,4 +1,5 @@
 -- What a replica has beside in a cooperative run, where it answers the calls on some mutexes by itself.
+pub use Rattle.ro_legal.specs.declared.parkings.Parking.{Parking}
 use Rattle.std.specs.Prelude.{ℕ, ◌+◌, Bool, false, ◌==◌, nat_le, if◌then◌else◌, List, [], ◌∷◌, Option, None, slice_get}
 use Rattle.std.specs.List.{list_any}
 use Rattle.std.specs.Option.{option_map_or}
@@ -6,12 +7,6 @@ use Rattle.ro_replica.specs.Replica.{Replica}
 use Rattle.ro_peer.specs.declared.mutexes.Mutex.{Mutex}
 use Rattle.ro_peer.specs.Peers.{Peer, mutex_in}
 use Rattle.ro_peer.specs.Gets.{Get}
-
--- where a thread came back at a lock
-pub record Parking : Type 0 where
-  pub mutex : ℕ  -- the mutex's address
-  pub rank : ℕ  -- how often it had been got in the replica
-  pub asked : Bool  -- it was free there
 
 pub record Side : Type 0 where
   pub mutexes : List Mutex  -- those whose calls it answers, in the order in which they became cooperative

@@ -8,7 +8,7 @@ ghost use Rattle.ro_thread.specs.declared.Thread.{Thread};
 ghost use Rattle.ro_replica.specs.Replica.{Replica, stop_of};
 ghost use Rattle.ro_replica.specs.Runs.{RanTo, run_of};
 ghost use Rattle.ro_journal.specs.declared.Entry.{Entry};
-ghost use Rattle.ro_journal.specs.declared.Entry.TheVariants.{Put, End};
+ghost use Rattle.ro_journal.specs.declared.Entry.TheVariants.{Put, Part, End};
 ghost use Rattle.ro_journal.specs.declared.How.{How};
 ghost use Rattle.ro_legal.specs.declared.actions.Action.TheVariants as act;
 ghost use Rattle.ro_journal.specs.declared.Lease.{Lease};
@@ -18,6 +18,10 @@ ghost use Rattle.ro_legal.specs.Streaks.{AreOfThread, votes_in, streak_of};
 ghost use Rattle.ro_legal.specs.Action.{threads_made, next_action, EachIsNext};
 ghost use Rattle.ro_legal.specs.Laws.{NothingFor, NotLendable, Names, HasLease, thread_in, Answers, LeavesBlocked, LetsGoOn, hits, has_come};
 ghost use Rattle.ro_legal.specs.Turns.{TakesTurns};
+ghost use Rattle.ro_legal.specs.Cooperative.{Legal as LegalTogether, replay as replay_together};
+ghost use Rattle.ro_legal.specs.Kept.{KeepsReplicas, KeepsMutexes, HasPeer, NoFurtherAhead};
+ghost use Rattle.ro_kernel.specs.Kernel.{Kernel};
+ghost use Rattle.ro_peer.specs.Peers.{Peer};
 
 /// Nothing follows an end.
 pub fn end_is_last()
@@ -107,4 +111,29 @@ pub fn streaks_are_counted()
 pub fn others_come_first()
     ensures vote { (job : Job) (before row : List Entry) (thread : ℕ) → Legal job (before ++ row) → AreOfThread thread row → 64 ≤ votes_in row → next_action job (replay job (before ++ row)) ≡ act.Vote thread → (other : ℕ) → other ≢ thread → other < threads_made (replay job (before ++ row)) → NothingFor job (replay job (before ++ row)) other }
     ensures lend { (job : Job) (before row : List Entry) (thread : ℕ) → Legal job (before ++ row) → AreOfThread thread row → 64 ≤ votes_in row → (replica : ℕ) → next_action job (replay job (before ++ row)) ≡ act.Lend replica thread → (other : ℕ) → other ≢ thread → other < threads_made (replay job (before ++ row)) → NotLendable (replay job (before ++ row)) other }
+{}
+
+/// What every legal cooperative journal of a run without faults keeps of the replicas, the kernel and the counts.
+pub fn cooperative_journals_keep_replicas()
+    ensures { (job : Job) (journal : List Entry) → job.faults ≡ [] → LegalTogether job journal → KeepsReplicas job (replay_together job journal) }
+{}
+
+/// What every legal cooperative journal keeps of the mutexes that replicas answer for.
+pub fn cooperative_journals_keep_mutexes()
+    ensures { (job : Job) (journal : List Entry) → LegalTogether job journal → KeepsMutexes job (replay_together job journal) }
+{}
+
+/// A lease of a cooperative run lasts: an entry that doesn't name its driver leaves it out, and its peer and the kernel as they
+/// were.
+pub fn cooperative_leases_last()
+    ensures lasts { (job : Job) (journal : List Entry) (entry : Entry) → job.faults ≡ [] → LegalTogether job (journal ++ entry ∷ []) → (driver by : ℕ) → Names by entry → by ≢ driver → (lease : Lease) (kernel : Kernel) (peer : Peer) → HasPeer (replay_together job journal) driver lease kernel peer → HasPeer (replay_together job (journal ++ entry ∷ [])) driver lease kernel peer }
+    ensures ranks { (job : Job) (journal : List Entry) (entry : Entry) → LegalTogether job (journal ++ entry ∷ []) → NoFurtherAhead (replay_together job journal).sides (replay_together job (journal ++ entry ∷ [])).sides }
+{}
+
+/// A driver of a cooperative run holds one lease at the most: where its lease came back it holds none. Where no driver holds
+/// one, nothing is lent.
+pub fn cooperative_leases_come_back()
+    ensures put { (job : Job) (journal : List Entry) (lease : Lease) (count hit : ℕ) → LegalTogether job (journal ++ Put lease count hit ∷ []) → is_idle (replay_together job (journal ++ Put lease count hit ∷ [])) lease.driver ≡ true }
+    ensures part { (job : Job) (journal : List Entry) (lease : Lease) (count hit : ℕ) → LegalTogether job (journal ++ Part lease count hit ∷ []) → is_idle (replay_together job (journal ++ Part lease count hit ∷ [])) lease.driver ≡ true }
+    ensures idle { (job : Job) (journal : List Entry) → LegalTogether job journal → ((driver : ℕ) → driver < job.settings.drivers → is_idle (replay_together job journal) driver ≡ true) → (replay_together job journal).leases ≡ [] }
 {}

@@ -16,6 +16,7 @@ use Rattle.ro_settings.specs.Ranges.{InRange}
 use Rattle.ro_legal.specs.Streaks.{no_streak}
 use Rattle.ro_legal.specs.Core.{Job, Core, opening_replicas, opening_core}
 use Rattle.ro_legal.specs.Legal.{Legal, replay}
+use Rattle.ro_legal.proofs.Lowest.{lowest-never}
 use Rattle.ro_core.specs.Fields.{Seated, AreSeated, one_end, Fields, blocked_at, is_unblocked, first_unblocked, Holds}
 use Rattle.ro_core.specs.Grouped.{AreGrouped}
 use Rattle.ro_core.specs.Opening.{IsFirst, AreFirst, NoneStands}
@@ -23,7 +24,6 @@ use Rattle.ro_legal.proofs.Lists.{get-within, get-append-cases}
 use Rattle.ro_legal.proofs.Ordered.{length-opening, get-opening}
 use Rattle.ro_core.proofs.Grouped.{opening-grouped}
 use Rattle.ro_core.proofs.Held.{no-views}
-use Rattle.ro_core.proofs.Tests.{lowest-never}
 
 pub first-push : (image : Image) (faults : List Fault) (watchdog : ℕ) (seats : List (Option ReplicaOf)) (seat : Option ReplicaOf) → AreFirst image faults watchdog seats → IsFirst image faults watchdog (length seats) seat → AreFirst image faults watchdog (seats ++ seat ∷ [])
 first-push image faults watchdog seats seat h first number other e = by (get-append-cases seats seat number other e)

@@ -11,14 +11,14 @@ use Rattle.ro_kernel.specs.Serve.{serve}
 use Rattle.ro_plain.specs.Machine.{setup_of}
 use Rattle.ro_replica.specs.Replica.{Replica}
 use Rattle.ro_core.specs.declared.cores.Core.{Core as Run}
-use Rattle.ro_core.specs.declared.events.Event.{Event as Happening}
+use Rattle.ro_serving.specs.declared.events.Event.{Event as Happening}
 use Rattle.ro_legal.specs.Core.{Job, Core, is_going, may_free}
 use Rattle.ro_legal.specs.Event.{Event, call_event, core_after}
 use Rattle.ro_legal.specs.Legal.{core_after_event, after, MayFree, MayEnd, for_free, EndsFree}
 use Rattle.ro_core.specs.Fields.{AreSpared, Fields, blocked_at, core_in, Holds}
 use Rattle.ro_core.specs.Grouped.{AreMade}
 use Rattle.ro_core.specs.Seated.{Stands}
-use Rattle.ro_core.specs.Happening.{event_by, ComesOf, of_blocked, LeavesWaiting}
+use Rattle.ro_serving.specs.Happening.{event_by, ComesOf, of_blocked, LeavesWaiting}
 use Rattle.ro_core.specs.Runs.{IsAmid, MakesRoom, CanOccur}
 use Rattle.ro_legal.proofs.FaultStops.{fault-stops}
 use Rattle.ro_core.proofs.Held.{Goes, goes}

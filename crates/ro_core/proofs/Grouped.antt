@@ -25,12 +25,12 @@ use Rattle.ro_core.specs.Fields.{AreHome}
 use Rattle.ro_core.specs.Grouped.{AreGrouped, AreMade, seat_stopped, Returns, CopiesRow, Copies, Releases, SettlesSeat, Settles}
 use Rattle.ro_legal.specs.Sound.{BacksNone, FaultsWait}
 use Rattle.ro_core.specs.Opening.{NoneStands}
-use Rattle.ro_legal.proofs.Lists.{MappedFrom, get-map, length-mapped, get-set-same}
+use Rattle.ro_legal.proofs.Lists.{MappedFrom, get-map, length-mapped, get-set-same, changed-other}
 use Rattle.ro_legal.proofs.Copies.{length-copy, still-there, recovered-threads, AfterCopy, not_lost, is_copy, after-copy}
 use Rattle.ro_legal.proofs.Ordered.{length-opening, get-opening}
 use Rattle.ro_legal.proofs.FaultStops.{none-settled}
 use Rattle.ro_legal.proofs.Stops.{past-none, copied-stop, applied-other, applied-own, settled-stop}
-use Rattle.ro_legal.proofs.Grants.{LentGo, LentThread, lent-thread, lent-meets, changed-other}
+use Rattle.ro_legal.proofs.Grants.{LentGo, LentThread, lent-thread, lent-meets}
 
 -- ---- a thread that stands still in every replica
 

@@ -7,6 +7,8 @@ use Rattle.ro_journal.specs.declared.Entry.TheVariants.{End}
 use Rattle.ro_journal.specs.Plan.{outcome_of}
 use Rattle.ro_event.specs.Views.{View}
 use Rattle.ro_settings.specs.Ranges.{InRange}
+use Rattle.ro_kernel.specs.Kernel.{Kernel}
+use Rattle.ro_kernel.specs.Mapped.{IsMapped}
 use Rattle.ro_kernel.specs.State.{State}
 use Rattle.ro_plain.specs.Machine.{setup_of}
 use Rattle.ro_legal.specs.Core.{Job, Core, is_going}
@@ -17,6 +19,7 @@ use Rattle.ro_group.specs.Groups.{Groups}
 use Rattle.ro_legal.specs.declared.actions.Streak.{Streak}
 use Rattle.ro_core.specs.Fields.{AreSeated, one_end, Fields, core_in, blocked_at, first_unblocked, OthersSleep, DoOthersSleep, CountsBytes, Holds}
 use Rattle.ro_core.specs.Grouped.{AreGrouped}
+use Rattle.ro_legal.proofs.Mapped.{stays-mapped}
 use Rattle.ro_legal.proofs.Journals.{outcome_of-append, replay_more, legal_more}
 use Rattle.ro_legal.proofs.Ordered.{going-parts}
 use Rattle.ro_legal.proofs.Outcomes.{ended_is_outcome}
@@ -143,3 +146,7 @@ limit-keeps f h still steps next =
 -- what holds of the core that was opened holds of the one that was given
 pub with-old : (R : CoreOf → CoreOf → Type 0) {inside old new : CoreOf} → inside ≡ old → R inside new → R old new
 with-old R {inside} {old} {new} is r = subst (λ (v : CoreOf). R v new) is r
+
+-- the ranges that the kernel gave lie where they may
+pub holds-mapped : (f : Fields) → Holds f → IsMapped f.kernel.kernel.given
+holds-mapped f h = subst (λ (k : Kernel). IsMapped k.given) (sym h.kernel_is) (stays-mapped f.job f.journal)

@@ -15,7 +15,7 @@ use Rattle.ro_legal.specs.Legal.{replay, output_of}
 use Rattle.ro_legal.specs.Sound.{IsOrdered}
 use Rattle.ro_core.specs.Fields.{Fields, core_in, blocked_at, first_unblocked, OthersSleep, AreHome, CanTake, Holds}
 use Rattle.ro_core.specs.Grouped.{AreGrouped}
-use Rattle.ro_core.specs.Happening.{event_by}
+use Rattle.ro_serving.specs.Happening.{event_by}
 use Rattle.ro_core.specs.Runs.{job_of, payload_by, LastWrote, Occurrence, CanOccur}
 use Rattle.ro_legal.proofs.Journals.{replay_more, legal_more}
 use Rattle.ro_core.proofs.Held.{Goes, goes}

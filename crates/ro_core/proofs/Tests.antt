@@ -1,5 +1,5 @@
 -- What the core's tests say, from its fields.
-use Rattle.std.proofs.Common.{◌≡◌, ℕ, zero, suc, ◌+◌, ◌-◌, ◌<◌, Bool, true, false, true≢false, not, cond, ◌&&◌, ◌||◌, List, [], ◌∷◌, length, Option, Some, None, refl, sym, ap, ◌∙◌, subst, arith, inl, inr}
+use Rattle.std.proofs.Common.{◌≡◌, ℕ, zero, suc, ◌<◌, Bool, true, false, true≢false, not, ◌&&◌, List, [], ◌∷◌, length, Option, Some, None, refl, sym, ap, ◌∙◌, subst, arith, inl, inr}
 use Rattle.std.specs.Prelude.{IsSome, ◌==◌, is_none, is_some, slice_get, slice_index_or}
 use Rattle.std.proofs.lemmas.Bool.{and_from, and_parts, and_left, and_right, eqb-true, eq-eqb, ne_eqb}
 use Rattle.std.proofs.lemmas.Option.{slice_get-get_or, slice_get_within}
@@ -15,10 +15,9 @@ use Rattle.ro_plain.specs.Machine.{setup_of}
 use Rattle.ro_replica.specs.Replica.{Replica, stop_of}
 use Rattle.ro_replica.specs.Views.{is_unstopped}
 use Rattle.ro_replica.specs.Seen.{ReplicaOf, replica_of}
-use Rattle.ro_legal.specs.declared.actions.Action.TheVariants.{Lend, Vote as DoVote}
+use Rattle.ro_legal.specs.declared.actions.Action.TheVariants.{Vote as DoVote}
 use Rattle.ro_journal.specs.declared.Lease.{Lease}
 use Rattle.ro_legal.specs.Core.{Job, Core, is_going, nothing_lent, is_home, is_awake, is_lendable, may_vote, may_free}
-use Rattle.ro_legal.specs.Legal.{any_below}
 use Rattle.ro_legal.specs.declared.actions.Streak.{Streak}
 use Rattle.ro_legal.specs.Streaks.{is_long, comes_last}
 use Rattle.ro_legal.specs.Action.{or_else, lowest_below, map_action, threads_made, is_turn, may_vote_in, may_lend_in, lend_in, lend_turn, turn_next}
@@ -29,47 +28,14 @@ use Rattle.ro_group.specs.Groups.{is_ready}
 use Rattle.ro_core.proofs.Grouped.{ready-all}
 use Rattle.ro_legal.proofs.Leases.{lendable-awake, asleep-unlent, awake-lendable}
 use Rattle.ro_legal.proofs.Ordered.{ordered, vote-parts}
+use Rattle.ro_legal.proofs.Lowest.{lowest-found, lowest-none, lowest-never, lowest-same, lend-test, lends-none}
 use Rattle.ro_core.proofs.Sitting.{home-count}
 
 told : (b : Bool) → not b ≡ false → b ≡ true
 told true e = refl
 told false e = absurd (true≢false e)
 
--- ---- the lowest number that passes
-
-pub lowest-more : (test : ℕ → Bool) (n : ℕ) → lowest_below n test ≡ None → test n ≡ false → lowest_below (n + 1) test ≡ None
-lowest-more test n none fails =
-    let e : n + 1 ≡ suc n = omega arith in
-    ap (λ (k : ℕ). lowest_below k test) e ∙ ap (λ (o : Option ℕ). or_else o (cond (test n) (Some n) None)) none ∙ ap (λ (b : Bool). cond b (Some n) None) fails
-
-stays-found : (test : ℕ → Bool) (n m k : ℕ) → lowest_below n test ≡ Some k → lowest_below (n + m) test ≡ Some k
-stays-found test n zero k e = ap (λ (j : ℕ). lowest_below j test) (let z : n + 0 ≡ n = omega arith in z) ∙ e
-stays-found test n (suc m) k e =
-    let s : n + suc m ≡ suc (n + m) = omega arith in
-    ap (λ (j : ℕ). lowest_below j test) s ∙ ap (λ (o : Option ℕ). or_else o (cond (test (n + m)) (Some (n + m)) None)) (stays-found test n m k e)
-
-pub lowest-found : (test : ℕ → Bool) (n most : ℕ) → n < most → lowest_below n test ≡ None → test n ≡ true → lowest_below most test ≡ Some n
-lowest-found test n most less none passes =
-    let here : lowest_below (suc n) test ≡ Some n = ap (λ (o : Option ℕ). or_else o (cond (test n) (Some n) None)) none ∙ ap (λ (b : Bool). cond b (Some n) None) passes in
-    let far = stays-found test (suc n) (most - suc n) n here in
-    ap (λ (j : ℕ). lowest_below j test) (let e : most ≡ suc n + (most - suc n) = omega arith in e) ∙ far
-
--- none of the numbers below n passes
-lowest-none : (test : ℕ → Bool) (n : ℕ) → ((k : ℕ) → k < n → test k ≡ false) → lowest_below n test ≡ None
-lowest-none test zero fails = refl
-lowest-none test (suc n) fails =
-    ap (λ (o : Option ℕ). or_else o (cond (test n) (Some n) None)) (lowest-none test n (λ k less. fails k (omega arith))) ∙ ap (λ (b : Bool). cond b (Some n) None) (fails n (omega arith))
-
-pub lowest-never : (test : ℕ → Bool) (n : ℕ) → ((k : ℕ) → test k ≡ false) → lowest_below n test ≡ None
-lowest-never test zero never = refl
-lowest-never test (suc n) never =
-    ap (λ (o : Option ℕ). or_else o (cond (test n) (Some n) None)) (lowest-never test n never) ∙ ap (λ (b : Bool). cond b (Some n) None) (never n)
-
--- of two tests that pass the same numbers
-pub lowest-same : (test other : ℕ → Bool) (n : ℕ) → ((k : ℕ) → test k ≡ other k) → lowest_below n test ≡ lowest_below n other
-lowest-same test other zero same = refl
-lowest-same test other (suc n) same =
-    ap (λ (o : Option ℕ). or_else o (cond (test n) (Some n) None)) (lowest-same test other n same) ∙ ap (λ (b : Bool). or_else (lowest_below n other) (cond b (Some n) None)) (same n)
+-- ---- a core that is busy
 
 -- a core that does not go on, or has lent something, frees nobody, and votes on nobody
 pub none-freed : (job : Job) (core : Core) (n : ℕ) → (is_going core && nothing_lent core) ≡ false → lowest_below n (may_free job core) ≡ None
@@ -79,16 +45,6 @@ none-freed job core n busy =
 pub none-voted : (core : Core) (last : Bool) (n : ℕ) → (is_going core && nothing_lent core) ≡ false → lowest_below n (may_vote_in core last) ≡ None
 none-voted core last n busy =
     lowest-never (may_vote_in core last) n (λ k. and_right (is_turn core last k) (may_vote core k) (ap (λ (b : Bool). b && lives_on core.kernel k && is_none (core.blocked k) && list_all (λ replica. is_some (stop_of replica k)) core.replicas) busy))
-
--- a number that any passes
-pub any-lowest : (test : ℕ → Bool) (n : ℕ) → any_below n test ≡ is_some (lowest_below n test)
-any-lowest test zero = refl
-any-lowest test (suc n) = by (lowest_below n test) (test n) (any-lowest test n)
-  where
-    by : (o : Option ℕ) (b : Bool) → any_below n test ≡ is_some o → (any_below n test || b) ≡ is_some (or_else o (cond b (Some n) None))
-    by None true e = ap (λ (a : Bool). a || true) e
-    by None false e = ap (λ (a : Bool). a || false) e
-    by (Some k) b e = ap (λ (a : Bool). a || b) e
 
 -- ---- seats
 
@@ -265,22 +221,6 @@ module _ (f : Fields) (h : Holds f) where
   -- there are as many replicas as settings say
   pub count-is : length (core_in f).replicas ≡ f.job.settings.replicas
   count-is = (ordered f.job f.journal h.legal).replica_count
-
--- ---- what is lent next
-
-abbrev pub lend-test : Core → (last : Bool) → (replica : ℕ) → Bool
-lend-test core last replica = any_below (threads_made core) (may_lend_in core last replica)
-
-pub lends-none : (core : Core) (last : Bool) (replica : ℕ) → lowest_below (threads_made core) (may_lend_in core last replica) ≡ None → lend-test core last replica ≡ false
-lends-none core last replica e = any-lowest (may_lend_in core last replica) (threads_made core) ∙ ap is_some e
-
-pub lends-found : (core : Core) (last : Bool) (replica thread : ℕ) → replica < length core.replicas → lowest_below replica (lend-test core last) ≡ None → lowest_below (threads_made core) (may_lend_in core last replica) ≡ Some thread → lend_turn core last ≡ Some (Lend replica thread)
-lends-found core last replica thread less none found =
-    ap (lend_in core last) (lowest-found (lend-test core last) replica (length core.replicas) less none (any-lowest (may_lend_in core last replica) (threads_made core) ∙ ap is_some found))
-    ∙ ap (map_action (λ (t : ℕ). Lend replica t)) found
-
-pub lends-nothing : (core : Core) (last : Bool) (count : ℕ) → count ≡ length core.replicas → lowest_below count (lend-test core last) ≡ None → lend_turn core last ≡ None
-lends-nothing core last count same none = ap (lend_in core last) (ap (λ (n : ℕ). lowest_below n (lend-test core last)) (sym same) ∙ none)
 
 -- ---- the thread that comes last
 

@@ -32,14 +32,14 @@ use Rattle.ro_plain.specs.Machine.{setup_of}
 use Rattle.ro_replica.specs.Replica.{Replica, applied, cancelled, stop_of}
 use Rattle.ro_replica.specs.Seen.{ReplicaOf, replica_of}
 use Rattle.ro_core.specs.declared.cores.Core.{Core as Run}
-use Rattle.ro_core.specs.declared.events.Event.{Event as Happening}
+use Rattle.ro_serving.specs.declared.events.Event.{Event as Happening}
 use Rattle.ro_legal.specs.Core.{Job, Core, is_going, may_vote, views_of}
 use Rattle.ro_legal.specs.Event.{Event, call_event, event_of, with_recovered, all_applied, core_after}
 use Rattle.ro_legal.specs.Legal.{event_in, core_after_event, after, MayVote, PassesLimit, MayEnd, for_vote, Legal, replay}
 use Rattle.ro_core.specs.Seen.{IsOfMajority, KeepsViews}
 use Rattle.ro_legal.specs.Sound.{IsFault}
 use Rattle.ro_core.specs.Fields.{one_end, blocked_at, AreSeated, AreHome, AreSpared, IsSeat, AreAllTwins, AreLosers, Fields, core_in, Holds}
-use Rattle.ro_core.specs.Happening.{event_by, ComesOf, of_stop, of_blocked, LeavesWaiting}
+use Rattle.ro_serving.specs.Happening.{event_by, ComesOf, of_stop, of_blocked, LeavesWaiting}
 use Rattle.ro_core.specs.Runs.{fields_of, job_of, IsHeld, IsAmid, MakesRoom, CanOccur, payload_by}
 use Rattle.ro_core.specs.Grouped.{AreGrouped, AreMade}
 use Rattle.ro_core.specs.Seated.{Stands}

@@ -1,6 +1,5 @@
 //! Questions to a core: what may be done, what would end the run, and what holds. None of them changes it.
-ghost use Rattle.std.specs.Prelude.{◌≡◌, ◌<◌, ◌≤◌, ◌↔◌, ◌==◌, IfSome, IsSome, IsTrue, Some, length, slice_get, true};
-ghost use Rattle.std.specs.List.{list_any};
+ghost use Rattle.std.specs.Prelude.{◌≡◌, ◌<◌, ◌≤◌, ◌↔◌, IfSome, IsSome, IsTrue, Some, length, slice_get, true};
 ghost use Rattle.ro_journal.specs.declared.How.{How as HowSeen};
 ghost use Rattle.ro_replica.specs.Seen.{replica_of};
 ghost use Rattle.ro_legal.specs.Core.{is_going, is_home, is_lendable, may_vote, may_free};
@@ -10,12 +9,13 @@ ghost use Rattle.ro_core.specs.Fields.{Holds};
 ghost use Rattle.ro_core.specs.Runs.{fields_of, job_of, state_of, silent, IsHeld};
 
 use crate::cores::Core;
-use crate::events::Coming;
 use crate::scrubbing::prevailing;
 use crate::voting::split_of;
 use ro_journal::{How, Lease};
 use ro_kernel::Kernel;
+use ro_legal::has_lease;
 use ro_replica::ReplicaBox;
+use ro_serving::Coming;
 use ro_vote::{Won, verdict};
 
 impl Core {
@@ -139,11 +139,4 @@ impl Core {
     {
         self.seats.homes.get(number as usize)?.as_ref()
     }
-}
-
-// Whether a driver holds one of these leases.
-fn has_lease(leases: &[Lease], driver: u32) -> bool
-    ensures { result ≡ list_any (λ lease. lease.driver == driver) leases.now }
-{
-    leases.iter().any(|lease| lease.driver == driver)
 }

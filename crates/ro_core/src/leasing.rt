@@ -1,8 +1,6 @@
 //! Leases: a replica's thread goes out to a driver, and comes back.
-ghost use Rattle.std.specs.Prelude.{◌≡◌, ◌<◌, ◌==◌, ◌∷◌, [], OnOk, vec_len, vec_capacity, not, true};
-ghost use Rattle.std.specs.List.{filter, find};
+ghost use Rattle.std.specs.Prelude.{◌≡◌, OnOk};
 ghost use Rattle.ro_journal.specs.declared.Entry.TheVariants.{Take};
-ghost use Rattle.ro_legal.specs.Core.{is_lease};
 ghost use Rattle.ro_legal.specs.Legal.{IsAllowed, output_of};
 ghost use Rattle.ro_core.specs.Seen.{Appends, Stays, HasRoom, IsLent, MayReturn, ReturnIs};
 ghost use Rattle.ro_core.specs.Fields.{Holds};
@@ -10,6 +8,7 @@ ghost use Rattle.ro_core.specs.Runs.{fields_of, job_of, state_of, silent};
 
 use crate::cores::Core;
 use ro_journal::{Entry, Lease};
+use ro_legal::{forget_lease, lease_of, note_lease};
 use ro_replica::ReplicaBox;
 use std::alloc::AllocError;
 
@@ -41,7 +40,7 @@ impl Core {
         ensures ended { (fields_of self.new).ended ≡ (fields_of self.old).ended }
     {
         self.journal.push_reserved(Entry::Take(lease));
-        lend(&mut self.leases, lease);
+        note_lease(&mut self.leases, lease);
         self.wrote = 0;
         self.seats.leave(lease.replica)
     }
@@ -60,55 +59,7 @@ impl Core {
         };
         self.journal.push_reserved(Entry::Put { lease, count, hit });
         self.wrote = 0;
-        give_back(&mut self.leases, lease);
+        forget_lease(&mut self.leases, lease);
         self.seats.come_home(lease.replica, lease.thread, lent);
     }
-}
-
-// Notes a lease; there is room for it.
-fn lend(leases: &mut Vec<Lease>, lease: Lease)
-    requires { vec_len leases.old < vec_capacity leases.old }
-    ensures items { leases.new.items ≡ lease ∷ leases.old.items }
-{
-    if leases.is_empty() {
-        leases.push_reserved(lease);
-    } else {
-        leases.insert(0, lease).unwrap();
-    }
-}
-
-// The lease that a driver holds.
-fn lease_of(leases: &[Lease], driver: u32) -> Option<Lease>
-    ensures { result ≡ find (λ lease. lease.driver == driver) leases.now }
-{
-    for lease in leases {
-        if lease.driver == driver {
-            return Some(*lease);
-        }
-    }
-    None
-}
-
-// Forgets a lease.
-fn give_back(leases: &mut Vec<Lease>, lease: Lease)
-    ensures items { leases.new.items ≡ filter (λ other. not (is_lease lease other)) leases.old.items }
-{
-    if is_alone(leases.as_slice(), &lease) {
-        leases.clear();
-    } else {
-        leases.retain(|other| is_another(other, &lease));
-    }
-}
-
-// Whether there is no other lease than this one.
-fn is_alone(leases: &[Lease], lease: &Lease) -> bool
-    ensures { result ≡ true → filter (λ other. not (is_lease lease.now other)) leases.now ≡ [] }
-{
-    leases.len() == 1 && !is_another(&leases[0], lease)
-}
-
-fn is_another(lease: &Lease, gone: &Lease) -> bool
-    ensures { result ≡ not (is_lease gone.now lease.now) }
-{
-    !(lease.driver == gone.driver && lease.replica == gone.replica && lease.thread == gone.thread)
 }

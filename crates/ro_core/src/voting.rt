@@ -10,9 +10,9 @@ ghost use Rattle.ro_core.specs.Runs.{fields_of, job_of, state_of, silent, payloa
 
 use crate::choosing::{do_others_sleep, unblocked_behind};
 use crate::cores::Core;
-use crate::events::{Coming, Event, serve};
 use ro_event::Call;
 use ro_journal::{Entry, How};
+use ro_serving::{Coming, Event, serve};
 use ro_vote::{Won, verdict};
 use std::alloc::AllocError;
 

@@ -1,6 +1,6 @@
 use Rattle.std.proofs.Common.{◌<◌, length, sym, arith}
+use Rattle.ro_legal.proofs.Lowest.{lowest-found}
 use Rattle.ro_core.specs.Fields.{is_unblocked}
-use Rattle.ro_core.proofs.Tests.{lowest-found}
 use Rattle.ro_core.proofs.choosing.lowest_unblocked.Goals as goal
 
 pub returns-then-goes_on : goal.returns-then-goes_on

@@ -1,4 +1,5 @@
-use Rattle.ro_core.proofs.Occurs.{holds-mapped, nothing-out}
+use Rattle.ro_core.proofs.Held.{holds-mapped}
+use Rattle.ro_serving.proofs.Occurs.{nothing-out}
 use Rattle.std.proofs.Common.{◌≡◌, ◌++◌, ◌∷◌, [], List, Option, refl, sym, ap, ◌∙◌, subst, arith, append-nil}
 use Rattle.ro_event.specs.declared.calls.Call.{Call}
 use Rattle.ro_journal.specs.declared.Entry.{Entry}

@@ -1,4 +1,4 @@
-use Rattle.ro_core.proofs.Occurs.{holds-mapped}
+use Rattle.ro_core.proofs.Held.{holds-mapped}
 use Rattle.std.proofs.Common.{◌≡◌, ◌+◌, ◌<◌, ◌++◌, ◌∷◌, [], ℕ, List, Option, length, refl, sym, ap, ◌∙◌, subst, arith}
 use Rattle.std.specs.Prelude.{◌⊎◌, IfSome, slice_get}
 use Rattle.ro_journal.specs.declared.How.TheVariants.{Limit}
@@ -15,7 +15,7 @@ use Rattle.ro_core.specs.Seen.{Appends, IsOfMajority}
 use Rattle.ro_legal.specs.Decides.{DecidesVote}
 use Rattle.ro_core.specs.Fields.{Fields, core_in}
 use Rattle.ro_core.specs.Grouped.{AreMade}
-use Rattle.ro_core.specs.Happening.{IsCause}
+use Rattle.ro_serving.specs.Happening.{IsCause}
 use Rattle.ro_core.specs.Runs.{fields_of, job_of, state_of, payload_by, silent, CanOccur, LastWrote}
 use Rattle.ro_core.proofs.Concludes.{ended-wrote}
 use Rattle.ro_core.proofs.Held.{limit-keeps}

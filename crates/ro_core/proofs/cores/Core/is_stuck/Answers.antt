@@ -1,7 +1,7 @@
 use Rattle.std.proofs.Common.{true, ap, ◌∙◌}
 use Rattle.std.specs.Prelude.{is_none}
+use Rattle.ro_legal.proofs.Lowest.{stuck-by-first, none-by-some}
 use Rattle.ro_core.specs.Runs.{job_of, state_of}
-use Rattle.ro_core.proofs.Asked.{stuck-by-first, none-by-some}
 use Rattle.ro_core.proofs.cores.Core.is_stuck.Goals as goal
 
 pub returns-then-is_idle : goal.returns-then-is_idle

@@ -2,8 +2,9 @@ use Rattle.std.proofs.Common.{◌≡◌, ◌<◌, true, Some, length, sym, ap, �
 use Rattle.ro_legal.specs.declared.actions.Action.TheVariants.{Lend}
 use Rattle.ro_legal.specs.Core.{is_lendable}
 use Rattle.ro_legal.specs.Action.{lowest_below}
+use Rattle.ro_legal.proofs.Lowest.{lowest-more, lend-test, lends-found, lends-nothing}
 use Rattle.ro_core.specs.Runs.{fields_of, state_of}
-use Rattle.ro_core.proofs.Tests.{lowest-more, lend-test, lends-found, lends-nothing, count-is, streak-is, last-lent, last-unlent, lent-made}
+use Rattle.ro_core.proofs.Tests.{count-is, streak-is, last-lent, last-unlent, lent-made}
 use Rattle.ro_core.proofs.cores.Core.lease_of_last.Goals as goal
 
 pub is_lendable-requires-clause-replica : goal.is_lendable-requires-clause-replica

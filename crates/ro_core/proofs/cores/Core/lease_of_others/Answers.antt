@@ -1,7 +1,8 @@
 use Rattle.std.proofs.Common.{◌≡◌, false, sym, ap, ◌∙◌, arith}
 use Rattle.ro_legal.specs.Action.{lowest_below}
+use Rattle.ro_legal.proofs.Lowest.{lowest-more, lend-test, lends-none, lends-found, lends-nothing}
 use Rattle.ro_core.specs.Runs.{fields_of, state_of}
-use Rattle.ro_core.proofs.Tests.{lowest-more, lend-test, lends-none, lends-found, lends-nothing, count-is}
+use Rattle.ro_core.proofs.Tests.{count-is}
 use Rattle.ro_core.proofs.cores.Core.lease_of_others.Goals as goal
 
 pub lowest_lendable-requires-clause-replica : goal.lowest_lendable-requires-clause-replica

@@ -1,8 +1,9 @@
 use Rattle.std.proofs.Common.{◌<◌, false, sym, arith}
 use Rattle.std.proofs.lemmas.Bool.{and_from}
 use Rattle.ro_legal.specs.Action.{threads_made, may_lend_in}
+use Rattle.ro_legal.proofs.Lowest.{lowest-found}
 use Rattle.ro_core.specs.Runs.{fields_of, state_of}
-use Rattle.ro_core.proofs.Tests.{turn-of, lowest-found, made-is}
+use Rattle.ro_core.proofs.Tests.{turn-of, made-is}
 use Rattle.ro_core.proofs.cores.Core.lowest_lendable.Goals as goal
 
 pub returns-then-is_lendable : goal.returns-then-is_lendable

@@ -1,8 +1,9 @@
 use Rattle.std.proofs.Common.{◌<◌, false, sym, arith}
 use Rattle.std.proofs.lemmas.Bool.{and_from}
 use Rattle.ro_legal.specs.Action.{may_vote_in, threads_made}
+use Rattle.ro_legal.proofs.Lowest.{lowest-found}
 use Rattle.ro_core.specs.Runs.{fields_of, state_of}
-use Rattle.ro_core.proofs.Tests.{turn-of, lowest-found, made-is, none-voted}
+use Rattle.ro_core.proofs.Tests.{turn-of, made-is, none-voted}
 use Rattle.ro_core.proofs.cores.Core.lowest_to_vote.Goals as goal
 
 pub returns-then-can_vote : goal.returns-then-can_vote

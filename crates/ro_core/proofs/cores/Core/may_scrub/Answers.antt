@@ -1,7 +1,8 @@
 use Rattle.std.proofs.Common.{true, ap, ◌∙◌}
 use Rattle.std.specs.Prelude.{is_none}
+use Rattle.ro_legal.proofs.Lowest.{none-by-some}
 use Rattle.ro_core.specs.Runs.{state_of}
-use Rattle.ro_core.proofs.Asked.{scrub-by-lending, none-by-some}
+use Rattle.ro_core.proofs.Asked.{scrub-by-lending}
 use Rattle.ro_core.proofs.cores.Core.may_scrub.Goals as goal
 
 pub returns-then-is_idle : goal.returns-then-is_idle

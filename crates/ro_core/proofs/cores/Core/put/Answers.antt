@@ -55,7 +55,7 @@ returns-clause-holds c =
     r.became
     (record { job = refl; kernel = refl; blocked = refl; unblocked = refl; others_sleep = refl; steps = refl; scrubbed = refl; streak = refl; sent = refl; due = refl; ended = refl; views = refl }) refl
     (c.push_reserved.ensures.items ∙ ap (λ (l : Lease). f.journal ++ Put l c.args.count c.args.hit ∷ []) (sym same))
-    (c.give_back.ensures.items ∙ ap (λ (k : Lease). filter (λ (l : Lease). not (is_lease k l)) f.leases) (sym same))
+    (c.forget_lease.ensures.items ∙ ap (λ (k : Lease). filter (λ (l : Lease). not (is_lease k l)) f.leases) (sym same))
     (c.come_home.ensures.homes ∙ ap (λ (l : Lease). slice_set f.seats l.replica (Some c.args.lent)) (sym same))
     (subst (λ (l : Lease). Returns l.replica l.thread (is_some (stop_of (replica_of c.args.lent) l.thread)) f.groups c.come_home.new.self.groups) (sym same) c.come_home.ensures.groups)
     (omega (arith, room, c.push_reserved.ensures.len, c.push_reserved.ensures.capacity))

@@ -8,8 +8,8 @@ use Rattle.ro_core.proofs.cores.Core.take.Goals as goal
 pub push_reserved-requires : goal.push_reserved-requires
 push_reserved-requires c = let f = fields_of c.args.self.now in let parts = spare_parts _ f.places f.lease_places c.requires.room in omega (arith, parts.0)
 
-pub lend-requires : goal.lend-requires
-lend-requires c = let f = fields_of c.args.self.now in let parts = spare_parts _ f.places f.lease_places c.requires.room in omega (arith, parts.1)
+pub note_lease-requires : goal.note_lease-requires
+note_lease-requires c = let f = fields_of c.args.self.now in let parts = spare_parts _ f.places f.lease_places c.requires.room in omega (arith, parts.1)
 
 pub leave-requires : goal.leave-requires
 leave-requires c = take-seat (fields_of c.args.self.now) c.requires.holds c.args.lease c.requires.allowed
@@ -21,7 +21,7 @@ returns-clause-holds c =
     let parts = spare_parts _ f.places f.lease_places c.requires.room in
     let same = ap length h.leases_are in
     take-holds f h c.args.lease c.requires.allowed _ (record { job = refl; kernel = refl; blocked = refl; unblocked = refl; others_sleep = refl; steps = refl; scrubbed = refl; streak = refl; sent = refl; due = refl; ended = refl; views = refl }) refl
-    c.push_reserved.ensures.items c.lend.ensures.items c.leave.ensures.homes c.leave.ensures.groups
+    c.push_reserved.ensures.items c.note_lease.ensures.items c.leave.ensures.homes c.leave.ensures.groups
     (omega (arith, parts.0, same, c.push_reserved.ensures.len, c.push_reserved.ensures.capacity))
 
 pub returns-clause-output : goal.returns-clause-output

@@ -8,8 +8,7 @@ ghost use Rattle.ro_event.specs.declared.stops.Stop.{Stop as At};
 ghost use Rattle.ro_event.specs.declared.calls.Call.{Call as Asked};
 ghost use Rattle.ro_event.specs.declared.functions.Function.{Function as Posix};
 ghost use Rattle.ro_legal.specs.Event.{event_of, quiet_effect, call_event};
-ghost use Rattle.ro_core.specs.Fields.{outcome_with};
-ghost use Rattle.ro_core.specs.Happening.{event_by, IsCause, IsEvent, IsCallEvent, LeavesWaiting};
+ghost use Rattle.ro_serving.specs.Happening.{outcome_with, event_by, IsCause, IsEvent, IsCallEvent, LeavesWaiting};
 
 use ro_event::{Call, Effect, Stop, View, Which};
 use ro_journal::{Did, How};
@@ -18,7 +17,7 @@ use std::alloc::{AllocError, Global};
 
 /// What an event changes besides the kernel.
 #[derive(Drop)]
-pub(crate) struct Event {
+pub struct Event {
     pub did: Did,
     pub effect: Effect,
     /// The call on which the thread is blocked from now on.
@@ -33,14 +32,14 @@ pub(crate) struct Event {
 
 /// What a thread's stop and what it shows come to.
 #[derive(Clone, Copy)]
-pub(crate) struct Coming {
+pub struct Coming {
     pub did: Did,
     cause: Cause,
 }
 
 /// Where an event comes from.
 #[derive(Clone, Copy)]
-pub(crate) enum Cause {
+pub enum Cause {
     /// The kernel serves this call: as it is served, of an atomic instruction with the word that it found.
     Call(Call),
     /// The kernel stays as it is.
@@ -54,7 +53,7 @@ pub(crate) enum Cause {
 impl Coming {
     /// What comes of a thread that stands still so.
     #[tactic(auto, unfolding(ro_legal::specs::Event::event_of))]
-    pub(crate) fn of(kernel: &Kernel, thread: u32, view: &View) -> Coming
+    pub fn of(kernel: &Kernel, thread: u32, view: &View) -> Coming
         ensures did { (event_of kernel.now.setup kernel.now.kernel thread view.now.stop view.now.payload).did ≡ result.did }
         ensures cause { IsCause kernel.now.setup kernel.now.kernel thread view.now.stop view.now.payload result.did result.cause }
     {
@@ -70,7 +69,7 @@ impl Coming {
     ///
     /// # Errors
     /// Where there is no memory; the kernel is as it was.
-    pub(crate) fn happen(
+    pub fn happen(
         &self,
         alloc: Global,
         kernel: &mut Kernel,
@@ -136,7 +135,7 @@ fn quiet(did: Did, page: Option<u32>, releases: bool, due: Option<How>) -> Comin
 ///
 /// # Errors
 /// Where there is no memory; the kernel is as it was.
-pub(crate) fn serve(
+pub fn serve(
     alloc: Global,
     kernel: &mut Kernel,
     thread: u32,

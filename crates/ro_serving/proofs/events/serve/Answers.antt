@@ -4,9 +4,9 @@ use Rattle.ro_kernel.specs.declared.outcome.Served.{Served}
 use Rattle.ro_kernel.specs.Served.{Brings}
 use Rattle.ro_kernel.specs.Serve.{Served as Outcome, put_out, serve}
 use Rattle.ro_legal.specs.Event.{Event, call_event}
-use Rattle.ro_core.proofs.Occurs.{brings-outcome, brings-blocked, room-now, room-by}
-use Rattle.ro_core.proofs.Waits.{brings-leaves}
-use Rattle.ro_core.proofs.events.serve.Goals as goal
+use Rattle.ro_serving.proofs.Occurs.{brings-outcome, brings-blocked, room-now, room-by}
+use Rattle.ro_serving.proofs.Leaves.{brings-leaves}
+use Rattle.ro_serving.proofs.events.serve.Goals as goal
 
 pub returns-clause-event : goal.returns-clause-event
 returns-clause-event c payload =

@@ -5,11 +5,20 @@ use Rattle.ro_event.specs.declared.stops.Stop.{Stop}
 use Rattle.ro_event.specs.declared.stops.Stop.TheVariants.{Calls}
 use Rattle.ro_journal.specs.declared.Did.{Did}
 use Rattle.ro_kernel.specs.Kernel.{Setup, Kernel}
-use Rattle.ro_kernel.specs.Serve.{put_out, asked, serve}
-use Rattle.ro_core.specs.declared.events.Cause.{Cause}
-use Rattle.ro_core.specs.declared.events.Cause.TheVariants.{Call, Quiet}
-use Rattle.ro_core.specs.declared.events.Event.{Event as Happening}
+use Rattle.ro_kernel.specs.declared.outcome.Served.{Served}
+use Rattle.ro_kernel.specs.declared.outcome.Served.TheVariants.{Done, Parked, Blocked, Ends}
+use Rattle.ro_kernel.specs.Serve.{put_out, asked, serve, Served as Outcome, Done as DoneWith, Parked as ParkedWith, Blocked as BlockedAtAll, Ends as EndsWith}
+use Rattle.ro_serving.specs.declared.events.Cause.{Cause}
+use Rattle.ro_serving.specs.declared.events.Cause.TheVariants.{Call, Quiet}
+use Rattle.ro_serving.specs.declared.events.Event.{Event as Happening}
 use Rattle.ro_legal.specs.Event.{Event, quiet_effect, call_event, event_of}
+
+-- what comes of a call, by the code's answer and the kernel after it
+abbrev pub outcome_with : (after : Kernel) → Served → Outcome
+outcome_with after (Done effect) = DoneWith after effect
+outcome_with after Parked = ParkedWith after
+outcome_with after Blocked = BlockedAtAll
+outcome_with after (Ends how) = EndsWith after how
 
 -- the event of the code, with the kernel that it left, and what it writes
 abbrev pub event_by : Happening → Kernel → (payload : List ℕ) → Event

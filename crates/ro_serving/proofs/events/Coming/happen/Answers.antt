@@ -4,11 +4,11 @@ use Rattle.std.proofs.lemmas.Result.{IfOk-weaker}
 use Rattle.ro_event.specs.declared.calls.Call.{Call}
 use Rattle.ro_event.specs.declared.stops.Stop.{Stop}
 use Rattle.ro_kernel.specs.Serve.{put_out}
-use Rattle.ro_core.specs.declared.events.Event.{Event as Happening}
+use Rattle.ro_serving.specs.declared.events.Event.{Event as Happening}
 use Rattle.ro_legal.specs.Event.{event_of}
-use Rattle.ro_core.specs.Happening.{event_by, IsCause, IsCallEvent}
-use Rattle.ro_core.proofs.Occurs.{asked-event}
-use Rattle.ro_core.proofs.events.Coming.happen.Goals as goal
+use Rattle.ro_serving.specs.Happening.{event_by, IsCause, IsCallEvent}
+use Rattle.ro_serving.proofs.Occurs.{asked-event}
+use Rattle.ro_serving.proofs.events.Coming.happen.Goals as goal
 
 pub returns-in-Call-clause-event : goal.returns-in-Call-clause-event
 unfolding event_of

@@ -16,8 +16,7 @@ use Rattle.ro_legal.specs.Event.{call_event}
 use Rattle.ro_kernel.specs.Served.{Brings}
 use Rattle.ro_kernel.specs.declared.outcome.Served.{Served}
 use Rattle.ro_kernel.specs.declared.outcome.Served.TheVariants.{Done, Parked, Blocked, Ends}
-use Rattle.ro_legal.proofs.Mapped.{stays-mapped}
-use Rattle.ro_core.specs.Fields.{Fields, Holds, outcome_with}
+use Rattle.ro_serving.specs.Happening.{outcome_with}
 
 -- the definition's outcome of a call, by the code's answer
 pub brings-outcome : (outcome : Outcome) (old new : State) (served : Served) → Brings outcome old new served → outcome ≡ outcome_with new.kernel served
@@ -59,7 +58,3 @@ room-by kernel after u call payload (Done effect) room = room effect refl
 room-by kernel after u call payload Parked room = tt
 room-by kernel after u call payload Blocked room = tt
 room-by kernel after u call payload (Ends how) room = tt
-
--- the ranges that the kernel gave lie where they may
-pub holds-mapped : (f : Fields) → Holds f → IsMapped f.kernel.kernel.given
-holds-mapped f h = subst (λ (k : Kernel). IsMapped k.given) (sym h.kernel_is) (stays-mapped f.job f.journal)

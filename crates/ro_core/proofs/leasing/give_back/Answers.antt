@@ -1,6 +1,0 @@
-use Rattle.std.proofs.Common.{rules}
-use Rattle.std.proofs.lemmas.Fn.{filter_same}
-use Rattle.ro_core.proofs.leasing.give_back.Goals as goal
-
-pub returns-else-is_alone : goal.returns-else-is_alone
-returns-else-is_alone c = record { items = filter_same _ _ _ (λ x b f' k. search rules) _ _ c.retain.ensures.filtered }

@@ -1,0 +1,12 @@
+use Rattle.std.proofs.Common.{◌<◌, sym, arith}
+use Rattle.ro_legal.specs.Core.{may_free}
+use Rattle.ro_legal.specs.Action.{threads_made}
+use Rattle.ro_legal.proofs.Lowest.{lowest-found}
+use Rattle.ro_coop_core.specs.Runs.{fields_of, job_of, state_of}
+use Rattle.ro_coop_core.proofs.Tests.{made-is}
+use Rattle.ro_coop_core.proofs.cores.Core.lowest_to_free.Goals as goal
+
+pub returns-then-may_free : goal.returns-then-may_free
+returns-then-may_free c =
+    let less : c.loop-thread.thread < threads_made (state_of c.args.self.now) = omega (arith, made-is (fields_of c.args.self.now) c.requires.holds, c.made-thread-end.ensures.made, c.loop-thread-test.true) in
+    sym (lowest-found (may_free (job_of c.args.self.now) (state_of c.args.self.now)) c.loop-thread.thread (threads_made (state_of c.args.self.now)) less c.loop-thread.invariant (sym c.if-may_free.ensures))

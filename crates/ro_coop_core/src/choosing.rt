@@ -1,0 +1,269 @@
+//! What the core does next.
+ghost use Rattle.std.specs.Prelude.{◌≡◌, ◌<◌, ◌&&◌, ◌==◌, ℕ, None, not, length, true};
+ghost use Rattle.std.specs.List.{list_all};
+ghost use Rattle.ro_legal.specs.Sides.{Side, is_ahead};
+ghost use Rattle.ro_legal.specs.Core.{is_going, nothing_lent, is_home, is_awake, is_lendable, is_parked, is_barred, is_kept, may_vote, may_free};
+ghost use Rattle.ro_legal.specs.Legal.{is_stuck};
+ghost use Rattle.ro_legal.specs.Action.{lowest_below, threads_made, is_turn, may_vote_in, may_lend_in, lend_turn, turn_next, first_action, next_action as next};
+ghost use Rattle.ro_coop_core.specs.Seats.{seat_stopped};
+ghost use Rattle.ro_coop_core.specs.Fields.{Holds};
+ghost use Rattle.ro_coop_core.specs.Numbers.{HasMutexes, HasRank};
+ghost use Rattle.ro_coop_core.specs.Runs.{fields_of, job_of, state_of};
+
+use crate::cores::Core;
+use crate::seats::{Seat, ceiling, taker};
+use ro_event::Call;
+use ro_journal::How;
+use ro_legal::{Action, Parking};
+use ro_peer::{Mutex, Mutexes};
+
+impl Core {
+    /// What comes next: an end that is due; else, where nothing is lent, the lowest thread is freed or voted on; else the
+    /// lowest thread of the lowest replica is lent. A thread that had its votes in a row is voted on and lent last.
+    pub fn next_action(&self) -> Action
+        requires holds { Holds (fields_of self.now) }
+        ensures next { result ≡ next (job_of self.now) (state_of self.now) }
+    {
+        if self.ended.is_some() {
+            return Action::Over;
+        }
+        if let Some(how) = self.due {
+            return Action::End(how);
+        }
+        match self.first_action() {
+            Some(action) => action,
+            None if self.leases.is_empty() => Action::End(How::Deadlock),
+            None => Action::Wait,
+        }
+    }
+
+    // The first of what can be done.
+    fn first_action(&self) -> Option<Action>
+        requires holds { Holds (fields_of self.now) }
+        ensures { result ≡ first_action (job_of self.now) (state_of self.now) }
+    {
+        if let Some(thread) = self.lowest_to_free() {
+            return Some(Action::Free(thread));
+        }
+        match self.turn_next(false) {
+            Some(action) => Some(action),
+            None => self.turn_next(true),
+        }
+    }
+
+    // The first vote or lease of a thread that comes behind all others, or of one of these.
+    fn turn_next(&self, last: bool) -> Option<Action>
+        requires holds { Holds (fields_of self.now) }
+        ensures { result ≡ turn_next (state_of self.now) last }
+    {
+        match self.lowest_to_vote(last) {
+            Some(thread) => Some(Action::Vote(thread)),
+            None => self.lend_turn(last),
+        }
+    }
+
+    fn lowest_to_free(&self) -> Option<u32>
+        requires holds { Holds (fields_of self.now) }
+        ensures { result ≡ lowest_below (threads_made (state_of self.now)) (may_free (job_of self.now) (state_of self.now)) }
+    {
+        for thread in 0..self.kernel.made() {
+            if self.may_free(thread) {
+                return Some(thread);
+            }
+        }
+        None
+    }
+
+    fn lowest_to_vote(&self, last: bool) -> Option<u32>
+        requires holds { Holds (fields_of self.now) }
+        ensures { result ≡ lowest_below (threads_made (state_of self.now)) (may_vote_in (state_of self.now) last) }
+    {
+        for thread in 0..self.kernel.made() {
+            if self.is_turn(last, thread) && self.may_vote(thread) {
+                return Some(thread);
+            }
+        }
+        None
+    }
+
+    fn lend_turn(&self, last: bool) -> Option<Action>
+        requires holds { Holds (fields_of self.now) }
+        ensures { result ≡ lend_turn (state_of self.now) last }
+    {
+        for replica in 0..self.settings.replicas {
+            if let Some(thread) = self.lowest_lendable(replica, last) {
+                return Some(Action::Lend { replica, thread });
+            }
+        }
+        None
+    }
+
+    fn lowest_lendable(&self, replica: u32, last: bool) -> Option<u32>
+        requires holds { Holds (fields_of self.now) }
+        requires replica { replica < length (state_of self.now).replicas }
+        ensures { result ≡ lowest_below (threads_made (state_of self.now)) (may_lend_in (state_of self.now) last replica) }
+    {
+        for thread in 0..self.kernel.made() {
+            if self.is_turn(last, thread) && self.is_lendable(replica, thread) {
+                return Some(thread);
+            }
+        }
+        None
+    }
+
+    // Whether it is a thread's turn: of the one that comes behind all others, or of any of these.
+    fn is_turn(&self, last: bool, thread: u32) -> bool
+        requires holds { Holds (fields_of self.now) }
+        ensures { result ≡ is_turn (state_of self.now) last thread }
+    {
+        self.streak.comes_last(thread) == last
+    }
+
+    /// Whether no end has come, and none must.
+    pub fn is_going(&self) -> bool
+        requires holds { Holds (fields_of self.now) }
+        ensures { result ≡ is_going (state_of self.now) }
+    {
+        self.due.is_none() && self.ended.is_none()
+    }
+
+    /// The call on which a thread is blocked, if it is.
+    pub fn blocked_call(&self, thread: u32) -> Option<Call>
+        ensures { Holds (fields_of self.now) → result ≡ (state_of self.now).blocked thread }
+    {
+        match self.blocked.get(thread as usize) {
+            Some(call) => *call,
+            None => None,
+        }
+    }
+
+    // Whether the core goes on and nothing is lent.
+    fn is_idle(&self) -> bool
+        requires holds { Holds (fields_of self.now) }
+        ensures { result ≡ (is_going (state_of self.now) && nothing_lent (state_of self.now)) }
+    {
+        self.is_going() && self.leases.is_empty()
+    }
+
+    /// Whether a thread stands still in every replica, and is not blocked.
+    pub fn may_vote(&self, thread: u32) -> bool
+        requires holds { Holds (fields_of self.now) }
+        ensures { result ≡ may_vote (state_of self.now) thread }
+    {
+        self.is_idle() && self.can_vote(thread)
+    }
+
+    // The same where the core goes on and nothing is lent.
+    fn can_vote(&self, thread: u32) -> bool
+        requires holds { Holds (fields_of self.now) }
+        requires idle { is_going (state_of self.now) && nothing_lent (state_of self.now) ≡ true }
+        ensures { result ≡ may_vote (state_of self.now) thread }
+    {
+        match self.blocked_call(thread) {
+            Some(_) => false,
+            None => self.kernel.lives_on(thread) && stands_in_all(self.seats.as_slice(), thread),
+        }
+    }
+
+    /// Whether the call on which a thread is blocked would be done now.
+    pub fn may_free(&self, thread: u32) -> bool
+        requires holds { Holds (fields_of self.now) }
+        ensures { result ≡ may_free (job_of self.now) (state_of self.now) thread }
+    {
+        self.is_idle()
+            && match self.blocked_call(thread) {
+                Some(call) => self.kernel.ready(thread, call),
+                None => false,
+            }
+    }
+
+    /// Whether nothing can be done.
+    pub fn is_stuck(&self) -> bool
+        requires holds { Holds (fields_of self.now) }
+        ensures { result ≡ is_stuck (job_of self.now) (state_of self.now) }
+    {
+        self.is_idle() && self.first_action().is_none()
+    }
+
+    // Whether a thread may be lent in a replica.
+    pub(crate) fn is_lendable(&self, replica: u32, thread: u32) -> bool
+        requires holds { Holds (fields_of self.now) }
+        requires replica { replica < length (state_of self.now).replicas }
+        ensures { result ≡ is_lendable (state_of self.now) replica thread }
+    {
+        self.is_awake(replica, thread) && !self.is_parked(replica, thread)
+    }
+
+    // Whether a thread lives, and is not stopped in a replica that is at home.
+    fn is_awake(&self, replica: u32, thread: u32) -> bool
+        requires holds { Holds (fields_of self.now) }
+        requires replica { replica < length (state_of self.now).replicas }
+        ensures { result ≡ is_awake (state_of self.now) replica thread }
+    {
+        self.seats[replica as usize].is_unstopped(thread) && self.kernel.lives_on(thread)
+    }
+
+    // Whether a thread waits at a lock in a replica that is at home.
+    fn is_parked(&self, replica: u32, thread: u32) -> bool
+        requires holds { Holds (fields_of self.now) }
+        requires replica { replica < length (state_of self.now).replicas }
+        ensures { is_home (state_of self.now) replica ≡ true → result ≡ is_parked (state_of self.now) replica thread }
+    {
+        let seat = &self.seats[replica as usize];
+        match (&seat.home, seat.parking(thread)) {
+            (Some(partner), Some(parking)) => {
+                self.is_kept(partner.peer.mutexes(), thread, parking)
+            }
+            _ => false,
+        }
+    }
+
+    // Whether a thread that came back at a lock, where a peer has these mutexes, would come back again.
+    fn is_kept(&self, mutexes: &Mutexes, thread: u32, parking: Parking) -> bool
+        requires holds { Holds (fields_of self.now) }
+        requires had { HasMutexes (state_of self.now) mutexes.now }
+        ensures { (side : Side) → side.mutexes ≡ mutexes.now → result ≡ is_kept (state_of self.now) side thread parking }
+    {
+        let Some(number) = mutexes.number(parking.mutex) else {
+            return false;
+        };
+        let mutex = mutexes.mutex(number);
+        mutex.owner.is_some()
+            || asks_for_next(parking, mutex) && self.is_barred(thread, number, parking.rank)
+    }
+
+    // Whether the next rank of a peer's mutex is not for a thread.
+    fn is_barred(&self, thread: u32, number: u32, rank: u32) -> bool
+        requires holds { Holds (fields_of self.now) }
+        requires next { (address : ℕ) × HasRank (state_of self.now) number address rank }
+        ensures { (address : ℕ) → HasRank (state_of self.now) number address rank → result ≡ is_barred (state_of self.now) thread address rank }
+    {
+        match taker(self.seats.as_slice(), number, rank) {
+            Some(other) => other != thread,
+            None => self.is_ahead(number, rank) || !self.leases.is_empty(),
+        }
+    }
+
+    // Whether some peer is so far behind that the next rank of a peer's mutex is not to be got yet.
+    fn is_ahead(&self, number: u32, rank: u32) -> bool
+        requires holds { Holds (fields_of self.now) }
+        requires next { (address : ℕ) × HasRank (state_of self.now) number address rank }
+        ensures { (address : ℕ) → HasRank (state_of self.now) number address rank → result ≡ is_ahead (state_of self.now).sides address rank }
+    {
+        ceiling(self.seats.as_slice(), number) <= u64::from(rank)
+    }
+}
+
+// Whether a thread stands still in every peer, each of which is at home.
+fn stands_in_all(seats: &[Seat], thread: u32) -> bool
+    ensures { result ≡ list_all (seat_stopped thread) seats.now }
+{
+    seats.iter().all(|seat| seat.is_stopped(thread))
+}
+
+// Whether a thread came back because it asked for the next rank of a mutex.
+fn asks_for_next(parking: Parking, mutex: Mutex) -> bool
+    ensures { result ≡ (parking.asked && (mutex.rank == parking.rank)) }
+{
+    parking.asked && mutex.rank == parking.rank
+}

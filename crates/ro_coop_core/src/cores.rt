@@ -1,0 +1,162 @@
+//! The core: a sequential machine whose journal only grows. It is plain data, and knows no sink.
+ghost use Rattle.std.specs.Prelude.{◌≡◌, ◌≢◌, ◌⊎◌, ◌-◌, ◌≤◌, ◌++◌, ◌∷◌, [], ℕ, Some, true};
+ghost use Rattle.ro_journal.specs.declared.How.TheVariants.{Differ, Sink as BySink};
+ghost use Rattle.ro_journal.specs.declared.Entry.TheVariants.{End};
+ghost use Rattle.ro_journal.specs.Plan.{outcome_of};
+ghost use Rattle.ro_legal.specs.Core.{is_going};
+ghost use Rattle.ro_legal.specs.declared.actions.Action.TheVariants.{End as DoEnd};
+ghost use Rattle.ro_legal.specs.Legal.{EndsAlone};
+ghost use Rattle.ro_legal.specs.Action.{next_action as next};
+ghost use Rattle.ro_legal.specs.Cooperative.{IsAllowed, MayEnd, replay};
+ghost use Rattle.ro_legal.specs.Choices.{IsNext};
+ghost use Rattle.ro_coop_core.specs.Seen.{Appends, KeepsViews};
+ghost use Rattle.ro_coop_core.specs.Fields.{Holds, HoldsUnseen};
+ghost use Rattle.ro_coop_core.specs.Runs.{fields_of, job_of, state_of, seen};
+
+use crate::seats::Seat;
+use ro_event::{Call, View};
+use ro_image::Executable;
+use ro_journal::{Entry, How, Lease};
+use ro_kernel::Kernel;
+use ro_legal::Streak;
+use ro_settings::Settings;
+use std::alloc::Global;
+
+/// How many threads a program may make.
+pub(crate) const THREADS: usize = ro_limits::MOST_THREADS as usize;
+
+/// The core of a cooperative run: what it was opened with, its journal, and what that journal leaves.
+pub struct Core {
+    pub(crate) image: Executable,
+    pub(crate) settings: Settings,
+    pub(crate) journal: Vec<Entry>,
+    pub(crate) seats: Vec<Seat>,
+    pub(crate) leases: Vec<Lease>,
+    pub(crate) kernel: Kernel,
+    /// Whether the program's mutexes are cooperative: its table of calls has neither trylock nor wait.
+    pub(crate) cooperates: bool,
+    /// Of each thread the voted call on which it is blocked.
+    pub(crate) blocked: [Option<Call>; THREADS],
+    /// Of each thread how many instructions it has retired in any replica at the most.
+    pub(crate) most_done: [u64; THREADS],
+    /// How many steps the first steps have so far.
+    pub(crate) steps: u64,
+    /// Whose votes came last, and how many in a row.
+    pub(crate) streak: Streak,
+    /// How many bytes the events wrote.
+    pub(crate) sent: u64,
+    /// How many of them the last entry's event did.
+    pub(crate) wrote: u32,
+    pub(crate) due: Option<How>,
+    pub(crate) ended: Option<How>,
+    /// Room for the views of a vote, one for each replica.
+    pub(crate) views: Vec<View>,
+    pub(crate) alloc: Global,
+}
+
+/// What a core leaves behind.
+pub struct Finished {
+    /// The image with which it was opened.
+    pub image: Executable,
+    /// How the run ended, if it did.
+    pub how: Option<How>,
+    /// Where it ended by views that differ, those views in the order of the replicas.
+    pub views: Vec<View>,
+    pub journal: Vec<Entry>,
+}
+
+impl Core {
+    /// Ends the run so, where this end is due or comes alone.
+    pub fn end(&mut self, how: How)
+        requires holds { Holds (fields_of self.old) }
+        requires now { (next (job_of self.old) (state_of self.old) ≡ DoEnd how) ⊎ EndsAlone (job_of self.old) (state_of self.old) how }
+        ensures holds { Holds (fields_of self.new) }
+        ensures allowed { IsAllowed (job_of self.old) (state_of self.old) (End how) × IsNext (job_of self.old) (state_of self.old) (End how) }
+        ensures appends { Appends (seen self.old) (seen self.new) (End how) }
+        ensures ended { (fields_of self.new).ended ≡ Some how }
+    {
+        self.sent = sent_behind(self.sent, self.wrote, how);
+        self.journal.push_reserved(Entry::End { how });
+        self.wrote = 0;
+        self.due = None;
+        self.ended = Some(how);
+    }
+
+    /// Ends the run in the place of a vote or a free, with the views that are to be kept.
+    pub(crate) fn conclude(&mut self, how: How) -> Entry
+        requires holds { HoldsUnseen (fields_of self.old) }
+        requires going { is_going (state_of self.old) ≡ true }
+        requires allowed { MayEnd (job_of self.old) (state_of self.old) how }
+        requires views { KeepsViews (job_of self.old) (self.old.journal.items ++ End how ∷ []) self.old.views.items }
+        requires not_sink { (bytes : ℕ) → how ≢ BySink bytes }
+        ensures holds { Holds (fields_of self.new) }
+        ensures entry { result ≡ End how }
+        ensures appends { Appends (seen self.old) (seen self.new) (End how) }
+        ensures output { (replay (job_of self.new) self.new.journal.items).output ≡ (replay (job_of self.old) self.old.journal.items).output }
+        ensures views { self.new.views.items ≡ self.old.views.items }
+    {
+        let entry = Entry::End { how };
+        self.journal.push_reserved(entry);
+        self.wrote = 0;
+        self.ended = Some(how);
+        entry
+    }
+
+    /// Hands out the image, how the run ended, if it did, the views of a vote on which they differed, and the journal.
+    pub fn finish(self) -> Finished
+        ensures image { result.image ≡ (job_of self).program.image }
+        ensures how { Holds (fields_of self) → result.how ≡ outcome_of (fields_of self).journal }
+        ensures views { Holds (fields_of self) → KeepsViews (job_of self) (fields_of self).journal result.views.items }
+        ensures no_views { Holds (fields_of self) → outcome_of (fields_of self).journal ≢ Some Differ → result.views.items ≡ [] }
+        ensures journal { result.journal.items ≡ (fields_of self).journal }
+    {
+        let Core {
+            image,
+            settings: _,
+            journal,
+            seats: _,
+            leases: _,
+            kernel: _,
+            cooperates: _,
+            blocked: _,
+            most_done: _,
+            steps: _,
+            streak: _,
+            sent: _,
+            wrote: _,
+            due: _,
+            ended,
+            views,
+            alloc,
+        } = self;
+        Finished {
+            image,
+            how: ended,
+            views: kept_views(alloc, ended, views),
+            journal,
+        }
+    }
+}
+
+// The views of the last vote, where the run ended by their difference.
+fn kept_views(alloc: Global, ended: Option<How>, views: Vec<View>) -> Vec<View>
+    ensures differ { ended ≡ Some Differ → result.items ≡ views.items }
+    ensures others { ended ≢ Some Differ → result.items ≡ [] }
+{
+    match ended {
+        Some(How::Differ) => views,
+        _ => Vec::new(alloc),
+    }
+}
+
+// How many of so many bytes are out behind an end, where the last entry wrote some of them: a failing sink took not all of these.
+fn sent_behind(sent: u64, wrote: u32, how: How) -> u64
+    requires wrote { (taken : ℕ) → how ≡ BySink taken → (taken ≤ wrote) × (wrote ≤ sent) }
+    ensures cut { (taken : ℕ) → how ≡ BySink taken → result ≡ sent - (wrote - taken) }
+    ensures whole { ((taken : ℕ) → how ≡ BySink taken → ⊥) → result ≡ sent }
+{
+    match how {
+        How::Sink(taken) => sent - u64::from(wrote - taken),
+        _ => sent,
+    }
+}

@@ -26,10 +26,10 @@ use Rattle.ro_core.specs.Runs.{seen, LastWrote}
 use Rattle.ro_core.specs.Seen.{Opens, Appends, IsLent, MayReturn, ReturnIs}
 use Rattle.ro_legal.specs.Decides.{DecidesVote, DecidesFree, DecidesScrub}
 use Rattle.ro_legal.proofs.Journals.{replay_more}
-use Rattle.ro_legal.proofs.Leases.{event_leases, leases_apart, one_each}
+use Rattle.ro_legal.proofs.Leases.{event_leases, leases_apart, one_each, out_found}
 use Rattle.ro_legal.proofs.Ordered.{end-alone, vote-parts, free-parts, scrub-parts, ordered}
 use Rattle.ro_legal.proofs.Single.{one-decides, one-frees, one-scrubs}
-use Rattle.ro_core.proofs.Lending.{put_became, out_found}
+use Rattle.ro_core.proofs.Lending.{put_became}
 use Rattle.ro_audit.specs.declared.follower.Why.{Why}
 use Rattle.ro_audit.specs.declared.follower.Why.TheVariants.{NotOut, Ran}
 use Rattle.ro_audit.specs.Audits.{Compete, IsReason}

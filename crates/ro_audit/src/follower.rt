@@ -19,7 +19,6 @@ use ro_image::Executable;
 use ro_journal::{Entry, How, Lease, Lost};
 use ro_lease::{Back, Lent, Took};
 use ro_legal::Action;
-use ro_post::Work;
 use ro_settings::Settings;
 use std::alloc::{AllocError, Global};
 

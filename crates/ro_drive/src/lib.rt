@@ -33,7 +33,7 @@ pub fn drive<R: Wait, P: Post, G: Gate>(
             Ok(Turn::Leased(lease)) => {
                 let (driver, replica, thread) = P::place(&lease);
                 let passed = gate.pass(rt, driver, replica, thread);
-                let back = P::run::<G>(lease, &passed);
+                let back = post.run::<G>(pass, lease, &passed);
                 gate.leave(passed);
                 Some(back)
             }

@@ -5,7 +5,6 @@ ghost use Rattle.std.specs.Prelude.{◌≡◌};
 ghost use Rattle.ro_lease.specs.Loans.{CanGo};
 
 use ro_journal::Lease;
-use ro_post::Work;
 use ro_replica::{Ran, ReplicaBox};
 use std::marker::Model;
 
@@ -32,6 +31,8 @@ impl Model for Lent {
 }
 
 impl Lent {
+    ghost use Rattle.ro_lease.specs.Loans.{Gives};
+
     /// Lends the lease's replica to its driver, for a run of its thread.
     pub fn new(lease: Lease, quantum: u32, replica: ReplicaBox) -> Lent
         requires { CanGo quantum lease.thread replica }
@@ -49,6 +50,34 @@ impl Lent {
         ensures { result ≡ self.now.lease }
     {
         self.lease
+    }
+
+    /// The driver, the replica and the thread.
+    pub fn place(&self) -> (u32, u32, u32)
+        ensures { result ≡ (self.now.lease.driver, self.now.lease.replica, self.now.lease.thread) }
+    {
+        (self.lease.driver, self.lease.replica, self.lease.thread)
+    }
+
+    /// Runs the thread.
+    pub fn run(self) -> Back
+        ensures { Gives self result }
+    {
+        let Lent {
+            lease,
+            quantum,
+            mut replica,
+        } = self;
+        let Ran {
+            count,
+            hit,
+            stop: _,
+        } = replica.run(lease.thread, quantum);
+        Back {
+            lease,
+            replica,
+            took: Took { count, hit },
+        }
     }
 }
 
@@ -79,38 +108,4 @@ impl Model for Back {
     ghost coded = { Prim.hlevel (codes, coded_held) };
 
     ghost view = { λ b. record { lease = b.lease; replica = b.replica; took = b.took } };
-}
-
-impl Work for Lent {
-    ghost use Rattle.ro_lease.specs.Loans.{Gives};
-
-    type Back = Back;
-
-    ghost gives = { Gives };
-
-    ghost place_of = { λ l. (l.lease.driver, l.lease.replica, l.lease.thread) };
-
-    fn place(&self) -> (u32, u32, u32)
-        ensures { result ≡ (self.now.lease.driver, self.now.lease.replica, self.now.lease.thread) }
-    {
-        (self.lease.driver, self.lease.replica, self.lease.thread)
-    }
-
-    fn run(self) -> Back {
-        let Lent {
-            lease,
-            quantum,
-            mut replica,
-        } = self;
-        let Ran {
-            count,
-            hit,
-            stop: _,
-        } = replica.run(lease.thread, quantum);
-        Back {
-            lease,
-            replica,
-            took: Took { count, hit },
-        }
-    }
 }

@@ -15,8 +15,9 @@ use Rattle.ro_journal.specs.declared.Lease.{Lease}
 use Rattle.ro_legal.specs.Core.{Job, Core, lease_of}
 use Rattle.ro_legal.specs.Legal.{MayPut, arrived, arrival, lease_run, after}
 use Rattle.ro_legal.specs.Laws.{HasLease}
+use Rattle.ro_legal.proofs.Leases.{out_found}
 use Rattle.ro_core.specs.Seen.{CoreOf, state, IsOfJob, MayReturn}
-use Rattle.ro_core.proofs.Lending.{put_became, out_found}
+use Rattle.ro_core.proofs.Lending.{put_became}
 
 -- the replica with other threads
 abbrev with_threads : List Thread → Replica → Replica

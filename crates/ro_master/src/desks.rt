@@ -103,7 +103,6 @@ impl<K: Sink, N: Naming> Desk<K, N> {
         pass.add(&mut self.count, &Entry::Take(lease));
         let quantum = self.core.settings().quantum;
         let lent = self.core.take(lease);
-        pass.settle(replica);
         Ok(Lent::new(lease, quantum, lent))
     }
 

@@ -19,7 +19,7 @@ use crate::sessions::Session;
 use crate::waking::Wakes;
 use ro_io::{Gate, Sink};
 use ro_lease::{Back, Lent};
-use ro_post::{Driver, Post, Turn, Work};
+use ro_post::{Driver, Post, Turn};
 use std::alloc::{AllocError, Global};
 use std::sync::{Condvar, Mutex, Wait};
 
@@ -125,16 +125,14 @@ impl<K: Sink, N: Naming> Master<K, N> {
         ensures over { IfOk result (λ t. IfOver t (IsOver N.start.job pass.new)) }
         ensures wants { OnErr result (WantsMemory N.start pass.new) }
     {
-        let home = pass.home();
         let is_fresh = back.is_none();
         if is_fresh {
-            self.lookout.await_turn(home);
+            self.lookout.await_turn(pass.home());
         }
         let (answer, put, wakes) = self.locked_next(rt, pass, back);
         if is_fresh {
+            settle(pass, &answer);
             self.lookout.took(pass.home());
-        } else {
-            pass.settle(home);
         }
         self.wake(put);
         self.wake(wakes);
@@ -242,7 +240,7 @@ impl<K: Sink, N: Naming> Master<K, N> {
 
 impl<K: Sink, N: Naming> Post for Master<K, N> {
     ghost use Rattle.ro_lease.specs.Loans.{Gives};
-    ghost use Rattle.ro_master.specs.Desks.{AtRest, MayGiveBack, IsOver};
+    ghost use Rattle.ro_master.specs.Desks.{AtRest, HoldsLent, MayGiveBack, IsOver};
     ghost use Rattle.ro_master.specs.Masters.{WantsMemory};
 
     type Pass = Pass<N>;
@@ -251,8 +249,6 @@ impl<K: Sink, N: Naming> Post for Master<K, N> {
 
     type Back = Back;
 
-    ghost gives = { Gives };
-
     ghost place_of = { λ l. (l.lease.driver, l.lease.replica, l.lease.thread) };
 
     ghost is_ours = { λ m p. Unit {0} };
@@ -260,6 +256,8 @@ impl<K: Sink, N: Naming> Post for Master<K, N> {
     ghost number = { λ p. p.number };
 
     ghost at_rest = { AtRest N.start.job };
+
+    ghost holds = { HoldsLent N.start.job };
 
     ghost may_return = { MayGiveBack N.start.job };
 
@@ -271,7 +269,15 @@ impl<K: Sink, N: Naming> Post for Master<K, N> {
         lease.place()
     }
 
-    fn run<G: Gate>(lease: Lent, _passed: &G::Passed) -> Back {
+    // The pass learns nothing by it.
+    fn run<G: Gate>(&self, pass: &mut Pass<N>, lease: Lent, passed: &G::Passed) -> Back
+        requires pass { Unit {0} × HoldsLent N.start.job pass.old lease }
+        requires gate { G.place_of passed.now ≡ (lease.lease.driver, lease.lease.replica, lease.lease.thread) }
+        ensures same { Unit {0} × (pass.new.number ≡ pass.old.number) }
+        ensures back { MayGiveBack N.start.job pass.new result }
+        ensures gives { Gives lease result }
+        ensures stays { pass.new ≡ pass.old }
+    {
         lease.run()
     }
 
@@ -325,6 +331,13 @@ impl<K: Sink, N: Naming> Post for Master<K, N> {
             let mut desk = self.moved.wait_while(rt, desk, |desk| desk.waits());
             desk.woke_up();
         }
+    }
+}
+
+// The driver goes back to the replica that it took with none to give back.
+fn settle<N: Naming>(pass: &Pass<N>, answer: &Result<Turn<Lent>, AllocError>) {
+    if let Ok(Turn::Leased(lent)) = answer {
+        pass.settle(lent.lease().replica);
     }
 }
 

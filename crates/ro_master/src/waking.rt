@@ -61,7 +61,7 @@ impl Waking {
         };
         self.is_alone = !is_long;
         self.due = match self.helpers_if(is_long) {
-            Wakes::Helpers(0) => Wakes::Lookouts,
+            Wakes::Helpers(0) if self.of_use > 1 => Wakes::Lookouts,
             due => due,
         };
     }

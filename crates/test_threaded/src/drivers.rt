@@ -1,5 +1,5 @@
 //! Two drivers are inside their runs at once.
-ghost use Rattle.std.specs.Prelude.{◌≡◌, MatchResult, IfOk, OnErr};
+ghost use Rattle.std.specs.Prelude.{◌≡◌, true, false, MatchResult, IfOk, OnErr};
 ghost use Rattle.std.specs.Option.{MatchOption};
 ghost use Rattle.ro_post.specs.Turns.{MatchLeased, IfOver};
 
@@ -27,11 +27,14 @@ struct Hall<'a> {
     meeting: &'a Meeting,
 }
 
-/// The pass of a driver of the hall, and whether it has had its lease.
+/// The pass of a driver of the hall.
 #[derive(Drop)]
 struct Ticket {
     number: u32,
+    /// Whether it has had its lease.
     used: bool,
+    /// Whether the lease was run.
+    ran: bool,
 }
 
 /// A lease of the hall.
@@ -48,19 +51,19 @@ impl<'a> Post for Hall<'a> {
 
     type Back = ();
 
-    ghost gives = { λ lease back. Unit {0} };
-
     ghost place_of = { λ lease. (lease.driver, 0, 0) };
 
     ghost is_ours = { λ post pass. Unit {0} };
 
     ghost number = { λ pass. pass.number };
 
-    ghost at_rest = { λ pass. Unit {0} };
+    ghost at_rest = { λ pass. pass.ran ≡ pass.used };
 
-    ghost may_return = { λ pass back. Unit {0} };
+    ghost holds = { λ pass lease. (pass.used ≡ true) × (pass.ran ≡ false) };
 
-    ghost is_over = { λ pass. Unit {0} };
+    ghost may_return = { λ pass back. (pass.used ≡ true) × (pass.ran ≡ true) };
+
+    ghost is_over = { λ pass. pass.ran ≡ true };
 
     ghost wants = { λ pass. Unit {0} };
 
@@ -69,7 +72,8 @@ impl<'a> Post for Hall<'a> {
     }
 
     // The first that is called waits, for a while, until another is.
-    fn run<G: Gate>(lease: Visit<'a>, _passed: &G::Passed) {
+    fn run<G: Gate>(&self, pass: &mut Ticket, lease: Visit<'a>, _passed: &G::Passed) {
+        pass.ran = true;
         if lease.meeting.called.fetch_add(1, Ordering::SeqCst) == 0 {
             for _ in 0..100_000_000u32 {
                 if lease.meeting.called.load(Ordering::SeqCst) == 2 {
@@ -100,10 +104,10 @@ impl<'a> Post for Hall<'a> {
         pass: &mut Ticket,
         back: Option<()>,
     ) -> Result<Turn<Visit<'a>>, AllocError>
-        requires { Unit {0} × MatchOption back (Unit {0}) (λ b. Unit {0}) }
+        requires { Unit {0} × MatchOption back (pass.old.ran ≡ pass.old.used) (λ b. (pass.old.used ≡ true) × (pass.old.ran ≡ true)) }
         ensures same { Unit {0} × (pass.new.number ≡ pass.old.number) }
-        ensures lease { MatchResult result (λ t. MatchLeased t (λ l. (b : Unit {0}) → Unit {0} → Unit {0}) (Unit {0})) (λ _. Unit {0}) }
-        ensures over { IfOk result (λ t. IfOver t (Unit {0})) }
+        ensures lease { MatchResult result (λ t. MatchLeased t (λ l. (pass.new.used ≡ true) × (pass.new.ran ≡ false)) (pass.new.ran ≡ pass.new.used)) (λ _. pass.new.ran ≡ pass.new.used) }
+        ensures over { IfOk result (λ t. IfOver t (pass.new.ran ≡ true)) }
         ensures wants { OnErr result (Unit {0}) }
     {
         if let Some(back) = back {
@@ -115,11 +119,14 @@ impl<'a> Post for Hall<'a> {
     fn rest<R: Wait>(&self, _rt: &R) {}
 }
 
-fn driver(number: u32) -> Driver<Ticket> {
+fn driver(number: u32) -> Driver<Ticket>
+    ensures { result.pass.ran ≡ result.pass.used }
+{
     Driver {
         pass: Ticket {
             number,
             used: false,
+            ran: false,
         },
         outcome: None,
     }
@@ -138,6 +145,7 @@ fn two_runs_at_once(rt: HostRuntime) -> Result<(), Fail> {
     assert_eq!(rt; meeting.met.load(Ordering::SeqCst), 1);
     for driver in &drivers {
         assert!(rt; driver.outcome.is_some());
+        assert!(rt; driver.pass.ran);
     }
     Ok(())
 }

@@ -1,10 +1,15 @@
 -- Parts of a plan, one after another.
-use Rattle.std.specs.Prelude.{◌≡◌, ℕ, zero, suc, drop, Result, Ok, Err, IfOk, ◌+◌, ◌<◌, ◌≤◌, List, [], ◌∷◌, ◌++◌, length, take, replicate, ◌-◌, Option, Some}
+use Rattle.std.specs.Prelude.{◌≡◌, ℕ, Result, Ok, Err, IfOk, ◌+◌, ◌<◌, ◌≤◌, List, [], ◌∷◌, ◌++◌, length, take, replicate, ◌-◌, Option, Some}
 use Rattle.std.specs.Option.{option_and_then}
-use Rattle.std.proofs.Common.{refl, sym, ap, ◌∙◌, subst, arith, append_assoc, append-nil, length-append, get_or}
+use Rattle.std.proofs.Common.{refl, sym, ap, ◌∙◌, subst, arith, append_assoc, append-nil, length-append}
 use Rattle.std.proofs.lemmas.List.{replicate-append-replicate, length-replicate}
+use Rattle.ro_settings.specs.declared.Mode.{Mode}
 use Rattle.ro_journal.specs.declared.Entry.{Entry}
-use Rattle.ro_journal.specs.Plan.{entry_plan, plan_of}
+use Rattle.ro_plans.specs.declared.walk.Stretch.{Stretch}
+use Rattle.ro_plans.specs.Plans.{plan_in}
+use Rattle.ro_plans.specs.Walks.{Adds, stretch_steps}
+use Rattle.ro_plans.proofs.Prefixes.{plan-begins}
+use Rattle.ro_plans.proofs.Told.{told-length, plan-le}
 use Rattle.ro_io.specs.Outside.{Rose, more}
 use Rattle.ro_plain.specs.Machine.{run}
 use Rattle.ro_plain.proofs.Swap.{run-append}
@@ -195,27 +200,13 @@ pub if-ok : {T E : Type 0} (r : Result T E) (P Q : T → Type 0) → ((x : T) �
 if-ok (Ok x) P Q f h = f x h
 if-ok (Err e) P Q f h = h
 
--- a journal's plan at an entry
-pub plan-split : (journal : List Entry) (i : ℕ) (d : Entry) → i < length journal → plan_of journal ≡ plan_of (take i journal) ++ (entry_plan (get_or journal i d) ++ plan_of (drop (suc i) journal))
-plan-split [] i d h = absurd (omega arith)
-plan-split (e ∷ journal) zero d h = refl
-plan-split (e ∷ journal) (suc i) d h = ap (λ r. entry_plan e ++ r) (plan-split journal i d (omega arith)) ∙ sym (append_assoc (entry_plan e) (plan_of (take i journal)) (entry_plan (get_or journal i d) ++ plan_of (drop (suc i) journal)))
+-- what an entry adds has room in the plan
+pub plan-room : (mode : Mode) (journal : List Entry) (i : ℕ) (told : Option Stretch) (most steps : ℕ) → length (plan_in mode journal) ≤ most → steps ≡ length (plan_in mode (take i journal)) → Adds mode journal i told → steps + length (stretch_steps told) ≤ most
+plan-room mode journal i told most steps few is adds = omega (arith, few, is, told-length mode journal i told adds, plan-le mode journal (i + 1))
 
-plan-next-suc : (journal : List Entry) (i : ℕ) (d : Entry) → i < length journal → plan_of (take i journal) ++ entry_plan (get_or journal i d) ≡ plan_of (take (suc i) journal)
-plan-next-suc [] i d h = absurd (omega arith)
-plan-next-suc (e ∷ journal) zero d h = sym (append-nil (entry_plan e))
-plan-next-suc (e ∷ journal) (suc i) d h = append_assoc (entry_plan e) (plan_of (take i journal)) (entry_plan (get_or journal i d)) ∙ ap (λ r. entry_plan e ++ r) (plan-next-suc journal i d (omega arith))
-
-pub plan-next : (journal : List Entry) (i : ℕ) (d : Entry) → i < length journal → plan_of (take i journal) ++ entry_plan (get_or journal i d) ≡ plan_of (take (i + 1) journal)
-plan-next journal i d h = plan-next-suc journal i d h ∙ ap (λ n. plan_of (take n journal)) (let e : suc i ≡ i + 1 = omega arith in e)
-
--- an entry's steps are among those of the plan
-pub plan-room : (journal : List Entry) (i : ℕ) (d : Entry) (most steps : ℕ) → i < length journal → length (plan_of journal) ≤ most → steps ≡ length (plan_of (take i journal)) → steps + length (entry_plan (get_or journal i d)) ≤ most
-plan-room journal i d most steps h few is =
-    omega (arith, ap length (plan-split journal i d h), length-append (plan_of (take i journal)) (entry_plan (get_or journal i d) ++ plan_of (drop (suc i) journal)), length-append (entry_plan (get_or journal i d)) (plan_of (drop (suc i) journal)))
-
--- an entry halts, and so does the plan
-pub halts-plan : (old : PlainOf) (journal : List Entry) (i : ℕ) (d : Entry) (h k : Option (List ℕ)) (s before after : ℕ) (e : PlanError) → i < length journal → Halts old (plan_of (take i journal) ++ entry_plan (get_or journal i d)) h k s before after e → Halts old (plan_of journal) h k s before after e
-halts-plan old journal i d h k s before after e less q =
-    subst (λ (xs : List ℕ). Halts old xs h k s before after e) (append_assoc (plan_of (take i journal)) (entry_plan (get_or journal i d)) (plan_of (drop (suc i) journal)) ∙ sym (plan-split journal i d less))
-    (halts-sooner old (plan_of (take i journal) ++ entry_plan (get_or journal i d)) (plan_of (drop (suc i) journal)) h k s before after e q)
+-- what an entry adds halts, and so does the plan
+pub halts-plan : (old : PlainOf) (mode : Mode) (journal : List Entry) (i : ℕ) (told : Option Stretch) (h k : Option (List ℕ)) (s before after : ℕ) (e : PlanError) → Adds mode journal i told → Halts old (plan_in mode (take i journal) ++ stretch_steps told) h k s before after e → Halts old (plan_in mode journal) h k s before after e
+halts-plan old mode journal i told h k s before after e adds q =
+    let whole = plan-begins mode journal (i + 1) in
+    subst (λ (xs : List ℕ). Halts old xs h k s before after e) (sym whole.is)
+    (halts-sooner old (plan_in mode (take (i + 1) journal)) whole.rest h k s before after e (subst (λ (xs : List ℕ). Halts old xs h k s before after e) (sym adds) q))

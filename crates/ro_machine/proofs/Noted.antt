@@ -1,12 +1,12 @@
 -- What a step did, by its code.
-use Rattle.std.specs.Prelude.{◌≡◌, ◌⊎◌, ℕ, zero, suc, ◌+◌, ◌%◌, ◌^◌, ◌<◌, ◌≤◌, ◌||◌, ◌&&◌, not, cond, Bool, true, false, ◌==◌, List, [], ◌∷◌, ◌++◌, length, nat_le, nat_lt, Option, Some, None, is_none, is_some, if◌then◌else◌}
+use Rattle.std.specs.Prelude.{◌≡◌, ◌⊎◌, ℕ, ◌+◌, ◌%◌, ◌^◌, ◌<◌, ◌≤◌, ◌||◌, ◌&&◌, not, cond, Bool, true, false, ◌==◌, List, [], ◌∷◌, length, nat_le, nat_lt, Option, Some, None, is_none, is_some, if◌then◌else◌}
 use Rattle.std.specs.Option.{option_map, option_map_or}
 use Rattle.std.proofs.Common.{refl, sym, ap, ap₂, ◌∙◌, subst, arith, inl, inr}
 use Rattle.std.proofs.lemmas.Bool.{true≢false, false≢true, ltb-true, leb-true, le-leb, lt-ltb, eqb-true, and_parts, and_from}
 use Rattle.ro_decode.specs.declared.Instr.{Instr}
 use Rattle.ro_decode.specs.Table.{instruction_of}
 use Rattle.ro_event.specs.declared.calls.Which.{Which}
-use Rattle.ro_event.specs.declared.calls.Which.TheVariants.{System, Function, Atomic}
+use Rattle.ro_event.specs.declared.calls.Which.TheVariants.{Atomic}
 use Rattle.ro_event.specs.declared.calls.Call.{Call}
 use Rattle.ro_event.specs.declared.stops.Stop.{Stop}
 use Rattle.ro_event.specs.declared.stops.Stop.TheVariants.{Calls, Trap, PageFault, Watchdog}
@@ -22,7 +22,7 @@ use Rattle.ro_exec.specs.Next.{Layout, all_backed, exit_place, Next, Stands, Exe
 use Rattle.ro_exec.proofs.Frame.{next-fetched, next-stopped}
 use Rattle.ro_kernel.specs.Kernel.{Setup, Kernel, ranges_in}
 use Rattle.ro_kernel.specs.Serve.{Served, Done, Parked, Blocked, Ends, is_atomic, payload_span, asked, serve}
-use Rattle.ro_kernel.proofs.Words.{IsOfWord, of-word, word-of}
+use Rattle.ro_kernel.proofs.Words.{of-word, word-of}
 use Rattle.std.proofs.lemmas.Option.{option_and_then_some}
 use Rattle.ro_plain.specs.Machine.{Program, setup_of, Machine, next_of, steppable, step, step_by, layout_in, payload_in, served_in}
 use Rattle.ro_event.specs.Effects.{Effect}

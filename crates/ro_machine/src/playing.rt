@@ -1,12 +1,15 @@
 //! Running steps, with what they write going to a sink as it is written.
 ghost use Rattle.std.specs.Prelude.{ℕ, ◌≡◌, ◌+◌, ◌-◌, ◌*◌, ◌<◌, ◌≤◌, ◌∷◌, ◌++◌, [], IfOk, IfErr, length, replicate};
-ghost use Rattle.ro_journal.specs.Plan.{entry_plan, plan_of};
+ghost use Rattle.ro_plans.specs.Plans.{plan_in};
+ghost use Rattle.ro_plans.specs.Walks.{stretch_steps};
 ghost use Rattle.ro_machine.specs.Parts.{Played, Halts};
 
 use crate::errors::{PlanError, StepError};
 use crate::plain::Plain;
 use ro_io::{Sink, send};
 use ro_journal::Entry;
+use ro_plans::{Stretch, Walk};
+use ro_settings::Mode;
 
 /// How far a plan has come.
 #[derive(Clone, Copy, Debug, PartialEq, Eq)]
@@ -109,77 +112,47 @@ fn play<K: Sink>(
     Ok(now)
 }
 
-/// Takes the steps of a journal's entry: those that a vote's thread had retired, and one where its event was served or a trap
-/// taken; and one where a call was freed.
-fn play_entry<K: Sink>(
+/// Takes the steps of a stretch, if there is one.
+fn play_told<K: Sink>(
     plain: &mut Plain,
-    entry: &Entry,
+    told: Option<Stretch>,
     progress: Progress,
     out: &mut K,
 ) -> Result<Progress, PlanError>
     requires unfailed { K.failures out.old ≡ 0 }
-    requires steps { progress.steps + length (entry_plan entry.now) ≤ 1000000000 }
+    requires steps { progress.steps + length (stretch_steps told) ≤ 1000000000 }
     requires bytes { progress.bytes ≤ 4096 * progress.steps }
     ensures bytes { IfOk result (λ p. p.bytes ≤ 4096 * p.steps) }
     ensures failures { K.failures out.old ≤ K.failures out.new }
     ensures calm { IfOk result (λ _. K.failures out.new ≡ K.failures out.old) }
-    ensures played { IfOk result (λ p. Played plain.old (entry_plan entry.now) plain.new (K.held out.old) (K.held out.new) progress.steps p.steps progress.bytes p.bytes) }
-    ensures halts { IfErr result (Halts plain.old (entry_plan entry.now) (K.held out.old) (K.held out.new) progress.steps (K.failures out.old) (K.failures out.new)) }
+    ensures played { IfOk result (λ p. Played plain.old (stretch_steps told) plain.new (K.held out.old) (K.held out.new) progress.steps p.steps progress.bytes p.bytes) }
+    ensures halts { IfErr result (Halts plain.old (stretch_steps told) (K.held out.old) (K.held out.new) progress.steps (K.failures out.old) (K.failures out.new)) }
 {
-    match entry {
-        Entry::Vote {
-            thread,
-            count,
-            did,
-            ..
-        } => play_vote(plain, *thread, *count, did.steps(), progress, out),
-        Entry::Free { thread } => play_one(plain, *thread, progress, out),
-        Entry::Take(_)
-        | Entry::Put { .. }
-        | Entry::Part { .. }
-        | Entry::Scrub { .. }
-        | Entry::End { .. } => { Ok(progress) }
+    match told {
+        Some(Stretch { thread, count }) => play(plain, thread, count, progress, out),
+        None => Ok(progress),
     }
 }
 
-/// Takes so many steps of a thread, and then those of its event.
-fn play_vote<K: Sink>(
-    plain: &mut Plain,
-    thread: u32,
-    count: u32,
-    event: u64,
-    progress: Progress,
-    out: &mut K,
-) -> Result<Progress, PlanError>
-    requires unfailed { K.failures out.old ≡ 0 }
-    requires steps { progress.steps + (count + event) ≤ 1000000000 }
-    requires bytes { progress.bytes ≤ 4096 * progress.steps }
-    ensures bytes { IfOk result (λ p. p.bytes ≤ 4096 * p.steps) }
-    ensures failures { K.failures out.old ≤ K.failures out.new }
-    ensures calm { IfOk result (λ _. K.failures out.new ≡ K.failures out.old) }
-    ensures played { IfOk result (λ p. Played plain.old (replicate count thread ++ replicate event thread) plain.new (K.held out.old) (K.held out.new) progress.steps p.steps progress.bytes p.bytes) }
-    ensures halts { IfErr result (Halts plain.old (replicate count thread ++ replicate event thread) (K.held out.old) (K.held out.new) progress.steps (K.failures out.old) (K.failures out.new)) }
-{
-    let now = play(plain, thread, u64::from(count), progress, out)?;
-    play(plain, thread, event, now, out)
-}
-
-/// Takes the steps of all entries.
+/// Takes the steps that all entries add to the plan.
 pub(crate) fn play_all<K: Sink>(
     plain: &mut Plain,
+    mode: Mode,
     journal: &[Entry],
     out: &mut K,
 ) -> Result<Progress, PlanError>
     requires unfailed { K.failures out.old ≡ 0 }
-    requires length { length (plan_of journal.now) ≤ 1000000000 }
+    requires length { length (plan_in mode journal.now) ≤ 1000000000 }
     ensures failures { K.failures out.old ≤ K.failures out.new }
     ensures calm { IfOk result (λ _. K.failures out.new ≡ K.failures out.old) }
-    ensures played { IfOk result (λ p. Played plain.old (plan_of journal.now) plain.new (K.held out.old) (K.held out.new) 0 p.steps 0 p.bytes) }
-    ensures halts { IfErr result (Halts plain.old (plan_of journal.now) (K.held out.old) (K.held out.new) 0 (K.failures out.old) (K.failures out.new)) }
+    ensures played { IfOk result (λ p. Played plain.old (plan_in mode journal.now) plain.new (K.held out.old) (K.held out.new) 0 p.steps 0 p.bytes) }
+    ensures halts { IfErr result (Halts plain.old (plan_in mode journal.now) (K.held out.old) (K.held out.new) 0 (K.failures out.old) (K.failures out.new)) }
 {
+    let mut walk = Walk::new(mode);
     let mut now = Progress { steps: 0, bytes: 0 };
-    for entry in journal {
-        now = play_entry(plain, entry, now, out)?;
+    for place in 0..journal.len() {
+        let told = walk.steps(journal, place);
+        now = play_told(plain, told, now, out)?;
     }
     Ok(now)
 }

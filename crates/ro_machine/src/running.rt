@@ -1,7 +1,7 @@
 //! Running the plan of a journal.
 ghost use Rattle.std.specs.Prelude.{◌≡◌, ℕ, List, ◌≤◌, IfOk, IfErr, length};
 ghost use Rattle.std.specs.Arc.{arc_value};
-ghost use Rattle.ro_journal.specs.Plan.{plan_of};
+ghost use Rattle.ro_plans.specs.Plans.{plan_in};
 ghost use Rattle.ro_machine.specs.Seen.{machine_of};
 ghost use Rattle.ro_machine.specs.Plans.{RunsPlan, Fails, EndsAs};
 
@@ -11,6 +11,7 @@ use crate::playing::play_all;
 use ro_image::Executable;
 use ro_io::Sink;
 use ro_journal::{Entry, How};
+use ro_settings::Mode;
 use std::alloc::{AllocError, Global};
 use std::sync::Arc;
 
@@ -24,20 +25,21 @@ pub fn run_plan<K: Sink>(
     alloc: Global,
     image: &Arc<Executable>,
     input: &[u8],
+    mode: Mode,
     journal: &[Entry],
     out: &mut K,
 ) -> Result<PlainEnd, PlanError>
-    requires length { length (plan_of journal.now) ≤ 1000000000 }
+    requires length { length (plan_in mode journal.now) ≤ 1000000000 }
     requires unfailed { K.failures out.old ≡ 0 }
-    ensures runs { IfOk result (λ end. RunsPlan (record { image = arc_value image.now; input = input.now }) (plan_of journal.now) (K.held out.old) (K.held out.new) end.how end.bytes) }
-    ensures fails { IfErr result (Fails (record { image = arc_value image.now; input = input.now }) (plan_of journal.now) (K.held out.old) (K.held out.new) (K.failures out.old) (K.failures out.new)) }
+    ensures runs { IfOk result (λ end. RunsPlan (record { image = arc_value image.now; input = input.now }) (plan_in mode journal.now) (K.held out.old) (K.held out.new) end.how end.bytes) }
+    ensures fails { IfErr result (Fails (record { image = arc_value image.now; input = input.now }) (plan_in mode journal.now) (K.held out.old) (K.held out.new) (K.failures out.old) (K.failures out.new)) }
     ensures calm { IfOk result (λ _. K.failures out.new ≡ K.failures out.old) }
     ensures failures { K.failures out.old ≤ K.failures out.new }
 {
     let Ok(mut plain) = Plain::begin(alloc, image, input) else {
         return Err(PlanError::NoMemory);
     };
-    let progress = play_all(&mut plain, journal, out)?;
+    let progress = play_all(&mut plain, mode, journal, out)?;
     match end_of(plain) {
         Ok(how) => Ok(PlainEnd {
             how,

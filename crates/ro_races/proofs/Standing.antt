@@ -1,12 +1,15 @@
 -- Where the steps of a journal's entries stand in a run, and what a run comes to at its end.
-use Rattle.std.specs.Prelude.{◌≡◌, ℕ, zero, suc, ◌+◌, ◌-◌, ◌<◌, ◌≤◌, Bool, List, [], ◌∷◌, ◌++◌, length, take, get_or, replicate, Option, Some, None, slice_get}
-use Rattle.std.proofs.Common.{inl, refl, sym, ap, ap₂, ◌∙◌, subst, arith, length-append, take_all}
+use Rattle.std.specs.Prelude.{◌≡◌, ℕ, zero, suc, ◌+◌, ◌-◌, ◌<◌, ◌≤◌, Bool, List, [], ◌∷◌, ◌++◌, length, take, replicate, Option, Some, None, slice_get}
+use Rattle.std.proofs.Common.{inl, refl, sym, ap, ap₂, ◌∙◌, subst, arith, take_all}
 use Rattle.ro_plain.specs.Machine.{Program, opening, run}
 use Rattle.std.proofs.lemmas.Option.{slice_get_within}
 use Rattle.ro_plain.proofs.Calls.{some-injective, slice_get-append}
 use Rattle.ro_journal.specs.declared.Entry.{Entry}
-use Rattle.ro_journal.specs.Plan.{entry_plan, plan_of}
-use Rattle.ro_machine.proofs.Joined.{plan-next}
+use Rattle.ro_settings.specs.declared.Mode.{Mode}
+use Rattle.ro_plans.specs.declared.walk.Stretch.{Stretch}
+use Rattle.ro_plans.specs.Plans.{plan_in}
+use Rattle.ro_plans.specs.Walks.{Adds, stretch_steps}
+use Rattle.ro_plans.proofs.Prefixes.{plan-begins}
 use Rattle.ro_races.specs.declared.checking.Checker.{Checker}
 use Rattle.ro_races.specs.declared.found.Found.{Found}
 use Rattle.ro_races.specs.declared.found.Found.TheVariants.{NoRace, Pair}
@@ -51,20 +54,12 @@ stands-left threads s p q h i x e = h i x (slice_get-append p q i x e)
 pub stands-right : (threads : List ℕ) (s now : ℕ) (p q : List ℕ) → StandsAt threads s (p ++ q) → now ≡ s + length p → StandsAt threads now q
 stands-right threads s now p q h same i x e = ap (slice_get threads) (let f : now + i ≡ s + (length p + i) = omega arith in f) ∙ h (length p + i) x (slice_get-after p q i x e)
 
-pub stands-entry : (threads : List ℕ) (journal : List Entry) (i : ℕ) (d : Entry) (s now : ℕ) → i < length journal → StandsAt threads s (plan_of journal) → now ≡ s + length (plan_of (take i journal)) → StandsAt threads now (entry_plan (get_or journal i d))
-stands-entry threads [] i d s now less h e = absurd (omega arith)
-stands-entry threads (entry ∷ journal) zero d s now less h e =
-    let f : s ≡ now = omega (arith, e) in
-    subst (λ (n : ℕ). StandsAt threads n (entry_plan entry)) f (stands-left threads s (entry_plan entry) (plan_of journal) h)
-stands-entry threads (entry ∷ journal) (suc i) d s now less h e =
-    stands-entry threads journal i d (s + length (entry_plan entry)) now (omega arith) (stands-right threads s (s + length (entry_plan entry)) (entry_plan entry) (plan_of journal) h refl)
-    (let f = length-append (entry_plan entry) (plan_of (take i journal)) in omega (arith, e, f))
-
-pub steps-next : (journal : List Entry) (i : ℕ) (d : Entry) (now next : ℕ) → i < length journal → now ≡ length (plan_of (take i journal)) → next ≡ now + length (entry_plan (get_or journal i d)) → next ≡ length (plan_of (take (i + 1) journal))
-steps-next journal i d now next less e f =
-    let g = ap length (plan-next journal i d less) in
-    let h = length-append (plan_of (take i journal)) (entry_plan (get_or journal i d)) in
-    omega (arith, e, f, g, h)
+-- what an entry adds
+pub stands-told : (threads : List ℕ) (mode : Mode) (journal : List Entry) (i : ℕ) (told : Option Stretch) (s now : ℕ) → Adds mode journal i told → StandsAt threads s (plan_in mode journal) → now ≡ s + length (plan_in mode (take i journal)) → StandsAt threads now (stretch_steps told)
+stands-told threads mode journal i told s now adds h e =
+    let whole = plan-begins mode journal (i + 1) in
+    let front : StandsAt threads s (plan_in mode (take (i + 1) journal)) = stands-left threads s (plan_in mode (take (i + 1) journal)) whole.rest (subst (StandsAt threads s) whole.is h) in
+    stands-right threads s now (plan_in mode (take i journal)) (stretch_steps told) (subst (StandsAt threads s) adds front) e
 
 -- the whole run stands at its start
 pub stands-whole : (threads : List ℕ) → StandsAt threads 0 threads

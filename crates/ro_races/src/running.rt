@@ -1,7 +1,8 @@
 //! Checking the plan of a journal.
 ghost use Rattle.std.specs.Prelude.{ℕ, List, ◌≡◌, ◌<◌, ◌≤◌, ◌+◌, ◌++◌, OnOk, IfOk, IfErr, length, replicate};
 ghost use Rattle.std.specs.Arc.{arc_value};
-ghost use Rattle.ro_journal.specs.Plan.{entry_plan, plan_of};
+ghost use Rattle.ro_plans.specs.Plans.{plan_in};
+ghost use Rattle.ro_plans.specs.Walks.{stretch_steps};
 ghost use Rattle.ro_plain.specs.Machine.{Program};
 ghost use Rattle.ro_races.specs.Shadows.{IsTable, AreTables};
 ghost use Rattle.ro_machine.specs.Lanes.{IsOpen};
@@ -15,6 +16,8 @@ use crate::sources::own_place;
 use ro_image::Executable;
 use ro_journal::Entry;
 use ro_machine::{Lane, Plain};
+use ro_plans::{Stretch, Walk};
+use ro_settings::Mode;
 use std::alloc::{AllocError, Global};
 use std::collections::HashMap;
 use std::sync::Arc;
@@ -30,16 +33,17 @@ pub fn check(
     alloc: Global,
     image: &Arc<Executable>,
     input: &[u8],
+    mode: Mode,
     journal: &[Entry],
 ) -> Result<Found, RacesError>
-    requires { length (plan_of journal.now) ≤ 1000000000 }
-    ensures checks { IfOk result (Checks (record { image = arc_value image.now; input = input.now }) (plan_of journal.now)) }
-    ensures lacks { IfErr result (Lacks (record { image = arc_value image.now; input = input.now }) (plan_of journal.now)) }
+    requires { length (plan_in mode journal.now) ≤ 1000000000 }
+    ensures checks { IfOk result (Checks (record { image = arc_value image.now; input = input.now }) (plan_in mode journal.now)) }
+    ensures lacks { IfErr result (Lacks (record { image = arc_value image.now; input = input.now }) (plan_in mode journal.now)) }
 {
     let Ok(mut checker) = begin(alloc, image, input) else {
         return Err(RacesError::NoMemory);
     };
-    check_all(alloc, &mut checker, journal)?;
+    check_all(alloc, &mut checker, mode, journal)?;
     Ok(checker.found)
 }
 
@@ -178,72 +182,45 @@ fn check_steps(
     Ok(())
 }
 
-/// Takes so many steps of a thread, and then those of its event.
-fn check_vote(
-    alloc: Global,
-    checker: &mut Checker,
-    thread: u32,
-    count: u32,
-    event: u64,
-) -> Result<(), RacesError>
-    requires steps { checker.old.steps + (count + event) ≤ 1000000000 }
+/// Takes the steps of a stretch, if there is one.
+fn check_told(alloc: Global, checker: &mut Checker, told: Option<Stretch>) -> Result<(), RacesError>
+    requires steps { checker.old.steps + length (stretch_steps told) ≤ 1000000000 }
     requires reads { IsTable checker.old.reads.items }
     requires writes { IsTable checker.old.writes.items }
     requires atomics { AreTables checker.old.atomics }
     ensures reads { IsTable checker.new.reads.items }
     ensures writes { IsTable checker.new.writes.items }
     ensures atomics { AreTables checker.new.atomics }
-    ensures steps { OnOk result (checker.new.steps ≡ checker.old.steps + (count + event)) }
-    ensures follows { OnOk result ((program : Program) (threads : List ℕ) → Follows program threads checker.old → StandsAt threads checker.old.steps (replicate count thread ++ replicate event thread) → Follows program threads checker.new) }
-    ensures lacks { IfErr result (λ error. (program : Program) (threads : List ℕ) → Follows program threads checker.old → StandsAt threads checker.old.steps (replicate count thread ++ replicate event thread) → Lacks program threads error) }
+    ensures steps { OnOk result (checker.new.steps ≡ checker.old.steps + length (stretch_steps told)) }
+    ensures follows { OnOk result ((program : Program) (threads : List ℕ) → Follows program threads checker.old → StandsAt threads checker.old.steps (stretch_steps told) → Follows program threads checker.new) }
+    ensures lacks { IfErr result (λ error. (program : Program) (threads : List ℕ) → Follows program threads checker.old → StandsAt threads checker.old.steps (stretch_steps told) → Lacks program threads error) }
 {
-    check_steps(alloc, checker, thread, u64::from(count))?;
-    check_steps(alloc, checker, thread, event)
-}
-
-/// Takes the steps of a journal's entry: those that a vote's thread had retired, and one where its event was served or a trap
-/// taken; and one where a call was freed.
-fn check_entry(alloc: Global, checker: &mut Checker, entry: &Entry) -> Result<(), RacesError>
-    requires steps { checker.old.steps + length (entry_plan entry.now) ≤ 1000000000 }
-    requires reads { IsTable checker.old.reads.items }
-    requires writes { IsTable checker.old.writes.items }
-    requires atomics { AreTables checker.old.atomics }
-    ensures reads { IsTable checker.new.reads.items }
-    ensures writes { IsTable checker.new.writes.items }
-    ensures atomics { AreTables checker.new.atomics }
-    ensures steps { OnOk result (checker.new.steps ≡ checker.old.steps + length (entry_plan entry.now)) }
-    ensures follows { OnOk result ((program : Program) (threads : List ℕ) → Follows program threads checker.old → StandsAt threads checker.old.steps (entry_plan entry.now) → Follows program threads checker.new) }
-    ensures lacks { IfErr result (λ error. (program : Program) (threads : List ℕ) → Follows program threads checker.old → StandsAt threads checker.old.steps (entry_plan entry.now) → Lacks program threads error) }
-{
-    match entry {
-        Entry::Vote {
-            thread,
-            count,
-            did,
-            ..
-        } => check_vote(alloc, checker, *thread, *count, did.steps()),
-        Entry::Free { thread } => check_steps(alloc, checker, *thread, 1),
-        Entry::Take(_)
-        | Entry::Put { .. }
-        | Entry::Part { .. }
-        | Entry::Scrub { .. }
-        | Entry::End { .. } => Ok(()),
+    match told {
+        Some(stretch) => check_steps(alloc, checker, stretch.thread, stretch.count),
+        None => Ok(()),
     }
 }
 
-/// Takes the steps of all entries.
-fn check_all(alloc: Global, checker: &mut Checker, journal: &[Entry]) -> Result<(), RacesError>
+/// Takes the steps that all entries add to the plan.
+fn check_all(
+    alloc: Global,
+    checker: &mut Checker,
+    mode: Mode,
+    journal: &[Entry],
+) -> Result<(), RacesError>
     requires start { checker.old.steps ≡ 0 }
-    requires steps { length (plan_of journal.now) ≤ 1000000000 }
+    requires steps { length (plan_in mode journal.now) ≤ 1000000000 }
     requires reads { IsTable checker.old.reads.items }
     requires writes { IsTable checker.old.writes.items }
     requires atomics { AreTables checker.old.atomics }
-    ensures steps { OnOk result (checker.new.steps ≡ length (plan_of journal.now)) }
-    ensures follows { OnOk result ((program : Program) (threads : List ℕ) → Follows program threads checker.old → StandsAt threads 0 (plan_of journal.now) → Follows program threads checker.new) }
-    ensures lacks { IfErr result (λ error. (program : Program) (threads : List ℕ) → Follows program threads checker.old → StandsAt threads 0 (plan_of journal.now) → Lacks program threads error) }
+    ensures steps { OnOk result (checker.new.steps ≡ length (plan_in mode journal.now)) }
+    ensures follows { OnOk result ((program : Program) (threads : List ℕ) → Follows program threads checker.old → StandsAt threads 0 (plan_in mode journal.now) → Follows program threads checker.new) }
+    ensures lacks { IfErr result (λ error. (program : Program) (threads : List ℕ) → Follows program threads checker.old → StandsAt threads 0 (plan_in mode journal.now) → Lacks program threads error) }
 {
-    for entry in journal {
-        check_entry(alloc, checker, entry)?;
+    let mut walk = Walk::new(mode);
+    for place in 0..journal.len() {
+        let told = walk.steps(journal, place);
+        check_told(alloc, checker, told)?;
     }
     Ok(())
 }

@@ -8,9 +8,20 @@ ghost use Rattle.std.specs.Prelude.{IsTrue, ◌≡◌, ◌↔◌};
 
 pub use options::{DRIVERS, LIMIT, NumberOption, OPTIONS, QUANTUM, REPLICAS, SCRUB, WATCHDOG};
 
-/// The settings of a run; `OPTIONS` has their ranges.
+/// How the replicas of a run agree on what they do.
+#[derive(Clone, Copy, PartialEq, Eq, Debug)]
+pub enum Mode {
+    /// By votes alone.
+    Voted,
+    /// Threads agree on the order in which they get mutexes without a vote, through a lock page; all else is voted on.
+    Cooperative,
+}
+
+/// The settings of a run; `OPTIONS` has the ranges of its numbers.
 #[derive(Clone, Copy, PartialEq, Eq, Debug)]
 pub struct Settings {
+    /// How the replicas agree.
+    pub mode: Mode,
     /// How many replicas there are, 2, 3 or 5.
     pub replicas: u32,
     /// How many drivers.
@@ -26,8 +37,9 @@ pub struct Settings {
 }
 
 impl Settings {
-    /// Three replicas, three drivers, and the usual bounds.
+    /// Three replicas that vote, three drivers, and the usual bounds.
     pub const DEFAULT: Settings = Settings {
+        mode: Mode::Voted,
         replicas: REPLICAS.usual as u32,
         drivers: DRIVERS.usual as u32,
         watchdog: WATCHDOG.usual as u32,

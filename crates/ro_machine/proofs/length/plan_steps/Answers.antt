@@ -1,15 +1,17 @@
-use Rattle.std.proofs.Common.{◌<◌, arith, ap, take, get_or, length, length-append}
-use Rattle.ro_journal.specs.Leases.{lease_to}
-use Rattle.ro_journal.specs.declared.Entry.TheVariants.{Take}
-use Rattle.ro_journal.specs.Plan.{entry_plan, plan_of}
-use Rattle.ro_machine.proofs.Joined.{plan-next}
+use Rattle.std.proofs.Common.{◌+◌, ◌^◌, ◌<◌, ◌∙◌, sym, subst, arith, length, take}
+use Rattle.ro_settings.specs.declared.Mode.{Mode}
+use Rattle.ro_plans.specs.Plans.{plan_in}
+use Rattle.ro_plans.specs.Walks.{AddsSoMany}
 use Rattle.ro_machine.proofs.length.plan_steps.Goals as goal
 
-pub loop-entry-preserved : goal.loop-entry-preserved
-loop-entry-preserved c =
-    let less : c.loop-entry.entry-index < length c.args.journal.now = omega arith in
-    let next = ap length (plan-next c.args.journal.now c.loop-entry.entry-index (Take (lease_to 0 0 0)) less) in
+pub loop-place-preserved : goal.loop-place-preserved
+loop-place-preserved c =
+    let i = c.loop-place.invariant in
+    let adds = subst (λ (mode : Mode). AddsSoMany mode c.args.journal.now c.loop-place.place c.count-next.result) i.mode c.count-next.ensures.adds in
+    let few : length (plan_in c.args.mode (take (c.loop-place.place + 1) c.args.journal.now)) < 2 ^ 64 = omega (arith, adds, i.is, i.few) in
     record {
-      is = omega (arith, next, c.loop-entry.invariant.is, c.steps-next.ensures, length-append (plan_of (take c.loop-entry.entry-index c.args.journal.now)) (entry_plan (get_or c.args.journal.now c.loop-entry.entry-index (Take (lease_to 0 0 0)))));
-      few = omega arith;
+      mode = c.count-next.ensures.mode ∙ i.mode;
+      passed = c.count-next.ensures.passed (subst (λ (mode : Mode). length (plan_in mode (take (c.loop-place.place + 1) c.args.journal.now)) < 2 ^ 64) (sym i.mode) few);
+      is = omega (arith, i.is, adds);
+      few = omega (arith, i.few);
     }

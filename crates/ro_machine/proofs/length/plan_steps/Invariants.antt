@@ -1,9 +1,12 @@
 use Rattle.std.proofs.Common.{◌≡◌, ◌≤◌, length, take}
-use Rattle.ro_journal.specs.Plan.{plan_of}
+use Rattle.ro_plans.specs.Plans.{plan_in}
+use Rattle.ro_plans.specs.Walks.{Passed, mode_of}
 use Rattle.ro_machine.proofs.length.plan_steps.Given as goal
 
-abbrev pub invariant-loop-entry : goal.invariant-loop-entry
-invariant-loop-entry l = record {
-  is : l.steps ≡ length (plan_of (take l.entry-index l.journal));
+abbrev pub invariant-loop-place : goal.invariant-loop-place
+invariant-loop-place l = record {
+  mode : mode_of l.walk ≡ l.fn.mode;
+  passed : Passed l.walk (take l.place l.journal);
+  is : l.steps ≡ length (plan_in l.fn.mode (take l.place l.journal));
   few : l.steps ≤ 1000000000;
 }

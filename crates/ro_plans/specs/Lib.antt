@@ -1,0 +1,4 @@
+pub mod First
+pub mod Plans
+pub mod Walks
+pub mod Rows

@@ -62,6 +62,9 @@ pub mod InTime
 -- ---- cooperative runs
 -- journals that grow at their end
 pub mod TogetherJournals
+-- how a legal one ends
+pub mod TogetherOutcomes
+pub mod TogetherLasts
 -- what a lease's run keeps of its replica
 pub mod TogetherRuns
 -- how many steps there are, and how many each thread has retired
@@ -78,5 +81,12 @@ pub mod MutexEvents
 pub mod Mutexes
 -- a lease lasts until its own driver brings it back
 pub mod TogetherLeases
+-- with one driver each lease comes back in the next entry
+pub mod TogetherTurns
 -- and ranks only grow
 pub mod TogetherRanks
+-- for whom a thread gives way at a lock
+pub mod Awaited
+-- ---- what holds in both modes, and so of every run
+pub mod Modes
+pub mod Rules

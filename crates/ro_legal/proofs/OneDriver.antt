@@ -8,7 +8,7 @@ use Rattle.ro_journal.specs.declared.Entry.{Entry}
 use Rattle.ro_journal.specs.declared.Entry.TheVariants.{Take, Put, Part, Vote, Free, Scrub, End}
 use Rattle.ro_replica.specs.Runs.{RanTo}
 use Rattle.ro_journal.specs.declared.Lease.{Lease}
-use Rattle.ro_legal.specs.Core.{Job, Core, opening_core, is_lease}
+use Rattle.ro_legal.specs.Core.{Job, Core, opening_core, is_lease, is_out}
 use Rattle.ro_legal.specs.Event.{with_recovered}
 use Rattle.ro_legal.specs.Legal.{core_after_put, event_in, freed_event, after, MayTake, MayPut, LegalFrom, Legal, replay_from, replay}
 use Rattle.ro_legal.specs.Sound.{IsOrdered}
@@ -22,32 +22,32 @@ or_false false = refl
 
 -- what is taken comes back, and nothing is lent then
 module _ (job : Job) (one : job.settings.drivers ≡ 1) where
-  first : (core : Core) (lease : Lease) → MayTake job core lease → lease.driver ≡ 0
+  pub first : (core : Core) (lease : Lease) → MayTake job core lease → lease.driver ≡ 0
   first core lease m = let less : lease.driver < job.settings.drivers = m.driver_exists in omega arith
 
   -- the core in which one lease is out
-  abbrev lent_out : Core → Lease → Core
+  abbrev pub lent_out : Core → Lease → Core
   lent_out core lease = record core { leases = lease ∷ []; wrote = 0 }
 
   taken : (core : Core) (lease : Lease) → core.leases ≡ [] → after job core (Take lease) ≡ lent_out core lease
   unfolding after
   taken core lease home = ap (λ (ls : List Lease). record core { leases = lease ∷ ls; wrote = 0 }) home
 
-  still_lent : (core : Core) (lease : Lease) → (lent_out core lease).leases ≡ [] → ⊥
+  pub still_lent : (core : Core) (lease : Lease) → (lent_out core lease).leases ≡ [] → ⊥
   still_lent core lease e = cc (e)
 
-  -- the put of the one lease
-  its_put : (core : Core) (lease back : Lease) (count hit : ℕ) → MayPut job (lent_out core lease) back count hit → is_lease back lease ≡ true
-  its_put core lease back count hit m = sym (or_false (is_lease back lease)) ∙ m.out
+  -- what comes back is the one lease
+  pub its_own : (core : Core) (lease back : Lease) → is_out (lent_out core lease) back ≡ true → is_lease back lease ≡ true
+  its_own core lease back out = sym (or_false (is_lease back lease)) ∙ out
 
   put_home : (core : Core) (lease back : Lease) (count hit : ℕ) → MayPut job (lent_out core lease) back count hit → (after job (lent_out core lease) (Put back count hit)).leases ≡ []
   unfolding after
   put_home core lease back count hit m =
       ap (λ (o : Option RanTo). (core_after_put job (lent_out core lease) back count o).leases) m.runs
-      ∙ ap (λ (b : Bool). cond (not b) (lease ∷ []) []) (its_put core lease back count hit m)
+      ∙ ap (λ (b : Bool). cond (not b) (lease ∷ []) []) (its_own core lease back m.out)
 
   -- another take of the one driver
-  no_take : (core : Core) (lease other : Lease) → lease.driver ≡ 0 → MayTake job (lent_out core lease) other → ⊥
+  pub no_take : (core : Core) (lease other : Lease) → lease.driver ≡ 0 → MayTake job (lent_out core lease) other → ⊥
   no_take core lease other zero_is m =
       let o : other.driver ≡ 0 = first (lent_out core lease) other m in
       let held : (lease.driver == other.driver) ≡ true = eq-eqb lease.driver other.driver (zero_is ∙ sym o) in
@@ -79,7 +79,7 @@ module _ (job : Job) (one : job.settings.drivers ≡ 1) where
       let zero_is = first core lease legal.0 in
       let o' = ordered-after job core (Take lease) legal.0 o in
       let home' : (after job (after job core (Take lease)) (Put back n k)).leases ≡ [] = ap (λ (c : Core). (after job c (Put back n k)).leases) (taken core lease home) ∙ put_home core lease back n k m in
-      (zero_is, ap (λ (l : Lease). l.driver) (sym (same-lease back lease (its_put core lease back n k m))) ∙ zero_is, turns_from (after job (after job core (Take lease)) (Put back n k)) js (ordered-after job (after job core (Take lease)) (Put back n k) legal.1.0 o') legal.1.1 home' end)
+      (zero_is, ap (λ (l : Lease). l.driver) (sym (same-lease back lease (its_own core lease back m.out))) ∙ zero_is, turns_from (after job (after job core (Take lease)) (Put back n k)) js (ordered-after job (after job core (Take lease)) (Put back n k) legal.1.0 o') legal.1.1 home' end)
   turns_from core (Take lease ∷ Part back n k ∷ js) o legal home end = absurd legal.1.0
   turns_from core (Take lease ∷ Vote v n w l i ∷ js) o legal home end =
       still_lent core lease (sym (ap (λ (c : Core). c.leases) (taken core lease home)) ∙ (vote-parts (after job core (Take lease)) v legal.1.0.may).alone)

@@ -3,6 +3,7 @@ use Rattle.std.proofs.Common.{◌≡◌, List, [], ◌∷◌, ◌++◌, refl}
 use Rattle.ro_journal.specs.declared.Entry.{Entry}
 use Rattle.ro_legal.specs.Core.{Job, Core}
 use Rattle.ro_legal.specs.Cooperative.{opening_core, after, IsAllowed, LegalFrom, Legal, replay_from, replay}
+use Rattle.ro_legal.specs.Choices.{EachIsNext}
 
 replay_from-append : (job : Job) (core : Core) (xs ys : List Entry) → replay_from job core (xs ++ ys) ≡ replay_from job (replay_from job core xs) ys
 replay_from-append job core [] ys = refl
@@ -11,6 +12,10 @@ replay_from-append job core (x ∷ xs) ys = replay_from-append job (after job co
 LegalFrom-append : (job : Job) (core : Core) (xs ys : List Entry) → LegalFrom job core xs → LegalFrom job (replay_from job core xs) ys → LegalFrom job core (xs ++ ys)
 LegalFrom-append job core [] ys l m = m
 LegalFrom-append job core (x ∷ xs) ys l m = (l.0, LegalFrom-append job (after job core x) xs ys l.1 m)
+
+pub EachIsNext-append : (job : Job) (core : Core) (xs ys : List Entry) → EachIsNext job core xs → EachIsNext job (replay_from job core xs) ys → EachIsNext job core (xs ++ ys)
+EachIsNext-append job core [] ys l m = m
+EachIsNext-append job core (x ∷ xs) ys l m = (l.0, EachIsNext-append job (after job core x) xs ys l.1 m)
 
 pub LegalFrom-parts : (job : Job) (core : Core) (xs ys : List Entry) → LegalFrom job core (xs ++ ys) → LegalFrom job core xs × LegalFrom job (replay_from job core xs) ys
 LegalFrom-parts job core [] ys l = (tt, l)

@@ -1,5 +1,5 @@
 -- A lease of a cooperative run stays out, and its peer and the kernel as they were, until its own driver brings it back.
-use Rattle.std.specs.Prelude.{◌≡◌, ◌≢◌, ℕ, ◌<◌, ◌==◌, Bool, true, false, not, cond, List, [], ◌∷◌, ◌++◌, Option, Some, None, slice_get, slice_set}
+use Rattle.std.specs.Prelude.{◌≡◌, ◌≢◌, ℕ, ◌<◌, ◌==◌, ◌||◌, Bool, true, false, not, cond, List, [], ◌∷◌, ◌++◌, Option, Some, None, slice_get, slice_set}
 use Rattle.std.specs.List.{filter, find}
 use Rattle.std.specs.Option.{option_and_then, option_map}
 use Rattle.std.proofs.Common.{refl, sym, ap, ◌∙◌, subst, arith, eqb-true, ne_eqb}
@@ -22,9 +22,9 @@ use Rattle.ro_legal.specs.Event.{Event}
 use Rattle.ro_legal.specs.Legal.{MayTake}
 use Rattle.ro_legal.specs.Laws.{Names}
 use Rattle.ro_legal.specs.Kept.{KeepsReplicas, HasPeer}
-use Rattle.ro_legal.specs.Cooperative.{opening_core, lease_gets, arrival, parking_of, side_after, stopped, core_after_lease, core_after_put, core_after_part, voted_stop, voted_event, freed_event, core_after_event, after, MayEnd, due, alone, for_vote, for_free, IsAllowed, Legal, replay}
+use Rattle.ro_legal.specs.Cooperative.{opening_core, lease_gets, arrival, parking_of, side_after, stopped, core_after_lease, core_after_put, core_after_part, lease_run, voted_stop, voted_event, freed_event, core_after_event, after, MayEnd, due, alone, for_vote, for_free, IsAllowed, Legal, replay}
 use Rattle.ro_legal.proofs.Lists.{changed-other}
-use Rattle.ro_legal.proofs.Leases.{has_driver, Apart, OneEach, same-lease, differ-filter, gone_number, apart_take, one_take}
+use Rattle.ro_legal.proofs.Leases.{has_driver, has-filter, not_false, Apart, OneEach, same-lease, differ-filter, gone_number, apart_take, one_take}
 use Rattle.ro_legal.proofs.Lasting.{none_found, found_in_rest, other_replica, AreBelow, below-filter, none_left}
 use Rattle.ro_legal.proofs.Ordered.{none-lent-is, vote-parts, free-parts}
 use Rattle.ro_legal.proofs.Together.{keeps-replicas}
@@ -33,7 +33,7 @@ use Rattle.ro_legal.proofs.TogetherJournals.{LegalFrom-parts, legal-keeps, repla
 -- ---- the leases that are out
 
 -- those after an event are those before it
-event-leases : (job : Job) (core : Core) (thread : ℕ) (stop : Option Stop) (event : Option Event) → (core_after_event job core thread stop event).leases ≡ core.leases
+pub event-leases : (job : Job) (core : Core) (thread : ℕ) (stop : Option Stop) (event : Option Event) → (core_after_event job core thread stop event).leases ≡ core.leases
 event-leases job core thread stop None = refl
 event-leases job core thread stop (Some event) = refl
 
@@ -99,6 +99,25 @@ part-idles job journal lease count hit legal =
     ∙ none-held core lease (one-each job journal parts.0) parts.1.0.ran.out)
 
 -- ---- what another driver's entry leaves
+
+idle-put : (job : Job) (core : Core) (driver : ℕ) (other : Lease) (count : ℕ) → is_idle core driver ≡ true → (o : Option Peer) → is_idle (core_after_put job core other count o) driver ≡ true
+idle-put job core driver other count idle None = idle
+idle-put job core driver other count idle (Some peer) = ap not (has-filter (λ lease. lease.driver) (λ l. not (is_lease other l)) driver core.leases (not_false (has_driver driver core.leases) idle))
+
+idle-part : (job : Job) (core : Core) (driver : ℕ) (other : Lease) (count : ℕ) → is_idle core driver ≡ true → (o : Option Peer) → is_idle (core_after_part job core other count o) driver ≡ true
+idle-part job core driver other count idle None = idle
+idle-part job core driver other count idle (Some peer) = ap not (has-filter (λ lease. lease.driver) (λ l. not (is_lease other l)) driver core.leases (not_false (has_driver driver core.leases) idle))
+
+-- an entry that doesn't name the driver lends it nothing
+pub idle-after : (job : Job) (core : Core) (driver by : ℕ) (entry : Entry) → Names by entry → by ≢ driver → is_idle core driver ≡ true → is_idle (after job core entry) driver ≡ true
+unfolding after
+idle-after job core driver by (Take other) names ne idle = ap (λ (b : Bool). not (b || has_driver driver core.leases)) (ne_eqb other.driver driver (λ e. ne (sym names ∙ e))) ∙ idle
+idle-after job core driver by (Put other count hit) names ne idle = idle-put job core driver other count idle (lease_run job core other count)
+idle-after job core driver by (Part other count hit) names ne idle = idle-part job core driver other count idle (lease_run job core other count)
+idle-after job core driver by (Vote thread count won lost did) names ne idle = ap (λ (ls : List Lease). not (has_driver driver ls)) (event-leases job core thread (voted_stop core thread) (voted_event job core thread)) ∙ idle
+idle-after job core driver by (Free thread) names ne idle = ap (λ (ls : List Lease). not (has_driver driver ls)) (event-leases job core thread _ (freed_event job core thread)) ∙ idle
+idle-after job core driver by (Scrub won lost) names ne idle = idle
+idle-after job core driver by (End how) names ne idle = idle
 
 -- nothing is lent where an end comes
 pub end-alone : (job : Job) (core : Core) (how : How) → MayEnd job core how → KeepsReplicas job core → core.leases ≡ []

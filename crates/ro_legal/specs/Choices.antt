@@ -1,12 +1,12 @@
 -- What a cooperative core does next: which entry decides a vote or a free, and which comes next.
-use Rattle.std.specs.Prelude.{◌≡◌, ◌⊎◌, ℕ}
+use Rattle.std.specs.Prelude.{◌≡◌, ◌⊎◌, ℕ, List, [], ◌∷◌}
 use Rattle.ro_journal.specs.declared.Entry.{Entry}
 use Rattle.ro_journal.specs.declared.Entry.TheVariants.{Take, Put, Part, Vote, Free, Scrub, End}
 use Rattle.ro_legal.specs.declared.actions.Action.TheVariants.{Vote as DoVote, Free as DoFree, Lend, End as DoEnd}
 use Rattle.ro_legal.specs.Core.{Job, Core}
 use Rattle.ro_legal.specs.Legal.{EndsFree, EndsAlone}
 use Rattle.ro_legal.specs.Action.{next_action}
-use Rattle.ro_legal.specs.Cooperative.{EndsVote}
+use Rattle.ro_legal.specs.Cooperative.{EndsVote, after}
 
 -- the entry decides the vote on a thread: the vote itself, or an end in its place
 abbrev pub DecidesVote : Job → Core → (thread : ℕ) → Entry → Type 0
@@ -32,3 +32,7 @@ IsNext job core (End how) =
     (next_action job core ≡ DoEnd how) ⊎ EndsAlone job core how
     ⊎ ((thread : ℕ) × (next_action job core ≡ DoVote thread) × EndsVote job core thread how)
     ⊎ ((thread : ℕ) × (next_action job core ≡ DoFree thread) × EndsFree job core how)
+
+abbrev pub EachIsNext : Job → Core → List Entry → Type 0
+EachIsNext job core [] = Unit {0}
+EachIsNext job core (entry ∷ journal) = IsNext job core entry × EachIsNext job (after job core entry) journal

@@ -14,3 +14,5 @@ pub mod Cooperative
 pub mod Lent
 pub mod Kept
 pub mod Choices
+pub mod Modes
+pub mod Rules

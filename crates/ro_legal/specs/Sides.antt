@@ -1,6 +1,6 @@
 -- What a replica has beside in a cooperative run, where it answers the calls on some mutexes by itself.
 pub use Rattle.ro_legal.specs.declared.parkings.Parking.{Parking}
-use Rattle.std.specs.Prelude.{ℕ, ◌+◌, Bool, false, ◌==◌, nat_le, if◌then◌else◌, List, [], ◌∷◌, Option, None, slice_get}
+use Rattle.std.specs.Prelude.{ℕ, ◌+◌, Bool, false, ◌&&◌, ◌==◌, nat_le, if◌then◌else◌, List, [], ◌∷◌, Option, None, slice_get}
 use Rattle.std.specs.List.{list_any}
 use Rattle.std.specs.Option.{option_map_or}
 use Rattle.ro_replica.specs.Replica.{Replica}
@@ -50,3 +50,7 @@ most_apart = 1024
 -- some replica is so far behind that a rank of the mutex is not to be got yet
 abbrev pub is_ahead : List Side → (mutex rank : ℕ) → Bool
 is_ahead sides mutex rank = list_any (λ side. nat_le (rank_in side.mutexes mutex + most_apart) rank) sides
+
+-- a thread that came back at a lock found the mutex free there, at this rank
+abbrev pub has_asked : Parking → (rank : ℕ) → Bool
+has_asked parking rank = parking.asked && (rank == parking.rank)

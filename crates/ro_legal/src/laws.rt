@@ -137,3 +137,8 @@ pub fn cooperative_leases_come_back()
     ensures part { (job : Job) (journal : List Entry) (lease : Lease) (count hit : ℕ) → LegalTogether job (journal ++ Part lease count hit ∷ []) → is_idle (replay_together job (journal ++ Part lease count hit ∷ [])) lease.driver ≡ true }
     ensures idle { (job : Job) (journal : List Entry) → LegalTogether job journal → ((driver : ℕ) → driver < job.settings.drivers → is_idle (replay_together job journal) driver ≡ true) → (replay_together job journal).leases ≡ [] }
 {}
+
+/// With one driver of a cooperative run, what it takes comes back in the next entry.
+pub fn cooperative_drivers_take_turns()
+    ensures { (job : Job) → job.settings.drivers ≡ 1 → (journal : List Entry) → LegalTogether job journal → (replay_together job journal).leases ≡ [] → TakesTurns journal }
+{}

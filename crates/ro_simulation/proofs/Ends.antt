@@ -24,9 +24,9 @@ use Rattle.ro_plain.specs.Machine.{Program, setup_of, Machine, called, step_by, 
 use Rattle.ro_plain.specs.Order.{RaceFree}
 use Rattle.ro_plain.proofs.Calls.{steppable-parts, step-at}
 use Rattle.ro_journal.specs.declared.Lease.{Lease}
-use Rattle.ro_legal.specs.Core.{Job, Core, is_going, nothing_lent, is_home, is_lendable, may_vote, may_free, views_of, snapshots_of}
+use Rattle.ro_legal.specs.Core.{Job, Core, any_below, is_going, nothing_lent, is_home, is_lendable, may_vote, may_free, views_of, snapshots_of}
 use Rattle.ro_replica.specs.Views.{is_unstopped}
-use Rattle.ro_legal.specs.Legal.{any_below, is_stuck, may_scrub, MayEnd, due, alone, for_vote, for_free, for_scrub}
+use Rattle.ro_legal.specs.Legal.{is_stuck, may_scrub, MayEnd, due, alone, for_vote, for_free, for_scrub}
 use Rattle.ro_legal.proofs.Leases.{awake-lendable}
 use Rattle.ro_legal.proofs.Ordered.{scrub-parts}
 use Rattle.ro_vote.specs.Prevails.{NonePrevails}

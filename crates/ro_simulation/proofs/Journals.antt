@@ -10,7 +10,6 @@ use Rattle.ro_journal.specs.declared.Entry.{Entry}
 use Rattle.ro_journal.specs.declared.Entry.TheVariants.{Take, Put, Part, Vote, Free, Scrub, End}
 use Rattle.ro_journal.specs.declared.losers.Lost.{Lost}
 use Rattle.ro_journal.specs.Losers.{numbers}
-use Rattle.ro_journal.specs.Plan.{outcome_of}
 use Rattle.ro_kernel.specs.Serve.{Served, Done, Parked, Blocked, Ends, serve}
 use Rattle.ro_kernel.specs.Kernel.{Kernel}
 use Rattle.ro_replica.specs.Replica.{Replica}
@@ -25,9 +24,8 @@ use Rattle.ro_legal.proofs.Outcomes.{ended-none, over_from}
 use Rattle.ro_vote.specs.Numbers.{is_among, AtMostHalf}
 use Rattle.ro_simulation.specs.Invariant.{Agrees, TracksIdeal}
 use Rattle.ro_simulation.specs.Theorem.{event_payload, payload_by, payloads_from, payloads_of}
-use Rattle.ro_simulation.proofs.Kept.{going-from}
-use Rattle.ro_simulation.proofs.Votes.{vote-parts, after-vote}
-use Rattle.ro_simulation.proofs.Frees.{free-parts, after-free}
+use Rattle.ro_simulation.proofs.Votes.{after-vote}
+use Rattle.ro_simulation.proofs.Frees.{after-free}
 use Rattle.ro_simulation.proofs.Entries.{after-take, after-calm-put, after-struck-put}
 use Rattle.ro_simulation.proofs.Scrubs.{after-scrub}
 use Rattle.ro_simulation.proofs.Opening.{opening-holds}

@@ -11,7 +11,7 @@ use Rattle.ro_plain.specs.Machine.{IsExecution, AllEnd}
 use Rattle.ro_plain.specs.Order.{RaceFree}
 use Rattle.ro_plain.proofs.Calls.{some-injective}
 use Rattle.ro_legal.proofs.Outcomes.{ended_is_outcome}
-use Rattle.ro_legal.specs.Core.{Job, Core, opening_core}
+use Rattle.ro_legal.specs.Core.{Job, Core}
 use Rattle.ro_legal.specs.Legal.{MayEnd, due, alone, for_vote, for_free, for_scrub, Legal, replay}
 use Rattle.ro_legal.specs.Ideal.{StaysApart}
 use Rattle.ro_legal.specs.Sound.{IsOver}

@@ -41,7 +41,7 @@ use Rattle.ro_plain.proofs.Swap.{at-both}
 use Rattle.ro_plain.proofs.Wider.{layout-same}
 use Rattle.ro_simulation.specs.Guests.{locking_guest}
 use Rattle.ro_legal.proofs.Lists.{get-within, get-set-same, get-set-cases, get-append-cases}
-use Rattle.ro_simulation.proofs.Entries.{or-cases, or-left, or-right}
+use Rattle.ro_simulation.proofs.Entries.{or-cases}
 
 -- the registers of the guest's threads
 abbrev pub cpu_at : (pc ra sp gp tp s0 s1 a0 a1 a2 a3 a7 : ℕ) → Cpu

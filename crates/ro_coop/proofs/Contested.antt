@@ -28,7 +28,7 @@ use Rattle.ro_orders.specs.Guests.{two_locks, two_trylocks, two_waits}
 use Rattle.ro_orders.proofs.Tables.{by-table}
 use Rattle.ro_peer.specs.Peers.{Peer, leased}
 use Rattle.ro_peer.specs.Gets.{Get, InRows}
-use Rattle.ro_legal.specs.Core.{opening_core as opening_voted, is_lendable, may_vote, views_of}
+use Rattle.ro_legal.specs.Core.{opening_core as opening_voted, is_awaited, is_lendable, may_vote, views_of}
 use Rattle.ro_legal.specs.Event.{event_of}
 use Rattle.ro_legal.specs.Legal.{is_stuck}
 use Rattle.ro_legal.specs.Cooperative.{opening_core, after, lease_run, MayPart, for_vote, EndsVote, Legal, replay, gets_from}
@@ -95,7 +95,7 @@ writers-steps = refl
 -- ---- who is lent
 
 pub lent-asked : is_lendable (replay writers_job writers_asked) 1 1 ≡ false
-unfolding in_table opening_core opening_voted after opening_replica first_cpu made_cpu next fetch_stop instruction_stop instruction_of call_at permits_of alu_of taken_by meaning serve payload_of event_of applied cancelled leased
+unfolding in_table opening_core opening_voted after opening_replica first_cpu made_cpu next fetch_stop instruction_stop instruction_of call_at permits_of alu_of taken_by meaning serve payload_of event_of applied cancelled leased is_awaited
 lent-asked = refl
 
 pub lent-got : is_lendable (replay writers_job writers_got) 1 1 ≡ true

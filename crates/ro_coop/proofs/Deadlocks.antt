@@ -35,23 +35,25 @@ use Rattle.ro_orders.proofs.Tables.{chosen-by-locks}
 use Rattle.ro_peer.specs.declared.mutexes.Mutex.{Mutex}
 use Rattle.ro_peer.specs.Peers.{Peer, mutex_in, is_row, leased_run}
 use Rattle.ro_peer.specs.Gets.{Get, asker, got_in, InRows}
-use Rattle.ro_legal.specs.Core.{Job as Asked, Core as Run, is_going, nothing_lent, is_home, is_barred, is_kept, is_parked, is_awake, is_lendable, may_vote, may_free}
+use Rattle.ro_legal.specs.Core.{Job as Asked, Core as Run, any_below, is_going, nothing_lent, is_home, is_out, is_awaited, is_barred, is_kept, is_parked, is_awake, is_lendable, may_vote, may_free}
 use Rattle.ro_legal.specs.declared.parkings.Parking.{Parking}
-use Rattle.ro_legal.specs.Sides.{Side, opening_side, peer_with, peers_of, taker_of, rank_in, most_apart, is_ahead}
+use Rattle.ro_legal.specs.Sides.{Side, opening_side, peer_with, peers_of, taker_of, rank_in, most_apart, is_ahead, has_asked}
 use Rattle.ro_legal.specs.Event.{Event, call_event}
-use Rattle.ro_legal.specs.Legal.{any_below, is_stuck, event_with}
+use Rattle.ro_legal.specs.Legal.{is_stuck, event_with}
 use Rattle.ro_legal.specs.Cooperative as rules
+use Rattle.ro_legal.proofs.Awaited.{Waiting, awaited-by}
 use Rattle.ro_legal.proofs.Happens.{event-happens, call-happens}
 use Rattle.ro_legal.proofs.Leases.{not_false}
 use Rattle.ro_legal.proofs.Lists.{MappedFrom, get-map, get-map-there, ChangedFrom, unchanged, changed_here, get-changed, changed-is-set, length-changed, get-set-same, get-all, get-within}
 use Rattle.std.proofs.lemmas.List.{length-set}
 use Rattle.ro_legal.proofs.Nexts.{never_below}
 use Rattle.ro_legal.proofs.Ordered.{none-lent-is, free-parts}
+use Rattle.ro_legal.proofs.TogetherEvents.{for-live}
 use Rattle.ro_coop.specs.Core.{Core, opening_core, kernel_for, after, Steps, steps_after, first_of}
 use Rattle.ro_coop.specs.Sound.{core_behind}
 use Rattle.ro_coop.specs.Stuck.{Stopped, Lags, IsNotIts, WaitsAtLock, IsStuck}
 use Rattle.ro_coop.proofs.Lists.{each-get}
-use Rattle.ro_coop.proofs.Holds.{IsWaiting, not-again, Going, Holds, is_on, is_over, thread-made}
+use Rattle.ro_coop.proofs.Holds.{IsWaiting, not-again, lent-has, Going, Holds, is_on, is_over, thread-made}
 use Rattle.ro_coop.proofs.Journal.{entry-holds, opening-holds, still-on, legal-stuck}
 use Rattle.ro_coop.proofs.Turns.{InTurn, nothing-got, turn-append, run-turn, entered-rank}
 use Rattle.ro_coop.proofs.Rowless.{in-front, run-so, entry-so}
@@ -62,11 +64,13 @@ use Rattle.ro_coop.proofs.Taken.{AllTaken, taken-append, taken-below, Grown, gro
 
 -- ---- what each entry keeps
 
--- each replica has what it has beside, which got its mutexes at their ranks and by the rows; and where a thread came back at a lock it stands there
+-- Each replica has what it has beside, which got its mutexes at their ranks and by the rows. Where a thread came back at a lock it
+-- stands there, and it lives as long as the run goes on.
 pub record Kept (job : Asked) (rows : Rows) (core : Run) : Type 0 where
   pub as_many : length core.sides ≡ length core.replicas
   pub turns : AllInTurn rows core.sides
   pub parks : (n : ℕ) (side : Side) (replica : Replica) → slice_get core.sides n ≡ Some side → slice_get core.replicas n ≡ Some replica → (t : ℕ) (p : Parking) → side.parked t ≡ Some p → IsParked job.program.image.calls replica side.mutexes t p.mutex
+  pub alive : is_going core ≡ true → (n : ℕ) (side : Side) → slice_get core.sides n ≡ Some side → (t : ℕ) (p : Parking) → side.parked t ≡ Some p → lives_on core.kernel t ≡ true
 
 -- and what it got has its places
 pub record Goes (job : Asked) (rows : Rows) (core later : Run) (gets : List Get) : Type 0 where
@@ -101,6 +105,7 @@ lease-run-of job core lease count last e =
 
 module _ (job : Asked) (rows : Rows) (core : Run) (k : Kept job rows core) (lease : Lease) (count : ℕ) (last : Peer) (r : LeaseRun job core lease count last) (in_rows : InRows rows (rules.lease_gets job core lease count)) (stop : Option Stop) (parking : Option Parking)
     (parks : (p : Parking) → parking ≡ Some p → IsParked job.program.image.calls (rules.stopped lease.thread stop last.replica) last.mutexes lease.thread p.mutex)
+    (lives : is_going core ≡ true → (p : Parking) → parking ≡ Some p → lives_on core.kernel lease.thread ≡ true)
   where
     abbrev gets : List Get
     gets = rules.lease_gets job core lease count
@@ -154,6 +159,17 @@ module _ (job : Asked) (rows : Rows) (core : Run) (k : Kept job rows core) (leas
             (subst (λ (s : Side). IsParked job.program.image.calls came s.mutexes t p.mutex) its
             (at-thread (t == lease.thread) refl (ap (λ (s : Side). s.parked t) its ∙ h)))
 
+    lease-alive : is_going core ≡ true → (n : ℕ) (side : Side) → slice_get behind.sides n ≡ Some side → (t : ℕ) (p : Parking) → side.parked t ≡ Some p → lives_on core.kernel t ≡ true
+    lease-alive going n side e t p h = by (get-changed changes core.sides lease.replica n side e)
+      where
+        at-thread : (b : Bool) → (t == lease.thread) ≡ b → cond b parking (r.side.parked t) ≡ Some p → lives_on core.kernel t ≡ true
+        at-thread true q g = ap (lives_on core.kernel) (eqb-true t lease.thread q) ∙ lives going p g
+        at-thread false q g = k.alive going lease.replica r.side r.beside t p g
+
+        by : ChangedFrom changes core.sides lease.replica n side → lives_on core.kernel t ≡ true
+        by (unchanged d g) = k.alive going n side g t p h
+        by (changed_here x same g is) = at-thread (t == lease.thread) refl (ap (λ (s : Side). s.parked t) (ap changes (same-side n x same g) ∙ is) ∙ h)
+
     lease-beside : slice_get behind.sides lease.replica ≡ Some (changes r.side)
     lease-beside = ap (λ (sides : List Side). slice_get sides lease.replica) (changed-is-set changes core.sides lease.replica r.side r.beside) ∙ get-set-same core.sides lease.replica r.side (changes r.side) r.beside
 
@@ -179,6 +195,7 @@ module _ (job : Asked) (rows : Rows) (core : Run) (k : Kept job rows core) (leas
         as_many = length-changed changes core.sides lease.replica ∙ (k.as_many ∙ sym (length-set core.replicas lease.replica _));
         turns = lease-turns;
         parks = lease-parks;
+        alive = lease-alive;
       };
       taken = subst (AllTaken behind.sides) (sym r.gets_are) (taken-below behind.sides lease.replica (changes r.side) lease-beside _
           (run-below (layout_in job.program core.kernel) job.settings.watchdog lease.thread count (peer_with r.replica r.side) last r.runs));
@@ -203,7 +220,17 @@ event-from effect entered (r ∷ replicas) (s ∷ sides) (suc n) replica e =
     let rest = event-from effect entered replicas sides n replica e in
     record { before = rest.before; side = rest.side; here = rest.here; beside = rest.beside; is = rest.is }
 
-module _ (job : Asked) (rows : Rows) (core : Run) (k : Kept job rows core) (thread : ℕ) (stopped : (n : ℕ) (r : Replica) → slice_get core.replicas n ≡ Some r → is_some (stop_of r thread) ≡ true) (stop : Option Stop) (event : Event) (its : event.effect.thread ≡ thread) where
+-- an event is of the thread, and the others live on unless the run ends
+record OfThread (core : Run) (thread : ℕ) (event : Event) : Type 0 where
+  its : event.effect.thread ≡ thread
+  others_live : event.due ≡ None → (u : ℕ) → u ≢ thread → lives_on core.kernel u ≡ true → lives_on event.kernel u ≡ true
+
+-- what is going has no end due
+going-due : (due : Option How) (b : Bool) → (is_none due && b) ≡ true → due ≡ None
+going-due None b e = refl
+going-due (Some how) b e = absurd (false≢true e)
+
+module _ (job : Asked) (rows : Rows) (core : Run) (k : Kept job rows core) (thread : ℕ) (stopped : (n : ℕ) (r : Replica) → slice_get core.replicas n ≡ Some r → is_some (stop_of r thread) ≡ true) (going : is_going core ≡ true) (stop : Option Stop) (event : Event) (own : OfThread core thread event) where
   abbrev done : Run
   done = rules.core_after job (rules.settled core thread) thread stop event
 
@@ -219,6 +246,12 @@ module _ (job : Asked) (rows : Rows) (core : Run) (k : Kept job rows core) (thre
       subst (λ (s : Side). InTurn rows m 0 (rank_in s.mutexes m) s.gets) f.gives
       (subst (λ (rank : ℕ). InTurn rows m 0 rank f.from.gets) (sym (same-ranks f.from m)) (k.turns n f.from f.there m))
 
+  -- the event's own thread is stopped
+  not-own : (n : ℕ) (r : Replica) → slice_get core.replicas n ≡ Some r → (mutexes : List Mutex) (t address : ℕ) → IsParked job.program.image.calls r mutexes t address → t ≢ thread
+  not-own n r here mutexes t address old same =
+      let none : stop_of r thread ≡ None = ap (stop_of r) (sym same) ∙ (ap (option_and_then (λ (x : Thread). x.stop)) old.there ∙ old.unstopped) in
+      false≢true (sym (ap is_some none) ∙ stopped n r here)
+
   event-parks : (n : ℕ) (side : Side) (replica : Replica) → slice_get done.sides n ≡ Some side → slice_get done.replicas n ≡ Some replica → (t : ℕ) (p : Parking) → side.parked t ≡ Some p → IsParked job.program.image.calls replica side.mutexes t p.mutex
   event-parks n side replica e f t p h =
       let s : MappedFrom (rules.side_served thread entered) core.sides n side = get-map _ core.sides n side e in
@@ -228,13 +261,16 @@ module _ (job : Asked) (rows : Rows) (core : Run) (k : Kept job rows core) (thre
       let is : rules.replica_after event.effect entered s.from r.before ≡ replica = ap (λ (x : Side). rules.replica_after event.effect entered x r.before) (sym same) ∙ r.is in
       subst (λ (x : Side). IsParked job.program.image.calls replica x.mutexes t p.mutex) s.gives
       (subst (λ (y : Replica). IsParked job.program.image.calls y (s.from.mutexes ++ entered) t p.mutex) is
-      (event-still job.program.image.calls t p.mutex event.effect entered s.from r.before (other r.before r.here old) old))
-    where
-      -- the event's own thread is stopped
-      other : (r : Replica) → slice_get core.replicas n ≡ Some r → {mutexes : List Mutex} → IsParked job.program.image.calls r mutexes t p.mutex → t ≢ event.effect.thread
-      other r here old same =
-          let none : stop_of r thread ≡ None = ap (stop_of r) (sym (same ∙ its)) ∙ (ap (option_and_then (λ (x : Thread). x.stop)) old.there ∙ old.unstopped) in
-          false≢true (sym (ap is_some none) ∙ stopped n r here)
+      (event-still job.program.image.calls t p.mutex event.effect entered s.from r.before (λ same. not-own n r.before r.here s.from.mutexes t p.mutex old (same ∙ own.its)) old))
+
+  event-alive : is_going done ≡ true → (n : ℕ) (side : Side) → slice_get done.sides n ≡ Some side → (t : ℕ) (p : Parking) → side.parked t ≡ Some p → lives_on event.kernel t ≡ true
+  event-alive on n side e t p h =
+      let s : MappedFrom (rules.side_served thread entered) core.sides n side = get-map _ core.sides n side e in
+      let parked : s.from.parked t ≡ Some p = ap (λ (x : Side). x.parked t) s.gives ∙ h in
+      let within = slice_get_within core.sides n s.from s.there in
+      let many = k.as_many in
+      let r = get-within core.replicas n (omega arith) in
+      own.others_live (going-due event.due _ on) t (not-own n r.0 r.1 s.from.mutexes t p.mutex (k.parks n s.from r.0 s.there r.1 t p parked)) (k.alive going n s.from s.there t p parked)
 
   event-grown : Grown core.sides done.sides
   event-grown = record {
@@ -242,32 +278,43 @@ module _ (job : Asked) (rows : Rows) (core : Run) (k : Kept job rows core) (thre
   }
 
   event-goes : length done.sides ≡ length done.replicas → Goes job rows core done []
-  event-goes many = record { kept = record { as_many = many; turns = event-turns; parks = event-parks }; taken = tt; grown = event-grown }
+  event-goes many = record { kept = record { as_many = many; turns = event-turns; parks = event-parks; alive = event-alive }; taken = tt; grown = event-grown }
 
 -- whose event it is
-voted-own : (job : Asked) (core : Run) (thread : ℕ) (event : Event) → rules.voted_event job core thread ≡ Some event → event.effect.thread ≡ thread
+voted-own : (job : Asked) (core : Run) (thread : ℕ) (event : Event) → rules.voted_event job core thread ≡ Some event → OfThread core thread event
 voted-own job core thread event e =
     option_and_then_some (λ (r : Replica). option_map (event_with job (rules.settled core thread) thread r) (stop_of r thread)) (slice_get core.replicas 0) event e (λ r here f. by r (stop_of r thread) f)
   where
-    by : (r : Replica) (o : Option Stop) → option_map (event_with job (rules.settled core thread) thread r) o ≡ Some event → event.effect.thread ≡ thread
+    by : (r : Replica) (o : Option Stop) → option_map (event_with job (rules.settled core thread) thread r) o ≡ Some event → OfThread core thread event
     by r None f = absurd (let g : None ≡ Some event = f in cc)
-    by r (Some stop) f = subst (λ (x : Event). x.effect.thread ≡ thread) (some-injective f) (event-happens (setup_of job.program) (rules.kernel_for core thread) thread stop _).thread_is
+    by r (Some stop) f =
+        let happens = event-happens (setup_of job.program) (rules.kernel_for core thread) thread stop _ in
+        subst (OfThread core thread) (some-injective f) (record { its = happens.thread_is; others_live = λ due u d lives. happens.others_live due u d (for-live core thread u ∙ lives) })
 
-freed-own : (job : Asked) (core : Run) (thread : ℕ) (event : Event) → rules.freed_event job core thread ≡ Some event → event.effect.thread ≡ thread
+freed-own : (job : Asked) (core : Run) (thread : ℕ) (event : Event) → rules.freed_event job core thread ≡ Some event → OfThread core thread event
 freed-own job core thread event e = by (core.blocked thread) e
   where
-    by : (o : Option Call) → option_map (λ (call : Call). call_event (rules.kernel_for core thread) thread call [] (serve (setup_of job.program) (rules.kernel_for core thread) thread call)) o ≡ Some event → event.effect.thread ≡ thread
+    by : (o : Option Call) → option_map (λ (call : Call). call_event (rules.kernel_for core thread) thread call [] (serve (setup_of job.program) (rules.kernel_for core thread) thread call)) o ≡ Some event → OfThread core thread event
     by None f = absurd (let g : None ≡ Some event = f in cc)
-    by (Some call) f = subst (λ (x : Event). x.effect.thread ≡ thread) (some-injective f) (call-happens (setup_of job.program) (rules.kernel_for core thread) thread call []).thread_is
+    by (Some call) f =
+        let happens = call-happens (setup_of job.program) (rules.kernel_for core thread) thread call [] in
+        subst (OfThread core thread) (some-injective f) (record { its = happens.thread_is; others_live = λ due u d lives. happens.others_live due u d (for-live core thread u ∙ lives) })
+
+-- a vote comes while the run goes on
+vote-going : (job : Asked) (core : Run) (thread : ℕ) → may_vote core thread ≡ true → is_going core ≡ true
+vote-going job core thread e =
+    let parts = and_parts (is_going core && nothing_lent core && lives_on core.kernel thread && is_none (core.blocked thread)) _ e in
+    let alive = and_parts (is_going core && nothing_lent core && lives_on core.kernel thread) _ parts.0 in
+    (and_parts (is_going core) (nothing_lent core) (and_parts (is_going core && nothing_lent core) _ alive.0).0).0
 
 -- ---- an entry
 
 module _ (job : Asked) (rows : Rows) (core : Run) (k : Kept job rows core) where
-  event-done : (thread : ℕ) → ((n : ℕ) (r : Replica) → slice_get core.replicas n ≡ Some r → is_some (stop_of r thread) ≡ true) → (stop : Option Stop) (o : Option Event) → ((event : Event) → o ≡ Some event → event.effect.thread ≡ thread)
+  event-done : (thread : ℕ) → ((n : ℕ) (r : Replica) → slice_get core.replicas n ≡ Some r → is_some (stop_of r thread) ≡ true) → is_going core ≡ true → (stop : Option Stop) (o : Option Event) → ((event : Event) → o ≡ Some event → OfThread core thread event)
       → Goes job rows core (rules.core_after_event job core thread stop o) []
-  event-done thread stopped stop None own = record { kept = k; taken = tt; grown = grown-same core.sides }
-  event-done thread stopped stop (Some event) own =
-      event-goes job rows core k thread stopped stop event (own event refl) (event-many job core thread stop (Some event) k.as_many)
+  event-done thread stopped going stop None own = record { kept = k; taken = tt; grown = grown-same core.sides }
+  event-done thread stopped going stop (Some event) own =
+      event-goes job rows core k thread stopped going stop event (own event refl) (event-many job core thread stop (Some event) k.as_many)
 
   -- a thread that is blocked is stopped in each replica
   blocked-stopped : (s : Steps) → Going (as-job job) rows (seen core) s → (thread : ℕ) (call : Call) → core.blocked thread ≡ Some call → (n : ℕ) (r : Replica) → slice_get core.replicas n ≡ Some r → is_some (stop_of r thread) ≡ true
@@ -277,20 +324,25 @@ module _ (job : Asked) (rows : Rows) (core : Run) (k : Kept job rows core) where
       let w = h.2.waits thread call blocked in
       ap (λ (o : Option Thread). is_some (option_and_then (λ (x : Thread). x.stop) o)) w.1 ∙ ap is_some w.2
 
+  -- a thread that is lent lives
+  lent-lives : (s : Steps) → Holds (as-job job) rows (seen core) s → (lease : Lease) → is_out core lease ≡ true → is_going core ≡ true → lives_on core.kernel lease.thread ≡ true
+  lent-lives s (is_on g) lease out going = (lent-has core.kernel core.blocked core.leases lease g.lent out).0
+  lent-lives s (is_over o) lease out going = absurd (false≢true (sym o.stopped ∙ going))
+
   entry-goes : (s : Steps) → Holds (as-job job) rows (seen core) s → (entry : Entry) → ((how : How) → entry ≢ End how) → rules.IsAllowed job core entry → InRows rows (rules.gets_of job core entry) → Goes job rows core (rules.after job core entry) (rules.gets_of job core entry)
   unfolding rules.after
-  entry-goes s h (Take lease) never m r = record { kept = record { as_many = k.as_many; turns = k.turns; parks = k.parks }; taken = tt; grown = grown-same core.sides }
+  entry-goes s h (Take lease) never m r = record { kept = record { as_many = k.as_many; turns = k.turns; parks = k.parks; alive = k.alive }; taken = tt; grown = grown-same core.sides }
   entry-goes s h (Put lease count hit) never m r =
       subst (λ (o : Option Peer). Goes job rows core (rules.core_after_put job core lease count o) (rules.lease_gets job core lease count)) (sym m.ran.runs)
-      (lease-goes job rows core k lease count m.ran.peer (lease-run-of job core lease count m.ran.peer m.ran.runs) r (rules.arrival job core.kernel lease.thread count m.ran.peer) None (λ p e. absurd (let f : None ≡ Some p = e in cc)))
+      (lease-goes job rows core k lease count m.ran.peer (lease-run-of job core lease count m.ran.peer m.ran.runs) r (rules.arrival job core.kernel lease.thread count m.ran.peer) None (λ p e. absurd (let f : None ≡ Some p = e in cc)) (λ going p e. absurd (let f : None ≡ Some p = e in cc)))
   entry-goes s h (Part lease count hit) never m r =
       subst (λ (o : Option Peer). Goes job rows core (rules.core_after_part job core lease count o) (rules.lease_gets job core lease count)) (sym m.ran.runs)
-      (lease-goes job rows core k lease count m.ran.peer (lease-run-of job core lease count m.ran.peer m.ran.runs) r None (rules.parking_of job core.kernel lease.thread m.ran.peer) (λ p e. parked-now job core.kernel lease.thread m.ran.peer p e))
+      (lease-goes job rows core k lease count m.ran.peer (lease-run-of job core lease count m.ran.peer m.ran.runs) r None (rules.parking_of job core.kernel lease.thread m.ran.peer) (λ p e. parked-now job core.kernel lease.thread m.ran.peer p e) (λ going p e. lent-lives s h lease m.ran.out going))
   entry-goes s h (Vote thread count won lost did) never m r =
-      event-done thread (λ n x e. get-all (λ (y : Replica). is_some (stop_of y thread)) core.replicas (and_parts _ _ m.may).1 n x e) (rules.voted_stop core thread) (rules.voted_event job core thread) (λ event e. voted-own job core thread event e)
+      event-done thread (λ n x e. get-all (λ (y : Replica). is_some (stop_of y thread)) core.replicas (and_parts _ _ m.may).1 n x e) (vote-going job core thread m.may) (rules.voted_stop core thread) (rules.voted_event job core thread) (λ event e. voted-own job core thread event e)
   entry-goes s (is_on g) (Free thread) never m r =
       let p = free-parts job core thread m.may in
-      event-done thread (blocked-stopped s g thread p.call p.blocked_on) (option_map Calls (core.blocked thread)) (rules.freed_event job core thread) (λ event e. freed-own job core thread event e)
+      event-done thread (blocked-stopped s g thread p.call p.blocked_on) p.going (option_map Calls (core.blocked thread)) (rules.freed_event job core thread) (λ event e. freed-own job core thread event e)
   entry-goes s (is_over o) (Free thread) never m r = absurd (false≢true (sym o.stopped ∙ (free-parts job core thread m.may).going))
   entry-goes s h (Scrub won lost) never m r = absurd m
   entry-goes s h (End how) never m r = absurd (never how refl)
@@ -347,13 +399,16 @@ opening-side job n side e = from job.settings.replicas n e
     from (suc n) (suc i) f = from n i f
 
 kept-opening : (job : Asked) (rows : Rows) → Kept job rows (rules.opening_core job)
-kept-opening job rows = record { as_many = opening-many job; turns = turns; parks = parks }
+kept-opening job rows = record { as_many = opening-many job; turns = turns; parks = parks; alive = alive }
   where
     turns : AllInTurn rows (rules.opening_core job).sides
     turns n side e m = subst (λ (s : Side). InTurn rows m 0 (rank_in s.mutexes m) s.gets) (opening-side job n side e) (nothing-got rows m 0 0 refl)
 
     parks : (n : ℕ) (side : Side) (replica : Replica) → slice_get (rules.opening_core job).sides n ≡ Some side → slice_get (rules.opening_core job).replicas n ≡ Some replica → (t : ℕ) (p : Parking) → side.parked t ≡ Some p → IsParked job.program.image.calls replica side.mutexes t p.mutex
     parks n side replica e f t p h = absurd (let g : None ≡ Some p = ap (λ (s : Side). s.parked t) (opening-side job n side e) ∙ h in cc)
+
+    alive : is_going (rules.opening_core job) ≡ true → (n : ℕ) (side : Side) → slice_get (rules.opening_core job).sides n ≡ Some side → (t : ℕ) (p : Parking) → side.parked t ≡ Some p → lives_on (rules.opening_core job).kernel t ≡ true
+    alive going n side e t p h = absurd (let g : None ≡ Some p = ap (λ (s : Side). s.parked t) (opening-side job n side e) ∙ h in cc)
 
 -- ---- where a thread waits
 
@@ -382,7 +437,12 @@ lock-which : (which : Which) → rules.is_lock which ≡ true → which ≡ Func
 lock-which (Function Lock) e = refl
 lock-which which e = absurd (false≢true e)
 
-module _ (job : Asked) (rows : Rows) (core : Run) (k : Kept job rows core) (alone : nothing_lent core ≡ true) where
+-- nobody else waits for a free mutex
+abbrev NobodyAwaits : Run → Type 0
+NobodyAwaits core =
+    (n : ℕ) (side : Side) → slice_get core.sides n ≡ Some side → (t : ℕ) (p : Parking) (mutex : Mutex) → mutex_in side.mutexes p.mutex ≡ Some mutex → mutex.owner ≡ None → mutex.rank ≡ p.rank → is_awaited side t p.mutex p.rank ≡ false
+
+module _ (job : Asked) (rows : Rows) (core : Run) (k : Kept job rows core) (alone : nothing_lent core ≡ true) (unawaited : NobodyAwaits core) where
   abbrev its_rows : Rows
   its_rows = taker_of core.sides
 
@@ -396,16 +456,17 @@ module _ (job : Asked) (rows : Rows) (core : Run) (k : Kept job rows core) (alon
       let most = leb-true _ _ a.3 in
       (a.0, peer_with r.0 a.1, peers-get core.replicas core.sides a.0 ∙ (ap (option_and_then (λ (x : Replica). option_map (peer_with x) (slice_get core.sides a.0))) r.1 ∙ ap (option_map (peer_with r.0)) a.2), omega arith)
 
-  barred-not-its : (t mutex rank : ℕ) → is_barred core t mutex rank ≡ true → IsNotIts its_rows (peers_of core.replicas core.sides) mutex rank t
-  barred-not-its t mutex rank e = by (taker_of core.sides mutex rank) refl e
+  barred-not-its : (side : Side) (t mutex rank : ℕ) → is_awaited side t mutex rank ≡ false → is_barred core side t mutex rank ≡ true → IsNotIts its_rows (peers_of core.replicas core.sides) mutex rank t
+  barred-not-its side t mutex rank nobody e = by (taker_of core.sides mutex rank) refl e
     where
-      ahead : (a b : Bool) → (a || not b) ≡ true → b ≡ true → a ≡ true
-      ahead true b f g = refl
-      ahead false b f g = absurd (false≢true (sym (ap not g) ∙ f))
+      ahead : (a b c : Bool) → (a || b || not c) ≡ true → b ≡ false → c ≡ true → a ≡ true
+      ahead true b c f g h = refl
+      ahead false true c f g h = absurd (true≢false g)
+      ahead false false c f g h = absurd (false≢true (sym (ap not h) ∙ f))
 
-      by : (o : Option ℕ) → taker_of core.sides mutex rank ≡ o → option_map_or (λ taker. not (taker == t)) o (is_ahead core.sides mutex rank || not (nothing_lent core)) ≡ true → IsNotIts its_rows (peers_of core.replicas core.sides) mutex rank t
+      by : (o : Option ℕ) → taker_of core.sides mutex rank ≡ o → option_map_or (λ taker. not (taker == t)) o (is_ahead core.sides mutex rank || is_awaited side t mutex rank || not (nothing_lent core)) ≡ true → IsNotIts its_rows (peers_of core.replicas core.sides) mutex rank t
       by (Some u) f g = (ap (λ (o : Option ℕ). is_row o t) f ∙ not_false (u == t) g, inl (u, f))
-      by None f g = (ap (λ (o : Option ℕ). is_row o t) f, inr (lags mutex rank (ahead (is_ahead core.sides mutex rank) (nothing_lent core) g alone)))
+      by None f g = (ap (λ (o : Option ℕ). is_row o t) f, inr (lags mutex rank (ahead (is_ahead core.sides mutex rank) (is_awaited side t mutex rank) (nothing_lent core) g nobody alone)))
 
   -- a thread that came back at a lock and would again waits there
   kept-waits : (n : ℕ) (side : Side) (replica : Replica) → slice_get core.sides n ≡ Some side → slice_get core.replicas n ≡ Some replica → (t : ℕ) (p : Parking) → side.parked t ≡ Some p → is_kept core side t p ≡ true
@@ -427,21 +488,21 @@ module _ (job : Asked) (rows : Rows) (core : Run) (k : Kept job rows core) (alon
       which : w.call.which ≡ Function Lock
       which = lock-which w.call.which w.lock
 
-      tests : (is_some w.mutex.owner || p.asked && (w.mutex.rank == p.rank) && is_barred core t p.mutex p.rank) ≡ true
-      tests = ap (λ (o : Option Mutex). option_map_or (λ mutex. is_some mutex.owner || p.asked && (mutex.rank == p.rank) && is_barred core t p.mutex p.rank) o false) (sym w.listed) ∙ kept
+      tests : (is_some w.mutex.owner || has_asked p w.mutex.rank && is_barred core side t p.mutex p.rank) ≡ true
+      tests = ap (λ (o : Option Mutex). option_map_or (λ mutex. is_some mutex.owner || has_asked p mutex.rank && is_barred core side t p.mutex p.rank) o false) (sym w.listed) ∙ kept
 
       answer : (o : Option ℕ) → w.mutex.owner ≡ o → answer_by w.call.which t w.mutex.owner ≡ answer_by (Function Lock) t o
       answer o g = ap (λ (x : Which). answer_by x t w.mutex.owner) which ∙ ap (answer_by (Function Lock) t) g
 
-      by : (o : Option ℕ) → w.mutex.owner ≡ o → (is_some o || p.asked && (w.mutex.rank == p.rank) && is_barred core t p.mutex p.rank) ≡ true
+      by : (o : Option ℕ) → w.mutex.owner ≡ o → (is_some o || has_asked p w.mutex.rank && is_barred core side t p.mutex p.rank) ≡ true
           → (answer_by w.call.which t w.mutex.owner ≡ Waits) ⊎ (IsNotIts its_rows (peers_of core.replicas core.sides) w.call.a0 w.mutex.rank t × ((value : ℕ) × (answer_by w.call.which t w.mutex.owner ≡ Answers (Some (Some t)) value)))
       by (Some owner) g h = inl (answer (Some owner) g ∙ ap (λ (b : Bool). cond b (Answers None 35) Waits) (ne_eqb owner t (λ s. w.not_own (g ∙ ap Some s))))
       by None g h =
-          let parts = and_parts (p.asked && (w.mutex.rank == p.rank)) (is_barred core t p.mutex p.rank) h in
+          let parts = and_parts (has_asked p w.mutex.rank) (is_barred core side t p.mutex p.rank) h in
           let rank : w.mutex.rank ≡ p.rank = eqb-true w.mutex.rank p.rank (and_parts p.asked (w.mutex.rank == p.rank) parts.0).1 in
           inr (
             subst (λ (a : ℕ). IsNotIts its_rows (peers_of core.replicas core.sides) a w.mutex.rank t) (sym w.on)
-                (subst (λ (i : ℕ). IsNotIts its_rows (peers_of core.replicas core.sides) p.mutex i t) (sym rank) (barred-not-its t p.mutex p.rank parts.1)),
+                (subst (λ (i : ℕ). IsNotIts its_rows (peers_of core.replicas core.sides) p.mutex i t) (sym rank) (barred-not-its side t p.mutex p.rank (unawaited n side e t p w.mutex w.listed g rank) parts.1)),
             (0, answer None g),
           )
 
@@ -477,6 +538,36 @@ module _ (job : Asked) (rows : Rows) (others : ℕ) (core : Run) (replicas : len
 
   peer-is : (n : ℕ) (peer : Peer) → slice_get (peers_of core.replicas core.sides) n ≡ Some peer → IsPeerOf core n peer
   peer-is n peer e = peer-parts core n peer (sym (peers-get core.replicas core.sides n) ∙ e)
+
+  -- whoever waits for a free mutex, and has not asked for its rank, could be lent
+  unawaited : NobodyAwaits core
+  unawaited n side e t p mutex listed free rank = by (is_awaited side t p.mutex p.rank) refl
+    where
+      by : (b : Bool) → is_awaited side t p.mutex p.rank ≡ b → b ≡ false
+      by false f = refl
+      by true f = absurd (lends (awaited-by side t p.mutex p.rank f))
+        where
+          lends : Waiting side p.mutex p.rank → ⊥
+          lends w =
+              let within = slice_get_within core.sides n side e in
+              let many = k.as_many in
+              let r = get-within core.replicas n (omega arith) in
+              let parked = k.parks n side r.0 e r.1 w.other w.parking w.parked in
+              let lives = k.alive parts.0 n side e w.other w.parking w.parked in
+              let unstopped : is_unstopped w.other r.0 ≡ true = ap (λ (o : Option Thread). option_map_or (λ (x : Thread). is_none x.stop) o false) parked.there ∙ ap is_none parked.unstopped in
+              let home : is_home core n ≡ true = ap (λ (leases : List Lease). not (list_any (λ lease. lease.replica == n) leases)) nothing_there in
+              let awake : is_awake core n w.other ≡ true = and_from (is_home core n && lives_on core.kernel w.other) _ (and_from _ _ home lives) (ap (λ (o : Option Replica). option_map_or (is_unstopped w.other) o false) r.1 ∙ unstopped) in
+              let asked : has_asked w.parking mutex.rank ≡ false = ap (has_asked w.parking) rank ∙ w.unasked in
+              let kept : is_kept core side w.other w.parking ≡ false =
+              ap (λ (a : ℕ). option_map_or (λ m. is_some m.owner || has_asked w.parking m.rank && is_barred core side w.other w.parking.mutex w.parking.rank) (mutex_in side.mutexes a) false) w.on
+              ∙ (ap (λ (o : Option Mutex). option_map_or (λ m. is_some m.owner || has_asked w.parking m.rank && is_barred core side w.other w.parking.mutex w.parking.rank) o false) listed
+              ∙ (ap (λ (o : Option ℕ). is_some o || has_asked w.parking mutex.rank && is_barred core side w.other w.parking.mutex w.parking.rank) free
+              ∙ ap (λ (b : Bool). b && is_barred core side w.other w.parking.mutex w.parking.rank) asked)) in
+              let unparked : is_parked core n w.other ≡ false =
+              ap (λ (o : Option Side). option_map_or (λ s. option_map_or (is_kept core s w.other) (s.parked w.other) false) o false) e
+              ∙ (ap (λ (o : Option Parking). option_map_or (is_kept core side w.other) o false) w.parked ∙ kept) in
+              let lent : is_lendable core n w.other ≡ true = and_from (is_awake core n w.other) _ awake (ap not unparked) in
+              false≢true (sym (never_below (length core.replicas) (λ replica. is_lendable core replica w.other) (none-of w.other lives).2 n (slice_get_within core.replicas n r.0 r.1)) ∙ lent)
 
   -- ---- a thread that is blocked
 
@@ -552,7 +643,7 @@ module _ (job : Asked) (rows : Rows) (others : ℕ) (core : Run) (replicas : len
 
         waits-there : (o : Option Parking) → q.side.parked t ≡ o → option_map_or (is_kept core q.side t) o false ≡ true → WaitsAtLock (layout_in job.program core.kernel) (taker_of core.sides) (peers_of core.replicas core.sides) (peer_with q.replica q.side) t
         waits-there None f h = absurd (false≢true h)
-        waits-there (Some p) f h = kept-waits job rows core k parts.1 n q.side q.replica q.beside q.here t p f h
+        waits-there (Some p) f h = kept-waits job rows core k parts.1 unawaited n q.side q.replica q.beside q.here t p f h
 
         by : (b : Bool) → is_unstopped t q.replica ≡ b → Stopped (peer_with q.replica q.side) t ⊎ WaitsAtLock (layout_in job.program core.kernel) (taker_of core.sides) (peers_of core.replicas core.sides) (peer_with q.replica q.side) t
         by true f = inr (waits-there (q.side.parked t) refl (parked-there f))

@@ -26,8 +26,12 @@ pub mod Locks
 pub mod Parked
 pub mod Taken
 pub mod Deadlocks
+pub mod Steps
+pub mod Followed
+pub mod Whole
 pub mod Checks
 pub mod Worked
 pub mod Tests
 pub mod Unshared
 pub mod Contested
+pub mod Looking

@@ -24,7 +24,7 @@ pub in-front : (rows : Rows) (xs ys : List Get) → InRows rows (xs ++ ys) → I
 in-front rows [] ys h = (tt, h)
 in-front rows (x ∷ xs) ys h = let rest = in-front rows xs ys h.1 in ((h.0, rest.0), rest.1)
 
-in-both : (rows : Rows) (xs ys : List Get) → InRows rows xs → InRows rows ys → InRows rows (xs ++ ys)
+pub in-both : (rows : Rows) (xs ys : List Get) → InRows rows xs → InRows rows ys → InRows rows (xs ++ ys)
 in-both rows [] ys h k = k
 in-both rows (x ∷ xs) ys h k = (h.0, in-both rows xs ys h.1 k)
 

@@ -100,7 +100,7 @@ twice [] n x = refl
 twice (y ∷ ys) zero x = refl
 twice (y ∷ ys) (suc n) x = ap (λ zs. y ∷ zs) (twice ys n x)
 
-released-twice : (kernel : Kernel) (thread : ℕ) → released (released kernel thread) thread ≡ released kernel thread
+pub released-twice : (kernel : Kernel) (thread : ℕ) → released (released kernel thread) thread ≡ released kernel thread
 released-twice kernel thread = ap (λ rs. record kernel { reserved = rs }) (twice kernel.reserved thread None)
 
 is-open : (served : Served) → IsServed served → is_blocked served ≡ false

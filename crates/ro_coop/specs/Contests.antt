@@ -1,5 +1,7 @@
 -- Guests whose threads contend for mutexes, and journals of theirs by the rules of a cooperative run.
-use Rattle.std.specs.Prelude.{ℕ, true, ◌==◌, if◌then◌else◌, List, [], ◌∷◌, ◌++◌, map, Option, Some, None, slice_get}
+use Rattle.std.specs.Prelude.{ℕ, Bool, true, false, ◌==◌, if◌then◌else◌, List, [], ◌∷◌, ◌++◌, map, Option, Some, None, slice_get}
+use Rattle.std.specs.Option.{option_map_or}
+use Rattle.ro_settings.specs.declared.Mode.TheVariants.{Cooperative}
 use Rattle.ro_event.specs.declared.table.CallTable.{CallTable}
 use Rattle.ro_journal.specs.declared.Did.TheVariants.{Served as WasServed, Parked as WasParked}
 use Rattle.ro_journal.specs.declared.How.{How}
@@ -10,8 +12,9 @@ use Rattle.ro_journal.specs.declared.Entry.TheVariants.{Part, End}
 use Rattle.ro_plain.specs.Machine.{Program}
 use Rattle.ro_simulation.specs.Guests.{guest}
 use Rattle.ro_orders.specs.Copies.{Rows}
+use Rattle.ro_peer.specs.Peers.{mutex_in}
 use Rattle.ro_legal.specs.Sides.{Side, threads_of}
-use Rattle.ro_legal.specs.Core.{Job, Core}
+use Rattle.ro_legal.specs.Core.{Job, Core, is_given_up}
 use Rattle.ro_coop.specs.Guests.{take_by, put_by, vote_on, both_leases, then_served}
 
 -- the addresses of create, exit, lock and unlock
@@ -22,7 +25,7 @@ abbrev pub contest_job : Program → (replicas : ℕ) → Job
 contest_job program replicas = record {
   program = program;
   faults = [];
-  settings = record { replicas = replicas; drivers = replicas; watchdog = 1000; quantum = 100; limit = 1000; scrub = 0 };
+  settings = record { mode = Cooperative; replicas = replicas; drivers = replicas; watchdog = 1000; quantum = 100; limit = 1000; scrub = 0 };
 }
 
 abbrev pub lease_by : (replica thread : ℕ) → Lease
@@ -84,6 +87,35 @@ writers_journal = writers_freed_too ++ vote_on 1 4 WasServed ∷ both_leases 0 1
 -- what was written, how it ended, the length of the plan, and who got the mutex in each replica
 abbrev pub contest_shown : Core → List ℕ × Option How × ℕ × List (List ℕ)
 contest_shown core = (core.output, core.ended, core.steps, map (λ (side : Side). threads_of writers_mutex side.gets) core.sides)
+
+-- ---- a thread that waits by looking
+
+-- The same, but thread 1 locks the mutex again when it has unlocked it, and then ends the program too.
+abbrev pub looking_guest : Program
+looking_guest = guest (contest_table (Some 0x100C4) (Some 0x100C8) (Some 0x100CC) (Some 0x100D0)) true 224
+    (0x000101B7 ∷ 0x0D418513 ∷ 0x070000EF ∷ 0x00100513 ∷ 0x0DC18593 ∷ 0x00100613 ∷ 0x04000893 ∷ 0x00000073 ∷ 0x0D418513 ∷ 0x058000EF ∷ 0x0D818513 ∷ 0x00000593 ∷ 0x0A018613 ∷ 0x0D418693 ∷ 0x05D00893 ∷ 0x034000EF ∷ 0x0D418513 ∷ 0x034000EF ∷ 0x00000073 ∷ 0x02C000EF ∷ 0x00100513 ∷ 0x0DD18593 ∷ 0x00100613 ∷ 0x04000893 ∷ 0x00000073 ∷ 0x0D418513 ∷ 0x014000EF ∷ 0xFD5FF06F ∷ 0x00008067 ∷ 0x00008067 ∷ 0x00008067 ∷ 0x00008067 ∷ 0x00000000 ∷ 0x00000000 ∷ 0x00004241 ∷ [])
+
+abbrev pub looking_job : Job
+looking_job = contest_job looking_guest 2
+
+-- Thread 1 has the mutex in both replicas. In replica 0 thread 0 comes back at it; then thread 1 unlocks it there, and comes back at
+-- the free mutex.
+abbrev pub looking_back : List Entry
+looking_back =
+    writers_alone ++ both_leases 1 6 6 ++ take_by 0 0 ∷ part_by 0 0 2 ∷ vote_on 1 6 WasServed ∷ take_by 0 1 ∷ part_by 0 1 6 ∷ []
+
+-- thread 0 comes back there again, where the mutex is free
+abbrev pub looking_asked : List Entry
+looking_asked = looking_back ++ take_by 0 0 ∷ part_by 0 0 0 ∷ []
+
+-- or thread 1 gets the mutex again in replica 1
+abbrev pub looking_got : List Entry
+looking_got = looking_back ++ take_by 1 1 ∷ put_by 1 1 7 ∷ []
+
+-- whether a thread gives up a rank of the mutex in a replica
+abbrev pub gives_up : Core → (replica thread rank : ℕ) → Bool
+gives_up core replica thread rank =
+    option_map_or (λ side. option_map_or (λ mutex. is_given_up core side thread mutex rank) (mutex_in side.mutexes writers_mutex) false) (slice_get core.sides replica) false
 
 -- ---- a deadlock
 

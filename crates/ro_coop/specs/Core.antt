@@ -1,5 +1,5 @@
 -- The core of a cooperative run, which entries are allowed in it, and what each does. There are no faults, copies and scrubs.
-use Rattle.std.specs.Prelude.{◌≡◌, ◌≢◌, ◌⊎◌, ℕ, zero, suc, IsTrue, Bool, true, false, not, ◌&&◌, List, [], ◌∷◌, ◌++◌, map, replicate, Option, Some, None, is_some, is_none, ◌==◌, if◌then◌else◌, slice_get, slice_set}
+use Rattle.std.specs.Prelude.{◌≡◌, ◌≢◌, ◌⊎◌, ℕ, IsTrue, Bool, true, false, not, ◌&&◌, List, [], ◌∷◌, ◌++◌, map, replicate, Option, Some, None, is_some, is_none, ◌==◌, if◌then◌else◌, slice_get, slice_set}
 use Rattle.std.specs.List.{filter, list_any}
 use Rattle.std.specs.Option.{option_and_then, option_map, option_map_or}
 use Rattle.ro_event.specs.declared.calls.Call.{Call}
@@ -14,7 +14,7 @@ use Rattle.ro_journal.specs.declared.How.{How}
 use Rattle.ro_journal.specs.declared.How.TheVariants.{Exit as ExitHow, Trap as TrapHow}
 use Rattle.ro_journal.specs.declared.Entry.{Entry}
 use Rattle.ro_journal.specs.declared.Entry.TheVariants.{Take, Put, Part, Vote, Free, Scrub, End}
-use Rattle.ro_journal.specs.Plan.{event_steps}
+pub use Rattle.ro_plans.specs.First.{first_run, Steps, served_all, lease_steps, steps_after, steps_from, first_of}
 use Rattle.ro_mutex.specs.Owners.{owner_of}
 use Rattle.ro_exec.specs.Next.{Layout}
 use Rattle.ro_kernel.specs.Kernel.{Setup, Kernel, ranges_in, lives_on, released, opening_kernel}
@@ -26,7 +26,7 @@ use Rattle.ro_plain.specs.Machine.{Program, layout_in, setup_of}
 use Rattle.ro_legal.specs.Core.{is_lease}
 use Rattle.ro_legal.specs.Event.{Event, event_of, call_event}
 use Rattle.ro_settings.specs.declared.Settings.{Settings}
-use Rattle.ro_orders.specs.Turns.{Chosen, is_cooperative, times}
+use Rattle.ro_orders.specs.Turns.{Chosen, is_cooperative}
 use Rattle.ro_orders.specs.Copies.{Rows}
 use Rattle.ro_peer.specs.declared.mutexes.Mutex.{Mutex}
 use Rattle.ro_peer.specs.Peers.{Peer, leased_run}
@@ -224,40 +224,3 @@ IsAllowed job rows core (End how) = (core.ended ≡ None) × ((core.due ≡ Some
 abbrev pub LegalFrom : Job → Rows → Core → List Entry → Type 0
 LegalFrom job rows core [] = Unit {0}
 LegalFrom job rows core (entry ∷ journal) = IsAllowed job rows core entry × LegalFrom job rows (after job rows core entry) journal
-
--- ---- the first steps
-
--- what a thread's run of so many steps adds, by what was taken in its peer
-abbrev pub first_run : (thread count : ℕ) → (first taken : List ℕ) → List ℕ
-first_run thread zero first taken = first
-first_run thread (suc n) first taken = first_run thread n (if times thread first == times thread taken then first ++ thread ∷ [] else first) (taken ++ thread ∷ [])
-
--- the steps of each peer so far, and the first ones
-pub record Steps : Type 0 where
-  pub taken : ℕ → List ℕ
-  pub first : List ℕ
-
-abbrev pub served_all : (thread count : ℕ) → Steps → Steps
-served_all thread count s = record { taken = λ r. s.taken r ++ replicate count thread; first = s.first ++ replicate count thread }
-
--- a lease that came back
-abbrev pub lease_steps : Lease → (count : ℕ) → Steps → Steps
-lease_steps lease count s = record {
-  taken = λ r. if r == lease.replica then s.taken r ++ replicate count lease.thread else s.taken r;
-  first = first_run lease.thread count s.first (s.taken lease.replica);
-}
-
-abbrev pub steps_after : Steps → Entry → Steps
-steps_after s (Put lease count hit) = lease_steps lease count s
-steps_after s (Part lease count hit) = lease_steps lease count s
-steps_after s (Vote thread count won lost did) = served_all thread (event_steps did) s
-steps_after s (Free thread) = served_all thread 1 s
-steps_after s entry = s
-
-abbrev pub steps_from : Steps → List Entry → Steps
-steps_from s [] = s
-steps_from s (entry ∷ journal) = steps_from (steps_after s entry) journal
-
--- the first steps of a journal
-abbrev pub first_of : List Entry → List ℕ
-first_of journal = (steps_from (record { taken = λ r. []; first = [] }) journal).first

@@ -1,5 +1,6 @@
 -- A cooperative run of two replicas, and what rows ask of it.
 use Rattle.std.specs.Prelude.{ℕ, ◌&&◌, ◌==◌, if◌then◌else◌, List, [], ◌∷◌, ◌++◌, map, replicate, Option, Some, None}
+use Rattle.ro_settings.specs.declared.Mode.TheVariants.{Cooperative}
 use Rattle.ro_event.specs.declared.calls.Which.TheVariants.{Atomic}
 use Rattle.ro_event.specs.declared.calls.Call.{Call}
 use Rattle.ro_journal.specs.declared.Did.{Did}
@@ -24,7 +25,7 @@ use Rattle.ro_coop.specs.Core.{OneEnters, Job, Core, opening_core, kernel_for}
 abbrev pub letters_job : OneEnters in_table → Job
 letters_job one = record {
   program = locking_guest;
-  settings = record { replicas = 2; drivers = 2; watchdog = 1000; quantum = 100; limit = 1000; scrub = 0 };
+  settings = record { mode = Cooperative; replicas = 2; drivers = 2; watchdog = 1000; quantum = 100; limit = 1000; scrub = 0 };
   chosen = in_table;
   one_enters = one;
 }

@@ -11,7 +11,7 @@ ghost use Rattle.ro_legal.specs.Core.{is_lendable, may_vote};
 ghost use Rattle.ro_legal.specs.Legal.{is_stuck};
 ghost use Rattle.ro_legal.specs.Cooperative.{opening_core, lease_run, EndsVote, IsAllowed, Legal, replay, gets_from};
 ghost use Rattle.ro_coop.specs.Core.{first_of};
-ghost use Rattle.ro_coop.specs.Contests.{lease_by, part_by, writers_guest, writers_job, page_of_threads, writers_asked, writers_got, writers_parted, writers_wrote, writers_freed, writers_freed_too, writers_journal, contest_shown, crossing_guest, crossing_job, crossing_again, crossing_stuck, crossing_journal, waiting_guest, waiting_job, waiting_stuck, waiting_journal, byte_guest, byte_job, byte_front, byte_journal};
+ghost use Rattle.ro_coop.specs.Contests.{lease_by, part_by, writers_guest, writers_job, page_of_threads, writers_asked, writers_got, writers_parted, writers_wrote, writers_freed, writers_freed_too, writers_journal, looking_job, looking_back, looking_asked, looking_got, gives_up, contest_shown, crossing_guest, crossing_job, crossing_again, crossing_stuck, crossing_journal, waiting_guest, waiting_job, waiting_stuck, waiting_journal, byte_guest, byte_job, byte_front, byte_journal};
 
 /// A row: a journal of two replicas by the rules of a cooperative run. Thread 0's first lock is voted, and brings the mutex into the
 /// table. Later thread 1 comes back at the free mutex in replica 1, and gets it in replica 0; thread 0 comes back at its lock in both,
@@ -46,6 +46,26 @@ pub fn parked_row()
     ensures freed_too { is_lendable (replay writers_job writers_freed_too) 1 0 ≡ true }
     ensures comes_there { is_some (lease_run crossing_job (replay crossing_job crossing_again) (lease_by 0 0) 2) ≡ true }
     ensures its_own { IsAllowed crossing_job (replay crossing_job crossing_again) (part_by 0 0 2) → ⊥ }
+{}
+
+/// A row: who gives way. Thread 1 unlocks the mutex in replica 0 and comes back at it, and thread 0 came back there while thread 1 owned
+/// it. Then thread 1 is not lent there, though nothing is lent and nobody got the mutex since; it gives up the mutex's next rank.
+/// Thread 0 is lent, and does not. Once thread 0 came back too where the mutex was free, both are lent, and neither gives the
+/// rank up. But where thread 1 got that rank in replica 1, it is lent in replica 0 too, and gives up the rank behind it.
+pub fn looking_row()
+    ensures legal { Legal looking_job looking_asked }
+    ensures gives_way { is_lendable (replay looking_job looking_back) 0 1 ≡ false }
+    ensures waits { is_lendable (replay looking_job looking_back) 0 0 ≡ true }
+    ensures given_up { gives_up (replay looking_job looking_back) 0 1 1 ≡ true }
+    ensures not_given_up { gives_up (replay looking_job looking_back) 0 0 1 ≡ false }
+    ensures asked { is_lendable (replay looking_job looking_asked) 0 1 ≡ true }
+    ensures asked_too { is_lendable (replay looking_job looking_asked) 0 0 ≡ true }
+    ensures kept { gives_up (replay looking_job looking_asked) 0 1 1 ≡ false }
+    ensures kept_too { gives_up (replay looking_job looking_asked) 0 0 1 ≡ false }
+    ensures also_legal { Legal looking_job looking_got }
+    ensures got { is_lendable (replay looking_job looking_got) 0 1 ≡ true }
+    ensures its_own { gives_up (replay looking_job looking_got) 0 1 1 ≡ false }
+    ensures behind_it { gives_up (replay looking_job looking_got) 0 1 2 ≡ true }
 {}
 
 /// A row: a deadlock. Thread 0 owns a mutex and comes back at the lock of another, which thread 1 owns, and that one comes back at the lock

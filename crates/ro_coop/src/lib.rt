@@ -21,9 +21,14 @@ ghost use Rattle.ro_coop.specs.Rowless.{RowlessFrom, got_from, threads_of, got_i
 ghost use Rattle.ro_coop.specs.Sound.{core_behind, IsSound};
 ghost use Rattle.ro_coop.specs.Stuck.{Stopped, IsStuck};
 
-pub use contests::{chosen_row, crossing_row, parked_row, rules_row, three_views_row, waiting_row};
+pub use contests::{
+    chosen_row, crossing_row, looking_row, parked_row, rules_row, three_views_row, waiting_row,
+};
 pub use rows::{letters_row, reservation_row};
-pub use runs::{deadlocks_are_real, journals_are_executions, votes_agree};
+pub use runs::{
+    cooperative_runs, deadlocks_are_real, journals_are_executions, replicas_follow_rows,
+    steps_are_first_steps, votes_agree,
+};
 
 /// The first steps of a legal journal are an execution: threads get each cooperative mutex in it in the order of its rows,
 /// what was written is what it writes, and where the run ended by an exit or a trap, it ends so.

@@ -9,9 +9,10 @@ use Rattle.ro_peer.specs.Peers.{mutex_in}
 use Rattle.ro_peer.specs.Seen.{number_of}
 use Rattle.ro_peer.proofs.Places.{at_its_number, without_number}
 use Rattle.ro_legal.specs.declared.parkings.Parking.{Parking}
-use Rattle.ro_legal.specs.Sides.{Side, taker_of, rank_in, is_ahead}
-use Rattle.ro_legal.specs.Core.{Core, nothing_lent, is_barred, is_kept}
+use Rattle.ro_legal.specs.Sides.{Side, taker_of, rank_in, is_ahead, has_asked}
+use Rattle.ro_legal.specs.Core.{Core, any_below, waits_beside, nothing_lent, is_awaited, is_barred, is_kept}
 use Rattle.ro_legal.specs.Kept.{addresses_of, cooperative_in}
+use Rattle.ro_legal.proofs.Awaited.{awaited-is}
 use Rattle.ro_coop_core.specs.Seats.{KnowMutex, AreNumbered, AreNear}
 use Rattle.ro_coop_core.specs.Fields.{Fields, core_in, Holds}
 use Rattle.ro_coop_core.specs.Numbers.{HasMutexes, HasRank}
@@ -21,7 +22,7 @@ use Rattle.ro_coop_core.proofs.Numbered.{all-numbered, know-mutex}
 -- ---- lists of mutexes
 
 -- a mutex with a number stands there
-address-at : (mutexes : List Mutex) (address number : ℕ) → number_of mutexes address ≡ Some number → slice_get (addresses_of mutexes) number ≡ Some address
+pub address-at : (mutexes : List Mutex) (address number : ℕ) → number_of mutexes address ≡ Some number → slice_get (addresses_of mutexes) number ≡ Some address
 address-at [] address number e = absurd (cc)
 address-at (first ∷ mutexes) address number e = by (first.address == address) (number_of mutexes address) refl refl (address-at mutexes address) number e
   where
@@ -68,9 +69,14 @@ module _ (f : Fields) (h : Holds f) (number address rank : ℕ) (has : HasRank (
 -- ---- the tests
 
 -- who got the rank decides
-pub barred-by : (core : Core) (thread address rank : ℕ) (taker : Option ℕ) → taker ≡ taker_of core.sides address rank → option_map_or (λ taker. not (taker == thread)) taker (is_ahead core.sides address rank || not (nothing_lent core)) ≡ is_barred core thread address rank
-barred-by core thread address rank taker e =
-    ap (λ (o : Option ℕ). option_map_or (λ taker. not (taker == thread)) o (is_ahead core.sides address rank || not (nothing_lent core))) e
+pub barred-by : (core : Core) (side : Side) (thread address rank : ℕ) (taker : Option ℕ) → taker ≡ taker_of core.sides address rank
+    → option_map_or (λ taker. not (taker == thread)) taker (is_ahead core.sides address rank || is_awaited side thread address rank || not (nothing_lent core)) ≡ is_barred core side thread address rank
+barred-by core side thread address rank taker e =
+    ap (λ (o : Option ℕ). option_map_or (λ taker. not (taker == thread)) o (is_ahead core.sides address rank || is_awaited side thread address rank || not (nothing_lent core))) e
+
+-- no thread waits
+pub none-awaits : (side : Side) (thread mutex rank n : ℕ) → n ≡ 16 → any_below n (waits_beside side thread mutex rank) ≡ false → false ≡ is_awaited side thread mutex rank
+none-awaits side thread mutex rank n all e = sym e ∙ (ap (λ (m : ℕ). any_below m (waits_beside side thread mutex rank)) all ∙ awaited-is side thread mutex rank)
 
 -- a rank at the ceiling or above it is too far ahead
 pub not-below : (ceiling rank : ℕ) (ahead : Bool) → nat_lt rank ceiling ≡ not ahead → leb ceiling rank ≡ ahead
@@ -81,21 +87,21 @@ not-below (suc c) rank false e = le-ltb c rank (let less : rank < suc c = ltb-tr
 -- a thread that came back at a mutex for which the replica does not answer
 pub kept-none : (core : Core) (side : Side) (mutexes : List Mutex) (thread : ℕ) (parking : Parking) → side.mutexes ≡ mutexes → number_of mutexes parking.mutex ≡ None → false ≡ is_kept core side thread parking
 kept-none core side mutexes thread parking same none =
-    sym (ap (λ (o : Option Mutex). option_map_or (λ mutex. is_some mutex.owner || parking.asked && (mutex.rank == parking.rank) && is_barred core thread parking.mutex parking.rank) o false)
+    sym (ap (λ (o : Option Mutex). option_map_or (λ mutex. is_some mutex.owner || has_asked parking mutex.rank && is_barred core side thread parking.mutex parking.rank) o false)
     (ap (λ (ms : List Mutex). mutex_in ms parking.mutex) same ∙ without_number mutexes parking.mutex none))
 
 -- and at one for which it does
 pub kept-some : (core : Core) (side : Side) (mutexes : List Mutex) (thread number : ℕ) (parking : Parking) (mutex : Mutex) → side.mutexes ≡ mutexes → number_of mutexes parking.mutex ≡ Some number → slice_get mutexes number ≡ Some mutex
-    → (owned asks barred : Bool) → owned ≡ is_some mutex.owner → asks ≡ (parking.asked && (mutex.rank == parking.rank)) → barred ≡ is_barred core thread parking.mutex parking.rank → (owned || asks && barred) ≡ is_kept core side thread parking
+    → (owned asks barred : Bool) → owned ≡ is_some mutex.owner → asks ≡ has_asked parking mutex.rank → barred ≡ is_barred core side thread parking.mutex parking.rank → (owned || asks && barred) ≡ is_kept core side thread parking
 kept-some core side mutexes thread number parking mutex same numbered at owned asks barred o a b =
     ap (λ (x : Bool). x || asks && barred) o
     ∙ ap (λ (x : Bool). is_some mutex.owner || x && barred) a
-    ∙ ap (λ (x : Bool). is_some mutex.owner || parking.asked && (mutex.rank == parking.rank) && x) b
-    ∙ sym (ap (λ (p : Option Mutex). option_map_or (λ mutex. is_some mutex.owner || parking.asked && (mutex.rank == parking.rank) && is_barred core thread parking.mutex parking.rank) p false)
+    ∙ ap (λ (x : Bool). is_some mutex.owner || has_asked parking mutex.rank && x) b
+    ∙ sym (ap (λ (p : Option Mutex). option_map_or (λ mutex. is_some mutex.owner || has_asked parking mutex.rank && is_barred core side thread parking.mutex parking.rank) p false)
     (ap (λ (ms : List Mutex). mutex_in ms parking.mutex) same ∙ at_its_number mutexes parking.mutex number mutex numbered at))
 
 -- it asked for the next rank
-pub asks-next : (core : Core) (mutexes : List Mutex) (number : ℕ) (parking : Parking) (mutex : Mutex) → HasMutexes core mutexes → number_of mutexes parking.mutex ≡ Some number → slice_get mutexes number ≡ Some mutex → true ≡ (parking.asked && (mutex.rank == parking.rank)) → HasRank core number parking.mutex parking.rank
+pub asks-next : (core : Core) (mutexes : List Mutex) (number : ℕ) (parking : Parking) (mutex : Mutex) → HasMutexes core mutexes → number_of mutexes parking.mutex ≡ Some number → slice_get mutexes number ≡ Some mutex → true ≡ has_asked parking mutex.rank → HasRank core number parking.mutex parking.rank
 asks-next core mutexes number parking mutex had numbered at asks = record {
   mutexes = mutexes;
   had = had;

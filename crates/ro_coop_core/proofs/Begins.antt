@@ -1,5 +1,5 @@
 -- The fields of a core at its opening.
-use Rattle.std.proofs.Common.{◌≡◌, ◌⊎◌, inl, inr, ℕ, zero, suc, ◌+◌, ◌<◌, ◌≤◌, Bool, true, false, not, ◌||◌, ◌&&◌, List, [], ◌∷◌, ◌++◌, length, replicate, drop, Option, Some, None, refl, sym, ap, ◌∙◌, subst, arith}
+use Rattle.std.proofs.Common.{◌≡◌, ◌⊎◌, inl, inr, ℕ, zero, suc, ◌<◌, ◌≤◌, Bool, false, not, ◌||◌, ◌&&◌, List, [], ◌∷◌, ◌++◌, length, replicate, Option, Some, None, refl, sym, ap, ◌∙◌, subst, arith}
 use Rattle.std.specs.Prelude.{is_some, slice_get, slice_index_or}
 use Rattle.std.proofs.lemmas.Option.{slice_get_within}
 use Rattle.ro_event.specs.declared.calls.Call.{Call}
@@ -19,7 +19,7 @@ use Rattle.ro_peer.specs.declared.peers.Peer.{Peer as PeerOf}
 use Rattle.ro_peer.specs.Peers.{Peer}
 use Rattle.ro_peer.specs.Seen.{peer_of}
 use Rattle.ro_legal.specs.Streaks.{no_streak}
-use Rattle.ro_legal.specs.Sides.{Side, opening_side, peer_with}
+use Rattle.ro_legal.specs.Sides.{opening_side, peer_with}
 use Rattle.ro_legal.specs.Core.{Job, Core, opening_replicas}
 use Rattle.ro_legal.specs.Core.{opening_core as opening_voted}
 use Rattle.ro_legal.specs.Cooperative.{opening_core, most_done, done_in, Legal, replay}
@@ -28,7 +28,6 @@ use Rattle.ro_legal.proofs.Lists.{get-within, get-append-cases}
 use Rattle.ro_legal.proofs.Ordered.{length-opening, get-opening}
 use Rattle.ro_legal.proofs.TogetherCounts.{most-least}
 use Rattle.ro_coop_core.specs.declared.seats.Seat.{Seat}
-use Rattle.ro_coop_core.specs.declared.seats.Partner.{Partner}
 use Rattle.ro_coop_core.specs.Seats.{Homed, IsSeated, AreSeated, IsHomeSeat, HasDoneNothing}
 use Rattle.ro_coop_core.specs.Fields.{one_end, Fields, blocked_at, IsCalm, Holds}
 use Rattle.ro_coop_core.specs.Opening.{IsFirst, AreFirst}

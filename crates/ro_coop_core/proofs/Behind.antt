@@ -35,7 +35,7 @@ use Rattle.ro_coop_core.specs.Seats.{AreHome, AreRanked, AreSeated, AreSpared, A
 use Rattle.ro_coop_core.specs.Fields.{one_end, Fields, core_in, blocked_at, CountsBytes, Holds}
 use Rattle.ro_coop_core.specs.Runs.{fields_of, job_of, state_of, payload_by, LastWrote}
 use Rattle.ro_coop_core.specs.Amid.{Occurrence, CanOccur, entering_of, event_of}
-use Rattle.ro_coop_core.proofs.Journals.{replay_more, legal_more}
+use Rattle.ro_legal.proofs.TogetherJournals.{replay_more, legal_more}
 use Rattle.ro_coop_core.proofs.Keeping.{keeps-replicas, keeps-mutexes}
 use Rattle.ro_coop_core.proofs.Held.{Goes, goes, no-views, no-outcome, holds-step}
 use Rattle.ro_coop_core.proofs.AtHome.{seated-home, home-count}

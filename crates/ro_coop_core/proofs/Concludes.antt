@@ -10,7 +10,7 @@ use Rattle.ro_coop_core.specs.declared.cores.Core.{Core as Run}
 use Rattle.ro_coop_core.specs.Seen.{Appends, KeepsViews}
 use Rattle.ro_coop_core.specs.Fields.{one_end, Fields, core_in, Holds}
 use Rattle.ro_coop_core.specs.Runs.{fields_of, job_of, seen, LastWrote}
-use Rattle.ro_coop_core.proofs.Journals.{replay_more}
+use Rattle.ro_legal.proofs.TogetherJournals.{replay_more}
 use Rattle.ro_coop_core.proofs.Held.{Goes, goes, same-counts}
 use Rattle.ro_coop_core.proofs.Ends.{cut-none, ended-holds}
 

@@ -1,7 +1,7 @@
 -- No address stands twice in the mutex table of a legal cooperative journal, so that a mutex's rank is that of its address.
 use Rattle.std.specs.Prelude.{◌≡◌, ℕ, zero, suc, Bool, true, false, ◌||◌, ◌==◌, cond, if◌then◌else◌, List, [], ◌∷◌, ◌++◌, Option, Some, None, is_some, slice_get}
 use Rattle.std.specs.List.{list_any}
-use Rattle.std.specs.Option.{option_and_then, option_map, option_map_or}
+use Rattle.std.specs.Option.{option_map, option_map_or}
 use Rattle.std.proofs.Common.{refl, sym, ap, ◌∙◌, subst}
 use Rattle.std.proofs.lemmas.Bool.{true≢false, eqb-true, eq-eqb}
 use Rattle.std.proofs.lemmas.List.{map-append}
@@ -12,14 +12,14 @@ use Rattle.ro_journal.specs.declared.Entry.{Entry}
 use Rattle.ro_journal.specs.declared.Entry.TheVariants.{Take, Put, Part, Vote, Free, Scrub, End}
 use Rattle.ro_event.specs.Functions.{functions}
 use Rattle.ro_mutex.specs.Owners.{Owners, owner_of}
-use Rattle.ro_kernel.specs.Kernel.{Kernel, released}
+use Rattle.ro_kernel.specs.Kernel.{released}
 use Rattle.ro_kernel.specs.Serve.{serve}
-use Rattle.ro_replica.specs.Replica.{Replica, stop_of}
 use Rattle.ro_plain.specs.Machine.{Program, setup_of}
 use Rattle.ro_plain.proofs.Calls.{some-injective}
 use Rattle.ro_orders.specs.Choices.{has_otherwise}
 use Rattle.ro_peer.specs.declared.mutexes.Mutex.{Mutex}
 use Rattle.ro_peer.specs.Peers.{Peer, mutex_in}
+use Rattle.ro_peer.specs.Seen.{number_of}
 use Rattle.ro_legal.specs.Sides.{Side, rank_in}
 use Rattle.ro_legal.specs.Core.{Job, Core}
 use Rattle.ro_legal.specs.Core.{opening_core as opening_voted}
@@ -71,6 +71,13 @@ stands-there (m ∷ mutexes) (suc number) a mutex e f = stands-there mutexes num
     second true g = absurd (true≢false g)
     second false g = g
 
+other-address : (a b : ℕ) → (b == a) ≡ false → (a == b) ≡ false
+other-address a b e = by (a == b) refl
+  where
+    by : (c : Bool) → (a == b) ≡ c → c ≡ false
+    by false f = refl
+    by true f = absurd (true≢false (sym (eq-eqb b a (sym (eqb-true a b f))) ∙ e))
+
 -- so each mutex is the one at its address
 pub its-rank : (mutexes : List Mutex) (number : ℕ) (mutex : Mutex) → AreDistinct (addresses_of mutexes) → slice_get mutexes number ≡ Some mutex → rank_in mutexes mutex.address ≡ mutex.rank
 its-rank [] number mutex h e = absurd (let f : None ≡ Some mutex = e in cc)
@@ -78,12 +85,17 @@ its-rank (m ∷ mutexes) zero mutex h e =
     ap (λ (b : Bool). option_map_or (λ (x : Mutex). x.rank) (cond b (Some m) (mutex_in mutexes mutex.address)) 0) (eq-eqb m.address mutex.address (ap (λ (x : Mutex). x.address) (some-injective e)))
     ∙ ap (λ (x : Mutex). x.rank) (some-injective e)
 its-rank (m ∷ mutexes) (suc number) mutex h e =
-    ap (λ (b : Bool). option_map_or (λ (x : Mutex). x.rank) (cond b (Some m) (mutex_in mutexes mutex.address)) 0) (other (m.address == mutex.address) refl (stands-there mutexes number m.address mutex e h.0))
+    ap (λ (b : Bool). option_map_or (λ (x : Mutex). x.rank) (cond b (Some m) (mutex_in mutexes mutex.address)) 0) (other-address m.address mutex.address (stands-there mutexes number m.address mutex e h.0))
     ∙ its-rank mutexes number mutex h.1 e
-  where
-    other : (b : Bool) → (m.address == mutex.address) ≡ b → (mutex.address == m.address) ≡ false → b ≡ false
-    other false f g = refl
-    other true f g = absurd (true≢false (sym (eq-eqb mutex.address m.address (sym (eqb-true m.address mutex.address f))) ∙ g))
+
+-- and has its place as its number
+pub own-number : (mutexes : List Mutex) (number : ℕ) (mutex : Mutex) → AreDistinct (addresses_of mutexes) → slice_get mutexes number ≡ Some mutex → number_of mutexes mutex.address ≡ Some number
+own-number [] number mutex h e = absurd (let f : None ≡ Some mutex = e in cc)
+own-number (m ∷ mutexes) zero mutex h e =
+    ap (λ (b : Bool). cond b (Some 0) (option_map suc (number_of mutexes mutex.address))) (eq-eqb m.address mutex.address (ap (λ (x : Mutex). x.address) (some-injective e)))
+own-number (m ∷ mutexes) (suc number) mutex h e =
+    ap (λ (b : Bool). cond b (Some 0) (option_map suc (number_of mutexes mutex.address))) (other-address m.address mutex.address (stands-there mutexes number m.address mutex e h.0))
+    ∙ ap (option_map suc) (own-number mutexes number mutex h.1 e)
 
 -- ---- the table
 

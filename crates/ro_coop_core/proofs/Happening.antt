@@ -1,5 +1,5 @@
 -- What an event does in a peer's seat.
-use Rattle.std.proofs.Common.{◌≡◌, ℕ, zero, suc, ◌+◌, ◌<◌, Bool, true, false, cond, List, [], ◌∷◌, ◌++◌, length, map, Option, Some, None, refl, sym, ap, ◌∙◌, subst, arith, append-nil, length-append}
+use Rattle.std.proofs.Common.{◌≡◌, ℕ, zero, suc, ◌+◌, Bool, true, false, cond, List, [], ◌∷◌, ◌++◌, length, map, Option, Some, None, refl, sym, ap, ◌∙◌, subst, arith, append-nil, length-append}
 use Rattle.std.specs.Prelude.{◌==◌, if◌then◌else◌, slice_get, slice_index_or}
 use Rattle.std.specs.Option.{option_map, option_map_or}
 use Rattle.std.proofs.lemmas.List.{map-append}
@@ -22,7 +22,7 @@ use Rattle.ro_peer.specs.Events.{affected, unanswered, without_own}
 use Rattle.ro_peer.specs.Events.{entering as with_mutex_entered}
 use Rattle.ro_peer.specs.Seen.{number_of, peer_of}
 use Rattle.ro_takers.specs.Recalls.{Recalls}
-use Rattle.ro_legal.specs.Sides.{Side, peer_with, threads_of, rank_in}
+use Rattle.ro_legal.specs.Sides.{Side, peer_with, threads_of}
 use Rattle.ro_legal.specs.Core.{Job}
 use Rattle.ro_legal.specs.Cooperative.{done_in, replica_after, side_served}
 use Rattle.ro_legal.specs.Lent.{IsOfJob}

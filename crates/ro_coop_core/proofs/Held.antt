@@ -17,8 +17,8 @@ use Rattle.ro_coop_core.specs.Seats.{AreSeated}
 use Rattle.ro_coop_core.specs.Fields.{one_end, Fields, core_in, blocked_at, CountsBytes, IsCalm, Holds}
 use Rattle.ro_legal.proofs.Journals.{outcome_of-append}
 use Rattle.ro_legal.proofs.Ordered.{going-parts}
-use Rattle.ro_coop_core.proofs.Journals.{replay_more, legal_more}
-use Rattle.ro_coop_core.proofs.Outcomes.{ended-outcome}
+use Rattle.ro_legal.proofs.TogetherJournals.{replay_more, legal_more}
+use Rattle.ro_legal.proofs.TogetherOutcomes.{ended-outcome}
 
 -- no end is due where the core goes on
 pub record Goes (f : Fields) : Type 0 where

@@ -1,7 +1,3 @@
--- cooperative journals that grow at their end
-pub mod Journals
--- how a legal one ends
-pub mod Outcomes
 -- what the journal of a core keeps
 pub mod Keeping
 -- the fields behind one entry more
@@ -29,6 +25,8 @@ pub mod Taken
 pub mod Happening
 -- peers in their seats, one after another
 pub mod Sitting
+-- below which ranks a lease may get its mutexes
+pub mod Limiting
 -- in a legal journal each replica is lent once at the most
 pub mod Apart
 -- a take

@@ -1,7 +1,6 @@
 -- A lease that comes back, in the fields of a core.
-use Rattle.std.proofs.Common.{◌≡◌, ◌≢◌, ◌⊎◌, inl, inr, ℕ, zero, suc, ◌+◌, ◌-◌, ◌*◌, ◌^◌, ◌<◌, ◌≤◌, max, Bool, true, false, true≢false, not, cond, List, [], ◌∷◌, ◌++◌, length, Option, Some, None, refl, sym, ap, ◌∙◌, subst, arith, eqb-true}
+use Rattle.std.proofs.Common.{◌≡◌, ◌≢◌, ◌⊎◌, inl, inr, ℕ, ◌+◌, ◌-◌, ◌^◌, ◌<◌, ◌≤◌, max, Bool, true, false, true≢false, List, [], ◌∷◌, ◌++◌, length, Option, Some, None, refl, sym, ap, ◌∙◌, subst, arith}
 use Rattle.std.specs.Prelude.{◌==◌, if◌then◌else◌, is_some, IsSome, slice_get, slice_set, slice_index_or}
-use Rattle.std.specs.List.{filter, find, list_any}
 use Rattle.std.specs.Option.{option_and_then, option_map, option_map_or}
 use Rattle.std.proofs.lemmas.Bool.{ne_eqb, eq-eqb, cases_eq}
 use Rattle.std.proofs.lemmas.List.{length-set, get_or-set_same, get_or-set_other}
@@ -12,26 +11,23 @@ use Rattle.ro_journal.specs.declared.Entry.TheVariants.{Put, Part}
 use Rattle.ro_journal.specs.declared.Lease.{Lease}
 use Rattle.ro_exec.specs.Next.{Layout}
 use Rattle.ro_kernel.specs.Kernel.{Kernel}
-use Rattle.ro_kernel.proofs.Kept.{slice_get-set_other}
 use Rattle.ro_plain.specs.Machine.{layout_in}
 use Rattle.ro_plain.proofs.Calls.{some-injective}
 use Rattle.ro_settings.specs.Ranges.{InRange}
 use Rattle.ro_thread.specs.declared.Thread.{Thread}
-use Rattle.ro_replica.specs.Replica.{Replica, changed_at}
+use Rattle.ro_replica.specs.Replica.{Replica}
 use Rattle.ro_replica.specs.Runs.{standing_in, standing_at, with_stop}
 use Rattle.ro_peer.specs.declared.mutexes.Mutex.{Mutex}
 use Rattle.ro_peer.specs.declared.running.Came.{Came}
 use Rattle.ro_peer.specs.declared.running.Came.TheVariants.{Quantum, Stopped, Owned, Row, Full}
 use Rattle.ro_peer.specs.Peers.{Peer}
 use Rattle.ro_peer.specs.Gets.{Get, got_in, voted}
-use Rattle.ro_peer.specs.Seen.{peer_of}
 use Rattle.ro_takers.specs.Recalls.{Recalls}
 use Rattle.ro_legal.specs.declared.parkings.Parking.{Parking}
 use Rattle.ro_legal.specs.Sides.{Side, peer_with, threads_of}
-use Rattle.ro_legal.specs.Core.{Job, Core, is_home, is_lease, is_out, lease_of}
-use Rattle.ro_legal.specs.Cooperative.{after, arrival, parking_at, parking_of, stopped, done_in, most_done, side_after, core_after_lease, core_after_put, core_after_part, lease_gets, lease_run, peer_in, IsAllowed, MayPut, MayPart, replay}
+use Rattle.ro_legal.specs.Core.{Job, Core, is_out}
+use Rattle.ro_legal.specs.Cooperative.{after, arrival, parking_at, parking_of, stopped, done_in, most_done, side_after, core_after_lease, core_after_put, core_after_part, lease_gets, lease_run, peer_in, IsAllowed, MayPut, MayPart}
 use Rattle.ro_legal.specs.Kept.{KeepsReplicas, addresses_of}
-use Rattle.ro_legal.proofs.Leases.{Apart, has_replica, gone, others_stay, fewer}
 use Rattle.ro_legal.proofs.Lists.{get-set-same, changed-is-set, length-mapped, length-changed}
 use Rattle.ro_legal.proofs.Together.{keeps-replicas as every-keeps-replicas}
 use Rattle.ro_legal.proofs.TogetherRuns.{LentParts, lent-parts}
@@ -39,10 +35,10 @@ use Rattle.ro_legal.proofs.TogetherCounts.{most-bounds}
 use Rattle.ro_legal.proofs.MutexRuns.{RunKeeps, run-keeps}
 use Rattle.ro_coop_core.specs.declared.seats.Seat.{Seat}
 use Rattle.ro_coop_core.specs.declared.seats.Partner.{Partner}
-use Rattle.ro_coop_core.specs.Seats.{IsSeated, AreSeated, IsPartner, Knows, noted, takers_of}
+use Rattle.ro_coop_core.specs.Seats.{IsSeated, Knows, noted, takers_of}
 use Rattle.ro_coop_core.specs.Seen.{return_of}
 use Rattle.ro_coop_core.specs.Fields.{Fields, core_in, Holds}
-use Rattle.ro_coop_core.proofs.Journals.{replay_more, legal_more}
+use Rattle.ro_legal.proofs.TogetherJournals.{replay_more, legal_more}
 use Rattle.ro_coop_core.proofs.Keeping.{keeps-mutexes}
 use Rattle.ro_coop_core.proofs.Retired.{Retires, run-retires, stopped-done, most-more, most-same, retired-there}
 use Rattle.ro_coop_core.proofs.Distinct.{AreDistinct, table-distinct, cooperative-distinct}

@@ -1,8 +1,8 @@
 -- A lease that comes back: its seat, and the fields.
-use Rattle.std.proofs.Common.{◌≡◌, ◌≢◌, ℕ, ◌+◌, ◌-◌, ◌^◌, ◌<◌, ◌≤◌, max, get_or, Bool, true, false, not, List, [], ◌∷◌, ◌++◌, length, Option, Some, None, refl, sym, ap, ◌∙◌, subst, arith}
+use Rattle.std.proofs.Common.{◌≡◌, ℕ, ◌+◌, ◌-◌, ◌^◌, ◌<◌, ◌≤◌, max, get_or, Bool, true, not, List, [], ◌∷◌, ◌++◌, length, Option, Some, None, refl, sym, ap, ◌∙◌, subst, arith}
 use Rattle.std.specs.Prelude.{◌==◌, IfSome, if◌then◌else◌, is_none, is_some, slice_get, slice_set, slice_index_or}
 use Rattle.std.specs.List.{filter, find, list_any}
-use Rattle.std.specs.Option.{option_and_then, option_map, option_map_or}
+use Rattle.std.specs.Option.{option_and_then, option_map}
 use Rattle.std.proofs.lemmas.Bool.{eq-eqb}
 use Rattle.std.proofs.lemmas.List.{length-set}
 use Rattle.ro_event.specs.declared.calls.Call.{Call}
@@ -23,7 +23,7 @@ use Rattle.ro_peer.specs.Seen.{peer_of}
 use Rattle.ro_takers.specs.Recalls.{Recalls}
 use Rattle.ro_legal.specs.declared.parkings.Parking.{Parking}
 use Rattle.ro_legal.specs.Sides.{Side, peer_with}
-use Rattle.ro_legal.specs.Core.{Job, Core, is_home, is_lease, lease_of}
+use Rattle.ro_legal.specs.Core.{Core, is_home, is_lease, lease_of}
 use Rattle.ro_legal.specs.Cooperative.{after, most_done, peer_in, IsAllowed, replay}
 use Rattle.ro_legal.specs.Lent.{IsOfJob}
 use Rattle.ro_legal.proofs.Leases.{gone, others_stay, fewer}
@@ -32,10 +32,10 @@ use Rattle.ro_legal.proofs.Journals.{outcome_of-append}
 use Rattle.ro_coop_core.specs.declared.seats.Seat.{Seat}
 use Rattle.ro_coop_core.specs.declared.seats.Partner.{Partner}
 use Rattle.ro_coop_core.specs.Seats.{Homed, AreSeated, IsPartner, noted, takers_of}
-use Rattle.ro_coop_core.specs.Seen.{RunOf, MayReturn, return_of, parking_at, parked_in}
+use Rattle.ro_coop_core.specs.Seen.{MayReturn, return_of, parking_at, parked_in}
 use Rattle.ro_coop_core.specs.Runs.{seen_of}
 use Rattle.ro_coop_core.specs.Fields.{one_end, Fields, core_in, blocked_at, Holds}
-use Rattle.ro_coop_core.proofs.Journals.{replay_more}
+use Rattle.ro_legal.proofs.TogetherJournals.{replay_more}
 use Rattle.ro_coop_core.proofs.Held.{no-views, no-outcome, same-counts, holds-step}
 use Rattle.ro_coop_core.proofs.Homes.{seat-changes}
 use Rattle.ro_coop_core.proofs.Apart.{leases-apart}

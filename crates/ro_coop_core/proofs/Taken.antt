@@ -1,5 +1,5 @@
 -- What a lease's run got, as the lists of who got each mutex have it: so many more by its thread.
-use Rattle.std.proofs.Common.{◌≡◌, ℕ, zero, suc, ◌+◌, ◌-◌, ◌<◌, ◌≤◌, Bool, true, false, cond, List, [], ◌∷◌, ◌++◌, length, map, replicate, take, Option, Some, None, refl, sym, ap, ◌∙◌, subst, arith}
+use Rattle.std.proofs.Common.{◌≡◌, ℕ, zero, suc, ◌+◌, ◌-◌, Bool, true, false, cond, List, [], ◌∷◌, ◌++◌, length, map, replicate, take, Option, Some, None, refl, sym, ap, ◌∙◌, subst, arith}
 use Rattle.std.specs.Prelude.{◌==◌, slice_get, slice_set}
 use Rattle.std.specs.Option.{option_map_or}
 use Rattle.std.proofs.lemmas.List.{length-map}
@@ -15,7 +15,7 @@ use Rattle.ro_peer.specs.Peers.{Peer, mutex_in, is_got, leased}
 use Rattle.ro_peer.specs.Gets.{Get, get_answer, get_call, get_next, get_of, asker, got_in}
 use Rattle.ro_takers.specs.Recalls.{Taken, Recalls, list_of}
 use Rattle.ro_legal.specs.declared.parkings.Parking.{Parking}
-use Rattle.ro_legal.specs.Sides.{Side, peer_with, threads_of, rank_in}
+use Rattle.ro_legal.specs.Sides.{Side, threads_of, rank_in}
 use Rattle.ro_legal.specs.Cooperative.{side_after}
 use Rattle.ro_legal.specs.Kept.{addresses_of}
 use Rattle.ro_legal.proofs.MutexRuns.{RunKeeps}

@@ -1,6 +1,6 @@
 -- A take, in the fields of a core.
-use Rattle.std.proofs.Common.{◌≡◌, ◌≢◌, ℕ, zero, suc, ◌+◌, ◌*◌, ◌^◌, ◌<◌, ◌≤◌, Bool, true, false, not, ◌||◌, cond, List, [], ◌∷◌, ◌++◌, length, get_or, Option, Some, None, refl, sym, ap, ◌∙◌, subst, arith, lt-ltb}
-use Rattle.std.specs.Prelude.{◌==◌, IfSome, is_some, nat_lt, slice_get, slice_set, slice_index_or}
+use Rattle.std.proofs.Common.{◌≡◌, ℕ, zero, suc, ◌+◌, ◌^◌, ◌<◌, ◌≤◌, Bool, true, false, not, ◌||◌, cond, List, [], ◌∷◌, ◌++◌, length, get_or, Option, Some, None, refl, sym, ap, ◌∙◌, subst, arith, lt-ltb}
+use Rattle.std.specs.Prelude.{◌==◌, IfSome, slice_get, slice_set, slice_index_or}
 use Rattle.std.specs.Option.{option_and_then, option_map, option_map_or}
 use Rattle.std.proofs.lemmas.Bool.{and_parts, ne_eqb}
 use Rattle.std.proofs.lemmas.List.{length-set}
@@ -20,26 +20,27 @@ use Rattle.ro_peer.specs.declared.mutexes.Mutex.{Mutex}
 use Rattle.ro_peer.specs.declared.peers.Peer.{Peer as PeerOf}
 use Rattle.ro_peer.specs.Peers.{Peer}
 use Rattle.ro_peer.specs.Seen.{peer_of}
-use Rattle.ro_legal.specs.Sides.{Side, peer_with}
-use Rattle.ro_legal.specs.Core.{Job, Core, is_home}
+use Rattle.ro_legal.specs.Sides.{Side, peer_with, rank_in}
+use Rattle.ro_legal.specs.Core.{Job, Core}
 use Rattle.ro_legal.specs.Legal.{MayTake}
-use Rattle.ro_legal.specs.Cooperative.{after, done_in, most_done, peer_in, replay}
-use Rattle.ro_legal.specs.Kept.{KeepsReplicas, addresses_of, cooperative_in}
+use Rattle.ro_legal.specs.Cooperative.{after, done_in, peer_in, replay}
+use Rattle.ro_legal.specs.Kept.{KeepsReplicas, IsCounted, addresses_of, cooperative_in}
 use Rattle.ro_legal.proofs.Journals.{outcome_of-append}
 use Rattle.ro_legal.proofs.Leases.{AtHome, lendable_there, lendable-awake, has_replica}
-use Rattle.ro_legal.proofs.Lists.{get-within, length-mapped}
+use Rattle.ro_legal.proofs.Lists.{get-set-same, length-mapped}
 use Rattle.ro_legal.proofs.TogetherCounts.{most-bounds}
 use Rattle.ro_coop_core.specs.declared.seats.Partner.{Partner}
 use Rattle.ro_coop_core.specs.declared.seats.Seat.{Seat}
-use Rattle.ro_coop_core.specs.Seats.{Homed, IsSeated, AreSeated, IsPartner, AreNumbered, IsCeiling, KnowMutex}
-use Rattle.ro_coop_core.specs.Seen.{IsLent}
+use Rattle.ro_coop_core.specs.Seats.{Homed, IsSeated, AreSeated, IsPartner, AreNumbered, AreNear, KnowEach, KnowsParked}
+use Rattle.ro_coop_core.specs.Seen.{AreCeilings, IsLent}
 use Rattle.ro_coop_core.specs.Runs.{seen_of}
 use Rattle.ro_coop_core.specs.Fields.{spare_of, one_end, Fields, core_in, blocked_at, Holds}
-use Rattle.ro_coop_core.proofs.Journals.{replay_more}
+use Rattle.ro_legal.proofs.TogetherJournals.{replay_more}
 use Rattle.ro_coop_core.proofs.Keeping.{keeps-replicas, keeps-mutexes}
 use Rattle.ro_coop_core.proofs.Held.{Goes, goes, no-views, no-outcome, same-counts, holds-step}
-use Rattle.ro_coop_core.proofs.Homes.{seat-changes, seat-there}
-use Rattle.ro_coop_core.proofs.Numbered.{all-numbered, its-number, know-mutex, numbered-set, few-cooperative}
+use Rattle.ro_coop_core.proofs.Homes.{seat-changes}
+use Rattle.ro_coop_core.proofs.Numbered.{all-numbered, its-number, numbered-set, few-cooperative}
+use Rattle.ro_coop_core.proofs.Distinct.{AreDistinct, its-rank, own-number, table-distinct, cooperative-distinct}
 
 one-end-le : (o : Option How) → one_end o ≤ 1
 one-end-le None = omega arith
@@ -198,17 +199,46 @@ module _ (f : Fields) (h : Holds f) (lease : Lease) (allowed : MayTake f.job (co
     left-numbered : (number : ℕ) (mutex : Mutex) → slice_get partner.peer.mutexes number ≡ Some mutex → AreNumbered number mutex.address (core_in f).sides (slice_set f.seats lease.replica (record seat { home = None }))
     left-numbered number mutex e = numbered-set number mutex.address (core_in f).sides f.seats lease.replica seat (record seat { home = None }) there refl (mutex-numbered number mutex e)
 
-    pub take-few : length partner.ceilings.items < 2 ^ 32
-    take-few = let few = few-mutexes in let count = leaves.is.ceilings in omega arith
+    distinct-mutexes : AreDistinct (addresses_of partner.peer.mutexes)
+    distinct-mutexes =
+        let counted : IsCounted f.job (core_in f) leaves.replica leaves.side = (keeps-mutexes f h).counted lease.replica leaves.replica leaves.side leaves.here leaves.beside in
+        subst AreDistinct (sym (ap addresses_of same-mutexes ∙ counted.answers_for)) (cooperative-distinct f.job.program (core_in f).kernel.owners (table-distinct f.job f.journal h.legal))
 
-    pub take-known : (number : ℕ) → number < length partner.ceilings.items → KnowMutex number (slice_set f.seats lease.replica (record seat { home = None }))
-    take-known number less =
-        let m = get-within partner.peer.mutexes number (let count = leaves.is.ceilings in let same : length partner.peer.mutexes ≡ length leaves.side.mutexes = ap length same-mutexes in omega arith) in
-        know-mutex number m.0.address (core_in f).sides _ (left-numbered number m.0 m.1)
+    -- none of its ranks is forgotten in another replica
+    take-near : (number : ℕ) (mutex : Mutex) → slice_get partner.peer.mutexes number ≡ Some mutex → AreNear mutex.address mutex.rank (core_in f).sides
+    take-near number mutex e place side is =
+        let apart = (keeps-mutexes f h).apart place lease.replica side leaves.side is leaves.beside mutex.address in
+        let rank : rank_in partner.peer.mutexes mutex.address ≡ mutex.rank = its-rank partner.peer.mutexes number mutex distinct-mutexes e in
+        let same : rank_in leaves.side.mutexes mutex.address ≡ rank_in partner.peer.mutexes mutex.address = ap (λ (ms : List Mutex). rank_in ms mutex.address) (sym same-mutexes) in
+        omega arith
+
+    abbrev left : List Seat
+    left = slice_set f.seats lease.replica (record seat { home = None })
+
+    pub take-known : KnowEach (core_in f).sides left partner.peer.mutexes
+    take-known = record {
+      numbered = λ number mutex e. own-number partner.peer.mutexes number mutex distinct-mutexes e;
+      known = left-numbered;
+      near = take-near;
+    }
+
+    pub take-few : length partner.peer.mutexes < 2 ^ 32
+    take-few = let few = few-mutexes in let same : length partner.peer.mutexes ≡ length leaves.side.mutexes = ap length same-mutexes in omega arith
+
+    pub take-count : length partner.ceilings.items ≡ length partner.peer.mutexes
+    take-count = leaves.is.ceilings ∙ sym (ap length same-mutexes)
+
+    pub take-left : lease.replica < length left
+    take-left = let same = length-set f.seats lease.replica (record seat { home = None }) in let within = take-within in omega arith
+
+    take-parked : KnowsParked (record seat { home = None }) leaves.side
+    take-parked =
+        let s : IsSeated f.job (core_in f) lease.replica seat = h.seats_are.each lease.replica seat there in
+        subst (KnowsParked seat) (some-injective (sym s.side_there ∙ leaves.beside)) s.knows.parked
 
     -- the partner as it is lent, with its ceilings
     pub take-lent : (lent : Partner) → lent.peer ≡ partner.peer → length lent.ceilings.items ≡ length partner.ceilings.items
-        → ((sides : List Side) (number address : ℕ) → number < length partner.ceilings.items → AreNumbered number address sides (slice_set f.seats lease.replica (record seat { home = None })) → IsCeiling sides address (slice_index_or lent.ceilings.items number 0))
+        → ((core : Core) (side : Side) (s : Seat) → side.mutexes ≡ partner.peer.mutexes → KnowEach core.sides left side.mutexes → slice_get left lease.replica ≡ Some s → KnowsParked s side → AreCeilings core side lease.thread lent.ceilings.items)
         → IsLent (seen_of f) lease.replica lease.thread lent
     take-lent lent same count ceilings = subst (λ (p : PeerOf). IsLent (seen_of f) lease.replica lease.thread (record { peer = p; ceilings = lent.ceilings })) (sym same) (record {
       program = leaves.is.of_job;
@@ -216,9 +246,8 @@ module _ (f : Fields) (h : Holds f) (lease : Lease) (allowed : MayTake f.job (co
       going = take-going;
       countable = take-countable;
       faultless = take-faultless;
-      count = count ∙ (leaves.is.ceilings ∙ sym (ap length same-mutexes));
-      ceilings = λ number rank mutex e small.
-          let within = slice_get_within partner.peer.mutexes number mutex e in
-          let many : length partner.peer.mutexes ≡ length leaves.side.mutexes = ap length same-mutexes in
-          ceilings (core_in f).sides number mutex.address (let as_many = leaves.is.ceilings in omega arith) (left-numbered number mutex e) rank small;
+      count = count ∙ take-count;
+      side = leaves.side;
+      beside = leaves.beside;
+      ceilings = ceilings (core_in f) leaves.side (record seat { home = None }) (sym same-mutexes) (subst (KnowEach (core_in f).sides left) same-mutexes take-known) (get-set-same f.seats lease.replica seat (record seat { home = None }) there) take-parked;
     })

@@ -25,7 +25,7 @@ use Rattle.ro_legal.proofs.Leases.{asleep-unlent}
 use Rattle.ro_legal.proofs.Ordered.{none-lent-is}
 use Rattle.ro_coop_core.specs.declared.seats.Partner.{Partner}
 use Rattle.ro_coop_core.specs.declared.seats.Seat.{Seat}
-use Rattle.ro_coop_core.specs.Seats.{Homed, IsPartner, IsSeated, Knows, seat_unstopped, seat_stopped}
+use Rattle.ro_coop_core.specs.Seats.{Homed, IsPartner, IsSeated, KnowsParked, Knows, seat_unstopped, seat_stopped}
 use Rattle.ro_coop_core.specs.Fields.{Fields, core_in, Holds}
 use Rattle.ro_coop_core.specs.Numbers.{HasMutexes}
 use Rattle.ro_coop_core.proofs.Keeping.{keeps-replicas}
@@ -150,10 +150,10 @@ module _ (f : Fields) (h : Holds f) where
 
   -- where a thread is parked
   pub parked-is : (number thread : ℕ) (seat : Seat) (partner : Partner) → slice_get f.seats number ≡ Some seat → seat.home ≡ Some partner → (parked : Bool) (parking : Option Parking) → slice_index_or seat.parked thread None ≡ parking
-      → ((side : Side) → side.mutexes ≡ partner.peer.mutexes → parked ≡ option_map_or (is_kept (core_in f) side thread) parking false) → parked ≡ is_parked (core_in f) number thread
+      → ((side : Side) → side.mutexes ≡ partner.peer.mutexes → KnowsParked seat side → parked ≡ option_map_or (is_kept (core_in f) side thread) parking false) → parked ≡ is_parked (core_in f) number thread
   parked-is number thread seat partner there e parked parking parks kept =
       let at = here number seat partner there e in
-      kept at.side (sym (ap (λ (p : Peer). p.mutexes) at.is.peer_is))
+      kept at.side (sym (ap (λ (p : Peer). p.mutexes) at.is.peer_is)) at.knows.parked
       ∙ ap (λ (o : Option Parking). option_map_or (is_kept (core_in f) at.side thread) o false) (sym parks ∙ at.knows.parked thread)
       ∙ ap (λ (o : Option Side). option_map_or (λ side. option_map_or (is_kept (core_in f) side thread) (side.parked thread) false) o false) (sym at.side_there)
 

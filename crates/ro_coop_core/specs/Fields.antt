@@ -1,5 +1,5 @@
 -- The fields of a cooperative core against its journal.
-use Rattle.std.specs.Prelude.{◌≡◌, ◌<◌, ◌≤◌, ◌+◌, ◌*◌, ℕ, Bool, not, List, [], ◌∷◌, length, Option, Some, None, slice_index_or, nat_lt, if◌then◌else◌}
+use Rattle.std.specs.Prelude.{◌≡◌, ◌≤◌, ◌+◌, ◌*◌, ℕ, Bool, not, List, [], length, Option, Some, None, slice_index_or, nat_lt, if◌then◌else◌}
 use Rattle.ro_event.specs.declared.calls.Call.{Call}
 use Rattle.ro_event.specs.Functions.{functions}
 use Rattle.ro_event.specs.Views.{View}

@@ -1,5 +1,5 @@
 -- A core by its fields.
-use Rattle.std.specs.Prelude.{◌≡◌, ◌-◌, ◌<◌, ◌≤◌, ℕ, Bool, true, List, [], ◌++◌, length, Option, if◌then◌else◌, slice_get, vec_len, vec_capacity}
+use Rattle.std.specs.Prelude.{◌≡◌, ◌-◌, ◌<◌, ◌≤◌, ℕ, Bool, true, List, [], ◌++◌, length, if◌then◌else◌, slice_get, vec_len, vec_capacity}
 use Rattle.std.specs.Option.{option_map_or}
 use Rattle.ro_event.specs.Views.{View}
 use Rattle.ro_legal.specs.Core.{Job, Core, is_going, may_vote, views_of}

@@ -1,5 +1,5 @@
 -- The seats of peers, against the replicas and what these have beside.
-use Rattle.std.specs.Prelude.{◌≡◌, ℕ, ◌+◌, ◌-◌, ◌^◌, ◌<◌, ◌≤◌, Bool, false, not, nat_lt, List, [], ◌∷◌, ◌++◌, length, map, replicate, Option, Some, None, is_some, slice_get, slice_index_or, vec_len, vec_capacity}
+use Rattle.std.specs.Prelude.{◌≡◌, ℕ, ◌+◌, ◌-◌, ◌^◌, ◌<◌, ◌≤◌, min, Bool, false, not, nat_lt, if◌then◌else◌, List, [], ◌∷◌, ◌++◌, length, map, replicate, Option, Some, None, is_some, slice_get, slice_index_or, vec_len, vec_capacity}
 use Rattle.std.specs.Option.{option_map_or}
 use Rattle.ro_event.specs.Effects.{Effect}
 use Rattle.ro_kernel.specs.Kernel.{Kernel}
@@ -12,8 +12,8 @@ use Rattle.ro_peer.specs.Gets.{voted}
 use Rattle.ro_takers.specs.Recalls.{Recalls}
 use Rattle.ro_thread.specs.declared.Thread.{Thread}
 use Rattle.ro_legal.specs.Sides.{Side, peer_with, threads_of, rank_in, is_ahead}
-use Rattle.ro_legal.specs.Core.{Job, Core, is_home}
-use Rattle.ro_legal.specs.Cooperative.{done_in, replica_after, side_served}
+use Rattle.ro_legal.specs.Core.{Job, Core, is_home, waits_beside, first_given_up}
+use Rattle.ro_legal.specs.Cooperative.{done_in}
 use Rattle.ro_legal.specs.Lent.{IsOfJob}
 use Rattle.ro_coop_core.specs.declared.seats.Partner.{Partner}
 use Rattle.ro_coop_core.specs.declared.seats.Seat.{Seat}
@@ -23,10 +23,14 @@ use Rattle.ro_coop_core.specs.declared.seats.Entering.{Entering}
 abbrev pub takers_of : Side → List (List ℕ)
 takers_of side = map (λ mutex. threads_of mutex.address side.gets) side.mutexes
 
+-- where each thread of a peer came back, where it last came back at a lock
+abbrev pub KnowsParked : Seat → Side → Type 0
+KnowsParked seat side = (thread : ℕ) → slice_index_or seat.parked thread None ≡ side.parked thread
+
 -- what a seat knows of its peer, also while that is lent
 pub record Knows (seat : Seat) (replica : Replica) (side : Side) : Type 0 where
   pub parked_count : length seat.parked ≡ 16
-  pub parked : (thread : ℕ) → slice_index_or seat.parked thread None ≡ side.parked thread
+  pub parked : KnowsParked seat side
   pub done_count : length seat.done ≡ 16
   pub done : (thread : ℕ) → slice_index_or seat.done thread 0 ≡ done_in replica thread
   pub takers : Recalls (takers_of side) seat.takers
@@ -156,3 +160,20 @@ AreNear address rank sides = (number : ℕ) (side : Side) → slice_get sides nu
 -- below the ceiling are just the ranks that are not too far ahead
 abbrev pub IsCeiling : List Side → (address ceiling : ℕ) → Type 0
 IsCeiling sides address ceiling = (rank : ℕ) → rank < 2 ^ 32 → nat_lt rank ceiling ≡ not (is_ahead sides address rank)
+
+-- the seats know by its number who got each of these mutexes in each replica, in none of which it was got so often that its rank is forgotten
+pub record KnowEach (sides : List Side) (seats : List Seat) (mutexes : List Mutex) : Type 0 where
+  pub numbered : (number : ℕ) (mutex : Mutex) → slice_get mutexes number ≡ Some mutex → number_of mutexes mutex.address ≡ Some number
+  pub known : (number : ℕ) (mutex : Mutex) → slice_get mutexes number ≡ Some mutex → AreNumbered number mutex.address sides seats
+  pub near : (number : ℕ) (mutex : Mutex) → slice_get mutexes number ≡ Some mutex → AreNear mutex.address mutex.rank sides
+
+-- the ceiling of each of these mutexes, by their numbers, is such a one
+abbrev pub EachIsCeiling : List Side → List Mutex → List ℕ → Type 0
+EachIsCeiling sides mutexes ceilings =
+    (number : ℕ) (mutex : Mutex) → slice_get mutexes number ≡ Some mutex → IsCeiling sides mutex.address (slice_index_or ceilings number 0)
+
+-- each ceiling is lowered to the first rank that the thread gives up, where the other one waits for the mutex
+abbrev pub AreLowered : Core → Side → (thread other : ℕ) → (old new : List ℕ) → Type 0
+AreLowered core side thread other old new =
+    (number : ℕ) (mutex : Mutex) → slice_get side.mutexes number ≡ Some mutex
+    → slice_index_or new number 0 ≡ (if waits_beside side thread mutex.address mutex.rank other then min (slice_index_or old number 0) (first_given_up core thread mutex) else slice_index_or old number 0)

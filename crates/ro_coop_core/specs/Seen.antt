@@ -1,8 +1,7 @@
 -- A cooperative core as contracts see it.
-use Rattle.std.specs.Prelude.{◌≡◌, ◌<◌, ◌≤◌, ◌+◌, ◌^◌, ℕ, IfSome, IsTrue, not, List, [], ◌∷◌, ◌++◌, length, Option, Some, None, is_none, nat_lt, slice_get, slice_index_or}
+use Rattle.std.specs.Prelude.{◌≡◌, ◌<◌, ◌≤◌, ◌+◌, ◌^◌, ℕ, IfSome, IsTrue, not, ◌&&◌, List, [], ◌∷◌, ◌++◌, length, Option, Some, is_none, nat_lt, slice_get, slice_index_or}
 use Rattle.std.specs.Option.{option_and_then, option_map}
 use Rattle.ro_event.specs.Views.{View}
-use Rattle.ro_journal.specs.declared.How.{How}
 use Rattle.ro_journal.specs.declared.How.TheVariants.{Differ}
 use Rattle.ro_journal.specs.declared.Entry.{Entry}
 use Rattle.ro_journal.specs.declared.Entry.TheVariants.{Put, Part, End}
@@ -14,11 +13,10 @@ use Rattle.ro_peer.specs.declared.mutexes.Mutex.{Mutex}
 use Rattle.ro_peer.specs.declared.running.Came.{Came}
 use Rattle.ro_peer.specs.declared.running.Came.TheVariants.{Quantum, Stopped}
 use Rattle.ro_peer.specs.Leases.{waiting_at}
-use Rattle.ro_peer.specs.Peers.{Peer}
 use Rattle.ro_peer.specs.Seen.{peer_of}
 use Rattle.ro_legal.specs.declared.parkings.Parking.{Parking}
 use Rattle.ro_legal.specs.Sides.{Side, is_ahead}
-use Rattle.ro_legal.specs.Core.{Job, Core, may_vote, views_of, lease_of}
+use Rattle.ro_legal.specs.Core.{Job, Core, is_given_up, may_vote, views_of, lease_of}
 use Rattle.ro_legal.specs.Cooperative.{IsAllowed, EndsVote, after, replay, peer_in}
 use Rattle.ro_legal.specs.Lent.{IsOfJob}
 use Rattle.ro_coop_core.specs.declared.seats.Partner.{Partner}
@@ -48,10 +46,11 @@ pub record Stays (old new : RunOf) : Type 0 where
 abbrev pub HasRoom : RunOf → Type 0
 HasRoom run = length (state run).leases + 3 ≤ run.room
 
--- below a mutex's ceiling are just the ranks that are not too far ahead
-abbrev pub AreCeilings : List Side → List Mutex → List ℕ → Type 0
-AreCeilings sides mutexes ceilings =
-    (number rank : ℕ) (mutex : Mutex) → slice_get mutexes number ≡ Some mutex → rank < 2 ^ 32 → nat_lt rank (slice_index_or ceilings number 0) ≡ not (is_ahead sides mutex.address rank)
+-- below a mutex's ceiling are just the ranks that are not too far ahead, and that a lease of the thread doesn't give up
+abbrev pub AreCeilings : Core → Side → (thread : ℕ) → List ℕ → Type 0
+AreCeilings core side thread ceilings =
+    (number rank : ℕ) (mutex : Mutex) → slice_get side.mutexes number ≡ Some mutex → rank < 2 ^ 32
+    → nat_lt rank (slice_index_or ceilings number 0) ≡ (not (is_ahead core.sides mutex.address rank) && not (is_given_up core side thread mutex rank))
 
 -- The peer that is lent, as it is in the core; its thread can run for a quantum, and no fault waits.
 pub record IsLent (run : RunOf) (number thread : ℕ) (partner : Partner) : Type 0 where
@@ -61,7 +60,9 @@ pub record IsLent (run : RunOf) (number thread : ℕ) (partner : Partner) : Type
   pub countable : CanCount run.job.settings.quantum partner.peer.replica thread
   pub faultless : partner.peer.replica.waiting ≡ []
   pub count : length partner.ceilings.items ≡ length partner.peer.mutexes
-  pub ceilings : AreCeilings (state run).sides partner.peer.mutexes partner.ceilings.items
+  pub side : Side
+  pub beside : slice_get (state run).sides number ≡ Some side
+  pub ceilings : AreCeilings (state run) side thread partner.ceilings.items
 
 -- the entry of a lease that came back so
 abbrev pub return_of : Lease → (count : ℕ) → Came → Entry

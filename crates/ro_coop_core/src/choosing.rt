@@ -1,11 +1,11 @@
 //! What the core does next.
-ghost use Rattle.std.specs.Prelude.{◌≡◌, ◌<◌, ◌&&◌, ◌==◌, ℕ, None, not, length, true};
+ghost use Rattle.std.specs.Prelude.{◌≡◌, ◌<◌, ◌&&◌, ℕ, None, not, length, true};
 ghost use Rattle.std.specs.List.{list_all};
 ghost use Rattle.ro_legal.specs.Sides.{Side, is_ahead};
 ghost use Rattle.ro_legal.specs.Core.{is_going, nothing_lent, is_home, is_awake, is_lendable, is_parked, is_barred, is_kept, may_vote, may_free};
 ghost use Rattle.ro_legal.specs.Legal.{is_stuck};
 ghost use Rattle.ro_legal.specs.Action.{lowest_below, threads_made, is_turn, may_vote_in, may_lend_in, lend_turn, turn_next, first_action, next_action as next};
-ghost use Rattle.ro_coop_core.specs.Seats.{seat_stopped};
+ghost use Rattle.ro_coop_core.specs.Seats.{KnowsParked, seat_stopped};
 ghost use Rattle.ro_coop_core.specs.Fields.{Holds};
 ghost use Rattle.ro_coop_core.specs.Numbers.{HasMutexes, HasRank};
 ghost use Rattle.ro_coop_core.specs.Runs.{fields_of, job_of, state_of};
@@ -15,7 +15,7 @@ use crate::seats::{Seat, ceiling, taker};
 use ro_event::Call;
 use ro_journal::How;
 use ro_legal::{Action, Parking};
-use ro_peer::{Mutex, Mutexes};
+use ro_peer::Mutexes;
 
 impl Core {
     /// What comes next: an end that is due; else, where nothing is lent, the lowest thread is freed or voted on; else the
@@ -212,35 +212,39 @@ impl Core {
         let seat = &self.seats[replica as usize];
         match (&seat.home, seat.parking(thread)) {
             (Some(partner), Some(parking)) => {
-                self.is_kept(partner.peer.mutexes(), thread, parking)
+                self.is_kept(seat, partner.peer.mutexes(), thread, parking)
             }
             _ => false,
         }
     }
 
-    // Whether a thread that came back at a lock, where a peer has these mutexes, would come back again.
-    fn is_kept(&self, mutexes: &Mutexes, thread: u32, parking: Parking) -> bool
+    // Whether a thread that came back at a lock, where the peer of a seat has these mutexes, would come back again.
+    fn is_kept(&self, seat: &Seat, mutexes: &Mutexes, thread: u32, parking: Parking) -> bool
         requires holds { Holds (fields_of self.now) }
         requires had { HasMutexes (state_of self.now) mutexes.now }
-        ensures { (side : Side) → side.mutexes ≡ mutexes.now → result ≡ is_kept (state_of self.now) side thread parking }
+        ensures { (side : Side) → side.mutexes ≡ mutexes.now → KnowsParked seat.now side → result ≡ is_kept (state_of self.now) side thread parking }
     {
         let Some(number) = mutexes.number(parking.mutex) else {
             return false;
         };
         let mutex = mutexes.mutex(number);
         mutex.owner.is_some()
-            || asks_for_next(parking, mutex) && self.is_barred(thread, number, parking.rank)
+            || parking.has_asked(mutex.rank) && self.is_barred(seat, thread, number, parking)
     }
 
-    // Whether the next rank of a peer's mutex is not for a thread.
-    fn is_barred(&self, thread: u32, number: u32, rank: u32) -> bool
+    // Whether the next rank of a mutex of a seat's peer, for which the thread asked there, is not for the thread.
+    fn is_barred(&self, seat: &Seat, thread: u32, number: u32, parking: Parking) -> bool
         requires holds { Holds (fields_of self.now) }
-        requires next { (address : ℕ) × HasRank (state_of self.now) number address rank }
-        ensures { (address : ℕ) → HasRank (state_of self.now) number address rank → result ≡ is_barred (state_of self.now) thread address rank }
+        requires next { HasRank (state_of self.now) number parking.mutex parking.rank }
+        ensures { (side : Side) → KnowsParked seat.now side → result ≡ is_barred (state_of self.now) side thread parking.mutex parking.rank }
     {
-        match taker(self.seats.as_slice(), number, rank) {
+        match taker(self.seats.as_slice(), number, parking.rank) {
             Some(other) => other != thread,
-            None => self.is_ahead(number, rank) || !self.leases.is_empty(),
+            None => {
+                self.is_ahead(number, parking.rank)
+                    || seat.is_awaited(thread, parking.mutex, parking.rank)
+                    || !self.leases.is_empty()
+            }
         }
     }
 
@@ -259,11 +263,4 @@ fn stands_in_all(seats: &[Seat], thread: u32) -> bool
     ensures { result ≡ list_all (seat_stopped thread) seats.now }
 {
     seats.iter().all(|seat| seat.is_stopped(thread))
-}
-
-// Whether a thread came back because it asked for the next rank of a mutex.
-fn asks_for_next(parking: Parking, mutex: Mutex) -> bool
-    ensures { result ≡ (parking.asked && (mutex.rank == parking.rank)) }
-{
-    parking.asked && mutex.rank == parking.rank
 }

@@ -107,6 +107,7 @@ impl Core {
         ensures image { result.image ≡ (job_of self).program.image }
         ensures how { Holds (fields_of self) → result.how ≡ outcome_of (fields_of self).journal }
         ensures views { Holds (fields_of self) → KeepsViews (job_of self) (fields_of self).journal result.views.items }
+        ensures kept { Holds (fields_of self) → outcome_of (fields_of self).journal ≡ Some Differ → result.views.items ≡ (fields_of self).views }
         ensures no_views { Holds (fields_of self) → outcome_of (fields_of self).journal ≢ Some Differ → result.views.items ≡ [] }
         ensures journal { result.journal.items ≡ (fields_of self).journal }
     {

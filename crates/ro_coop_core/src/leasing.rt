@@ -9,7 +9,7 @@ ghost use Rattle.ro_coop_core.specs.Fields.{Holds};
 ghost use Rattle.ro_coop_core.specs.Runs.{fields_of, job_of, state_of, seen};
 
 use crate::cores::Core;
-use crate::seats::{Partner, set_ceilings};
+use crate::seats::Partner;
 use ro_journal::{Entry, Lease};
 use ro_legal::{Parking, forget_lease, lease_of, note_lease};
 use ro_peer::{Came, Mutexes};
@@ -46,7 +46,7 @@ impl Core {
         note_lease(&mut self.leases, lease);
         self.wrote = 0;
         let mut partner = self.seats[lease.replica as usize].leave();
-        set_ceilings(self.seats.as_slice(), partner.ceilings.as_mut_slice());
+        partner.limit(self.seats.as_slice(), lease.replica, lease.thread);
         partner
     }
 

@@ -4,11 +4,13 @@
 #![tactic(auto)]
 
 mod asking;
+mod ceilings;
 mod choosing;
 mod cores;
 mod leasing;
 mod opening;
 mod seats;
+mod showing;
 mod voting;
 
 pub use cores::{Core, Finished};

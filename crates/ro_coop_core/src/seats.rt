@@ -11,10 +11,10 @@ ghost use Rattle.ro_peer.specs.Events.{affected, unanswered, entering as with_mu
 ghost use Rattle.ro_peer.specs.Seen.{number_of, peer_of};
 ghost use Rattle.ro_takers.specs.Recalls.{Recalls};
 ghost use Rattle.ro_legal.specs.Sides.{Side, opening_side, peer_with, taker_of};
-ghost use Rattle.ro_legal.specs.Core.{Job};
+ghost use Rattle.ro_legal.specs.Core.{Job, is_awaited, waits_beside};
 ghost use Rattle.ro_legal.specs.Cooperative.{replica_after, replicas_after, side_served};
 ghost use Rattle.ro_legal.specs.Lent.{IsOfJob};
-ghost use Rattle.ro_coop_core.specs.Seats.{AllCanTake, AreHome, AreNear, AreNumbered, AreRanked, AreSpared, CanTake, HasDoneNothing, IsCeiling, IsHomeSeat, IsPartner, IsRanked, IsSpared, KnowMutex, entered_of, noted, seat_answered, seat_stopped, seat_unstopped};
+ghost use Rattle.ro_coop_core.specs.Seats.{AllCanTake, AreHome, AreNear, AreNumbered, AreRanked, AreSpared, CanTake, HasDoneNothing, IsCeiling, IsHomeSeat, IsPartner, IsRanked, IsSpared, KnowMutex, KnowsParked, entered_of, noted, seat_answered, seat_stopped, seat_unstopped};
 
 use crate::cores::THREADS;
 use ro_event::{Effect, View};
@@ -148,6 +148,30 @@ impl Seat {
         }
     }
 
+    /// Whether another thread than this one waits for a mutex, and has not asked for a rank of it.
+    pub fn is_awaited(&self, thread: u32, mutex: u32, rank: u32) -> bool
+        ensures { (side : Side) → KnowsParked self.now side → result ≡ is_awaited side thread mutex rank }
+    {
+        for other in 0..THREADS as u32 {
+            if self.waits_beside(thread, mutex, rank, other) {
+                return true;
+            }
+        }
+        false
+    }
+
+    // The same of one other thread.
+    fn waits_beside(&self, thread: u32, mutex: u32, rank: u32, other: u32) -> bool
+        ensures { (side : Side) → KnowsParked self.now side → result ≡ waits_beside side thread mutex rank other }
+    {
+        match self.parking(other) {
+            Some(parking) => {
+                other != thread && parking.mutex == mutex && !parking.has_asked(rank)
+            }
+            None => false,
+        }
+    }
+
     /// Takes the partner out of the seat.
     pub fn leave(&mut self) -> Partner
         requires { IsSome self.old.home }
@@ -263,18 +287,6 @@ pub(crate) fn ceiling(seats: &[Seat], number: u32) -> u64
     };
     let own = u64::from(seat.takers.rank(number)) + u64::from(MOST_APART);
     own.min(ceiling(others, number))
-}
-
-/// Sets the ceilings of a peer's mutexes, by their numbers.
-pub(crate) fn set_ceilings(seats: &[Seat], ceilings: &mut [u64])
-    requires few { length ceilings.old < 2 ^ 32 }
-    requires known { (number : ℕ) → number < length ceilings.old → KnowMutex number seats.now }
-    ensures count { length ceilings.new ≡ length ceilings.old }
-    ensures ceilings { (sides : List Side) (number address : ℕ) → number < length ceilings.old → AreNumbered number address sides seats.now → IsCeiling sides address (slice_index_or ceilings.new number 0) }
-{
-    for number in 0..ceilings.len() {
-        ceilings[number] = ceiling(seats, number as u32);
-    }
 }
 
 /// Shows a thread that stands still in every peer, each of which is at home.

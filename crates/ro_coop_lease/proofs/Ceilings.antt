@@ -1,13 +1,14 @@
 -- What was got below the ceilings is not too far ahead.
-use Rattle.std.specs.Prelude.{◌≡◌, ℕ, suc, ◌==◌, Bool, true, false, not, cond, List, [], ◌∷◌, Option, Some, None, slice_get, slice_index_or}
+use Rattle.std.specs.Prelude.{◌≡◌, ℕ, suc, ◌==◌, Bool, true, false, not, cond, nat_lt, List, [], ◌∷◌, Option, Some, None, slice_get, slice_index_or}
 use Rattle.std.specs.List.{list_all}
 use Rattle.std.specs.Option.{option_map}
 use Rattle.std.proofs.Common.{refl, sym, ap, ◌∙◌, subst, arith}
-use Rattle.std.proofs.lemmas.Bool.{eqb-true, and_from, lt-ltb, not-true}
+use Rattle.std.proofs.lemmas.Bool.{eqb-true, and_from, and_parts, lt-ltb, not-true}
 use Rattle.ro_peer.specs.declared.mutexes.Mutex.{Mutex}
 use Rattle.ro_peer.specs.Gets.{Get}
 use Rattle.ro_peer.specs.Seen.{number_of}
 use Rattle.ro_legal.specs.Sides.{Side, is_ahead}
+use Rattle.ro_legal.specs.Core.{Core}
 use Rattle.ro_legal.specs.Kept.{NoFurtherAhead}
 use Rattle.ro_locking.specs.Got.{IsBelow, AreBelow}
 use Rattle.ro_coop_core.specs.Seen.{AreCeilings}
@@ -33,14 +34,14 @@ numbered (m ∷ mutexes) address number e = by (m.address == address) refl (numb
         subst (Numbered (m ∷ mutexes) address) later (record { mutex = its.mutex; there = its.there; address_is = its.address_is })
 
 -- where the mutexes have their ceilings
-pub all-within : (sides later : List Side) (mutexes : List Mutex) (ceilings : List ℕ) → AreCeilings sides mutexes ceilings → NoFurtherAhead sides later → (gets : List Get) → AreBelow mutexes ceilings gets → list_all (λ get. not (is_ahead later get.mutex get.rank)) gets ≡ true
-all-within sides later mutexes ceilings are grow [] below = refl
-all-within sides later mutexes ceilings are grow (get ∷ gets) (here, below) =
-    and_from _ _ (ap not (grow get.mutex get.rank (not-true (is_ahead sides get.mutex get.rank) (by here)))) (all-within sides later mutexes ceilings are grow gets below)
+pub all-within : (core : Core) (side : Side) (thread : ℕ) (later : List Side) (ceilings : List ℕ) → AreCeilings core side thread ceilings → NoFurtherAhead core.sides later → (gets : List Get) → AreBelow side.mutexes ceilings gets → list_all (λ get. not (is_ahead later get.mutex get.rank)) gets ≡ true
+all-within core side thread later ceilings are grow [] below = refl
+all-within core side thread later ceilings are grow (get ∷ gets) (here, below) =
+    and_from _ _ (ap not (grow get.mutex get.rank (not-true (is_ahead core.sides get.mutex get.rank) (by here)))) (all-within core side thread later ceilings are grow gets below)
   where
-    by : IsBelow mutexes ceilings get → not (is_ahead sides get.mutex get.rank) ≡ true
+    by : IsBelow side.mutexes ceilings get → not (is_ahead core.sides get.mutex get.rank) ≡ true
     by (number, is, less) =
-        let m = numbered mutexes get.mutex number is in
-        ap (λ (a : ℕ). not (is_ahead sides a get.rank)) (sym m.address_is)
-        ∙ (sym (are number get.rank m.mutex m.there (omega arith))
-        ∙ lt-ltb get.rank (slice_index_or ceilings number 0) (omega arith))
+        let m = numbered side.mutexes get.mutex number is in
+        let below : nat_lt get.rank (slice_index_or ceilings number 0) ≡ true = lt-ltb get.rank (slice_index_or ceilings number 0) (omega arith) in
+        ap (λ (a : ℕ). not (is_ahead core.sides a get.rank)) (sym m.address_is)
+        ∙ (and_parts (not (is_ahead core.sides m.mutex.address get.rank)) _ (sym (are number get.rank m.mutex m.there (omega arith)) ∙ below)).0

@@ -1,10 +1,13 @@
 -- What is lent can run, its run may be put back, and what it got is known.
-use Rattle.std.specs.Prelude.{◌≡◌, ℕ, true, not, List, ◌++◌, length}
+use Rattle.std.specs.Prelude.{◌≡◌, ℕ, true, not, List, ◌++◌, length, Option, Some, None, slice_get}
 use Rattle.std.specs.List.{list_all}
+use Rattle.std.specs.Option.{option_and_then, option_map}
 use Rattle.std.proofs.Common.{refl, sym, ap, ◌∙◌, subst}
 use Rattle.ro_exec.specs.Next.{Layout}
 use Rattle.ro_kernel.specs.Kernel.{Kernel}
 use Rattle.ro_plain.specs.Machine.{layout_in}
+use Rattle.ro_plain.proofs.Calls.{some-injective}
+use Rattle.ro_replica.specs.Replica.{Replica}
 use Rattle.ro_replica.specs.Seen.{CanCount}
 use Rattle.ro_orders.specs.Copies.{Rows}
 use Rattle.ro_peer.specs.declared.mutexes.Mutex.{Mutex}
@@ -14,16 +17,16 @@ use Rattle.ro_peer.specs.Gets.{Get, got_in}
 use Rattle.ro_peer.specs.Seen.{peer_of}
 use Rattle.ro_peer.specs.Leases.{PeerRuns}
 use Rattle.ro_lockpage.specs.Pages.{PassOf}
-use Rattle.ro_legal.specs.Sides.{is_ahead}
-use Rattle.ro_legal.specs.Core.{Job}
-use Rattle.ro_legal.specs.Cooperative.{lease_gets}
+use Rattle.ro_legal.specs.Sides.{Side, peer_with, is_ahead}
+use Rattle.ro_legal.specs.Core.{Job, Core}
+use Rattle.ro_legal.specs.Cooperative.{lease_gets, peer_in}
 use Rattle.ro_legal.specs.Lent.{IsOfJob}
 use Rattle.ro_legal.specs.Kept.{HasPeer, NoFurtherAhead}
 use Rattle.ro_legal.proofs.Leases.{out_found}
 use Rattle.ro_legal.proofs.Lists.{length-mapped}
 use Rattle.ro_legal.proofs.MutexRuns.{run-keeps}
 use Rattle.ro_locking.specs.Asking.{known_by, below}
-use Rattle.ro_locking.specs.Got.{HasGot}
+use Rattle.ro_locking.specs.Got.{HasGot, AreBelow}
 use Rattle.ro_locking.proofs.Adding.{same_mutexes, gets_more}
 use Rattle.ro_locking.proofs.Below.{in_all_rows, are_below}
 use Rattle.ro_coop_core.specs.Seen.{RunOf, state, IsLent, MayReturn}
@@ -42,6 +45,14 @@ as-many layout watchdog quantum thread rows old new count came ran =
     ∙ (ap length (run-keeps layout watchdog count old ran.end thread ran.runs).addresses_are
     ∙ length-mapped (λ (mutex : Mutex). mutex.address) old.mutexes)))
 
+-- a peer has the mutexes of its side
+peer-mutexes : (core : Core) (number : ℕ) (peer : Peer) (side : Side) → peer_in core number ≡ Some peer → slice_get core.sides number ≡ Some side → side.mutexes ≡ peer.mutexes
+peer-mutexes core number peer side e beside = by (slice_get core.replicas number) e
+  where
+    by : (o : Option Replica) → option_and_then (λ replica. option_map (peer_with replica) (slice_get core.sides number)) o ≡ Some peer → side.mutexes ≡ peer.mutexes
+    by None f = absurd (let g : None ≡ Some peer = f in cc)
+    by (Some replica) f = ap (λ (p : Peer). p.mutexes) (some-injective (sym (ap (option_map (peer_with replica)) beside) ∙ f))
+
 module _ (run : RunOf) (lent : Lent) (is : IsLent run lent.lease.replica lent.lease.thread lent.partner) where
   pub can-go : lent.quantum ≡ run.job.settings.quantum → CanGo lent
   can-go quantum = record {
@@ -49,6 +60,9 @@ module _ (run : RunOf) (lent : Lent) (is : IsLent run lent.lease.replica lent.le
     countable = subst (λ (q : ℕ). CanCount q lent.partner.peer.replica lent.lease.thread) (sym quantum) is.countable;
     faultless = is.faultless;
   }
+
+  same-mutexes : is.side.mutexes ≡ lent.partner.peer.mutexes
+  same-mutexes = peer-mutexes (state run) lent.lease.replica (peer_of lent.partner.peer) is.side is.peer is.beside
 
   module _ (back : Back) (old new : PassOf) (gives : Gives lent old back new) where
     abbrev rows : Rows
@@ -80,7 +94,8 @@ module _ (run : RunOf) (lent : Lent) (is : IsLent run lent.lease.replica lent.le
       its-return : Returned now.job (state now) lent.lease (peer_of back.partner.peer) back.took.count back.took.came
       its-return =
           let same_gets = gets-are now.job (state now) lent.lease (peer_of lent.partner.peer) back.took.count out.there in
-          let within = all-within (state run).sides (state now).sides lent.partner.peer.mutexes lent.partner.ceilings.items is.ceilings grows _ (are_below lent.partner.peer.mutexes lent.partner.ceilings.items (known_by new) _ runs-now.gets) in
+          let below = are_below lent.partner.peer.mutexes lent.partner.ceilings.items (known_by new) _ runs-now.gets in
+          let within = all-within (state run) is.side lent.lease.thread (state now).sides lent.partner.ceilings.items is.ceilings grows _ (subst (λ (ms : List Mutex). AreBelow ms lent.partner.ceilings.items _) (sym same-mutexes) below) in
           subst (λ (p : Peer). Returned now.job (state now) lent.lease p back.took.count back.took.came) (sym runs-now.new_is)
           (returned now.job (state now) lent.lease (peer_of lent.partner.peer) runs-now.end back.took.count out.there runs-now.runs is.going (out_found lent.lease.driver lent.lease (state now).leases out.held) out.not_ended
           (subst (λ (gets : List Get). list_all (λ get. not (is_ahead (state now).sides get.mutex get.rank)) gets ≡ true) (sym same_gets) within)

@@ -1,5 +1,4 @@
 use Rattle.std.proofs.Common.{ℕ, sym, ◌∙◌, subst, arith}
-use Rattle.ro_replica.specs.Seen.{ReplicaOf, IsOpening}
 use Rattle.ro_coop_core.specs.Opening.{IsFirst, AreFirst}
 use Rattle.ro_coop_core.proofs.Begins.{first-push, first-seat}
 use Rattle.ro_coop_core.proofs.opening.opening_seats.Goals as goal

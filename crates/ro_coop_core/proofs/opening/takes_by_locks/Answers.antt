@@ -1,4 +1,4 @@
-use Rattle.std.proofs.Common.{◌≡◌, ℕ, drop, not, [], refl, sym, ap, ◌∙◌, arith}
+use Rattle.std.proofs.Common.{◌≡◌, drop, not, sym, ap, ◌∙◌, arith}
 use Rattle.ro_event.specs.Functions.{functions}
 use Rattle.ro_orders.specs.Choices.{has_otherwise}
 use Rattle.ro_coop_core.proofs.Begins.{none-left}

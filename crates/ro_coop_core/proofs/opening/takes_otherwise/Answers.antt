@@ -1,5 +1,4 @@
 use Rattle.std.proofs.Common.{◌∷◌, ◌||◌, ◌&&◌, ◌+◌, drop, sym, ap, ◌∙◌}
-use Rattle.std.specs.Prelude.{is_some}
 use Rattle.ro_event.specs.Functions.{functions}
 use Rattle.ro_event.specs.declared.calls.Which.TheVariants.{Function}
 use Rattle.ro_orders.specs.Turns.{takes_otherwise}

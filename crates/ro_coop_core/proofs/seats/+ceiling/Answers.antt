@@ -1,4 +1,4 @@
-use Rattle.std.proofs.Common.{◌≡◌, ◌+◌, ℕ, length, sym, ap, ◌∙◌, arith}
+use Rattle.std.proofs.Common.{◌≡◌, ◌+◌, length, ap, arith}
 use Rattle.ro_takers.specs.Recalls.{list_of}
 use Rattle.ro_coop_core.proofs.Sitting.{ceiling-none, ceiling-cons, known-head, known-tail}
 use Rattle.ro_coop_core.proofs.seats.+ceiling.Goals as goal

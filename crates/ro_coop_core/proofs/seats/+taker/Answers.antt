@@ -1,4 +1,4 @@
-use Rattle.std.proofs.Common.{length, sym, ap, arith}
+use Rattle.std.proofs.Common.{length, ap, arith}
 use Rattle.ro_coop_core.proofs.Sitting.{nobody-took, known-head, known-tail, took-here, took-later}
 use Rattle.ro_coop_core.proofs.seats.+taker.Goals as goal
 

@@ -14,6 +14,9 @@ returns-clause-views c h differ =
     subst (λ (vs : List View). ShowsViews (job_of c.args.self) c.args.self.journal.items vs) (sym (c.kept_views.ensures.differ (is ∙ differ)))
     (h.views_kept differ)
 
+pub returns-clause-kept : goal.returns-clause-kept
+returns-clause-kept c h differ = c.kept_views.ensures.differ (fields-outcome (fields_of c.args.self) h ∙ differ)
+
 pub returns-clause-no_views : goal.returns-clause-no_views
 returns-clause-no_views c h differ =
     let is = sym (fields-outcome (fields_of c.args.self) h) in

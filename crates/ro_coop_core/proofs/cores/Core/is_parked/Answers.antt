@@ -17,14 +17,14 @@ returns-in-Some-Some c home =
     let seat = c.index-seat.result.now in
     let there = seat-at f c.requires.holds c.args.replica seat c.requires.replica c.index-seat.ensures in
     parked-is f c.requires.holds c.args.replica c.args.thread seat c.in-Some-Some.partner there c.in-Some-Some.is-0 c.is_kept.result (Some c.in-Some-Some.parking)
-    (sym c.parking.ensures ∙ c.in-Some-Some.is-1) (λ side same. c.is_kept.ensures side (same ∙ sym c.mutexes.ensures))
+    (sym c.parking.ensures ∙ c.in-Some-Some.is-1) (λ side same parks. c.is_kept.ensures side (same ∙ sym c.mutexes.ensures) parks)
 
 pub returns-in_default : goal.returns-in_default
 returns-in_default c home =
     let f = fields_of c.args.self.now in
     let seat = c.index-seat.result.now in
     let there = seat-at f c.requires.holds c.args.replica seat c.requires.replica c.index-seat.ensures in
-    parked-is f c.requires.holds c.args.replica c.args.thread seat c.in_default.field-0-0 there c.in_default.is-0 false None (sym c.parking.ensures ∙ c.in_default.is-1) (λ side same. refl)
+    parked-is f c.requires.holds c.args.replica c.args.thread seat c.in_default.field-0-0 there c.in_default.is-0 false None (sym c.parking.ensures ∙ c.in_default.is-1) (λ side same parks. refl)
 
 pub returns-in_default-2 : goal.returns-in_default-2
 returns-in_default-2 c home =

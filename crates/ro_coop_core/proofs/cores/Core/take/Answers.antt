@@ -1,30 +1,26 @@
-use Rattle.std.proofs.Common.{◌≡◌, ◌<◌, ◌^◌, ◌∷◌, Some, ℕ, length, refl, sym, ap, ◌∙◌, subst, arith}
-use Rattle.std.specs.Prelude.{slice_set, slice_index_or}
-use Rattle.std.specs.Vec.{with_items}
-use Rattle.std.proofs.lemmas.List.{with_items_is}
+use Rattle.std.proofs.Common.{◌<◌, List, length, refl, sym, ap, ◌∙◌, subst, arith}
+use Rattle.std.specs.Prelude.{slice_get, slice_set}
 use Rattle.ro_legal.specs.Cooperative.{replay}
-use Rattle.ro_coop_core.specs.Fields.{Fields}
+use Rattle.ro_coop_core.specs.declared.seats.Seat.{Seat}
+use Rattle.ro_coop_core.specs.Fields.{Fields, core_in}
 use Rattle.ro_coop_core.specs.Runs.{fields_of}
-use Rattle.ro_coop_core.specs.Seats.{KnowMutex, AreNumbered, IsCeiling}
-use Rattle.ro_coop_core.proofs.Takes.{spare_parts, read-seat, take-within, take-leaves, take-holds, take-few, take-known, take-lent, take-output}
+use Rattle.ro_coop_core.specs.Seats.{KnowEach}
+use Rattle.ro_coop_core.proofs.Takes.{spare_parts, read-seat, take-within, take-leaves, take-holds, take-few, take-known, take-count, take-left, take-lent, take-output}
 use Rattle.ro_coop_core.proofs.cores.Core.take.Goals as goal
 
-pub set_ceilings-requires-clause-few : goal.set_ceilings-requires-clause-few
-set_ceilings-requires-clause-few c =
+pub limit-requires : goal.limit-requires
+limit-requires c =
     let f : Fields = fields_of c.args.self.now in
     let h = c.requires.holds in
     let there = read-seat f.seats c.args.lease.replica c.index_mut.result.now (take-within f h c.args.lease c.requires.allowed) c.index_mut.ensures.value in
     let leaves = take-leaves f h c.args.lease c.requires.allowed c.index_mut.result.now c.leave-partner.result there c.leave-partner.ensures.partner in
-    subst (λ xs. length xs < 2 ^ 32) (sym c.as_mut_slice.ensures.value) (take-few f h c.args.lease c.requires.allowed c.index_mut.result.now c.leave-partner.result leaves there)
-
-pub set_ceilings-requires-clause-known : goal.set_ceilings-requires-clause-known
-set_ceilings-requires-clause-known c number less =
-    let f : Fields = fields_of c.args.self.now in
-    let h = c.requires.holds in
-    let there = read-seat f.seats c.args.lease.replica c.index_mut.result.now (take-within f h c.args.lease c.requires.allowed) c.index_mut.ensures.value in
-    let leaves = take-leaves f h c.args.lease c.requires.allowed c.index_mut.result.now c.leave-partner.result there c.leave-partner.ensures.partner in
-    subst (KnowMutex number) (sym (c.as_slice.ensures.value ∙ ap (slice_set f.seats c.args.lease.replica) c.leave-partner.ensures.seat))
-    (take-known f h c.args.lease c.requires.allowed c.index_mut.result.now c.leave-partner.result leaves there number (subst (λ xs. number < length xs) c.as_mut_slice.ensures.value less))
+    let left = c.as_slice.ensures.value ∙ ap (slice_set f.seats c.args.lease.replica) c.leave-partner.ensures.seat in
+    record {
+      place = subst (λ (seats : List Seat). c.args.lease.replica < length seats) (sym left) (take-left f h c.args.lease c.requires.allowed c.index_mut.result.now c.leave-partner.result leaves there);
+      few = take-few f h c.args.lease c.requires.allowed c.index_mut.result.now c.leave-partner.result leaves there;
+      count = take-count f h c.args.lease c.requires.allowed c.index_mut.result.now c.leave-partner.result leaves there;
+      known = ((core_in f).sides, subst (λ (seats : List Seat). KnowEach (core_in f).sides seats c.leave-partner.result.peer.mutexes) (sym left) (take-known f h c.args.lease c.requires.allowed c.index_mut.result.now c.leave-partner.result leaves there));
+    }
 
 pub returns-clause-holds : goal.returns-clause-holds
 returns-clause-holds c =
@@ -50,9 +46,8 @@ returns-clause-lent c =
     let h = c.requires.holds in
     let there = read-seat f.seats c.args.lease.replica c.index_mut.result.now (take-within f h c.args.lease c.requires.allowed) c.index_mut.ensures.value in
     let leaves = take-leaves f h c.args.lease c.requires.allowed c.index_mut.result.now c.leave-partner.result there c.leave-partner.ensures.partner in
-    let items = with_items_is c.leave-partner.result.ceilings c.set_ceilings.new.ceilings (c.set_ceilings.ensures.count ∙ c.as_mut_slice.ensures.len) in
-    take-lent f h c.args.lease c.requires.allowed c.index_mut.result.now c.leave-partner.result leaves there (record { peer = c.leave-partner.result.peer; ceilings = with_items c.leave-partner.result.ceilings c.set_ceilings.new.ceilings }) refl
-    (ap length items ∙ (c.set_ceilings.ensures.count ∙ ap length c.as_mut_slice.ensures.value))
-    (λ sides number address less numbered. subst (λ xs. IsCeiling sides address (slice_index_or xs number 0)) (sym items)
-    (c.set_ceilings.ensures.ceilings sides number address (subst (λ xs. number < length xs) (sym c.as_mut_slice.ensures.value) less)
-    (subst (AreNumbered number address sides) (sym (c.as_slice.ensures.value ∙ ap (slice_set f.seats c.args.lease.replica) c.leave-partner.ensures.seat)) numbered)))
+    let left = c.as_slice.ensures.value ∙ ap (slice_set f.seats c.args.lease.replica) c.leave-partner.ensures.seat in
+    take-lent f h c.args.lease c.requires.allowed c.index_mut.result.now c.leave-partner.result leaves there c.limit.new.self c.limit.ensures.peer c.limit.ensures.count
+    (λ core side s same know at parks. c.limit.ensures.ceilings core side s same
+    (subst (λ (seats : List Seat). KnowEach core.sides seats side.mutexes) (sym left) know)
+    (ap (λ (seats : List Seat). slice_get seats c.args.lease.replica) left ∙ at) parks)

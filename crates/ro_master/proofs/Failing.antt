@@ -1,41 +1,28 @@
 -- A core whose sink failed: the end by it is due, and all else is as the journal leaves it.
 use Rattle.std.proofs.Common.{◌≡◌, ◌⊎◌, inl, inr, ℕ, Bool, true, true≢false, List, [], ◌∷◌, ◌++◌, length, Option, Some, None, refl, sym, ap, ◌∙◌, subst, arith}
-use Rattle.std.specs.Prelude.{◌&&◌, ◌==◌, if◌then◌else◌, is_none, is_some, slice_get}
-use Rattle.std.specs.List.{find}
+use Rattle.std.specs.Prelude.{◌&&◌, if◌then◌else◌, is_none, is_some, unwrap_or}
 use Rattle.ro_journal.specs.declared.How.{How}
-use Rattle.ro_journal.specs.declared.How.TheVariants.{Sink}
+use Rattle.ro_journal.specs.declared.How.TheVariants.{Deadlock, Sink}
 use Rattle.ro_journal.specs.declared.Entry.{Entry}
 use Rattle.ro_journal.specs.declared.Entry.TheVariants.{End}
-use Rattle.ro_replica.specs.Replica.{Replica}
-use Rattle.ro_replica.specs.Seen.{ReplicaOf}
 use Rattle.ro_journal.specs.declared.Lease.{Lease}
-use Rattle.ro_legal.specs.declared.actions.Action.TheVariants.{End as DoEnd, Over}
+use Rattle.ro_legal.specs.declared.actions.Action.TheVariants.{End as DoEnd, Scrub as DoScrub, Over}
 use Rattle.ro_legal.specs.Core.{Job, Core, may_vote, may_free}
-use Rattle.ro_legal.specs.Legal.{MayTake, EndsAlone, after, may_scrub, replay, replay_with, cut_output, output_of}
+use Rattle.ro_legal.specs.Legal.{MayTake, EndsAlone, may_scrub, cut_output}
 use Rattle.ro_legal.specs.Action.{next_action}
-use Rattle.ro_legal.proofs.Journals.{replay_more}
-use Rattle.ro_legal.proofs.Nexts.{end_is}
+use Rattle.ro_legal.specs.Rules.{IsFit, Legal, replay, replay_with, output_of}
+use Rattle.ro_legal.specs.Sound.{IsOver}
+use Rattle.ro_legal.proofs.Nexts.{end_is, scrub_next}
 use Rattle.ro_legal.proofs.Ordered.{going-parts}
-use Rattle.ro_core.specs.declared.cores.Core.{Core as Run}
-use Rattle.ro_core.specs.Seen.{sent_of, EndsNow, HasRoom, IsOfJob, IsLent, MayReturn, ReturnIs, Quiet, Stays}
-use Rattle.ro_core.specs.Fields.{Fields, Holds, core_in}
+use Rattle.ro_legal.proofs.Rules.{replay-more, end-output, due-over}
+use Rattle.ro_core.specs.Seen.{CoreOf, EndsNow, Stays}
+use Rattle.ro_cores.specs.Cores.{left_by, state, sent_of, HasRoom, Quiet, with_sink}
 use Rattle.ro_master.specs.Sessions.{Cuts}
-use Rattle.ro_core.specs.Runs.{fields_of, job_of, core_of, silent}
-use Rattle.ro_master.proofs.Calm.{failed_alone}
-use Rattle.ro_core.proofs.Ends.{cut-none, plain-end}
 
 module _ (job : Job) (journal : List Entry) where
   pub with-leases : (failed : Option ℕ) → (replay_with job journal failed).leases ≡ (replay job journal).leases
   with-leases None = refl
   with-leases (Some n) = refl
-
-  pub with-replicas : (failed : Option ℕ) → (replay_with job journal failed).replicas ≡ (replay job journal).replicas
-  with-replicas None = refl
-  with-replicas (Some n) = refl
-
-  pub with-kernel : (failed : Option ℕ) → (replay_with job journal failed).kernel ≡ (replay job journal).kernel
-  with-kernel None = refl
-  with-kernel (Some n) = refl
 
   pub with-ended : (failed : Option ℕ) → (replay_with job journal failed).ended ≡ (replay job journal).ended
   with-ended None = refl
@@ -49,14 +36,10 @@ module _ (job : Job) (journal : List Entry) where
   with-free None thread = refl
   with-free (Some n) thread = refl
 
-  pub with-scrub : (failed : Option ℕ) → may_scrub (replay_with job journal failed) ≡ (is_none failed && may_scrub (replay job journal))
-  with-scrub None = refl
-  with-scrub (Some n) = refl
-
 -- that end comes next
-pub sink-next : (f : Fields) (taken : ℕ) → Cuts f (Some taken) → next_action f.job (replay_with f.job f.journal (Some taken)) ≡ DoEnd (Sink taken)
+pub sink-next : (core : CoreOf) (taken : ℕ) → Cuts core (Some taken) → next_action core.job (replay_with core.job core.journal (Some taken)) ≡ DoEnd (Sink taken)
 unfolding next_action
-sink-next f taken cuts = ap (λ (o : Option How). if is_some o then Over else DoEnd (Sink taken)) (going-parts (core_in f) cuts.1).1
+sink-next core taken cuts = ap (λ (o : Option How). if is_some o then Over else DoEnd (Sink taken)) (going-parts (left_by core) cuts.1).1
 
 -- ---- what may be done only where the sink has not failed
 
@@ -64,114 +47,111 @@ calm : (failed : Option ℕ) (may : Bool) → (is_none failed && may) ≡ true �
 calm None may e = (refl, e)
 calm (Some n) may e = absurd (true≢false (sym e))
 
-module _ (f : Fields) (failed : Option ℕ) where
+-- a core without its sink, and whether that failed
+module _ (core : CoreOf) (failed : Option ℕ) where
   abbrev pub now : Core
-  now = replay_with f.job f.journal failed
+  now = replay_with core.job core.journal failed
 
   -- where it has not, the state is what the journal leaves
-  pub at-state : (P : Core → Type 0) → failed ≡ None → P (core_in f) → P now
-  at-state P e p = subst (λ (o : Option ℕ). P (replay_with f.job f.journal o)) (sym e) p
+  pub at-state : (P : Core → Type 0) → failed ≡ None → P (left_by core) → P now
+  at-state P e p = subst (λ (o : Option ℕ). P (replay_with core.job core.journal o)) (sym e) p
 
-  pub vote-calm : (thread : ℕ) → may_vote now thread ≡ true → (failed ≡ None) × (may_vote (core_in f) thread ≡ true)
-  vote-calm thread e = calm failed (may_vote (core_in f) thread) (sym (with-vote f.job f.journal failed thread) ∙ e)
+  pub from-state : (P : Core → Type 0) → failed ≡ None → P now → P (left_by core)
+  from-state P e p = subst (λ (o : Option ℕ). P (replay_with core.job core.journal o)) e p
 
-  pub free-calm : (thread : ℕ) → may_free f.job now thread ≡ true → (failed ≡ None) × (may_free f.job (core_in f) thread ≡ true)
-  free-calm thread e = calm failed (may_free f.job (core_in f) thread) (sym (with-free f.job f.journal failed thread) ∙ e)
+  pub vote-calm : (thread : ℕ) → may_vote now thread ≡ true → (failed ≡ None) × (may_vote (left_by core) thread ≡ true)
+  vote-calm thread e = calm failed (may_vote (left_by core) thread) (sym (with-vote core.job core.journal failed thread) ∙ e)
 
-  pub scrub-calm : may_scrub now ≡ true → (failed ≡ None) × (may_scrub (core_in f) ≡ true)
-  scrub-calm e = calm failed (may_scrub (core_in f)) (sym (with-scrub f.job f.journal failed) ∙ e)
+  pub free-calm : (thread : ℕ) → may_free core.job now thread ≡ true → (failed ≡ None) × (may_free core.job (left_by core) thread ≡ true)
+  free-calm thread e = calm failed (may_free core.job (left_by core) thread) (sym (with-free core.job core.journal failed thread) ∙ e)
 
-  pub take-calm : (lease : Lease) → MayTake f.job now lease → (failed ≡ None) × MayTake f.job (core_in f) lease
+  pub take-calm : (lease : Lease) → MayTake core.job now lease → (failed ≡ None) × MayTake core.job (left_by core) lease
   take-calm lease m = by failed refl m
     where
-      by : (o : Option ℕ) → failed ≡ o → MayTake f.job (replay_with f.job f.journal o) lease → (failed ≡ None) × MayTake f.job (core_in f) lease
+      by : (o : Option ℕ) → failed ≡ o → MayTake core.job (replay_with core.job core.journal o) lease → (failed ≡ None) × MayTake core.job (left_by core) lease
       by None e m = (e, m)
       by (Some n) e m = absurd (true≢false (sym m.going))
 
+  pub scrub-calm : next_action core.job now ≡ DoScrub → (failed ≡ None) × (next_action core.job (left_by core) ≡ DoScrub)
+  scrub-calm next = by failed refl (scrub_next core.job now next)
+    where
+      by : (o : Option ℕ) → failed ≡ o → may_scrub now ≡ true → (failed ≡ None) × (next_action core.job (left_by core) ≡ DoScrub)
+      by None e may = (e, from-state (λ (c : Core). next_action core.job c ≡ DoScrub) e next)
+      by (Some n) e may = absurd (true≢false (sym (subst (λ (o : Option ℕ). may_scrub (replay_with core.job core.journal o) ≡ true) e may)))
+
   -- ---- an end that is due, or comes alone
 
-  module _ (h : Holds f) (cuts : Cuts f failed) (how : How) (ends : EndsNow f.job now how) where
+  module _ (fit : IsFit core.job) (legal : Legal core.job core.journal) (cuts : Cuts core failed) (how : How) (ends : EndsNow core.job now how) where
     pub sink-end : (taken : ℕ) → failed ≡ Some taken → how ≡ Sink taken
-    sink-end taken e = by (subst (λ (o : Option ℕ). EndsNow f.job (replay_with f.job f.journal o) how) e ends)
+    sink-end taken e = by (subst (λ (o : Option ℕ). EndsNow core.job (replay_with core.job core.journal o) how) e ends)
       where
-        by : EndsNow f.job (replay_with f.job f.journal (Some taken)) how → how ≡ Sink taken
-        by (inl next) = sym (end_is f.job (replay_with f.job f.journal (Some taken)) how next)
+        by : EndsNow core.job (replay_with core.job core.journal (Some taken)) how → how ≡ Sink taken
+        by (inl next) = sym (end_is core.job (replay_with core.job core.journal (Some taken)) how next)
         by (inr stuck) = absurd (true≢false (sym stuck.1))
 
-    pub end-comes : (next_action f.job (core_in f) ≡ DoEnd how) ⊎ EndsAlone f.job (core_in f) how
+    pub end-comes : (next_action core.job (left_by core) ≡ DoEnd how) ⊎ EndsAlone core.job (left_by core) how
     end-comes = by failed refl
       where
-        plain : EndsNow f.job (core_in f) how → (next_action f.job (core_in f) ≡ DoEnd how) ⊎ EndsAlone f.job (core_in f) how
+        plain : EndsNow core.job (left_by core) how → (next_action core.job (left_by core) ≡ DoEnd how) ⊎ EndsAlone core.job (left_by core) how
         plain (inl next) = inl next
-        plain (inr stuck) = inr (subst (EndsAlone f.job (core_in f)) (sym stuck.0) stuck.1)
+        plain (inr stuck) = inr (subst (EndsAlone core.job (left_by core)) (sym stuck.0) stuck.1)
 
-        by : (o : Option ℕ) → failed ≡ o → (next_action f.job (core_in f) ≡ DoEnd how) ⊎ EndsAlone f.job (core_in f) how
-        by None e = plain (subst (λ (o : Option ℕ). EndsNow f.job (replay_with f.job f.journal o) how) e ends)
+        by : (o : Option ℕ) → failed ≡ o → (next_action core.job (left_by core) ≡ DoEnd how) ⊎ EndsAlone core.job (left_by core) how
+        by None e = plain (subst (λ (o : Option ℕ). EndsNow core.job (replay_with core.job core.journal o) how) e ends)
         by (Some taken) e =
-            let c = subst (Cuts f) e cuts in
-            inr (subst (EndsAlone f.job (core_in f)) (sym (sink-end taken e)) (c.1, c.0))
+            let c = subst (Cuts core) e cuts in
+            inr (subst (EndsAlone core.job (left_by core)) (sym (sink-end taken e)) (c.1, c.0))
+
+    abbrev due_or : Option How → How
+    due_or due = unwrap_or due Deadlock
+
+    -- an end that the core comes to by itself is no sink's
+    own-end : EndsNow core.job (left_by core) how → (taken : ℕ) → how ≡ Sink taken → ⊥
+    own-end (inr stuck) taken e = let f : Deadlock ≡ Sink taken = sym stuck.0 ∙ e in cc
+    own-end (inl next) taken e = by (left_by core).due refl
+      where
+        by : (o : Option How) → (left_by core).due ≡ o → ⊥
+        by None f = let g : Deadlock ≡ Sink taken = sym (ap due_or f) ∙ end_is core.job (left_by core) how next ∙ e in cc
+        by (Some other) f = elim (subst IsOver (sym (ap due_or f) ∙ end_is core.job (left_by core) how next ∙ e) (due-over core.job core.journal fit legal other f)) [ ]
+
+    cut-none : ((taken : ℕ) → how ≡ Sink taken → ⊥) → cut_output (left_by core) how ≡ (left_by core).output
+    cut-none not_sink = by how refl
+      where
+        by : (so : How) → how ≡ so → cut_output (left_by core) so ≡ (left_by core).output
+        by (Sink taken) e = absurd (not_sink taken e)
+        by so e = refl
 
     -- it sends nothing more
-    pub end-sends : output_of f.job (f.journal ++ End how ∷ []) ≡ sent_of f.job f.journal failed
-    unfolding after
-    end-sends = ap (λ (c : Core). c.output) (replay_more f.job f.journal (End how)) ∙ by failed refl
+    pub end-sends : output_of core.job (core.journal ++ End how ∷ []) ≡ sent_of core.job core.journal failed
+    end-sends = ap (λ (c : Core). c.output) (replay-more core.job core.journal (End how)) ∙ end-output core.job (left_by core) how ∙ by failed refl
       where
-        by : (o : Option ℕ) → failed ≡ o → cut_output (core_in f) how ≡ sent_of f.job f.journal o
-        by None e = cut-none (core_in f) how (plain-end f h how (subst (λ (o : Option ℕ). EndsNow f.job (replay_with f.job f.journal o) how) e ends))
-        by (Some taken) e = ap (cut_output (core_in f)) (sink-end taken e)
+        by : (o : Option ℕ) → failed ≡ o → cut_output (left_by core) how ≡ sent_of core.job core.journal o
+        by None e = cut-none (own-end (subst (λ (o : Option ℕ). EndsNow core.job (replay_with core.job core.journal o) how) e ends))
+        by (Some taken) e = ap (cut_output (left_by core)) (sink-end taken e)
 
 -- nothing leaves where nothing is written
-pub quiet-same : (old new : Run) (failed : Option ℕ) (held : Option (List ℕ)) (failures sure : ℕ) → failed ≡ None → output_of (job_of new) new.journal.items ≡ output_of (job_of old) old.journal.items
-    → Quiet (core_of (fields_of old) failed held failures sure) (core_of (fields_of new) failed held failures sure)
+pub quiet-same : (old new : CoreOf) (failed : Option ℕ) (held : Option (List ℕ)) (failures sure : ℕ) → failed ≡ None → (left_by new).output ≡ (left_by old).output
+    → Quiet (with_sink old failed held failures sure) (with_sink new failed held failures sure)
 quiet-same old new failed held failures sure none output = record {
   failed = none;
-  sent = ap (sent_of (job_of new) new.journal.items) none ∙ output ∙ sym (ap (sent_of (job_of old) old.journal.items) none);
+  sent = ap (sent_of new.job new.journal) none ∙ output ∙ sym (ap (sent_of old.job old.journal) none);
   held = refl;
   failures = refl;
   sure = refl;
 }
 
 -- nothing but room
-pub stays-with : (old new : Run) → Stays (silent old) (silent new) → (failed : Option ℕ) (held : Option (List ℕ)) (failures sure : ℕ) → Stays (core_of (fields_of old) failed held failures sure) (core_of (fields_of new) failed held failures sure)
+pub stays-with : (old new : CoreOf) → Stays old new → (failed : Option ℕ) (held : Option (List ℕ)) (failures sure : ℕ) → Stays (with_sink old failed held failures sure) (with_sink new failed held failures sure)
 stays-with old new s failed held failures sure = record { job = s.job; journal = s.journal; failed = refl; held = refl; failures = refl; sure = refl }
 
--- ---- leases
+-- ---- room, whether the sink failed or not
 
-module _ (r : Run) (failed : Option ℕ) (held : Option (List ℕ)) (failures sure : ℕ) where
-  pub room-silent : HasRoom (core_of (fields_of r) failed held failures sure) → HasRoom (silent r)
-  room-silent room = let same = ap length (with-leases (job_of r) r.journal.items failed) in omega arith
+module _ (core : CoreOf) (failed : Option ℕ) (held : Option (List ℕ)) (failures sure : ℕ) where
+  same-leases : length (state (with_sink core failed held failures sure)).leases ≡ length (state core).leases
+  same-leases = ap length (with-leases core.job core.journal failed ∙ sym (with-leases core.job core.journal core.failed))
 
-  pub room-with : HasRoom (silent r) → HasRoom (core_of (fields_of r) failed held failures sure)
-  room-with room = let same = ap length (with-leases (job_of r) r.journal.items failed) in omega arith
+  pub room-without : HasRoom (with_sink core failed held failures sure) → HasRoom core
+  room-without room = let same = same-leases in omega arith
 
-  pub lent-with : (number thread : ℕ) (value : ReplicaOf) → IsLent (silent r) number thread value → IsLent (core_of (fields_of r) failed held failures sure) number thread value
-  lent-with number thread value l = record {
-    program = subst (λ k. IsOfJob (job_of r) k value) (sym (with-kernel (job_of r) r.journal.items failed)) l.program;
-    replica = ap (λ (rs : List Replica). slice_get rs number) (with-replicas (job_of r) r.journal.items failed) ∙ l.replica;
-    going = l.going;
-    countable = l.countable;
-  }
-
-  -- while the sink's end is due nothing comes back
-  pub returns-calm : Holds (fields_of r) → Cuts (fields_of r) failed → (driver : ℕ) (value : ReplicaOf) (count hit : ℕ) → MayReturn (core_of (fields_of r) failed held failures sure) driver value count hit → failed ≡ None
-  returns-calm h cuts driver value count hit m = by failed refl
-    where
-      by : (o : Option ℕ) → failed ≡ o → failed ≡ None
-      by None e = e
-      by (Some taken) e =
-          let alone = failed_alone (fields_of r) h (Some taken) (subst (Cuts (fields_of r)) e cuts) refl in
-          let found : find (λ (l : Lease). l.driver == driver) [] ≡ Some m.lease =
-          ap (find (λ (l : Lease). l.driver == driver)) (sym (with-leases (job_of r) r.journal.items failed ∙ alone)) ∙ m.held in
-          absurd (let f : None ≡ Some m.lease = found in cc)
-
-  pub return-silent : failed ≡ None → (driver : ℕ) (value : ReplicaOf) (count hit : ℕ) → MayReturn (core_of (fields_of r) failed held failures sure) driver value count hit → MayReturn (silent r) driver value count hit
-  return-silent none driver value count hit m = by (subst (λ (o : Option ℕ). MayReturn (core_of (fields_of r) o held failures sure) driver value count hit) none m)
-    where
-      by : MayReturn (core_of (fields_of r) None held failures sure) driver value count hit → MayReturn (silent r) driver value count hit
-      by m = record { lease = m.lease; held = m.held; allowed = m.allowed; program = m.program; became = m.became }
-
--- a put, whatever the sink
-pub return-with : (old new : Run) (failed : Option ℕ) (held : Option (List ℕ)) (failures sure : ℕ) (driver count hit : ℕ) → ReturnIs (silent old) (silent new) driver count hit → ReturnIs (core_of (fields_of old) failed held failures sure) (core_of (fields_of new) failed held failures sure) driver count hit
-return-with old new failed held failures sure driver count hit r lease of_driver =
-    let a = r lease (ap (find (λ (l : Lease). l.driver == driver)) (sym (with-leases (job_of old) old.journal.items failed)) ∙ of_driver) in
-    record { job = a.job; journal = a.journal }
+  pub room-with : HasRoom core → HasRoom (with_sink core failed held failures sure)
+  room-with room = let same = same-leases in omega arith

@@ -5,13 +5,11 @@ use Rattle.std.proofs.lemmas.List.{take-append-drop}
 use Rattle.std.proofs.Math.Seq.{take-append-add}
 use Rattle.ro_event.specs.Views.{View}
 use Rattle.ro_io.specs.Outside.{Rose, more}
-use Rattle.ro_core.specs.declared.cores.Core.{Core as Run}
 use Rattle.ro_journal.specs.declared.How.TheVariants.{Sink}
 use Rattle.ro_legal.specs.Core.{Core}
-use Rattle.ro_legal.specs.Legal.{cut_output, output_of}
-use Rattle.ro_core.specs.Seen.{Sends, IsOfMajority, offered_by, sent_of}
-use Rattle.ro_core.specs.Fields.{core_in}
-use Rattle.ro_core.specs.Runs.{fields_of, job_of, core_of, LastWrote}
+use Rattle.ro_legal.specs.Legal.{cut_output}
+use Rattle.ro_core.specs.Seen.{CoreOf, IsOfMajority}
+use Rattle.ro_cores.specs.Cores.{left_by, offered_by, sent_of, with_sink, Sends, LastWrote}
 use Rattle.ro_master.specs.Sessions.{bytes_by}
 
 -- a front of what the majority writes
@@ -63,21 +61,21 @@ module _ (bytes : List ℕ) (held held' : Option (List ℕ)) (failures failures'
   took-full None t left offers is = tt
   took-full (Some n) t left offers is = (let few : n < length bytes = t.part.0 in let less : sure < length bytes = t.full in let all : offers ≡ left + length bytes = is (omega (arith, few)) in omega (arith, less, all))
 
--- the core of the run that wrote them, with that sink
-pub took-sends : (old new : Run) (bytes : List ℕ) (before failed : Option ℕ) (held held' : Option (List ℕ)) (failures failures' sure sure' : ℕ) → before ≡ None → LastWrote (fields_of new) (output_of (job_of old) old.journal.items) bytes
-    → (0 < length bytes → length (offered_by (job_of new) new.journal.items) ≡ length (output_of (job_of old) old.journal.items) + length bytes)
-    → Took bytes failed held held' failures failures' sure sure' → Sends (core_of (fields_of old) before held failures sure) (core_of (fields_of new) failed held' failures' sure') (bytes_by failed bytes)
+-- the core that wrote them, with that sink
+pub took-sends : (old new : CoreOf) (bytes : List ℕ) (before failed : Option ℕ) (held held' : Option (List ℕ)) (failures failures' sure sure' : ℕ) → before ≡ None → LastWrote new (left_by old).output bytes
+    → (0 < length bytes → length (offered_by new.job new.journal) ≡ length (left_by old).output + length bytes)
+    → Took bytes failed held held' failures failures' sure sure' → Sends (with_sink old before held failures sure) (with_sink new failed held' failures' sure') (bytes_by failed bytes)
 took-sends old new bytes before failed held held' failures failures' sure sure' none wrote offers t = record {
-  sent = cut-sent failed t.part ∙ ap (λ (xs : List ℕ). xs ++ bytes_by failed bytes) (sym (ap (sent_of (job_of old) old.journal.items) none));
+  sent = cut-sent failed t.part ∙ ap (λ (xs : List ℕ). xs ++ bytes_by failed bytes) (sym (ap (sent_of old.job old.journal) none));
   held = took-held bytes held held' failures failures' sure sure' failed t;
   failures = t.grow;
   failed = took-rose bytes held held' failures failures' sure sure' failed t;
   calm = t.calm;
   sure = took-left bytes held held' failures failures' sure sure' failed t;
-  full = subst (λ (o : Option ℕ). IfSome failed (λ taken. sure + length (sent_of (job_of old) old.journal.items o) < length (offered_by (job_of new) new.journal.items))) (sym none)
-      (took-full bytes held held' failures failures' sure sure' failed t (length (output_of (job_of old) old.journal.items)) (length (offered_by (job_of new) new.journal.items)) offers);
+  full = subst (λ (o : Option ℕ). IfSome failed (λ taken. sure + length (sent_of old.job old.journal o) < length (offered_by new.job new.journal))) (sym none)
+      (took-full bytes held held' failures failures' sure sure' failed t (length (left_by old).output) (length (offered_by new.job new.journal)) offers);
 }
   where
-    cut-sent : (failed : Option ℕ) → IfSome failed (λ n. (n < length bytes) × (held' ≡ more held (take n bytes)) × Rose failures failures') → sent_of (job_of new) new.journal.items failed ≡ output_of (job_of old) old.journal.items ++ bytes_by failed bytes
+    cut-sent : (failed : Option ℕ) → IfSome failed (λ n. (n < length bytes) × (held' ≡ more held (take n bytes)) × Rose failures failures') → sent_of new.job new.journal failed ≡ (left_by old).output ++ bytes_by failed bytes
     cut-sent None part = wrote.output
-    cut-sent (Some n) part = cut-written (core_in (fields_of new)) (output_of (job_of old) old.journal.items) bytes n (let less : n < length bytes = part.0 in omega arith) wrote.output wrote.wrote
+    cut-sent (Some n) part = cut-written (left_by new) (left_by old).output bytes n (let less : n < length bytes = part.0 in omega arith) wrote.output wrote.wrote

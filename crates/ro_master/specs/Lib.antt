@@ -1,4 +1,3 @@
-pub mod History
 pub mod Sessions
 pub mod Driven
 pub mod Names

@@ -1,5 +1,5 @@
 //! The desk: the core, the table and one seat, under the master's lock.
-ghost use Rattle.std.specs.Prelude.{◌≡◌, ◌↔◌, [], IfOk, IsSome, IsTrue, MatchResult};
+ghost use Rattle.std.specs.Prelude.{◌≡◌, ◌↔◌, [], IfOk, IsSome, IsTrue, MatchResult, None};
 ghost use Rattle.ro_post.specs.Turns.{IfOver};
 ghost use Rattle.ro_journal.specs.declared.How.{How as HowOf};
 ghost use Rattle.ro_journal.specs.declared.Entry.{Entry as EntryOf};
@@ -7,29 +7,30 @@ ghost use Rattle.ro_journal.specs.Leases.{lease_to};
 ghost use Rattle.ro_journal.specs.declared.Entry.TheVariants.{Take, End};
 ghost use Rattle.ro_legal.specs.declared.actions.Action.TheVariants as act;
 ghost use Rattle.ro_legal.specs.Action.{next_action as next};
-ghost use Rattle.ro_core.specs.Seen.{state};
-ghost use Rattle.ro_legal.specs.Decides.{DecidesVote, DecidesFree, DecidesScrub};
+ghost use Rattle.ro_legal.specs.Rules.{DecidesVote, DecidesFree, DecidesScrub};
+ghost use Rattle.ro_cores.specs.Cores.{state};
 
+use crate::holding::{Back, Lent};
 use crate::passes::{Counter, Pass};
 use crate::seats::Naming;
 use crate::sessions::Session;
 use crate::waking::{Wakes, Waking};
+use ro_cores::RunCore;
 use ro_io::Sink;
 use ro_journal::{Entry, How, Lease};
-use ro_lease::{Back, Lent, Took};
 use ro_legal::Action;
 use ro_post::Turn;
 use std::alloc::AllocError;
 use std::marker::Model;
 
 /// What stands behind the lock.
-pub struct Desk<K: Sink, N: Naming> {
-    core: Session<K>,
+pub struct Desk<C: RunCore, K: Sink, N: Naming> {
+    core: Session<C, K>,
     count: Counter<N>,
     waking: Waking,
 }
 
-impl<K: Sink, N: Naming> Model for Desk<K, N> {
+impl<C: RunCore, K: Sink, N: Naming> Model for Desk<C, K, N> {
     ghost use Rattle.ro_master.specs.Desks.{DeskOf, Tied};
 
     ghost Value = { DeskOf };
@@ -39,16 +40,18 @@ impl<K: Sink, N: Naming> Model for Desk<K, N> {
     ghost invariant = { λ d. Tied N.start d.core d.count };
 }
 
-impl<K: Sink, N: Naming> Desk<K, N> {
+impl<C: RunCore, K: Sink, N: Naming> Desk<C, K, N> {
     ghost use Rattle.ro_master.specs.Passes.{empty_count, shown, Knew};
     ghost use Rattle.ro_legal.specs.Jobs.{CanRun};
+    ghost use Rattle.ro_legal.specs.Rules.{IsFit};
     ghost use Rattle.ro_master.specs.Desks.{AtRest, MayGiveBack, Moved, Looked, IsLoan, Decides, TurnIs, PutIs, TakesMemory, Rests, IsOver, AnswersOver, Tied};
 
     /// A desk for a core that was just opened, whose passes have their numbers.
-    pub fn new(core: Session<K>, count: Counter<N>) -> Desk<K, N>
+    pub fn new(core: Session<C, K>, count: Counter<N>) -> Desk<C, K, N>
         requires start { core ≡ N.start }
         requires journal { (core.journal ≡ []) }
         requires can_run { CanRun core.job }
+        requires fit { IsFit core.job }
         requires count { count ≡ empty_count core.job.settings.drivers }
         ensures { result ≡ record { core = core; count = count } }
     {
@@ -70,10 +73,12 @@ impl<K: Sink, N: Naming> Desk<K, N> {
     }
 
     /// The core.
-    pub fn into_core(self) -> Session<K>
+    pub fn into_core(self) -> Session<C, K>
         ensures core { result ≡ self.core }
         ensures tied { Tied N.start self.core self.count }
+        ensures mode { self.core.job.settings.mode ≡ C.mode }
     {
+        self.is_tied();
         let Desk {
             core,
             count,
@@ -84,7 +89,7 @@ impl<K: Sink, N: Naming> Desk<K, N> {
     }
 
     // Lends a replica to the pass's driver.
-    fn lend(&mut self, pass: &mut Pass<N>, replica: u32, thread: u32) -> Result<Lent, AllocError>
+    fn lend(&mut self, pass: &mut Pass<N>, replica: u32, thread: u32) -> Result<Lent<C>, AllocError>
         requires next { next self.old.core.job (state self.old.core) ≡ act.Lend replica thread }
         requires rest { AtRest N.start.job pass.old }
         ensures { MatchResult result (λ lent. Moved (Take (lease_to pass.old.number replica thread)) self.old self.new pass.old pass.new × IsLoan self.old pass.old replica thread lent) (λ _. Looked self.old self.new pass.old pass.new) }
@@ -101,9 +106,8 @@ impl<K: Sink, N: Naming> Desk<K, N> {
             thread,
         };
         pass.add(&mut self.count, &Entry::Take(lease));
-        let quantum = self.core.settings().quantum;
-        let lent = self.core.take(lease);
-        Ok(Lent::new(lease, quantum, lent))
+        let lent = self.core.lend(lease);
+        Ok(Lent::new(lent))
     }
 
     // Votes.
@@ -147,7 +151,7 @@ impl<K: Sink, N: Naming> Desk<K, N> {
     // Scrubs.
     fn scrub(&mut self, pass: &mut Pass<N>) -> Result<(), AllocError>
         requires { next self.old.core.job (state self.old.core) ≡ act.Scrub }
-        ensures { MatchResult result (λ _. (entry : EntryOf) × DecidesScrub (state self.old.core) entry × Moved entry self.old self.new pass.old pass.new) (λ _. Looked self.old self.new pass.old pass.new) }
+        ensures { MatchResult result (λ _. (entry : EntryOf) × DecidesScrub self.old.core.job (state self.old.core) entry × Moved entry self.old self.new pass.old pass.new) (λ _. Looked self.old self.new pass.old pass.new) }
     {
         match self.core.scrub() {
             Ok(entry) => {
@@ -180,7 +184,7 @@ impl<K: Sink, N: Naming> Desk<K, N> {
         pass.learn(&mut self.count);
     }
 
-    fn step(&mut self, pass: &mut Pass<N>) -> Result<Turn<Lent>, AllocError>
+    fn step(&mut self, pass: &mut Pass<N>) -> Result<Turn<Lent<C>>, AllocError>
         requires { AtRest N.start.job pass.old }
         ensures { MatchResult result (λ t. TurnIs t self.old self.new pass.old pass.new) (λ _. Looked self.old self.new pass.old pass.new × TakesMemory (next self.old.core.job (state self.old.core))) }
     {
@@ -216,11 +220,13 @@ impl<K: Sink, N: Naming> Desk<K, N> {
         }
     }
 
-    // What ties the count to the core.
+    // What ties the count to the core. While a failing sink's end is due nothing is lent.
     fn is_tied(&self)
-        ensures { Tied N.start self.now.core self.now.count }
+        ensures tied { Tied N.start self.now.core self.now.count }
+        ensures calm { IsSome self.now.core.failed → (state self.now.core).leases ≡ [] }
+        ensures mode { self.now.core.job.settings.mode ≡ C.mode }
     {
-        let _ = &self.core;
+        let _entries = self.core.entries();
     }
 
     /// Whether nothing can be done until a lease comes back.
@@ -231,7 +237,7 @@ impl<K: Sink, N: Naming> Desk<K, N> {
     }
 
     /// Who is to be woken after the last turn, which answered this.
-    pub fn woken_by_turn(&mut self, answer: &Result<Turn<Lent>, AllocError>) -> Wakes
+    pub fn woken_by_turn(&mut self, answer: &Result<Turn<Lent<C>>, AllocError>) -> Wakes
         ensures { self.new ≡ self.old }
     {
         match answer {
@@ -274,7 +280,7 @@ impl<K: Sink, N: Naming> Desk<K, N> {
     }
 
     /// One turn of the pass's driver: exactly one entry of its own, or none.
-    pub fn turn(&mut self, pass: &mut Pass<N>) -> Result<Turn<Lent>, AllocError>
+    pub fn turn(&mut self, pass: &mut Pass<N>) -> Result<Turn<Lent<C>>, AllocError>
         requires { AtRest N.start.job pass.old }
         ensures did { MatchResult result (λ t. TurnIs t self.old self.new pass.old pass.new) (λ _. Looked self.old self.new pass.old pass.new × TakesMemory (next self.old.core.job (state self.old.core))) }
         ensures rest { MatchResult result (λ t. Rests N.start.job t pass.new) (λ _. AtRest N.start.job pass.new) }
@@ -290,7 +296,7 @@ impl<K: Sink, N: Naming> Desk<K, N> {
     }
 
     /// Puts back what became of the pass's lease.
-    pub fn put(&mut self, pass: &mut Pass<N>, back: Back)
+    pub fn put(&mut self, pass: &mut Pass<N>, back: Back<C>)
         requires { MayGiveBack N.start.job pass.old back }
         ensures did { PutIs self.old self.new pass.old pass.new back }
         ensures rest { AtRest N.start.job pass.new }
@@ -302,18 +308,15 @@ impl<K: Sink, N: Naming> Desk<K, N> {
         self.is_tied();
     }
 
-    fn take_back(&mut self, pass: &mut Pass<N>, back: Back)
+    fn take_back(&mut self, pass: &mut Pass<N>, back: Back<C>)
         requires { MayGiveBack N.start.job pass.old back }
         ensures { PutIs self.old self.new pass.old pass.new back }
     {
-        let Back {
-            lease,
-            replica,
-            took: Took { count, hit },
-        } = back;
+        let entry = back.entry();
         let _entries = self.core.entries();
-        pass.add(&mut self.count, &Entry::Put { lease, count, hit });
-        self.waking.came_back(count);
-        self.core.put(lease.driver, replica, count, hit);
+        pass.add(&mut self.count, &entry);
+        self.waking.came_back(&entry);
+        let back = back.into_inner();
+        self.core.give_back(back);
     }
 }

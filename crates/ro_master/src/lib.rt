@@ -4,6 +4,7 @@
 #![tactic(auto)]
 
 mod desks;
+mod holding;
 mod laws;
 mod lookout;
 mod masters;
@@ -14,8 +15,9 @@ mod steps;
 mod waking;
 
 pub use desks::Desk;
+pub use holding::{Back, Held, Lent};
 pub use laws::going_on;
-pub use masters::{Master, Refused};
+pub use masters::{Aside, Master, Refused, Started};
 pub use passes::{Counter, Opened, Pass};
 pub use seats::Naming;
-pub use sessions::{Finished, Session, Unopened};
+pub use sessions::{Finished, Session};

@@ -1,31 +1,36 @@
 //! The master: a lock round the desk.
-ghost use Rattle.std.specs.Prelude.{◌≡◌, [], IfErr, IfOk, MatchResult, OnErr, length, vec_capacity};
+ghost use Rattle.std.specs.Prelude.{◌≡◌, ◌≤◌, ◌+◌, ◌++◌, [], List, IfErr, IfOk, MatchResult, OnErr, length, map, vec_capacity};
 ghost use Rattle.std.specs.List.{All};
 ghost use Rattle.std.specs.Option.{MatchOption};
-ghost use Rattle.ro_post.specs.Turns.{IfOver};
-ghost use Rattle.ro_core.specs.Seen.{state};
+ghost use Rattle.ro_post.specs.Turns.{MatchLeased, IfOver};
 ghost use Rattle.ro_legal.specs.Jobs.{CanRun};
+ghost use Rattle.ro_legal.specs.Rules.{IsFit};
+ghost use Rattle.ro_cores.specs.History.{Owned, AreWithin, journal_of};
+ghost use Rattle.ro_cores.specs.Cores.{state};
+ghost use Rattle.ro_cores.specs.Loans.{IsJoined, ShareOf, SharesIn, lease_in};
 ghost use Rattle.ro_master.specs.Driven.{IsDriven, IsHome, Goes, KeepsLast};
-ghost use Rattle.ro_master.specs.Desks.{AtRest, MayGiveBack, Rests, IsOver, AreWithin, Owned};
-ghost use Rattle.ro_master.specs.Masters.{TurnDid, PutDid, NextDid, WantsMemory, fresh_drivers, AreAll, AllKnew};
-ghost use Rattle.ro_master.specs.History.{journal_of};
+ghost use Rattle.ro_master.specs.Desks.{AtRest, MayGiveBack, Rests, IsOver, IsOurs, IsAtRest, IsHolding, IsReturning};
+ghost use Rattle.ro_master.specs.Masters.{TurnDid, PutDid, NextDid, WantsMemory, AreUnused, fresh_drivers, AreAll, AllKnew};
 ghost use Rattle.ro_master.specs.Passes.{CountOf, empty_count};
 
 use crate::desks::Desk;
+use crate::holding::{Back, Held, Lent};
 use crate::lookout::Lookout;
 use crate::passes::{Counter, Opened, Pass};
 use crate::seats::Naming;
 use crate::sessions::Session;
 use crate::waking::Wakes;
+use ro_cores::RunCore;
 use ro_io::{Gate, Sink};
-use ro_lease::{Back, Lent};
 use ro_post::{Driver, Post, Turn};
 use std::alloc::{AllocError, Global};
 use std::sync::{Condvar, Mutex, Wait};
 
 /// The core of a run behind a lock.
-pub struct Master<K: Sink, N: Naming> {
-    desk: Mutex<Desk<K, N>>,
+pub struct Master<C: RunCore, K: Sink, N: Naming> {
+    desk: Mutex<Desk<C, K, N>>,
+    /// What the drivers share.
+    shared: C::Shared,
     /// What those that wait for a lease look at before they sleep.
     lookout: Lookout,
     /// It tells those that wait for a lease that there is something to be done.
@@ -34,15 +39,30 @@ pub struct Master<K: Sink, N: Naming> {
     left: Condvar,
 }
 
+/// A master with its drivers.
+pub struct Started<C: RunCore, K: Sink, N: Naming> {
+    pub master: Master<C, K, N>,
+    pub drivers: Vec<Driver<Held<C, N>>>,
+    pub aside: Aside<C>,
+}
+
+/// What is kept aside while drivers run.
+pub struct Aside<C: RunCore> {
+    /// What none of them has of what they share.
+    spare: C::Spare,
+    /// Room for their shares, once they come back.
+    rack: Vec<C::Share>,
+}
+
 /// What `start` was given.
-pub struct Refused<K: Sink> {
-    pub core: Session<K>,
+pub struct Refused<C: RunCore, K: Sink> {
+    pub core: Session<C, K>,
     pub opened: Opened,
 }
 
-impl<K: Sink> Refused<K> {
+impl<C: RunCore, K: Sink> Refused<C, K> {
     /// Its parts.
-    pub fn into_parts(self) -> (Session<K>, Opened)
+    pub fn into_parts(self) -> (Session<C, K>, Opened)
         ensures { (result.0 ≡ self.core) × (result.1 ≡ self.opened) }
     {
         let Refused { core, opened } = self;
@@ -50,20 +70,25 @@ impl<K: Sink> Refused<K> {
     }
 }
 
-impl<K: Sink, N: Naming> Master<K, N> {
-    /// A turn of the pass's driver, under the lock.
+impl<C: RunCore<Share: Drop>, K: Sink, N: Naming> Master<C, K, N> {
+    /// A turn of the driver, under the lock.
     ///
     /// # Errors
     /// Where there is no memory.
-    pub fn take_turn<R: Wait>(&self, rt: &R, pass: &mut Pass<N>) -> Result<Turn<Lent>, AllocError>
-        requires { AtRest N.start.job pass.old }
-        ensures did { TurnDid N.start result pass.old pass.new }
-        ensures number { pass.new.number ≡ pass.old.number }
-        ensures rest { MatchResult result (λ t. Rests N.start.job t pass.new) (λ _. AtRest N.start.job pass.new) }
-        ensures over { IfOk result (λ t. IfOver t (IsOver N.start.job pass.new)) }
-        ensures wants { OnErr result (WantsMemory N.start pass.new) }
+    pub fn take_turn<R: Wait>(
+        &self,
+        rt: &R,
+        held: &mut Held<C, N>,
+    ) -> Result<Turn<Lent<C>>, AllocError>
+        requires { IsAtRest N.start.job held.old }
+        ensures did { TurnDid N.start result held.old.pass held.new.pass }
+        ensures share { held.new.share ≡ held.old.share }
+        ensures number { held.new.pass.number ≡ held.old.pass.number }
+        ensures rest { MatchResult result (λ t. MatchLeased t (IsHolding N.start.job held.new) (IsAtRest N.start.job held.new)) (λ _. IsAtRest N.start.job held.new) }
+        ensures over { IfOk result (λ t. IfOver t (IsOver N.start.job held.new.pass)) }
+        ensures wants { OnErr result (WantsMemory N.start held.new.pass) }
     {
-        let (answer, wakes) = self.locked_turn(rt, pass);
+        let (answer, wakes) = self.locked_turn(rt, &mut held.pass);
         self.wake(wakes);
         answer
     }
@@ -73,7 +98,7 @@ impl<K: Sink, N: Naming> Master<K, N> {
         &self,
         rt: &R,
         pass: &mut Pass<N>,
-    ) -> (Result<Turn<Lent>, AllocError>, Wakes)
+    ) -> (Result<Turn<Lent<C>>, AllocError>, Wakes)
         requires { AtRest N.start.job pass.old }
         ensures did { TurnDid N.start result.0 pass.old pass.new }
         ensures number { pass.new.number ≡ pass.old.number }
@@ -86,18 +111,19 @@ impl<K: Sink, N: Naming> Master<K, N> {
         (answer, wakes)
     }
 
-    /// Gives back what became of the pass's lease, under the lock.
-    pub fn take_back<R: Wait>(&self, rt: &R, pass: &mut Pass<N>, back: Back)
-        requires { MayGiveBack N.start.job pass.old back }
-        ensures did { PutDid N.start back pass.old pass.new }
-        ensures number { pass.new.number ≡ pass.old.number }
-        ensures rest { AtRest N.start.job pass.new }
+    /// Gives back what became of the driver's lease, under the lock.
+    pub fn take_back<R: Wait>(&self, rt: &R, held: &mut Held<C, N>, back: Back<C>)
+        requires { IsReturning N.start.job held.old back }
+        ensures did { PutDid N.start back held.old.pass held.new.pass }
+        ensures share { held.new.share ≡ held.old.share }
+        ensures number { held.new.pass.number ≡ held.old.pass.number }
+        ensures rest { IsAtRest N.start.job held.new }
     {
-        let wakes = self.locked_put(rt, pass, back);
+        let wakes = self.locked_put(rt, &mut held.pass, back);
         self.wake(wakes);
     }
 
-    fn locked_put<R: Wait>(&self, rt: &R, pass: &mut Pass<N>, back: Back) -> Wakes
+    fn locked_put<R: Wait>(&self, rt: &R, pass: &mut Pass<N>, back: Back<C>) -> Wakes
         requires { MayGiveBack N.start.job pass.old back }
         ensures did { PutDid N.start back pass.old pass.new }
         ensures number { pass.new.number ≡ pass.old.number }
@@ -108,31 +134,32 @@ impl<K: Sink, N: Naming> Master<K, N> {
         desk.woken_by_put()
     }
 
-    /// Gives back what became of the pass's lease, if it has one, and takes the next turn, under one lock.
+    /// Gives back what became of the driver's lease, if it has one, and takes the next turn, under one lock.
     ///
     /// # Errors
     /// Where there is no memory.
     pub fn take_next<R: Wait>(
         &self,
         rt: &R,
-        pass: &mut Pass<N>,
-        back: Option<Back>,
-    ) -> Result<Turn<Lent>, AllocError>
-        requires { MatchOption back (AtRest N.start.job pass.old) (MayGiveBack N.start.job pass.old) }
-        ensures did { NextDid N.start back result pass.old pass.new }
-        ensures number { pass.new.number ≡ pass.old.number }
-        ensures rest { MatchResult result (λ t. Rests N.start.job t pass.new) (λ _. AtRest N.start.job pass.new) }
-        ensures over { IfOk result (λ t. IfOver t (IsOver N.start.job pass.new)) }
-        ensures wants { OnErr result (WantsMemory N.start pass.new) }
+        held: &mut Held<C, N>,
+        back: Option<Back<C>>,
+    ) -> Result<Turn<Lent<C>>, AllocError>
+        requires { MatchOption back (IsAtRest N.start.job held.old) (IsReturning N.start.job held.old) }
+        ensures did { NextDid N.start back result held.old.pass held.new.pass }
+        ensures share { held.new.share ≡ held.old.share }
+        ensures number { held.new.pass.number ≡ held.old.pass.number }
+        ensures rest { MatchResult result (λ t. MatchLeased t (IsHolding N.start.job held.new) (IsAtRest N.start.job held.new)) (λ _. IsAtRest N.start.job held.new) }
+        ensures over { IfOk result (λ t. IfOver t (IsOver N.start.job held.new.pass)) }
+        ensures wants { OnErr result (WantsMemory N.start held.new.pass) }
     {
         let is_fresh = back.is_none();
         if is_fresh {
-            self.lookout.await_turn(pass.home());
+            self.lookout.await_turn(held.pass.home());
         }
-        let (answer, put, wakes) = self.locked_next(rt, pass, back);
+        let (answer, put, wakes) = self.locked_next(rt, &mut held.pass, back);
         if is_fresh {
-            settle(pass, &answer);
-            self.lookout.took(pass.home());
+            settle(&held.pass, &answer);
+            self.lookout.took(held.pass.home());
         }
         self.wake(put);
         self.wake(wakes);
@@ -144,8 +171,8 @@ impl<K: Sink, N: Naming> Master<K, N> {
         &self,
         rt: &R,
         pass: &mut Pass<N>,
-        back: Option<Back>,
-    ) -> (Result<Turn<Lent>, AllocError>, Wakes, Wakes)
+        back: Option<Back<C>>,
+    ) -> (Result<Turn<Lent<C>>, AllocError>, Wakes, Wakes)
         requires { MatchOption back (AtRest N.start.job pass.old) (MayGiveBack N.start.job pass.old) }
         ensures did { NextDid N.start back result.0 pass.old pass.new }
         ensures number { pass.new.number ≡ pass.old.number }
@@ -186,135 +213,165 @@ impl<K: Sink, N: Naming> Master<K, N> {
         }
     }
 
-    /// Puts the core behind the lock, with a driver and its pass for each number.
+    /// Puts the core behind the lock, with a driver, its pass and its share for each number.
     ///
     /// # Errors
     /// Where there is no memory; all comes back.
     pub fn start(
         alloc: Global,
-        core: Session<K>,
+        core: Session<C, K>,
         opened: Opened,
-    ) -> Result<(Master<K, N>, Vec<Driver<Pass<N>>>), Refused<K>>
+    ) -> Result<Started<C, K, N>, Refused<C, K>>
         requires name { opened ≡ N.table }
         requires start { core ≡ N.start }
         requires journal { core.journal ≡ [] }
         requires can_run { CanRun core.job }
-        ensures ok { IfOk result (λ m. m.1.items ≡ fresh_drivers core.job.settings.drivers) }
-        ensures rest { IfOk result (λ m. All (λ d. AtRest N.start.job d.pass) m.1.items) }
+        ensures shared { IfOk result (λ m. SharesIn C.mode (C.shared_of m.master.shared)) }
+        ensures spare { IfOk result (λ m. C.is_spare m.master.shared m.aside.spare core.job.settings.drivers) }
+        ensures rack { IfOk result (λ m. (m.aside.rack.items ≡ []) × (core.job.settings.drivers ≤ vec_capacity m.aside.rack)) }
+        ensures fresh { IfOk result (λ m. (shares : List ShareOf) × AreUnused (C.shared_of m.master.shared) core.job.settings.drivers shares × (m.drivers.items ≡ fresh_drivers 0 shares)) }
+        ensures rest { IfOk result (λ m. All (λ d. IsAtRest N.start.job d.pass) m.drivers.items) }
+        ensures ours { IfOk result (λ m. All (λ d. IsOurs (C.shared_of m.master.shared) d.pass) m.drivers.items) }
         ensures back { IfErr result (λ r. (r.core ≡ core) × (r.opened ≡ opened)) }
     {
         let settings = core.settings();
         let drivers = settings.drivers;
-        let Ok(all) = Vec::with_capacity(alloc, drivers as usize) else {
+        let Ok(mut all) = Vec::with_capacity(alloc, drivers as usize) else {
             return Err(Refused { core, opened });
         };
-        let (all, count) = seated(all, opened.named::<N>(), drivers);
+        let Ok((shared, mut shares, spare)) = C::open(alloc, drivers) else {
+            return Err(Refused { core, opened });
+        };
+        let _entries = core.entries();
+        let mut count = opened.named::<N>();
+        seat_all::<C, N>(&mut all, &mut count, &mut shares, 0);
         let desk = Desk::new(core, count);
         let master = Master {
             desk: Mutex::new(desk),
+            shared,
             lookout: Lookout::new(drivers.saturating_sub(settings.replicas)),
             moved: Condvar::new(),
             left: Condvar::new(),
         };
-        Ok((master, all))
+        Ok(Started {
+            master,
+            drivers: all,
+            aside: Aside {
+                spare,
+                rack: shares,
+            },
+        })
     }
 
     /// Hands the core back, once every pass has come back. Of its history each take and each put bears the number of the driver
-    /// that it names, and each pass's own places are those of its number.
-    pub fn close(self, drivers: Vec<Driver<Pass<N>>>) -> Session<K>
+    /// that it names, and each pass's own places are those of its number. In a cooperative run all that was got stands in the
+    /// rows of one lock page.
+    pub fn close(self, drivers: Vec<Driver<Held<C, N>>>, aside: Aside<C>) -> Session<C, K>
+        requires all { AreAll N.start.job (C.shared_of self.shared) 0 drivers.items }
+        requires count { length drivers.items ≡ N.start.job.settings.drivers }
+        requires shared { SharesIn C.mode (C.shared_of self.shared) }
+        requires spare { C.is_spare self.shared aside.spare N.start.job.settings.drivers }
+        requires rack { (aside.rack.items ≡ []) × (N.start.job.settings.drivers ≤ vec_capacity aside.rack) }
         ensures goes { Goes N.start result }
         ensures driven { IsDriven result }
         ensures last { KeepsLast result.job result.journal result.views }
         ensures seen { (count : CountOf) × (journal_of count.history ≡ result.journal) × (count.given ≡ result.job.settings.drivers) × AreWithin count.given count.history × Owned count.history × AllKnew count drivers.items }
-        ensures home { AreAll N.start.job 0 drivers.items → (length drivers.items ≡ N.start.job.settings.drivers) → IsHome result }
+        ensures home { IsHome result }
+        ensures joined { IsJoined result.job result.journal }
     {
         let Master {
             desk,
+            shared,
             lookout: _,
             moved: _,
             left: _,
         } = self;
-        shown_to_all(desk.into_inner(), drivers).into_core()
+        let Aside { spare, mut rack } = aside;
+        let mut desk = desk.into_inner();
+        let mut drivers = drivers;
+        show_all(&mut desk, &mut drivers, &mut rack);
+        C::close(shared, rack, spare);
+        desk.into_core()
     }
 }
 
-impl<K: Sink, N: Naming> Post for Master<K, N> {
-    ghost use Rattle.ro_lease.specs.Loans.{Gives};
-    ghost use Rattle.ro_master.specs.Desks.{AtRest, HoldsLent, MayGiveBack, IsOver};
+impl<C: RunCore<Share: Drop>, K: Sink, N: Naming> Post for Master<C, K, N> {
+    ghost use Rattle.ro_cores.specs.Loans.{Gives, lease_in};
+    ghost use Rattle.ro_master.specs.Desks.{IsAtRest, IsHolding, IsReturning, IsOver, IsOurs};
     ghost use Rattle.ro_master.specs.Masters.{WantsMemory};
 
-    type Pass = Pass<N>;
+    type Pass = Held<C, N>;
 
-    type Lease = Lent;
+    type Lease = Lent<C>;
 
-    type Back = Back;
+    type Back = Back<C>;
 
-    ghost place_of = { λ l. (l.lease.driver, l.lease.replica, l.lease.thread) };
+    ghost place_of = { λ l. ((lease_in l).driver, (lease_in l).replica, (lease_in l).thread) };
 
-    ghost is_ours = { λ m p. Unit {0} };
+    ghost is_ours = { λ m h. IsOurs (C.shared_of m.shared) h };
 
-    ghost number = { λ p. p.number };
+    ghost number = { λ h. h.pass.number };
 
-    ghost at_rest = { AtRest N.start.job };
+    ghost at_rest = { IsAtRest N.start.job };
 
-    ghost holds = { HoldsLent N.start.job };
+    ghost holds = { IsHolding N.start.job };
 
-    ghost may_return = { MayGiveBack N.start.job };
+    ghost may_return = { IsReturning N.start.job };
 
-    ghost is_over = { IsOver N.start.job };
+    ghost is_over = { λ h. IsOver N.start.job h.pass };
 
-    ghost wants = { WantsMemory N.start };
+    ghost wants = { λ h. WantsMemory N.start h.pass };
 
-    fn place(lease: &Lent) -> (u32, u32, u32) {
+    fn place(lease: &Lent<C>) -> (u32, u32, u32) {
         lease.place()
     }
 
     // The pass learns nothing by it.
-    fn run<G: Gate>(&self, pass: &mut Pass<N>, lease: Lent, passed: &G::Passed) -> Back
-        requires pass { Unit {0} × HoldsLent N.start.job pass.old lease }
-        requires gate { G.place_of passed.now ≡ (lease.lease.driver, lease.lease.replica, lease.lease.thread) }
-        ensures same { Unit {0} × (pass.new.number ≡ pass.old.number) }
-        ensures back { MayGiveBack N.start.job pass.new result }
-        ensures gives { Gives lease result }
-        ensures stays { pass.new ≡ pass.old }
+    fn run<G: Gate>(&self, held: &mut Held<C, N>, lease: Lent<C>, passed: &G::Passed) -> Back<C>
+        requires pass { IsOurs (C.shared_of self.now.shared) held.old × IsHolding N.start.job held.old lease }
+        requires gate { G.place_of passed.now ≡ ((lease_in lease).driver, (lease_in lease).replica, (lease_in lease).thread) }
+        ensures same { IsOurs (C.shared_of self.now.shared) held.new × (held.new.pass.number ≡ held.old.pass.number) }
+        ensures back { IsReturning N.start.job held.new result }
+        ensures gives { Gives lease held.old.share result held.new.share }
+        ensures stays { held.new.pass ≡ held.old.pass }
     {
-        lease.run()
+        held.run(&self.shared, lease)
     }
 
-    fn turn<R: Wait>(&self, rt: &R, pass: &mut Pass<N>) -> Result<Turn<Lent>, AllocError>
-        requires { Unit {0} × AtRest N.start.job pass.old }
-        ensures same { Unit {0} × (pass.new.number ≡ pass.old.number) }
-        ensures lease { MatchResult result (λ t. Rests N.start.job t pass.new) (λ _. AtRest N.start.job pass.new) }
-        ensures over { IfOk result (λ t. IfOver t (IsOver N.start.job pass.new)) }
-        ensures wants { OnErr result (WantsMemory N.start pass.new) }
-        ensures did { TurnDid N.start result pass.old pass.new }
+    fn turn<R: Wait>(&self, rt: &R, held: &mut Held<C, N>) -> Result<Turn<Lent<C>>, AllocError>
+        requires { IsOurs (C.shared_of self.now.shared) held.old × IsAtRest N.start.job held.old }
+        ensures same { IsOurs (C.shared_of self.now.shared) held.new × (held.new.pass.number ≡ held.old.pass.number) }
+        ensures lease { MatchResult result (λ t. MatchLeased t (IsHolding N.start.job held.new) (IsAtRest N.start.job held.new)) (λ _. IsAtRest N.start.job held.new) }
+        ensures over { IfOk result (λ t. IfOver t (IsOver N.start.job held.new.pass)) }
+        ensures wants { OnErr result (WantsMemory N.start held.new.pass) }
+        ensures did { TurnDid N.start result held.old.pass held.new.pass }
     {
-        self.take_turn(rt, pass)
+        self.take_turn(rt, held)
     }
 
-    fn give_back<R: Wait>(&self, rt: &R, pass: &mut Pass<N>, back: Back)
-        requires { Unit {0} × MayGiveBack N.start.job pass.old back }
-        ensures same { Unit {0} × (pass.new.number ≡ pass.old.number) }
-        ensures rest { AtRest N.start.job pass.new }
-        ensures did { PutDid N.start back pass.old pass.new }
+    fn give_back<R: Wait>(&self, rt: &R, held: &mut Held<C, N>, back: Back<C>)
+        requires { IsOurs (C.shared_of self.now.shared) held.old × IsReturning N.start.job held.old back }
+        ensures same { IsOurs (C.shared_of self.now.shared) held.new × (held.new.pass.number ≡ held.old.pass.number) }
+        ensures rest { IsAtRest N.start.job held.new }
+        ensures did { PutDid N.start back held.old.pass held.new.pass }
     {
-        self.take_back(rt, pass, back);
+        self.take_back(rt, held, back);
     }
 
     fn next<R: Wait>(
         &self,
         rt: &R,
-        pass: &mut Pass<N>,
-        back: Option<Back>,
-    ) -> Result<Turn<Lent>, AllocError>
-        requires { Unit {0} × MatchOption back (AtRest N.start.job pass.old) (MayGiveBack N.start.job pass.old) }
-        ensures same { Unit {0} × (pass.new.number ≡ pass.old.number) }
-        ensures lease { MatchResult result (λ t. Rests N.start.job t pass.new) (λ _. AtRest N.start.job pass.new) }
-        ensures over { IfOk result (λ t. IfOver t (IsOver N.start.job pass.new)) }
-        ensures wants { OnErr result (WantsMemory N.start pass.new) }
-        ensures did { NextDid N.start back result pass.old pass.new }
+        held: &mut Held<C, N>,
+        back: Option<Back<C>>,
+    ) -> Result<Turn<Lent<C>>, AllocError>
+        requires { IsOurs (C.shared_of self.now.shared) held.old × MatchOption back (IsAtRest N.start.job held.old) (IsReturning N.start.job held.old) }
+        ensures same { IsOurs (C.shared_of self.now.shared) held.new × (held.new.pass.number ≡ held.old.pass.number) }
+        ensures lease { MatchResult result (λ t. MatchLeased t (IsHolding N.start.job held.new) (IsAtRest N.start.job held.new)) (λ _. IsAtRest N.start.job held.new) }
+        ensures over { IfOk result (λ t. IfOver t (IsOver N.start.job held.new.pass)) }
+        ensures wants { OnErr result (WantsMemory N.start held.new.pass) }
+        ensures did { NextDid N.start back result held.old.pass held.new.pass }
     {
-        self.take_next(rt, pass, back)
+        self.take_next(rt, held, back)
     }
 
     // It looks out for a while, and then sleeps until something can be done, or, where it is spare, until a driver has left.
@@ -335,17 +392,17 @@ impl<K: Sink, N: Naming> Post for Master<K, N> {
 }
 
 // The driver goes back to the replica that it took with none to give back.
-fn settle<N: Naming>(pass: &Pass<N>, answer: &Result<Turn<Lent>, AllocError>) {
+fn settle<C: RunCore, N: Naming>(pass: &Pass<N>, answer: &Result<Turn<Lent<C>>, AllocError>) {
     if let Ok(Turn::Leased(lent)) = answer {
         pass.settle(lent.lease().replica);
     }
 }
 
 // Puts back what became of the pass's lease, if it has one, and answers who is to be woken for that.
-fn put_if_any<K: Sink, N: Naming>(
-    desk: &mut Desk<K, N>,
+fn put_if_any<C: RunCore, K: Sink, N: Naming>(
+    desk: &mut Desk<C, K, N>,
     pass: &mut Pass<N>,
-    back: Option<Back>,
+    back: Option<Back<C>>,
 ) -> Wakes
     requires { MatchOption back (AtRest N.start.job pass.old) (MayGiveBack N.start.job pass.old) }
     ensures did { MatchOption back (pass.new ≡ pass.old) (λ b. PutDid N.start b pass.old pass.new) }
@@ -359,41 +416,49 @@ fn put_if_any<K: Sink, N: Naming>(
     desk.woken_by_put()
 }
 
-// A driver with a pass for each number.
-fn seated<N: Naming>(
-    mut all: Vec<Driver<Pass<N>>>,
-    mut count: Counter<N>,
-    drivers: u32,
-) -> (Vec<Driver<Pass<N>>>, Counter<N>)
-    requires empty { (all.items ≡ []) × (vec_capacity all ≡ drivers) }
-    requires count { count ≡ empty_count 0 }
-    ensures all { result.0.items ≡ fresh_drivers drivers }
-    ensures count { result.1 ≡ empty_count drivers }
+// A driver with a pass for each share, in their order.
+fn seat_all<C: RunCore<Share: Drop>, N: Naming>(
+    all: &mut Vec<Driver<Held<C, N>>>,
+    count: &mut Counter<N>,
+    shares: &mut Vec<C::Share>,
+    number: u32,
+)
+    requires room { length all.old.items + length shares.old.items ≤ vec_capacity all.old }
+    requires count { count.old ≡ empty_count number }
+    requires few { number + length shares.old.items ≤ 8 }
+    ensures all { all.new.items ≡ all.old.items ++ fresh_drivers number (map C.share_of shares.old.items) }
+    ensures count { count.new ≡ empty_count (number + length shares.old.items) }
+    ensures taken { (shares.new.items ≡ []) × (vec_capacity shares.new ≡ vec_capacity shares.old) }
 {
-    for number in 0..drivers {
-        let pass = count.number(number);
-        all.push_reserved(Driver {
-            pass,
-            outcome: None,
-        });
+    if shares.is_empty() {
+        return;
     }
-    (all, count)
+    let share = shares.remove(0);
+    let pass = count.number(number);
+    all.push_reserved(Driver {
+        pass: Held::new(pass, share),
+        outcome: None,
+    });
+    seat_all(all, count, shares, number + 1);
 }
 
-// Each pass sees the whole history.
-fn shown_to_all<K: Sink, N: Naming>(
-    mut desk: Desk<K, N>,
-    mut drivers: Vec<Driver<Pass<N>>>,
-) -> Desk<K, N>
-    ensures desk { result ≡ desk }
-    ensures seen { AllKnew desk.count drivers.items }
+// Each pass sees the whole history; the drivers' shares are put on the rack, in their order.
+fn show_all<C: RunCore<Share: Drop>, K: Sink, N: Naming>(
+    desk: &mut Desk<C, K, N>,
+    drivers: &mut Vec<Driver<Held<C, N>>>,
+    rack: &mut Vec<C::Share>,
+)
+    requires room { length rack.old.items + length drivers.old.items ≤ vec_capacity rack.old }
+    ensures desk { desk.new ≡ desk.old }
+    ensures seen { AllKnew desk.old.count drivers.old.items }
+    ensures shares { map C.share_of rack.new.items ≡ map C.share_of rack.old.items ++ map (λ d. d.pass.share) drivers.old.items }
 {
-    while let Some(driver) = drivers.pop() {
-        let Driver {
-            mut pass,
-            outcome: _,
-        } = driver;
-        desk.show(&mut pass);
+    if drivers.is_empty() {
+        return;
     }
-    desk
+    let Driver { pass, outcome: _ } = drivers.remove(0);
+    let (mut pass, share) = pass.into_parts();
+    desk.show(&mut pass);
+    rack.push_reserved(share);
+    show_all(desk, drivers, rack);
 }

@@ -1,48 +1,48 @@
 //! A session: a core and the sink of its bytes. A vote's bytes are sent here, and what a failing sink took is kept here until
 //! the end that it makes has come.
-ghost use Rattle.std.specs.Prelude.{◌≡◌, ◌≢◌, ◌⊎◌, ◌<◌, ◌^◌, [], ℕ, List, Some, None, IsSome, IfOk, IfErr, OnErr, OnOk, IsTrue, length};
+ghost use Rattle.std.specs.Prelude.{◌≡◌, ◌≢◌, ◌⊎◌, ◌<◌, ◌^◌, [], ℕ, List, Some, None, IsSome, IfOk, OnErr, OnOk, IsTrue, length};
 ghost use Rattle.ro_journal.specs.declared.How.TheVariants.{Differ, NoMajority};
 ghost use Rattle.ro_journal.specs.declared.Entry.TheVariants.{Take, End};
 ghost use Rattle.ro_journal.specs.Plan.{outcome_of};
 ghost use Rattle.ro_settings.specs.Ranges.{InRange};
-ghost use Rattle.ro_replica.specs.Seen.{AreFaults};
+ghost use Rattle.ro_legal.specs.declared.actions.Action.TheVariants as act;
 ghost use Rattle.ro_legal.specs.Core.{may_vote, may_free, views_of};
-ghost use Rattle.ro_legal.specs.Legal.{IsAllowed, Legal, may_scrub, replay};
-ghost use Rattle.ro_legal.specs.Action.{next_action as next, IsNext};
-ghost use Rattle.ro_legal.specs.Decides.{DecidesVote, DecidesFree, DecidesScrub, IsSplit};
-ghost use Rattle.ro_core.specs.Seen.{state, sent, EndsNow, Opens, Appends, Quiet, Sends, IsOfMajority, Stays, KeepsViews, HasRoom, IsLent, MayReturn, ReturnIs};
+ghost use Rattle.ro_legal.specs.Legal.{MayTake};
+ghost use Rattle.ro_legal.specs.Action.{next_action as next};
+ghost use Rattle.ro_legal.specs.Decides.{IsSplit};
+ghost use Rattle.ro_legal.specs.Rules.{IsFit, Legal, IsAllowed, IsNext, DecidesVote, DecidesFree, DecidesScrub, replay};
+ghost use Rattle.ro_core.specs.Seen.{EndsNow, Appends, IsOfMajority, Stays};
+ghost use Rattle.ro_cores.specs.Cores.{state, sent, Quiet, Sends, HasRoom, KeepsViews, with_sink};
+ghost use Rattle.ro_cores.specs.Loans.{IsLent, MayReturn, entry_of, lease_in};
 
-use ro_core::Core;
+use ro_cores::{Remains, RunCore};
 use ro_event::View;
-use ro_faults::Fault;
 use ro_image::Executable;
 use ro_io::{Sink, send};
 use ro_journal::{Entry, How, Lease};
 use ro_legal::Action;
-use ro_replica::ReplicaBox;
 use ro_settings::Settings;
-use std::alloc::{AllocError, Global};
+use std::alloc::AllocError;
 use std::marker::Model;
 
 /// A core and the sink of its bytes.
-pub struct Session<K: Sink> {
-    core: Core,
+pub struct Session<C: RunCore, K: Sink> {
+    core: C,
     out: K,
     /// Where the sink failed, how many bytes of the last write it took; the end by it is due, and its entry has not come.
     failed: Option<u32>,
 }
 
-impl<K: Sink> Model for Session<K> {
+impl<C: RunCore, K: Sink> Model for Session<C, K> {
     ghost use Rattle.ro_core.specs.Seen.{CoreOf};
-    ghost use Rattle.ro_core.specs.Fields.{Holds};
-    ghost use Rattle.ro_core.specs.Runs.{fields_of, core_of};
+    ghost use Rattle.ro_cores.specs.Cores.{with_sink};
     ghost use Rattle.ro_master.specs.Sessions.{Cuts, IsFresh};
 
     ghost Value = { CoreOf };
 
-    ghost view = { λ s. core_of (fields_of s.core) s.failed (K.held s.out) (K.failures s.out) (K.sure s.out) };
+    ghost view = { λ s. with_sink (C.seen s.core) s.failed (K.held s.out) (K.failures s.out) (K.sure s.out) };
 
-    ghost invariant = { λ s. Holds (fields_of s.core) × Cuts (fields_of s.core) s.failed × IsFresh (fields_of s.core) s.failed (K.failures s.out) };
+    ghost invariant = { λ s. C.holds s.core × Cuts (C.seen s.core) s.failed × IsFresh (C.seen s.core) s.failed (K.failures s.out) };
 }
 
 /// What a session leaves behind.
@@ -59,38 +59,17 @@ pub struct Finished<K> {
     pub out: K,
 }
 
-/// What `begin` was given to keep.
-pub struct Unopened<K> {
-    pub image: Executable,
-    pub out: K,
-}
-
-impl<K: Sink> Session<K> {
-    /// Opens a core for the program of an image, an input and faults to be struck, over a sink that has not failed.
-    ///
-    /// # Errors
-    /// Where there is no memory; the image and the sink come back.
-    pub fn begin(
-        alloc: Global,
-        image: Executable,
-        input: &[u8],
-        faults: &[Fault],
-        settings: Settings,
-        out: K,
-    ) -> Result<Session<K>, Unopened<K>>
-        requires settings { InRange settings }
-        requires faults { AreFaults faults.now }
+impl<C: RunCore, K: Sink> Session<C, K> {
+    /// A core that was just opened, over a sink that has not failed.
+    pub fn new(core: C, out: K) -> Session<C, K>
+        requires holds { C.holds core }
         requires unfailed { K.failures out ≡ 0 }
-        ensures opens { IfOk result (λ s. Opens (record { program = record { image = image; input = input.now }; faults = faults.now; settings = settings }) (K.held out) (K.failures out) (K.sure out) s) }
-        ensures back { IfErr result (λ r. (r.image ≡ image) × (r.out ≡ out)) }
+        ensures { result ≡ with_sink (C.seen core) None (K.held out) (K.failures out) (K.sure out) }
     {
-        match Core::begin(alloc, image, input, faults, settings) {
-            Ok(core) => Ok(Session {
-                core,
-                out,
-                failed: None,
-            }),
-            Err(image) => Err(Unopened { image, out }),
+        Session {
+            core,
+            out,
+            failed: None,
         }
     }
 
@@ -115,24 +94,26 @@ impl<K: Sink> Session<K> {
         self.core.room()
     }
 
-    /// Lends a replica's thread to a driver.
-    pub fn take(&mut self, lease: Lease) -> ReplicaBox
-        requires allowed { IsAllowed self.old.job (state self.old) (Take lease) }
+    /// Lends what a lease is for to its driver.
+    pub fn lend(&mut self, lease: Lease) -> C::Lent
+        requires may { MayTake self.old.job (state self.old) lease }
         requires room { HasRoom self.old }
         ensures entry { Appends self.old self.new (Take lease) }
         ensures quiet { Quiet self.old self.new }
-        ensures lent { IsLent self.old lease.replica lease.thread result }
+        ensures lent { IsLent self.old.job self.old.journal (C.lent_of result) }
+        ensures lease { lease_in (C.lent_of result) ≡ lease }
     {
-        self.core.take(lease)
+        self.core.lend(lease)
     }
 
-    /// Puts a replica back that a driver has run, for so many instructions and faults.
-    pub fn put(&mut self, driver: u32, lent: ReplicaBox, count: u32, hit: u32)
-        requires { MayReturn self.old driver lent count hit }
-        ensures entry { ReturnIs self.old self.new driver count hit }
+    /// Puts back what a lease has become. No end by a failing sink is due.
+    pub fn give_back(&mut self, back: C::Back)
+        requires calm { self.old.failed ≡ None }
+        requires returns { MayReturn self.old.job self.old.journal (C.back_of back) }
+        ensures entry { Appends self.old self.new (entry_of (C.back_of back)) }
         ensures quiet { Quiet self.old self.new }
     {
-        self.core.put(driver, lent, count, hit);
+        self.core.give_back(back);
     }
 
     /// Votes on a thread that stands still in every replica: its event is done once, what it writes is sent, and the entry
@@ -147,11 +128,13 @@ impl<K: Sink> Session<K> {
         ensures shown { IfOk result (λ entry. IsSplit entry → self.new.views ≡ views_of self.old.job (state self.old) thread) }
         ensures err { OnErr result (Stays self.old self.new) }
     {
+        let _before = self.core.entries();
         let voted = self.core.vote(thread)?;
-        let payload = self.core.payload(voted.writer);
+        let _entries = self.core.entries();
+        let payload = self.core.payload(voted.1);
         let failed = send(&mut self.out, payload);
         self.failed = failed;
-        Ok(voted.entry)
+        Ok(voted.0)
     }
 
     /// Serves the call on which a thread is blocked, and answers the entry that was appended. Where the limit of steps would
@@ -168,15 +151,14 @@ impl<K: Sink> Session<K> {
         self.core.free(thread)
     }
 
-    /// Compares the replicas whole, of which none is lent and in each of which every live thread stands still: each that is
-    /// not as more than half of them becomes as these. The entry that was appended is answered. Where no more than half are
-    /// the same, that is an end.
+    /// Compares the replicas whole, where that comes next: each that is not as more than half of them becomes as these. The
+    /// entry that was appended is answered. Where no more than half are the same, that is an end.
     ///
     /// # Errors
     /// Where there is no memory; nothing has changed then.
     pub fn scrub(&mut self) -> Result<Entry, AllocError>
-        requires { IsTrue (may_scrub (state self.old)) }
-        ensures entry { IfOk result (λ entry. IsAllowed self.old.job (state self.old) entry × DecidesScrub (state self.old) entry × Appends self.old self.new entry) }
+        requires { next self.old.job (state self.old) ≡ act.Scrub }
+        ensures entry { IfOk result (λ entry. IsAllowed self.old.job (state self.old) entry × DecidesScrub self.old.job (state self.old) entry × Appends self.old self.new entry) }
         ensures quiet { OnOk result (Quiet self.old self.new) }
         ensures no_views { IfOk result (λ entry. IsSplit entry → self.new.views ≡ []) }
         ensures err { OnErr result (Stays self.old self.new) }
@@ -190,6 +172,7 @@ impl<K: Sink> Session<K> {
         ensures entry { IsAllowed self.old.job (replay self.old.job self.old.journal) (End how) × IsNext self.old.job (replay self.old.job self.old.journal) (End how) × Appends self.old self.new (End how) }
         ensures quiet { Quiet self.old self.new }
     {
+        let _entries = self.core.entries();
         self.core.end(how);
         self.failed = None;
     }
@@ -202,6 +185,8 @@ impl<K: Sink> Session<K> {
         ensures legal { Legal self.now.job self.now.journal }
         ensures calm { IsSome self.now.failed → (state self.now).leases ≡ [] }
         ensures in_range { InRange self.now.job.settings }
+        ensures fit { IsFit self.now.job }
+        ensures mode { self.now.job.settings.mode ≡ C.mode }
     {
         self.core.entries()
     }
@@ -236,13 +221,14 @@ impl<K: Sink> Session<K> {
         ensures open { IsSome self.failed → outcome_of self.journal ≡ None }
         ensures sink { (K.held result.out ≡ self.held) × (K.failures result.out ≡ self.failures) }
     {
+        let _entries = self.core.entries();
         let bytes = self.bytes();
         let Session {
             core,
             out,
             failed: _,
         } = self;
-        let ro_core::Finished {
+        let Remains {
             image,
             how,
             views,

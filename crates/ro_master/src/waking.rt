@@ -66,8 +66,12 @@ impl Waking {
         };
     }
 
-    /// A replica came back from a run of so many instructions.
-    pub fn came_back(&mut self, count: u32) {
+    /// A lease came back by this entry.
+    pub fn came_back(&mut self, entry: &Entry) {
+        let count = match entry {
+            Entry::Put { count, .. } | Entry::Part { count, .. } => *count,
+            _ => 0,
+        };
         let is_wanted = self.is_alone && count >= WORTH_A_WAKE;
         self.is_alone = self.is_alone && !is_wanted;
         self.due = self.helpers_if(is_wanted);

@@ -1,8 +1,7 @@
 use Rattle.std.proofs.Common.{◌≡◌, sym, subst}
 use Rattle.ro_legal.specs.declared.actions.Action.TheVariants as act
 use Rattle.ro_legal.specs.Action.{next_action}
-use Rattle.ro_core.specs.Seen.{state}
-use Rattle.ro_legal.proofs.Nexts.{scrub_next}
+use Rattle.ro_cores.specs.Cores.{state}
 use Rattle.ro_master.specs.Desks.{DeskOf}
 use Rattle.ro_master.proofs.Deciding.{scrub_going}
 use Rattle.ro_master.proofs.LastViews.{going_open}
@@ -11,9 +10,7 @@ use Rattle.ro_master.proofs.desks.Desk.scrub.Goals as goal
 
 pub scrub-requires : goal.scrub-requires
 scrub-requires g c =
-    let core = c.self.inside.core in
-    let is = subst (λ (v : DeskOf). next_action v.core.job (state v.core) ≡ act.Scrub) (sym c.self.view_is) c.requires in
-    scrub_next core.job (state core) is
+    subst (λ (v : DeskOf). next_action v.core.job (state v.core) ≡ act.Scrub) (sym c.self.view_is) c.requires
 
 pub invariant_of-self : goal.invariant_of-self
 invariant_of-self g c =

@@ -1,16 +1,16 @@
 use Rattle.std.proofs.Common.{refl, sym, ap, ◌∙◌, subst}
 use Rattle.ro_journal.specs.declared.Entry.TheVariants.{End}
-use Rattle.ro_legal.specs.Legal.{IsAllowed, output_of, replay}
-use Rattle.ro_legal.specs.Action.{IsNext}
-use Rattle.ro_core.specs.Seen.{CoreOf, state, EndsNow, Appends, Quiet}
-use Rattle.ro_core.specs.Runs.{fields_of, job_of}
+use Rattle.ro_legal.specs.Rules.{IsAllowed, IsNext, output_of, replay}
+use Rattle.ro_core.specs.Seen.{CoreOf, EndsNow, Appends}
+use Rattle.ro_cores.specs.Cores.{state, Quiet}
 use Rattle.ro_master.proofs.Failing.{end-comes, end-sends}
 use Rattle.ro_core.proofs.Held.{with-old}
+use Rattle.ro_master.proofs.Fresh.{fresh_end}
 use Rattle.ro_master.proofs.sessions.Session.end.Goals as goal
 
 pub end-requires-clause-now : goal.end-requires-clause-now
 end-requires-clause-now g c =
-    end-comes (fields_of c.self.inside.core) c.self.inside.failed c.self.invariant.0 c.self.invariant.1 c.args.how (subst (λ (v : CoreOf). EndsNow v.job (state v) c.args.how) (sym c.self.view_is) c.requires)
+    end-comes (g.C.RunCore.seen c.self.inside.core) c.self.inside.failed c.entries-entries.ensures.fit c.entries-entries.ensures.legal c.self.invariant.1 c.args.how (subst (λ (v : CoreOf). EndsNow v.job (state v) c.args.how) (sym c.self.view_is) c.requires)
 
 pub returns-clause-entry : goal.returns-clause-entry
 returns-clause-entry g c =
@@ -23,14 +23,18 @@ returns-clause-entry g c =
 
 pub returns-clause-quiet : goal.returns-clause-quiet
 returns-clause-quiet g c =
-    let run = c.self.inside.core in
+    let core = g.C.RunCore.seen c.self.inside.core in
     let a = c.end.ensures.appends in
     let ends = subst (λ (v : CoreOf). EndsNow v.job (state v) c.args.how) (sym c.self.view_is) c.requires in
     with-old Quiet c.self.view_is (record {
       failed = refl;
-      sent = ap (λ j. output_of j c.end.new.self.journal.items) a.job ∙ ap (output_of (job_of run)) a.journal
-          ∙ end-sends (fields_of run) c.self.inside.failed c.self.invariant.0 c.self.invariant.1 c.args.how ends;
+      sent = ap (λ j. output_of j (g.C.RunCore.seen c.end.new.self).journal) a.job ∙ ap (output_of core.job) a.journal
+          ∙ end-sends core c.self.inside.failed c.entries-entries.ensures.fit c.entries-entries.ensures.legal c.self.invariant.1 c.args.how ends;
       held = refl;
       failures = refl;
       sure = refl;
     })
+
+pub invariant_of-self : goal.invariant_of-self
+invariant_of-self g c =
+    (c.end.ensures.holds, tt, fresh_end (g.C.RunCore.seen c.self.inside.core) (g.C.RunCore.seen c.end.new.self) c.args.how (g.K.Sink.failures c.self.inside.out) c.end.ensures.appends)

@@ -1,0 +1,4 @@
+pub mod History
+pub mod Cores
+pub mod Loans
+pub mod Sharing

@@ -14,6 +14,8 @@ use Rattle.ro_faults.specs.declared.errors.FaultsError.{FaultsError}
 use Rattle.ro_faults.specs.declared.errors.FaultsError.TheVariants.{Bad}
 use Rattle.ro_faults.specs.Texts.{is_target, is_fault, ranged, fault_of, line_fault, counted, in_line, before, end_faults, lines_faults, file_faults}
 use Rattle.ro_settings.specs.Ranges.{InRange}
+use Rattle.ro_settings.specs.declared.Mode.{Mode}
+use Rattle.ro_settings.specs.declared.Mode.TheVariants.{Voted, Cooperative}
 use Rattle.ro_settings.specs.declared.Settings.{Settings}
 use Rattle.ro_image.specs.Image.{Image}
 use Rattle.ro_replica.specs.Seen.{AreFaults}
@@ -23,11 +25,13 @@ use Rattle.ro_report.specs.declared.answers.Answer.{Answer}
 use Rattle.ro_report.specs.declared.answers.Answer.TheVariants.{Exit, Deadlock, Trap, Unended, Differ, NoMajority, Limit, SinkFailed, StoreFailed, BadExe, BadFaults, BadPlan, NoStep, NoRace, Race, BadWords, TooLong, NoMemory}
 use Rattle.ro_words.specs.declared.commands.WordsError.{WordsError}
 use Rattle.ro_words.specs.declared.commands.WordsError.TheVariants.{NoMemory as NoRoom}
-use Rattle.ro_words.specs.Commands.{Asked, AskedBench, AskedPlan, AskedRun, command_of, to_bench, to_plain, to_races, to_run}
+use Rattle.ro_words.specs.Commands.{Asked, AskedBench, AskedPlan, AskedRun, SuitsMode, command_of, to_bench, to_plain, to_races, to_run}
 use Rattle.ro_files.specs.Files.{most_of, last_in, name_in, named, names_before, IsContent, IsFile}
 use Rattle.ro_files.specs.Refusals.{RefusesFile, RefusesContent, RefusesExe, RefusesList, RefusesPlan}
 use Rattle.ro_files.specs.Causes.{IsAccepted, HasInput, ComesAt, IsNamedFile, IsRefusal, IsTooLong, IsBadList, JobCause, RefusalCause, AsksAt, AsksTo, AsksFor, replicas_in}
 use Rattle.ro_legal.specs.Jobs.{CanRun, job_of}
+use Rattle.ro_legal.specs.Modes.{Suits}
+use Rattle.ro_legal.specs.Rules.{IsFit}
 
 -- a count that rose later rose
 pub rose_later : (first mid last : ℕ) → first ≤ mid → Rose mid last → Rose first last
@@ -436,6 +440,20 @@ pub are_faults : (replicas : ℕ) (bytes : List ℕ) (faults : List Fault) → f
 are_faults replicas bytes faults e =
     let few = lines_few replicas 1 (parts_of bytes) faults (omega arith) e in
     record { few = (let a = few.0 in omega arith); each = few.1 }
+
+-- a run that suits its mode has a job that its mode takes
+pub is_fit : (files : Option Files) (asked : AskedRun) (image : Image) (input list : List ℕ) (faults : List Fault) → SuitsMode asked
+    → IsContent files Faults asked.faults list → file_faults asked.settings.replicas list ≡ Ok faults → IsFit (job_of image input faults asked.settings)
+is_fit files asked image input list faults suits is read = by asked.settings.mode refl
+  where
+    no_faults : asked.faults ≡ None → faults ≡ []
+    no_faults none =
+        let nothing : list ≡ [] = subst (λ (o : Option (List ℕ)). IsContent files Faults o list) none is in
+        let f : Ok [] ≡ Ok faults = ap (file_faults asked.settings.replicas) (sym nothing) ∙ read in cc
+
+    by : (mode : Mode) → asked.settings.mode ≡ mode → Suits mode (job_of image input faults asked.settings)
+    by Voted e = tt
+    by Cooperative e = let few = suits e in (no_faults few.0, few.1)
 
 pub can_run : (image : Image) (input bytes : List ℕ) (faults : List Fault) (settings : Settings) → InRange settings → file_faults settings.replicas bytes ≡ Ok faults → CanRun (job_of image input faults settings)
 can_run image input bytes faults settings range e = record { settings = range; faults = are_faults settings.replicas bytes faults e }

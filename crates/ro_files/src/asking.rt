@@ -1,9 +1,9 @@
 //! What a command asks for, once its files are read.
 ghost use Rattle.std.specs.Prelude.{◌≡◌, ℕ, List, Some, None, IfOk, IfErr, Err};
 ghost use Rattle.ro_report.specs.declared.answers.Answer.TheVariants as a;
-ghost use Rattle.ro_settings.specs.Ranges.{InRange};
-ghost use Rattle.ro_words.specs.Commands.{inject_by, plan_by, run_by, to_inject, to_plain, to_run};
+ghost use Rattle.ro_words.specs.Commands.{Fits, inject_by, plan_by, run_by, to_inject, to_plain, to_run};
 ghost use Rattle.ro_legal.specs.Jobs.{job_of, CanRun};
+ghost use Rattle.ro_legal.specs.Rules.{IsFit};
 ghost use Rattle.ro_files.specs.Files.{IsContent, IsJobOf, IsPlanOf};
 ghost use Rattle.ro_files.specs.Causes.{AsksFor, AsksTo, JobCause};
 ghost use Rattle.ro_image.specs.Executable.{bad_code, image_of};
@@ -15,7 +15,7 @@ use ro_image::Executable;
 use ro_io::Store;
 use ro_journal::Entry;
 use ro_report::{Answer, FileKind};
-use ro_settings::Settings;
+use ro_settings::{Mode, Settings};
 use ro_words::{InjectCommand, PlanCommand, RunCommand};
 use std::alloc::Global;
 
@@ -34,6 +34,8 @@ pub struct Job {
 pub struct Replay {
     pub image: Executable,
     pub input: Vec<u8>,
+    /// The mode of the journal's run.
+    pub mode: Mode,
     pub journal: Vec<Entry>,
 }
 
@@ -54,9 +56,10 @@ pub fn fetch_job<S: Store>(
     command: &RunCommand<'_>,
     store: &mut S,
 ) -> Result<FetchedJob, Answer>
-    requires { InRange command.now.settings }
+    requires { Fits (to_run (run_by command.now)) }
     ensures job { IfOk result (λ fetched. IsJobOf (S.told store.old) (run_by command.now) (job_of fetched.job.image fetched.job.input.items fetched.job.faults.items fetched.job.settings)) }
     ensures can_run { IfOk result (λ fetched. CanRun (job_of fetched.job.image fetched.job.input.items fetched.job.faults.items fetched.job.settings)) }
+    ensures fit { IfOk result (λ fetched. IsFit (job_of fetched.job.image fetched.job.input.items fetched.job.faults.items fetched.job.settings)) }
     ensures executable { IfOk result (λ fetched. IsContent (S.told store.old) Exe (Some command.now.executable.now) fetched.executable.items) }
     ensures image { IfOk result (λ fetched. fetched.job.image ≡ image_of fetched.executable.items) }
     ensures refused { IfErr result (JobCause (S.told store.old) (to_run (run_by command.now)) (S.failures store.old) (S.failures store.new)) }
@@ -90,9 +93,10 @@ pub fn job_from<S: Store>(
     command: &RunCommand<'_>,
     store: &mut S,
 ) -> Result<Job, Answer>
-    requires { InRange command.now.settings }
+    requires { Fits (to_run (run_by command.now)) }
     ensures job { IfOk result (λ job. IsJobOf (S.told store.old) (run_by command.now) (job_of job.image job.input.items job.faults.items job.settings)) }
     ensures can_run { IfOk result (λ job. CanRun (job_of job.image job.input.items job.faults.items job.settings)) }
+    ensures fit { IfOk result (λ job. IsFit (job_of job.image job.input.items job.faults.items job.settings)) }
     ensures refused { IfErr result (JobCause (S.told store.old) (to_run (run_by command.now)) (S.failures store.old) (S.failures store.new)) }
     ensures told { S.told store.new ≡ S.told store.old }
     ensures calm { (result ≡ Err a.StoreFailed → ⊥) → S.failures store.new ≡ S.failures store.old }
@@ -113,7 +117,7 @@ pub fn replay_from<S: Store>(
     command: &PlanCommand<'_>,
     store: &mut S,
 ) -> Result<Replay, Answer>
-    ensures plan { IfOk result (λ replay. IsPlanOf (S.told store.old) (plan_by command.now) (record { image = replay.image; input = replay.input.items }) replay.journal.items) }
+    ensures plan { IfOk result (λ replay. IsPlanOf (S.told store.old) (plan_by command.now) (record { image = replay.image; input = replay.input.items }) replay.mode replay.journal.items) }
     ensures refused { IfErr result (JobCause (S.told store.old) (to_plain (plan_by command.now)) (S.failures store.old) (S.failures store.new)) }
     ensures told { S.told store.new ≡ S.told store.old }
     ensures calm { (result ≡ Err a.StoreFailed → ⊥) → S.failures store.new ≡ S.failures store.old }
@@ -128,7 +132,8 @@ pub fn replay_from<S: Store>(
     Ok(Replay {
         image,
         input,
-        journal,
+        mode: journal.mode,
+        journal: journal.entries,
     })
 }
 

@@ -4,7 +4,7 @@ ghost use Rattle.ro_report.specs.declared.answers.Answer.TheVariants as a;
 ghost use Rattle.std.specs.Option.{option_map};
 ghost use Rattle.ro_image.specs.Executable.{bad_code, image_of};
 ghost use Rattle.ro_faults.specs.Texts.{file_faults};
-ghost use Rattle.ro_journal_text.specs.Reading.{file_journal};
+ghost use Rattle.ro_journal_text.specs.Reading.{file_journal, journal_in};
 ghost use Rattle.ro_io.specs.Outside.{Asks, unfailed};
 ghost use Rattle.ro_files.specs.Files.{most_of, named, IsFile, IsContent};
 ghost use Rattle.ro_files.specs.Refusals.{RefusesFile, RefusesContent, RefusesExe, RefusesList, RefusesPlan};
@@ -12,8 +12,7 @@ ghost use Rattle.ro_files.specs.Refusals.{RefusesFile, RefusesContent, RefusesEx
 use ro_faults::{Fault, FaultsError, read_faults};
 use ro_image::{Executable, ImageError, read_executable};
 use ro_io::{FetchError, Store};
-use ro_journal::Entry;
-use ro_journal_text::{JournalError, read_journal};
+use ro_journal_text::{FileJournal, JournalError, read_journal};
 use ro_report::{Answer, FileKind};
 use std::alloc::Global;
 
@@ -109,8 +108,8 @@ pub(crate) fn faults(alloc: Global, bytes: &[u8], replicas: u32) -> Result<Vec<F
 ///
 /// # Errors
 /// `BadPlan` or `NoMemory`.
-pub fn journal(alloc: Global, bytes: &[u8]) -> Result<Vec<Entry>, Answer>
-    ensures journal { IfOk result (λ journal. file_journal bytes.now ≡ Ok journal.items) }
+pub fn journal(alloc: Global, bytes: &[u8]) -> Result<FileJournal, Answer>
+    ensures journal { IfOk result (λ journal. file_journal bytes.now ≡ Ok (journal_in journal)) }
     ensures refused { IfErr result (RefusesPlan bytes.now) }
 {
     match read_journal(alloc, bytes) {

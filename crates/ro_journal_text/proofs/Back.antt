@@ -21,13 +21,16 @@ use Rattle.ro_journal.specs.declared.losers.Lost.TheVariants.{Nobody, One, Two}
 use Rattle.ro_journal.specs.declared.Lease.{Lease}
 use Rattle.ro_journal.specs.declared.Entry.{Entry}
 use Rattle.ro_journal.specs.declared.Entry.TheVariants.{Take, Put, Part, Vote, Free, Scrub, End}
-use Rattle.ro_journal_text.specs.declared.entries.Run.{Run}
+use Rattle.ro_settings.specs.declared.Mode.{Mode}
+use Rattle.ro_settings.specs.declared.Mode.TheVariants.{Voted, Cooperative}
+use Rattle.ro_journal_text.specs.declared.headings.Heading.{Heading}
+use Rattle.ro_journal_text.specs.declared.headings.Heading.TheVariants as headings
 use Rattle.ro_journal_text.specs.declared.versions.Version.{Version}
 use Rattle.ro_journal_text.specs.declared.versions.Version.TheVariants.{First, Second}
 use Rattle.ro_journal_text.specs.declared.errors.JournalCode.TheVariants.{Range}
-use Rattle.ro_journal_text.specs.Texts.{did_word, lost_word, how_words, run_words, entry_words, entries_text, header_word, text_in}
-use Rattle.ro_journal_text.specs.Reading.{did_of, has_did, listed, several_of, lost_of, how_of, run_of, entry_of, most_replica, is_lost, is_how, is_lease, is_run, is_entry, ranged, line_entry, is_end, before, behind, in_line, lines_entries, file_journal, ends_last}
-use Rattle.ro_journal_text.proofs.Steps.{cut_before, header_read}
+use Rattle.ro_journal_text.specs.Texts.{did_word, lost_word, how_words, run_words, entry_words, entries_text, header_word, journal_text, text_under}
+use Rattle.ro_journal_text.specs.Reading.{did_of, has_did, listed, several_of, lost_of, how_of, run_of, entry_of, most_replica, is_lost, is_how, is_lease, is_run, is_entry, ranged, line_entry, is_end, before, behind, in_line, lines_entries, heading_of, version_of, mode_of, headed_journal, file_journal, ends_last}
+use Rattle.ro_journal_text.proofs.Steps.{cut_before, headed_read}
 use Rattle.ro_journal_text.proofs.Listed.{no_comma, digits_of}
 use Rattle.ro_journal_text.proofs.Wording.{same}
 
@@ -231,10 +234,23 @@ lines_back version line (entry ∷ next ∷ entries) h last =
     ∙ ap (behind (entry ∷ [])) (lines_back version (line + 1) (next ∷ entries) is.1 ends.1)
 
 -- no line feed stands in a first line
-first_cut : (version : Version) (text : List ℕ) → parts_of (header_word version ++ 10 ∷ text) ≡ header_word version ∷ parts_of text
-first_cut First text = refl
-first_cut Second text = refl
+first_cut : (heading : Heading) (text : List ℕ) → parts_of (header_word heading ++ 10 ∷ text) ≡ header_word heading ∷ parts_of text
+first_cut headings.First text = refl
+first_cut (headings.Second Voted) text = refl
+first_cut (headings.Second Cooperative) text = refl
 
-pub file_back : (version : Version) (entries : List Entry) → list_all (is_entry version) entries ≡ true → ends_last entries ≡ true → file_journal (text_in version entries) ≡ Ok entries
-file_back version entries h last =
-    header_read version (text_in version entries) (entries_text entries) (first_cut version (entries_text entries)) ∙ lines_back version 2 entries h last
+-- a first line is read back
+heading_back : (heading : Heading) → Some heading ≡ heading_of (header_word heading)
+heading_back headings.First = refl
+heading_back (headings.Second Voted) = refl
+heading_back (headings.Second Cooperative) = refl
+
+pub file_back : (heading : Heading) (entries : List Entry) → list_all (is_entry (version_of heading)) entries ≡ true → ends_last entries ≡ true
+    → file_journal (text_under heading entries) ≡ Ok (record { mode = mode_of heading; entries = entries })
+file_back heading entries h last =
+    ap headed_journal (first_cut heading (entries_text entries))
+    ∙ headed_read (header_word heading) (entries_text entries) heading entries (heading_back heading) (lines_back (version_of heading) 2 entries h last)
+
+pub written : (mode : Mode) (entries : List Entry) → journal_text mode entries ≡ text_under (headings.Second mode) entries
+written Voted entries = refl
+written Cooperative entries = refl

@@ -1,17 +1,16 @@
 -- Reading a journal line by line.
-use Rattle.std.proofs.Common.{ℕ, true, false, ◌≡◌, ◌+◌, ◌<◌, ◌==◌, List, [], ◌∷◌, ◌++◌, Result, Ok, Err, length, codes, cond, arith, refl, sym, ap, ◌∙◌}
+use Rattle.std.proofs.Common.{ℕ, true, false, ◌≡◌, ◌+◌, ◌<◌, ◌==◌, List, [], ◌∷◌, ◌++◌, Some, None, Result, Ok, Err, length, cond, arith, refl, sym, ap, ◌∙◌}
 use Rattle.std.proofs.lemmas.List.{append_assoc}
 use Rattle.std.proofs.lemmas.List.Splits.{length-slice_split}
-use Rattle.std.specs.Str.{bytes_eq}
 use Rattle.ro_text.specs.Lines.{parts_of}
 use Rattle.ro_journal.specs.declared.Entry.{Entry}
 use Rattle.ro_journal_text.specs.declared.errors.JournalCode.{JournalCode}
 use Rattle.ro_journal_text.specs.declared.errors.JournalCode.TheVariants.{Form}
-use Rattle.ro_journal_text.specs.declared.errors.JournalError.TheVariants.{Bad}
+use Rattle.ro_journal_text.specs.declared.errors.JournalError.{JournalError}
+use Rattle.ro_journal_text.specs.declared.errors.JournalError.TheVariants.{Bad, NoMemory}
+use Rattle.ro_journal_text.specs.declared.headings.Heading.{Heading}
 use Rattle.ro_journal_text.specs.declared.versions.Version.{Version}
-use Rattle.ro_journal_text.specs.declared.versions.Version.TheVariants.{First, Second}
-use Rattle.ro_journal_text.specs.Texts.{header_word}
-use Rattle.ro_journal_text.specs.Reading.{is_end, before, behind, in_line, line_entry, lines_entries, headed_entries, file_journal}
+use Rattle.ro_journal_text.specs.Reading.{is_end, before, behind, in_line, line_entry, lines_entries, heading_of, version_of, mode_of, with_mode, journal_under, headed_journal, refuses}
 
 behind_behind : {A E : Type 0} (xs ys : List A) (read : Result (List A) E) → behind xs (behind ys read) ≡ behind (xs ++ ys) read
 behind_behind xs ys (Ok zs) = ap Ok (sym (append_assoc xs ys zs))
@@ -64,33 +63,28 @@ line_refused version line entries code rest text after cut read =
     ap (behind entries) (cut_before version line rest text after cut)
     ∙ ap (λ r. behind entries (before (in_line line r) others)) (sym read)
 
--- the lines behind the header of a version
-headed : (version : Version) (parts : List (List ℕ)) → 0 < length parts → headed_entries (header_word version ∷ parts) ≡ lines_entries version 2 parts
-headed version [] some = absurd (omega (arith, some))
-headed First (next ∷ parts) some = refl
-headed Second (next ∷ parts) some = refl
+-- the lines behind a first one
+headed : (first : List ℕ) (parts : List (List ℕ)) → 0 < length parts → headed_journal (first ∷ parts) ≡ journal_under (heading_of first) parts
+headed first [] some = absurd (omega (arith, some))
+headed first (next ∷ parts) some = refl
 
--- the entries of a text whose first line is that of a version
-pub header_read : (version : Version) (bytes rest : List ℕ) → parts_of bytes ≡ header_word version ∷ parts_of rest → file_journal bytes ≡ lines_entries version 2 (parts_of rest)
-header_read version bytes rest cut =
-    ap headed_entries cut ∙ headed version (parts_of rest) (omega (arith, length-slice_split (λ b. b == 10) rest))
+-- the journal of a text behind a first line
+pub headed_by : (first rest : List ℕ) → headed_journal (first ∷ parts_of rest) ≡ journal_under (heading_of first) (parts_of rest)
+headed_by first rest = headed first (parts_of rest) (omega (arith, length-slice_split (λ b. b == 10) rest))
 
 -- behind a first line that is none
-pub none_headed : (first : List ℕ) (parts : List (List ℕ)) → bytes_eq first (header_word Second) ≡ false → bytes_eq first (header_word First) ≡ false → headed_entries (first ∷ parts) ≡ Err (Bad 1 Form)
-none_headed first [] two one = refl
-none_headed first (next ∷ parts) two one = rw (two, one) refl
+pub none_headed : (first : List ℕ) (parts : List (List ℕ)) → None ≡ heading_of first → headed_journal (first ∷ parts) ≡ Err (Bad 1 Form)
+none_headed first [] none = refl
+none_headed first (next ∷ parts) none = ap (λ o. journal_under o (next ∷ parts)) (sym none)
 
 -- behind one that is
-pub second_headed : (first rest : List ℕ) → bytes_eq first (header_word Second) ≡ true → headed_entries (first ∷ parts_of rest) ≡ lines_entries Second 2 (parts_of rest)
-second_headed first rest two = by (parts_of rest) (omega (arith, length-slice_split (λ b. b == 10) rest))
-  where
-    by : (parts : List (List ℕ)) → 0 < length parts → headed_entries (first ∷ parts) ≡ lines_entries Second 2 parts
-    by [] some = absurd (omega (arith, some))
-    by (next ∷ parts) some = rw two refl
+pub headed_read : (first rest : List ℕ) (heading : Heading) (entries : List Entry) → Some heading ≡ heading_of first
+    → lines_entries (version_of heading) 2 (parts_of rest) ≡ Ok entries → headed_journal (first ∷ parts_of rest) ≡ Ok (record { mode = mode_of heading; entries = entries })
+headed_read first rest heading entries is read =
+    headed_by first rest ∙ ap (λ o. journal_under o (parts_of rest)) (sym is) ∙ ap (with_mode (mode_of heading)) read
 
-pub first_headed : (first rest : List ℕ) → bytes_eq first (header_word Second) ≡ false → bytes_eq first (header_word First) ≡ true → headed_entries (first ∷ parts_of rest) ≡ lines_entries First 2 (parts_of rest)
-first_headed first rest two one = by (parts_of rest) (omega (arith, length-slice_split (λ b. b == 10) rest))
-  where
-    by : (parts : List (List ℕ)) → 0 < length parts → headed_entries (first ∷ parts) ≡ lines_entries First 2 parts
-    by [] some = absurd (omega (arith, some))
-    by (next ∷ parts) some = rw (two, one) refl
+pub headed_refused : (first rest : List ℕ) (heading : Heading) (error : JournalError) → Some heading ≡ heading_of first
+    → refuses error (lines_entries (version_of heading) 2 (parts_of rest)) → refuses error (headed_journal (first ∷ parts_of rest))
+headed_refused first rest heading NoMemory is refused = tt
+headed_refused first rest heading (Bad line code) is refused =
+    headed_by first rest ∙ ap (λ o. journal_under o (parts_of rest)) (sym is) ∙ ap (with_mode (mode_of heading)) refused

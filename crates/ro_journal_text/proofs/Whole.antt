@@ -1,21 +1,21 @@
 -- A text that is read begins with that of the journal that is read.
-use Rattle.std.proofs.Common.{ℕ, Bool, true, false, ◌≡◌, ◌+◌, ◌<◌, List, [], ◌∷◌, ◌++◌, Result, Ok, Err, length, codes, cond, arith, refl, sym, ap, ◌∙◌, subst, append_assoc, append-nil}
+use Rattle.std.proofs.Common.{ℕ, Bool, true, false, ◌≡◌, ◌+◌, ◌<◌, List, [], ◌∷◌, ◌++◌, Option, Some, None, Result, Ok, Err, length, codes, cond, arith, inl, inr, refl, sym, ap, ◌∙◌, subst, append_assoc, append-nil}
 use Rattle.std.specs.List.{list_all, list_any, join_with_byte}
 use Rattle.std.specs.Str.{bytes_eq}
 use Rattle.std.proofs.lemmas.Bool.{and_from}
 use Rattle.std.proofs.lemmas.List.Splits.{join_with_byte-slice_split}
 use Rattle.ro_text.specs.Lines.{spaced, line_text, parts_of}
 use Rattle.ro_journal.specs.declared.Entry.{Entry}
+use Rattle.ro_settings.specs.declared.Mode.TheVariants.{Voted, Cooperative}
+use Rattle.ro_journal_text.specs.declared.headings.Heading.{Heading}
+use Rattle.ro_journal_text.specs.declared.headings.Heading.TheVariants as headings
 use Rattle.ro_journal_text.specs.declared.versions.Version.{Version}
-use Rattle.ro_journal_text.specs.declared.versions.Version.TheVariants.{First, Second}
 use Rattle.ro_journal_text.specs.declared.errors.JournalCode.{JournalCode}
-use Rattle.ro_journal_text.specs.declared.errors.JournalCode.TheVariants.{Form}
 use Rattle.ro_journal_text.specs.declared.errors.JournalError.{JournalError}
-use Rattle.ro_journal_text.specs.declared.errors.JournalError.TheVariants.{Bad}
-use Rattle.ro_journal_text.specs.Texts.{entry_words, entries_text, header_word, text_in}
-use Rattle.ro_journal_text.specs.Reading.{is_end, is_entry, ends_last, before, behind, in_line, line_entry, last_entries, lines_entries, headed_entries, file_journal, BeginsWith}
+use Rattle.ro_journal_text.specs.Texts.{entry_words, entries_text, header_word, text_under}
+use Rattle.ro_journal_text.specs.Reading.{Journal, is_end, is_entry, ends_last, before, behind, in_line, line_entry, last_entries, lines_entries, heading_of, version_of, mode_of, with_mode, journal_under, headed_journal, file_journal, BeginsWith}
 use Rattle.ro_journal_text.proofs.Once.{line_once}
-use Rattle.ro_journal_text.proofs.Wording.{same}
+use Rattle.ro_journal_text.proofs.Wording.{chosen, inner, pick, same}
 
 -- the entries are those of lines, up to an end or to the last
 record Lines (version : Version) (parts : List (List ℕ)) (entries : List Entry) : Type 0 where
@@ -25,14 +25,15 @@ record Lines (version : Version) (parts : List (List ℕ)) (entries : List Entry
   fits : list_all (is_entry version) entries ≡ true
   last : ends_last entries ≡ true
 
--- the first of the lines is that of a version, and the entries are those of the others
-record Spelling (parts : List (List ℕ)) (entries : List Entry) : Type 0 where
-  version : Version
+-- the first of the lines is of the journal's mode, and its entries are those of the others
+record Spelling (parts : List (List ℕ)) (journal : Journal) : Type 0 where
+  heading : Heading
+  mode : mode_of heading ≡ journal.mode
   unread : List ℕ
-  text : join_with_byte 10 parts ≡ text_in version entries ++ unread
-  whole : list_any is_end entries ≡ false → unread ≡ []
-  fits : list_all (is_entry version) entries ≡ true
-  last : ends_last entries ≡ true
+  text : join_with_byte 10 parts ≡ text_under heading journal.entries ++ unread
+  whole : list_any is_end journal.entries ≡ false → unread ≡ []
+  fits : list_all (is_entry (version_of heading)) journal.entries ≡ true
+  last : ends_last journal.entries ≡ true
 
 -- an entry that ends nothing may stand before others
 goes_on : (entry : Entry) (entries : List Entry) → is_end entry ≡ false → ends_last entries ≡ true → ends_last (entry ∷ entries) ≡ true
@@ -92,31 +93,49 @@ lines_once version line (part ∷ []) entries some h = last_part version line pa
 lines_once version line (part ∷ next ∷ parts) entries some h =
     more_once version part next parts entries (line_entry version part) refl line (lines_entries version (line + 1) (next ∷ parts)) (λ others e. lines_once version (line + 1) (next ∷ parts) others (omega arith) e) h
 
--- the lines behind the header
-behind_first : (version : Version) (first next : List ℕ) (parts : List (List ℕ)) (entries : List Entry) → first ≡ header_word version → lines_entries version 2 (next ∷ parts) ≡ Ok entries → Spelling (first ∷ next ∷ parts) entries
-behind_first version first next parts entries is h =
-    let rest = lines_once version 2 (next ∷ parts) entries (omega arith) h in
+-- a first line
+heading_once : (line : List ℕ) (heading : Heading) → heading_of line ≡ Some heading → header_word heading ≡ line
+heading_once line heading h = elim (pick (bytes_eq line (codes "romain 2")) (Some (headings.Second Voted)) _ heading h) [
+  | inl p ↦ ap header_word (sym (inner (headings.Second Voted) heading p.1)) ∙ sym (same line (codes "romain 2") p.0)
+  | inr q ↦ elim (pick (bytes_eq line (codes "romain 2 coop")) (Some (headings.Second Cooperative)) _ heading q.1) [
+    | inl p ↦ ap header_word (sym (inner (headings.Second Cooperative) heading p.1)) ∙ sym (same line (codes "romain 2 coop") p.0)
+    | inr q ↦ let p = chosen (bytes_eq line (codes "romain 1")) (Some headings.First) heading q.1 in
+        ap header_word (sym (inner headings.First heading p.1)) ∙ sym (same line (codes "romain 1") p.0)
+  ]
+]
+
+-- the lines behind it
+behind_first : (heading : Heading) (first next : List ℕ) (parts : List (List ℕ)) (entries : List Entry) → header_word heading ≡ first
+    → lines_entries (version_of heading) 2 (next ∷ parts) ≡ Ok entries → Spelling (first ∷ next ∷ parts) (record { mode = mode_of heading; entries = entries })
+behind_first heading first next parts entries is h =
+    let rest = lines_once (version_of heading) 2 (next ∷ parts) entries (omega arith) h in
     record {
-      version = version;
+      heading = heading;
+      mode = refl;
       unread = rest.unread;
-      text = ap (λ l. l ++ 10 ∷ join_with_byte 10 (next ∷ parts)) is ∙ ap (λ l. header_word version ++ 10 ∷ l) rest.text ∙ sym (append_assoc (header_word version) (10 ∷ entries_text entries) rest.unread);
+      text = ap (λ l. l ++ 10 ∷ join_with_byte 10 (next ∷ parts)) (sym is) ∙ ap (λ l. header_word heading ++ 10 ∷ l) rest.text ∙ sym (append_assoc (header_word heading) (10 ∷ entries_text entries) rest.unread);
       whole = rest.whole;
       fits = rest.fits;
       last = rest.last;
     }
 
-headed_once : (parts : List (List ℕ)) (entries : List Entry) → headed_entries parts ≡ Ok entries → Spelling parts entries
-headed_once [] entries h = absurd (cc)
-headed_once (first ∷ []) entries h = absurd (cc)
-headed_once (first ∷ next ∷ parts) entries h = by (bytes_eq first (header_word Second)) refl (bytes_eq first (header_word First)) refl h
+headed_once : (parts : List (List ℕ)) (journal : Journal) → headed_journal parts ≡ Ok journal → Spelling parts journal
+headed_once [] journal h = absurd (cc)
+headed_once (first ∷ []) journal h = absurd (cc)
+headed_once (first ∷ next ∷ parts) journal h = by (heading_of first) refl h
   where
-    by : (b : Bool) → bytes_eq first (header_word Second) ≡ b → (c : Bool) → bytes_eq first (header_word First) ≡ c
-        → cond b (lines_entries Second 2 (next ∷ parts)) (cond c (lines_entries First 2 (next ∷ parts)) (Err (Bad 1 Form))) ≡ Ok entries → Spelling (first ∷ next ∷ parts) entries
-    by true e c f q = behind_first Second first next parts entries (same first (header_word Second) e) q
-    by false e true f q = behind_first First first next parts entries (same first (header_word First) f) q
-    by false e false f q = absurd (cc)
+    with_entries : (heading : Heading) → heading_of first ≡ Some heading → (read : Result (List Entry) JournalError) → lines_entries (version_of heading) 2 (next ∷ parts) ≡ read
+        → with_mode (mode_of heading) read ≡ Ok journal → Spelling (first ∷ next ∷ parts) journal
+    with_entries heading is (Err error) e q = absurd (cc)
+    with_entries heading is (Ok entries) e q =
+        let whole : record { mode = mode_of heading; entries = entries } ≡ journal = cc in
+        subst (Spelling (first ∷ next ∷ parts)) whole (behind_first heading first next parts entries (heading_once first heading is) e)
 
-pub file_once : (bytes : List ℕ) (entries : List Entry) → file_journal bytes ≡ Ok entries → BeginsWith bytes entries × (ends_last entries ≡ true)
-file_once bytes entries h =
-    let once = headed_once (parts_of bytes) entries h in
-    (record { version = once.version; unread = once.unread; text = sym (join_with_byte-slice_split 10 bytes) ∙ once.text; whole = once.whole; fits = once.fits }, once.last)
+    by : (found : Option Heading) → heading_of first ≡ found → journal_under found (next ∷ parts) ≡ Ok journal → Spelling (first ∷ next ∷ parts) journal
+    by None is q = absurd (cc)
+    by (Some heading) is q = with_entries heading is (lines_entries (version_of heading) 2 (next ∷ parts)) refl q
+
+pub file_once : (bytes : List ℕ) (journal : Journal) → file_journal bytes ≡ Ok journal → BeginsWith bytes journal × (ends_last journal.entries ≡ true)
+file_once bytes journal h =
+    let once = headed_once (parts_of bytes) journal h in
+    (record { heading = once.heading; mode = once.mode; unread = once.unread; text = sym (join_with_byte-slice_split 10 bytes) ∙ once.text; whole = once.whole; fits = once.fits }, once.last)

@@ -1,26 +1,35 @@
 //! The texts of journals.
 ghost use Rattle.std.specs.Prelude.{◌≡◌, ◌∷◌, Ok, IfOk, IfErr};
-ghost use Rattle.std.specs.Str.{bytes_eq};
 ghost use Rattle.ro_text.specs.Lines.{parts_of};
-ghost use Rattle.ro_journal_text.specs.Texts.{header_word, journal_text};
-ghost use Rattle.ro_journal_text.specs.Reading.{refuses, file_journal, headed_entries, lines_entries, is_end};
+ghost use Rattle.ro_journal_text.specs.Texts.{journal_text};
+ghost use Rattle.ro_journal_text.specs.Reading.{refuses, file_journal, headed_journal, journal_in, lines_entries, is_end};
 
 use crate::entries::read_entry;
 use crate::errors::{JournalCode, JournalError};
-use crate::lines::{entry_text, header};
+use crate::headings::{header, read_heading};
+use crate::lines::entry_text;
 use crate::versions::Version;
 use ro_journal::Entry;
+use ro_settings::Mode;
 use ro_text::first_line;
 use std::alloc::{AllocError, Global};
 
-/// The text of a journal.
+/// The journal of a text.
+#[derive(Drop)]
+pub struct FileJournal {
+    /// The mode of the run.
+    pub mode: Mode,
+    pub entries: Vec<Entry>,
+}
+
+/// The text of a journal of a run in the mode.
 ///
 /// # Errors
 /// Memory can run out.
-pub fn journal_text(alloc: Global, entries: &[Entry]) -> Result<Vec<u8>, AllocError>
-    ensures { IfOk result (λ bytes. bytes.items ≡ journal_text entries.now) }
+pub fn journal_text(alloc: Global, mode: Mode, entries: &[Entry]) -> Result<Vec<u8>, AllocError>
+    ensures { IfOk result (λ bytes. bytes.items ≡ journal_text mode entries.now) }
 {
-    let mut bytes = Vec::from_slice(alloc, header())?;
+    let mut bytes = Vec::from_slice(alloc, header(mode))?;
     for entry in entries {
         bytes.extend_from_slice(entry_text(entry).as_bytes())?;
     }
@@ -31,8 +40,8 @@ pub fn journal_text(alloc: Global, entries: &[Entry]) -> Result<Vec<u8>, AllocEr
 ///
 /// # Errors
 /// The number of the first bad line and what is bad in it, or `NoMemory`.
-pub fn read_journal(alloc: Global, bytes: &[u8]) -> Result<Vec<Entry>, JournalError>
-    ensures read { IfOk result (λ entries. file_journal bytes.now ≡ Ok entries.items) }
+pub fn read_journal(alloc: Global, bytes: &[u8]) -> Result<FileJournal, JournalError>
+    ensures read { IfOk result (λ journal. file_journal bytes.now ≡ Ok (journal_in journal)) }
     ensures refused { IfErr result (λ error. refuses error (file_journal bytes.now)) }
 {
     match first_line(bytes) {
@@ -44,32 +53,23 @@ pub fn read_journal(alloc: Global, bytes: &[u8]) -> Result<Vec<Entry>, JournalEr
     }
 }
 
-// The entries behind a first line.
-#[tactic(auto, using(crate::proofs::Steps::none_headed, crate::proofs::Steps::second_headed, crate::proofs::Steps::first_headed))]
-fn read_headed(alloc: Global, first: &[u8], rest: &[u8]) -> Result<Vec<Entry>, JournalError>
-    ensures read { IfOk result (λ entries. headed_entries (first.now ∷ parts_of rest.now) ≡ Ok entries.items) }
-    ensures refused { IfErr result (λ error. refuses error (headed_entries (first.now ∷ parts_of rest.now))) }
+// The journal behind a first line.
+#[tactic(auto, using(crate::proofs::Steps::none_headed, crate::proofs::Steps::headed_read, crate::proofs::Steps::headed_refused))]
+fn read_headed(alloc: Global, first: &[u8], rest: &[u8]) -> Result<FileJournal, JournalError>
+    ensures read { IfOk result (λ journal. headed_journal (first.now ∷ parts_of rest.now) ≡ Ok (journal_in journal)) }
+    ensures refused { IfErr result (λ error. refuses error (headed_journal (first.now ∷ parts_of rest.now))) }
 {
-    if is_header(first, Version::Second) {
-        read_entries(alloc, rest, Version::Second)
-    } else if is_header(first, Version::First) {
-        read_entries(alloc, rest, Version::First)
-    } else {
-        Err(JournalError::Bad {
+    let Some(heading) = read_heading(first) else {
+        return Err(JournalError::Bad {
             line: 1,
             code: JournalCode::Form,
-        })
-    }
-}
-
-// Whether the line, without its line feed, is the first of a journal's text in a version.
-fn is_header(line: &[u8], version: Version) -> bool
-    ensures { result ≡ bytes_eq line.now (header_word version) }
-{
-    match version {
-        Version::First => line == b"romain 1".as_slice(),
-        Version::Second => line == b"romain 2".as_slice(),
-    }
+        });
+    };
+    let entries = read_entries(alloc, rest, heading.version())?;
+    Ok(FileJournal {
+        mode: heading.mode(),
+        entries,
+    })
 }
 
 // The entries of the lines behind the first.

@@ -2,21 +2,23 @@
 ghost use Rattle.std.specs.Prelude.{ℕ, List, ◌≡◌, true, Ok};
 ghost use Rattle.std.specs.List.{list_all};
 ghost use Rattle.ro_journal.specs.declared.Entry.{Entry};
-ghost use Rattle.ro_journal_text.specs.Texts.{text_in, journal_text};
-ghost use Rattle.ro_journal_text.specs.declared.versions.Version.{Version};
-ghost use Rattle.ro_journal_text.specs.declared.versions.Version.TheVariants.{Second};
-ghost use Rattle.ro_journal_text.specs.Reading.{is_entry, ends_last, file_journal, BeginsWith};
+ghost use Rattle.ro_journal_text.specs.Texts.{text_under, journal_text};
+ghost use Rattle.ro_journal_text.specs.declared.headings.Heading.{Heading};
+ghost use Rattle.ro_journal_text.specs.declared.headings.Heading.TheVariants.{Second};
+ghost use Rattle.ro_journal_text.specs.Reading.{Journal, is_entry, ends_last, file_journal, mode_of, version_of, BeginsWith};
+ghost use Rattle.ro_settings.specs.declared.Mode.{Mode};
 
-/// The text of a journal is read as that journal, where its numbers are in their ranges and nothing follows an end; and so
-/// is its text in the first version, where that has its numbers. The second is written.
+/// The text of a journal is read as that journal and its mode, where its numbers are in their ranges and nothing follows an
+/// end; and so is its text in the first version, where that has its numbers. The second is written.
 pub fn texts_read_back()
-    ensures each { (version : Version) (entries : List Entry) → list_all (is_entry version) entries ≡ true → ends_last entries ≡ true → file_journal (text_in version entries) ≡ Ok entries }
-    ensures written { (entries : List Entry) → journal_text entries ≡ text_in Second entries }
+    ensures each { (heading : Heading) (entries : List Entry) → list_all (is_entry (version_of heading)) entries ≡ true → ends_last entries ≡ true
+        → file_journal (text_under heading entries) ≡ Ok (record { mode = mode_of heading; entries = entries }) }
+    ensures written { (mode : Mode) (entries : List Entry) → journal_text mode entries ≡ text_under (Second mode) entries }
 {}
 
-/// A text that is read begins with the text of the journal that is read, in one of the versions, and ends with it where the
-/// run has not ended, so that each journal has one text in a version; its numbers are in the ranges of that version, and
-/// nothing follows an end.
+/// A text that is read begins with the text of the journal that is read, under a first line of its mode, and ends with it
+/// where the run has not ended, so that each journal has one text under a first line; its numbers are in the ranges of that
+/// line's version, and nothing follows an end.
 pub fn texts_spelled_once()
-    ensures { (bytes : List ℕ) (entries : List Entry) → file_journal bytes ≡ Ok entries → BeginsWith bytes entries × (ends_last entries ≡ true) }
+    ensures { (bytes : List ℕ) (journal : Journal) → file_journal bytes ≡ Ok journal → BeginsWith bytes journal × (ends_last journal.entries ≡ true) }
 {}

@@ -1,4 +1,4 @@
-//! The text of a journal: a line `romain 2`, and then a line for each entry.
+//! The text of a journal: a line `romain 2`, or `romain 2 coop` of a cooperative run, and then a line for each entry.
 //!
 //! An entry's line has its words between single spaces, its numbers in decimal, and a line feed at its end:
 //! `take D R T`, `put D R T N H`, `part D R T N H`, `vote T N W L X`, `free T`, `scrub W L` or `end HOW`. A text is written line by
@@ -10,13 +10,15 @@
 mod entries;
 mod errors;
 mod files;
+mod headings;
 mod laws;
 mod lines;
 mod versions;
 mod words;
 
 pub use errors::{JournalCode, JournalError};
-pub use files::{journal_text, read_journal};
+pub use files::{FileJournal, journal_text, read_journal};
+pub use headings::{Heading, header};
 pub use laws::{texts_read_back, texts_spelled_once};
-pub use lines::{entry_text, header};
+pub use lines::entry_text;
 pub use versions::Version;

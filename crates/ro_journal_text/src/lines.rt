@@ -1,17 +1,10 @@
 //! The lines of a journal's text.
 ghost use Rattle.std.specs.Prelude.{◌≡◌, ◌+◌, ◌<◌, ◌≤◌, [], ◌++◌, ◌∷◌, length, decimal};
 ghost use Rattle.ro_text.specs.Lines.{spaced};
-ghost use Rattle.ro_journal_text.specs.Texts.{did_word, lost_word, how_words, entry_text, header_text};
+ghost use Rattle.ro_journal_text.specs.Texts.{did_word, lost_word, how_words, entry_text};
 
 use ro_journal::{Did, Entry, How, Lease, Lost};
 use ro_text::{Line, Text};
-
-/// The first line of every journal's text.
-pub fn header() -> &'static [u8]
-    ensures { result.now ≡ header_text }
-{
-    b"romain 2\n"
-}
 
 /// The line of an entry.
 pub fn entry_text(entry: &Entry) -> Line

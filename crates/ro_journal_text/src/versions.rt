@@ -1,8 +1,8 @@
-//! The versions of a journal's text.
+//! The versions of the lines of entries.
 ghost use Rattle.std.specs.Prelude.{◌≡◌};
 ghost use Rattle.ro_journal_text.specs.Reading.{most_replica};
 
-/// Which first line a text has. `Second` is written, both are read.
+/// What a text's lines may say; its first line tells which. `Second` is written, both are read.
 #[derive(Clone, Copy, PartialEq, Eq, Debug)]
 pub enum Version {
     /// `romain 1`: replicas 0 to 2, of which one loses a vote at most; no scrub, no part, and no call of two steps.

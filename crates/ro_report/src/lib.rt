@@ -3,6 +3,7 @@
 #![tactic(auto)]
 
 mod answers;
+mod counts;
 mod laws;
 mod summaries;
 

@@ -1,27 +1,31 @@
 //! The summary of a run's journal.
 ghost use Rattle.std.specs.Prelude.{◌≡◌, ◌+◌, ◌*◌, ◌%◌, ◌^◌, ◌<◌, ◌≤◌, ◌++◌, length, decimal};
-ghost use Rattle.ro_journal.specs.Counts.{struck_in, steps_in};
+ghost use Rattle.ro_journal.specs.Counts.{struck_in};
+ghost use Rattle.ro_plans.specs.Plans.{plan_in};
 ghost use Rattle.ro_report.specs.Report.{summary_text, plain_text, bench_text, weighed};
 
-use ro_journal::{Entry, Totals};
+use crate::counts::Counts;
+use ro_journal::Entry;
+use ro_plans::plan_length;
+use ro_settings::Mode;
 use ro_text::{Line, ROOM, Text};
 
 /// Sums of bytes are numbers below this one.
 const MODULUS: u64 = 4_294_967_296;
 
-/// The line that sums a journal up: its votes, the copies that followed them, the faults that were struck, the
-/// steps of its plan, and the bytes that the run wrote.
-pub fn summary(journal: &[Entry], bytes: u64) -> Line
+/// The line that sums the journal of a run in the mode up: its votes, the copies that followed them, the faults that were
+/// struck, the steps of its plan, and the bytes that the run wrote.
+pub fn summary(mode: Mode, journal: &[Entry], bytes: u64) -> Line
     requires struck { struck_in journal.now < 2 ^ 64 }
-    requires steps { steps_in journal.now < 2 ^ 64 }
-    ensures { result ≡ summary_text journal.now bytes }
+    requires steps { length (plan_in mode journal.now) < 2 ^ 64 }
+    ensures { result ≡ summary_text mode journal.now bytes }
 {
-    let totals = Totals::of(journal);
+    let counts = Counts::of(journal);
     let mut text = Text::new();
-    push_field(&mut text, "votes ", totals.votes);
-    push_field(&mut text, " copies ", totals.copies);
-    push_field(&mut text, " struck ", totals.struck);
-    push_field(&mut text, " steps ", totals.steps);
+    push_field(&mut text, "votes ", counts.votes);
+    push_field(&mut text, " copies ", counts.copies);
+    push_field(&mut text, " struck ", counts.struck);
+    push_field(&mut text, " steps ", plan_length(mode, journal));
     push_field(&mut text, " bytes ", bytes);
     text.end()
 }

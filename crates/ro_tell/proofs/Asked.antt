@@ -1,18 +1,15 @@
 -- Why nothing is told of a journal, step by step.
-use Rattle.std.proofs.Common.{◌≡◌, ◌⊎◌, inl, inr, ℕ, false, List, [], ◌∷◌, ◌++◌, Option, Some, refl, sym, subst}
+use Rattle.std.proofs.Common.{◌≡◌, ℕ, false, List, [], ◌∷◌, Option, sym, subst}
 use Rattle.std.proofs.lemmas.List.{map-append}
 use Rattle.ro_io.specs.Outside.{Asks, Calls, Files, unfailed}
 use Rattle.ro_io.proofs.Fetches.{unfailed-more}
-use Rattle.ro_journal.specs.declared.Entry.{Entry}
 use Rattle.ro_legal.specs.Core.{Job}
 use Rattle.ro_report.specs.declared.answers.Answer.{Answer}
-use Rattle.ro_report.specs.declared.answers.Answer.TheVariants.{NoMemory}
 use Rattle.ro_report.specs.declared.answers.FileKind.TheVariants.{Faults}
 use Rattle.ro_words.specs.Commands.{AskedRun, to_run}
 use Rattle.ro_files.specs.Causes.{AsksTo}
 use Rattle.ro_files.specs.Files.{named, names_before, IsJobOf}
-use Rattle.ro_tell.specs.Causes.{run_names, audit_names, HasJob, RefusesJournal, RefusesBehind, LacksMemory}
-use Rattle.ro_tell.specs.Judging.{IsJournalOf}
+use Rattle.ro_tell.specs.Causes.{run_names, audit_names, HasJob, RefusesJournal, RefusesBehind}
 
 -- A job that was fetched, and what is done behind that.
 module _ (files : Option Files) (run : AskedRun) (job : Job) (old mid : Calls) (is : IsJobOf files run job) (to : AsksTo files (to_run run) old mid Faults) where

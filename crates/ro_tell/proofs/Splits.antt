@@ -1,5 +1,5 @@
 -- How replicas that differ at the end of a run are told.
-use Rattle.std.proofs.Common.{◌≡◌, ◌⊎◌, inl, inr, ◌≤◌, ℕ, List, [], ◌∷◌, ◌++◌, length, Option, Some, None, refl, sym, ap, ◌∙◌, subst, arith, IfSome}
+use Rattle.std.proofs.Common.{◌≡◌, ◌⊎◌, inl, inr, ◌≤◌, List, [], ◌∷◌, length, Option, Some, None, sym, ap, ◌∙◌, subst, arith, IfSome}
 use Rattle.std.specs.Prelude.{option_map}
 use Rattle.std.proofs.lemmas.Bool.{and_parts}
 use Rattle.ro_event.specs.Views.{View}
@@ -8,7 +8,7 @@ use Rattle.ro_journal.specs.declared.How.TheVariants as how
 use Rattle.ro_journal.specs.declared.Entry.{Entry}
 use Rattle.ro_journal.specs.declared.Entry.TheVariants.{End}
 use Rattle.ro_journal.specs.Plan.{outcome_of}
-use Rattle.ro_legal.specs.Core.{Job, opening_core, may_vote, views_of}
+use Rattle.ro_legal.specs.Core.{Job, opening_core}
 use Rattle.ro_legal.specs.Legal.{Legal as IsLegal, EndsVote, replay}
 use Rattle.ro_legal.proofs.Journals.{LegalFrom-parts}
 use Rattle.ro_legal.proofs.Ordered.{vote-parts}

@@ -1,16 +1,17 @@
 -- Why nothing is told of a journal, and which files the store was asked for.
-use Rattle.std.specs.Prelude.{◌≡◌, ◌⊎◌, ⊤, ℕ, List, [], ◌∷◌, ◌++◌, Option, Some, None}
+use Rattle.std.specs.Prelude.{◌≡◌, ◌⊎◌, ⊤, ℕ, List, [], ◌∷◌, ◌++◌, Option, Some, None, Err}
 use Rattle.ro_io.specs.Outside.{Asks, Calls, Files, unfailed}
 use Rattle.ro_journal.specs.declared.Entry.{Entry}
 use Rattle.ro_legal.specs.Core.{Job}
 use Rattle.ro_report.specs.declared.answers.Answer.{Answer}
-use Rattle.ro_report.specs.declared.answers.Answer.TheVariants.{BadWords, NoMemory}
+use Rattle.ro_journal_text.specs.declared.errors.JournalError.TheVariants.{Bad}
+use Rattle.ro_report.specs.declared.answers.Answer.TheVariants.{BadPlan, BadWords, NoMemory}
 use Rattle.ro_report.specs.declared.answers.FileKind.TheVariants.{Plan}
 use Rattle.ro_words.specs.Commands.{AskedAudit, AskedRun, audit_of, to_run}
 use Rattle.ro_files.specs.Causes.{AsksFor, JobCause}
 use Rattle.ro_files.specs.Files.{named, IsContent, IsJobOf}
-use Rattle.ro_files.specs.Refusals.{RefusesFile, RefusesPlan}
-use Rattle.ro_tell.specs.Judging.{IsJournalOf}
+use Rattle.ro_files.specs.Refusals.{RefusesFile}
+use Rattle.ro_tell.specs.Judging.{IsJournalOf, voted_entries}
 
 -- the files of a run, in the order in which they are asked for
 abbrev pub run_names : AskedRun → List (List ℕ)
@@ -26,10 +27,16 @@ pub record HasJob (files : Option Files) (run : AskedRun) (old new : Calls) : Ty
   pub is_job : IsJobOf files run job
   pub asks : Asks old new (unfailed (run_names run))
 
--- The journal's file is refused, or was fetched and is no text of a journal; the store was asked for it alone.
+-- it is no text of the journal of a run by votes
+abbrev pub RefusesText : (text : List ℕ) → Answer → Type 0
+RefusesText text (BadPlan line code) = voted_entries text ≡ Err (Bad line code)
+RefusesText text NoMemory = ⊤
+RefusesText text answer = ⊥
+
+-- The journal's file is refused, or was fetched and is no text of such a journal; the store was asked for it alone.
 abbrev pub RefusesJournal : Option Files → (journal : List ℕ) → (before after : ℕ) → (old new : Calls) → Answer → Type 0
 RefusesJournal files journal before after old new answer = RefusesFile files Plan journal before after old new answer
-    ⊎ ((text : List ℕ) × IsContent files Plan (Some journal) text × RefusesPlan text answer × Asks old new (unfailed (journal ∷ [])))
+    ⊎ ((text : List ℕ) × IsContent files Plan (Some journal) text × RefusesText text answer × Asks old new (unfailed (journal ∷ [])))
 
 -- No file of the run is refused, and the journal is.
 pub record RefusesBehind (files : Option Files) (run : AskedRun) (journal : List ℕ) (before after : ℕ) (old new : Calls) (answer : Answer) : Type 0 where

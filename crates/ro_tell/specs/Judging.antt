@@ -1,12 +1,18 @@
 -- What a journal is judged to be.
-use Rattle.std.specs.Prelude.{◌≡◌, ◌≢◌, ⊤, IfSome, ℕ, suc, List, [], ◌∷◌, ◌++◌, length, map, take, Option, Some, None, Ok, option_map, slice_get}
+use Rattle.std.specs.Prelude.{◌≡◌, ◌≢◌, ⊤, IfSome, ℕ, suc, List, [], ◌∷◌, ◌++◌, length, map, take, Option, Some, None, Result, Ok, Err, if◌then◌else◌, nat_eq, option_map, slice_get}
+use Rattle.std.specs.List.{starts_with}
+use Rattle.ro_settings.specs.declared.Mode.TheVariants.{Cooperative}
 use Rattle.ro_journal.specs.declared.How.{How}
 use Rattle.ro_journal.specs.declared.How.TheVariants as how
 use Rattle.ro_journal.specs.Losers.{numbers}
 use Rattle.ro_journal.specs.declared.Entry.{Entry}
 use Rattle.ro_journal.specs.declared.Entry.TheVariants.{Vote, Scrub}
 use Rattle.ro_journal.specs.Plan.{outcome_of, plan_of}
-use Rattle.ro_journal_text.specs.Reading.{file_journal}
+use Rattle.ro_journal_text.specs.declared.errors.JournalCode.TheVariants.{Form}
+use Rattle.ro_journal_text.specs.declared.errors.JournalError.{JournalError}
+use Rattle.ro_journal_text.specs.declared.errors.JournalError.TheVariants.{Bad}
+use Rattle.ro_journal_text.specs.Reading.{Journal, file_journal}
+use Rattle.ro_journal_text.specs.Texts.{header_text}
 use Rattle.ro_report.specs.declared.answers.FileKind.TheVariants.{Plan}
 use Rattle.ro_io.specs.Outside.{Files}
 use Rattle.ro_legal.specs.Core.{Job}
@@ -27,9 +33,18 @@ use Rattle.ro_findings.specs.declared.findings.Differed.{Differed}
 use Rattle.ro_findings.specs.declared.findings.Differed.TheVariants.{AtVote, AtScrub}
 use Rattle.ro_findings.specs.declared.findings.Findings.{Findings}
 
+-- the entries of a journal that is read
+abbrev pub entries_of : Result Journal JournalError → Result (List Entry) JournalError
+entries_of (Ok journal) = Ok journal.entries
+entries_of (Err error) = Err error
+
+-- the entries of a text that is the journal of a run by votes, or its first bad line: the first, where it is that of a cooperative run
+abbrev pub voted_entries : List ℕ → Result (List Entry) JournalError
+voted_entries text = if starts_with nat_eq text (header_text Cooperative) then Err (Bad 1 Form) else entries_of (file_journal text)
+
 -- the journal of the file of this name
 abbrev pub IsJournalOf : Option Files → (name : List ℕ) → List Entry → Type 0
-IsJournalOf files name entries = (text : List ℕ) × IsContent files Plan (Some name) text × (file_journal text ≡ Ok entries)
+IsJournalOf files name entries = (text : List ℕ) × IsContent files Plan (Some name) text × (voted_entries text ≡ Ok entries)
 
 -- the end that is told with more beside it
 abbrev pub how_of : Ended → How

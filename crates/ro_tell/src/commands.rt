@@ -1,5 +1,5 @@
 //! The command, from its words to its answer.
-ghost use Rattle.std.specs.Prelude.{◌≡◌, ◌<◌, ◌∷◌, [], Err, IfErr, IfOk, IfSome, None, Option, Some, option_map, length, false, true};
+ghost use Rattle.std.specs.Prelude.{◌≡◌, ◌<◌, ◌∷◌, [], Err, Ok, IfErr, IfOk, IfSome, None, Option, Some, option_map, length, false, true};
 ghost use Rattle.std.specs.String.{string_bytes};
 ghost use Rattle.ro_io.specs.Outside.{Asks, unfailed};
 ghost use Rattle.ro_journal.specs.declared.How.{How as HowSeen};
@@ -14,8 +14,8 @@ ghost use Rattle.ro_audit.specs.Audits.{FirstIllegal, Tells};
 ghost use Rattle.ro_audit.specs.Following.{IsTrail};
 ghost use Rattle.ro_findings.specs.Sentences.{TellsVerdict};
 ghost use Rattle.ro_tell.specs.declared.commands.Form.TheVariants as f;
-ghost use Rattle.ro_tell.specs.Causes.{AuditCause, RefusesJournal, WordsCause, audit_names};
-ghost use Rattle.ro_tell.specs.Judging.{Finds, IsAuditOf, IsJournalOf, TellsSplit, how_of};
+ghost use Rattle.ro_tell.specs.Causes.{AuditCause, RefusesJournal, RefusesText, WordsCause, audit_names};
+ghost use Rattle.ro_tell.specs.Judging.{Finds, IsAuditOf, IsJournalOf, TellsSplit, how_of, voted_entries};
 
 use crate::copies::{copies_made, differences};
 use crate::fields::{Unlike, ends_split, split_of};
@@ -26,7 +26,9 @@ use ro_files::{FetchedJob, Job, fetch, fetch_job, journal};
 use ro_findings::{Ended, Findings, Split, Verdict};
 use ro_io::Store;
 use ro_journal::{Entry, How};
-use ro_report::{Answer, FileKind};
+use ro_journal_text::header;
+use ro_report::{Answer, FileKind, JournalCode};
+use ro_settings::Mode;
 use ro_words::{AuditCommand, RunCommand, WordsError, parse_audit};
 use std::alloc::{AllocError, Global};
 
@@ -96,7 +98,7 @@ pub fn audit_files<S: Store>(
     form: Form,
     store: &mut S,
 ) -> Result<Judged, Answer>
-    requires { InRange run.now.settings }
+    requires { InRange run.now.settings × (run.now.settings.mode ≡ Mode.Voted) }
     ensures judged { IfOk result (λ judged. IsAuditOf (S.told store.old) (run_by run.now) name.now judged.findings) }
     ensures sentences { form ≡ f.Sentences → IfOk result (λ judged. TellsVerdict judged.findings.verdict (string_bytes judged.text)) }
     ensures asked { IfOk result (λ _. Asks (S.calls store.old) (S.calls store.new) (unfailed (audit_names (run_by run.now) name.now))) }
@@ -132,7 +134,7 @@ pub fn find<S: Store>(
     name: &str,
     store: &mut S,
 ) -> Result<Findings, Answer>
-    requires { InRange run.now.settings }
+    requires { InRange run.now.settings × (run.now.settings.mode ≡ Mode.Voted) }
     ensures found { IfOk result (IsAuditOf (S.told store.old) (run_by run.now) name.now) }
     ensures asked { IfOk result (λ _. Asks (S.calls store.old) (S.calls store.new) (unfailed (audit_names (run_by run.now) name.now))) }
     ensures refused { IfErr result (AuditCause (S.told store.old) (run_by run.now) name.now (S.failures store.old) (S.failures store.new) (S.calls store.old) (S.calls store.new)) }
@@ -156,7 +158,22 @@ fn fetch_journal<S: Store>(alloc: Global, name: &str, store: &mut S) -> Result<V
     ensures calm { (result ≡ Err a.StoreFailed → ⊥) → S.failures store.new ≡ S.failures store.old }
 {
     let file = fetch(store, alloc, FileKind::Plan, name)?;
-    journal(alloc, file.as_slice())
+    entries_in(alloc, file.as_slice())
+}
+
+// The entries of a text that is the journal of a run by votes; the first line of a cooperative run's is as bad as any other.
+fn entries_in(alloc: Global, text: &[u8]) -> Result<Vec<Entry>, Answer>
+    ensures entries { IfOk result (λ entries. voted_entries text.now ≡ Ok entries.items) }
+    ensures refused { IfErr result (RefusesText text.now) }
+{
+    if text.starts_with(header(Mode::Cooperative)) {
+        return Err(Answer::BadPlan {
+            line: 1,
+            code: JournalCode::Form,
+        });
+    }
+    let journal = journal(alloc, text)?;
+    Ok(journal.entries)
 }
 
 // Follows the journal of a job, and finds what came of it.

@@ -1,11 +1,13 @@
 -- The commands, by what is known of each.
 use Rattle.std.proofs.Common.{◌≡◌, ◌∙◌, Bool, false, true, List, [], ◌∷◌, Option, Some, None, refl, ap, ap₂, codes}
-use Rattle.std.specs.Prelude.{option_map}
+use Rattle.std.specs.Prelude.{option_and_then, option_map}
 use Rattle.std.specs.List.{AllByRecursion, list_any}
 use Rattle.std.proofs.lemmas.Bool.{or_parts}
 use Rattle.clap.specs.Faults.{is_simple_and_free}
+use Rattle.ro_settings.specs.declared.Mode.{Mode}
+use Rattle.ro_settings.specs.declared.Mode.TheVariants.{Voted}
 use Rattle.ro_settings.specs.declared.Settings.{Settings}
-use Rattle.ro_words.specs.Commands.{Asked, AskedAudit, AskedRun, asked_run, audit_from, audit_given, bench_given, inject_given, plain_given, races_given, run_from, run_given, run_options, settings_of, to_run}
+use Rattle.ro_words.specs.Commands.{Asked, AskedAudit, AskedRun, asked_run, audit_from, audit_given, bench_given, inject_given, mode_for, mode_or_votes, plain_given, races_given, run_from, run_given, run_options, settings_of, suited, to_run}
 use Rattle.ro_words.specs.Grammar.{audit_app, romain_app}
 use Rattle.ro_words.specs.Uses.{Syntax, Text, is_flag}
 use Rattle.ro_words.proofs.Grammars.{audit_grammar, bench_grammar, inject_grammar, plan_grammar, run_grammar}
@@ -32,18 +34,23 @@ named_alike (Some exe) (Some settings) f g journal a b = rw (a, b) refl
 named_alike (Some exe) None f g journal a b = refl
 named_alike None settings f g journal a b = refl
 
-asked_alike : (f g : Text → Option Text) (journal : Bool) → AgreeOn run_names f g → asked_run f journal ≡ asked_run g journal
-asked_alike f g journal (exe, (input, (faults, (replicas, (drivers, (watchdog, (quantum, (limit, (scrub, end))))))))) =
-    let settings : settings_of f ≡ settings_of g = rw (replicas, drivers, watchdog, quantum, limit, scrub) refl in
-    ap (λ (o : Option Text). run_from o (settings_of f) f journal) exe
+asked_alike : (mode : Option Mode) (f g : Text → Option Text) (journal : Bool) → AgreeOn run_names f g → asked_run mode f journal ≡ asked_run mode g journal
+asked_alike mode f g journal (exe, (input, (faults, (replicas, (drivers, (watchdog, (quantum, (limit, (scrub, end))))))))) =
+    let settings : settings_of mode f ≡ settings_of mode g = rw (replicas, drivers, watchdog, quantum, limit, scrub) refl in
+    ap (λ (o : Option Text). run_from o (settings_of mode f) f journal) exe
     ∙ ap (λ (s : Option Settings). run_from (g (codes "exe")) s f journal) settings
-    ∙ named_alike (g (codes "exe")) (settings_of g) f g journal input faults
+    ∙ named_alike (g (codes "exe")) (settings_of mode g) f g journal input faults
 
 pub run_alike : (f g : Text → Option Text) (journal : Bool) → Agree run_grammar.syntax f g → run_given f journal ≡ run_given g journal
-run_alike f g journal same = ap (option_map (λ (run : AskedRun). to_run run)) (asked_alike f g journal (agree_on run_grammar.syntax f g run_names same refl))
+run_alike f g journal same =
+    let mode : mode_for f ≡ mode_for g = ap mode_or_votes (same (codes "mode") refl) in
+    ap (λ (run : Option AskedRun). option_map (λ (r : AskedRun). to_run r) (option_and_then suited run))
+    (ap (λ (m : Option Mode). asked_run m f journal) mode ∙ asked_alike (mode_for g) f g journal (agree_on run_grammar.syntax f g run_names same refl))
 
 pub audit_alike : (f g : Text → Option Text) (json : Bool) → Agree audit_grammar.syntax f g → audit_given f json ≡ audit_given g json
-audit_alike f g json same = ap₂ (λ (run : Option AskedRun) (journal : Option Text). audit_from run journal json) (asked_alike f g false (agree_on audit_grammar.syntax f g run_names same refl)) (same (codes "journal") refl)
+audit_alike f g json same =
+    ap₂ (λ (run : Option AskedRun) (journal : Option Text). audit_from run journal json)
+    (asked_alike (Some Voted) f g false (agree_on audit_grammar.syntax f g run_names same refl)) (same (codes "journal") refl)
 
 pub plain_alike : (f g : Text → Option Text) (flag : Bool) → Agree (plan_grammar (codes "plain")).syntax f g → plain_given f flag ≡ plain_given g flag
 plain_alike f g flag same = rw (same (codes "exe") refl, same (codes "plan") refl, same (codes "input") refl) refl

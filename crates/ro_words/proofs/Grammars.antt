@@ -88,6 +88,7 @@ pub run_valued : (name : Text) → Known run_syntax run_built name
 unfolding run_built run_values options_built
 run_valued name =
     let value : (key : Text) → IsValued run_syntax run_built key → key ≡ name → Known run_syntax run_built name = λ key facts e. is_valued run_syntax run_built key name facts e in
+    by_key (Known run_syntax run_built) (codes "mode") name (value (codes "mode") (record { required = false; takes = refl; flag = refl; alone = refl; cut = λ v. refl; by_long = refl; by_id = refl })) (λ m.
     by_key (Known run_syntax run_built) (codes "input") name (value (codes "input") (record { required = false; takes = refl; flag = refl; alone = refl; cut = λ v. refl; by_long = refl; by_id = refl })) (λ a.
     by_key (Known run_syntax run_built) (codes "faults") name (value (codes "faults") (record { required = false; takes = refl; flag = refl; alone = refl; cut = λ v. refl; by_long = refl; by_id = refl })) (λ b.
     by_key (Known run_syntax run_built) (codes "replicas") name (value (codes "replicas") (record { required = false; takes = refl; flag = refl; alone = refl; cut = λ v. refl; by_long = refl; by_id = refl })) (λ d.
@@ -97,7 +98,7 @@ run_valued name =
     by_key (Known run_syntax run_built) (codes "limit") name (value (codes "limit") (record { required = false; takes = refl; flag = refl; alone = refl; cut = λ v. refl; by_long = refl; by_id = refl })) (λ h.
     by_key (Known run_syntax run_built) (codes "scrub") name (value (codes "scrub") (record { required = false; takes = refl; flag = refl; alone = refl; cut = λ v. refl; by_long = refl; by_id = refl })) (λ k.
     by_key (Known run_syntax run_built) (codes "journal") name (is_flagged run_syntax run_built (codes "journal") name (record { named = refl; takes = refl; by_long = refl })) (λ i.
-    unmet (rw (a, b, d, e, f, g, h, k) refl) i (rw (a, b, d, e, f, g, h, k, i) refl))))))))))
+    unmet (rw (m, a, b, d, e, f, g, h, k) refl) i (rw (m, a, b, d, e, f, g, h, k, i) refl)))))))))))
 
 pub run_from_places : AreFrom run_syntax run_built (codes "exe" ∷ []) 1
 unfolding run_built run_values options_built

@@ -1,6 +1,6 @@
 -- Laws of the command that words spell.
 use Rattle.std.proofs.Common.{◌≡◌, ◌∙◌, ℕ, Bool, true, false, not, ◌&&◌, ◌||◌, List, [], ◌∷◌, ◌++◌, Option, Some, None, refl, ap, ap₂, sym, subst, arith, codes, inl, inr}
-use Rattle.std.specs.Prelude.{◌==◌, find, map, option_and_then, option_map, if◌then◌else◌, IfSome}
+use Rattle.std.specs.Prelude.{◌==◌, find, is_none, map, option_and_then, option_map, if◌then◌else◌, IfSome}
 use Rattle.std.specs.List.{AllByRecursion, list_all}
 use Rattle.std.specs.Option.{option_map_or}
 use Rattle.std.specs.Str.{bytes_eq}
@@ -11,12 +11,14 @@ use Rattle.std.specs.Str.Parse.{digits_value, without_leading_plus}
 use Rattle.clap.specs.ValueTests.{is_unsigned_in}
 use Rattle.clap.specs.declared.builder.value_parser.ValueParser.TheVariants as vp
 use Rattle.clap.proofs.ValueTestLemmas.{accepts-Accepts}
+use Rattle.ro_settings.specs.declared.Mode.{Mode}
+use Rattle.ro_settings.specs.declared.Mode.TheVariants.{Voted, Cooperative}
 use Rattle.ro_settings.specs.declared.Settings.{Settings}
 use Rattle.ro_settings.specs.Ranges.{InRange, IsFrom, IsIn, IsReplicas, Range, drivers_range, limit_range, quantum_range, replicas_range, scrub_range, watchdog_range}
-use Rattle.ro_words.specs.Commands.{Asked, AskedAudit, AskedPlan, AskedRun, AuditFits, Fits, Spelling, are_replicas, asked_among, asked_in_words, asked_of, asked_run, audit_from, audit_given, audit_of, audit_spellings, bench_from, bench_given, command_of, given_number, inject_from, inject_given, maybe_number, number_for, number_in, number_or, plain_given, plan_given, races_given, replicas_only, run_from, run_given, settings_from, settings_of, spelling_of, spellings, to_plain, to_races, to_run, usual_audit, usual_run}
+use Rattle.ro_words.specs.Commands.{Asked, AskedAudit, AskedPlan, AskedRun, AuditFits, Fits, Spelling, SuitsMode, are_replicas, asked_among, asked_in_words, asked_of, asked_run, audit_from, audit_given, audit_of, audit_spellings, bench_from, bench_given, command_of, given_number, inject_from, inject_given, may_have, maybe_number, mode_for, number_for, number_in, number_or, plain_given, plan_given, races_given, replicas_only, run_from, run_given, settings_from, settings_of, spelling_of, spellings, suited, suits_mode, to_plain, to_races, to_run, usual_audit, usual_run}
 use Rattle.ro_words.specs.Uses.{Syntax, Text, Use, has_flag, is_argument, is_once, is_used, is_whole, option_uses, required_of, takes_value, text_of, uses_from, with_use}
 use Rattle.ro_words.proofs.Names.{Grammar, IsValued, by_key, flagged, takes_one, unmet}
-use Rattle.ro_words.proofs.Once.{differ_twice, or_true, same_twice, twice, used-append}
+use Rattle.ro_words.proofs.Once.{and_parts, differ_twice, or_true, same_twice, twice, used-append}
 use Rattle.ro_words.proofs.Spelled.{Spoken, found_has, some_same, spelling_in, spelling_is, spoken_of}
 
 pub usual : (program exe : Text) → is_argument exe ≡ true → command_of (program ∷ codes "run" ∷ exe ∷ []) ≡ Some (to_run (usual_run exe))
@@ -54,24 +56,26 @@ pub from_number : (usual least most n : ℕ) (given : Option Text) → IsFrom le
 from_number usual least most n None fits is = let same : usual ≡ n = cc in subst (λ (x : ℕ). IsFrom least most x) same fits
 from_number usual least most n (Some text) fits is = in_from least most n text is
 
--- settings are made of six numbers
-pub made_of : (a b c d e f : Option ℕ) (s : Settings) → settings_from a b c d e f ≡ Some s
-    → (a ≡ Some s.replicas) × (b ≡ Some s.drivers) × (c ≡ Some s.watchdog) × (d ≡ Some s.quantum) × (e ≡ Some s.limit) × (f ≡ Some s.scrub)
-made_of (Some a) (Some b) (Some c) (Some d) (Some e) (Some f) s is =
-    let same : record { replicas = a; drivers = b; watchdog = c; quantum = d; limit = e; scrub = f } ≡ s = some_same _ s is in (
+-- settings are made of a mode and six numbers
+pub made_of : (m : Option Mode) (a b c d e f : Option ℕ) (s : Settings) → settings_from m a b c d e f ≡ Some s
+    → (a ≡ Some s.replicas) × (b ≡ Some s.drivers) × (c ≡ Some s.watchdog) × (d ≡ Some s.quantum) × (e ≡ Some s.limit) × (f ≡ Some s.scrub) × (m ≡ Some s.mode)
+made_of (Some m) (Some a) (Some b) (Some c) (Some d) (Some e) (Some f) s is =
+    let same : record { mode = m; replicas = a; drivers = b; watchdog = c; quantum = d; limit = e; scrub = f } ≡ s = some_same _ s is in (
       ap (λ (x : Settings). Some x.replicas) same,
       ap (λ (x : Settings). Some x.drivers) same,
       ap (λ (x : Settings). Some x.watchdog) same,
       ap (λ (x : Settings). Some x.quantum) same,
       ap (λ (x : Settings). Some x.limit) same,
       ap (λ (x : Settings). Some x.scrub) same,
+      ap (λ (x : Settings). Some x.mode) same,
     )
-made_of None b c d e f s is = cc
-made_of (Some a) None c d e f s is = cc
-made_of (Some a) (Some b) None d e f s is = cc
-made_of (Some a) (Some b) (Some c) None e f s is = cc
-made_of (Some a) (Some b) (Some c) (Some d) None f s is = cc
-made_of (Some a) (Some b) (Some c) (Some d) (Some e) None s is = cc
+made_of None a b c d e f s is = cc
+made_of (Some m) None b c d e f s is = cc
+made_of (Some m) (Some a) None c d e f s is = cc
+made_of (Some m) (Some a) (Some b) None d e f s is = cc
+made_of (Some m) (Some a) (Some b) (Some c) None e f s is = cc
+made_of (Some m) (Some a) (Some b) (Some c) (Some d) None f s is = cc
+made_of (Some m) (Some a) (Some b) (Some c) (Some d) (Some e) None s is = cc
 
 -- so many replicas are two, three or five
 which : (n : ℕ) → are_replicas n ≡ true → IsReplicas n
@@ -99,44 +103,73 @@ only_some (Some m) n is = by (are_replicas m) refl is
 pub only_fits : (n : ℕ) → IsReplicas n → replicas_only (Some n) ≡ Some n
 only_fits n fits = ap (λ (b : Bool). if b then Some n else None) (are n fits)
 
-pub settings_fit : (given : Text → Option Text) (s : Settings) → settings_of given ≡ Some s → InRange s
-settings_fit given s is =
-    let parts = made_of _ _ _ _ _ _ s is in
-    let of : (range : Range) (n : ℕ) → IsIn range range.usual → number_for range given ≡ Some n → IsIn range n = λ range n. from_number range.usual range.least range.most n (given range.name) in
-    record {
-      replicas = (only_some (number_for replicas_range given) s.replicas parts.0).1;
-      drivers = of drivers_range s.drivers (omega arith, omega arith) parts.1;
-      watchdog = of watchdog_range s.watchdog (omega arith, omega arith) parts.2;
-      quantum = of quantum_range s.quantum (omega arith, omega arith) parts.3;
-      limit = of limit_range s.limit (omega arith, omega arith) parts.4;
-      scrub = of scrub_range s.scrub (omega arith, omega arith) parts.5;
-    }
+-- settings in a mode, whose numbers lie in their ranges
+abbrev Ranged : Option Mode → Settings → Type 0
+Ranged mode s = InRange s × (mode ≡ Some s.mode)
 
-run_from_fits : (exe : Option Text) (settings : Option Settings) (given : Text → Option Text) (journal : Bool) (asked : AskedRun)
-    → ((s : Settings) → settings ≡ Some s → InRange s) → run_from exe settings given journal ≡ Some asked → InRange asked.settings
-run_from_fits None settings given journal asked ranged is = cc
-run_from_fits (Some exe) None given journal asked ranged is = cc
-run_from_fits (Some exe) (Some settings) given journal asked ranged is =
-    subst (λ (run : AskedRun). InRange run.settings) (some_same _ asked is) (ranged settings refl)
+pub settings_fit : (mode : Option Mode) (given : Text → Option Text) (s : Settings) → settings_of mode given ≡ Some s → Ranged mode s
+settings_fit mode given s is =
+    let parts = made_of _ _ _ _ _ _ _ s is in
+    let of : (range : Range) (n : ℕ) → IsIn range range.usual → number_for range given ≡ Some n → IsIn range n = λ range n. from_number range.usual range.least range.most n (given range.name) in (
+      record {
+        replicas = (only_some (number_for replicas_range given) s.replicas parts.0).1;
+        drivers = of drivers_range s.drivers (omega arith, omega arith) parts.1;
+        watchdog = of watchdog_range s.watchdog (omega arith, omega arith) parts.2;
+        quantum = of quantum_range s.quantum (omega arith, omega arith) parts.3;
+        limit = of limit_range s.limit (omega arith, omega arith) parts.4;
+        scrub = of scrub_range s.scrub (omega arith, omega arith) parts.5;
+      },
+      parts.6,
+    )
 
-asked_fits : (given : Text → Option Text) (journal : Bool) (asked : AskedRun) → asked_run given journal ≡ Some asked → InRange asked.settings
-asked_fits given journal asked is = run_from_fits (given (codes "exe")) (settings_of given) given journal asked (λ s e. settings_fit given s e) is
+run_from_fits : (mode : Option Mode) (exe : Option Text) (settings : Option Settings) (given : Text → Option Text) (journal : Bool) (asked : AskedRun)
+    → ((s : Settings) → settings ≡ Some s → Ranged mode s) → run_from exe settings given journal ≡ Some asked → Ranged mode asked.settings
+run_from_fits mode None settings given journal asked ranged is = cc
+run_from_fits mode (Some exe) None given journal asked ranged is = cc
+run_from_fits mode (Some exe) (Some settings) given journal asked ranged is =
+    subst (λ (run : AskedRun). Ranged mode run.settings) (some_same _ asked is) (ranged settings refl)
+
+asked_fits : (mode : Option Mode) (given : Text → Option Text) (journal : Bool) (asked : AskedRun) → asked_run mode given journal ≡ Some asked → Ranged mode asked.settings
+asked_fits mode given journal asked is =
+    run_from_fits mode (given (codes "exe")) (settings_of mode given) given journal asked (λ s e. settings_fit mode given s e) is
+
+none_is : {X : Type 0} (o : Option X) → is_none o ≡ true → o ≡ None
+none_is None e = refl
+none_is (Some x) e = cc
+
+may_have_suits : (mode : Mode) (faults : Option Text) (scrub : ℕ) → may_have mode faults scrub ≡ true → mode ≡ Cooperative → (faults ≡ None) × (scrub ≡ 0)
+may_have_suits Voted faults scrub may is = cc
+may_have_suits Cooperative faults scrub may is =
+    let parts = and_parts (is_none faults) (scrub == 0) may in
+    (none_is faults parts.0, eqb-true scrub 0 parts.1)
+
+pub suits : (run : AskedRun) → suits_mode run ≡ true → SuitsMode run
+suits run may = may_have_suits run.settings.mode run.faults run.settings.scrub may
+
+suited_fits : (run : AskedRun) (asked : Asked) → InRange run.settings → option_map (λ r. to_run r) (suited run) ≡ Some asked → Fits asked
+suited_fits run asked ranged is = elim (cases_Bool (suits_mode run)) [
+  | inl may ↦ let same : Some (to_run run) ≡ Some asked = rw may at is in subst Fits (some_same (to_run run) asked same) (ranged, suits run may)
+  | inr not ↦ let bad : None ≡ Some asked = rw not at is in cc
+]
 
 run_fits : (given : Text → Option Text) (journal : Bool) (asked : Asked) → run_given given journal ≡ Some asked → Fits asked
-run_fits given journal asked is = by (asked_run given journal) refl is
+run_fits given journal asked is = by (asked_run (mode_for given) given journal) refl is
   where
-    by : (o : Option AskedRun) → asked_run given journal ≡ o → option_map (λ run. to_run run) o ≡ Some asked → Fits asked
+    by : (o : Option AskedRun) → asked_run (mode_for given) given journal ≡ o → option_map (λ run. to_run run) (option_and_then suited o) ≡ Some asked → Fits asked
     by None e f = cc
-    by (Some run) e f = subst Fits (some_same (to_run run) asked f) (asked_fits given journal run e)
+    by (Some run) e f = suited_fits run asked (asked_fits (mode_for given) given journal run e).0 f
 
 audit_from_fits : (run : Option AskedRun) (journal : Option Text) (json : Bool) (asked : AskedAudit)
-    → ((r : AskedRun) → run ≡ Some r → InRange r.settings) → audit_from run journal json ≡ Some asked → AuditFits asked
+    → ((r : AskedRun) → run ≡ Some r → Ranged (Some Voted) r.settings) → audit_from run journal json ≡ Some asked → AuditFits asked
 audit_from_fits None journal json asked ranged is = cc
 audit_from_fits (Some run) None json asked ranged is = cc
-audit_from_fits (Some run) (Some journal) json asked ranged is = subst AuditFits (some_same _ asked is) (ranged run refl)
+audit_from_fits (Some run) (Some journal) json asked ranged is =
+    let fits = ranged run refl in
+    subst AuditFits (some_same _ asked is) (fits.0, sym (some_same Voted run.settings.mode fits.1))
 
 audit_fits : (given : Text → Option Text) (json : Bool) (asked : AskedAudit) → audit_given given json ≡ Some asked → AuditFits asked
-audit_fits given json asked is = audit_from_fits (asked_run given false) (given (codes "journal")) json asked (λ run e. asked_fits given false run e) is
+audit_fits given json asked is =
+    audit_from_fits (asked_run (Some Voted) given false) (given (codes "journal")) json asked (λ run e. asked_fits (Some Voted) given false run e) is
 
 plan_fits : (asks : AskedPlan → Asked) → ((plan : AskedPlan) → Fits (asks plan)) → (o : Option AskedPlan) (asked : Asked) → option_map asks o ≡ Some asked → Fits asked
 plan_fits asks fits None asked is = cc

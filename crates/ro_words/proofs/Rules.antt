@@ -36,12 +36,12 @@ flag_built name = record (new_rule name) {
   parser = Some vp.Bool;
 }
 
--- the options of a run that have a value
+-- the options of a run that have a value, but for its mode
 unfoldable pub options_built : List Rule
 options_built = map (λ name. option_built name false) run_options
 
 unfoldable pub run_values : List Rule
-run_values = place_built (codes "exe") 1 ∷ options_built
+run_values = place_built (codes "exe") 1 ∷ option_built (codes "mode") false ∷ options_built
 
 unfoldable pub run_built : List Rule
 run_built = run_values ++ flag_built (codes "journal") ∷ []

@@ -1,11 +1,13 @@
 -- The command that words spell: its name, then its arguments in their order, with its options anywhere among them, each at most
 -- once.
-use Rattle.std.specs.Prelude.{ℕ, ◌-◌, ◌^◌, Bool, false, List, [], ◌∷◌, Option, Some, None, codes}
-use Rattle.std.specs.Prelude.{◌==◌, ◌||◌, if◌then◌else◌, option_and_then, option_map, find, map, IfSome}
+use Rattle.std.specs.Prelude.{◌≡◌, ℕ, ◌-◌, ◌^◌, Bool, true, false, List, [], ◌∷◌, Option, Some, None, codes}
+use Rattle.std.specs.Prelude.{◌==◌, ◌&&◌, ◌||◌, if◌then◌else◌, is_none, option_and_then, option_map, find, map, IfSome}
 use denote.Bor.{Bor}
 use Rattle.std.specs.Str.{bytes_eq}
 use Rattle.std.specs.Str.Parse.{digits_value, without_leading_plus}
 use Rattle.clap.specs.ValueTests.{is_unsigned_in}
+use Rattle.ro_settings.specs.declared.Mode.{Mode}
+use Rattle.ro_settings.specs.declared.Mode.TheVariants.{Voted, Cooperative}
 use Rattle.ro_settings.specs.declared.Settings.{Settings}
 use Rattle.ro_settings.specs.Ranges.{InRange, IsFrom, Range, default_settings, drivers_range, limit_range, quantum_range, ranges, replicas_range, scrub_range, watchdog_range}
 use Rattle.ro_words.specs.Uses.{Text, Use, Syntax, has_flag, is_whole, text_of, uses_from}
@@ -50,8 +52,27 @@ abbrev pub replicas_only : Option ℕ → Option ℕ
 replicas_only None = None
 replicas_only (Some n) = if are_replicas n then Some n else None
 
-abbrev pub settings_from : (replicas drivers watchdog quantum limit scrub : Option ℕ) → Option Settings
-settings_from (Some replicas) (Some drivers) (Some watchdog) (Some quantum) (Some limit) (Some scrub) = Some (record {
+-- ---- modes
+
+-- the mode that the text names
+abbrev pub mode_of_text : Text → Option Mode
+mode_of_text text =
+    if bytes_eq text (codes "vote") then Some Voted else (if bytes_eq text (codes "coop") then Some Cooperative else None)
+
+-- the same, or votes where no text is given
+abbrev pub mode_or_votes : Option Text → Option Mode
+mode_or_votes None = Some Voted
+mode_or_votes (Some text) = mode_of_text text
+
+-- the mode of a run, from the texts that are given under the options' names
+abbrev pub mode_for : (Text → Option Text) → Option Mode
+mode_for given = mode_or_votes (given (codes "mode"))
+
+-- ---- settings
+
+abbrev pub settings_from : Option Mode → (replicas drivers watchdog quantum limit scrub : Option ℕ) → Option Settings
+settings_from (Some mode) (Some replicas) (Some drivers) (Some watchdog) (Some quantum) (Some limit) (Some scrub) = Some (record {
+  mode = mode;
   replicas = replicas;
   drivers = drivers;
   watchdog = watchdog;
@@ -59,15 +80,15 @@ settings_from (Some replicas) (Some drivers) (Some watchdog) (Some quantum) (Som
   limit = limit;
   scrub = scrub;
 })
-settings_from _ _ _ _ _ _ = None
+settings_from _ _ _ _ _ _ _ = None
 
 -- the number of an option, from the texts that are given under the options' names
 abbrev pub number_for : Range → (Text → Option Text) → Option ℕ
 number_for range given = number_or range.usual range.least range.most (given range.name)
 
--- the settings of these texts
-abbrev pub settings_of : (Text → Option Text) → Option Settings
-settings_of given = settings_from
+-- the settings of these texts, in the mode
+abbrev pub settings_of : Option Mode → (Text → Option Text) → Option Settings
+settings_of mode given = settings_from mode
     (replicas_only (number_for replicas_range given))
     (number_for drivers_range given)
     (number_for watchdog_range given)
@@ -109,6 +130,10 @@ pub record AskedAudit : Type 0 where
   pub journal : Text
   pub json : Bool
 
+-- a cooperative run has no faults and no scrubs
+abbrev pub SuitsMode : AskedRun → Type 0
+SuitsMode run = run.settings.mode ≡ Cooperative → (run.faults ≡ None) × (run.settings.scrub ≡ 0)
+
 -- what is asked for
 pub data Asked : Type 0 where
   to_run : AskedRun → Asked
@@ -143,18 +168,31 @@ run_from (Some executable) (Some settings) given journal = Some (record {
 })
 run_from _ _ given journal = None
 
-abbrev pub asked_run : (Text → Option Text) → (journal : Bool) → Option AskedRun
-asked_run given journal = run_from (given (codes "exe")) (settings_of given) given journal
+abbrev pub asked_run : Option Mode → (Text → Option Text) → (journal : Bool) → Option AskedRun
+asked_run mode given journal = run_from (given (codes "exe")) (settings_of mode given) given journal
+
+-- a run of this mode may have these faults and scrubs
+abbrev pub may_have : Mode → (faults : Option Text) → (scrub : ℕ) → Bool
+may_have Voted faults scrub = true
+may_have Cooperative faults scrub = is_none faults && (scrub == 0)
+
+abbrev pub suits_mode : AskedRun → Bool
+suits_mode run = may_have run.settings.mode run.faults run.settings.scrub
+
+-- the run, where it suits its mode
+abbrev pub suited : AskedRun → Option AskedRun
+suited run = if suits_mode run then Some run else None
 
 abbrev pub run_given : (Text → Option Text) → Bool → Option Asked
-run_given given journal = option_map (λ run. to_run run) (asked_run given journal)
+run_given given journal = option_map (λ run. to_run run) (option_and_then suited (asked_run (mode_for given) given journal))
 
 abbrev pub audit_from : Option AskedRun → Option Text → (json : Bool) → Option AskedAudit
 audit_from (Some run) (Some journal) json = Some (record { run = run; journal = journal; json = json })
 audit_from _ _ json = None
 
+-- an audited run is one by votes
 abbrev pub audit_given : (Text → Option Text) → Bool → Option AskedAudit
-audit_given given json = audit_from (asked_run given false) (given (codes "journal")) json
+audit_given given json = audit_from (asked_run (Some Voted) given false) (given (codes "journal")) json
 
 abbrev pub plan_from : Option Text → Option Text → Option Text → Option AskedPlan
 plan_from (Some executable) (Some plan) input = Some (record { executable = executable; plan = plan; input = input })
@@ -193,12 +231,17 @@ pub record Spelling (A : Type 0) : Type 0 where
   pub syntax : Syntax
   pub given : (Text → Option Text) → Bool → Option A
 
--- the options of a run that have a value
+-- the options of a run that have a value, but for its mode
 abbrev pub run_options : List Text
 run_options = codes "input" ∷ codes "faults" ∷ map (λ range. range.name) ranges
 
 abbrev pub run_syntax : Syntax
-run_syntax = record { places = codes "exe" ∷ []; needed = []; valued = run_options; flag = Some (codes "journal") }
+run_syntax = record {
+  places = codes "exe" ∷ [];
+  needed = [];
+  valued = codes "mode" ∷ run_options;
+  flag = Some (codes "journal");
+}
 
 -- an executable and a journal that is said to be of its run
 abbrev pub audit_syntax : Syntax
@@ -307,16 +350,17 @@ asked_by (Races races) = to_races (plan_by races)
 asked_by (Inject inject) = to_inject (inject_by inject)
 asked_by (Bench bench) = to_bench (bench_by bench)
 
--- the numbers of what is asked for lie in their ranges
+-- the numbers of what is asked for lie in their ranges, and a run suits its mode
 abbrev pub Fits : Asked → Type 0
-Fits (to_run run) = InRange run.settings
+Fits (to_run run) = InRange run.settings × SuitsMode run
 Fits (to_plain plain) = Unit {0}
 Fits (to_races races) = Unit {0}
 Fits (to_inject inject) = IsFrom 1 256 inject.count × IfSome inject.replica (IsFrom 0 4)
 Fits (to_bench bench) = IsFrom 1 2000 bench.size
 
+-- the same of an audit, whose run is one by votes
 abbrev pub AuditFits : AskedAudit → Type 0
-AuditFits audit = InRange audit.run.settings
+AuditFits audit = InRange audit.run.settings × (audit.run.settings.mode ≡ Voted)
 
 -- what a parse that failed says of the words
 abbrev pub refusal_of : ErrorKind → WordsError

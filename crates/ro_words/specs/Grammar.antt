@@ -39,7 +39,7 @@ shape_of name s = record (new_shape name) { rules = rules_of s }
 abbrev pub app_of_shape : Shape → App
 app_of_shape shape = record { top = shape; subs = [] }
 
--- the command with the options of a run
+-- the command with the options of a run, but for its mode
 abbrev pub with_run_options : App → App
 with_run_options app = fold with_rule app (map option_rule run_options)
 

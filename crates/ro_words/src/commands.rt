@@ -5,17 +5,17 @@ ghost use Rattle.clap.specs.Simple.{app_of, subcommand_of, subcommand_rows_of};
 ghost use Rattle.clap.specs.Values.{bool_text, kind_of};
 ghost use Rattle.clap.specs.Walk.{Row, first_of, one_of};
 ghost use Rattle.ro_settings.specs.Ranges.{InRange};
-ghost use Rattle.ro_words.specs.Commands.{AuditFits, Fits, asked_by, asked_run, audit_by, audit_given, audit_of, bench_given, command_of, inject_given, plain_given, plan_by, plan_given, races_given, refusal_of, run_by, run_given};
+ghost use Rattle.ro_words.specs.Commands.{AuditFits, Fits, asked_by, asked_run, audit_by, audit_given, audit_of, bench_given, command_of, inject_given, plain_given, plan_by, plan_given, races_given, refusal_of, run_by, run_given, suits_mode};
 ghost use Rattle.ro_words.specs.Uses.{is_word, texts_of};
 ghost use Rattle.std.specs.List.{list_all};
 ghost use Rattle.std.specs.Prelude.{◌≡◌, ◌≢◌, ◌⊎◌, Bool, List, IfErr, IfOk, IfSome, None, Some, [], codes, drop, false, option_map, true};
 
 use crate::grammar::{audit_line, grammar};
-use crate::settings::{maybe_within, number_in, settings_of, small_number_within};
+use crate::settings::{maybe_within, mode_for, number_in, settings_of, small_number_within};
 use crate::shapes::are_words;
 use clap::ArgMatches;
 use clap::error::ErrorKind;
-use ro_settings::Settings;
+use ro_settings::{Mode, Settings};
 use std::alloc::{AllocError, Global};
 
 /// What a command line asks for.
@@ -196,7 +196,22 @@ fn run_command<'a>(matches: &ArgMatches<'a>) -> Option<Command<'a>>
     ensures in_range { IfSome result (λ command. Fits (asked_by command)) }
 {
     let journal = matches.get_flag("journal");
-    Some(Command::Run(run_in(matches, journal)?))
+    let run = run_in(matches, mode_for(matches)?, journal)?;
+    if suits_mode(&run) {
+        Some(Command::Run(run))
+    } else {
+        None
+    }
+}
+
+// Whether a run of its mode may have the faults and the scrubs that are asked for.
+fn suits_mode(run: &RunCommand<'_>) -> bool
+    ensures { result ≡ suits_mode (run_by run.now) }
+{
+    match run.settings.mode {
+        Mode::Voted => true,
+        Mode::Cooperative => run.faults.is_none() && run.settings.scrub == 0,
+    }
 }
 
 // The audit that the matches ask for.
@@ -216,22 +231,23 @@ fn audit_command<'a>(matches: &ArgMatches<'a>) -> Option<AuditCommand<'a>>
     ensures in_range { IfSome result (λ audit. AuditFits (audit_by audit)) }
 {
     Some(AuditCommand {
-        run: run_in(matches, false)?,
+        run: run_in(matches, Mode::Voted, false)?,
         journal: matches.get_str("journal")?,
         json: matches.get_flag("json"),
     })
 }
 
-// The run of an executable that the matches name, with or without its journal.
-fn run_in<'a>(matches: &ArgMatches<'a>, journal: bool) -> Option<RunCommand<'a>>
-    ensures asked { option_map run_by result ≡ asked_run (first_value (found_of matches.now)) journal }
+// The run in the mode of an executable that the matches name, with or without its journal.
+fn run_in<'a>(matches: &ArgMatches<'a>, mode: Mode, journal: bool) -> Option<RunCommand<'a>>
+    ensures asked { option_map run_by result ≡ asked_run (Some mode) (first_value (found_of matches.now)) journal }
     ensures in_range { IfSome result (λ run. InRange run.settings) }
+    ensures in_mode { IfSome result (λ run. run.settings.mode ≡ mode) }
 {
     Some(RunCommand {
         executable: matches.get_str("exe")?,
         input: matches.get_str("input"),
         faults: matches.get_str("faults"),
-        settings: settings_of(matches)?,
+        settings: settings_of(matches, mode)?,
         journal,
     })
 }

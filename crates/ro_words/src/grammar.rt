@@ -42,7 +42,9 @@ fn line<'a>(alloc: Global) -> Command<'a>
 fn run_grammar<'a>(alloc: Global) -> Result<Command<'a>, AllocError>
     ensures { IfOk result (Reads (app_of_shape (shape_of (codes "run") run_syntax))) }
 {
-    let run = Command::new(alloc, "run").arg(place(alloc, "exe"))?;
+    let run = Command::new(alloc, "run")
+        .arg(place(alloc, "exe"))?
+        .arg(option(alloc, "mode"))?;
     run_options(alloc, run)?.arg(flag(alloc, "journal"))
 }
 
@@ -56,7 +58,7 @@ fn audit_grammar<'a>(alloc: Global) -> Result<Command<'a>, AllocError>
     run_options(alloc, audit)?.arg(flag(alloc, "json"))
 }
 
-// The command with the options of a run that have a value.
+// The command with the options of a run that have a value, but for its mode.
 fn run_options<'a>(alloc: Global, command: Command<'a>) -> Result<Command<'a>, AllocError>
     ensures { (app : App) → Reads app command.entry → IfOk result (Reads (with_run_options app)) }
 {

@@ -1,20 +1,45 @@
 //! The settings that options give, and the other numbers of commands.
 ghost use Rattle.clap.specs.Matches.{first_value, found_of};
-ghost use Rattle.ro_words.specs.Commands.{number_in as number_of, number_for as number_of_option, maybe_number, replicas_only, settings_of as settings_in};
+ghost use Rattle.ro_words.specs.Commands.{mode_for as mode_in, mode_of_text, number_in as number_of, number_for as number_of_option, maybe_number, replicas_only, settings_of as settings_in};
 ghost use Rattle.ro_settings.specs.Ranges.{InRange, IsFrom, IsIn, IsReplicas, range_of, replicas_range};
 ghost use Rattle.std.specs.Prelude.{◌≡◌, ◌<◌, ◌^◌, IfSome, option_map};
 
 use clap::ArgMatches;
 use ro_settings::{
-    DRIVERS, LIMIT, NumberOption, QUANTUM, REPLICAS, SCRUB, Settings, WATCHDOG, may_run,
+    DRIVERS, LIMIT, Mode, NumberOption, QUANTUM, REPLICAS, SCRUB, Settings, WATCHDOG, may_run,
 };
 
-// The settings of a run, where each number is one and lies in its range.
-pub(crate) fn settings_of(matches: &ArgMatches<'_>) -> Option<Settings>
-    ensures given { result ≡ settings_in (first_value (found_of matches.now)) }
+// The mode that is asked for, or the usual one.
+pub(crate) fn mode_for(matches: &ArgMatches<'_>) -> Option<Mode>
+    ensures { result ≡ mode_in (first_value (found_of matches.now)) }
+{
+    match matches.get_str("mode") {
+        Some(text) => mode_named(text),
+        None => Some(Mode::Voted),
+    }
+}
+
+// The mode that has the name.
+fn mode_named(name: &str) -> Option<Mode>
+    ensures { result ≡ mode_of_text name.now }
+{
+    if name == "vote" {
+        Some(Mode::Voted)
+    } else if name == "coop" {
+        Some(Mode::Cooperative)
+    } else {
+        None
+    }
+}
+
+// The settings of a run in the mode, where each number is one and lies in its range.
+pub(crate) fn settings_of(matches: &ArgMatches<'_>, mode: Mode) -> Option<Settings>
+    ensures given { result ≡ settings_in (Some mode) (first_value (found_of matches.now)) }
     ensures in_range { IfSome result InRange }
+    ensures in_mode { IfSome result (λ settings. settings.mode ≡ mode) }
 {
     Some(Settings {
+        mode,
         replicas: replicas_of(matches)?,
         drivers: small_number_for(matches, &DRIVERS)?,
         watchdog: small_number_for(matches, &WATCHDOG)?,

@@ -299,7 +299,7 @@ fn follow(
         &[],
         faults_of(of),
         settings,
-        journal.as_slice(),
+        journal.entries.as_slice(),
     );
     match audited {
         Ok(audited) => {

@@ -8,6 +8,7 @@ use ro_findings::{
 use ro_io::MemStore;
 use ro_journal::{Did, Entry, Lost};
 use ro_make::image_bytes;
+use ro_report::{Answer, JournalCode};
 use ro_settings::Settings;
 use ro_tell::find;
 use ro_words::RunCommand;
@@ -768,6 +769,39 @@ fn a_thread_that_waits_for_ever(rt: HostRuntime) -> Result<(), Fail> {
         sentences.as_slice(),
         json,
     )
+}
+
+// The first line of a cooperative run's journal is bad, whatever stands behind it.
+#[test]
+fn cooperative_journals_are_not_audited(rt: HostRuntime) -> Result<(), Fail> {
+    for journal in [
+        "romain 2 coop\n",
+        "romain 2 coop\nend deadlock\n",
+        "romain 2 coop\nfree\n",
+    ] {
+        let mut store = MemStore::new(rt.alloc());
+        store.put(
+            "guest",
+            image_bytes(rt.alloc(), &SIGNALS_THEN_WAITS, 5, &NAMES)?.as_slice(),
+        )?;
+        store.put("journal", journal.as_bytes())?;
+        let run = RunCommand {
+            executable: "guest",
+            input: None,
+            faults: None,
+            settings: Settings::DEFAULT,
+            journal: false,
+        };
+        let Err(answer) = find(rt.alloc(), &run, "journal", &mut store) else {
+            panic!(rt; "{journal} is audited");
+        };
+        let bad = Answer::BadPlan {
+            line: 1,
+            code: JournalCode::Form,
+        };
+        assert_eq!(rt; answer, bad, "of {journal}");
+    }
+    Ok(())
 }
 
 // What is told of the journal of a guest that runs as three replicas with one driver and these faults.

@@ -5,6 +5,7 @@ ghost use Rattle.ro_journal.specs.Leases.{lease_to};
 use ro_event::TrapCause;
 use ro_journal::{Did, Entry, How, Lease, Lost};
 use ro_journal_text::{JournalError, entry_text, journal_text, read_journal};
+use ro_settings::Mode;
 use std::alloc::Global;
 
 const FIRST_RUN: &str = "romain 2
@@ -36,10 +37,34 @@ fn first_run(rt: HostRuntime) -> Result<(), JournalError> {
         },
         Entry::End { how: How::Exit(7) },
     ];
-    let text = journal_text(rt.alloc(), &journal)?;
+    let text = journal_text(rt.alloc(), Mode::Voted, &journal)?;
     assert!(rt; text.as_slice() == FIRST_RUN.as_bytes());
     let back = read_journal(rt.alloc(), text.as_slice())?;
-    assert!(rt; back.as_slice() == journal.as_slice());
+    assert_eq!(rt; back.mode, Mode::Voted);
+    assert!(rt; back.entries.as_slice() == journal.as_slice());
+    Ok(())
+}
+
+const COOPERATIVE_RUN: &str = "romain 2 coop
+take 0 0 0
+part 0 0 0 2 0
+";
+
+#[test]
+fn cooperative_run(rt: HostRuntime) -> Result<(), JournalError> {
+    let journal = [
+        take(0),
+        Entry::Part {
+            lease: lease(0),
+            count: 2,
+            hit: 0,
+        },
+    ];
+    let text = journal_text(rt.alloc(), Mode::Cooperative, &journal)?;
+    assert!(rt; text.as_slice() == COOPERATIVE_RUN.as_bytes());
+    let back = read_journal(rt.alloc(), text.as_slice())?;
+    assert_eq!(rt; back.mode, Mode::Cooperative);
+    assert!(rt; back.entries.as_slice() == journal.as_slice());
     Ok(())
 }
 
@@ -362,6 +387,34 @@ const ROWS: &[Row] = &[
         text: "romain 3\n",
         want: Err((1, 1)),
     },
+    Row {
+        text: "romain 2 coop\n",
+        want: Ok(0),
+    },
+    Row {
+        text: "romain 2 coop",
+        want: Err((1, 1)),
+    },
+    Row {
+        text: "romain 1 coop\n",
+        want: Err((1, 1)),
+    },
+    Row {
+        text: "romain 2 vote\n",
+        want: Err((1, 1)),
+    },
+    Row {
+        text: "romain 2 coop \n",
+        want: Err((1, 1)),
+    },
+    Row {
+        text: "romain 2 coop\npart 0 4 0 1 0\nvote 0 1 0 - parked\n",
+        want: Ok(2),
+    },
+    Row {
+        text: "romain 2 coop\npart 0 5 0 1 0\n",
+        want: Err((2, 2)),
+    },
 ];
 
 #[test]
@@ -375,7 +428,7 @@ fn rows(rt: HostRuntime) {
 // The number of the entries, or the bad line and its code.
 fn outcome(alloc: Global, bytes: &[u8]) -> Result<usize, (u64, u8)> {
     match read_journal(alloc, bytes) {
-        Ok(entries) => Ok(entries.len()),
+        Ok(journal) => Ok(journal.entries.len()),
         Err(JournalError::Bad { line, code }) => Err((line, code.code())),
         Err(JournalError::NoMemory) => Err((0, 0)),
     }

@@ -3,11 +3,13 @@ ghost use Rattle.std.specs.Prelude.{◌≡◌};
 
 use ro_image::{Executable, read_executable};
 use ro_io::{Act, MemSink};
-use ro_journal::{Did, Entry, How, Lost};
+use ro_journal::{Did, Entry, How, Lease, Lost};
 use ro_machine::{
     MOST_STEPS, Plain, PlainEnd, PlanError, StepError, TooLong, plan_steps, run_plan,
 };
 use ro_make::{bench_image, image_bytes};
+use ro_plans::plan_length;
+use ro_settings::Mode;
 use std::alloc::{AllocError, Global};
 use std::process::Abort;
 use std::sync::Arc;
@@ -109,22 +111,49 @@ fn vote(thread: u32, count: u32, did: Did) -> Entry {
     }
 }
 
+fn put(replica: u32, thread: u32, count: u32) -> Entry {
+    let lease = Lease {
+        driver: replica,
+        replica,
+        thread,
+    };
+    Entry::Put {
+        lease,
+        count,
+        hit: 0,
+    }
+}
+
+fn part(replica: u32, thread: u32, count: u32) -> Entry {
+    let lease = Lease {
+        driver: replica,
+        replica,
+        thread,
+    };
+    Entry::Part {
+        lease,
+        count,
+        hit: 0,
+    }
+}
+
 fn run(
     rt: &impl Abort,
     alloc: Global,
     image: Executable,
+    mode: Mode,
     journal: &[Entry],
     out: &mut MemSink,
 ) -> Result<PlainEnd, PlanError>
     requires { out.old.failures ≡ 0 }
 {
-    let Ok(_) = plan_steps(journal) else {
+    let Ok(_) = plan_steps(mode, journal) else {
         panic!(rt; "it is short");
     };
     let Ok(image) = Arc::new(alloc, image) else {
         return Err(PlanError::NoMemory);
     };
-    run_plan(alloc, &image, &[], journal, out)
+    run_plan(alloc, &image, &[], mode, journal, out)
 }
 
 #[test]
@@ -150,7 +179,7 @@ fn short_plans(rt: HostRuntime) -> Result<(), Fail> {
     ] {
         let mut out = MemSink::new(rt.alloc(), 0, Vec::new(rt.alloc()))?;
         let image = image(&rt, rt.alloc(), &SHORT)?;
-        let came = run(&rt, rt.alloc(), image, &[entry], &mut out);
+        let came = run(&rt, rt.alloc(), image, Mode::Voted, &[entry], &mut out);
         assert_eq!(rt; came, want, "{entry:?}");
     }
     Ok(())
@@ -179,6 +208,7 @@ fn two_threads(rt: HostRuntime) -> Result<(), Fail> {
         &rt,
         rt.alloc(),
         letters(&rt, rt.alloc())?,
+        Mode::Voted,
         &journal,
         &mut out,
     );
@@ -247,7 +277,7 @@ fn failing_sinks(rt: HostRuntime) -> Result<(), Fail> {
         let acts = acts.to_vec(rt.alloc())?;
         let mut out = MemSink::new(rt.alloc(), 8, acts)?;
         let image = image(&rt, rt.alloc(), &HELLO)?;
-        let came = run(&rt, rt.alloc(), image, &whole, &mut out);
+        let came = run(&rt, rt.alloc(), image, Mode::Voted, &whole, &mut out);
         assert_eq!(rt; came, Err(PlanError::SinkFailed { taken: want }));
         assert_eq!(rt; out.bytes(), bytes);
     }
@@ -258,12 +288,116 @@ fn failing_sinks(rt: HostRuntime) -> Result<(), Fail> {
 fn long_plans(rt: HostRuntime) {
     let most = [vote(0, 999_999_999, Did::Served)];
     let past = [vote(0, 999_999_999, Did::Served), Entry::Free { thread: 0 }];
-    assert_eq!(rt; plan_steps(&most), Ok(MOST_STEPS));
+    assert_eq!(rt; plan_steps(Mode::Voted, &most), Ok(MOST_STEPS));
     assert_eq!(rt;
-        plan_steps(&past),
+        plan_steps(Mode::Voted, &past),
         Err(TooLong {
             steps: MOST_STEPS,
             next: 1
         })
     );
+}
+
+// How many steps a plan has, counted in two ways.
+fn length(rt: &impl Abort, mode: Mode, journal: &[Entry]) -> u64 {
+    let Ok(steps) = plan_steps(mode, journal) else {
+        panic!(rt; "it is short");
+    };
+    assert_eq!(rt; plan_length(mode, journal), steps);
+    steps
+}
+
+// Each step is in a cooperative plan once, whichever replica makes it first. Replica 9 and thread 40 are none of any run.
+#[test]
+fn first_steps(rt: HostRuntime) {
+    let journal = [
+        put(0, 0, 3),
+        put(1, 0, 2),
+        part(1, 0, 2),
+        vote(0, 4, Did::Served),
+        vote(0, 0, Did::Blocked),
+        Entry::Free { thread: 1 },
+        put(9, 0, 6),
+        part(0, 0, 2),
+        put(0, 40, 2),
+        put(9, 40, 3),
+        put(0, 40, 2),
+        Entry::End { how: How::Deadlock },
+    ];
+    let firsts = [0, 3, 3, 4, 5, 5, 6, 8, 8, 10, 11, 12, 12];
+    let voted = [0, 0, 0, 0, 5, 5, 6, 6, 6, 6, 6, 6, 6];
+    for count in 0..=journal.len() {
+        assert_eq!(rt;
+            length(&rt, Mode::Cooperative, &journal[..count]),
+            firsts[count],
+            "{count}"
+        );
+        assert_eq!(rt;
+            length(&rt, Mode::Voted, &journal[..count]),
+            voted[count],
+            "{count}"
+        );
+    }
+}
+
+#[test]
+fn long_plans_of_leases(rt: HostRuntime) {
+    let journal = [
+        put(0, 0, 600_000_000),
+        put(1, 0, 700_000_000),
+        part(0, 0, 500_000_000),
+    ];
+    assert_eq!(rt; plan_steps(Mode::Voted, &journal), Ok(0));
+    assert_eq!(rt;
+        plan_steps(Mode::Cooperative, &journal[..2]),
+        Ok(700_000_000)
+    );
+    assert_eq!(rt;
+        plan_steps(Mode::Cooperative, &journal),
+        Err(TooLong {
+            steps: 700_000_000,
+            next: 400_000_000
+        })
+    );
+}
+
+// The guest's call is voted on when the replicas' leases have brought it there.
+#[test]
+fn plans_of_leases(rt: HostRuntime) -> Result<(), Fail> {
+    let journal = [
+        put(0, 0, 3),
+        put(1, 0, 5),
+        part(0, 0, 2),
+        vote(0, 0, Did::Served),
+        part(0, 0, 2),
+        put(1, 0, 2),
+        vote(0, 0, Did::Served),
+    ];
+    let mut out = MemSink::new(rt.alloc(), 8, Vec::new(rt.alloc()))?;
+    let hello = image(&rt, rt.alloc(), &HELLO)?;
+    let want = PlainEnd {
+        how: Some(How::Exit(0)),
+        bytes: 5,
+    };
+    let came = run(
+        &rt,
+        rt.alloc(),
+        hello,
+        Mode::Cooperative,
+        &journal,
+        &mut out,
+    );
+    assert_eq!(rt; came, Ok(want));
+    assert_eq!(rt; out.bytes(), b"hello".as_slice());
+    let mut out = MemSink::new(rt.alloc(), 8, Vec::new(rt.alloc()))?;
+    let hello = image(&rt, rt.alloc(), &HELLO)?;
+    let voted = run(&rt, rt.alloc(), hello, Mode::Voted, &journal, &mut out);
+    assert_eq!(rt;
+        voted,
+        Ok(PlainEnd {
+            how: None,
+            bytes: 0
+        })
+    );
+    Ok(())
 }

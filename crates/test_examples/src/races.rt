@@ -1,9 +1,10 @@
 //! Plans of small guests.
 use ro_image::{Executable, read_executable};
-use ro_journal::{Did, Entry, Lost};
+use ro_journal::{Did, Entry, Lease, Lost};
 use ro_machine::plan_steps;
 use ro_make::image_bytes;
 use ro_races::{Found, RacesError, check};
+use ro_settings::Mode;
 use std::alloc::{AllocError, Global};
 use std::process::Abort;
 use std::sync::Arc;
@@ -247,11 +248,35 @@ fn run(
     names: Names,
     journal: &[Entry],
 ) -> Result<Result<Found, RacesError>, AllocError> {
-    let Ok(_) = plan_steps(journal) else {
+    run_in(rt, alloc, words, names, Mode::Voted, journal)
+}
+
+fn run_in(
+    rt: &impl Abort,
+    alloc: Global,
+    words: &[u32],
+    names: Names,
+    mode: Mode,
+    journal: &[Entry],
+) -> Result<Result<Found, RacesError>, AllocError> {
+    let Ok(_) = plan_steps(mode, journal) else {
         panic!(rt; "it is short");
     };
     let image = Arc::new(alloc, image(rt, alloc, words, names)?)?;
-    Ok(check(alloc, &image, b"x", journal))
+    Ok(check(alloc, &image, b"x", mode, journal))
+}
+
+fn put(replica: u32, thread: u32, count: u32) -> Entry {
+    let lease = Lease {
+        driver: replica,
+        replica,
+        thread,
+    };
+    Entry::Put {
+        lease,
+        count,
+        hit: 0,
+    }
 }
 
 #[test]
@@ -295,6 +320,37 @@ fn creation_orders(rt: HostRuntime) -> Result<(), Fail> {
     };
     let unordered = run(&rt, rt.alloc(), &RACING, Names::Create, &racing)?;
     assert_eq!(rt; unordered, Ok(want));
+    Ok(())
+}
+
+// Thread 1 stores first in replica 0, thread 0 in replica 1, whose lease comes back behind it.
+#[test]
+fn leases_race(rt: HostRuntime) -> Result<(), Fail> {
+    let journal = [
+        put(0, 0, 4),
+        put(1, 0, 4),
+        vote(0, 4, Did::Served),
+        put(0, 1, 1),
+        put(1, 0, 1),
+        put(1, 1, 1),
+        put(0, 0, 1),
+    ];
+    let want = Found::Pair {
+        i: 5,
+        j: 6,
+        byte: 0x1_007C,
+    };
+    let raced = run_in(
+        &rt,
+        rt.alloc(),
+        &RACING,
+        Names::Create,
+        Mode::Cooperative,
+        &journal,
+    )?;
+    assert_eq!(rt; raced, Ok(want));
+    let voted = run(&rt, rt.alloc(), &RACING, Names::Create, &journal)?;
+    assert_eq!(rt; voted, Ok(Found::NoRace));
     Ok(())
 }
 

@@ -7,6 +7,7 @@ use ro_faults::FaultsCode;
 use ro_journal::{Did, Entry, How, Lease, Lost};
 use ro_journal_text::{JournalCode, entry_text, header};
 use ro_report::{Answer, ExeError, FileKind, answer_line, bench_line, plain_line, summary};
+use ro_settings::Mode;
 use std::alloc::AllocError;
 
 #[test]
@@ -96,11 +97,11 @@ fn exit_alike(rt: HostRuntime) -> Result<(), AllocError> {
         vote(2, Lost::Nobody, Did::Served),
         Entry::End { how: How::Exit(7) },
     ];
-    let mut report = Vec::from_slice(rt.alloc(), header())?;
+    let mut report = Vec::from_slice(rt.alloc(), header(Mode::Voted))?;
     for entry in journal {
         report.extend_from_slice(entry_text(&entry).as_bytes())?;
     }
-    report.extend_from_slice(summary(&journal, 0).as_bytes())?;
+    report.extend_from_slice(summary(Mode::Voted, &journal, 0).as_bytes())?;
     report.extend_from_slice(answer_line(&Answer::Exit(7)).as_bytes())?;
     assert!(rt; report.as_slice() == EXIT_ALIKE.as_bytes());
     Ok(())
@@ -117,8 +118,22 @@ fn copies_and_frees(rt: HostRuntime) {
         vote(3, Lost::One(0), Did::Trapped),
         Entry::Free { thread: 0 },
     ];
-    let line = summary(&journal, 4096);
+    let line = summary(Mode::Voted, &journal, 4096);
     let want = "votes 3 copies 3 struck 3 steps 125 bytes 4096\n";
+    assert_eq!(rt; line.as_bytes(), want.as_bytes());
+}
+
+// A cooperative run steps where a replica is the first to.
+#[test]
+fn first_steps(rt: HostRuntime) {
+    let journal = [
+        put(0, 0),
+        part(1, 0),
+        part(1, 0),
+        vote(100, Lost::Nobody, Did::Served),
+    ];
+    let line = summary(Mode::Cooperative, &journal, 0);
+    let want = "votes 1 copies 0 struck 0 steps 5 bytes 0\n";
     assert_eq!(rt; line.as_bytes(), want.as_bytes());
 }
 
@@ -143,7 +158,7 @@ fn plan_done(rt: HostRuntime) {
 
 #[test]
 fn nothing_yet(rt: HostRuntime) {
-    let line = summary(&[], u64::MAX);
+    let line = summary(Mode::Voted, &[], u64::MAX);
     let want = "votes 0 copies 0 struck 0 steps 0 bytes 18446744073709551615\n";
     assert_eq!(rt; line.as_bytes(), want.as_bytes());
 }

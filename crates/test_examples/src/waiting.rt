@@ -6,6 +6,7 @@ use ro_journal::{Did, Entry, How, Lost};
 use ro_machine::{PlainEnd, PlanError, plan_steps, run_plan};
 use ro_make::image_bytes;
 use ro_races::{Found, check};
+use ro_settings::Mode;
 use std::alloc::{AllocError, Global};
 use std::process::Abort;
 use std::sync::Arc;
@@ -98,12 +99,12 @@ fn run(
     words: &[u32],
     journal: &[Entry],
 ) -> Result<Result<PlainEnd, PlanError>, AllocError> {
-    let Ok(_) = plan_steps(journal) else {
+    let Ok(_) = plan_steps(Mode::Voted, journal) else {
         panic!(rt; "it is short");
     };
     let image = image(rt, alloc, words)?;
     let mut out = MemSink::new(alloc, 0, Vec::new(alloc))?;
-    Ok(run_plan(alloc, &image, &[], journal, &mut out))
+    Ok(run_plan(alloc, &image, &[], Mode::Voted, journal, &mut out))
 }
 
 // The first race of a plan.
@@ -113,11 +114,11 @@ fn race(
     words: &[u32],
     journal: &[Entry],
 ) -> Result<Found, AllocError> {
-    let Ok(_) = plan_steps(journal) else {
+    let Ok(_) = plan_steps(Mode::Voted, journal) else {
         panic!(rt; "it is short");
     };
     let image = image(rt, alloc, words)?;
-    match check(alloc, &image, &[], journal) {
+    match check(alloc, &image, &[], Mode::Voted, journal) {
         Ok(found) => Ok(found),
         Err(_) => panic!(rt; "all steps exist"),
     }

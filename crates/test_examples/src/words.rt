@@ -1,5 +1,5 @@
 //! Rows of words.
-use ro_settings::Settings;
+use ro_settings::{Mode, Settings};
 use ro_words::{
     AuditCommand, BenchCommand, Command, InjectCommand, PlanCommand, RunCommand, WordsError,
     parse_audit, parse_words,
@@ -20,6 +20,11 @@ const USUAL: RunCommand<'static> = RunCommand {
 };
 
 const SETTINGS: Settings = Settings::DEFAULT;
+
+const COOPERATIVE: Settings = Settings {
+    mode: Mode::Cooperative,
+    ..SETTINGS
+};
 
 const COMMANDS: &[Row] = &[
     Row {
@@ -183,6 +188,52 @@ const COMMANDS: &[Row] = &[
             ..USUAL
         },
     },
+    Row {
+        words: &["romain", "run", "p0", "--mode", "vote"],
+        run: USUAL,
+    },
+    Row {
+        words: &["romain", "run", "p0", "--mode", "coop"],
+        run: RunCommand {
+            settings: COOPERATIVE,
+            ..USUAL
+        },
+    },
+    Row {
+        words: &[
+            "romain",
+            "run",
+            "--mode=coop",
+            "p0",
+            "--scrub=0",
+            "--journal",
+        ],
+        run: RunCommand {
+            settings: COOPERATIVE,
+            journal: true,
+            ..USUAL
+        },
+    },
+    Row {
+        words: &[
+            "romain",
+            "run",
+            "p0",
+            "--faults",
+            "g",
+            "--mode=vote",
+            "--scrub",
+            "1",
+        ],
+        run: RunCommand {
+            faults: Some("g"),
+            settings: Settings {
+                scrub: 1,
+                ..SETTINGS
+            },
+            ..USUAL
+        },
+    },
 ];
 
 #[test]
@@ -329,6 +380,14 @@ const NOT_COMMANDS: &[&[&str]] = &[
     &["romain", "run", "p0", "--scrub", "-1"],
     &["romain", "run", "p0", "--scrub"],
     &["romain", "run", "p0", "--scrub", "1", "--scrub", "1"],
+    &["romain", "run", "p0", "--mode"],
+    &["romain", "run", "p0", "--mode", "x"],
+    &["romain", "run", "p0", "--mode", "Coop"],
+    &["romain", "run", "p0", "--mode", "cooperative"],
+    &["romain", "run", "p0", "--mode="],
+    &["romain", "run", "p0", "--mode", "vote", "--mode", "vote"],
+    &["romain", "run", "p0", "--mode", "coop", "--faults", "g"],
+    &["romain", "run", "p0", "--mode=coop", "--scrub", "1"],
     &["romain", "run", "p0", "--plan", "j"],
     &["romain", "run", "p0", "--json"],
     &["romain", "audit", "p0", "--journal", "j"],
@@ -339,6 +398,7 @@ const NOT_COMMANDS: &[&[&str]] = &[
     &["romain", "plain", "p0", "--plan", "j", "q0"],
     &["romain", "plain", "p0", "--plan", "j", "--faults", "f"],
     &["romain", "plain", "p0", "--plan", "j", "--scrub", "1"],
+    &["romain", "plain", "p0", "--plan", "j", "--mode", "vote"],
     &["romain", "races", "p0"],
     &["romain", "races", "--plan", "j"],
     &["romain", "races", "p0", "--plan", "j", "--journal"],
@@ -444,6 +504,7 @@ const AUDITS: &[AuditRow] = &[
                 input: Some("f"),
                 faults: Some("g"),
                 settings: Settings {
+                    mode: Mode::Voted,
                     replicas: 5,
                     drivers: 1,
                     watchdog: 200,
@@ -506,6 +567,8 @@ const NOT_AUDITS: &[&[&str]] = &[
     &["romain", "audit", "p0", "--journal", "j", "--json", "x"],
     &["romain", "audit", "p0", "--journal", "j", "q0"],
     &["romain", "audit", "p0", "--journal", "j", "--plan", "k"],
+    &["romain", "audit", "p0", "--journal", "j", "--mode", "vote"],
+    &["romain", "audit", "p0", "--journal", "j", "--mode=coop"],
     &["romain", "audit", "", "--journal", "j"],
     &["romain", "audit", "p0", "--journal", "j", "--replicas", "4"],
     &["romain", "audit", "p0", "--journal", "j", "--drivers=9"],

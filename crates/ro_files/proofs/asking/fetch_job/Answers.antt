@@ -7,7 +7,7 @@ use Rattle.ro_words.specs.Commands.{run_by, to_run}
 use Rattle.ro_files.specs.Files.{IsContent}
 use Rattle.ro_files.specs.Refusals.{RefusesContent}
 use Rattle.ro_files.specs.Causes.{IsAccepted, HasInput}
-use Rattle.ro_files.proofs.Asked.{asks_to, both_asked, content_cause, faults_cause, exe_asks, list_asks, can_run}
+use Rattle.ro_files.proofs.Asked.{asks_to, both_asked, content_cause, faults_cause, exe_asks, list_asks, can_run, is_fit}
 use Rattle.ro_files.proofs.asking.fetch_job.Goals as goal
 
 pub returns-in_err-file-clause-stops : goal.returns-in_err-file-clause-stops
@@ -93,7 +93,8 @@ returns-in_err-faults-clause-refused g c =
     } in
     let told = c.fetch_named.ensures.told ∙ c.fetch.ensures.told in
     let here = subst (λ t. IsContent t Faults (option_map (λ n. n.now) c.args.command.now.faults) c.as_slice-2.result.now) told (subst (IsContent _ Faults _) (sym c.as_slice-2.ensures.value) c.in_ok-list.ensures.content) in
-    search (faults_cause, accepted, input, here, rules)
+    let cause = faults_cause (g.S.Store.told c.args.store.now) (to_run (run_by c.args.command.now)) (g.S.Store.failures c.args.store.now) (g.S.Store.failures c.fetch_named-2.new.store) c.as_slice-2.result.now accepted input here c.in_err-faults.field-0.0 c.in_err-faults.ensures.refused in
+    search (cause, rules)
 
 pub returns-in_err-faults-clause-stops : goal.returns-in_err-faults-clause-stops
 returns-in_err-faults-clause-stops g c =
@@ -126,4 +127,9 @@ returns-clause-asked g c =
     to
 
 pub returns-clause-can_run : goal.returns-clause-can_run
-returns-clause-can_run g c = can_run _ _ c.as_slice-2.result.now _ _ c.requires c.in_ok-faults.ensures.faults
+returns-clause-can_run g c = can_run _ _ c.as_slice-2.result.now _ _ c.requires.0 c.in_ok-faults.ensures.faults
+
+pub returns-clause-fit : goal.returns-clause-fit
+returns-clause-fit g c =
+    let here = subst (IsContent _ Faults _) (sym c.as_slice-2.ensures.value) c.in_ok-list.ensures.content in
+    is_fit _ (run_by c.args.command.now) c.in_ok-image.image c.in_ok-input.input.items c.as_slice-2.result.now c.in_ok-faults.faults.items c.requires.1 here c.in_ok-faults.ensures.faults

@@ -7,7 +7,7 @@ use Rattle.ro_faults.specs.Texts.{faults_text}
 use Rattle.ro_inject.specs.Draws.{faults_drawn}
 use Rattle.ro_journal.specs.Plan.{outcome_of}
 use Rattle.ro_legal.specs.Core.{Job}
-use Rattle.ro_legal.specs.Legal.{output_of}
+use Rattle.ro_legal.specs.Rules.{output_of}
 use Rattle.ro_report.specs.declared.answers.FileKind.TheVariants.{Exe}
 use Rattle.ro_report.specs.declared.answers.Answer.{Answer}
 use Rattle.ro_report.specs.declared.answers.Answer.TheVariants.{NoMemory}

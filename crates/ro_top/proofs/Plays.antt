@@ -7,7 +7,8 @@ use Rattle.ro_exec.specs.Next.{Next, Stands, Executes}
 use Rattle.ro_journal.specs.declared.How.{How}
 use Rattle.ro_journal.specs.declared.How.TheVariants.{Exit as ByExit, Deadlock as ByDeadlock, Trap as ByTrap, Limit as ByLimit, Differ as ByDiffer, NoMajority as ByNoMajority, Sink as BySink}
 use Rattle.ro_journal.specs.declared.Entry.{Entry}
-use Rattle.ro_journal.specs.Plan.{plan_of}
+use Rattle.ro_settings.specs.declared.Mode.{Mode}
+use Rattle.ro_plans.specs.Plans.{plan_in}
 use Rattle.ro_kernel.specs.Serve.{Served, Done, Parked, Blocked, Ends, put_out, asked}
 use Rattle.ro_kernel.specs.Kernel.{Kernel}
 use Rattle.ro_plain.specs.Machine.{Program, Machine, affected, executed, opening, called, setup_of, step_by, next_of, steppable, step, run, payload_in, served_in}
@@ -99,11 +100,11 @@ ends_told program plan old new how bytes r = by r.machine.ended refl r.how_is
 
 -- ---- the answer
 
-module _ (came : CamePlain) (program : Program) (journal : List Entry) where
-  complete_cause : (how : How) (answer : Answer) → IsComplete how → IsOutcome answer (Some how) → RanWhole came program journal (Some how) → PlanCause came program journal answer
-  complete_cause how (Exit status) done is ran = subst (RanWhole came program journal) is ran
-  complete_cause how Deadlock done is ran = subst (RanWhole came program journal) is ran
-  complete_cause how (Trap cause) done is ran = subst (RanWhole came program journal) is ran
+module _ (came : CamePlain) (program : Program) (mode : Mode) (journal : List Entry) where
+  complete_cause : (how : How) (answer : Answer) → IsComplete how → IsOutcome answer (Some how) → RanWhole came program mode journal (Some how) → PlanCause came program mode journal answer
+  complete_cause how (Exit status) done is ran = subst (RanWhole came program mode journal) is ran
+  complete_cause how Deadlock done is ran = subst (RanWhole came program mode journal) is ran
+  complete_cause how (Trap cause) done is ran = subst (RanWhole came program mode journal) is ran
   complete_cause how Differ done is ran = absurd (let other : IsComplete ByDiffer = subst IsComplete (let f : Some how ≡ Some ByDiffer = is in cc) done in elim other [ ])
   complete_cause how NoMajority done is ran = absurd (let other : IsComplete ByNoMajority = subst IsComplete (let f : Some how ≡ Some ByNoMajority = is in cc) done in elim other [ ])
   complete_cause how (Limit steps next) done is ran = absurd (let other : IsComplete (ByLimit steps next) = subst IsComplete (let f : Some how ≡ Some (ByLimit steps next) = is in cc) done in elim other [ ])
@@ -120,6 +121,6 @@ module _ (came : CamePlain) (program : Program) (journal : List Entry) where
   complete_cause how (TooLong kind) done is ran = absurd (let f : Some how ≡ None = is in cc)
   complete_cause how NoMemory done is ran = absurd (let f : Some how ≡ None = is in cc)
 
-  pub whole_cause : (how : Option How) (answer : Answer) → AnswersEnd answer how → RanWhole came program journal how → PlanCause came program journal answer
-  whole_cause None answer is ran = subst (PlanCause came program journal) (sym is) ran
-  whole_cause (Some how) answer is ran = complete_cause how answer (ends_told program (plan_of journal) came.held_before came.held_after how came.bytes ran.runs) is ran
+  pub whole_cause : (how : Option How) (answer : Answer) → AnswersEnd answer how → RanWhole came program mode journal how → PlanCause came program mode journal answer
+  whole_cause None answer is ran = subst (PlanCause came program mode journal) (sym is) ran
+  whole_cause (Some how) answer is ran = complete_cause how answer (ends_told program (plan_in mode journal) came.held_before came.held_after how came.bytes ran.runs) is ran

@@ -1,9 +1,9 @@
 -- What a sink took of a text.
-use Rattle.std.proofs.Common.{◌≡◌, ℕ, Bool, true, false, true≢false, List, [], ◌∷◌, ◌++◌, ◌+◌, ◌-◌, ◌≤◌, length, take, drop, Option, Some, None, Result, Ok, Err, OnOk, OnErr, arith, refl, sym, ap, ◌∙◌, subst, append_assoc}
-use Rattle.std.proofs.lemmas.List.{append-nil, take-append-drop, take-append-le, take_all, length-drop}
-use Rattle.std.proofs.Math.Seq.{take-add}
+use Rattle.std.proofs.Common.{◌≡◌, ℕ, Bool, true, false, true≢false, List, [], ◌∷◌, ◌++◌, ◌-◌, length, take, drop, Option, Some, None, Result, Ok, Err, OnOk, OnErr, arith, refl, sym, ap, ◌∙◌, subst, append_assoc}
+use Rattle.std.proofs.lemmas.List.{append-nil, take-append-drop, take_all, length-drop}
 use Rattle.ro_io.specs.Outside.{more}
 use Rattle.ro_journal.specs.declared.Entry.{Entry}
+use Rattle.ro_settings.specs.declared.Mode.{Mode}
 use Rattle.ro_journal_text.specs.Texts.{entry_text, entries_text, journal_text}
 use Rattle.ro_report.specs.Report.{journal_part, report_text, answer_text}
 use Rattle.ro_report.specs.declared.answers.Answer.{Answer}
@@ -35,9 +35,9 @@ front_behind old mid new text other whole t = record {
   took = t.took ∙ ap (λ (h : Option (List ℕ)). more h t.front) whole ∙ more_more old text t.front;
 }
 
-pub report_parts : (journal : List Entry) (bytes : ℕ) (answer : Answer) → summary_part journal bytes ++ answer_text answer ≡ report_text journal bytes answer
-report_parts [] bytes answer = refl
-report_parts (entry ∷ journal) bytes answer = refl
+pub report_parts : (mode : Mode) (journal : List Entry) (bytes : ℕ) (answer : Answer) → summary_part mode journal bytes ++ answer_text answer ≡ report_text mode journal bytes answer
+report_parts mode [] bytes answer = refl
+report_parts mode (entry ∷ journal) bytes answer = refl
 
 -- what follows of a success, or of a failure
 pub on_ok : {T E P Q : Type 0} (r : Result T E) → (P → Q) → OnOk r P → OnOk r Q
@@ -71,7 +71,7 @@ entry_front old held new journal rest behind given entry is e told t =
     subst (TakesFront old new) (sym (entry_more journal rest behind given entry is e)) (front_longer old new (given ++ entry_text entry) (entries_text behind) (front_behind old held new given (entry_text entry) told t))
 
 -- a journal that is shown
-pub shown_journal : (shown : Bool) (journal : List Entry) → shown ≡ true → (journal ≡ [] → ⊥) → journal_text journal ≡ journal_part shown journal
-shown_journal false journal is some = absurd (true≢false (sym is))
-shown_journal true [] is some = absurd (some refl)
-shown_journal true (entry ∷ journal) is some = refl
+pub shown_journal : (mode : Mode) (shown : Bool) (journal : List Entry) → shown ≡ true → (journal ≡ [] → ⊥) → journal_text mode journal ≡ journal_part mode shown journal
+shown_journal mode false journal is some = absurd (true≢false (sym is))
+shown_journal mode true [] is some = absurd (some refl)
+shown_journal mode true (entry ∷ journal) is some = refl

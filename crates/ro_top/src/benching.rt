@@ -2,6 +2,7 @@
 ghost use Rattle.std.specs.Prelude.{◌≡◌, ◌≢◌, ℕ, [], Option, IfOk, IfErr, Some};
 ghost use Rattle.ro_make.specs.Bench.{bench_file};
 ghost use Rattle.ro_legal.specs.Jobs.{CanRun, job_of};
+ghost use Rattle.ro_legal.specs.Rules.{IsFit};
 ghost use Rattle.ro_report.specs.declared.answers.Answer.TheVariants as a;
 ghost use Rattle.ro_words.specs.Commands.{bench_by, to_bench};
 ghost use Rattle.ro_files.specs.Causes.{IsRefusal, JobCause};
@@ -73,6 +74,7 @@ fn bench_in<R: Threads + Wait + Sync, K: Sink, G: Gate + Sync>(
     requires sink { sink ≡ bench_sink }
     requires job { job_of job.image job.input.items job.faults.items job.settings ≡ bench_job_of (bench_by command.now) }
     requires can_run { CanRun (job_of job.image job.input.items job.faults.items job.settings) }
+    requires fit { IsFit (job_of job.image job.input.items job.faults.items job.settings) }
     ensures bench { IsBench (bench_by command.now) result.journal.items result.views.items (K.held out.old) (K.held out.new) (K.failures out.old) (K.failures out.new) result.answer }
     ensures no_views { result.answer ≢ a.Differ → result.answer ≢ a.NoMajority → result.views.items ≡ [] }
     ensures done { IsRefusal result.answer → ⊥ }
@@ -110,6 +112,7 @@ fn written<K: Sink>(command: &BenchCommand, answer: Answer, sink: &MemSink, out:
 fn bench_job(alloc: Global, command: &BenchCommand) -> Result<(Job, MemSink), Answer>
     ensures job { IfOk result (λ r. job_of r.0.image r.0.input.items r.0.faults.items r.0.settings ≡ bench_job_of (bench_by command.now)) }
     ensures can_run { IfOk result (λ r. CanRun (job_of r.0.image r.0.input.items r.0.faults.items r.0.settings)) }
+    ensures fit { IfOk result (λ r. IsFit (job_of r.0.image r.0.input.items r.0.faults.items r.0.settings)) }
     ensures sink { IfOk result (λ r. r.1 ≡ bench_sink) }
     ensures refused { IfErr result (RefusesExe (bench_file command.now.seed command.now.size)) }
 {

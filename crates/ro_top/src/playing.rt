@@ -33,21 +33,29 @@ pub(crate) fn unplayed(answer: Answer) -> Played
 // Runs the plan of a journal, unless it is too long.
 pub(crate) fn play<K: Sink>(alloc: Global, replay: Replay, out: &mut K) -> Played
     requires unfailed { K.failures out.old ≡ 0 }
-    ensures cause { PlanCause (record { answer = result.answer; steps = result.steps; bytes = result.bytes; held_before = K.held out.old; held_after = K.held out.new; failures_before = K.failures out.old; failures_after = K.failures out.new }) (record { image = replay.image; input = replay.input.items }) replay.journal.items result.answer }
+    ensures cause { PlanCause (record { answer = result.answer; steps = result.steps; bytes = result.bytes; held_before = K.held out.old; held_after = K.held out.new; failures_before = K.failures out.old; failures_after = K.failures out.new }) (record { image = replay.image; input = replay.input.items }) replay.mode replay.journal.items result.answer }
 {
     let Replay {
         image,
         input,
+        mode,
         journal,
     } = replay;
-    let steps = match plan_steps(journal.as_slice()) {
+    let steps = match plan_steps(mode, journal.as_slice()) {
         Ok(steps) => steps,
         Err(TooLong { steps, next }) => return unplayed(Answer::Limit { steps, next }),
     };
     let Ok(image) = Arc::new(alloc, image) else {
         return unplayed(Answer::NoMemory);
     };
-    match run_plan(alloc, &image, input.as_slice(), journal.as_slice(), out) {
+    match run_plan(
+        alloc,
+        &image,
+        input.as_slice(),
+        mode,
+        journal.as_slice(),
+        out,
+    ) {
         Ok(PlainEnd { how, bytes }) => Played {
             answer: answer_behind(how),
             steps,

@@ -1,9 +1,10 @@
 //! The report of a run: the journal, where it is to be shown, a line that sums it up, where there is one, and the answer's line.
 //! Of a plan's run: its steps and what they wrote, where it was run to its end, and the answer's line.
-ghost use Rattle.std.specs.Prelude.{◌≡◌, ◌<◌, ◌≤◌, ◌^◌, OnOk, OnErr};
+ghost use Rattle.std.specs.Prelude.{◌≡◌, ◌<◌, ◌≤◌, ◌^◌, OnOk, OnErr, length};
 ghost use Rattle.ro_io.specs.Outside.{Rose, more};
 ghost use Rattle.ro_journal_text.specs.Texts.{entries_text};
-ghost use Rattle.ro_journal.specs.Counts.{struck_in, steps_in};
+ghost use Rattle.ro_journal.specs.Counts.{struck_in};
+ghost use Rattle.ro_plans.specs.Plans.{plan_in};
 ghost use Rattle.ro_report.specs.Report.{answer_text, journal_part, report_text, report_of};
 ghost use Rattle.ro_top.specs.Top.{TakesFront, IsTold, is_whole, plain_part, plain_report, summary_part};
 ghost use Rattle.ro_top.specs.declared.done.Told.TheVariants as told;
@@ -12,10 +13,12 @@ use crate::done::Told;
 use ro_io::{Failed, Sink};
 use ro_journal::Entry;
 use ro_report::{Answer, answer_line, entry_text, header, plain_line, summary};
+use ro_settings::Mode;
 
 // Tells the report of a run that wrote so many bytes.
 pub(crate) fn tell<E: Sink>(
     report: &mut E,
+    mode: Mode,
     shown: bool,
     journal: &[Entry],
     bytes: u64,
@@ -23,12 +26,12 @@ pub(crate) fn tell<E: Sink>(
 ) -> Told
     requires unfailed { E.failures report.old ≡ 0 }
     requires struck { struck_in journal.now < 2 ^ 64 }
-    requires steps { steps_in journal.now < 2 ^ 64 }
-    ensures told { IsTold result (E.held report.old) (E.held report.new) (report_of shown journal.now bytes answer.now) }
+    requires steps { length (plan_in mode journal.now) < 2 ^ 64 }
+    ensures told { IsTold result (E.held report.old) (E.held report.new) (report_of mode shown journal.now bytes answer.now) }
     ensures cause { result ≡ told.Failed → Rose (E.failures report.old) (E.failures report.new) }
     ensures calm { result ≡ told.Whole → E.failures report.new ≡ E.failures report.old }
 {
-    match give_report(report, shown, journal, bytes, answer) {
+    match give_report(report, mode, shown, journal, bytes, answer) {
         Ok(()) => Told::Whole,
         Err(Failed) => Told::Failed,
     }
@@ -104,6 +107,7 @@ fn is_whole(answer: &Answer) -> bool
 
 fn give_report<E: Sink>(
     report: &mut E,
+    mode: Mode,
     shown: bool,
     journal: &[Entry],
     bytes: u64,
@@ -111,21 +115,26 @@ fn give_report<E: Sink>(
 ) -> Result<(), Failed>
     requires unfailed { E.failures report.old ≡ 0 }
     requires struck { struck_in journal.now < 2 ^ 64 }
-    requires steps { steps_in journal.now < 2 ^ 64 }
-    ensures ok { OnOk result (E.held report.new ≡ more (E.held report.old) (report_of shown journal.now bytes answer.now)) }
-    ensures err { OnErr result (TakesFront (E.held report.old) (E.held report.new) (report_of shown journal.now bytes answer.now)) }
+    requires steps { length (plan_in mode journal.now) < 2 ^ 64 }
+    ensures ok { OnOk result (E.held report.new ≡ more (E.held report.old) (report_of mode shown journal.now bytes answer.now)) }
+    ensures err { OnErr result (TakesFront (E.held report.old) (E.held report.new) (report_of mode shown journal.now bytes answer.now)) }
     ensures cause { OnErr result (Rose (E.failures report.old) (E.failures report.new)) }
     ensures calm { OnOk result (E.failures report.new ≡ E.failures report.old) }
 {
-    give_journal(report, shown, journal)?;
-    give_lines(report, journal, bytes, answer)
+    give_journal(report, mode, shown, journal)?;
+    give_lines(report, mode, journal, bytes, answer)
 }
 
 // The journal, where it is to be shown and anything ran.
-fn give_journal<E: Sink>(report: &mut E, shown: bool, journal: &[Entry]) -> Result<(), Failed>
+fn give_journal<E: Sink>(
+    report: &mut E,
+    mode: Mode,
+    shown: bool,
+    journal: &[Entry],
+) -> Result<(), Failed>
     requires unfailed { E.failures report.old ≡ 0 }
-    ensures ok { OnOk result (E.held report.new ≡ more (E.held report.old) (journal_part shown journal.now)) }
-    ensures err { OnErr result (TakesFront (E.held report.old) (E.held report.new) (journal_part shown journal.now)) }
+    ensures ok { OnOk result (E.held report.new ≡ more (E.held report.old) (journal_part mode shown journal.now)) }
+    ensures err { OnErr result (TakesFront (E.held report.old) (E.held report.new) (journal_part mode shown journal.now)) }
     ensures cause { OnErr result (Rose (E.failures report.old) (E.failures report.new)) }
     ensures calm { OnOk result (E.failures report.new ≡ E.failures report.old) }
     ensures failures { E.failures report.old ≤ E.failures report.new }
@@ -133,7 +142,7 @@ fn give_journal<E: Sink>(report: &mut E, shown: bool, journal: &[Entry]) -> Resu
     if !shown || journal.is_empty() {
         return Ok(());
     }
-    give_all(report, header())?;
+    give_all(report, header(mode))?;
     give_entries(report, journal)
 }
 
@@ -157,29 +166,35 @@ fn give_entries<E: Sink>(report: &mut E, journal: &[Entry]) -> Result<(), Failed
 // The summary and the answer.
 fn give_lines<E: Sink>(
     report: &mut E,
+    mode: Mode,
     journal: &[Entry],
     bytes: u64,
     answer: &Answer,
 ) -> Result<(), Failed>
     requires unfailed { E.failures report.old ≡ 0 }
     requires struck { struck_in journal.now < 2 ^ 64 }
-    requires steps { steps_in journal.now < 2 ^ 64 }
-    ensures ok { OnOk result (E.held report.new ≡ more (E.held report.old) (report_text journal.now bytes answer.now)) }
-    ensures err { OnErr result (TakesFront (E.held report.old) (E.held report.new) (report_text journal.now bytes answer.now)) }
+    requires steps { length (plan_in mode journal.now) < 2 ^ 64 }
+    ensures ok { OnOk result (E.held report.new ≡ more (E.held report.old) (report_text mode journal.now bytes answer.now)) }
+    ensures err { OnErr result (TakesFront (E.held report.old) (E.held report.new) (report_text mode journal.now bytes answer.now)) }
     ensures cause { OnErr result (Rose (E.failures report.old) (E.failures report.new)) }
     ensures calm { OnOk result (E.failures report.new ≡ E.failures report.old) }
 {
-    give_summary(report, journal, bytes)?;
+    give_summary(report, mode, journal, bytes)?;
     give_all(report, answer_line(answer).as_bytes())
 }
 
 // The summary, where anything ran.
-fn give_summary<E: Sink>(report: &mut E, journal: &[Entry], bytes: u64) -> Result<(), Failed>
+fn give_summary<E: Sink>(
+    report: &mut E,
+    mode: Mode,
+    journal: &[Entry],
+    bytes: u64,
+) -> Result<(), Failed>
     requires unfailed { E.failures report.old ≡ 0 }
     requires struck { struck_in journal.now < 2 ^ 64 }
-    requires steps { steps_in journal.now < 2 ^ 64 }
-    ensures ok { OnOk result (E.held report.new ≡ more (E.held report.old) (summary_part journal.now bytes)) }
-    ensures err { OnErr result (TakesFront (E.held report.old) (E.held report.new) (summary_part journal.now bytes)) }
+    requires steps { length (plan_in mode journal.now) < 2 ^ 64 }
+    ensures ok { OnOk result (E.held report.new ≡ more (E.held report.old) (summary_part mode journal.now bytes)) }
+    ensures err { OnErr result (TakesFront (E.held report.old) (E.held report.new) (summary_part mode journal.now bytes)) }
     ensures cause { OnErr result (Rose (E.failures report.old) (E.failures report.new)) }
     ensures calm { OnOk result (E.failures report.new ≡ E.failures report.old) }
     ensures failures { E.failures report.old ≤ E.failures report.new }
@@ -187,7 +202,7 @@ fn give_summary<E: Sink>(report: &mut E, journal: &[Entry], bytes: u64) -> Resul
     if journal.is_empty() {
         return Ok(());
     }
-    give_all(report, summary(journal, bytes).as_bytes())
+    give_all(report, summary(mode, journal, bytes).as_bytes())
 }
 
 /// Gives all of the bytes to a sink, a piece at a time.

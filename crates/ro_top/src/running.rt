@@ -3,18 +3,23 @@ ghost use Rattle.std.specs.Prelude.{◌≡◌, ◌≢◌, []};
 ghost use Rattle.ro_journal.specs.Plan.{outcome_of};
 ghost use Rattle.ro_report.specs.declared.answers.Answer.TheVariants as a;
 ghost use Rattle.ro_legal.specs.Jobs.{job_of, CanRun};
+ghost use Rattle.ro_legal.specs.Rules.{IsFit};
+ghost use Rattle.ro_settings.specs.declared.Mode.TheVariants.{Voted, Cooperative};
 ghost use Rattle.ro_top.specs.Driven.{AreCounts};
 ghost use Rattle.ro_files.specs.Causes.{IsRefusal};
 ghost use Rattle.ro_top.specs.Ends.{IsOutcome};
 ghost use Rattle.ro_top.specs.Top.{IsRunOf};
 
 use crate::driving::drive;
+use ro_cores::RunCore;
 use ro_event::View;
 use ro_files::Job;
+use ro_image::Executable;
 use ro_io::{Gate, Sink};
 use ro_journal::{Entry, How};
-use ro_master::{Finished, Session, Unopened};
+use ro_master::{Finished, Session};
 use ro_report::Answer;
+use ro_settings::Mode;
 use std::alloc::Global;
 use std::sync::Wait;
 use std::thread::Threads;
@@ -64,8 +69,35 @@ pub fn run_job<R: Threads + Wait + Sync, K: Sink + Send, G: Gate + Sync>(
 ) -> (Job, JobRun<K>)
     requires unfailed { K.failures out ≡ 0 }
     requires can_run { CanRun (job_of job.image job.input.items job.faults.items job.settings) }
+    requires fit { IsFit (job_of job.image job.input.items job.faults.items job.settings) }
     ensures run { IsRunOf (record { journal = result.1.journal.items; answer = result.1.answer; views = result.1.views.items; bytes = result.1.bytes; held_before = K.held out; held_after = K.held result.1.out; failures_before = K.failures out; failures_after = K.failures result.1.out; sure = K.sure out }) (job_of job.image job.input.items job.faults.items job.settings) }
-    ensures counts { AreCounts result.1.journal.items }
+    ensures counts { AreCounts job.settings.mode result.1.journal.items }
+    ensures answer { IsOutcome result.1.answer (outcome_of result.1.journal.items) }
+    ensures program { IsRefusal result.1.answer → ⊥ }
+    ensures no_views { result.1.answer ≢ a.Differ → result.1.answer ≢ a.NoMajority → result.1.views.items ≡ [] }
+    ensures nothing_run { result.1.journal.items ≡ [] → (K.held result.1.out ≡ K.held out) × (K.failures result.1.out ≡ K.failures out) }
+    ensures back { job_of result.0.image result.0.input.items result.0.faults.items result.0.settings ≡ job_of job.image job.input.items job.faults.items job.settings }
+{
+    match job.settings.mode {
+        Mode::Voted => run_voted(rt, alloc, job, out, gate),
+        Mode::Cooperative => run_together(rt, alloc, job, out, gate),
+    }
+}
+
+// Runs a job by votes.
+fn run_voted<R: Threads + Wait + Sync, K: Sink + Send, G: Gate + Sync>(
+    rt: &R,
+    alloc: Global,
+    job: Job,
+    out: K,
+    gate: &G,
+) -> (Job, JobRun<K>)
+    requires mode { job.settings.mode ≡ Voted }
+    requires unfailed { K.failures out ≡ 0 }
+    requires can_run { CanRun (job_of job.image job.input.items job.faults.items job.settings) }
+    requires fit { IsFit (job_of job.image job.input.items job.faults.items job.settings) }
+    ensures run { IsRunOf (record { journal = result.1.journal.items; answer = result.1.answer; views = result.1.views.items; bytes = result.1.bytes; held_before = K.held out; held_after = K.held result.1.out; failures_before = K.failures out; failures_after = K.failures result.1.out; sure = K.sure out }) (job_of job.image job.input.items job.faults.items job.settings) }
+    ensures counts { AreCounts job.settings.mode result.1.journal.items }
     ensures answer { IsOutcome result.1.answer (outcome_of result.1.journal.items) }
     ensures program { IsRefusal result.1.answer → ⊥ }
     ensures no_views { result.1.answer ≢ a.Differ → result.1.answer ≢ a.NoMajority → result.1.views.items ≡ [] }
@@ -78,16 +110,10 @@ pub fn run_job<R: Threads + Wait + Sync, K: Sink + Send, G: Gate + Sync>(
         faults,
         settings,
     } = job;
-    let core = match Session::begin(
-        alloc,
-        image,
-        input.as_slice(),
-        faults.as_slice(),
-        settings,
-        out,
-    ) {
+    let begun = ro_core::Core::begin(alloc, image, input.as_slice(), faults.as_slice(), settings);
+    let core = match begun {
         Ok(core) => core,
-        Err(Unopened { image, out }) => {
+        Err(image) => {
             let job = Job {
                 image,
                 input,
@@ -97,8 +123,87 @@ pub fn run_job<R: Threads + Wait + Sync, K: Sink + Send, G: Gate + Sync>(
             return (job, nothing(alloc, Answer::NoMemory, out));
         }
     };
+    let (image, run) = run_core(rt, alloc, core, out, gate);
+    let job = Job {
+        image,
+        input,
+        faults,
+        settings,
+    };
+    (job, run)
+}
+
+// Runs a job whose replicas answer calls on cooperative mutexes by themselves. It has no faults.
+fn run_together<R: Threads + Wait + Sync, K: Sink + Send, G: Gate + Sync>(
+    rt: &R,
+    alloc: Global,
+    job: Job,
+    out: K,
+    gate: &G,
+) -> (Job, JobRun<K>)
+    requires mode { job.settings.mode ≡ Cooperative }
+    requires unfailed { K.failures out ≡ 0 }
+    requires can_run { CanRun (job_of job.image job.input.items job.faults.items job.settings) }
+    requires fit { IsFit (job_of job.image job.input.items job.faults.items job.settings) }
+    ensures run { IsRunOf (record { journal = result.1.journal.items; answer = result.1.answer; views = result.1.views.items; bytes = result.1.bytes; held_before = K.held out; held_after = K.held result.1.out; failures_before = K.failures out; failures_after = K.failures result.1.out; sure = K.sure out }) (job_of job.image job.input.items job.faults.items job.settings) }
+    ensures counts { AreCounts job.settings.mode result.1.journal.items }
+    ensures answer { IsOutcome result.1.answer (outcome_of result.1.journal.items) }
+    ensures program { IsRefusal result.1.answer → ⊥ }
+    ensures no_views { result.1.answer ≢ a.Differ → result.1.answer ≢ a.NoMajority → result.1.views.items ≡ [] }
+    ensures nothing_run { result.1.journal.items ≡ [] → (K.held result.1.out ≡ K.held out) × (K.failures result.1.out ≡ K.failures out) }
+    ensures back { job_of result.0.image result.0.input.items result.0.faults.items result.0.settings ≡ job_of job.image job.input.items job.faults.items job.settings }
+{
+    let Job {
+        image,
+        input,
+        faults,
+        settings,
+    } = job;
+    let begun = ro_coop_core::Core::begin(alloc, image, input.as_slice(), settings);
+    let core = match begun {
+        Ok(core) => core,
+        Err(image) => {
+            let job = Job {
+                image,
+                input,
+                faults,
+                settings,
+            };
+            return (job, nothing(alloc, Answer::NoMemory, out));
+        }
+    };
+    let (image, run) = run_core(rt, alloc, core, out, gate);
+    let job = Job {
+        image,
+        input,
+        faults,
+        settings,
+    };
+    (job, run)
+}
+
+// Runs a core that was just opened. Its image comes back.
+fn run_core<
+    R: Threads + Wait + Sync,
+    C: RunCore<Share: Drop + Send, Shared: Send + Sync> + Send,
+    K: Sink + Send,
+    G: Gate + Sync,
+>(rt: &R, alloc: Global, core: C, out: K, gate: &G) -> (Executable, JobRun<K>)
+    requires holds { C.holds core }
+    requires fresh { (C.seen core).journal ≡ [] }
+    requires unfailed { K.failures out ≡ 0 }
+    requires can_run { CanRun (C.seen core).job }
+    requires fit { IsFit (C.seen core).job }
+    ensures run { IsRunOf (record { journal = result.1.journal.items; answer = result.1.answer; views = result.1.views.items; bytes = result.1.bytes; held_before = K.held out; held_after = K.held result.1.out; failures_before = K.failures out; failures_after = K.failures result.1.out; sure = K.sure out }) (C.seen core).job }
+    ensures counts { AreCounts (C.seen core).job.settings.mode result.1.journal.items }
+    ensures answer { IsOutcome result.1.answer (outcome_of result.1.journal.items) }
+    ensures program { IsRefusal result.1.answer → ⊥ }
+    ensures no_views { result.1.answer ≢ a.Differ → result.1.answer ≢ a.NoMajority → result.1.views.items ≡ [] }
+    ensures nothing_run { result.1.journal.items ≡ [] → (K.held result.1.out ≡ K.held out) × (K.failures result.1.out ≡ K.failures out) }
+    ensures image { result.0 ≡ (C.seen core).job.program.image }
+{
     // Where there was no memory the journal has no end, and that is the answer.
-    let core = drive(rt, alloc, core, gate);
+    let core = drive(rt, alloc, Session::new(core, out), gate);
     let Finished {
         how,
         image,
@@ -107,12 +212,6 @@ pub fn run_job<R: Threads + Wait + Sync, K: Sink + Send, G: Gate + Sync>(
         bytes,
         out,
     } = core.finish();
-    let job = Job {
-        image,
-        input,
-        faults,
-        settings,
-    };
     let run = JobRun {
         answer: answer_of(how),
         journal,
@@ -120,7 +219,7 @@ pub fn run_job<R: Threads + Wait + Sync, K: Sink + Send, G: Gate + Sync>(
         bytes,
         out,
     };
-    (job, run)
+    (image, run)
 }
 
 // The answer of a run that ended so, or for which there was no memory.

@@ -4,8 +4,7 @@ ghost use Rattle.ro_io.specs.Outside.{Files, Rose};
 ghost use Rattle.ro_journal.specs.Plan.{outcome_of};
 ghost use Rattle.ro_report.specs.Report.{answer_text, report_of};
 ghost use Rattle.ro_report.specs.declared.answers.Answer.TheVariants as a;
-ghost use Rattle.ro_settings.specs.Ranges.{InRange};
-ghost use Rattle.ro_words.specs.Commands.{Asked, AskedBench, AskedInject, AskedPlan, AskedRun, bench_by, command_of, inject_by, plan_by, run_by, to_bench, to_inject, to_plain, to_races, to_run};
+ghost use Rattle.ro_words.specs.Commands.{Asked, AskedBench, AskedInject, AskedPlan, AskedRun, Fits, bench_by, command_of, inject_by, plan_by, run_by, to_bench, to_inject, to_plain, to_races, to_run};
 ghost use Rattle.ro_words.specs.Uses.{texts_of};
 ghost use Rattle.ro_words.specs.declared.commands.WordsError.TheVariants as w;
 ghost use Rattle.ro_top.specs.Driven.{AreCounts};
@@ -57,7 +56,7 @@ pub fn romain<'a, R: Threads + Wait + Sync, S: Store, K: Sink + Send, E: Sink, G
     gate: &G,
 ) -> Done<K>
     requires unfailed { (K.failures out ≡ 0) × (E.failures report.old ≡ 0) }
-    ensures run { (asked : AskedRun) → command_of (texts_of words.now) ≡ Some (to_run asked) → (bytes : ℕ) × OfItsJob (S.told store.old) asked result.journal.items result.answer (IsRunOf (record { journal = result.journal.items; answer = result.answer; views = result.views.items; bytes = bytes; held_before = K.held out; held_after = K.held result.out; failures_before = K.failures out; failures_after = K.failures result.out; sure = K.sure out })) × IsTold result.told (E.held report.old) (E.held report.new) (report_of asked.journal result.journal.items bytes result.answer) }
+    ensures run { (asked : AskedRun) → command_of (texts_of words.now) ≡ Some (to_run asked) → (bytes : ℕ) × OfItsJob (S.told store.old) asked result.journal.items result.answer (IsRunOf (record { journal = result.journal.items; answer = result.answer; views = result.views.items; bytes = bytes; held_before = K.held out; held_after = K.held result.out; failures_before = K.failures out; failures_after = K.failures result.out; sure = K.sure out })) × IsTold result.told (E.held report.old) (E.held report.new) (report_of asked.settings.mode asked.journal result.journal.items bytes result.answer) }
     ensures answer { (asked : AskedRun) → command_of (texts_of words.now) ≡ Some (to_run asked) → IsOutcome result.answer (outcome_of result.journal.items) }
     ensures nothing_run { (asked : AskedRun) → command_of (texts_of words.now) ≡ Some (to_run asked) → result.journal.items ≡ [] → (K.held result.out ≡ K.held out) × (K.failures result.out ≡ K.failures out) }
     ensures plain { (asked : AskedPlan) → command_of (texts_of words.now) ≡ Some (to_plain asked) → (steps : ℕ) × (bytes : ℕ) × OfItsPlan (S.told store.old) asked (record { answer = result.answer; steps = steps; bytes = bytes; held_before = K.held out; held_after = K.held result.out; failures_before = K.failures out; failures_after = K.failures result.out }) × IsTold result.told (E.held report.old) (E.held report.new) (plain_report steps bytes result.answer) }
@@ -130,8 +129,8 @@ fn run_command<R: Threads + Wait + Sync, S: Store, K: Sink + Send, E: Sink, G: G
     gate: &G,
 ) -> Done<K>
     requires unfailed { (K.failures out ≡ 0) × (E.failures report.old ≡ 0) }
-    requires settings { InRange command.now.settings }
-    ensures run { (bytes : ℕ) × OfItsJob (S.told store.old) (run_by command.now) result.journal.items result.answer (IsRunOf (record { journal = result.journal.items; answer = result.answer; views = result.views.items; bytes = bytes; held_before = K.held out; held_after = K.held result.out; failures_before = K.failures out; failures_after = K.failures result.out; sure = K.sure out })) × IsTold result.told (E.held report.old) (E.held report.new) (report_of command.now.journal result.journal.items bytes result.answer) }
+    requires fits { Fits (to_run (run_by command.now)) }
+    ensures run { (bytes : ℕ) × OfItsJob (S.told store.old) (run_by command.now) result.journal.items result.answer (IsRunOf (record { journal = result.journal.items; answer = result.answer; views = result.views.items; bytes = bytes; held_before = K.held out; held_after = K.held result.out; failures_before = K.failures out; failures_after = K.failures result.out; sure = K.sure out })) × IsTold result.told (E.held report.old) (E.held report.new) (report_of command.now.settings.mode command.now.journal result.journal.items bytes result.answer) }
     ensures answer { IsOutcome result.answer (outcome_of result.journal.items) }
     ensures nothing_run { result.journal.items ≡ [] → (K.held result.out ≡ K.held out) × (K.failures result.out ≡ K.failures out) }
     ensures no_views { result.answer ≢ a.Differ → result.answer ≢ a.NoMajority → result.views.items ≡ [] }
@@ -150,7 +149,14 @@ fn run_command<R: Threads + Wait + Sync, S: Store, K: Sink + Send, E: Sink, G: G
         bytes,
         out,
     } = ran(rt, alloc, command, store, out, gate);
-    let told = tell(report, command.journal, journal.as_slice(), bytes, &answer);
+    let told = tell(
+        report,
+        command.settings.mode,
+        command.journal,
+        journal.as_slice(),
+        bytes,
+        &answer,
+    );
     Done {
         answer,
         told,
@@ -170,9 +176,9 @@ fn ran<R: Threads + Wait + Sync, S: Store, K: Sink + Send, G: Gate + Sync>(
     gate: &G,
 ) -> JobRun<K>
     requires unfailed { K.failures out ≡ 0 }
-    requires settings { InRange command.now.settings }
+    requires fits { Fits (to_run (run_by command.now)) }
     ensures run { OfItsJob (S.told store.old) (run_by command.now) result.journal.items result.answer (IsRunOf (record { journal = result.journal.items; answer = result.answer; views = result.views.items; bytes = result.bytes; held_before = K.held out; held_after = K.held result.out; failures_before = K.failures out; failures_after = K.failures result.out; sure = K.sure out })) }
-    ensures counts { AreCounts result.journal.items }
+    ensures counts { AreCounts command.now.settings.mode result.journal.items }
     ensures answer { IsOutcome result.answer (outcome_of result.journal.items) }
     ensures nothing_run { result.journal.items ≡ [] → (K.held result.out ≡ K.held out) × (K.failures result.out ≡ K.failures out) }
     ensures no_views { result.answer ≢ a.Differ → result.answer ≢ a.NoMajority → result.views.items ≡ [] }

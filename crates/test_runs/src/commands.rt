@@ -83,11 +83,66 @@ pub(crate) const COMMANDS: &[Command] = &[
         status: 7,
     },
     Command {
+        words: &["run", "hello", "--mode", "coop"],
+        files: 1,
+        writes: &["hello"],
+        cut: &["votes 1 copies 0 struck 0 steps 6 bytes "],
+        report: &[
+            "votes 2 copies 0 struck 0 steps 9 bytes 5\n",
+            "answer exit 0\n",
+        ],
+        status: 0,
+    },
+    Command {
+        words: &[
+            "run",
+            "exit_7",
+            "--mode=coop",
+            "--journal",
+            "--drivers",
+            "1",
+        ],
+        files: 1,
+        writes: &[],
+        cut: &[],
+        report: &[
+            "romain 2 coop\n",
+            "take 0 0 0\n",
+            "put 0 0 0 2 0\n",
+            "take 0 1 0\n",
+            "put 0 1 0 2 0\n",
+            "take 0 2 0\n",
+            "put 0 2 0 2 0\n",
+            "vote 0 2 0 - served\n",
+            "end exit 7\n",
+            "votes 1 copies 0 struck 0 steps 3 bytes 0\n",
+            "answer exit 7\n",
+        ],
+        status: 7,
+    },
+    Command {
         words: &["plain", "hello", "--plan", "one_write"],
         files: 2,
         writes: &["hello"],
         cut: &[],
         report: &["steps 9 bytes 5\n", "answer exit 0\n"],
+        status: 0,
+    },
+    // Of a cooperative journal each step is in the plan where a replica is the first to make it.
+    Command {
+        words: &["plain", "hello", "--plan", "first_steps"],
+        files: 2,
+        writes: &["hello"],
+        cut: &[],
+        report: &["steps 9 bytes 5\n", "answer exit 0\n"],
+        status: 0,
+    },
+    Command {
+        words: &["races", "hello", "--plan", "first_steps"],
+        files: 2,
+        writes: &[],
+        cut: &[],
+        report: &["answer no-race\n"],
         status: 0,
     },
     Command {
@@ -246,6 +301,10 @@ pub(crate) const TEXTS: &[(&str, &str)] = &[
     (
         "writes_and_more",
         "romain 1\nvote 0 5 0 - served\nvote 0 3 0 - served\nvote 0 2 0 - served\nfree 0\n",
+    ),
+    (
+        "first_steps",
+        "romain 2 coop\nput 0 0 0 5 0\nput 0 1 0 5 0\nvote 0 5 0 - served\npart 0 1 0 1 0\nput 0 0 0 2 0\nvote 0 2 0 - served\n",
     ),
     (
         "one_read",

@@ -15,7 +15,7 @@ returns-in-Ok-Run-clause-run g c = λ asked is.
     let run = c.run_command.ensures.run in (
       run.0,
       same_job _ _ _ _ _ _ same run.1,
-      subst (λ (x : AskedRun). IsTold c.run_command.result.told (g.E.Sink.held c.args.report.now) (g.E.Sink.held c.run_command.new.report) (report_of x.journal c.run_command.result.journal.items run.0 c.run_command.result.answer)) same run.2,
+      subst (λ (x : AskedRun). IsTold c.run_command.result.told (g.E.Sink.held c.args.report.now) (g.E.Sink.held c.run_command.new.report) (report_of x.settings.mode x.journal c.run_command.result.journal.items run.0 c.run_command.result.answer)) same run.2,
     )
 
 pub returns-in-Ok-Bench-clause-refusal : goal.returns-in-Ok-Bench-clause-refusal

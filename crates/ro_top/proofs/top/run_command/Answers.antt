@@ -9,6 +9,6 @@ returns-clause-run g c =
     let ran = c.ran-answer.result in (
       ran.bytes,
       c.ran-answer.ensures.run,
-      subst (λ (js : List Entry). IsTold c.tell-told.result (g.E.Sink.held c.args.report.now) (g.E.Sink.held c.tell-told.new.report) (report_of c.args.command.now.journal js ran.bytes ran.answer))
+      subst (λ (js : List Entry). IsTold c.tell-told.result (g.E.Sink.held c.args.report.now) (g.E.Sink.held c.tell-told.new.report) (report_of c.args.command.now.settings.mode c.args.command.now.journal js ran.bytes ran.answer))
           c.as_slice.ensures.value c.tell-told.ensures.told,
     )

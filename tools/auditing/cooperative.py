@@ -153,13 +153,20 @@ class Cooperative(Core):
         mutex = side.mutexes.get(parking.mutex)
         return mutex is not None and (
             mutex.owner is not None
-            or parking.asked and mutex.rank == parking.rank and self.is_barred(thread, parking.mutex, parking.rank))
+            or parking.asked and mutex.rank == parking.rank and self.is_barred(side, thread, parking.mutex, parking.rank))
 
-    def is_barred(self, thread: int, mutex: int, rank: int) -> bool:
-        """A rank of a mutex is not for the thread: another got it somewhere; or nobody is known to have, and it is too far ahead, or a
-        lease is out that may have got it."""
+    def is_barred(self, side: Side, thread: int, mutex: int, rank: int) -> bool:
+        """A rank of a mutex is not for the thread: another got it somewhere; or nobody is known to have, and it is too far ahead, or
+        another thread waits for the mutex, or a lease is out that may have got it."""
         taker = self.taker_of(mutex, rank)
-        return taker != thread if taker is not None else self.is_ahead(mutex, rank) or bool(self.leases)
+        if taker is not None:
+            return taker != thread
+        return self.is_ahead(mutex, rank) or self.is_awaited(side, thread, mutex, rank) or bool(self.leases)
+
+    def is_awaited(self, side: Side, thread: int, mutex: int, rank: int) -> bool:
+        """Another thread waits for the mutex in this replica, and has not asked for the rank."""
+        return any(other != thread and parking.mutex == mutex and not (parking.asked and parking.rank == rank)
+                   for other, parking in side.parked.items())
 
     def taker_of(self, mutex: int, rank: int) -> int | None:
         """Who got a mutex at a rank, by the first replica in which it was got so often."""
@@ -203,6 +210,16 @@ class Cooperative(Core):
     def reach(self) -> dict[int, int]:
         """By mutex, the first rank of it that is too far ahead."""
         return {mutex: min(side.rank_in(mutex) for side in self.sides) + self.most_apart for mutex in self.sides[0].mutexes}
+
+    def ceilings(self, number: int, thread: int) -> dict[int, int]:
+        """By mutex, the first rank of it that a lease of the thread doesn't get: it is too far ahead, or another thread of the replica
+        waits for the mutex. Of such a mutex it gets the next rank alone, and only where it got that in another replica."""
+        side, ceilings = self.sides[number], self.reach()
+        for mutex in side.mutexes.values():
+            if self.is_awaited(side, thread, mutex.address, mutex.rank):
+                own = self.taker_of(mutex.address, mutex.rank) == thread
+                ceilings[mutex.address] = min(ceilings[mutex.address], mutex.rank + own)
+        return ceilings
 
     def most_done(self, thread: int) -> int:
         """How many instructions a thread has retired in any replica, at the most."""

@@ -42,7 +42,7 @@ class Flight:
     lease: Take
     replica: Replica
     side: Side
-    reach: dict[int, int]  # by mutex, the first rank that was too far ahead when it was taken
+    ceilings: dict[int, int]  # by mutex, the first rank that it doesn't get
     retired: int = 0
     back: Put | None = None  # once it comes back
 
@@ -56,7 +56,7 @@ class Host:
         self.flights: list[Flight] = []
         self.entries: list[Entry] = []
         self.coming: list[Entry] | None = None  # what comes next, as far as that is known
-        self.parts = self.ahead = self.most_empty = self.most_idle = 0
+        self.parts = self.stopped = self.most_empty = self.most_idle = 0
         # By replica and thread, leases in a row without an instruction; and those while nothing else came.
         self.empty, self.idle = collections.Counter(), collections.Counter()
 
@@ -77,7 +77,7 @@ class Host:
         self.coming = None
         if isinstance(entry, Take):
             replica, side = self.core.replicas[entry.replica], self.core.sides[entry.replica]
-            self.flights.append(Flight(entry, copied(replica), side.copied(), self.core.reach()))
+            self.flights.append(Flight(entry, copied(replica), side.copied(), self.core.ceilings(entry.replica, entry.thread)))
         elif not isinstance(entry, Put):
             self.idle.clear()
 
@@ -153,8 +153,8 @@ class Host:
         return Part(*lease, flight.retired, 0)
 
     def asked(self, flight: Flight, mutex: int, rank: int) -> int | None:
-        if rank >= flight.reach[mutex]:
-            self.ahead += 1
+        if rank >= flight.ceilings[mutex]:
+            self.stopped += 1
             return None
         return self.page.decide(mutex, rank, flight.lease.thread)
 

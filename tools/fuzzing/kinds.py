@@ -186,7 +186,8 @@ class Words:
     def __init__(self):
         self.files = {"guest": (SMALL / "p0").read_bytes(), "empty": b"", "input": b"abc", "faults": b"0 1 5824 pc 11\n",
                       "bad": b"0 1 5824 pc 32\n", "-": b""}
-        self.options = {b"input": [b"input", b"empty", b"nothere", b"."], b"faults": [b"faults", b"empty", b"bad", b"nothere"],
+        self.options = {b"mode": [b"coop", b"coop", b"vote", b"Coop", b"cooperative", b"", b"0"],
+                        b"input": [b"input", b"empty", b"nothere", b"."], b"faults": [b"faults", b"empty", b"bad", b"nothere"],
                         **{name.encode(): [str(number).encode() for number in
                                            (least, most, usual, least - 1, most + 1, 0, 1 << 64, (1 << 64) - 1)]
                            + [b"+%d" % most, b"000%d" % least, b" 3", b"3 ", b"0x3", b"", b"\xd9\xa3"]
@@ -230,7 +231,10 @@ class Words:
 
     def troubles(self, case, came):
         ran = case.about is not None and case.wanted.split(" ")[0] not in REFUSALS
-        if ran and ("journal" in case.about) != came.report.startswith(b"romain 2\n"):
+        if not ran:
+            return
+        head = readers.COOP if case.about.get("mode") == "coop" else b"romain 2"
+        if ("journal" in case.about) != came.report.startswith(head + b"\n"):
             yield f"the report begins with {came.report[:40]!r}"
 
 
@@ -246,8 +250,9 @@ class Journals:
         self.guest = (SMALL / "hello").read_bytes()
 
     def text(self, draw):
-        """A journal like those that a run of one driver has, and now and then a lease that comes back in parts."""
-        lines, left = [b"romain 2"], [13, 6]
+        """A journal like those that a run of one driver has, and now and then a lease that comes back in parts. One of a cooperative
+        run has the same steps."""
+        lines, left = [draw.choice((b"romain 2", b"romain 2", readers.COOP))], [13, 6]
         for steps in left:
             for replica in range(3):
                 kind = draw.choice((b"put", b"put", b"put", b"part"))
@@ -261,11 +266,14 @@ class Journals:
         text = drawing.mutated_text(draw, self.text(draw))
         entries, bad = readers.journal_of(text)
         return Case([b"plain", b"guest", b"--plan", b"plan"], {"guest": self.guest, "plan": text},
-                    f"plan {bad[0]} {bad[1]}" if bad else self.wanted(entries), entries)
+                    f"plan {bad[0]} {bad[1]}" if bad else self.wanted(self.plan_of(text, entries)), self.plan_of(text, entries))
 
-    def wanted(self, entries):
+    def plan_of(self, text, entries):
+        return list(readers.plan_of(entries, text.startswith(readers.COOP + b"\n")))
+
+    def wanted(self, plan):
         length, place = 0, None
-        for thread, steps in readers.plan_of(entries):
+        for thread, steps in plan:
             if length + steps > self.MOST:
                 return f"limit {length} {steps}"
             if steps and place is None and (thread != 0 or length + steps > self.STEPS):
@@ -277,7 +285,7 @@ class Journals:
 
     def troubles(self, case, came):
         kind, *numbers = case.wanted.split(" ")
-        length = sum(steps for _, steps in readers.plan_of(case.about))
+        length = sum(steps for _, steps in case.about)
         taken = 0 if kind in ("plan", "limit") else int(numbers[0]) if kind == "no-step" else length
         output = Faults.OUTPUT if taken >= self.WRITES else b""
         summary = f"steps {length} bytes {len(output)}\n" if kind in ("exit", "unended") else ""

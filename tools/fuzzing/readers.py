@@ -1,5 +1,6 @@
 """What docs/USING.md and docs/GUESTS.md say of files and words: which are accepted, and why another one isn't. Written after
 the pages, not after the program, so that one shows an error of the other."""
+import collections
 import dataclasses
 import re
 import struct
@@ -190,7 +191,8 @@ def faults_of(data, replicas):
 # ---- Words
 
 RANGES = options.tabled(options.USING.read_text())
-VALUED = ["input", "faults", *RANGES]
+VALUED = ["input", "faults", "mode", *RANGES]
+MODES = {"vote": False, "coop": True}  # whether it is the cooperative one
 
 
 def number_of(text, least, most):
@@ -230,7 +232,9 @@ def run_of(words):
         given[name] = number_of(given[name], least, most) if name in given else usual
         if given[name] is None:
             return None
-    return given if "exe" in given and given["replicas"] != 4 else None
+    is_coop = MODES.get(given.get("mode", "vote"))
+    suits = is_coop is not None and not (is_coop and ("faults" in given or given["scrub"] > 0))
+    return given if "exe" in given and given["replicas"] != 4 and suits else None
 
 
 # ---- Journals
@@ -239,7 +243,8 @@ DIDS = [b"served", b"blocked", b"mapped", b"watch", b"trapped"]
 STEPS = [b"served", b"trapped", b"parked"]  # of what a vote did, what is a step itself
 HOWS = {b"exit": [(0, 255)], b"deadlock": [], b"trap": [(1, 9)], b"limit": [(0, 10**12)] * 2, b"differ": [], b"no-majority": [],
         b"sink": [(0, 4095)]}
-HEADS = {b"romain 1": (0, 2), b"romain 2": (0, 4)}  # the numbers of replicas by the first line
+COOP = b"romain 2 coop"  # the first line of a cooperative run
+HEADS = {b"romain 1": (0, 2), b"romain 2": (0, 4), COOP: (0, 4)}  # the numbers of replicas by the first line
 DRIVER, THREAD = (0, 7), (0, 15)
 
 
@@ -316,10 +321,19 @@ def journal_of(data):
     return entries, None
 
 
-def plan_of(entries):
-    """The steps of a journal: pairs of a thread and how many steps of it follow each other."""
+def plan_of(entries, is_coop=False):
+    """The steps of a journal: pairs of a thread and how many steps of it follow each other. Those of a cooperative run are the
+    first ones, which no replica took before."""
+    taken, first = collections.Counter(), collections.Counter()
     for kind, *fields in entries:
-        if kind == b"vote":
+        if kind in (b"put", b"part") and is_coop:
+            replica, thread, retired = map(int, fields[1:4])
+            taken[replica, thread] += retired
+            yield thread, max(0, taken[replica, thread] - first[thread])
+            first[thread] = max(first[thread], taken[replica, thread])
+        elif kind == b"vote" and is_coop:
+            yield int(fields[0]), int(fields[4] in STEPS)
+        elif kind == b"vote":
             yield int(fields[0]), int(fields[1]) + (fields[4] in STEPS)
         elif kind == b"free":
             yield int(fields[0]), 1

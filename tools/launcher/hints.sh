@@ -63,10 +63,23 @@ row() {
         is_there && $2 == code { gsub(/[*][*]/, ""); print "the file " $3 ": " $4; exit }' "$root/docs/GUESTS.md"
 }
 
-# What audits a run: its own journal where that went to a file, else that of the same run once more.
+# What audits a run by votes: its own journal where that went to a file, else that of the same run once more.
 audit_of() {
     shift
-    echo "to see what happened:$(with_journal "$@")$(command_of audit "$@") --journal$(journal_of "$@")"
+    again=$(with_journal "$@")
+    journal=$(journal_of "$@")
+    # An audit has no --mode. Its value is the next word, or stands behind the sign.
+    before=
+    for word; do
+        shift
+        case $before:$word in
+        --mode:coop | *:--mode=coop) return ;;
+        --mode:* | *:--mode | *:--mode=*) ;;
+        *) set -- "$@" "$word" ;;
+        esac
+        before=$word
+    done
+    echo "to see what happened:$again$(command_of audit "$@") --journal$journal"
 }
 
 races_of() {

@@ -61,6 +61,8 @@ function read_range() {
             general[about] = value
         if (match($0, /[0-9]+ to [0-9]+/) || match($0, /([0-9]+, )*[0-9]+ or [0-9]+/))
             range[about] = substr($0, RSTART, RLENGTH)
+        else if (match($0, /[a-z]+ or [a-z]+, default/))
+            range[about] = substr($0, RSTART, RLENGTH - length(", default"))
     }
 }
 
@@ -91,7 +93,18 @@ function wrong(    i, command, word, name, given, trouble) {
         i += skipped
         skipped = 0
     }
+    if (trouble == "")
+        trouble = unsuited()
     return trouble != "" ? trouble : missing(command, given)
+}
+
+# A cooperative run has neither faults nor scrubs.
+function unsuited() {
+    if (values["--mode"] != "coop")
+        return ""
+    if ("--faults" in values)
+        return "--faults does not go with --mode coop"
+    return values["--scrub"] + 0 != 0 ? "--scrub does not go with --mode coop" : ""
 }
 
 # Of the option that stands at a place; its value may be the next word.
@@ -111,13 +124,14 @@ function wrong_option(command, at,    name, given, has_value) {
     }
     if (given == "" || given ~ /^-/)
         return name " needs a value"
+    values[name] = given
     return wrong_value(name, given)
 }
 
 function wrong_value(name, given,    ends) {
     if (!(name in range))
         return ""
-    if (given !~ /^[+]?[0-9]+$/)
+    if (range[name] ~ /[0-9]/ && given !~ /^[+]?[0-9]+$/)
         return name " is " given ", which is no number"
     if (split(range[name], ends, " to ") == 2 ? given + 0 < ends[1] + 0 || given + 0 > ends[2] + 0 : !is_among(given, range[name]))
         return name " is " given ", and may be " range[name]
@@ -126,7 +140,7 @@ function wrong_value(name, given,    ends) {
 function is_among(given, choices,    i, count, each) {
     count = split(choices, each, /, | or /)
     for (i = 1; i <= count; i++)
-        if (given + 0 == each[i] + 0)
+        if (each[i] ~ /[0-9]/ ? given + 0 == each[i] + 0 : given == each[i])
             return 1
 }
 

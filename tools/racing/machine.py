@@ -237,7 +237,7 @@ def plan_of(journal: bytes) -> Plan:
     entries, bad = readers.journal_of(journal)
     if bad:
         raise Refused(f"plan {bad[0]} {bad[1]}")
-    return list(readers.plan_of(entries))
+    return list(readers.plan_of(entries, journal.startswith(readers.COOP + b"\n")))
 
 
 def steps_of(machine: Replay, plan: Plan) -> collections.abc.Iterator[Step]:

@@ -29,6 +29,7 @@ impl Core {
     }
 
     /// Lends a replica's thread to a driver.
+    #[inline(always)]
     pub fn take(&mut self, lease: Lease) -> ReplicaBox
         requires holds { Holds (fields_of self.old) }
         requires allowed { IsAllowed (job_of self.old) (state_of self.old) (Take lease) }
@@ -46,6 +47,7 @@ impl Core {
     }
 
     /// Puts a replica back that a driver has run, for so many instructions and faults.
+    #[inline(always)]
     pub fn put(&mut self, driver: u32, lent: ReplicaBox, count: u32, hit: u32)
         requires holds { Holds (fields_of self.old) }
         requires returns { MayReturn (silent self.old) driver lent count hit }

@@ -117,7 +117,11 @@ impl Core {
         }
         self.prepare()?;
         let threads = self.kernel.made();
-        let event = coming.happen(self.alloc, &mut self.kernel, thread)?;
+        // it stays where it was answered: to move it would copy it
+        let happened = coming.happen(self.alloc, &mut self.kernel, thread);
+        let Ok(event) = &happened else {
+            return Err(AllocError);
+        };
         self.seats.heal(&won, threads);
         let entry = Entry::Vote {
             thread,
@@ -134,7 +138,7 @@ impl Core {
             writer,
             threads,
         };
-        self.occur(&event, &noted);
+        self.occur(event, &noted);
         Ok(Voted { entry, writer })
     }
 

@@ -59,16 +59,19 @@ impl RunCore for Core {
         self.room()
     }
 
+    #[inline(always)]
     fn lend(&mut self, lease: Lease) -> Lent {
         let quantum = self.settings().quantum;
         let replica = self.take(lease);
         Lent::new(lease, quantum, replica)
     }
 
+    #[inline(always)]
     fn lease(lent: &Lent) -> Lease {
         lent.lease()
     }
 
+    #[inline(always)]
     fn entry(back: &Back) -> Entry {
         let Took { count, hit } = back.took;
         Entry::Put {
@@ -78,6 +81,7 @@ impl RunCore for Core {
         }
     }
 
+    #[inline(always)]
     fn give_back(&mut self, back: Back) {
         let Back {
             lease,
@@ -87,6 +91,7 @@ impl RunCore for Core {
         self.put(lease.driver, replica, count, hit);
     }
 
+    #[inline(always)]
     fn vote(&mut self, thread: u32) -> Result<(Entry, Option<u32>), AllocError> {
         let Voted { entry, writer } = self.vote(thread)?;
         Ok((entry, writer))
@@ -144,6 +149,7 @@ impl RunCore for Core {
         Ok(((), shares, ()))
     }
 
+    #[inline(always)]
     fn run(_shared: &(), lent: Lent, _share: ()) -> (Back, ()) {
         (lent.run(), ())
     }

@@ -55,7 +55,7 @@ impl Stretch {
         turned < self.words
     }
 
-    /// Whether a thread's place lies in the stretch, which becomes the code round it where it does not yet.
+    /// Whether a thread's place lies in the stretch, which becomes the code round it where it does not yet and such code is there.
     #[inline(always)]
     pub fn follow<M: Memory>(
         &mut self,
@@ -74,11 +74,7 @@ impl Stretch {
         ensures kept { IsKept (M.kept memory.now) self.new }
         ensures inside { result ≡ true → IsIn self.new pc }
     {
-        if self.holds(pc) {
-            return true;
-        }
-        self.renew(pc, memory, regions, calls);
-        self.holds(pc)
+        self.holds(pc) || self.renew(pc, memory, regions, calls)
     }
 
     /// Whether a thread stands in the stretch, which becomes the code round it where it does not yet. Only at `until` is that
@@ -163,16 +159,33 @@ impl Stretch {
         true
     }
 
-    /// Becomes the code round a place. It is no part of the loop that runs code, as `stretch_at` would be.
+    /// Becomes the code round a place, where that is in it, and else stays: a thread that stands at a call comes back to the code
+    /// round it. It is no part of the loop that runs code, as `stretch_at` would be.
     #[cold]
     #[inline(never)]
-    fn renew<M: Memory>(&mut self, pc: u32, memory: &M, regions: &Regions, calls: &CallTable)
+    fn renew<M: Memory>(
+        &mut self,
+        pc: u32,
+        memory: &M,
+        regions: &Regions,
+        calls: &CallTable,
+    ) -> bool
+        requires aligned { self.old.from % 4 ≡ 0 }
+        requires bounded { self.old.from + 4 * self.old.words ≤ 2 ^ 32 }
+        requires clear { IsClear (record { ranges = ranges_of regions.now; calls = calls.now }) (M.backing memory.now) self.old }
+        requires kept { IsKept (M.kept memory.now) self.old }
         ensures aligned { self.new.from % 4 ≡ 0 }
         ensures bounded { self.new.from + 4 * self.new.words ≤ 2 ^ 32 }
         ensures clear { IsClear (record { ranges = ranges_of regions.now; calls = calls.now }) (M.backing memory.now) self.new }
         ensures kept { IsKept (M.kept memory.now) self.new }
+        ensures inside { result ≡ true → IsIn self.new pc }
     {
-        *self = stretch_at(pc, memory, regions, calls);
+        let found = stretch_at(pc, memory, regions, calls);
+        if !found.holds(pc) {
+            return false;
+        }
+        *self = found;
+        true
     }
 }
 

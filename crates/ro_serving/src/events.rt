@@ -53,6 +53,7 @@ pub enum Cause {
 impl Coming {
     /// What comes of a thread that stands still so.
     #[tactic(auto, unfolding(ro_legal::specs::Event::event_of))]
+    #[inline(always)]
     pub fn of(kernel: &Kernel, thread: u32, view: &View) -> Coming
         ensures did { (event_of kernel.now.setup kernel.now.kernel thread view.now.stop view.now.payload).did ≡ result.did }
         ensures cause { IsCause kernel.now.setup kernel.now.kernel thread view.now.stop view.now.payload result.did result.cause }
@@ -65,10 +66,11 @@ impl Coming {
         }
     }
 
-    /// The event of a live thread of which this comes.
+    /// The event of a live thread of which this comes. It is a part of its caller, as `serve` is: else it would be copied on its way.
     ///
     /// # Errors
     /// Where there is no memory; the kernel is as it was.
+    #[inline(always)]
     pub fn happen(
         &self,
         alloc: Global,
@@ -135,6 +137,7 @@ fn quiet(did: Did, page: Option<u32>, releases: bool, due: Option<How>) -> Comin
 ///
 /// # Errors
 /// Where there is no memory; the kernel is as it was.
+#[inline(always)]
 pub fn serve(
     alloc: Global,
     kernel: &mut Kernel,
@@ -153,6 +156,7 @@ pub fn serve(
 }
 
 // The event of a call that came to this.
+#[inline(always)]
 fn event_of_call(alloc: Global, thread: u32, call: Call, served: Served) -> Event
     ensures moves { result.moves ≡ false → ((function : Posix) → call.which ≢ Which.Function function) × ((effect : EffectSeen) → served ≡ Served.Done effect → effect.range ≡ None) }
     ensures event { (kernel after : KernelSeen) (payload : List ℕ) → (served ≡ Served.Blocked → after ≡ kernel) → call_event kernel thread call (put_out call.which payload) (outcome_with after served) ≡ event_by result after (if result.writes then payload else []) }

@@ -1,7 +1,7 @@
 //! Running a thread.
 ghost use Rattle.std.specs.Prelude.{◌≡◌, ◌≤◌, ◌<◌, ◌+◌, ◌-◌, ◌^◌};
 ghost use Rattle.ro_exec.specs.Next.{next};
-ghost use Rattle.ro_exec.specs.Steps.{IsStep};
+ghost use Rattle.ro_exec.specs.Steps.{IsStep, IsQuick};
 ghost use Rattle.ro_exec.specs.Stretches.{IsLearnt};
 ghost use Rattle.ro_thread.specs.Runs.{IsRun};
 ghost use Rattle.ro_region.specs.Permission.{ranges_of};
@@ -131,18 +131,7 @@ fn slow_step<M: Memory>(
     if let Some(stop) = system_call(registers, *pc, learnt.code, memory) {
         return Step::Stopped(stop);
     }
-    let mut until = *pc;
-    if quick_step::<M, Step>(
-        registers,
-        pc,
-        memory,
-        &mut learnt.reads,
-        &mut learnt.writes,
-        regions,
-        calls,
-        &mut learnt.code,
-        &mut until,
-    ) {
+    if quick_again(registers, pc, memory, learnt, regions, calls) {
         return Step::Did;
     }
     let mut cpu = Cpu {
@@ -155,4 +144,36 @@ fn slow_step<M: Memory>(
         *pc = cpu.pc;
     }
     step
+}
+
+// Does the step that `quick_step` left where its page has been learnt by now: not where no code is known round the thread's place.
+fn quick_again<M: Memory>(
+    registers: &mut Bank,
+    pc: &mut u32,
+    memory: &mut M,
+    learnt: &mut Learnt,
+    regions: &Regions,
+    calls: &CallTable,
+) -> bool
+    requires learnt { IsLearnt (record { ranges = ranges_of regions.now; calls = calls.now }) (M.backing memory.old) (M.kept memory.old) learnt.old }
+    ensures step { IsQuick result (next (record { ranges = ranges_of regions.now; calls = calls.now }) (M.backing memory.old) (M.memory memory.old) (record { registers = registers.old; pc = pc.old })) (record { registers = registers.old; pc = pc.old }) (record { registers = registers.new; pc = pc.new }) (M.memory memory.old) (M.memory memory.new) }
+    ensures pages { M.backing memory.new ≡ M.backing memory.old }
+    ensures kept { M.kept memory.new ≡ M.kept memory.old }
+    ensures learnt { IsLearnt (record { ranges = ranges_of regions.now; calls = calls.now }) (M.backing memory.old) (M.kept memory.old) learnt.new }
+{
+    if !learnt.code.holds(*pc) {
+        return false;
+    }
+    let mut until = *pc;
+    quick_step::<M, Step>(
+        registers,
+        pc,
+        memory,
+        &mut learnt.reads,
+        &mut learnt.writes,
+        regions,
+        calls,
+        &mut learnt.code,
+        &mut until,
+    )
 }

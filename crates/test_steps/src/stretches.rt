@@ -63,7 +63,8 @@ const KEPT: &[(u32, bool)] = &[
     (0xFFFF_FFFC, false),
 ];
 
-const NO_CODE: &[u32] = &[DATA, UNBACKED, 0x7FFF_FFF0, 0xFFFF_FFFC];
+// a call, and where no code is
+const NO_CODE: &[u32] = &[CALL, DATA, UNBACKED, 0x7FFF_FFF0, 0xFFFF_FFFC];
 
 #[test]
 fn keeps_code(rt: HostRuntime) -> Result<(), Fail> {
@@ -96,9 +97,9 @@ fn keeps_code(rt: HostRuntime) -> Result<(), Fail> {
         }
     );
     for pc in NO_CODE {
-        let mut none = first;
-        assert!(rt; !none.follow(*pc, &pages, &regions, &calls), "at {pc:x}");
-        assert_eq!(rt; none.words, 0, "at {pc:x}");
+        let mut kept = first;
+        assert!(rt; !kept.follow(*pc, &pages, &regions, &calls), "at {pc:x}");
+        assert_eq!(rt; kept, first, "at {pc:x}");
     }
     Ok(())
 }

@@ -14,7 +14,7 @@ pub struct Totals {
     pub copies: u64,
     /// How many faults were struck in its runs.
     pub struck: u64,
-    /// How many steps its plan has.
+    /// How many steps its votes and frees retire, where they are a number of 64 bits.
     pub steps: u64,
 }
 
@@ -22,11 +22,10 @@ impl Totals {
     /// What is counted of a journal, each of whose entries is looked at once.
     pub fn of(journal: &[Entry]) -> Totals
         requires struck { struck_in journal.now < 2 ^ 64 }
-        requires steps { steps_in journal.now < 2 ^ 64 }
         ensures votes { result.votes ≡ votes_in journal.now }
         ensures copies { result.copies ≡ copies_in journal.now }
         ensures struck { result.struck ≡ struck_in journal.now }
-        ensures steps { result.steps ≡ steps_in journal.now }
+        ensures steps { steps_in journal.now < 2 ^ 64 → result.steps ≡ steps_in journal.now }
     {
         // it shows that so many entries lie in memory that their copies can be counted
         let _entries = journal.iter();
@@ -47,11 +46,10 @@ impl Totals {
         requires votes { self.old.votes + 1 < 2 ^ 64 }
         requires copies { self.old.copies + copies_of entry.now < 2 ^ 64 }
         requires struck { self.old.struck + hits_of entry.now < 2 ^ 64 }
-        requires steps { self.old.steps + length (entry_plan entry.now) < 2 ^ 64 }
         ensures votes { self.new.votes ≡ (if is_vote entry.now then self.old.votes + 1 else self.old.votes) }
         ensures copies { self.new.copies ≡ self.old.copies + copies_of entry.now }
         ensures struck { self.new.struck ≡ self.old.struck + hits_of entry.now }
-        ensures steps { self.new.steps ≡ self.old.steps + length (entry_plan entry.now) }
+        ensures steps { self.old.steps + length (entry_plan entry.now) < 2 ^ 64 → self.new.steps ≡ self.old.steps + length (entry_plan entry.now) }
     {
         match *entry {
             Entry::Take(_) | Entry::End { .. } => {}
@@ -64,23 +62,10 @@ impl Totals {
             } => {
                 self.votes += 1;
                 self.copies += lost.count() as u64;
-                self.steps += u64::from(count) + did.steps();
+                self.steps = self.steps.saturating_add(u64::from(count) + did.steps());
             }
-            Entry::Free { .. } => self.steps += 1,
+            Entry::Free { .. } => self.steps = self.steps.saturating_add(1),
             Entry::Scrub { lost, .. } => self.copies += lost.count() as u64,
-        }
-    }
-}
-
-impl Entry {
-    /// How many steps the entry adds to the plan.
-    pub fn steps(&self) -> u64
-        ensures { result ≡ length (entry_plan self.now) }
-    {
-        match *self {
-            Entry::Vote { count, did, .. } => u64::from(count) + did.steps(),
-            Entry::Free { .. } => 1,
-            _ => 0,
         }
     }
 }

@@ -3,7 +3,6 @@
 #![tactic(auto)]
 
 mod answers;
-mod counts;
 mod laws;
 mod summaries;
 

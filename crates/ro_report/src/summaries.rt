@@ -4,8 +4,7 @@ ghost use Rattle.ro_journal.specs.Counts.{struck_in};
 ghost use Rattle.ro_plans.specs.Plans.{plan_in};
 ghost use Rattle.ro_report.specs.Report.{summary_text, plain_text, bench_text, weighed};
 
-use crate::counts::Counts;
-use ro_journal::Entry;
+use ro_journal::{Entry, Totals};
 use ro_plans::plan_length;
 use ro_settings::Mode;
 use ro_text::{Line, ROOM, Text};
@@ -20,12 +19,16 @@ pub fn summary(mode: Mode, journal: &[Entry], bytes: u64) -> Line
     requires steps { length (plan_in mode journal.now) < 2 ^ 64 }
     ensures { result ≡ summary_text mode journal.now bytes }
 {
-    let counts = Counts::of(journal);
+    let totals = Totals::of(journal);
+    let steps = match mode {
+        Mode::Voted => totals.steps,
+        Mode::Cooperative => plan_length(mode, journal),
+    };
     let mut text = Text::new();
-    push_field(&mut text, "votes ", counts.votes);
-    push_field(&mut text, " copies ", counts.copies);
-    push_field(&mut text, " struck ", counts.struck);
-    push_field(&mut text, " steps ", plan_length(mode, journal));
+    push_field(&mut text, "votes ", totals.votes);
+    push_field(&mut text, " copies ", totals.copies);
+    push_field(&mut text, " struck ", totals.struck);
+    push_field(&mut text, " steps ", steps);
     push_field(&mut text, " bytes ", bytes);
     text.end()
 }

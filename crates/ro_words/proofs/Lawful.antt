@@ -1,10 +1,10 @@
 -- Laws of the command that words spell.
 use Rattle.std.proofs.Common.{◌≡◌, ◌∙◌, ℕ, Bool, true, false, not, ◌&&◌, ◌||◌, List, [], ◌∷◌, ◌++◌, Option, Some, None, refl, ap, ap₂, sym, subst, arith, codes, inl, inr}
-use Rattle.std.specs.Prelude.{◌==◌, find, is_none, map, option_and_then, option_map, if◌then◌else◌, IfSome}
+use Rattle.std.specs.Prelude.{◌==◌, ◌≤◌, nat_le, find, is_none, map, option_and_then, option_map, if◌then◌else◌, IfSome}
 use Rattle.std.specs.List.{AllByRecursion, list_all}
 use Rattle.std.specs.Option.{option_map_or}
 use Rattle.std.specs.Str.{bytes_eq}
-use Rattle.std.proofs.lemmas.Bool.{cases_Bool, or_cases, eqb-true}
+use Rattle.std.proofs.lemmas.Bool.{cases_Bool, or_cases, eqb-true, leb-true}
 use Rattle.std.proofs.lemmas.List.{append_assoc}
 use Rattle.std.proofs.lemmas.Slice.Eq.{bytes_eq-Decides}
 use Rattle.std.specs.Str.Parse.{digits_value, without_leading_plus}
@@ -15,7 +15,7 @@ use Rattle.ro_settings.specs.declared.Mode.{Mode}
 use Rattle.ro_settings.specs.declared.Mode.TheVariants.{Voted, Cooperative}
 use Rattle.ro_settings.specs.declared.Settings.{Settings}
 use Rattle.ro_settings.specs.Ranges.{InRange, IsFrom, IsIn, IsReplicas, Range, drivers_range, limit_range, quantum_range, replicas_range, scrub_range, watchdog_range}
-use Rattle.ro_words.specs.Commands.{Asked, AskedAudit, AskedPlan, AskedRun, AuditFits, Fits, Spelling, SuitsMode, are_replicas, asked_among, asked_in_words, asked_of, asked_run, audit_from, audit_given, audit_of, audit_spellings, bench_from, bench_given, command_of, given_number, inject_from, inject_given, may_have, maybe_number, mode_for, number_for, number_in, number_or, plain_given, plan_given, races_given, replicas_only, run_from, run_given, settings_from, settings_of, spelling_of, spellings, suited, suits_mode, to_plain, to_races, to_run, usual_audit, usual_run}
+use Rattle.ro_words.specs.Commands.{Asked, AskedAudit, AskedPlan, AskedRun, AuditFits, Fits, Spelling, SuitsMode, are_replicas, asked_among, asked_in_words, asked_of, asked_run, audit_from, audit_given, audit_of, audit_spellings, bench_from, bench_given, command_of, given_number, inject_from, inject_given, may_have, maybe_number, mode_for, most_together, number_for, number_in, number_or, plain_given, plan_given, races_given, replicas_only, run_from, run_given, settings_from, settings_of, spelling_of, spellings, suited, suits_mode, to_plain, to_races, to_run, usual_audit, usual_run}
 use Rattle.ro_words.specs.Uses.{Syntax, Text, Use, has_flag, is_argument, is_once, is_used, is_whole, option_uses, required_of, takes_value, text_of, uses_from, with_use}
 use Rattle.ro_words.proofs.Names.{Grammar, IsValued, by_key, flagged, takes_one, unmet}
 use Rattle.ro_words.proofs.Once.{and_parts, differ_twice, or_true, same_twice, twice, used-append}
@@ -137,14 +137,15 @@ none_is : {X : Type 0} (o : Option X) → is_none o ≡ true → o ≡ None
 none_is None e = refl
 none_is (Some x) e = cc
 
-may_have_suits : (mode : Mode) (faults : Option Text) (scrub : ℕ) → may_have mode faults scrub ≡ true → mode ≡ Cooperative → (faults ≡ None) × (scrub ≡ 0)
-may_have_suits Voted faults scrub may is = cc
-may_have_suits Cooperative faults scrub may is =
-    let parts = and_parts (is_none faults) (scrub == 0) may in
-    (none_is faults parts.0, eqb-true scrub 0 parts.1)
+may_have_suits : (mode : Mode) (faults : Option Text) (scrub limit : ℕ) → may_have mode faults scrub limit ≡ true → mode ≡ Cooperative → (faults ≡ None) × (scrub ≡ 0) × (limit ≤ most_together)
+may_have_suits Voted faults scrub limit may is = cc
+may_have_suits Cooperative faults scrub limit may is =
+    let parts = and_parts (is_none faults) ((scrub == 0) && nat_le limit most_together) may in
+    let numbers = and_parts (scrub == 0) (nat_le limit most_together) parts.1 in
+    (none_is faults parts.0, eqb-true scrub 0 numbers.0, leb-true limit most_together numbers.1)
 
 pub suits : (run : AskedRun) → suits_mode run ≡ true → SuitsMode run
-suits run may = may_have_suits run.settings.mode run.faults run.settings.scrub may
+suits run may = may_have_suits run.settings.mode run.faults run.settings.scrub run.settings.limit may
 
 suited_fits : (run : AskedRun) (asked : Asked) → InRange run.settings → option_map (λ r. to_run r) (suited run) ≡ Some asked → Fits asked
 suited_fits run asked ranged is = elim (cases_Bool (suits_mode run)) [

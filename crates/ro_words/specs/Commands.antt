@@ -1,6 +1,6 @@
 -- The command that words spell: its name, then its arguments in their order, with its options anywhere among them, each at most
 -- once.
-use Rattle.std.specs.Prelude.{◌≡◌, ℕ, ◌-◌, ◌^◌, Bool, true, false, List, [], ◌∷◌, Option, Some, None, codes}
+use Rattle.std.specs.Prelude.{◌≡◌, ◌≤◌, ℕ, ◌-◌, ◌^◌, nat_le, Bool, true, false, List, [], ◌∷◌, Option, Some, None, codes}
 use Rattle.std.specs.Prelude.{◌==◌, ◌&&◌, ◌||◌, if◌then◌else◌, is_none, option_and_then, option_map, find, map, IfSome}
 use denote.Bor.{Bor}
 use Rattle.std.specs.Str.{bytes_eq}
@@ -130,9 +130,13 @@ pub record AskedAudit : Type 0 where
   pub journal : Text
   pub json : Bool
 
--- a cooperative run has no faults and no scrubs
+-- how many steps a cooperative run may have at most: fewer than the ranks that are counted of a mutex, each of which takes one
+abbrev pub most_together : ℕ
+most_together = 4000000000
+
+-- a cooperative run has no faults and no scrubs, and no larger limit
 abbrev pub SuitsMode : AskedRun → Type 0
-SuitsMode run = run.settings.mode ≡ Cooperative → (run.faults ≡ None) × (run.settings.scrub ≡ 0)
+SuitsMode run = run.settings.mode ≡ Cooperative → (run.faults ≡ None) × (run.settings.scrub ≡ 0) × (run.settings.limit ≤ most_together)
 
 -- what is asked for
 pub data Asked : Type 0 where
@@ -171,13 +175,13 @@ run_from _ _ given journal = None
 abbrev pub asked_run : Option Mode → (Text → Option Text) → (journal : Bool) → Option AskedRun
 asked_run mode given journal = run_from (given (codes "exe")) (settings_of mode given) given journal
 
--- a run of this mode may have these faults and scrubs
-abbrev pub may_have : Mode → (faults : Option Text) → (scrub : ℕ) → Bool
-may_have Voted faults scrub = true
-may_have Cooperative faults scrub = is_none faults && (scrub == 0)
+-- a run of this mode may have these faults, scrubs and steps
+abbrev pub may_have : Mode → (faults : Option Text) → (scrub limit : ℕ) → Bool
+may_have Voted faults scrub limit = true
+may_have Cooperative faults scrub limit = is_none faults && ((scrub == 0) && nat_le limit most_together)
 
 abbrev pub suits_mode : AskedRun → Bool
-suits_mode run = may_have run.settings.mode run.faults run.settings.scrub
+suits_mode run = may_have run.settings.mode run.faults run.settings.scrub run.settings.limit
 
 -- the run, where it suits its mode
 abbrev pub suited : AskedRun → Option AskedRun
@@ -190,7 +194,7 @@ abbrev pub audit_from : Option AskedRun → Option Text → (json : Bool) → Op
 audit_from (Some run) (Some journal) json = Some (record { run = run; journal = journal; json = json })
 audit_from _ _ json = None
 
--- an audited run is one by votes
+-- The words of an audit don't say a mode: the journal does, and until that is read it is that of votes.
 abbrev pub audit_given : (Text → Option Text) → Bool → Option AskedAudit
 audit_given given json = audit_from (asked_run (Some Voted) given false) (given (codes "journal")) json
 
@@ -358,7 +362,7 @@ Fits (to_races races) = Unit {0}
 Fits (to_inject inject) = IsFrom 1 256 inject.count × IfSome inject.replica (IsFrom 0 4)
 Fits (to_bench bench) = IsFrom 1 2000 bench.size
 
--- the same of an audit, whose run is one by votes
+-- the same of an audit, whose words say no mode
 abbrev pub AuditFits : AskedAudit → Type 0
 AuditFits audit = InRange audit.run.settings × (audit.run.settings.mode ≡ Voted)
 

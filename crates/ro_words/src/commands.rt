@@ -18,6 +18,9 @@ use clap::error::ErrorKind;
 use ro_settings::{Mode, Settings};
 use std::alloc::{AllocError, Global};
 
+/// How many steps a cooperative run may have at most. Each time that a mutex is got takes one, and is counted in 32 bits.
+const MOST_TOGETHER: u64 = 4_000_000_000;
+
 /// What a command line asks for.
 #[derive(Clone, Copy, PartialEq, Eq, Debug)]
 pub enum Command<'a> {
@@ -204,13 +207,15 @@ fn run_command<'a>(matches: &ArgMatches<'a>) -> Option<Command<'a>>
     }
 }
 
-// Whether a run of its mode may have the faults and the scrubs that are asked for.
+// Whether a run of its mode may have the faults, the scrubs and the steps that are asked for.
 fn suits_mode(run: &RunCommand<'_>) -> bool
     ensures { result ≡ suits_mode (run_by run.now) }
 {
     match run.settings.mode {
         Mode::Voted => true,
-        Mode::Cooperative => run.faults.is_none() && run.settings.scrub == 0,
+        Mode::Cooperative => {
+            run.faults.is_none() && run.settings.scrub == 0 && run.settings.limit <= MOST_TOGETHER
+        }
     }
 }
 

@@ -7,4 +7,4 @@ mod page_locks;
 pub use laws::{
     ceiling_row, decision_row, gets_add_up, gets_are_below, numbers_stay, rows_are_gets,
 };
-pub use page_locks::PageLocks;
+pub use page_locks::{PageLocks, is_below};

@@ -95,8 +95,8 @@ impl<'a> Locks for PageLocks<'a> {
     }
 }
 
-// Whether a rank of a mutex may be got.
-fn is_below(ceilings: &[u64], number: u32, rank: u32) -> bool
+/// Whether a rank of a mutex is below the mutex's ceiling, by the mutexes' numbers; none is where it has no ceiling.
+pub fn is_below(ceilings: &[u64], number: u32, rank: u32) -> bool
     ensures { IsTrue result ↔ (rank < ceiling_of ceilings.now number) }
 {
     match ceilings.get(number as usize) {

@@ -29,6 +29,8 @@ pub mod Sitting
 pub mod Limiting
 -- in a legal journal each replica is lent once at the most
 pub mod Apart
+-- a peer as it is in the core
+pub mod Bounding
 -- a take
 pub mod Takes
 -- a lease that comes back
@@ -54,6 +56,8 @@ pub mod Enters
 pub mod Behind
 -- a vote on which the views agree
 pub mod Votes
+-- the end in the place of a vote, for whoever asks
+pub mod Asked
 -- a call that is served
 pub mod Frees
 -- what the kernel serves when the reservation has ended

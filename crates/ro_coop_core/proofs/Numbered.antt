@@ -13,7 +13,7 @@ use Rattle.ro_peer.specs.declared.mutexes.Mutex.{Mutex}
 use Rattle.ro_takers.specs.Recalls.{Recalls, list_of}
 use Rattle.ro_legal.specs.Sides.{Side, threads_of}
 use Rattle.ro_legal.specs.Core.{Job, Core}
-use Rattle.ro_legal.specs.Kept.{KeepsReplicas, KeepsMutexes, IsCounted, table_of, cooperative_in}
+use Rattle.ro_legal.specs.Kept.{KeepsReplicas, KeepsMutexes, IsCounted, addresses_of, table_of, cooperative_in}
 use Rattle.ro_legal.proofs.Lists.{MappedFrom, get-map, get-map-there, length-mapped}
 use Rattle.ro_coop_core.specs.declared.seats.Seat.{Seat}
 use Rattle.ro_coop_core.specs.Seats.{AreSeated, IsSeated, IsNumbered, AreNumbered, KnowMutex, takers_of}
@@ -53,7 +53,7 @@ numbered-set number address [] (s ∷ seats) place seat seat' e same h = absurd 
 numbered-set number address (d ∷ sides) [] place seat seat' e same h = absurd h
 
 -- no more than stand in the table
-pub few-cooperative : (program : Program) (owners : Owners) → length (cooperative_in program owners) ≤ length owners
+few-cooperative : (program : Program) (owners : Owners) → length (cooperative_in program owners) ≤ length owners
 few-cooperative program owners = by (has_otherwise program.image.calls.addresses functions)
   where
     by : (b : Bool) → length (if b then [] else table_of owners) ≤ length owners
@@ -87,8 +87,23 @@ module _ (job : Job) (core : Core) (seats : List Seat) (seated : AreSeated job c
   all-numbered number address listed = are-numbered number address core.sides seats (let a = seated.count in let b = replicas.replica_count in let d = replicas.side_count in omega arith) (seat-numbered number address listed)
 
   -- a mutex of any side is one of these
-  pub its-number : (place : ℕ) (replica : Replica) (side : Side) (number : ℕ) (mutex : Mutex) → slice_get core.replicas place ≡ Some replica → slice_get core.sides place ≡ Some side → slice_get side.mutexes number ≡ Some mutex
+  its-number : (place : ℕ) (replica : Replica) (side : Side) (number : ℕ) (mutex : Mutex) → slice_get core.replicas place ≡ Some replica → slice_get core.sides place ≡ Some side → slice_get side.mutexes number ≡ Some mutex
       → slice_get (cooperative_in job.program core.kernel.owners) number ≡ Some mutex.address
   its-number place replica side number mutex here beside e =
       let counted : IsCounted job core replica side = mutexes.counted place replica side here beside in
       ap (λ (ns : List ℕ). slice_get ns number) (sym counted.answers_for) ∙ get-map-there (λ m. m.address) side.mutexes number mutex e
+
+  -- so each seat knows it by its number there
+  pub side-numbered : (place : ℕ) (replica : Replica) (side : Side) (number : ℕ) (mutex : Mutex) → slice_get core.replicas place ≡ Some replica → slice_get core.sides place ≡ Some side → slice_get side.mutexes number ≡ Some mutex
+      → AreNumbered number mutex.address core.sides seats
+  side-numbered place replica side number mutex here beside e = all-numbered number mutex.address (its-number place replica side number mutex here beside e)
+
+  -- no side has more than stand in the table
+  pub few-mutexes : (place : ℕ) (replica : Replica) (side : Side) → slice_get core.replicas place ≡ Some replica → slice_get core.sides place ≡ Some side → length side.mutexes ≤ 256
+  few-mutexes place replica side here beside =
+      let counted = mutexes.counted place replica side here beside in
+      let few = mutexes.few in
+      let same : length (addresses_of side.mutexes) ≡ length (cooperative_in job.program core.kernel.owners) = ap length counted.answers_for in
+      let addresses = length-mapped (λ (m : Mutex). m.address) side.mutexes in
+      let table = few-cooperative job.program core.kernel.owners in
+      omega arith

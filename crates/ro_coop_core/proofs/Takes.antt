@@ -24,10 +24,10 @@ use Rattle.ro_legal.specs.Sides.{Side, peer_with, rank_in}
 use Rattle.ro_legal.specs.Core.{Job, Core}
 use Rattle.ro_legal.specs.Legal.{MayTake}
 use Rattle.ro_legal.specs.Cooperative.{after, done_in, peer_in, replay}
-use Rattle.ro_legal.specs.Kept.{KeepsReplicas, IsCounted, addresses_of, cooperative_in}
+use Rattle.ro_legal.specs.Kept.{KeepsReplicas, IsCounted, addresses_of}
 use Rattle.ro_legal.proofs.Journals.{outcome_of-append}
 use Rattle.ro_legal.proofs.Leases.{AtHome, lendable_there, lendable-awake, has_replica}
-use Rattle.ro_legal.proofs.Lists.{get-set-same, length-mapped}
+use Rattle.ro_legal.proofs.Lists.{get-set-same}
 use Rattle.ro_legal.proofs.TogetherCounts.{most-bounds}
 use Rattle.ro_coop_core.specs.declared.seats.Partner.{Partner}
 use Rattle.ro_coop_core.specs.declared.seats.Seat.{Seat}
@@ -39,7 +39,7 @@ use Rattle.ro_legal.proofs.TogetherJournals.{replay_more}
 use Rattle.ro_coop_core.proofs.Keeping.{keeps-replicas, keeps-mutexes}
 use Rattle.ro_coop_core.proofs.Held.{Goes, goes, no-views, no-outcome, same-counts, holds-step}
 use Rattle.ro_coop_core.proofs.Homes.{seat-changes}
-use Rattle.ro_coop_core.proofs.Numbered.{all-numbered, its-number, numbered-set, few-cooperative}
+use Rattle.ro_coop_core.proofs.Numbered.{side-numbered, numbered-set, few-mutexes}
 use Rattle.ro_coop_core.proofs.Distinct.{AreDistinct, its-rank, own-number, table-distinct, cooperative-distinct}
 
 one-end-le : (o : Option How) → one_end o ≤ 1
@@ -183,17 +183,9 @@ module _ (f : Fields) (h : Holds f) (lease : Lease) (allowed : MayTake f.job (co
 
     -- a mutex of it is known by its number in every seat
     mutex-numbered : (number : ℕ) (mutex : Mutex) → slice_get partner.peer.mutexes number ≡ Some mutex → AreNumbered number mutex.address (core_in f).sides f.seats
-    mutex-numbered number mutex e = all-numbered f.job (core_in f) f.seats h.seats_are replicas (keeps-mutexes f h) number mutex.address
-        (its-number f.job (core_in f) f.seats h.seats_are replicas (keeps-mutexes f h) lease.replica leaves.replica leaves.side number mutex leaves.here leaves.beside (ap (λ (ms : List Mutex). slice_get ms number) (sym same-mutexes) ∙ e))
-
-    few-mutexes : length leaves.side.mutexes ≤ 256
-    few-mutexes =
-        let counted = (keeps-mutexes f h).counted lease.replica leaves.replica leaves.side leaves.here leaves.beside in
-        let few = (keeps-mutexes f h).few in
-        let same : length (addresses_of leaves.side.mutexes) ≡ length (cooperative_in f.job.program (core_in f).kernel.owners) = ap length counted.answers_for in
-        let addresses = length-mapped (λ (m : Mutex). m.address) leaves.side.mutexes in
-        let table = few-cooperative f.job.program (core_in f).kernel.owners in
-        omega arith
+    mutex-numbered number mutex e =
+        side-numbered f.job (core_in f) f.seats h.seats_are replicas (keeps-mutexes f h) lease.replica leaves.replica leaves.side number mutex leaves.here leaves.beside
+        (ap (λ (ms : List Mutex). slice_get ms number) (sym same-mutexes) ∙ e)
 
     -- behind its leaving each seat knows as much
     left-numbered : (number : ℕ) (mutex : Mutex) → slice_get partner.peer.mutexes number ≡ Some mutex → AreNumbered number mutex.address (core_in f).sides (slice_set f.seats lease.replica (record seat { home = None }))
@@ -223,7 +215,7 @@ module _ (f : Fields) (h : Holds f) (lease : Lease) (allowed : MayTake f.job (co
     }
 
     pub take-few : length partner.peer.mutexes < 2 ^ 32
-    take-few = let few = few-mutexes in let same : length partner.peer.mutexes ≡ length leaves.side.mutexes = ap length same-mutexes in omega arith
+    take-few = let few = few-mutexes f.job (core_in f) f.seats h.seats_are replicas (keeps-mutexes f h) lease.replica leaves.replica leaves.side leaves.here leaves.beside in let same : length partner.peer.mutexes ≡ length leaves.side.mutexes = ap length same-mutexes in omega arith
 
     pub take-count : length partner.ceilings.items ≡ length partner.peer.mutexes
     take-count = leaves.is.ceilings ∙ sym (ap length same-mutexes)

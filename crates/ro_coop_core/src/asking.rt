@@ -1,17 +1,23 @@
-//! Questions to a core: what may be done, what would end the run, and what holds. None of them changes it.
+//! Questions to a core: what may be done, what would end the run, and what holds. None of them changes its journal.
 ghost use Rattle.std.specs.Prelude.{◌≡◌, ◌<◌, ◌≤◌, ◌↔◌, IfSome, IsSome, IsTrue, Some, length, true};
+ghost use Rattle.ro_event.specs.Views.{View as ViewSeen};
+ghost use Rattle.ro_journal.specs.declared.How.{How as HowSeen};
 ghost use Rattle.ro_peer.specs.Seen.{peer_of};
-ghost use Rattle.ro_legal.specs.Core.{is_home, is_lendable};
-ghost use Rattle.ro_legal.specs.Legal.{MayTake};
-ghost use Rattle.ro_legal.specs.Cooperative.{peer_in};
+ghost use Rattle.ro_legal.specs.Core.{is_home, is_lendable, may_vote};
+ghost use Rattle.ro_legal.specs.Legal.{MayTake, EndsFree};
+ghost use Rattle.ro_legal.specs.Cooperative.{EndsVote, peer_in};
 ghost use Rattle.ro_coop_core.specs.Fields.{Holds};
-ghost use Rattle.ro_coop_core.specs.Runs.{fields_of, job_of, state_of};
+ghost use Rattle.ro_coop_core.specs.Seen.{Stays, parked_in};
+ghost use Rattle.ro_coop_core.specs.Runs.{fields_of, job_of, state_of, seen, IsAgreed};
 
 use crate::cores::Core;
+use crate::seats::show_all;
+use crate::voting::are_same;
 use ro_journal::{How, Lease};
 use ro_kernel::Kernel;
-use ro_legal::has_lease;
+use ro_legal::{Parking, has_lease};
 use ro_peer::Peer;
+use ro_serving::Coming;
 
 impl Core {
     /// Whether a thread of a replica may be lent to a driver.
@@ -31,6 +37,51 @@ impl Core {
         ensures { result ≡ is_lendable (state_of self.now) replica thread }
     {
         replica < self.settings.replicas && self.is_lendable(replica, thread)
+    }
+
+    /// The end that would come in the place of a vote on a thread, if one would: that of views that differ, or of the limit of
+    /// steps.
+    pub fn vote_end(&mut self, thread: u32) -> Option<How>
+        requires holds { Holds (fields_of self.old) }
+        requires may { may_vote (state_of self.old) thread ≡ true }
+        ensures holds { Holds (fields_of self.new) }
+        ensures stays { Stays (seen self.old) (seen self.new) }
+        ensures end { (how : HowSeen) → (result ≡ Some how) ↔ EndsVote (job_of self.old) (state_of self.old) thread how }
+    {
+        show_all(self.seats.as_slice(), thread, self.views.as_mut_slice());
+        if are_same(self.views.as_slice()) {
+            return self.agreed_end(thread);
+        }
+        Some(How::Differ)
+    }
+
+    // The end that would come in the place of a vote on which the views agree, if one would: that of the limit of steps.
+    fn agreed_end(&mut self, thread: u32) -> Option<How>
+        requires agreed { (view : ViewSeen) × IsAgreed (fields_of self.old) thread view }
+        ensures same { self.new ≡ self.old }
+        ensures end { (how : HowSeen) → (result ≡ Some how) ↔ EndsVote (job_of self.old) (state_of self.old) thread how }
+    {
+        let reservation = self.lapse(thread);
+        let coming = Coming::of(&self.kernel, thread, &self.views[0]);
+        let next = coming.did.steps();
+        self.revive(thread, reservation);
+        if self.steps + next > self.settings.limit {
+            let steps = self.steps;
+            return Some(How::Limit { steps, next });
+        }
+        None
+    }
+
+    /// The end that would come in the place of a free, if one would.
+    pub fn free_end(&self) -> Option<How>
+        requires holds { Holds (fields_of self.now) }
+        ensures { (how : HowSeen) → (result ≡ Some how) ↔ EndsFree (job_of self.now) (state_of self.now) how }
+    {
+        if self.steps < self.settings.limit {
+            return None;
+        }
+        let steps = self.steps;
+        Some(How::Limit { steps, next: 1 })
     }
 
     /// How many steps the first steps have so far.
@@ -79,5 +130,12 @@ impl Core {
     {
         let partner = self.seats.get(number as usize)?.home.as_ref()?;
         Some(&partner.peer)
+    }
+
+    /// Where a thread of a peer came back, where it last came back at a lock.
+    pub fn parking(&self, number: u32, thread: u32) -> Option<Parking>
+        ensures { Holds (fields_of self.now) → IfSome result (λ parking. parked_in (state_of self.now) number thread ≡ Some parking) }
+    {
+        self.seats.get(number as usize)?.parking(thread)
     }
 }

@@ -1,16 +1,35 @@
 //! Below which ranks a lease may get the mutexes of its peer.
-ghost use Rattle.std.specs.Prelude.{◌≡◌, ◌<◌, ◌^◌, ◌==◌, ℕ, List, false, Some, length, slice_get, slice_index_or};
+ghost use Rattle.std.specs.Prelude.{◌≡◌, ◌<◌, ◌^◌, ◌==◌, ℕ, List, false, not, Some, length, nat_lt, slice_get, slice_index_or};
 ghost use Rattle.ro_peer.specs.declared.mutexes.Mutex.{Mutex as MutexSeen};
-ghost use Rattle.ro_legal.specs.Sides.{Side};
+ghost use Rattle.ro_peer.specs.Seen.{peer_of};
+ghost use Rattle.ro_legal.specs.Sides.{Side, is_ahead};
 ghost use Rattle.ro_legal.specs.Core.{Core as CoreSeen, first_given_up};
+ghost use Rattle.ro_legal.specs.Cooperative.{peer_in};
 ghost use Rattle.ro_coop_core.specs.declared.seats.Seat.{Seat as SeatSeen};
+ghost use Rattle.ro_coop_core.specs.Fields.{Holds};
 ghost use Rattle.ro_coop_core.specs.Seats.{AreLowered, AreNear, AreNumbered, EachIsCeiling, IsCeiling, KnowEach, KnowMutex, KnowsParked};
 ghost use Rattle.ro_coop_core.specs.Seen.{AreCeilings};
+ghost use Rattle.ro_coop_core.specs.Runs.{fields_of, state_of};
 
-use crate::cores::THREADS;
+use crate::cores::{Core, THREADS};
 use crate::seats::{Partner, Seat, ceiling, taker};
 use ro_legal::Parking;
 use ro_peer::Mutexes;
+
+impl Core {
+    /// Sets below which ranks what was lent may get its mutexes by now: below those that are too far ahead, whoever waits. The
+    /// number of its replica says of which peer the contract speaks.
+    pub fn bound(&self, partner: &mut Partner, replica: u32)
+        requires holds { Holds (fields_of self.now) }
+        requires peer { peer_in (state_of self.now) replica ≡ Some (peer_of partner.old.peer) }
+        requires count { length partner.old.ceilings.items ≡ length partner.old.peer.mutexes }
+        ensures peer { partner.new.peer ≡ partner.old.peer }
+        ensures count { length partner.new.ceilings.items ≡ length partner.old.ceilings.items }
+        ensures ceilings { (number rank : ℕ) (mutex : MutexSeen) → slice_get partner.old.peer.mutexes number ≡ Some mutex → rank < 2 ^ 32 → nat_lt rank (slice_index_or partner.new.ceilings.items number 0) ≡ not (is_ahead (state_of self.now).sides mutex.address rank) }
+    {
+        set_ceilings(self.seats.as_slice(), partner.ceilings.as_mut_slice());
+    }
+}
 
 impl Partner {
     /// Sets below which ranks a lease of a thread may get the mutexes, where this is the place of the partner's seat.

@@ -198,8 +198,8 @@ impl Core {
         reserve_all(self.seats.as_mut_slice())
     }
 
-    // Ends a thread's reservation where its replicas answered a call of it, and answers which one it was.
-    fn lapse(&mut self, thread: u32) -> Option<Reservation>
+    /// Ends a thread's reservation where its replicas answered a call of it, and answers which one it was.
+    pub(crate) fn lapse(&mut self, thread: u32) -> Option<Reservation>
         requires { lives_on self.old.kernel.kernel thread ≡ true }
         ensures was { result ≡ lapsed_one (first_answered thread self.old.seats.items) thread self.old.kernel }
         ensures core { self.new ≡ record self.old { kernel = lapsed (first_answered thread self.old.seats.items) thread self.old.kernel } }
@@ -211,8 +211,8 @@ impl Core {
         }
     }
 
-    // Gives it back.
-    fn revive(&mut self, thread: u32, reservation: Option<Reservation>)
+    /// Gives it back.
+    pub(crate) fn revive(&mut self, thread: u32, reservation: Option<Reservation>)
         requires { lives_on self.old.kernel.kernel thread ≡ true }
         ensures { self.new ≡ record self.old { kernel = revived (first_answered thread self.old.seats.items) thread reservation self.old.kernel } }
     {
@@ -287,8 +287,8 @@ impl Core {
     }
 }
 
-// Whether all views are the same.
-fn are_same(views: &[View]) -> bool
+/// Whether all views are the same.
+pub(crate) fn are_same(views: &[View]) -> bool
     ensures { IsTrue result ↔ ((view : ViewSeen) × AreAll view views.now) }
 {
     match views.split_first() {

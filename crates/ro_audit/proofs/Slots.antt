@@ -1,71 +1,175 @@
--- What is lent to a driver, behind an entry.
-use Rattle.std.proofs.Common.{◌≡◌, ◌≢◌, ℕ, zero, suc, ◌<◌, Bool, true, false, true≢false, not, cond, ◌||◌, List, [], ◌∷◌, ◌++◌, length, Option, Some, None, set, get_or, refl, sym, ap, ◌∙◌, subst, arith, eq-eqb, eqb-true, get_or-set_same, get_or-set_other}
+-- What is lent to a driver, behind an entry, by the rules of the job's mode.
+use Rattle.std.proofs.Common.{◌≡◌, ◌≢◌, inl, inr, ℕ, zero, suc, ◌<◌, Bool, true, false, true≢false, not, cond, ◌||◌, List, [], ◌∷◌, ◌++◌, length, Option, Some, None, set, get_or, refl, sym, ap, ◌∙◌, subst, arith, eq-eqb, eqb-true, get_or-set_same, get_or-set_other}
 use Rattle.std.specs.Prelude.{◌==◌, slice_get, slice_index_or, slice_set}
 use Rattle.std.specs.List.{find, list_any}
 use mathlib.Core.Logic.{dite}
 use native.Mathlib.Decide.{ℕ_discrete}
 use Rattle.ro_journal.specs.declared.Entry.{Entry}
-use Rattle.ro_journal.specs.declared.Entry.TheVariants.{Take, Put}
+use Rattle.ro_journal.specs.declared.Entry.TheVariants.{Take}
+use Rattle.ro_journal.specs.declared.Lease.{Lease}
 use Rattle.ro_kernel.specs.Kernel.{Kernel}
 use Rattle.ro_replica.specs.Seen.{replica_of}
-use Rattle.ro_lease.specs.Loans.{LentOf}
-use Rattle.ro_journal.specs.declared.Lease.{Lease}
-use Rattle.ro_legal.specs.Core.{Job, Core, is_idle, is_lease, is_out}
-use Rattle.ro_legal.specs.Legal.{after, IsAllowed, MayTake, MayPut}
-use Rattle.ro_core.specs.Seen.{IsOfJob}
-use Rattle.ro_legal.specs.Sound.{IsOrdered}
+use Rattle.ro_peer.specs.Seen.{peer_of}
+use Rattle.ro_lease.specs.Loans as replicas
+use Rattle.ro_coop_lease.specs.declared.Lent.{Lent}
+use Rattle.ro_coop_core.specs.Seen as shared_seen
+use Rattle.ro_legal.specs.Core.{Job, Core, is_idle, is_lease, is_out, lease_of}
+use Rattle.ro_legal.specs.Legal.{MayTake}
+use Rattle.ro_legal.specs.Legal as votes
+use Rattle.ro_legal.specs.Cooperative as together
 use Rattle.ro_legal.specs.Laws.{HasLease, Names}
-use Rattle.ro_legal.proofs.Leases.{Apart, OneEach, has_driver, same-lease, out_number}
-use Rattle.ro_legal.proofs.Lasting.{out_after, out_kernel, idle_after, idle_after_put}
+use Rattle.ro_legal.specs.Lent.{IsOfJob}
+use Rattle.ro_legal.specs.Modes.{Mode}
+use Rattle.ro_legal.specs.Modes as modes
+use Rattle.ro_legal.specs.Rules.{IsFit, Legal, replay}
+use Rattle.ro_legal.proofs.Leases.{OneEach, has_driver, same-lease, out_number}
+use Rattle.ro_legal.proofs.Lasting.{lease_lasts, kernel_lasts}
+use Rattle.ro_legal.proofs.TogetherLeases.{lease-lasts}
 use Rattle.ro_legal.proofs.Ordered.{going-parts}
-use Rattle.ro_audit.specs.Following.{Slot}
+use Rattle.ro_legal.proofs.Rules.{replay-more, after-take, others-idle, put-idle, part-idle}
+use Rattle.ro_cores.specs.Loans.{LentOf, IsLent, Returns, lease_in, plain_run}
+use Rattle.ro_cores.proofs.VotedLeases.{lending}
+use Rattle.ro_audit.specs.Following.{LendsReplica, LendsPeer, Lends, Slot}
 
 -- each driver's slot is what is lent to it
 abbrev pub AreSlots : Job → Core → List (Option LentOf) → Type 0
 AreSlots job core lent = (driver : ℕ) → Slot job core driver (slice_index_or lent driver None)
 
-module _ (job : Job) (core : Core) where
-  -- another driver's entry leaves it
-  pub slot-other : (driver by : ℕ) (entry : Entry) → IsOrdered job core → Apart core.leases → IsAllowed job core entry → Names by entry → by ≢ driver → (o : Option LentOf) → Slot job core driver o → Slot job (after job core entry) driver o
-  slot-other driver by entry ordered apart allowed names ne None s = idle_after job core driver by entry names ne s
-  slot-other driver by entry ordered apart allowed names ne (Some lent) s =
-      let out : HasLease core driver lent.lease (replica_of lent.replica) = record { held = s.held; there = s.there; not_ended = s.not_ended } in
-      let still = out_after job core driver lent.lease (replica_of lent.replica) by entry ordered apart allowed names ne out in
-      let kernel = out_kernel job core driver lent.lease (replica_of lent.replica) entry allowed out in
+-- ---- what goes out with a take
+
+module _ (job : Job) (core : Core) (alive : core.ended ≡ None) where
+  -- a lease that was just taken is the driver's
+  first-held : (lease : Lease) → lease_of (lending core lease) lease.driver ≡ Some lease
+  first-held lease = ap (λ (b : Bool). cond b (Some lease) (find (λ (l : Lease). l.driver == lease.driver) core.leases)) (eq-eqb lease.driver lease.driver refl)
+
+  replica-goes : (lent : replicas.LentOf) → lent.quantum ≡ job.settings.quantum → IsOfJob job core.kernel lent.replica → slice_get core.replicas lent.lease.replica ≡ Some (replica_of lent.replica) → LendsReplica job (lending core lent.lease) lent
+  replica-goes lent quantum program there = record {
+    quantum_is = quantum;
+    program = program;
+    held = first-held lent.lease;
+    there = there;
+    not_ended = alive;
+  }
+
+  peer-goes : (lent : Lent) → lent.quantum ≡ job.settings.quantum → (journal : List Entry) → together.replay job journal ≡ core → shared_seen.IsLent (plain_run job journal) lent.lease.replica lent.lease.thread lent.partner → LendsPeer job (lending core lent.lease) lent
+  peer-goes lent quantum journal at is = record {
+    quantum_is = quantum;
+    program = subst (λ (c : Core). IsOfJob job c.kernel lent.partner.peer.replica) at is.program;
+    held = first-held lent.lease;
+    there = ap (λ (c : Core). together.peer_in c lent.lease.replica) (sym at) ∙ is.peer;
+    going = is.going;
+    countable = is.countable;
+    faultless = is.faultless;
+    ceilings = is.count;
+    not_ended = alive;
+  }
+
+-- what is lent is out behind its take
+pub take-lends : (job : Job) (journal : List Entry) (lent : LentOf) → MayTake job (replay job journal) (lease_in lent) → IsLent job journal lent → Lends job (replay job (journal ++ Take (lease_in lent) ∷ [])) lent
+take-lends job journal (inl lent) may is =
+    let at : replay job (journal ++ Take lent.lease ∷ []) ≡ lending (replay job journal) lent.lease = replay-more job journal (Take lent.lease) ∙ after-take job (replay job journal) lent.lease in (
+      is.0,
+      subst (λ (c : Core). LendsReplica job c lent) (sym at) (replica-goes job (replay job journal) (going-parts (replay job journal) may.going).1 lent is.1
+          (subst (λ (m : Mode). IsOfJob job (modes.replay m job journal).kernel lent.replica) (sym is.0) is.2.program)
+          (subst (λ (m : Mode). slice_get (modes.replay m job journal).replicas lent.lease.replica ≡ Some (replica_of lent.replica)) (sym is.0) is.2.replica)),
+    )
+take-lends job journal (inr lent) may is =
+    let at : replay job (journal ++ Take lent.lease ∷ []) ≡ lending (replay job journal) lent.lease = replay-more job journal (Take lent.lease) ∙ after-take job (replay job journal) lent.lease in (
+      is.0,
+      subst (λ (c : Core). LendsPeer job c lent) (sym at) (peer-goes job (replay job journal) (going-parts (replay job journal) may.going).1 lent is.1 journal
+          (ap (λ (m : Mode). modes.replay m job journal) (sym is.0)) is.2),
+    )
+
+-- ---- what another driver's entry leaves
+
+module _ (job : Job) (journal : List Entry) (entry : Entry) where
+  -- by votes
+  replica-stays : (lent : replicas.LentOf) (by : ℕ) → votes.Legal job (journal ++ entry ∷ []) → Names by entry → by ≢ lent.lease.driver → LendsReplica job (votes.replay job journal) lent → LendsReplica job (votes.replay job (journal ++ entry ∷ [])) lent
+  replica-stays lent by legal names ne s =
+      let out : HasLease (votes.replay job journal) lent.lease.driver lent.lease (replica_of lent.replica) = record { held = s.held; there = s.there; not_ended = s.not_ended } in
+      let still = lease_lasts job journal entry legal lent.lease.driver by names ne lent.lease (replica_of lent.replica) out in
+      let kernel = kernel_lasts job journal entry legal lent.lease.driver lent.lease (replica_of lent.replica) out in
       record { quantum_is = s.quantum_is; program = subst (λ (k : Kernel). IsOfJob job k lent.replica) (sym kernel) s.program; held = still.held; there = still.there; not_ended = still.not_ended }
 
-  -- where one slot changes with its driver's entry
-  slot-set : (by : ℕ) (entry : Entry) (lent : List (Option LentOf)) (o : Option LentOf) → IsOrdered job core → Apart core.leases → IsAllowed job core entry → Names by entry → by < length lent → AreSlots job core lent → Slot job (after job core entry) by o
-      → AreSlots job (after job core entry) (slice_set lent by o)
-  slot-set by entry lent o ordered apart allowed names within slots its driver = dite (ℕ_discrete driver by)
-      (λ (same : driver ≡ by). subst (Slot job (after job core entry) driver) (sym (ap (λ (n : ℕ). get_or (set lent by o) n None) same ∙ get_or-set_same lent by o None within)) (subst (λ (n : ℕ). Slot job (after job core entry) n o) (sym same) its))
-      (λ (other : driver ≢ by). subst (Slot job (after job core entry) driver) (sym (get_or-set_other lent by driver o None other)) (slot-other driver by entry ordered apart allowed names (λ e. other (sym e)) (slice_index_or lent driver None) (slots driver)))
+  -- in a cooperative run
+  peer-stays : (lent : Lent) (by : ℕ) → job.faults ≡ [] → together.Legal job (journal ++ entry ∷ []) → Names by entry → by ≢ lent.lease.driver → LendsPeer job (together.replay job journal) lent → LendsPeer job (together.replay job (journal ++ entry ∷ [])) lent
+  peer-stays lent by unstruck legal names ne s =
+      let still = lease-lasts job journal entry unstruck legal lent.lease.driver by names ne lent.lease (together.replay job journal).kernel (peer_of lent.partner.peer) (record { held = s.held; there = s.there; kernel_is = refl; not_ended = s.not_ended }) in
+      record {
+        quantum_is = s.quantum_is;
+        program = subst (λ (k : Kernel). IsOfJob job k lent.partner.peer.replica) (sym still.kernel_is) s.program;
+        held = still.held;
+        there = still.there;
+        going = s.going;
+        countable = s.countable;
+        faultless = s.faultless;
+        ceilings = s.ceilings;
+        not_ended = still.not_ended;
+      }
 
-  -- a take
-  pub slots-take : (lease : Lease) (lent : List (Option LentOf)) (loan : LentOf) → IsOrdered job core → Apart core.leases → MayTake job core lease → length lent ≡ job.settings.drivers → AreSlots job core lent
-      → loan.lease ≡ lease → loan.quantum ≡ job.settings.quantum → IsOfJob job core.kernel loan.replica → slice_get core.replicas lease.replica ≡ Some (replica_of loan.replica)
-      → AreSlots job (after job core (Take lease)) (slice_set lent lease.driver (Some loan))
-  unfolding after
-  slots-take lease lent loan ordered apart may count slots lease_is quantum_is program there =
-      slot-set lease.driver (Take lease) lent (Some loan) ordered apart may refl (let w = may.driver_exists in omega arith) slots (record {
-        quantum_is = quantum_is;
-        program = program;
-        held = ap (λ (b : Bool). cond b (Some lease) (find (λ (l : Lease). l.driver == lease.driver) core.leases)) (eq-eqb lease.driver lease.driver refl) ∙ ap (λ (l : Lease). Some l) (sym lease_is);
-        there = ap (λ (l : Lease). slice_get core.replicas l.replica) lease_is ∙ there;
-        not_ended = (going-parts core may.going).1;
-      })
+  module _ (fit : IsFit job) (legal : Legal job (journal ++ entry ∷ [])) where
+    abbrev now : Core
+    now = replay job journal
 
-  -- a put
-  pub slots-put : (lease : Lease) (count hit : ℕ) (lent : List (Option LentOf)) → IsOrdered job core → Apart core.leases → OneEach core.leases → MayPut job core lease count hit → lease.driver < length lent → AreSlots job core lent
-      → AreSlots job (after job core (Put lease count hit)) (slice_set lent lease.driver None)
-  slots-put lease count hit lent ordered apart one may within slots =
-      slot-set lease.driver (Put lease count hit) lent None ordered apart may refl within slots (idle_after_put job core lease count hit one may)
+    abbrev later : Core
+    later = replay job (journal ++ entry ∷ [])
 
--- where nothing is lent, and an entry lends nothing
+    lent-stays : (lent : LentOf) (by : ℕ) → Names by entry → by ≢ (lease_in lent).driver → Lends job now lent → Lends job later lent
+    lent-stays (inl lent) by names ne s = (
+      s.0,
+      subst (λ (m : Mode). LendsReplica job (modes.replay m job (journal ++ entry ∷ [])) lent) (sym s.0)
+          (replica-stays lent by (subst (λ (m : Mode). modes.Legal m job (journal ++ entry ∷ [])) s.0 legal) names ne (subst (λ (m : Mode). LendsReplica job (modes.replay m job journal) lent) s.0 s.1)),
+    )
+    lent-stays (inr lent) by names ne s =
+        let suits = subst (λ (m : Mode). modes.Suits m job) s.0 fit in (
+          s.0,
+          subst (λ (m : Mode). LendsPeer job (modes.replay m job (journal ++ entry ∷ [])) lent) (sym s.0)
+              (peer-stays lent by suits.0 (subst (λ (m : Mode). modes.Legal m job (journal ++ entry ∷ [])) s.0 legal) names ne (subst (λ (m : Mode). LendsPeer job (modes.replay m job journal) lent) s.0 s.1)),
+        )
+
+    slot-other : (driver by : ℕ) → Names by entry → by ≢ driver → (o : Option LentOf) → Slot job now driver o → Slot job later driver o
+    slot-other driver by names ne None s = subst (λ (c : Core). is_idle c driver ≡ true) (sym (replay-more job journal entry)) (others-idle job now driver by entry names ne s)
+    slot-other driver by names ne (Some lent) s = (s.0, lent-stays lent by names (λ e. ne (e ∙ s.0)) s.1)
+
+    -- where one slot changes with its driver's entry
+    slot-set : (by : ℕ) (lent : List (Option LentOf)) (o : Option LentOf) → Names by entry → by < length lent → AreSlots job now lent → Slot job later by o → AreSlots job later (slice_set lent by o)
+    slot-set by lent o names within slots its driver = dite (ℕ_discrete driver by)
+        (λ (same : driver ≡ by). subst (Slot job later driver) (sym (ap (λ (n : ℕ). get_or (set lent by o) n None) same ∙ get_or-set_same lent by o None within)) (subst (λ (n : ℕ). Slot job later n o) (sym same) its))
+        (λ (other : driver ≢ by). subst (Slot job later driver) (sym (get_or-set_other lent by driver o None other)) (slot-other driver by names (λ e. other (sym e)) (slice_index_or lent driver None) (slots driver)))
+
+-- a take
+pub slots-take : (job : Job) (journal : List Entry) (loan : LentOf) (lent : List (Option LentOf)) → IsFit job → Legal job (journal ++ Take (lease_in loan) ∷ []) → MayTake job (replay job journal) (lease_in loan) → IsLent job journal loan
+    → length lent ≡ job.settings.drivers → AreSlots job (replay job journal) lent → AreSlots job (replay job (journal ++ Take (lease_in loan) ∷ [])) (slice_set lent (lease_in loan).driver (Some loan))
+slots-take job journal loan lent fit legal may is count slots =
+    slot-set job journal (Take (lease_in loan)) fit legal (lease_in loan).driver lent (Some loan) refl (let w = may.driver_exists in omega arith) slots (refl, take-lends job journal loan may is)
+
+-- a lease that comes back is of the driver that brings it, which holds none behind it
+pub returns-names : (lease : Lease) (entry : Entry) → Returns lease entry → Names lease.driver entry
+returns-names lease entry (count, hit, inl e) = subst (Names lease.driver) (sym e) refl
+returns-names lease entry (count, hit, inr e) = subst (Names lease.driver) (sym e) refl
+
+returns-idle : (job : Job) (journal : List Entry) (lease : Lease) (entry : Entry) → Returns lease entry → Legal job (journal ++ entry ∷ []) → is_idle (replay job (journal ++ entry ∷ [])) lease.driver ≡ true
+returns-idle job journal lease entry (count, hit, inl e) legal =
+    subst (λ (x : Entry). is_idle (replay job (journal ++ x ∷ [])) lease.driver ≡ true) (sym e) (put-idle job journal lease count hit (subst (λ (x : Entry). Legal job (journal ++ x ∷ [])) e legal))
+returns-idle job journal lease entry (count, hit, inr e) legal =
+    subst (λ (x : Entry). is_idle (replay job (journal ++ x ∷ [])) lease.driver ≡ true) (sym e) (part-idle job journal lease count hit (subst (λ (x : Entry). Legal job (journal ++ x ∷ [])) e legal))
+
+-- a return
+pub slots-return : (job : Job) (journal : List Entry) (lease : Lease) (entry : Entry) (lent : List (Option LentOf)) → IsFit job → Legal job (journal ++ entry ∷ []) → Returns lease entry → lease.driver < length lent → AreSlots job (replay job journal) lent
+    → AreSlots job (replay job (journal ++ entry ∷ [])) (slice_set lent lease.driver None)
+slots-return job journal lease entry lent fit legal returns within slots =
+    slot-set job journal entry fit legal lease.driver lent None (returns-names lease entry returns) within slots (returns-idle job journal lease entry returns legal)
+
+-- ---- where nothing is lent, and an entry lends nothing
+
+lends-held : (job : Job) (core : Core) (lent : LentOf) → Lends job core lent → lease_of core (lease_in lent).driver ≡ Some (lease_in lent)
+lends-held job core (inl lent) s = s.1.held
+lends-held job core (inr lent) s = s.1.held
+
 slot-alone : (job : Job) (core core' : Core) (driver : ℕ) → core.leases ≡ [] → core'.leases ≡ core.leases → (o : Option LentOf) → Slot job core driver o → Slot job core' driver o
 slot-alone job core core' driver none same None s = ap (λ (ls : List Lease). not (has_driver driver ls)) same ∙ s
 slot-alone job core core' driver none same (Some lent) s =
-    absurd (let e : None ≡ Some lent.lease = sym (ap (find (λ (l : Lease). l.driver == driver)) none) ∙ s.held in cc)
+    absurd (let e : None ≡ Some (lease_in lent) = sym (ap (find (λ (l : Lease). l.driver == (lease_in lent).driver)) none) ∙ lends-held job core lent s.1 in cc)
 
 pub slots-alone : (job : Job) (core core' : Core) (lent : List (Option LentOf)) → core.leases ≡ [] → core'.leases ≡ core.leases → AreSlots job core lent → AreSlots job core' lent
 slots-alone job core core' lent none same slots driver = slot-alone job core core' driver none same (slice_index_or lent driver None) (slots driver)
@@ -90,7 +194,7 @@ none-out core lease idle out =
     true≢false (sym idle ∙ ap not there)
 
 -- the lease that is found is the one that is out
-pub out-found : (own lease : Lease) (leases : List Lease) → OneEach leases → find (λ l. l.driver == own.driver) leases ≡ Some lease → list_any (is_lease own) leases ≡ true → lease ≡ own
+out-found : (own lease : Lease) (leases : List Lease) → OneEach leases → find (λ l. l.driver == own.driver) leases ≡ Some lease → list_any (is_lease own) leases ≡ true → lease ≡ own
 out-found own lease [] one f e = absurd (let g : None ≡ Some lease = f in cc)
 out-found own lease (l ∷ leases) one f e = by (l.driver == own.driver) refl f (is_lease own l) refl e (out-found own lease leases one.1)
   where
@@ -104,3 +208,8 @@ out-found own lease (l ∷ leases) one f e = by (l.driver == own.driver) refl f 
         absurd (true≢false (sym there ∙ ap (λ (n : ℕ). has_driver n leases) (sym (eqb-true l.driver own.driver is)) ∙ one.0))
     by false is g true k h rest = absurd (true≢false (sym (eq-eqb l.driver own.driver (ap (λ (x : Lease). x.driver) (same-lease own l k))) ∙ is))
     by false is g false k h rest = rest g h
+
+-- what is lent to the driver of a lease that is out is that lease
+pub lent-is : (job : Job) (core : Core) (own : Lease) (lent : LentOf) → OneEach core.leases → Slot job core own.driver (Some lent) → is_out core own ≡ true → lease_in lent ≡ own
+lent-is job core own lent one s out =
+    out-found own (lease_in lent) core.leases one (subst (λ (driver : ℕ). lease_of core driver ≡ Some (lease_in lent)) s.0 (lends-held job core lent s.1)) out

@@ -1,18 +1,32 @@
--- What an audit tells of a journal.
-use Rattle.std.specs.Prelude.{◌≡◌, ◌≢◌, ◌⊎◌, ℕ, true, false, List, [], ◌∷◌, ◌++◌, length, Some, IsSome}
+-- What an audit tells of a journal, by the rules of the job's mode.
+use Rattle.std.specs.Prelude.{◌≡◌, ◌≢◌, ◌⊎◌, ◌≤◌, ℕ, Bool, true, false, List, [], ◌∷◌, ◌++◌, Contains, length, Some, IsSome}
 use Rattle.ro_journal.specs.declared.How.TheVariants.{Differ, NoMajority}
+use Rattle.ro_journal.specs.declared.Lease.{Lease}
 use Rattle.ro_journal.specs.declared.Entry.{Entry}
 use Rattle.ro_journal.specs.declared.Entry.TheVariants.{Take, Put, Part, Vote, Free, Scrub, End}
-use Rattle.ro_journal.specs.Plan.{outcome_of, plan_of}
+use Rattle.ro_journal.specs.Plan.{outcome_of}
+use Rattle.ro_plans.specs.Plans.{plan_in}
+use Rattle.ro_peer.specs.Gets.{Get}
 use Rattle.ro_legal.specs.Core.{Job, Core, is_out, may_vote, may_free}
-use Rattle.ro_legal.specs.Decides.{DecidesVote, DecidesFree, DecidesScrub}
-use Rattle.ro_legal.specs.Legal.{IsAllowed, MayTake, MayPut, Legal, may_scrub, replay, output_of}
-use Rattle.ro_core.specs.Seen.{KeepsViews}
+use Rattle.ro_legal.specs.Legal.{MayTake, may_scrub}
+use Rattle.ro_legal.specs.Modes.{in_mode}
+use Rattle.ro_legal.specs.Rules.{IsAllowed, Legal, DecidesVote, DecidesFree, DecidesScrub, replay, output_of}
+use Rattle.ro_legal.specs.Cooperative.{gets_from, lease_gets, opening_core}
+use Rattle.ro_cores.specs.Cores.{KeepsViews}
+use Rattle.ro_cores.specs.Loans.{IsJoined}
 use Rattle.ro_audit.specs.declared.follower.Why.{Why}
-use Rattle.ro_audit.specs.declared.follower.Why.TheVariants.{NotLendable, NotOut, Ran, NoPart, NoVote, NoFree, NoScrub, Comes, NoEnd, Behind}
+use Rattle.ro_audit.specs.declared.follower.Why.TheVariants.{NotLendable, NotOut, Ran, NoPut, NoPart, OtherGot, NoVote, NoFree, NoScrub, Comes, NoEnd, Behind}
 use Rattle.ro_audit.specs.declared.audits.Audited.{Audited}
 use Rattle.ro_audit.specs.declared.audits.AuditError.{AuditError}
 use Rattle.ro_audit.specs.declared.audits.AuditError.TheVariants.{Illegal, NoMemory}
+
+-- the replicas may be compared whole; in a cooperative run they never are
+abbrev pub scrubs : Job → Core → Bool
+scrubs job core = in_mode job.settings.mode (may_scrub core) false
+
+-- what the leases of a cooperative journal got; by votes replicas get nothing by themselves
+abbrev pub got_in : Job → List Entry → List Get
+got_in job journal = in_mode job.settings.mode [] (gets_from job (opening_core job) journal)
 
 -- the entry, and the one that comes in its stead, decide the vote on a thread that may be voted on, or free one that may be freed,
 -- or decide a scrub that may be made
@@ -20,26 +34,54 @@ abbrev pub Compete : Job → Core → (entry came : Entry) → Type 0
 Compete job core entry came =
     ((thread : ℕ) × (may_vote core thread ≡ true) × DecidesVote job core thread entry × DecidesVote job core thread came)
     ⊎ ((thread : ℕ) × (may_free job core thread ≡ true) × DecidesFree job core thread entry × DecidesFree job core thread came)
-    ⊎ ((may_scrub core ≡ true) × DecidesScrub core entry × DecidesScrub core came)
+    ⊎ ((scrubs job core ≡ true) × DecidesScrub job core entry × DecidesScrub job core came)
 
--- What a reason says of an entry that is not allowed in a core: another comes in its stead, or the run has ended; the thread can't be
--- lent to the driver; no such lease is out, or its run comes back after other counts; no lease comes back so; the thread can't be
--- voted on, or has no call that may be served; no scrub may be made; the run does not end so.
-abbrev pub IsReason : Job → Core → Entry → Why → Type 0
-IsReason job core entry (Comes came) = IsAllowed job core came × (came ≢ entry) × Compete job core entry came
-IsReason job core entry Behind = IsSome core.ended
-IsReason job core (Take lease) NotLendable = MayTake job core lease → ⊥
-IsReason job core (Put lease count hit) NotOut = is_out core lease ≡ false
-IsReason job core (Put lease count hit) (Ran other struck) =
-    MayPut job core lease other struck × ((other ≡ count) × (struck ≡ hit) → ⊥)
-IsReason job core (Part lease count hit) NoPart = IsAllowed job core (Part lease count hit) → ⊥
-IsReason job core (Vote thread count won lost did) NoVote = may_vote core thread ≡ false
-IsReason job core (Free thread) NoFree = may_free job core thread ≡ false
-IsReason job core (Scrub won lost) NoScrub = may_scrub core ≡ false
-IsReason job core (End how) NoEnd = IsAllowed job core (End how) → ⊥
-IsReason job core entry why = ⊥
+-- no such run of the lease comes back, and this one does
+abbrev pub ComesBackBy : Job → Core → Lease → (count hit other struck : ℕ) → Type 0
+ComesBackBy job core lease count hit other struck =
+    (IsAllowed job core (Put lease other struck) ⊎ IsAllowed job core (Part lease other struck)) × ((other ≡ count) × (struck ≡ hit) → ⊥)
 
--- the entry at the place is the first that is not allowed in the core that those before it leave, and this is why
+-- within so many instructions the lease gets a mutex at a rank at which another thread got it before
+pub record OtherHas (job : Job) (core : Core) (got : List Get) (lease : Lease) (count : ℕ) : Type 0 where
+  pub by : ℕ
+  pub within : by ≤ count
+  pub get : Get
+  pub gets : Contains (lease_gets job core lease by) get
+  pub before : Get
+  pub had : Contains got before
+  pub same_mutex : before.mutex ≡ get.mutex
+  pub same_rank : before.rank ≡ get.rank
+  pub other_thread : before.thread ≢ get.thread
+
+-- What a reason says of an entry that is not allowed in a core, by what was got up to there: another comes in its stead, or the run
+-- has ended; the thread can't be lent to the driver; no such lease is out, or its run comes back after other counts; no lease comes
+-- back so, at a vote or at a lock; another thread got a mutex that the lease gets; the thread can't be voted on, or has no call that
+-- may be served; no scrub may be made; the run does not end so.
+abbrev pub IsReason : Job → Core → (got : List Get) → Entry → Why → Type 0
+IsReason job core got entry (Comes came) = IsAllowed job core came × (came ≢ entry) × Compete job core entry came
+IsReason job core got entry Behind = IsSome core.ended
+IsReason job core got (Take lease) NotLendable = MayTake job core lease → ⊥
+IsReason job core got (Put lease count hit) NotOut = is_out core lease ≡ false
+IsReason job core got (Part lease count hit) NotOut = is_out core lease ≡ false
+IsReason job core got (Put lease count hit) (Ran other struck) = ComesBackBy job core lease count hit other struck
+IsReason job core got (Part lease count hit) (Ran other struck) = ComesBackBy job core lease count hit other struck
+IsReason job core got (Put lease count hit) NoPut = IsAllowed job core (Put lease count hit) → ⊥
+IsReason job core got (Part lease count hit) NoPart = IsAllowed job core (Part lease count hit) → ⊥
+IsReason job core got (Put lease count hit) OtherGot = OtherHas job core got lease count
+IsReason job core got (Part lease count hit) OtherGot = OtherHas job core got lease count
+IsReason job core got (Vote thread count won lost did) NoVote = may_vote core thread ≡ false
+IsReason job core got (Free thread) NoFree = may_free job core thread ≡ false
+IsReason job core got (Scrub won lost) NoScrub = scrubs job core ≡ false
+IsReason job core got (End how) NoEnd = IsAllowed job core (End how) → ⊥
+IsReason job core got entry why = ⊥
+
+-- behind the journal the entry is not allowed, or what is got by then stands in no rows; and this is why
+abbrev pub IsRefused : Job → List Entry → Entry → Why → Type 0
+IsRefused job journal entry why =
+    (IsAllowed job (replay job journal) entry → IsJoined job (journal ++ entry ∷ []) → ⊥) × IsReason job (replay job journal) (got_in job journal) entry why
+
+-- the entry at the place is the first that is not allowed in the core that those before it leave, or by which what is got stands in
+-- no rows; and this is why
 pub record FirstIllegal (job : Job) (journal : List Entry) (place : ℕ) (why : Why) : Type 0 where
   pub before : List Entry
   pub entry : Entry
@@ -47,14 +89,16 @@ pub record FirstIllegal (job : Job) (journal : List Entry) (place : ℕ) (why : 
   pub journal_is : journal ≡ before ++ entry ∷ rest
   pub place_is : length before ≡ place
   pub legal : Legal job before
-  pub not_allowed : IsAllowed job (replay job before) entry → ⊥
-  pub reason : IsReason job (replay job before) entry why
+  pub joined : IsJoined job before
+  pub not_allowed : IsAllowed job (replay job before) entry → IsJoined job (before ++ entry ∷ []) → ⊥
+  pub reason : IsReason job (replay job before) (got_in job before) entry why
 
--- the journal is legal, and this is what its replay comes to
+-- the journal is legal, all that was got stands in rows, and this is what its replay comes to
 pub record Tells (job : Job) (journal : List Entry) (audited : Audited) : Type 0 where
   pub legal : Legal job journal
+  pub joined : IsJoined job journal
   pub how : audited.how ≡ outcome_of journal
-  pub steps : audited.steps ≡ length (plan_of journal)
+  pub steps : audited.steps ≡ length (plan_in job.settings.mode journal)
   pub output : audited.output.items ≡ output_of job journal
   pub views : KeepsViews job journal audited.views.items
   pub no_views : outcome_of journal ≢ Some Differ → outcome_of journal ≢ Some NoMajority → audited.views.items ≡ []

@@ -1,47 +1,95 @@
--- A journal that is followed.
-use Rattle.std.specs.Prelude.{◌≡◌, ◌≢◌, ◌<◌, ℕ, true, List, ◌∷◌, ◌++◌, length, Option, Some, None, slice_get, slice_index_or}
+-- A journal that is followed, by the rules of the job's mode.
+use Rattle.std.specs.Prelude.{◌≡◌, ◌≢◌, ◌<◌, ⊤, ℕ, true, IsTrue, List, [], ◌∷◌, ◌++◌, length, Option, Some, None, slice_get, slice_index_or}
+use mathlib.Core.Logic.{inl, inr}
+use Rattle.ro_settings.specs.declared.Mode.TheVariants.{Voted, Cooperative}
 use Rattle.ro_journal.specs.declared.How.{How}
 use Rattle.ro_journal.specs.declared.Entry.{Entry}
-use Rattle.ro_replica.specs.Seen.{replica_of}
-use Rattle.ro_lease.specs.Loans.{LentOf}
+use Rattle.ro_replica.specs.Views.{is_unstopped}
+use Rattle.ro_replica.specs.Seen.{replica_of, CanCount}
+use Rattle.ro_orders.specs.Copies.{Rows}
+use Rattle.ro_peer.specs.declared.mutexes.Mutex.{Mutex}
+use Rattle.ro_peer.specs.Gets.{Get, InRows}
+use Rattle.ro_peer.specs.Seen.{peer_of, by_address}
+use Rattle.ro_peer.specs.Leases.{IsAmong}
+use Rattle.ro_lease.specs.Loans as replicas
+use Rattle.ro_coop_lease.specs.declared.Lent.{Lent}
 use Rattle.ro_legal.specs.Core.{Job, Core, is_idle, may_vote, may_free, lease_of}
-use Rattle.ro_legal.specs.Legal.{IsAllowed, may_scrub, EndsVote, EndsFree, EndsScrub, output_of}
-use Rattle.ro_core.specs.Fields.{Fields, Holds, core_in}
-use Rattle.ro_core.specs.Runs.{fields_of, seen}
-use Rattle.ro_core.specs.Seen.{IsOfJob, Appends}
-use Rattle.ro_audit.specs.declared.audits.Trail.{Trail}
+use Rattle.ro_legal.specs.Jobs.{CanRun}
+use Rattle.ro_legal.specs.Legal.{EndsFree}
+use Rattle.ro_legal.specs.Lent.{IsOfJob}
+use Rattle.ro_legal.specs.Modes.{InMode}
+use Rattle.ro_legal.specs.Cooperative.{peer_in}
+use Rattle.ro_legal.specs.Rules.{IsFit, Legal, IsAllowed, EndsVote, EndsScrub, output_of}
+use Rattle.ro_core.specs.Seen.{CoreOf, Appends}
+use Rattle.ro_cores.specs.Cores.{left_by}
+use Rattle.ro_cores.specs.Loans.{LentOf, IsJoined, lease_in, mutexes_in}
 use Rattle.ro_audit.specs.declared.follower.InPlace.{InPlace}
 use Rattle.ro_audit.specs.declared.follower.InPlace.TheVariants.{OfVote, OfFree, OfScrub}
 use Rattle.ro_audit.specs.declared.follower.Walk.{Walk}
 use Rattle.ro_audit.specs.declared.follower.Walk.TheVariants.{Whole, Stopped}
 use Rattle.ro_audit.specs.declared.follower.Why.{Why}
 use Rattle.ro_audit.specs.declared.follower.Why.TheVariants.{Comes}
-use Rattle.ro_audit.specs.Audits.{FirstIllegal, IsReason}
+use Rattle.ro_audit.specs.Audits.{FirstIllegal, IsRefused, got_in, scrubs}
 
--- what is lent to a driver: its lease is out, and the replica is the core's
-pub record Lends (job : Job) (core : Core) (driver : ℕ) (lent : LentOf) : Type 0 where
+-- ---- what is lent
+
+-- a replica that is lent: its lease is out, and it is the core's
+pub record LendsReplica (job : Job) (core : Core) (lent : replicas.LentOf) : Type 0 where
   pub quantum_is : lent.quantum ≡ job.settings.quantum
   pub program : IsOfJob job core.kernel lent.replica
-  pub held : lease_of core driver ≡ Some lent.lease
+  pub held : lease_of core lent.lease.driver ≡ Some lent.lease
   pub there : slice_get core.replicas lent.lease.replica ≡ Some (replica_of lent.replica)
   pub not_ended : core.ended ≡ None
+
+-- a peer that is lent: its lease is out, it is the core's, and its thread can run for the quantum
+pub record LendsPeer (job : Job) (core : Core) (lent : Lent) : Type 0 where
+  pub quantum_is : lent.quantum ≡ job.settings.quantum
+  pub program : IsOfJob job core.kernel lent.partner.peer.replica
+  pub held : lease_of core lent.lease.driver ≡ Some lent.lease
+  pub there : peer_in core lent.lease.replica ≡ Some (peer_of lent.partner.peer)
+  pub going : IsTrue (is_unstopped lent.lease.thread (replica_of lent.partner.peer.replica))
+  pub countable : CanCount job.settings.quantum lent.partner.peer.replica lent.lease.thread
+  pub faultless : lent.partner.peer.replica.waiting ≡ []
+  pub ceilings : length lent.partner.ceilings.items ≡ length lent.partner.peer.mutexes
+  pub not_ended : core.ended ≡ None
+
+-- what is lent by the rules of the job's mode
+abbrev pub Lends : Job → Core → LentOf → Type 0
+Lends job core (inl lent) = (job.settings.mode ≡ Voted) × LendsReplica job core lent
+Lends job core (inr lent) = (job.settings.mode ≡ Cooperative) × LendsPeer job core lent
 
 -- a driver's slot: what is lent to it, if anything is
 abbrev pub Slot : Job → Core → (driver : ℕ) → Option LentOf → Type 0
 Slot job core driver None = is_idle core driver ≡ true
-Slot job core driver (Some lent) = Lends job core driver lent
+Slot job core driver (Some lent) = ((lease_in lent).driver ≡ driver) × Lends job core lent
 
--- a core that has made the entries of a journal, what is lent, and what the entries wrote
-pub record Follows (core : Fields) (lent : List (Option LentOf)) (output : List ℕ) : Type 0 where
-  pub holds : Holds core
+-- ---- what was got
+
+-- the rows of these mutexes, by their numbers, are just what was got
+pub record AreGot (mutexes : List Mutex) (gets : List Get) (rows : Rows) : Type 0 where
+  pub in_rows : InRows (by_address mutexes rows) gets
+  pub among : (number rank thread : ℕ) → rows number rank ≡ Some thread → IsAmong mutexes gets number rank thread
+
+-- in a cooperative run the rows are what the journal's leases got
+abbrev pub KnowsGot : Job → List Entry → Rows → Type 0
+KnowsGot job journal rows = InMode job.settings.mode ⊤ (AreGot (mutexes_in job journal) (got_in job journal) rows)
+
+-- ---- the follower
+
+-- a core that has made the entries of a journal, what is lent, what was got, and what the entries wrote
+pub record Follows (core : CoreOf) (lent : List (Option LentOf)) (rows : Rows) (output : List ℕ) : Type 0 where
+  pub can_run : CanRun core.job
+  pub fit : IsFit core.job
+  pub legal : Legal core.job core.journal
   pub output_is : output ≡ output_of core.job core.journal
   pub drivers : length lent ≡ core.job.settings.drivers
-  pub slots : (driver : ℕ) → Slot core.job (core_in core) driver (slice_index_or lent driver None)
+  pub slots : (driver : ℕ) → Slot core.job (left_by core) driver (slice_index_or lent driver None)
+  pub got : KnowsGot core.job core.journal rows
 
 -- the entry was followed, or it is not allowed, and why
-abbrev pub Followed : Fields → Entry → Option Why → Fields → List (Option LentOf) → List ℕ → Type 0
-Followed old entry None core lent output = IsAllowed old.job (core_in old) entry × Appends (seen old) (seen core) entry × Follows core lent output
-Followed old entry (Some why) core lent output = (IsAllowed old.job (core_in old) entry → ⊥) × IsReason old.job (core_in old) entry why
+abbrev pub Followed : CoreOf → Entry → Option Why → CoreOf → List (Option LentOf) → Rows → List ℕ → Type 0
+Followed old entry None core lent rows output = IsAllowed old.job (left_by old) entry × Appends old core entry × Follows core lent rows output
+Followed old entry (Some why) core lent rows output = IsRefused old.job old.journal entry why
 
 -- it is what came, or that is why it is not allowed
 abbrev pub IsUnless : (came entry : Entry) → Option Why → Type 0
@@ -52,7 +100,7 @@ IsUnless came entry (Some why) = (why ≡ Comes came) × (came ≢ entry)
 abbrev pub IsInPlace : Job → Core → How → InPlace → Type 0
 IsInPlace job core how (OfVote thread) = (may_vote core thread ≡ true) × EndsVote job core thread how
 IsInPlace job core how (OfFree thread) = (may_free job core thread ≡ true) × EndsFree job core how
-IsInPlace job core how OfScrub = (may_scrub core ≡ true) × EndsScrub core how
+IsInPlace job core how OfScrub = (scrubs job core ≡ true) × EndsScrub job core how
 
 -- no vote on the thread and no free of it would end so
 abbrev pub NotByThread : Job → Core → How → (thread : ℕ) → Type 0
@@ -61,26 +109,33 @@ NotByThread job core how thread = (may_vote core thread ≡ true → EndsVote jo
 -- no vote, no free and no scrub would end so
 pub record NotInPlace (job : Job) (core : Core) (how : How) : Type 0 where
   pub threads : (thread : ℕ) → thread < 16 → NotByThread job core how thread
-  pub scrub : may_scrub core ≡ true → EndsScrub core how → ⊥
+  pub scrub : scrubs job core ≡ true → EndsScrub job core how → ⊥
 
 -- the same journal, with nothing but room and views of its own
-pub record Same (old new : Fields) : Type 0 where
+pub record Same (old new : CoreOf) : Type 0 where
   pub job : new.job ≡ old.job
   pub journal : new.journal ≡ old.journal
 
 -- the entry comes next in a journal that was followed so far
-pub record AtEntry (core : Fields) (journal : List Entry) (place : ℕ) (entry : Entry) : Type 0 where
+pub record AtEntry (core : CoreOf) (journal : List Entry) (place : ℕ) (entry : Entry) : Type 0 where
   pub rest : List Entry
   pub journal_is : journal ≡ core.journal ++ entry ∷ rest
   pub place_is : length core.journal ≡ place
 
 -- what became of a journal: all of it was followed, or an entry is not allowed
-abbrev pub Walked : Job → List Entry → Walk → Fields → List (Option LentOf) → List ℕ → Type 0
-Walked job journal Whole core lent output = (core.journal ≡ journal) × Follows core lent output
-Walked job journal (Stopped place why) core lent output = FirstIllegal job journal place why
+abbrev pub Walked : Job → List Entry → Walk → CoreOf → (output : List ℕ) → Type 0
+Walked job journal Whole core output = (core.journal ≡ journal) × (output ≡ output_of job journal) × IsJoined job journal
+Walked job journal (Stopped place why) core output = FirstIllegal job journal place why
+
+-- ---- the trail
+
+-- where the following of a journal ended, what its entries wrote, and what became of it
+pub record TrailOf : Type 0 where
+  pub core : CoreOf
+  pub output : List ℕ
+  pub walk : Walk
 
 -- the trail of a journal of a job
-pub record IsTrail (job : Job) (journal : List Entry) (trail : Trail) : Type 0 where
-  pub job_is : (fields_of trail.follower.core).job ≡ job
-  pub holds : Holds (fields_of trail.follower.core)
-  pub walked : Walked job journal trail.walk (fields_of trail.follower.core) trail.follower.lent.items trail.follower.output.items
+pub record IsTrail (job : Job) (journal : List Entry) (trail : TrailOf) : Type 0 where
+  pub job_is : trail.core.job ≡ job
+  pub walked : Walked job journal trail.walk trail.core trail.output

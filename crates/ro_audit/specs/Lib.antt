@@ -1,3 +1,5 @@
 pub mod Pages
 pub mod Audits
 pub mod Following
+pub mod Ranks
+pub mod Returning

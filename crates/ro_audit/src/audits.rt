@@ -5,20 +5,23 @@ ghost use Rattle.ro_settings.specs.Ranges.{InRange};
 ghost use Rattle.ro_replica.specs.Seen.{AreFaults};
 ghost use Rattle.ro_legal.specs.Core.{Job};
 ghost use Rattle.ro_legal.specs.Jobs.{job_of};
-ghost use Rattle.ro_core.specs.Runs.{fields_of, job_of as job_in};
+ghost use Rattle.ro_legal.specs.Rules.{IsFit, output_of};
+ghost use Rattle.ro_cores.specs.Loans.{IsJoined};
 ghost use Rattle.ro_audit.specs.Audits.{Tells, IsCause};
-ghost use Rattle.ro_audit.specs.Following.{Follows, IsTrail};
+ghost use Rattle.ro_audit.specs.Following.{IsTrail};
 
+use crate::audit_cores::AuditCore;
 use crate::copies::{Difference, shown};
 use crate::follower::{Follower, Walk, Why};
 use crate::whole::differing_pages;
-use ro_core::{Core, Finished};
+use ro_cores::Remains;
 use ro_event::View;
 use ro_faults::Fault;
 use ro_image::Executable;
 use ro_journal::{Entry, How};
 use ro_settings::Settings;
 use std::alloc::{AllocError, Global};
+use std::marker::Model;
 
 /// What a legal journal comes to.
 #[derive(Drop)]
@@ -43,9 +46,20 @@ pub enum AuditError {
 }
 
 /// A journal that was followed, and where that ended.
-pub struct Trail {
-    pub(crate) follower: Follower,
-    pub(crate) walk: Walk,
+pub struct Trail<C: AuditCore> {
+    follower: Follower<C>,
+    walk: Walk,
+}
+
+// Contracts see the core, what the entries wrote, and how far they were followed.
+impl<C: AuditCore> Model for Trail<C> {
+    ghost use Rattle.ro_audit.specs.Following.{TrailOf};
+
+    ghost Value = { TrailOf };
+
+    ghost view = { λ t. record { core = C.seen t.follower.core; output = t.follower.output.items; walk = t.walk } };
+
+    ghost invariant = { λ t. C.holds t.follower.core };
 }
 
 /// Follows the journal of a run entry by entry, and tells what it comes to; the image comes back.
@@ -53,7 +67,7 @@ pub struct Trail {
 /// # Errors
 /// `Illegal` exactly where the journal is not legal, with the place of the first entry that is not allowed in the core that
 /// those before it leave; `NoMemory` where there is no memory.
-pub fn audit(
+pub fn audit<C: AuditCore>(
     alloc: Global,
     image: Executable,
     input: &[u8],
@@ -63,10 +77,12 @@ pub fn audit(
 ) -> (Executable, Result<Audited, AuditError>)
     requires settings { InRange settings }
     requires faults { AreFaults faults.now }
+    requires mode { settings.mode ≡ C.mode }
+    requires fit { IsFit (job_of image input.now faults.now settings) }
     ensures back { result.0 ≡ image }
     ensures audited { MatchResult result.1 (Tells (job_of image input.now faults.now settings) journal.now) (IsCause (job_of image input.now faults.now settings) journal.now) }
 {
-    match trace(alloc, image, input, faults, settings, journal) {
+    match trace::<C>(alloc, image, input, faults, settings, journal) {
         Ok(trail) => trail.tell(),
         Err(image) => (image, Err(AuditError::NoMemory)),
     }
@@ -76,31 +92,34 @@ pub fn audit(
 ///
 /// # Errors
 /// Where there is no memory; the image comes back.
-pub fn trace(
+pub fn trace<C: AuditCore>(
     alloc: Global,
     image: Executable,
     input: &[u8],
     faults: &[Fault],
     settings: Settings,
     journal: &[Entry],
-) -> Result<Trail, Executable>
+) -> Result<Trail<C>, Executable>
     requires settings { InRange settings }
     requires faults { AreFaults faults.now }
+    requires mode { settings.mode ≡ C.mode }
+    requires fit { IsFit (job_of image input.now faults.now settings) }
     ensures trail { IfOk result (IsTrail (job_of image input.now faults.now settings) journal.now) }
     ensures back { IfErr result (λ back. back ≡ image) }
 {
-    let mut follower = Follower::begin(alloc, image, input, faults, settings)?;
+    let mut follower = Follower::<C>::begin(alloc, image, input, faults, settings)?;
     match follower.walk(journal) {
         Ok(walk) => Ok(Trail { follower, walk }),
         Err(_) => Err(follower.discard()),
     }
 }
 
-impl Trail {
+impl<C: AuditCore> Trail<C> {
     /// The core that the entries leave up to where they were followed. Where an entry that is not allowed names a vote, a call
     /// that is served or a scrub, it has come to another entry by now.
-    pub fn core(&self) -> &Core
-        ensures { result.now ≡ self.now.follower.core }
+    pub fn core(&self) -> &C
+        ensures holds { C.holds result.now }
+        ensures seen { C.seen result.now ≡ self.now.core }
     {
         &self.follower.core
     }
@@ -144,19 +163,22 @@ impl Trail {
 }
 
 // The image, and what a journal that was followed to its end comes to.
-fn whole(follower: Follower) -> (Executable, Audited)
-    ensures image { result.0 ≡ (job_in follower.core).program.image }
-    ensures tells { Follows (fields_of follower.core) follower.lent.items follower.output.items → Tells (job_in follower.core) (fields_of follower.core).journal result.1 }
+fn whole<C: AuditCore>(follower: Follower<C>) -> (Executable, Audited)
+    requires holds { C.holds follower.core }
+    ensures image { result.0 ≡ (C.seen follower.core).job.program.image }
+    ensures tells { let core = C.seen follower.core in follower.output.items ≡ output_of core.job core.journal → IsJoined core.job core.journal → Tells core.job core.journal result.1 }
 {
     let Follower {
         core,
         lent: _,
+        got: _,
         output,
         copies: _,
         alloc: _,
     } = follower;
+    let _entries = core.entries();
     let steps = core.steps();
-    let Finished {
+    let Remains {
         image,
         how,
         views,

@@ -1,8 +1,8 @@
 //! What differs in a copy that a vote or a scrub makes.
 ghost use Rattle.std.specs.Prelude.{◌≡◌, ◌≢◌, ◌↔◌, IsTrue};
 
+use crate::audit_cores::AuditCore;
 use crate::whole::Whole;
-use ro_core::Core;
 use ro_event::View;
 use std::alloc::{AllocError, Global};
 
@@ -26,10 +26,10 @@ pub(crate) enum Compared {
 
 impl Compared {
     /// What of it differs in two replicas.
-    pub fn between(
+    pub fn between<C: AuditCore>(
         self,
         alloc: Global,
-        core: &Core,
+        core: &C,
         one: u32,
         other: u32,
     ) -> Result<Difference, AllocError> {
@@ -96,7 +96,7 @@ fn unequal(one: &[u32; 31], other: &[u32; 31]) -> u32 {
 }
 
 /// A thread of a replica that is at home, where it stands still.
-pub(crate) fn shown(core: &Core, replica: u32, thread: u32) -> Option<View> {
+pub(crate) fn shown<C: AuditCore>(core: &C, replica: u32, thread: u32) -> Option<View> {
     let replica = core.replica(replica)?;
     let stop = replica.stop(thread)?;
     let mut view = View::new([0; 31], 0, 0, stop);
@@ -105,7 +105,7 @@ pub(crate) fn shown(core: &Core, replica: u32, thread: u32) -> Option<View> {
 }
 
 /// What of a thread that stands still differs in two replicas.
-pub(crate) fn parts_between(core: &Core, thread: u32, one: u32, other: u32) -> Parts {
+pub(crate) fn parts_between<C: AuditCore>(core: &C, thread: u32, one: u32, other: u32) -> Parts {
     match (shown(core, one, thread), shown(core, other, thread)) {
         (Some(one), Some(other)) => Parts::between(&one, &other),
         _ => Parts::default(),

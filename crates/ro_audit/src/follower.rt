@@ -1,32 +1,37 @@
-//! A follower of a journal: a core that makes the same entries, and the replicas that are lent.
-ghost use Rattle.std.specs.Prelude.{◌≡◌, ◌≢◌, ◌⊎◌, ◌<◌, ◌↔◌, ℕ, [], IfErr, IfOk, IfSome, IsSome, IsTrue, None, Some, length, slice_index_or, slice_set, false, true};
-ghost use Rattle.ro_journal.specs.declared.Entry.TheVariants.{Take, Put, Scrub, End};
+//! A follower of a journal: a core that makes the same entries, and what it lent.
+ghost use Rattle.std.specs.Prelude.{◌≡◌, ◌≢◌, ◌⊎◌, ◌<◌, ◌↔◌, ℕ, [], IfErr, IfOk, IfSome, IsTrue, None, Some, length, true};
+ghost use Rattle.ro_journal.specs.declared.Entry.TheVariants.{Take, Scrub, End};
 ghost use Rattle.ro_settings.specs.Ranges.{InRange};
 ghost use Rattle.ro_replica.specs.Seen.{AreFaults};
 ghost use Rattle.ro_legal.specs.declared.actions.Action.TheVariants as act;
 ghost use Rattle.ro_legal.specs.Action.{next_action as next};
 ghost use Rattle.ro_legal.specs.Core.{may_vote, may_free};
-ghost use Rattle.ro_legal.specs.Legal.{may_scrub, EndsAlone, EndsVote, EndsFree, EndsScrub};
-ghost use Rattle.ro_legal.specs.Decides.{DecidesVote, DecidesFree, DecidesScrub};
-ghost use Rattle.ro_core.specs.Fields.{Holds};
-ghost use Rattle.ro_core.specs.Runs.{fields_of, job_of, state_of};
+ghost use Rattle.ro_legal.specs.Jobs.{job_of};
+ghost use Rattle.ro_legal.specs.Legal.{EndsAlone, EndsFree};
+ghost use Rattle.ro_legal.specs.Rules.{IsFit, DecidesVote, DecidesFree, DecidesScrub, EndsVote, EndsScrub};
+ghost use Rattle.ro_cores.specs.Cores.{left_by};
+ghost use Rattle.ro_cores.specs.Loans.{Returns};
+ghost use Rattle.ro_audit.specs.Audits.{scrubs};
 ghost use Rattle.ro_audit.specs.Following.{Follows, Followed, IsInPlace, IsUnless, NotByThread, NotInPlace, Same, Walked};
 
+use crate::audit_cores::AuditCore;
 use crate::copies::{Compared, Difference};
-use ro_core::{Core, Finished};
+use crate::loans::{Loan, lend, take_back, vacant};
+use ro_cores::Remains;
 use ro_faults::Fault;
 use ro_image::Executable;
 use ro_journal::{Entry, How, Lease, Lost};
-use ro_lease::{Back, Lent, Took};
 use ro_legal::Action;
 use ro_settings::Settings;
 use std::alloc::{AllocError, Global};
 
 /// Follows a journal.
-pub(crate) struct Follower {
-    pub core: Core,
+pub(crate) struct Follower<C: AuditCore> {
+    pub core: C,
     /// Of each driver what is lent to it.
-    pub lent: Vec<Option<Lent>>,
+    pub lent: Vec<Option<Loan<C>>>,
+    /// What the entries' leases got.
+    pub got: C::Got,
     /// What the entries wrote.
     pub output: Vec<u8>,
     /// What differed in each copy that the votes and scrubs made.
@@ -43,8 +48,12 @@ pub enum Why {
     NotOut,
     /// The run of the lease comes back after so many instructions and faults.
     Ran { count: u32, hit: u32 },
-    /// No lease comes back before its quantum is over with its thread stopped for no vote.
+    /// The lease doesn't come back so: its thread stands at nothing for which a vote is held, or faults are told where there are none.
+    NoPut,
+    /// The lease doesn't come back so: its thread waits at no lock there, or replicas answer no calls by themselves.
     NoPart,
+    /// The lease gets a mutex that another thread got.
+    OtherGot,
     /// The thread can't be voted on.
     NoVote,
     /// The thread has no call that may be served.
@@ -79,7 +88,7 @@ pub(crate) enum InPlace {
     OfScrub,
 }
 
-impl Follower {
+impl<C: AuditCore> Follower<C> {
     /// A follower of the journals of a run.
     ///
     /// # Errors
@@ -90,21 +99,25 @@ impl Follower {
         input: &[u8],
         faults: &[Fault],
         settings: Settings,
-    ) -> Result<Follower, Executable>
+    ) -> Result<Follower<C>, Executable>
         requires settings { InRange settings }
         requires faults { AreFaults faults.now }
-        ensures follows { IfOk result (λ f. Follows (fields_of f.core) f.lent.items f.output.items) }
-        ensures job { IfOk result (λ f. job_of f.core ≡ record { program = record { image = image; input = input.now }; faults = faults.now; settings = settings }) }
-        ensures journal { IfOk result (λ f. (fields_of f.core).journal ≡ []) }
+        requires mode { settings.mode ≡ C.mode }
+        requires fit { IsFit (job_of image input.now faults.now settings) }
+        ensures holds { IfOk result (λ f. C.holds f.core) }
+        ensures follows { IfOk result (λ f. Follows (C.seen f.core) f.lent.items (C.got_of f.got) f.output.items) }
+        ensures job { IfOk result (λ f. (C.seen f.core).job ≡ job_of image input.now faults.now settings) }
+        ensures journal { IfOk result (λ f. (C.seen f.core).journal ≡ []) }
         ensures back { IfErr result (λ back. back ≡ image) }
     {
         let Ok(lent) = vacant(alloc, settings.drivers) else {
             return Err(image);
         };
-        let core = Core::begin(alloc, image, input, faults, settings)?;
+        let core = C::begin(alloc, image, input, faults, settings)?;
         Ok(Follower {
             core,
             lent,
+            got: C::nothing_got(alloc),
             output: Vec::new(alloc),
             copies: Vec::new(alloc),
             alloc,
@@ -116,11 +129,12 @@ impl Follower {
     /// # Errors
     /// Where there is no memory.
     pub fn walk(&mut self, journal: &[Entry]) -> Result<Walk, AllocError>
-        requires follows { Follows (fields_of self.old.core) self.old.lent.items self.old.output.items }
-        requires journal { (fields_of self.old.core).journal ≡ [] }
-        ensures holds { Holds (fields_of self.new.core) }
-        ensures job { job_of self.new.core ≡ job_of self.old.core }
-        ensures walked { IfOk result (λ walk. Walked (job_of self.old.core) journal.now walk (fields_of self.new.core) self.new.lent.items self.new.output.items) }
+        requires holds { C.holds self.old.core }
+        requires follows { Follows (C.seen self.old.core) self.old.lent.items (C.got_of self.old.got) self.old.output.items }
+        requires journal { (C.seen self.old.core).journal ≡ [] }
+        ensures holds { C.holds self.new.core }
+        ensures job { (C.seen self.new.core).job ≡ (C.seen self.old.core).job }
+        ensures walked { IfOk result (λ walk. Walked (C.seen self.old.core).job journal.now walk (C.seen self.new.core) self.new.output.items) }
     {
         for (place, entry) in journal.iter().enumerate() {
             if let Some(why) = self.follow(entry)? {
@@ -132,16 +146,18 @@ impl Follower {
 
     /// Lets all go but the image.
     pub fn discard(self) -> Executable
-        ensures { result ≡ (job_of self.core).program.image }
+        requires { C.holds self.core }
+        ensures { result ≡ (C.seen self.core).job.program.image }
     {
         let Follower {
             core,
             lent: _,
+            got: _,
             output: _,
             copies: _,
             alloc: _,
         } = self;
-        let Finished {
+        let Remains {
             image,
             how: _,
             views: _,
@@ -152,18 +168,18 @@ impl Follower {
 
     // Follows one entry; answers why it is not allowed, if it is not.
     fn follow(&mut self, entry: &Entry) -> Result<Option<Why>, AllocError>
-        requires follows { Follows (fields_of self.old.core) self.old.lent.items self.old.output.items }
-        ensures holds { Holds (fields_of self.new.core) }
-        ensures job { job_of self.new.core ≡ job_of self.old.core }
-        ensures followed { IfOk result (λ why. Followed (fields_of self.old.core) entry.now why (fields_of self.new.core) self.new.lent.items self.new.output.items) }
+        requires holds { C.holds self.old.core }
+        requires follows { Follows (C.seen self.old.core) self.old.lent.items (C.got_of self.old.got) self.old.output.items }
+        ensures holds { C.holds self.new.core }
+        ensures job { (C.seen self.new.core).job ≡ (C.seen self.old.core).job }
+        ensures followed { IfOk result (λ why. Followed (C.seen self.old.core) entry.now why (C.seen self.new.core) self.new.lent.items (C.got_of self.new.got) self.new.output.items) }
     {
         if self.core.ended().is_some() {
             return Ok(Some(Why::Behind));
         }
         match *entry {
             Entry::Take(lease) => self.take(lease),
-            Entry::Put { lease, count, hit } => Ok(self.put(lease, count, hit)),
-            Entry::Part { .. } => Ok(Some(Why::NoPart)),
+            Entry::Put { lease, .. } | Entry::Part { lease, .. } => self.come_back(lease, entry),
             Entry::Vote {
                 thread,
                 won,
@@ -190,63 +206,60 @@ impl Follower {
 
     // Lends a thread of a replica to a driver, where that is allowed.
     fn take(&mut self, lease: Lease) -> Result<Option<Why>, AllocError>
-        requires { Follows (fields_of self.old.core) self.old.lent.items self.old.output.items }
-        ensures holds { Holds (fields_of self.new.core) }
-        ensures job { job_of self.new.core ≡ job_of self.old.core }
-        ensures followed { IfOk result (λ why. Followed (fields_of self.old.core) (Take lease) why (fields_of self.new.core) self.new.lent.items self.new.output.items) }
+        requires holds { C.holds self.old.core }
+        requires follows { Follows (C.seen self.old.core) self.old.lent.items (C.got_of self.old.got) self.old.output.items }
+        ensures holds { C.holds self.new.core }
+        ensures job { (C.seen self.new.core).job ≡ (C.seen self.old.core).job }
+        ensures followed { IfOk result (λ why. Followed (C.seen self.old.core) (Take lease) why (C.seen self.new.core) self.new.lent.items (C.got_of self.new.got) self.new.output.items) }
     {
         if !self.core.may_take(lease) {
             return Ok(Some(Why::NotLendable));
         }
         self.core.room()?;
-        let quantum = self.core.settings().quantum;
-        let taken = self.core.take(lease);
-        let lent = Lent::new(lease, quantum, taken);
-        lend(self.lent.as_mut_slice(), lease.driver, lent);
+        let loan = Loan::new(self.core.lend(lease));
+        lend(self.lent.as_mut_slice(), lease.driver, loan);
         Ok(None)
     }
 
-    // Runs what is lent to a driver and puts it back, where the entry is that of its run.
-    fn put(&mut self, lease: Lease, count: u32, hit: u32) -> Option<Why>
-        requires { Follows (fields_of self.old.core) self.old.lent.items self.old.output.items }
-        ensures holds { Holds (fields_of self.new.core) }
-        ensures job { job_of self.new.core ≡ job_of self.old.core }
-        ensures followed { Followed (fields_of self.old.core) (Put lease count hit) result (fields_of self.new.core) self.new.lent.items self.new.output.items }
+    // Runs what is lent to a driver and puts it back, where it comes back as the entry tells.
+    fn come_back(&mut self, lease: Lease, entry: &Entry) -> Result<Option<Why>, AllocError>
+        requires holds { C.holds self.old.core }
+        requires follows { Follows (C.seen self.old.core) self.old.lent.items (C.got_of self.old.got) self.old.output.items }
+        requires returns { Returns lease entry.now }
+        ensures holds { C.holds self.new.core }
+        ensures job { (C.seen self.new.core).job ≡ (C.seen self.old.core).job }
+        ensures followed { IfOk result (λ why. Followed (C.seen self.old.core) entry.now why (C.seen self.new.core) self.new.lent.items (C.got_of self.new.got) self.new.output.items) }
     {
-        let Some(lent) = take_back(self.lent.as_mut_slice(), lease.driver) else {
-            return Some(Why::NotOut);
+        let Some(loan) = take_back(self.lent.as_mut_slice(), lease.driver) else {
+            return Ok(Some(Why::NotOut));
         };
-        if !is_of(&lent, lease) {
-            return Some(Why::NotOut);
+        if !loan.is_of(lease) {
+            return Ok(Some(Why::NotOut));
         }
-        let Back {
-            replica: returned,
-            took,
-            ..
-        } = lent.run();
-        if !came_to(&took, count, hit) {
-            return Some(Why::Ran {
-                count: took.count,
-                hit: took.hit,
-            });
+        let lent = loan.into_inner();
+        match self.core.come_back(&mut self.got, lent, entry)? {
+            Ok(back) => {
+                self.core.give_back(back);
+                Ok(None)
+            }
+            Err(why) => Ok(Some(why)),
         }
-        self.core.put(lease.driver, returned, took.count, took.hit);
-        None
     }
 
     // Holds a vote that may be held, and answers what it comes to where that is not this entry, which would decide it.
     fn vote(&mut self, thread: u32, entry: &Entry) -> Result<Option<Why>, AllocError>
-        requires follows { Follows (fields_of self.old.core) self.old.lent.items self.old.output.items }
-        requires may { IsTrue (may_vote (state_of self.old.core) thread) }
-        requires decides { DecidesVote (job_of self.old.core) (state_of self.old.core) thread entry.now }
-        ensures holds { Holds (fields_of self.new.core) }
-        ensures job { job_of self.new.core ≡ job_of self.old.core }
-        ensures followed { IfOk result (λ why. Followed (fields_of self.old.core) entry.now why (fields_of self.new.core) self.new.lent.items self.new.output.items) }
+        requires holds { C.holds self.old.core }
+        requires follows { Follows (C.seen self.old.core) self.old.lent.items (C.got_of self.old.got) self.old.output.items }
+        requires may { IsTrue (may_vote (left_by (C.seen self.old.core)) thread) }
+        requires decides { DecidesVote (C.seen self.old.core).job (left_by (C.seen self.old.core)) thread entry.now }
+        ensures holds { C.holds self.new.core }
+        ensures job { (C.seen self.new.core).job ≡ (C.seen self.old.core).job }
+        ensures followed { IfOk result (λ why. Followed (C.seen self.old.core) entry.now why (C.seen self.new.core) self.new.lent.items (C.got_of self.new.got) self.new.output.items) }
     {
-        let came = self.core.vote(thread)?;
-        let payload = self.core.payload(came.writer);
+        let (came, writer) = self.core.vote(thread)?;
+        let payload = self.core.payload(writer);
         self.output.extend_from_slice(payload)?;
-        Ok(unless_same(came.entry, entry))
+        Ok(unless_same(came, entry))
     }
 
     // The same of a vote whose entry names who won and who lost; what differs in the copies that it makes is noted.
@@ -257,12 +270,13 @@ impl Follower {
         lost: Lost,
         entry: &Entry,
     ) -> Result<Option<Why>, AllocError>
-        requires follows { Follows (fields_of self.old.core) self.old.lent.items self.old.output.items }
-        requires may { IsTrue (may_vote (state_of self.old.core) thread) }
-        requires decides { DecidesVote (job_of self.old.core) (state_of self.old.core) thread entry.now }
-        ensures holds { Holds (fields_of self.new.core) }
-        ensures job { job_of self.new.core ≡ job_of self.old.core }
-        ensures followed { IfOk result (λ why. Followed (fields_of self.old.core) entry.now why (fields_of self.new.core) self.new.lent.items self.new.output.items) }
+        requires holds { C.holds self.old.core }
+        requires follows { Follows (C.seen self.old.core) self.old.lent.items (C.got_of self.old.got) self.old.output.items }
+        requires may { IsTrue (may_vote (left_by (C.seen self.old.core)) thread) }
+        requires decides { DecidesVote (C.seen self.old.core).job (left_by (C.seen self.old.core)) thread entry.now }
+        ensures holds { C.holds self.new.core }
+        ensures job { (C.seen self.new.core).job ≡ (C.seen self.old.core).job }
+        ensures followed { IfOk result (λ why. Followed (C.seen self.old.core) entry.now why (C.seen self.new.core) self.new.lent.items (C.got_of self.new.got) self.new.output.items) }
     {
         let before = self.copies.len();
         self.note_all(Compared::Views(thread), won, lost)?;
@@ -276,10 +290,11 @@ impl Follower {
     // Scrubs where that is allowed, and answers what it comes to where that is not this entry; what differs in the copies that
     // it makes is noted.
     fn scrub_noted(&mut self, won: u32, lost: Lost) -> Result<Option<Why>, AllocError>
-        requires { Follows (fields_of self.old.core) self.old.lent.items self.old.output.items }
-        ensures holds { Holds (fields_of self.new.core) }
-        ensures job { job_of self.new.core ≡ job_of self.old.core }
-        ensures followed { IfOk result (λ why. Followed (fields_of self.old.core) (Scrub won lost) why (fields_of self.new.core) self.new.lent.items self.new.output.items) }
+        requires holds { C.holds self.old.core }
+        requires follows { Follows (C.seen self.old.core) self.old.lent.items (C.got_of self.old.got) self.old.output.items }
+        ensures holds { C.holds self.new.core }
+        ensures job { (C.seen self.new.core).job ≡ (C.seen self.old.core).job }
+        ensures followed { IfOk result (λ why. Followed (C.seen self.old.core) (Scrub won lost) why (C.seen self.new.core) self.new.lent.items (C.got_of self.new.got) self.new.output.items) }
     {
         if !self.core.may_scrub() {
             return Ok(Some(Why::NoScrub));
@@ -295,14 +310,15 @@ impl Follower {
 
     // Makes a scrub that may be made, and answers what it comes to where that is not this entry, which would decide it.
     fn scrub(&mut self, entry: &Entry) -> Result<Option<Why>, AllocError>
-        requires follows { Follows (fields_of self.old.core) self.old.lent.items self.old.output.items }
-        requires may { IsTrue (may_scrub (state_of self.old.core)) }
-        requires decides { DecidesScrub (state_of self.old.core) entry.now }
-        ensures holds { Holds (fields_of self.new.core) }
-        ensures job { job_of self.new.core ≡ job_of self.old.core }
-        ensures followed { IfOk result (λ why. Followed (fields_of self.old.core) entry.now why (fields_of self.new.core) self.new.lent.items self.new.output.items) }
+        requires holds { C.holds self.old.core }
+        requires follows { Follows (C.seen self.old.core) self.old.lent.items (C.got_of self.old.got) self.old.output.items }
+        requires may { IsTrue (scrubs (C.seen self.old.core).job (left_by (C.seen self.old.core))) }
+        requires decides { DecidesScrub (C.seen self.old.core).job (left_by (C.seen self.old.core)) entry.now }
+        ensures holds { C.holds self.new.core }
+        ensures job { (C.seen self.new.core).job ≡ (C.seen self.old.core).job }
+        ensures followed { IfOk result (λ why. Followed (C.seen self.old.core) entry.now why (C.seen self.new.core) self.new.lent.items (C.got_of self.new.got) self.new.output.items) }
     {
-        let came = self.core.scrub()?;
+        let came = self.core.compare()?;
         Ok(unless_same(came, entry))
     }
 
@@ -310,6 +326,7 @@ impl Follower {
     fn note_all(&mut self, compared: Compared, won: u32, lost: Lost) -> Result<(), AllocError>
         ensures core { self.new.core ≡ self.old.core }
         ensures lent { self.new.lent ≡ self.old.lent }
+        ensures got { self.new.got ≡ self.old.got }
         ensures output { self.new.output ≡ self.old.output }
     {
         match lost {
@@ -326,6 +343,7 @@ impl Follower {
     fn note(&mut self, compared: Compared, won: u32, replica: u32) -> Result<(), AllocError>
         ensures core { self.new.core ≡ self.old.core }
         ensures lent { self.new.lent ≡ self.old.lent }
+        ensures got { self.new.got ≡ self.old.got }
         ensures output { self.new.output ≡ self.old.output }
     {
         let difference = compared.between(self.alloc, &self.core, won, replica)?;
@@ -335,12 +353,13 @@ impl Follower {
 
     // Serves a call that may be served, and answers what that comes to where it is not this entry, which would decide it.
     fn free(&mut self, thread: u32, entry: &Entry) -> Result<Option<Why>, AllocError>
-        requires follows { Follows (fields_of self.old.core) self.old.lent.items self.old.output.items }
-        requires may { IsTrue (may_free (job_of self.old.core) (state_of self.old.core) thread) }
-        requires decides { DecidesFree (job_of self.old.core) (state_of self.old.core) thread entry.now }
-        ensures holds { Holds (fields_of self.new.core) }
-        ensures job { job_of self.new.core ≡ job_of self.old.core }
-        ensures followed { IfOk result (λ why. Followed (fields_of self.old.core) entry.now why (fields_of self.new.core) self.new.lent.items self.new.output.items) }
+        requires holds { C.holds self.old.core }
+        requires follows { Follows (C.seen self.old.core) self.old.lent.items (C.got_of self.old.got) self.old.output.items }
+        requires may { IsTrue (may_free (C.seen self.old.core).job (left_by (C.seen self.old.core)) thread) }
+        requires decides { DecidesFree (C.seen self.old.core).job (left_by (C.seen self.old.core)) thread entry.now }
+        ensures holds { C.holds self.new.core }
+        ensures job { (C.seen self.new.core).job ≡ (C.seen self.old.core).job }
+        ensures followed { IfOk result (λ why. Followed (C.seen self.old.core) entry.now why (C.seen self.new.core) self.new.lent.items (C.got_of self.new.got) self.new.output.items) }
     {
         let came = self.core.free(thread)?;
         Ok(unless_same(came, entry))
@@ -349,10 +368,11 @@ impl Follower {
     // Ends the run so, where that is allowed: the end is due, or nothing can be done, or it comes in the place of a vote, a free
     // or a scrub.
     fn end(&mut self, how: How) -> Result<Option<Why>, AllocError>
-        requires follows { Follows (fields_of self.old.core) self.old.lent.items self.old.output.items }
-        ensures holds { Holds (fields_of self.new.core) }
-        ensures job { job_of self.new.core ≡ job_of self.old.core }
-        ensures followed { IfOk result (λ why. Followed (fields_of self.old.core) (End how) why (fields_of self.new.core) self.new.lent.items self.new.output.items) }
+        requires holds { C.holds self.old.core }
+        requires follows { Follows (C.seen self.old.core) self.old.lent.items (C.got_of self.old.got) self.old.output.items }
+        ensures holds { C.holds self.new.core }
+        ensures job { (C.seen self.new.core).job ≡ (C.seen self.old.core).job }
+        ensures followed { IfOk result (λ why. Followed (C.seen self.old.core) (End how) why (C.seen self.new.core) self.new.lent.items (C.got_of self.new.got) self.new.output.items) }
     {
         if self.ends_now(how) {
             self.core.end(how);
@@ -370,8 +390,8 @@ impl Follower {
 
     // Whether such an end may be appended by itself: it comes next, or it comes alone.
     fn ends_now(&self, how: How) -> bool
-        requires { Holds (fields_of self.now.core) }
-        ensures { IsTrue result ↔ ((next (job_of self.now.core) (state_of self.now.core) ≡ act.End how) ⊎ EndsAlone (job_of self.now.core) (state_of self.now.core) how) }
+        requires { C.holds self.now.core }
+        ensures { IsTrue result ↔ ((next (C.seen self.now.core).job (left_by (C.seen self.now.core)) ≡ act.End how) ⊎ EndsAlone (C.seen self.now.core).job (left_by (C.seen self.now.core)) how) }
     {
         if is_end(self.core.next_action(), how) {
             return true;
@@ -381,8 +401,8 @@ impl Follower {
 
     // Whether nothing can be done and this is a deadlock, or bytes of the last write are left and it is a failing sink's end.
     fn ends_alone(&self, how: How) -> bool
-        requires { Holds (fields_of self.now.core) }
-        ensures { IsTrue result ↔ EndsAlone (job_of self.now.core) (state_of self.now.core) how }
+        requires { C.holds self.now.core }
+        ensures { IsTrue result ↔ EndsAlone (C.seen self.now.core).job (left_by (C.seen self.now.core)) how }
     {
         match how {
             How::Deadlock => self.core.is_stuck(),
@@ -393,11 +413,13 @@ impl Follower {
 
     // In the place of what the run would end so.
     fn place_of(&mut self, how: How) -> Option<InPlace>
-        requires { Follows (fields_of self.old.core) self.old.lent.items self.old.output.items }
-        ensures follows { Follows (fields_of self.new.core) self.new.lent.items self.new.output.items }
-        ensures same { Same (fields_of self.old.core) (fields_of self.new.core) }
-        ensures some { IfSome result (λ place. IsInPlace (job_of self.old.core) (state_of self.old.core) how place) }
-        ensures none { result ≡ None → NotInPlace (job_of self.old.core) (state_of self.old.core) how }
+        requires holds { C.holds self.old.core }
+        requires follows { Follows (C.seen self.old.core) self.old.lent.items (C.got_of self.old.got) self.old.output.items }
+        ensures holds { C.holds self.new.core }
+        ensures follows { Follows (C.seen self.new.core) self.new.lent.items (C.got_of self.new.got) self.new.output.items }
+        ensures same { Same (C.seen self.old.core) (C.seen self.new.core) }
+        ensures some { IfSome result (λ place. IsInPlace (C.seen self.old.core).job (left_by (C.seen self.old.core)) how place) }
+        ensures none { result ≡ None → NotInPlace (C.seen self.old.core).job (left_by (C.seen self.old.core)) how }
     {
         for thread in 0..ro_limits::MOST_THREADS {
             let place = self.place_at(thread, how);
@@ -413,11 +435,13 @@ impl Follower {
 
     // The same of one thread.
     fn place_at(&mut self, thread: u32, how: How) -> Option<InPlace>
-        requires { Follows (fields_of self.old.core) self.old.lent.items self.old.output.items }
-        ensures follows { Follows (fields_of self.new.core) self.new.lent.items self.new.output.items }
-        ensures same { Same (fields_of self.old.core) (fields_of self.new.core) }
-        ensures some { IfSome result (λ place. IsInPlace (job_of self.old.core) (state_of self.old.core) how place) }
-        ensures none { result ≡ None → NotByThread (job_of self.old.core) (state_of self.old.core) how thread }
+        requires holds { C.holds self.old.core }
+        requires follows { Follows (C.seen self.old.core) self.old.lent.items (C.got_of self.old.got) self.old.output.items }
+        ensures holds { C.holds self.new.core }
+        ensures follows { Follows (C.seen self.new.core) self.new.lent.items (C.got_of self.new.got) self.new.output.items }
+        ensures same { Same (C.seen self.old.core) (C.seen self.new.core) }
+        ensures some { IfSome result (λ place. IsInPlace (C.seen self.old.core).job (left_by (C.seen self.old.core)) how place) }
+        ensures none { result ≡ None → NotByThread (C.seen self.old.core).job (left_by (C.seen self.old.core)) how thread }
     {
         if self.ends_vote(thread, how) {
             return Some(InPlace::OfVote(thread));
@@ -430,10 +454,12 @@ impl Follower {
 
     // Whether the run would end so in the place of a vote on a thread.
     fn ends_vote(&mut self, thread: u32, how: How) -> bool
-        requires { Follows (fields_of self.old.core) self.old.lent.items self.old.output.items }
-        ensures follows { Follows (fields_of self.new.core) self.new.lent.items self.new.output.items }
-        ensures same { Same (fields_of self.old.core) (fields_of self.new.core) }
-        ensures ends { IsTrue result ↔ ((may_vote (state_of self.old.core) thread ≡ true) × EndsVote (job_of self.old.core) (state_of self.old.core) thread how) }
+        requires holds { C.holds self.old.core }
+        requires follows { Follows (C.seen self.old.core) self.old.lent.items (C.got_of self.old.got) self.old.output.items }
+        ensures holds { C.holds self.new.core }
+        ensures follows { Follows (C.seen self.new.core) self.new.lent.items (C.got_of self.new.got) self.new.output.items }
+        ensures same { Same (C.seen self.old.core) (C.seen self.new.core) }
+        ensures ends { IsTrue result ↔ ((may_vote (left_by (C.seen self.old.core)) thread ≡ true) × EndsVote (C.seen self.old.core).job (left_by (C.seen self.old.core)) thread how) }
     {
         if !self.core.may_vote(thread) {
             return false;
@@ -444,8 +470,9 @@ impl Follower {
 
     // Whether the run would end so in the place of a call that is served for a thread.
     fn ends_free(&self, thread: u32, how: How) -> bool
-        requires { Follows (fields_of self.now.core) self.now.lent.items self.now.output.items }
-        ensures { IsTrue result ↔ ((may_free (job_of self.now.core) (state_of self.now.core) thread ≡ true) × EndsFree (job_of self.now.core) (state_of self.now.core) how) }
+        requires holds { C.holds self.now.core }
+        requires follows { Follows (C.seen self.now.core) self.now.lent.items (C.got_of self.now.got) self.now.output.items }
+        ensures { IsTrue result ↔ ((may_free (C.seen self.now.core).job (left_by (C.seen self.now.core)) thread ≡ true) × EndsFree (C.seen self.now.core).job (left_by (C.seen self.now.core)) how) }
     {
         if !self.core.may_free(thread) {
             return false;
@@ -455,56 +482,12 @@ impl Follower {
 
     // Whether the run would end so in the place of a scrub.
     fn ends_scrub(&self, how: How) -> bool
-        requires { Follows (fields_of self.now.core) self.now.lent.items self.now.output.items }
-        ensures { IsTrue result ↔ ((may_scrub (state_of self.now.core) ≡ true) × EndsScrub (state_of self.now.core) how) }
+        requires holds { C.holds self.now.core }
+        requires follows { Follows (C.seen self.now.core) self.now.lent.items (C.got_of self.now.got) self.now.output.items }
+        ensures { IsTrue result ↔ ((scrubs (C.seen self.now.core).job (left_by (C.seen self.now.core)) ≡ true) × EndsScrub (C.seen self.now.core).job (left_by (C.seen self.now.core)) how) }
     {
         self.core.may_scrub() && is_how(self.core.scrub_end(), how)
     }
-}
-
-// A slot for each driver, with nothing lent.
-fn vacant(alloc: Global, drivers: u32) -> Result<Vec<Option<Lent>>, AllocError>
-    ensures count { IfOk result (λ lent. length lent.items ≡ drivers) }
-    ensures vacant { IfOk result (λ lent. (driver : ℕ) → slice_index_or lent.items driver None ≡ None) }
-{
-    let mut lent = Vec::with_capacity(alloc, drivers as usize)?;
-    for _ in 0..drivers {
-        lent.push(None)?;
-    }
-    Ok(lent)
-}
-
-// Notes what is lent to a driver.
-fn lend(lent: &mut [Option<Lent>], driver: u32, loan: Lent)
-    requires { driver < length lent.old }
-    ensures { lent.new ≡ slice_set lent.old driver (Some loan) }
-{
-    lent[driver as usize] = Some(loan);
-}
-
-// Takes what is lent to a driver out of its slot.
-fn take_back(lent: &mut [Option<Lent>], driver: u32) -> Option<Lent>
-    ensures lent { result ≡ slice_index_or lent.old driver None }
-    ensures vacant { IsSome result → (lent.new ≡ slice_set lent.old driver None) × (driver < length lent.old) }
-{
-    if driver as usize >= lent.len() {
-        return None;
-    }
-    lent[driver as usize].take()
-}
-
-// Whether what is lent is of this lease.
-fn is_of(lent: &Lent, lease: Lease) -> bool
-    ensures { IsTrue result ↔ (lent.now.lease ≡ lease) }
-{
-    lent.lease() == lease
-}
-
-// Whether a run came to so many instructions and faults.
-fn came_to(took: &Took, count: u32, hit: u32) -> bool
-    ensures { IsTrue result ↔ ((took.now.count ≡ count) × (took.now.hit ≡ hit)) }
-{
-    took.count == count && took.hit == hit
 }
 
 // What came, where it is not this entry.

@@ -3,8 +3,8 @@ ghost use Rattle.std.specs.Prelude.{◌≡◌, ◌*◌, ◌^◌, ◌<◌, ◌↔
 ghost use Rattle.ro_replica.specs.Seen.{replica_of};
 ghost use Rattle.ro_audit.specs.Pages.{DiffersIn};
 
+use crate::audit_cores::AuditCore;
 use crate::copies::{Parts, parts_between};
-use ro_core::Core;
 use ro_limits::{PAGE_SIZE, PAGES};
 use ro_replica::ReplicaBox;
 use std::alloc::{AllocError, Global};
@@ -20,9 +20,9 @@ pub struct Whole {
 
 impl Whole {
     /// What differs in two replicas of a core, in which each live thread stands still.
-    pub(crate) fn between(
+    pub(crate) fn between<C: AuditCore>(
         alloc: Global,
-        core: &Core,
+        core: &C,
         one: u32,
         other: u32,
     ) -> Result<Whole, AllocError> {
@@ -40,9 +40,9 @@ impl Whole {
 }
 
 // Of each live thread that differs in two replicas, the parts. What one would write is no part: it is in their memory.
-fn unequal_threads(
+fn unequal_threads<C: AuditCore>(
     alloc: Global,
-    core: &Core,
+    core: &C,
     one: u32,
     other: u32,
 ) -> Result<Vec<(u32, Parts)>, AllocError> {
@@ -58,7 +58,10 @@ fn unequal_threads(
 }
 
 /// The first address of each page, rising, in which not all replicas that are at home have the same bytes.
-pub(crate) fn differing_pages(alloc: Global, core: &Core) -> Result<Vec<u32>, AllocError> {
+pub(crate) fn differing_pages<C: AuditCore>(
+    alloc: Global,
+    core: &C,
+) -> Result<Vec<u32>, AllocError> {
     let mut pages = Vec::new(alloc);
     for page in 0..PAGES {
         if !are_alike_in(core, page) {
@@ -69,7 +72,7 @@ pub(crate) fn differing_pages(alloc: Global, core: &Core) -> Result<Vec<u32>, Al
 }
 
 // Whether all replicas that are at home have the same bytes in a page.
-fn are_alike_in(core: &Core, page: u32) -> bool
+fn are_alike_in<C: AuditCore>(core: &C, page: u32) -> bool
     requires { page < 2 ^ 20 }
 {
     let mut first = None;

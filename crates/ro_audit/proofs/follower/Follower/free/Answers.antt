@@ -1,9 +1,8 @@
-use Rattle.ro_core.specs.Runs.{fields_of}
 use Rattle.ro_audit.proofs.Steps.{free-followed}
 use Rattle.ro_audit.proofs.follower.Follower.free.Goals as goal
 
 pub returns-clause-followed : goal.returns-clause-followed
-returns-clause-followed c =
+returns-clause-followed g c =
     let x = c.in_ok-came.ensures in
-    free-followed (fields_of c.args.self.now.core) (fields_of c.free.new.self) c.args.entry.now c.in_ok-came.came c.unless_same.result c.args.self.now.lent.items c.args.self.now.output.items c.requires.follows c.unless_same.ensures c.args.thread
-    c.requires.may c.requires.decides x.entry.0 x.entry.1 x.entry.2 c.free.ensures.holds x.output
+    free-followed (g.C.RunCore.seen c.args.self.now.core) (g.C.RunCore.seen c.free.new.self) c.args.entry.now c.in_ok-came.came c.unless_same.result c.args.self.now.lent.items (g.C.AuditCore.got_of c.args.self.now.got) c.args.self.now.output.items
+    c.requires.follows c.unless_same.ensures x.entry.0 x.entry.2 c.args.thread c.requires.may c.requires.decides x.entry.1 x.output

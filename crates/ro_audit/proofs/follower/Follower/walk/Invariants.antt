@@ -1,8 +1,8 @@
 use Rattle.std.proofs.Common.{◌≡◌, take}
-use Rattle.ro_core.specs.Runs.{fields_of, job_of}
 use Rattle.ro_audit.specs.Following.{Follows}
 use Rattle.ro_audit.proofs.follower.Follower.walk.Given as goal
 
 abbrev pub invariant-loop-place : goal.invariant-loop-place
-invariant-loop-place l =
-    Follows (fields_of l.self.core) l.self.lent.items l.self.output.items × (job_of l.self.core ≡ job_of l.fn.self.core) × ((fields_of l.self.core).journal ≡ take l.place l.journal)
+invariant-loop-place g l =
+    g.C.RunCore.holds l.self.core × Follows (g.C.RunCore.seen l.self.core) l.self.lent.items (g.C.AuditCore.got_of l.self.got) l.self.output.items × ((g.C.RunCore.seen l.self.core).job ≡ (g.C.RunCore.seen l.fn.self.core).job)
+    × ((g.C.RunCore.seen l.self.core).journal ≡ take l.place l.journal)

@@ -1,11 +1,11 @@
 use Rattle.std.proofs.Common.{◌≡◌, ◌∷◌, [], ℕ, List, length, None, sym, ap, ◌+◌, ◌∙◌, subst, length-append}
 use Rattle.std.specs.Prelude.{slice_index_or, Option}
-use Rattle.ro_lease.specs.Loans.{LentOf}
+use Rattle.ro_cores.specs.Loans.{LentOf}
 use Rattle.ro_audit.proofs.Slots.{vacant-more}
-use Rattle.ro_audit.proofs.follower.vacant.Goals as goal
+use Rattle.ro_audit.proofs.loans.vacant.Goals as goal
 
 pub loop-preserved : goal.loop-preserved
-loop-preserved c =
+loop-preserved g c =
     let i = c.loop.invariant in
     let items = c.in_ok-push.ensures.items in (
       ap length items ∙ length-append c.loop.lent.items (None ∷ []) ∙ ap (λ (n : ℕ). n + 1) i.0,

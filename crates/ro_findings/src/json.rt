@@ -88,7 +88,9 @@ pub(crate) fn write_why<S: Serializer>(why: &Why, out: &mut S) -> Result<(), S::
             let (count, hit) = (*count, *hit);
             write_named("reason", "ran", &Ran { count, hit }, out)
         }
+        Why::NoPut => write_named("reason", "no_put", &(), out),
         Why::NoPart => write_named("reason", "no_part", &(), out),
+        Why::OtherGot => write_named("reason", "other_got", &(), out),
         Why::NoVote => write_named("reason", "no_vote", &(), out),
         Why::NoFree => write_named("reason", "no_free", &(), out),
         Why::NoScrub => write_named("reason", "no_scrub", &(), out),

@@ -369,7 +369,12 @@ fn tell_illegal(text: &mut String, entry: &Entry, why: Why) -> Result<(), AllocE
             text,
             "The run of the lease comes back after {count} instructions and {hit} faults."
         ),
+        Why::NoPut => writeln!(
+            text,
+            "No lease comes back so: a put is at a vote or behind a quantum, and has no faults."
+        ),
         Why::NoPart => writeln!(text, "No lease comes back so."),
+        Why::OtherGot => writeln!(text, "The lease gets a mutex in another thread's turn."),
         Why::NoVote => writeln!(text, "The thread can't be voted on."),
         Why::NoFree => writeln!(text, "The thread has no call that can be served."),
         Why::NoScrub => writeln!(text, "No scrub may be made here."),

@@ -23,9 +23,10 @@ module _ (files : Option Files) (run : AskedRun) (job : Job) (old mid : Calls) (
   all_asks name new asks = unfailed-more old mid new (run_names run) (name ∷ []) job_asks asks
 
   pub refuses_behind : (now : Option Files) (name : List ℕ) (before middle after : ℕ) (new : Calls) (answer : Answer) → now ≡ files → middle ≡ before
-      → RefusesJournal now name middle after mid new answer → RefusesBehind files run name before after old new answer
+      → RefusesJournal now name job middle after mid new answer → RefusesBehind files run name before after old new answer
+  unfolding has_job
   refuses_behind now name before middle after new answer told calm refused = record {
     mid = mid;
-    job = has_job;
-    refused = subst (λ (count : ℕ). RefusesJournal files name count after mid new answer) calm (subst (λ (t : Option Files). RefusesJournal t name middle after mid new answer) told refused);
+    has_job = has_job;
+    refused = subst (λ (count : ℕ). RefusesJournal files name job count after mid new answer) calm (subst (λ (t : Option Files). RefusesJournal t name job middle after mid new answer) told refused);
   }

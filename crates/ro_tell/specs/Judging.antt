@@ -1,24 +1,22 @@
 -- What a journal is judged to be.
-use Rattle.std.specs.Prelude.{◌≡◌, ◌≢◌, ⊤, IfSome, ℕ, suc, List, [], ◌∷◌, ◌++◌, length, map, take, Option, Some, None, Result, Ok, Err, if◌then◌else◌, nat_eq, option_map, slice_get}
-use Rattle.std.specs.List.{starts_with}
-use Rattle.ro_settings.specs.declared.Mode.TheVariants.{Cooperative}
+use Rattle.std.specs.Prelude.{◌≡◌, ◌≢◌, ⊤, IfSome, ℕ, suc, List, [], ◌∷◌, ◌++◌, length, map, take, Option, Some, None, Ok, option_map, slice_get}
 use Rattle.ro_journal.specs.declared.How.{How}
 use Rattle.ro_journal.specs.declared.How.TheVariants as how
 use Rattle.ro_journal.specs.Losers.{numbers}
 use Rattle.ro_journal.specs.declared.Entry.{Entry}
 use Rattle.ro_journal.specs.declared.Entry.TheVariants.{Vote, Scrub}
-use Rattle.ro_journal.specs.Plan.{outcome_of, plan_of}
-use Rattle.ro_journal_text.specs.declared.errors.JournalCode.TheVariants.{Form}
-use Rattle.ro_journal_text.specs.declared.errors.JournalError.{JournalError}
-use Rattle.ro_journal_text.specs.declared.errors.JournalError.TheVariants.{Bad}
+use Rattle.ro_journal.specs.Plan.{outcome_of}
+use Rattle.ro_plans.specs.Plans.{plan_in}
 use Rattle.ro_journal_text.specs.Reading.{Journal, file_journal}
-use Rattle.ro_journal_text.specs.Texts.{header_text}
 use Rattle.ro_report.specs.declared.answers.FileKind.TheVariants.{Plan}
 use Rattle.ro_io.specs.Outside.{Files}
 use Rattle.ro_legal.specs.Core.{Job}
-use Rattle.ro_legal.specs.Legal.{Legal as IsLegal}
+use Rattle.ro_legal.specs.Modes.{Mode, InMode, Suits}
+use Rattle.ro_legal.specs.Rules.{Legal as IsLegal}
 use Rattle.ro_event.specs.Views.{View}
 use Rattle.ro_core.specs.Seen.{EndsByScrub, ShowsViews}
+use Rattle.ro_coop_core.specs.Seen.{ShowsViews as ShowsUnlike}
+use Rattle.ro_cores.specs.Loans.{IsJoined}
 use Rattle.ro_audit.specs.Audits.{FirstIllegal}
 use Rattle.ro_files.specs.Files.{IsContent, IsJobOf}
 use Rattle.ro_words.specs.Commands.{AskedRun}
@@ -33,18 +31,15 @@ use Rattle.ro_findings.specs.declared.findings.Differed.{Differed}
 use Rattle.ro_findings.specs.declared.findings.Differed.TheVariants.{AtVote, AtScrub}
 use Rattle.ro_findings.specs.declared.findings.Findings.{Findings}
 
--- the entries of a journal that is read
-abbrev pub entries_of : Result Journal JournalError → Result (List Entry) JournalError
-entries_of (Ok journal) = Ok journal.entries
-entries_of (Err error) = Err error
+-- the same job, to be run in the mode
+abbrev pub job_in : Mode → Job → Job
+job_in mode job = record job { settings = record job.settings { mode = mode } }
 
--- the entries of a text that is the journal of a run by votes, or its first bad line: the first, where it is that of a cooperative run
-abbrev pub voted_entries : List ℕ → Result (List Entry) JournalError
-voted_entries text = if starts_with nat_eq text (header_text Cooperative) then Err (Bad 1 Form) else entries_of (file_journal text)
-
--- the journal of the file of this name
-abbrev pub IsJournalOf : Option Files → (name : List ℕ) → List Entry → Type 0
-IsJournalOf files name entries = (text : List ℕ) × IsContent files Plan (Some name) text × (voted_entries text ≡ Ok entries)
+-- The journal of the file of this name. Its first line says in which mode its run was, and the job has nothing that such a run has none
+-- of.
+abbrev pub IsJournalOf : Option Files → (name : List ℕ) → Job → Journal → Type 0
+IsJournalOf files name job journal =
+    (text : List ℕ) × IsContent files Plan (Some name) text × (file_journal text ≡ Ok journal) × Suits journal.mode job
 
 -- the end that is told with more beside it
 abbrev pub how_of : Ended → How
@@ -68,20 +63,22 @@ TellsSplit split (NoMajority told) = told ≡ split
 TellsSplit split _ = ⊤
 
 -- replicas that differ are told by their views where the run ended in the place of a vote, and whole where it ended in that of a
--- scrub
+-- scrub, as no cooperative run does
 abbrev pub IsSplitOf : Job → List Entry → Split → Type 0
-IsSplitOf job entries (split.AtVote fields) = (views : List View) × ShowsViews job entries views
-IsSplitOf job entries (split.AtScrub threads pages) = EndsByScrub job entries []
+IsSplitOf job entries (split.AtVote fields) =
+    InMode job.settings.mode ((views : List View) × ShowsViews job entries views) ((views : List View) × ShowsUnlike job entries views)
+IsSplitOf job entries (split.AtScrub threads pages) = InMode job.settings.mode (EndsByScrub job entries []) ⊥
 
 abbrev pub IsEnded : Job → List Entry → Ended → Type 0
 IsEnded job entries (Differ split) = IsSplitOf job entries split
 IsEnded job entries (NoMajority split) = IsSplitOf job entries split
 IsEnded job entries _ = ⊤
 
--- the journal is legal, with a plan of so many steps and this end, or the entry at the place is the first that is not allowed, and why
+-- the journal is legal and all that was got stands in rows, with a plan of so many steps and this end, or the entry at the place is the
+-- first that is not allowed, and why
 abbrev pub Judges : Job → List Entry → Verdict → Type 0
 Judges job entries (Legal steps end) =
-    IsLegal job entries × (steps ≡ length (plan_of entries)) × (option_map how_of end ≡ outcome_of entries) × IfSome end (IsEnded job entries)
+    IsLegal job entries × IsJoined job entries × (steps ≡ length (plan_in job.settings.mode entries)) × (option_map how_of end ≡ outcome_of entries) × IfSome end (IsEnded job entries)
 Judges job entries (Illegal place entry why) = FirstIllegal job entries place why × (slice_get entries place ≡ Some entry)
 
 -- a copy that a vote or a scrub made: the place of its entry, the thread that was voted on, and the replica that lost
@@ -125,6 +122,7 @@ pub record Finds (job : Job) (entries : List Entry) (findings : Findings) : Type
   pub judged : Judges job entries findings.verdict
   pub copies : map copied_of findings.copies.items ≡ copies_from 0 (allowed_in findings.verdict entries)
 
--- The journal of this name was judged, of the job that the files of the run make, and this was found.
-abbrev pub IsAuditOf : Option Files → AskedRun → (journal : List ℕ) → Findings → Type 0
-IsAuditOf files run journal findings = (job : Job) × (entries : List Entry) × IsJobOf files run job × IsJournalOf files journal entries × Finds job entries findings
+-- The journal of this name was judged, of the job that the files of the run make, in the journal's mode, and this was found.
+abbrev pub IsAuditOf : Option Files → AskedRun → (name : List ℕ) → Findings → Type 0
+IsAuditOf files run name findings =
+    (job : Job) × (journal : Journal) × IsJobOf files run job × IsJournalOf files name job journal × Finds (job_in journal.mode job) journal.entries findings

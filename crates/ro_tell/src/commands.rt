@@ -1,10 +1,14 @@
 //! The command, from its words to its answer.
-ghost use Rattle.std.specs.Prelude.{◌≡◌, ◌<◌, ◌∷◌, [], Err, Ok, IfErr, IfOk, IfSome, None, Option, Some, option_map, length, false, true};
+ghost use Rattle.std.specs.Prelude.{◌≡◌, ◌<◌, ◌↔◌, ◌∷◌, [], Err, Ok, IfErr, IfOk, IfSome, IsTrue, None, Option, Some, option_map, length, false, true};
 ghost use Rattle.std.specs.String.{string_bytes};
 ghost use Rattle.ro_io.specs.Outside.{Asks, unfailed};
 ghost use Rattle.ro_journal.specs.declared.How.{How as HowSeen};
+ghost use Rattle.ro_journal_text.specs.Reading.{file_journal, journal_in};
 ghost use Rattle.ro_settings.specs.Ranges.{InRange};
+ghost use Rattle.ro_settings.specs.declared.Mode.TheVariants.{Voted, Cooperative};
 ghost use Rattle.ro_legal.specs.Core.{Job as JobSeen};
+ghost use Rattle.ro_legal.specs.Modes.{Suits};
+ghost use Rattle.ro_legal.specs.Rules.{IsFit};
 ghost use Rattle.ro_report.specs.declared.answers.Answer.TheVariants as a;
 ghost use Rattle.ro_words.specs.Commands.{AskedAudit, audit_of, run_by};
 ghost use Rattle.ro_words.specs.Uses.{texts_of};
@@ -15,20 +19,20 @@ ghost use Rattle.ro_audit.specs.Following.{IsTrail};
 ghost use Rattle.ro_findings.specs.Sentences.{TellsVerdict};
 ghost use Rattle.ro_tell.specs.declared.commands.Form.TheVariants as f;
 ghost use Rattle.ro_tell.specs.Causes.{AuditCause, RefusesJournal, RefusesText, WordsCause, audit_names};
-ghost use Rattle.ro_tell.specs.Judging.{Finds, IsAuditOf, IsJournalOf, TellsSplit, how_of, voted_entries};
+ghost use Rattle.ro_tell.specs.Judging.{Finds, IsAuditOf, IsJournalOf, TellsSplit, how_of, job_in};
 
 use crate::copies::{copies_made, differences};
 use crate::fields::{Unlike, ends_split, split_of};
 use crate::standing::Stood;
-use ro_audit::{AuditError, Audited, Difference, Trail, Why, trace};
+use ro_audit::{AuditCore, AuditError, Audited, Difference, Trail, Why, trace};
 use ro_faults::Fault;
 use ro_files::{FetchedJob, Job, fetch, fetch_job, journal};
 use ro_findings::{Ended, Findings, Split, Verdict};
 use ro_io::Store;
 use ro_journal::{Entry, How};
-use ro_journal_text::header;
+use ro_journal_text::{FileJournal, header};
 use ro_report::{Answer, FileKind, JournalCode};
-use ro_settings::Mode;
+use ro_settings::{Mode, Settings};
 use ro_words::{AuditCommand, RunCommand, WordsError, parse_audit};
 use std::alloc::{AllocError, Global};
 
@@ -87,7 +91,8 @@ fn answer_of(error: WordsError) -> Answer
     }
 }
 
-/// Audits the journal of a file, which is said to be of a run, and tells what is found in a form.
+/// Audits the journal of a file, which is said to be of a run, and tells what is found in a form. The mode of the run is that of
+/// the journal's first line, whatever the settings say.
 ///
 /// # Errors
 /// The answer of a run whose files are bad.
@@ -123,8 +128,8 @@ fn told(alloc: Global, findings: &Findings, form: Form) -> Result<String, AllocE
     }
 }
 
-/// Finds what is to be told of the journal of a file, which is said to be of a run. The files of the run are fetched first, and then
-/// the journal's: each once, and none after one that is refused.
+/// Finds what is to be told of the journal of a file, which is said to be of a run in the mode of the journal's first line. The
+/// files of the run are fetched first, and then the journal's: each once, and none after one that is refused.
 ///
 /// # Errors
 /// The answer of a run whose files are bad.
@@ -142,48 +147,125 @@ pub fn find<S: Store>(
     ensures calm { (result ≡ Err a.StoreFailed → ⊥) → S.failures store.new ≡ S.failures store.old }
 {
     let FetchedJob { job, executable } = fetch_job(alloc, run, store)?;
-    let entries = fetch_journal(alloc, name, store)?;
-    match judge(alloc, job, executable.as_slice(), entries.as_slice()) {
+    let journal = fetch_journal(alloc, name, &job, store)?;
+    match judge(alloc, job, executable.as_slice(), &journal) {
         Ok(findings) => Ok(findings),
         Err(_) => Err(Answer::NoMemory),
     }
 }
 
-// The journal of a file.
-fn fetch_journal<S: Store>(alloc: Global, name: &str, store: &mut S) -> Result<Vec<Entry>, Answer>
-    ensures journal { IfOk result (λ journal. IsJournalOf (S.told store.old) name.now journal.items) }
+// The journal of a file, which a run of this job may have.
+fn fetch_journal<S: Store>(
+    alloc: Global,
+    name: &str,
+    job: &Job,
+    store: &mut S,
+) -> Result<FileJournal, Answer>
+    ensures journal { IfOk result (λ journal. IsJournalOf (S.told store.old) name.now (job_of job.now.image job.now.input.items job.now.faults.items job.now.settings) (journal_in journal)) }
     ensures asked { IfOk result (λ _. Asks (S.calls store.old) (S.calls store.new) (unfailed (name.now ∷ []))) }
-    ensures refused { IfErr result (RefusesJournal (S.told store.old) name.now (S.failures store.old) (S.failures store.new) (S.calls store.old) (S.calls store.new)) }
+    ensures refused { IfErr result (RefusesJournal (S.told store.old) name.now (job_of job.now.image job.now.input.items job.now.faults.items job.now.settings) (S.failures store.old) (S.failures store.new) (S.calls store.old) (S.calls store.new)) }
     ensures told { S.told store.new ≡ S.told store.old }
     ensures calm { (result ≡ Err a.StoreFailed → ⊥) → S.failures store.new ≡ S.failures store.old }
 {
     let file = fetch(store, alloc, FileKind::Plan, name)?;
-    entries_in(alloc, file.as_slice())
+    suited_journal(alloc, file.as_slice(), job)
 }
 
-// The entries of a text that is the journal of a run by votes; the first line of a cooperative run's is as bad as any other.
-fn entries_in(alloc: Global, text: &[u8]) -> Result<Vec<Entry>, Answer>
-    ensures entries { IfOk result (λ entries. voted_entries text.now ≡ Ok entries.items) }
-    ensures refused { IfErr result (RefusesText text.now) }
+// The journal of a text. The first line of a cooperative run is as bad as any other where the job has faults or scrubs.
+fn suited_journal(alloc: Global, text: &[u8], job: &Job) -> Result<FileJournal, Answer>
+    ensures journal { IfOk result (λ journal. file_journal text.now ≡ Ok (journal_in journal)) }
+    ensures suits { IfOk result (λ journal. Suits journal.mode (job_of job.now.image job.now.input.items job.now.faults.items job.now.settings)) }
+    ensures refused { IfErr result (RefusesText (job_of job.now.image job.now.input.items job.now.faults.items job.now.settings) text.now) }
 {
-    if text.starts_with(header(Mode::Cooperative)) {
+    if text.starts_with(header(Mode::Cooperative)) && !may_cooperate(job) {
         return Err(Answer::BadPlan {
             line: 1,
             code: JournalCode::Form,
         });
     }
-    let journal = journal(alloc, text)?;
-    Ok(journal.entries)
+    journal(alloc, text)
 }
 
-// Follows the journal of a job, and finds what came of it.
+// Whether a job has neither faults nor scrubs.
+fn may_cooperate(job: &Job) -> bool
+    ensures { IsTrue result ↔ Suits Cooperative (job_of job.now.image job.now.input.items job.now.faults.items job.now.settings) }
+{
+    job.faults.is_empty() && job.settings.scrub == 0
+}
+
+// Follows the journal of a job's run in the journal's mode, and finds what came of it.
 fn judge(
+    alloc: Global,
+    job: Job,
+    executable: &[u8],
+    journal: &FileJournal,
+) -> Result<Findings, AllocError>
+    requires can_run { CanRun (job_of job.image job.input.items job.faults.items job.settings) }
+    requires suits { Suits journal.now.mode (job_of job.image job.input.items job.faults.items job.settings) }
+    ensures { IfOk result (Finds (job_in journal.now.mode (job_of job.image job.input.items job.faults.items job.settings)) journal.now.entries.items) }
+{
+    match journal.mode {
+        Mode::Voted => judge_voted(alloc, job, executable, journal.entries.as_slice()),
+        Mode::Cooperative => judge_together(alloc, job, executable, journal.entries.as_slice()),
+    }
+}
+
+// The same where votes decide.
+fn judge_voted(
     alloc: Global,
     job: Job,
     executable: &[u8],
     entries: &[Entry],
 ) -> Result<Findings, AllocError>
     requires { CanRun (job_of job.image job.input.items job.faults.items job.settings) }
+    ensures { IfOk result (Finds (job_in Voted (job_of job.image job.input.items job.faults.items job.settings)) entries.now) }
+{
+    judge_by::<ro_core::Core>(alloc, with_mode(job, Mode::Voted), executable, entries)
+}
+
+// The same where replicas answer calls on cooperative mutexes by themselves.
+fn judge_together(
+    alloc: Global,
+    job: Job,
+    executable: &[u8],
+    entries: &[Entry],
+) -> Result<Findings, AllocError>
+    requires can_run { CanRun (job_of job.image job.input.items job.faults.items job.settings) }
+    requires suits { Suits Cooperative (job_of job.image job.input.items job.faults.items job.settings) }
+    ensures { IfOk result (Finds (job_in Cooperative (job_of job.image job.input.items job.faults.items job.settings)) entries.now) }
+{
+    let job = with_mode(job, Mode::Cooperative);
+    judge_by::<ro_coop_core::Core>(alloc, job, executable, entries)
+}
+
+// The same job, to be run in the mode.
+fn with_mode(job: Job, mode: Mode) -> Job
+    ensures { job_of result.image result.input.items result.faults.items result.settings ≡ job_in mode (job_of job.image job.input.items job.faults.items job.settings) }
+{
+    let Job {
+        image,
+        input,
+        faults,
+        settings,
+    } = job;
+    Job {
+        image,
+        input,
+        faults,
+        settings: Settings { mode, ..settings },
+    }
+}
+
+// Follows the journal of a job through a core that keeps the rules of its mode, and finds what came of it.
+fn judge_by<C: AuditCore>(
+    alloc: Global,
+    job: Job,
+    executable: &[u8],
+    entries: &[Entry],
+) -> Result<Findings, AllocError>
+    requires can_run { CanRun (job_of job.image job.input.items job.faults.items job.settings) }
+    requires mode { job.settings.mode ≡ C.mode }
+    requires fit { IsFit (job_of job.image job.input.items job.faults.items job.settings) }
     ensures { IfOk result (Finds (job_of job.image job.input.items job.faults.items job.settings) entries.now) }
 {
     let Job {
@@ -192,7 +274,7 @@ fn judge(
         faults,
         settings,
     } = job;
-    let Ok(trail) = trace(
+    let Ok(trail) = trace::<C>(
         alloc,
         image,
         input.as_slice(),
@@ -233,7 +315,11 @@ struct Seen {
 }
 
 impl Seen {
-    fn of(alloc: Global, trail: &Trail, case: &Case<'_>) -> Result<Seen, AllocError> {
+    fn of<C: AuditCore>(
+        alloc: Global,
+        trail: &Trail<C>,
+        case: &Case<'_>,
+    ) -> Result<Seen, AllocError> {
         Ok(Seen {
             stood: Stood::behind(alloc, trail, case.entries, case.executable)?,
             differences: differences(alloc, trail)?,
@@ -247,14 +333,14 @@ impl Seen {
 }
 
 // What a trail comes to, with what was seen of it.
-fn conclude(
+fn conclude<C: AuditCore>(
     alloc: Global,
-    trail: Trail,
+    trail: Trail<C>,
     seen: Result<Seen, AllocError>,
     case: &Case<'_>,
 ) -> Result<Findings, AllocError>
     requires { (job : JobSeen) × IsTrail job case.now.entries.now trail }
-    ensures { (job : JobSeen) → IsTrail job case.now.entries.now trail → IfOk result (Finds job case.now.entries.now) }
+    ensures { (job : JobSeen) → IsFit job → IsTrail job case.now.entries.now trail → IfOk result (Finds job case.now.entries.now) }
 {
     let (_, audited) = trail.tell();
     let seen = seen?;
@@ -275,7 +361,7 @@ fn legal(
     seen: Seen,
     case: &Case<'_>,
 ) -> Result<Findings, AllocError>
-    ensures { (job : JobSeen) → Tells job case.now.entries.now audited → IfOk result (Finds job case.now.entries.now) }
+    ensures { (job : JobSeen) → IsFit job → Tells job case.now.entries.now audited → IfOk result (Finds job case.now.entries.now) }
 {
     let Seen {
         stood,

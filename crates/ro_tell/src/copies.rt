@@ -3,7 +3,7 @@ ghost use Rattle.std.specs.Prelude.{◌≡◌, ◌++◌, ◌∷◌, [], IfOk, No
 ghost use Rattle.ro_journal.specs.Losers.{numbers};
 ghost use Rattle.ro_tell.specs.Judging.{copied_of, copies_at, copies_from, copies_of, thread_of};
 
-use ro_audit::{Difference, Parts, Trail, Whole};
+use ro_audit::{AuditCore, Difference, Parts, Trail, Whole};
 use ro_faults::Fault;
 use ro_findings::{CopyMade, Differed, Part, Strike, ThreadParts};
 use ro_journal::{Entry, Lost};
@@ -11,7 +11,10 @@ use std::alloc::{AllocError, Global};
 use std::collections::BTreeMap;
 
 /// What differed in each copy of a trail, in their order, to be kept when the trail is given up.
-pub(crate) fn differences(alloc: Global, trail: &Trail) -> Result<Vec<Difference>, AllocError> {
+pub(crate) fn differences<C: AuditCore>(
+    alloc: Global,
+    trail: &Trail<C>,
+) -> Result<Vec<Difference>, AllocError> {
     let mut kept = Vec::with_capacity(alloc, trail.copies().len())?;
     for difference in trail.copies() {
         kept.push(kept_of(alloc, difference)?)?;

@@ -3,7 +3,7 @@ ghost use Rattle.std.specs.Prelude.{◌<◌, IfOk};
 ghost use Rattle.ro_tell.specs.Judging.{IsSplitBy};
 
 use crate::places::place_at;
-use ro_audit::Trail;
+use ro_audit::{AuditCore, Trail};
 use ro_event::View;
 use ro_findings::{Field, Split, ThreadFields};
 use ro_journal::{Entry, How};
@@ -28,9 +28,9 @@ impl Unlike {
     }
 
     /// What differs in the replicas of a trail, which are so many.
-    pub(crate) fn of(
+    pub(crate) fn of<C: AuditCore>(
         alloc: Global,
-        trail: &Trail,
+        trail: &Trail<C>,
         executable: &[u8],
         replicas: u32,
     ) -> Result<Unlike, AllocError> {
@@ -91,9 +91,9 @@ pub(crate) fn ends_split(entries: &[Entry]) -> bool {
 }
 
 // The views of a thread in the replicas where it stands still, in their order.
-fn views_of(
+fn views_of<C: AuditCore>(
     alloc: Global,
-    trail: &Trail,
+    trail: &Trail<C>,
     replicas: u32,
     thread: u32,
 ) -> Result<Vec<View>, AllocError> {

@@ -1,6 +1,6 @@
 //! Places and variables of a program, with what its executable and its memory say of them.
 use ro_assembly::{address_touched, instruction_text};
-use ro_audit::Trail;
+use ro_audit::{AuditCore, Trail};
 use ro_event::{Stop, TrapCause, View};
 use ro_findings::{Instruction, Mapped, Place, Symbol, Variable};
 use ro_image::{Within, function_at, object_at};
@@ -51,9 +51,9 @@ fn printable(alloc: Global, name: &[u8]) -> Result<String, AllocError> {
 
 /// The instruction where a view stands, by its word in the memory of the first replica. None where that can't be read, and where
 /// the thread trapped before it was fetched.
-pub(crate) fn instruction_at(
+pub(crate) fn instruction_at<C: AuditCore>(
     alloc: Global,
-    trail: &Trail,
+    trail: &Trail<C>,
     view: &View,
 ) -> Result<Option<Instruction>, AllocError> {
     if is_unfetched(view.stop()) {
@@ -103,6 +103,6 @@ fn is_unfetched(stop: &Stop) -> bool {
 }
 
 // A word of the first replica's memory.
-fn word_at(trail: &Trail, address: u32) -> Option<u32> {
+fn word_at<C: AuditCore>(trail: &Trail<C>, address: u32) -> Option<u32> {
     trail.core().replica(0)?.word(address)
 }

@@ -1,7 +1,6 @@
 //! Where threads stand behind a journal, and for what they wait.
 use crate::places::{instruction_at, place_at, variable_at};
-use ro_audit::Trail;
-use ro_core::Core;
+use ro_audit::{AuditCore, Trail};
 use ro_event::{Call, Function, Which};
 use ro_findings::{Standing, State, Trapped, Waiting};
 use ro_journal::{Did, Entry};
@@ -21,9 +20,9 @@ pub(crate) struct Stood {
 
 impl Stood {
     /// What the threads came to in the core of a trail, which followed these entries of the program of an executable.
-    pub(crate) fn behind(
+    pub(crate) fn behind<C: AuditCore>(
         alloc: Global,
-        trail: &Trail,
+        trail: &Trail<C>,
         entries: &[Entry],
         executable: &[u8],
     ) -> Result<Stood, AllocError> {
@@ -47,47 +46,65 @@ impl Stood {
 }
 
 // What holds a thread up in a core of the program of an executable.
-fn state_of(
+fn state_of<C: AuditCore>(
     alloc: Global,
-    core: &Core,
+    core: &C,
     executable: &[u8],
     thread: u32,
 ) -> Result<State, AllocError> {
     if !core.kernel().lives_on(thread) {
         return Ok(State::Exited);
     }
-    let Some(call) = core.blocked_call(thread) else {
-        return Ok(State::Unblocked);
-    };
-    Ok(match call.which {
-        Which::Function(Function::Lock) => State::Locks {
-            mutex: variable_at(alloc, executable, call.a0)?,
-            owner: owner(core.kernel(), thread, call.a0),
-        },
-        Which::Function(Function::Wait) => State::Waits {
+    if let Some(call) = core.blocked_call(thread) {
+        return blocked_state(alloc, core, executable, thread, call);
+    }
+    match core.waits_at(thread) {
+        Some(mutex) => locks(alloc, core, executable, thread, mutex),
+        None => Ok(State::Unblocked),
+    }
+}
+
+// What holds a thread up that is blocked on a call.
+fn blocked_state<C: AuditCore>(
+    alloc: Global,
+    core: &C,
+    executable: &[u8],
+    thread: u32,
+    call: Call,
+) -> Result<State, AllocError> {
+    match call.which {
+        Which::Function(Function::Lock) => locks(alloc, core, executable, thread, call.a0),
+        Which::Function(Function::Wait) => Ok(State::Waits {
             condition: variable_at(alloc, executable, call.a0)?,
             signalled: is_signalled(core.kernel(), thread),
             mutex: variable_at(alloc, executable, call.a1)?,
-            owner: owner(core.kernel(), thread, call.a1),
-        },
-        Which::Function(Function::Join) => State::Joins(call.a0),
-        _ => State::Blocked,
+            owner: owner(core, thread, call.a1),
+        }),
+        Which::Function(Function::Join) => Ok(State::Joins(call.a0)),
+        _ => Ok(State::Blocked),
+    }
+}
+
+// That a thread waits for a mutex.
+fn locks<C: AuditCore>(
+    alloc: Global,
+    core: &C,
+    executable: &[u8],
+    thread: u32,
+    mutex: u32,
+) -> Result<State, AllocError> {
+    Ok(State::Locks {
+        mutex: variable_at(alloc, executable, mutex)?,
+        owner: owner(core, thread, mutex),
     })
 }
 
-// The thread that holds a mutex, where one does that is not this thread: the one that a lock of it would not block.
-fn owner(kernel: &Kernel, thread: u32, mutex: u32) -> Option<u32> {
-    let lock = Call {
-        which: Which::Function(Function::Lock),
-        a0: mutex,
-        a1: 0,
-        a2: 0,
-        a3: 0,
-    };
-    if !kernel.blocks(thread, lock) {
-        return None;
+// The thread that holds a mutex, where one does that is not this thread.
+fn owner<C: AuditCore>(core: &C, thread: u32, mutex: u32) -> Option<u32> {
+    match core.owner(mutex) {
+        Some(owner) if owner != thread => Some(owner),
+        _ => None,
     }
-    (0..kernel.made()).find(|other| !kernel.blocks(*other, lock))
 }
 
 // Whether a thread that waits on a condition variable was signalled.
@@ -99,9 +116,9 @@ fn is_signalled(kernel: &Kernel, thread: u32) -> bool {
 }
 
 // Where a thread stands.
-fn standing(
+fn standing<C: AuditCore>(
     alloc: Global,
-    trail: &Trail,
+    trail: &Trail<C>,
     executable: &[u8],
     thread: u32,
 ) -> Result<Standing, AllocError> {
@@ -128,9 +145,9 @@ fn trapped_in(entries: &[Entry]) -> Option<u32> {
 }
 
 // Where a thread trapped.
-fn trapped(
+fn trapped<C: AuditCore>(
     alloc: Global,
-    trail: &Trail,
+    trail: &Trail<C>,
     executable: &[u8],
     thread: u32,
 ) -> Result<Option<Trapped>, AllocError> {

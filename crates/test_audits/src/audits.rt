@@ -1,7 +1,10 @@
 //! Journals of small guests, and such as are none.
+ghost use Rattle.std.specs.Prelude.{◌≡◌};
 ghost use Rattle.ro_replica.specs.Seen.{AreFaults};
+ghost use Rattle.ro_settings.specs.declared.Mode.TheVariants.{Voted};
 
 use ro_audit::{AuditError, audit};
+use ro_core::Core;
 use ro_event::TrapCause;
 use ro_faults::{Fault, Target};
 use ro_image::{Executable, read_executable};
@@ -293,7 +296,7 @@ fn follow(
     let settings = settings_of(of);
     let image = image_of(rt, alloc, of)?;
     assert!(rt; settings.is_in_range());
-    let (_, audited) = audit(
+    let (_, audited) = audit::<Core>(
         alloc,
         image,
         &[],
@@ -322,7 +325,9 @@ fn follow(
     Ok(())
 }
 
-fn settings_of(of: Of) -> Settings {
+fn settings_of(of: Of) -> Settings
+    ensures { result.mode ≡ Voted }
+{
     let (replicas, drivers, limit) = match of {
         Of::ShortByTwo => (2, 2, 100),
         Of::ShortLimited => (2, 1, 2),

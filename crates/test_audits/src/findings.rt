@@ -420,9 +420,19 @@ const WHYS: &[(Why, &str, &str)] = &[
         r#"{"count":5,"hit":1,"reason":"ran"}"#,
     ),
     (
+        Why::NoPut,
+        "No lease comes back so: a put is at a vote or behind a quantum, and has no faults.",
+        r#"{"reason":"no_put"}"#,
+    ),
+    (
         Why::NoPart,
         "No lease comes back so.",
         r#"{"reason":"no_part"}"#,
+    ),
+    (
+        Why::OtherGot,
+        "The lease gets a mutex in another thread's turn.",
+        r#"{"reason":"other_got"}"#,
     ),
     (
         Why::NoVote,
@@ -771,36 +781,135 @@ fn a_thread_that_waits_for_ever(rt: HostRuntime) -> Result<(), Fail> {
     )
 }
 
-// The first line of a cooperative run's journal is bad, whatever stands behind it.
+// A guest whose thread 0 ends with a mutex that thread 1 waits for, and its journal of a cooperative run.
+const LOCKS_AND_ENDS: [u32; 17] = [
+    0x0001_1437,
+    0x0004_0513,
+    0x0300_00EF,
+    0x0084_0513,
+    0x0000_0593,
+    0x0001_0637,
+    0x0806_0613,
+    0x0000_0693,
+    0x01C0_00EF,
+    0x0000_0513,
+    0x0180_00EF,
+    0x0001_1437,
+    0x0004_0513,
+    0x0040_00EF,
+    0x0000_8067,
+    0x0000_8067,
+    0x0000_8067,
+];
+
+const LOCKED_NAMES: [(&str, u32); 3] = [
+    ("pthread_mutex_lock", 0x1_008C),
+    ("pthread_create", 0x1_0090),
+    ("pthread_exit", 0x1_0094),
+];
+
+const WAITS_AT_ITS_LOCK: &str = "romain 2 coop
+take 0 0 0
+put 0 0 0 3 0
+take 0 1 0
+put 0 1 0 3 0
+take 0 2 0
+put 0 2 0 3 0
+vote 0 3 0 - served
+take 0 0 0
+put 0 0 0 6 0
+take 0 1 0
+put 0 1 0 6 0
+take 0 2 0
+put 0 2 0 6 0
+vote 0 6 0 - served
+take 0 0 0
+put 0 0 0 2 0
+take 0 0 1
+part 0 0 1 3 0
+take 0 1 0
+put 0 1 0 2 0
+take 0 1 1
+part 0 1 1 3 0
+take 0 2 0
+put 0 2 0 2 0
+vote 0 2 0 - served
+take 0 2 1
+part 0 2 1 3 0
+end deadlock
+";
+
+// In a cooperative run a thread waits for a mutex where it stands at its lock, without a vote.
 #[test]
-fn cooperative_journals_are_not_audited(rt: HostRuntime) -> Result<(), Fail> {
+fn a_thread_that_waits_at_its_lock(rt: HostRuntime) -> Result<(), Fail> {
+    let sentences = [
+        "legal",
+        "The journal has 28 entries, and its plan 17 steps.",
+        "No thread can go on.",
+        "Thread 0 has exited.",
+        "Thread 1 waits for the mutex at 00011000, which thread 0 holds.",
+    ];
+    let json =
+        r#"{"copies":[],"end":{"how":"deadlock","threads":[{"state":"exited","thread":0},{"mutex":69632,"mutex_object":null,"owner":0,"state":"locks","thread":1}]},"entries":28,"steps":17,"verdict":"legal"}"#;
+    let file = image_bytes(rt.alloc(), &LOCKS_AND_ENDS, 5, &LOCKED_NAMES)?;
+    assert_found_in(
+        &rt,
+        rt.alloc(),
+        file.as_slice(),
+        "",
+        WAITS_AT_ITS_LOCK,
+        sentences.as_slice(),
+        json,
+    )
+}
+
+// The first line of a cooperative run's journal is bad where there are faults or scrubs, whatever stands behind it.
+#[test]
+fn cooperative_journals_have_no_faults_and_no_scrubs(rt: HostRuntime) -> Result<(), Fail> {
     for journal in [
         "romain 2 coop\n",
-        "romain 2 coop\nend deadlock\n",
+        WAITS_AT_ITS_LOCK,
         "romain 2 coop\nfree\n",
     ] {
-        let mut store = MemStore::new(rt.alloc());
-        store.put(
-            "guest",
-            image_bytes(rt.alloc(), &SIGNALS_THEN_WAITS, 5, &NAMES)?.as_slice(),
-        )?;
-        store.put("journal", journal.as_bytes())?;
-        let run = RunCommand {
-            executable: "guest",
-            input: None,
-            faults: None,
-            settings: Settings::DEFAULT,
-            journal: false,
-        };
-        let Err(answer) = find(rt.alloc(), &run, "journal", &mut store) else {
-            panic!(rt; "{journal} is audited");
-        };
-        let bad = Answer::BadPlan {
-            line: 1,
-            code: JournalCode::Form,
-        };
-        assert_eq!(rt; answer, bad, "of {journal}");
+        assert_unsuited(&rt, rt.alloc(), "1 0 1 reg 10 0\n", 0, journal)?;
+        assert_unsuited(&rt, rt.alloc(), "", 1, journal)?;
     }
+    Ok(())
+}
+
+// The journal is refused at its first line beside these faults and scrubs.
+fn assert_unsuited(
+    rt: &impl Abort,
+    alloc: Global,
+    faults: &str,
+    scrub: u64,
+    journal: &str,
+) -> Result<(), Fail> {
+    let mut store = MemStore::new(alloc);
+    let file = image_bytes(alloc, &LOCKS_AND_ENDS, 5, &LOCKED_NAMES)?;
+    store.put("guest", file.as_slice())?;
+    store.put("faults", faults.as_bytes())?;
+    store.put("journal", journal.as_bytes())?;
+    let settings = Settings {
+        scrub,
+        ..Settings::DEFAULT
+    };
+    assert!(rt; settings.is_in_range());
+    let run = RunCommand {
+        executable: "guest",
+        input: None,
+        faults: Some("faults"),
+        settings,
+        journal: false,
+    };
+    let Err(answer) = find(alloc, &run, "journal", &mut store) else {
+        panic!(rt; "{journal} is audited");
+    };
+    let bad = Answer::BadPlan {
+        line: 1,
+        code: JournalCode::Form,
+    };
+    assert_eq!(rt; answer, bad, "of {journal}");
     Ok(())
 }
 

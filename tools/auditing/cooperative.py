@@ -234,6 +234,16 @@ class Cooperative(Core):
         self.leases.remove(Take(entry.driver, entry.replica, entry.thread))
         self.steps, self.wrote = self.steps + added, 0
 
+    # ---- What holds threads up
+
+    def waits_at(self, thread: int) -> int | None:
+        """Where it came back at a lock."""
+        return next((side.parked[thread].mutex for side in self.sides if thread in side.parked), None)
+
+    def owner_of(self, mutex: int) -> int | None:
+        mutexes = self.sides[0].mutexes
+        return mutexes[mutex].owner if mutex in mutexes else super().owner_of(mutex)
+
     # ---- An event
 
     def won(self, thread: int) -> Won | None:
@@ -275,6 +285,9 @@ class Cooperative(Core):
 
     # ---- No scrubs
 
+    def may_scrub(self) -> bool:
+        return False
+
     def scrub(self, entry):
         raise Illegal("a cooperative run has no scrubs")
 
@@ -283,6 +296,21 @@ class Cooperative(Core):
 
     def how_split(self) -> str:
         return "differ"
+
+
+class Joined(Cooperative):
+    """The same, where all that was got must stand in rows."""
+
+    def __init__(self, job: Job):
+        super().__init__(job)
+        self.rows: dict[tuple[int, int], int] = {}  # by mutex and rank, the thread that got it
+
+    def ran(self, entry: Put) -> int:
+        gets = self.sides[entry.replica].gets if entry.replica < len(self.sides) else []
+        before, added = len(gets), super().ran(entry)
+        for get in gets[before:]:
+            needs(self.rows.setdefault((get.mutex, get.rank), get.thread) == get.thread, "another thread got the mutex")
+        return added
 
 
 # ---- What a journal comes to

@@ -156,6 +156,15 @@ class Core:
         return any(self.is_lendable(number, thread)
                    for number in range(len(self.replicas)) for thread in range(len(self.kernel.lives)))
 
+    # ---- What holds threads up
+
+    def waits_at(self, thread: int) -> int | None:
+        """The mutex for which a thread waits that is blocked on no call."""
+        return None
+
+    def owner_of(self, mutex: int) -> int | None:
+        return self.kernel.owners[mutex]
+
     # ---- A replica is lent, runs, and comes back
 
     def take(self, entry: Take):

@@ -36,6 +36,13 @@ class Page:
         return owner if kept == rank else None
 
 
+class TornPage(Page):
+    """A page that lets whoever asks have a rank, so that replicas may get a mutex in different orders."""
+
+    def decide(self, mutex: int, rank: int, thread: int) -> int | None:
+        return thread
+
+
 @dataclasses.dataclass
 class Flight:
     """A lease that is out, as far as its driver has come."""

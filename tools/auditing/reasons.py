@@ -1,4 +1,5 @@
 """Why an entry is not allowed in a core, as an audit tells it. What each reason means stands in crates/ro_audit/specs/Audits.antt."""
+from auditing.cooperative import Joined, leased
 from auditing.cores import Core
 from auditing.drawing import line_of
 from auditing.jobs import Entry, Job
@@ -6,9 +7,9 @@ from auditing.replicas import Change
 from journals import Free, Part, Put, Scrub, Take, Vote
 
 
-def core_behind(job: Job, entries: list[Entry]) -> Core:
+def core_behind(kind: type[Core], job: Job, entries: list[Entry]) -> Core:
     """The core that legal entries leave."""
-    core = Core(job)
+    core = kind(job)
     for entry in entries:
         core.do(entry)
     return core
@@ -20,10 +21,8 @@ def reason_of(core: Core, entry: Entry) -> dict:
         return {"reason": "behind"}
     if isinstance(entry, Take):
         return {"reason": "not_lendable"}
-    if isinstance(entry, Part):
-        return {"reason": "no_part"}
     if isinstance(entry, Put):
-        return reason_of_put(core, entry)
+        return reason_of_return(core, entry)
     if isinstance(entry, Vote):
         return {"reason": "comes", "entry": vote_comes_to(core, entry.thread)} if core.may_vote(entry.thread) else {"reason": "no_vote"}
     if isinstance(entry, Free):
@@ -33,12 +32,39 @@ def reason_of(core: Core, entry: Entry) -> dict:
     return {"reason": "no_end"}
 
 
-def reason_of_put(core: Core, entry: Put) -> dict:
+def reason_of_return(core: Core, entry: Put) -> dict:
+    """Of a `put` or a `part`."""
     lease = Take(entry.driver, entry.replica, entry.thread)
     if lease not in core.leases:
         return {"reason": "not_out"}
+    if isinstance(core, Joined):
+        return reason_of_peer(core, entry)
+    if isinstance(entry, Part):
+        return {"reason": "no_part"}
     count, hit = ran(core, lease)
     return {"reason": "ran", "count": count, "hit": hit}
+
+
+def reason_of_peer(core: Joined, entry: Put) -> dict:
+    """The same in a cooperative run: how far the lease came, if not so far, and else that it doesn't come back so there."""
+    replica, side, thread = core.replicas[entry.replica], core.sides[entry.replica], entry.thread
+    reach = core.reach()
+
+    def taker(mutex: int, rank: int) -> int:
+        return core.rows.get((mutex, rank), thread)
+
+    def rows(mutex: int, rank: int) -> int | None:
+        return taker(mutex, rank) if rank < reach[mutex] else None
+
+    for count in range(min(entry.retired, core.job.quantum)):
+        if not leased(rows, replica, side, thread):
+            mutex = side.own(replica.next(replica.threads[thread]))
+            is_free = mutex is not None and mutex.owner is None
+            is_others = is_free and mutex.rank < reach[mutex.address] and taker(mutex.address, mutex.rank) != thread
+            return {"reason": "other_got"} if is_others else {"reason": "ran", "count": count, "hit": 0}
+    if entry.retired > core.job.quantum:
+        return {"reason": "ran", "count": core.job.quantum, "hit": 0}
+    return {"reason": "no_part" if isinstance(entry, Part) else "no_put"}
 
 
 def ran(core: Core, lease: Take) -> tuple[int, int]:

@@ -23,7 +23,7 @@ def told(judged: Judged, entries: list[Entry]) -> dict:
     copies = [copy_told(copy) for copy in judged.core.copies]
     if judged.place is not None:
         entry = entries[judged.place]
-        why = reason_of(core_behind(judged.core.job, entries[:judged.place]), entry)
+        why = reason_of(core_behind(type(judged.core), judged.core.job, entries[:judged.place]), entry)
         return {"entries": len(entries), "verdict": "illegal", "place": judged.place, "entry": line_of(entry), "why": why, "copies": copies}
     end = end_told(judged.core, entries) if judged.core.ended else None
     return {"entries": len(entries), "verdict": "legal", "steps": judged.core.steps, "end": end, "copies": copies}
@@ -99,14 +99,19 @@ def waiting_told(core: Core, thread: int) -> dict:
         return {"thread": thread, "state": "exited"}
     call = core.blocked.get(thread)
     if call is None:
-        return {"thread": thread, "state": "unblocked"}
+        mutex = core.waits_at(thread)
+        return {"thread": thread, "state": "unblocked"} if mutex is None else locks_told(core, thread, mutex)
     if call.which == "pthread_join":
         return {"thread": thread, "state": "joins", "other": call.a0}
     if call.which == "pthread_cond_wait":
         return {"thread": thread, "state": "waits", **variable_told(core, "condition", call.a0),
                 "signalled": core.kernel.waiter(thread).signalled, **variable_told(core, "mutex", call.a1),
-                "owner": core.kernel.owners[call.a1]}
-    return {"thread": thread, "state": "locks", **variable_told(core, "mutex", call.a0), "owner": core.kernel.owners[call.a0]}
+                "owner": core.owner_of(call.a1)}
+    return locks_told(core, thread, call.a0)
+
+
+def locks_told(core: Core, thread: int, mutex: int) -> dict:
+    return {"thread": thread, "state": "locks", **variable_told(core, "mutex", mutex), "owner": core.owner_of(mutex)}
 
 
 def variable_told(core: Core, which: str, address: int) -> dict:

@@ -2,7 +2,7 @@
 # root, and unproved to yes or nothing.
 
 # What was measured of a build from nothing.
-PROVED_TAKES='some 90 processor minutes, half an hour or more on four processors'
+PROVED_TAKES='some 65 processor minutes, half an hour or more on four processors'
 UNPROVED_TAKES='about a minute and a half'
 
 say() {

@@ -63,17 +63,16 @@ row() {
         is_there && $2 == code { gsub(/[*][*]/, ""); print "the file " $3 ": " $4; exit }' "$root/docs/GUESTS.md"
 }
 
-# What audits a run by votes: its own journal where that went to a file, else that of the same run once more.
+# What audits a run: its own journal where that went to a file, else that of the same run once more.
 audit_of() {
     shift
     again=$(with_journal "$@")
     journal=$(journal_of "$@")
-    # An audit has no --mode. Its value is the next word, or stands behind the sign.
+    # The journal says its mode, so an audit has no --mode. Its value is the next word, or stands behind the sign.
     before=
     for word; do
         shift
         case $before:$word in
-        --mode:coop | *:--mode=coop) return ;;
         --mode:* | *:--mode | *:--mode=*) ;;
         *) set -- "$@" "$word" ;;
         esac

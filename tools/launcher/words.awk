@@ -98,13 +98,15 @@ function wrong(    i, command, word, name, given, trouble) {
     return trouble != "" ? trouble : missing(command, given)
 }
 
-# A cooperative run has neither faults nor scrubs.
+# A cooperative run has neither faults nor scrubs, and a smaller limit.
 function unsuited() {
     if (values["--mode"] != "coop")
         return ""
     if ("--faults" in values)
         return "--faults does not go with --mode coop"
-    return values["--scrub"] + 0 != 0 ? "--scrub does not go with --mode coop" : ""
+    if (values["--scrub"] + 0 != 0)
+        return "--scrub does not go with --mode coop"
+    return values["--limit"] + 0 > 4000000000 ? "--limit is " values["--limit"] ", and may be 1 to 4000000000 with --mode coop" : ""
 }
 
 # Of the option that stands at a place; its value may be the next word.

@@ -1,5 +1,5 @@
 //! Who got which rank of a mutex, and who gets one by that.
-ghost use Rattle.std.specs.Prelude.{◌≡◌, [], None};
+ghost use Rattle.std.specs.Prelude.{◌≡◌, ◌↔◌, IsTrue, [], None};
 ghost use Rattle.ro_audit.specs.Ranks.{rows_in, with_taker};
 
 use indexmap::IndexMap;

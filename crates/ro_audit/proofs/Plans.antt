@@ -9,14 +9,14 @@ use Rattle.ro_journal.specs.Plan.{entry_plan, event_steps, plan_of}
 use Rattle.ro_legal.specs.Core.{Job, Core, opening_core}
 use Rattle.ro_legal.specs.Event.{Event, with_recovered}
 use Rattle.ro_legal.specs.Legal.{after, lease_run, core_after_event, event_in, IsAllowed, LegalFrom, Legal, replay_from, replay}
-use Rattle.ro_legal.proofs.Leases.{put-only}
+use Rattle.ro_legal.proofs.Leases.{put-only, part-only}
 use Rattle.ro_legal.proofs.Ordered.{free-parts, freed-is, freed-steps}
 
 entry-steps : (job : Job) (core : Core) (entry : Entry) → IsAllowed job core entry → (after job core entry).steps ≡ core.steps + length (entry_plan entry)
 unfolding after
 entry-steps job core (Take lease) m = omega arith
 entry-steps job core (Put lease count hit) m = let same = ap (λ (c : Core). c.steps) (put-only job core lease count (lease_run job core lease count)) in omega arith
-entry-steps job core (Part lease count hit) m = absurd m
+entry-steps job core (Part lease count hit) m = let same = ap (λ (c : Core). c.steps) (part-only job core lease (lease_run job core lease count)) in omega arith
 entry-steps job core (Vote thread count won lost did) m =
     let comes : (core_after_event core thread count (with_recovered won (numbers lost) core.replicas) (event_in job core thread won)).steps ≡ core.steps + count + event_steps m.event.did =
     ap (λ (o : Option Event). (core_after_event core thread count (with_recovered won (numbers lost) core.replicas) o).steps) m.comes

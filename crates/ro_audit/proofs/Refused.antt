@@ -21,11 +21,11 @@ use Rattle.ro_audit.proofs.Slots.{none-out, lent-is}
 -- ---- a lease that comes back is out, in a mode
 
 put-out : (mode : Mode) (job : Job) (core : Core) (lease : Lease) (count hit : ℕ) → modes.IsAllowed mode job core (Put lease count hit) → is_out core lease ≡ true
-put-out Voted job core lease count hit m = m.out
+put-out Voted job core lease count hit m = m.returns.out
 put-out Cooperative job core lease count hit m = m.ran.out
 
 part-out : (mode : Mode) (job : Job) (core : Core) (lease : Lease) (count hit : ℕ) → modes.IsAllowed mode job core (Part lease count hit) → is_out core lease ≡ true
-part-out Voted job core lease count hit m = absurd m
+part-out Voted job core lease count hit m = m.returns.out
 part-out Cooperative job core lease count hit m = m.ran.out
 
 -- ---- which entry is refused for what

@@ -17,7 +17,7 @@ use Rattle.ro_legal.specs.Core.{Job, Core, is_idle, is_lease, is_out, lease_of}
 use Rattle.ro_legal.specs.Legal.{MayTake}
 use Rattle.ro_legal.specs.Legal as votes
 use Rattle.ro_legal.specs.Cooperative as together
-use Rattle.ro_legal.specs.Laws.{HasLease, Names}
+use Rattle.ro_legal.specs.Laws.{HasWhole, Names}
 use Rattle.ro_legal.specs.Lent.{IsOfJob}
 use Rattle.ro_legal.specs.Modes.{Mode}
 use Rattle.ro_legal.specs.Modes as modes
@@ -86,9 +86,9 @@ module _ (job : Job) (journal : List Entry) (entry : Entry) where
   -- by votes
   replica-stays : (lent : replicas.LentOf) (by : ℕ) → votes.Legal job (journal ++ entry ∷ []) → Names by entry → by ≢ lent.lease.driver → LendsReplica job (votes.replay job journal) lent → LendsReplica job (votes.replay job (journal ++ entry ∷ [])) lent
   replica-stays lent by legal names ne s =
-      let out : HasLease (votes.replay job journal) lent.lease.driver lent.lease (replica_of lent.replica) = record { held = s.held; there = s.there; not_ended = s.not_ended } in
+      let out : HasWhole (votes.replay job journal) lent.lease.driver lent.lease (replica_of lent.replica) = record { held = s.held; there = s.there; not_ended = s.not_ended } in
       let still = lease_lasts job journal entry legal lent.lease.driver by names ne lent.lease (replica_of lent.replica) out in
-      let kernel = kernel_lasts job journal entry legal lent.lease.driver lent.lease (replica_of lent.replica) out in
+      let kernel = kernel_lasts job journal entry legal lent.lease.driver lent.lease s.held in
       record { quantum_is = s.quantum_is; program = subst (λ (k : Kernel). IsOfJob job k lent.replica) (sym kernel) s.program; held = still.held; there = still.there; not_ended = still.not_ended }
 
   -- in a cooperative run

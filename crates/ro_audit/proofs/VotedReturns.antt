@@ -14,7 +14,12 @@ use Rattle.ro_replica.specs.Seen.{replica_of, Runs}
 use Rattle.ro_lease.specs.Loans.{LentOf, BackOf, Gives}
 use Rattle.ro_settings.specs.declared.Mode.TheVariants.{Voted}
 use Rattle.ro_legal.specs.Core.{Job, Core}
-use Rattle.ro_legal.specs.Legal.{lease_run, arrived, after, MayPut, replay}
+use Rattle.ro_plain.proofs.Calls.{some-injective}
+use Rattle.ro_legal.specs.Parts.{Lent, run_with}
+use Rattle.ro_legal.specs.Legal.{lease_run, arrived, after, HasArrived, MayPut, replay}
+use Rattle.ro_legal.proofs.Beside.{LendsWhole, lends-whole}
+use Rattle.ro_legal.proofs.FaultStops.{whole-wants, no-part}
+use Rattle.ro_legal.proofs.Ordered.{put-parts}
 use Rattle.ro_legal.specs.Modes.{Mode}
 use Rattle.ro_legal.specs.Modes as modes
 use Rattle.ro_legal.proofs.Leases.{out_found}
@@ -22,14 +27,14 @@ use Rattle.ro_core.specs.Seen as voted_seen
 use Rattle.ro_core.proofs.Lending.{put_became}
 use Rattle.ro_cores.specs.Cores.{plain_core}
 use Rattle.ro_cores.specs.Loans.{MayReturn, Returns, entry_of}
-use Rattle.ro_audit.specs.declared.follower.Why.TheVariants.{Ran}
+use Rattle.ro_audit.specs.declared.follower.Why.TheVariants.{Ran, NoPart}
 use Rattle.ro_audit.specs.Audits.{IsRefused}
 use Rattle.ro_audit.specs.Following.{LendsReplica}
 use Rattle.ro_audit.proofs.Runs.{Arrives, one-run}
 
 -- ---- its run
 
-module _ (job : Job) (core : Core) (lent : LentOf) (back : BackOf) (s : LendsReplica job core lent) (g : Gives lent back) where
+module _ (job : Job) (core : Core) (lent : LentOf) (back : BackOf) (shares : LendsWhole core) (s : LendsReplica job core lent) (g : Gives lent back) where
   runs : Runs (layout_in job.program core.kernel) job.settings.watchdog job.settings.quantum lent.lease.thread (replica_of lent.replica) (replica_of back.replica) back.took.count back.took.hit g.stop
   runs =
       subst (λ (n : ℕ). Runs (layout_in job.program core.kernel) job.settings.watchdog n lent.lease.thread (replica_of lent.replica) (replica_of back.replica) back.took.count back.took.hit g.stop) s.quantum_is
@@ -37,7 +42,9 @@ module _ (job : Job) (core : Core) (lent : LentOf) (back : BackOf) (s : LendsRep
       (subst (λ (l : Layout). Runs l lent.replica.watchdog lent.quantum lent.lease.thread (replica_of lent.replica) (replica_of back.replica) back.took.count back.took.hit g.stop) s.program.layout g.runs))
 
   lease-runs : lease_run job core lent.lease back.took.count ≡ Some runs.end
-  lease-runs = ap (option_and_then (λ (r : Replica). run_of (layout_in job.program core.kernel) job.settings.watchdog back.took.count r lent.lease.thread)) s.there ∙ runs.runs
+  lease-runs =
+      ap (λ (x : Lent). option_and_then (λ (r : Replica). run_with (layout_in job.program core.kernel) job.settings.watchdog x back.took.count r lent.lease.thread) (slice_get core.replicas lent.lease.replica)) (shares.whole lent.lease.driver)
+      ∙ ap (option_and_then (λ (r : Replica). run_of (layout_in job.program core.kernel) job.settings.watchdog back.took.count r lent.lease.thread)) s.there ∙ runs.runs
 
   arrives : Arrives (layout_in job.program core.kernel) job.settings.watchdog lent.lease.thread job.settings.quantum back.took.count runs.end.replica
   arrives = by runs.arrives
@@ -48,13 +55,19 @@ module _ (job : Job) (core : Core) (lent : LentOf) (back : BackOf) (s : LendsRep
 
   run-may-put : MayPut job core lent.lease back.took.count back.took.hit
   run-may-put = record {
-    not_ended = s.not_ended;
-    out = out_found lent.lease.driver lent.lease core.leases s.held;
-    ran = runs.end;
-    runs = lease-runs;
-    struck = runs.hit_is;
-    arrives = arrives;
+    returns = record {
+      not_ended = s.not_ended;
+      out = out_found lent.lease.driver lent.lease core.leases s.held;
+      ran = runs.end;
+      runs = lease-runs;
+      struck = runs.hit_is;
+    };
+    arrives = by arrives;
   }
+    where
+      by : Arrives (layout_in job.program core.kernel) job.settings.watchdog lent.lease.thread job.settings.quantum back.took.count runs.end.replica → HasArrived job core lent.lease back.took.count runs.end.replica
+      by (inl all) = inl all
+      by (inr early) = inr (early.0, early.1, whole-wants job core lent.lease runs.end.replica (shares.whole lent.lease.driver))
 
   run-became : slice_get (after job core (Put lent.lease back.took.count back.took.hit)).replicas lent.lease.replica ≡ Some (replica_of back.replica)
   run-became =
@@ -66,13 +79,18 @@ module _ (job : Job) (core : Core) (lent : LentOf) (back : BackOf) (s : LendsRep
   -- no other count and no other number of faults may come back
   run-is-one : (count hit : ℕ) → MayPut job core lent.lease count hit → (back.took.count ≡ count) × (back.took.hit ≡ hit)
   run-is-one count hit m =
-      let there : run_of (layout_in job.program core.kernel) job.settings.watchdog count (replica_of lent.replica) lent.lease.thread ≡ Some m.ran =
-      sym (ap (option_and_then (λ (r : Replica). run_of (layout_in job.program core.kernel) job.settings.watchdog count r lent.lease.thread)) s.there) ∙ m.runs
+      let p = put-parts job core lent.lease count m.returns.ran m.returns.runs in
+      let there : run_of (layout_in job.program core.kernel) job.settings.watchdog count (replica_of lent.replica) lent.lease.thread ≡ Some m.returns.ran =
+      ap (λ (r : Replica). run_of (layout_in job.program core.kernel) job.settings.watchdog count r lent.lease.thread) (some-injective (sym s.there ∙ p.there)) ∙ p.runs
       in
-      let one = one-run (layout_in job.program core.kernel) job.settings.watchdog lent.lease.thread job.settings.quantum back.took.count count (replica_of lent.replica) runs.end m.ran runs.runs there arrives
-      m.arrives
+      let one = one-run (layout_in job.program core.kernel) job.settings.watchdog lent.lease.thread job.settings.quantum back.took.count count (replica_of lent.replica) runs.end m.returns.ran runs.runs there arrives
+      (comes m.arrives)
       in
-      (one.0, sym runs.hit_is ∙ one.1 ∙ m.struck)
+      (one.0, sym runs.hit_is ∙ one.1 ∙ m.returns.struck)
+    where
+      comes : HasArrived job core lent.lease count m.returns.ran.replica → Arrives (layout_in job.program core.kernel) job.settings.watchdog lent.lease.thread job.settings.quantum count m.returns.ran.replica
+      comes (inl all) = inl all
+      comes (inr early) = inr (early.0, early.1)
 
 -- ---- its return
 
@@ -80,6 +98,14 @@ module _ (job : Job) (core : Core) (lent : LentOf) (back : BackOf) (s : LendsRep
 pub told-lease : (own lease : Lease) (count hit : ℕ) (entry : Entry) → Returns own entry → entry ≡ Put lease count hit → own ≡ lease
 told-lease own lease count hit entry (k, h, inl e) is = let f : Put own k h ≡ Put lease count hit = sym e ∙ is in cc
 told-lease own lease count hit entry (k, h, inr e) is = absurd (let f : Part own k h ≡ Put lease count hit = sym e ∙ is in cc)
+
+-- a lease of a whole replica comes back by no part
+pub no-part-comes : (job : Job) (journal : List Entry) → job.settings.mode ≡ Voted → (lease : Lease) (entry : Entry) → Returns lease entry → ((own : Lease) (count hit : ℕ) → entry ≡ Put own count hit → ⊥) → IsRefused job journal entry NoPart
+no-part-comes job journal voted lease entry (count, hit, inl e) other = absurd (other lease count hit e)
+no-part-comes job journal voted lease entry (count, hit, inr e) other = subst (λ (x : Entry). IsRefused job journal x NoPart) (sym e) ((λ m j. refused m), refused)
+  where
+    refused : modes.IsAllowed job.settings.mode job (modes.replay job.settings.mode job journal) (Part lease count hit) → ⊥
+    refused m = no-part job (replay job journal) lease count hit (lends-whole job journal) (subst (λ (x : Mode). modes.IsAllowed x job (modes.replay x job journal) (Part lease count hit)) voted m)
 
 module _ (job : Job) (journal : List Entry) (lent : LentOf) (back : BackOf) (voted : job.settings.mode ≡ Voted) (s : LendsReplica job (modes.replay job.settings.mode job journal) lent) (g : Gives lent back) where
   by-votes : LendsReplica job (replay job journal) lent
@@ -91,9 +117,9 @@ module _ (job : Job) (journal : List Entry) (lent : LentOf) (back : BackOf) (vot
     record {
       lease = lent.lease;
       held = by-votes.held;
-      allowed = run-may-put job (replay job journal) lent back by-votes g;
+      allowed = run-may-put job (replay job journal) lent back (lends-whole job journal) by-votes g;
       program = record { layout = g.program.layout ∙ by-votes.program.layout; given = g.program.given ∙ by-votes.program.given; watchdog = g.program.watchdog ∙ by-votes.program.watchdog };
-      became = run-became job (replay job journal) lent back by-votes g;
+      became = run-became job (replay job journal) lent back (lends-whole job journal) by-votes g;
     },
     refl,
   )
@@ -114,8 +140,8 @@ module _ (job : Job) (journal : List Entry) (lent : LentOf) (back : BackOf) (vot
   -- and where it came to something else, it does not
   other-run : (count hit : ℕ) → ((back.took.count ≡ count) × (back.took.hit ≡ hit) → ⊥) → IsRefused job journal (Put lent.lease count hit) (Ran back.took.count back.took.hit)
   other-run count hit fails = (
-    λ m j. fails (run-is-one job (replay job journal) lent back by-votes g count hit (subst (λ (x : Mode). modes.IsAllowed x job (modes.replay x job journal) (Put lent.lease count hit)) voted m)),
-    (inl (in-mode back.took.count back.took.hit (run-may-put job (replay job journal) lent back by-votes g)), fails),
+    λ m j. fails (run-is-one job (replay job journal) lent back (lends-whole job journal) by-votes g count hit (subst (λ (x : Mode). modes.IsAllowed x job (modes.replay x job journal) (Put lent.lease count hit)) voted m)),
+    (inl (in-mode back.took.count back.took.hit (run-may-put job (replay job journal) lent back (lends-whole job journal) by-votes g)), fails),
   )
 
   pub told-otherwise : (lease : Lease) (count hit : ℕ) (entry : Entry) → lent.lease ≡ lease → entry ≡ Put lease count hit → ((back.took.count ≡ count) × (back.took.hit ≡ hit) → ⊥) → IsRefused job journal entry (Ran back.took.count back.took.hit)

@@ -35,7 +35,7 @@ use Rattle.ro_orders.proofs.Tables.{chosen-by-locks}
 use Rattle.ro_peer.specs.declared.mutexes.Mutex.{Mutex}
 use Rattle.ro_peer.specs.Peers.{Peer, mutex_in, is_row, leased_run}
 use Rattle.ro_peer.specs.Gets.{Get, asker, got_in, InRows}
-use Rattle.ro_legal.specs.Core.{Job as Asked, Core as Run, any_below, is_going, nothing_lent, is_home, is_out, is_awaited, is_barred, is_kept, is_parked, is_awake, is_lendable, may_vote, may_free}
+use Rattle.ro_legal.specs.Core.{Job as Asked, Core as Run, any_below, is_going, nothing_lent, is_out, is_awaited, is_barred, is_kept, is_parked, offers, is_awake, is_lendable, may_vote, may_free}
 use Rattle.ro_legal.specs.declared.parkings.Parking.{Parking}
 use Rattle.ro_legal.specs.Sides.{Side, opening_side, peer_with, peers_of, taker_of, rank_in, most_apart, is_ahead, has_asked}
 use Rattle.ro_legal.specs.Event.{Event, call_event}
@@ -43,7 +43,7 @@ use Rattle.ro_legal.specs.Legal.{is_stuck, event_with}
 use Rattle.ro_legal.specs.Cooperative as rules
 use Rattle.ro_legal.proofs.Awaited.{Waiting, awaited-by}
 use Rattle.ro_legal.proofs.Happens.{event-happens, call-happens}
-use Rattle.ro_legal.proofs.Leases.{not_false}
+use Rattle.ro_legal.proofs.Leases.{not_false, offers-home}
 use Rattle.ro_legal.proofs.Lists.{MappedFrom, get-map, get-map-there, ChangedFrom, unchanged, changed_here, get-changed, changed-is-set, length-changed, get-set-same, get-all, get-within}
 use Rattle.std.proofs.lemmas.List.{length-set}
 use Rattle.ro_legal.proofs.Nexts.{never_below}
@@ -58,16 +58,17 @@ use Rattle.ro_coop.proofs.Journal.{entry-holds, opening-holds, still-on, legal-s
 use Rattle.ro_coop.proofs.Turns.{InTurn, nothing-got, turn-append, run-turn, entered-rank}
 use Rattle.ro_coop.proofs.Rowless.{in-front, run-so, entry-so}
 use Rattle.ro_coop.proofs.Seen.{as-job, seen, as-put, IsPeerOf, peers-get, peer-parts, peer-of, kernel-same}
-use Rattle.ro_coop.proofs.Rules.{released-blocks, entry-may, entry-same, got-same, is-end, over-none, event-many, nothing, steps-same, seen-opening, opening-many, opening-count, count-kept, some-replica, is-watched, its-legal, its-behind}
+use Rattle.ro_coop.proofs.Rules.{released-blocks, entry-may, entry-same, got-same, is-end, over-none, event-many, nothing, steps-same, seen-opening, opening-many, opening-whole, opening-count, count-kept, some-replica, is-watched, its-legal, its-behind}
 use Rattle.ro_coop.proofs.Parked.{IsParked, run-still, stopped-still, event-still, parked-now}
 use Rattle.ro_coop.proofs.Taken.{AllTaken, taken-append, taken-below, Grown, grown-same, grown-twice, taken-grown, AllInTurn, run-grows, run-below, taker-below, takers-rows}
 
 -- ---- what each entry keeps
 
--- Each replica has what it has beside, which got its mutexes at their ranks and by the rows. Where a thread came back at a lock it
--- stands there, and it lives as long as the run goes on.
+-- Each lease is of a whole replica. Each replica has what it has beside, which got its mutexes at their ranks and by the rows. Where
+-- a thread came back at a lock it stands there, and it lives as long as the run goes on.
 pub record Kept (job : Asked) (rows : Rows) (core : Run) : Type 0 where
   pub as_many : length core.sides ≡ length core.replicas
+  pub whole : core.sharing ≡ None
   pub turns : AllInTurn rows core.sides
   pub parks : (n : ℕ) (side : Side) (replica : Replica) → slice_get core.sides n ≡ Some side → slice_get core.replicas n ≡ Some replica → (t : ℕ) (p : Parking) → side.parked t ≡ Some p → IsParked job.program.image.calls replica side.mutexes t p.mutex
   pub alive : is_going core ≡ true → (n : ℕ) (side : Side) → slice_get core.sides n ≡ Some side → (t : ℕ) (p : Parking) → side.parked t ≡ Some p → lives_on core.kernel t ≡ true
@@ -193,6 +194,7 @@ module _ (job : Asked) (rows : Rows) (core : Run) (k : Kept job rows core) (leas
     lease-goes = record {
       kept = record {
         as_many = length-changed changes core.sides lease.replica ∙ (k.as_many ∙ sym (length-set core.replicas lease.replica _));
+        whole = k.whole;
         turns = lease-turns;
         parks = lease-parks;
         alive = lease-alive;
@@ -278,7 +280,7 @@ module _ (job : Asked) (rows : Rows) (core : Run) (k : Kept job rows core) (thre
   }
 
   event-goes : length done.sides ≡ length done.replicas → Goes job rows core done []
-  event-goes many = record { kept = record { as_many = many; turns = event-turns; parks = event-parks; alive = event-alive }; taken = tt; grown = event-grown }
+  event-goes many = record { kept = record { as_many = many; whole = k.whole; turns = event-turns; parks = event-parks; alive = event-alive }; taken = tt; grown = event-grown }
 
 -- whose event it is
 voted-own : (job : Asked) (core : Run) (thread : ℕ) (event : Event) → rules.voted_event job core thread ≡ Some event → OfThread core thread event
@@ -331,7 +333,7 @@ module _ (job : Asked) (rows : Rows) (core : Run) (k : Kept job rows core) where
 
   entry-goes : (s : Steps) → Holds (as-job job) rows (seen core) s → (entry : Entry) → ((how : How) → entry ≢ End how) → rules.IsAllowed job core entry → InRows rows (rules.gets_of job core entry) → Goes job rows core (rules.after job core entry) (rules.gets_of job core entry)
   unfolding rules.after
-  entry-goes s h (Take lease) never m r = record { kept = record { as_many = k.as_many; turns = k.turns; parks = k.parks; alive = k.alive }; taken = tt; grown = grown-same core.sides }
+  entry-goes s h (Take lease) never m r = record { kept = record { as_many = k.as_many; whole = k.whole; turns = k.turns; parks = k.parks; alive = k.alive }; taken = tt; grown = grown-same core.sides }
   entry-goes s h (Put lease count hit) never m r =
       subst (λ (o : Option Peer). Goes job rows core (rules.core_after_put job core lease count o) (rules.lease_gets job core lease count)) (sym m.ran.runs)
       (lease-goes job rows core k lease count m.ran.peer (lease-run-of job core lease count m.ran.peer m.ran.runs) r (rules.arrival job core.kernel lease.thread count m.ran.peer) None (λ p e. absurd (let f : None ≡ Some p = e in cc)) (λ going p e. absurd (let f : None ≡ Some p = e in cc)))
@@ -374,7 +376,7 @@ module _ (job : Asked) (rows : Rows) (free : RaceFree job.program) (range : InRa
           → ((how : How) → entry ≢ End how) → Along job rows core (entry ∷ journal)
       goes_on later never =
           let parts = in-front rows (rules.gets_of job core entry) _ r in
-          let one = entry-so (as-job job) rows (seen core) (as-put entry) (entry-may job core k.as_many entry never legal.0) (subst (InRows rows) (sym (got-same job core k.as_many entry)) parts.0) in
+          let one = entry-so (as-job job) rows (seen core) (as-put entry) (entry-may job core k.as_many k.whole entry never legal.0) (subst (InRows rows) (sym (got-same job core k.as_many entry)) parts.0) in
           let same : after (as-job job) rows (seen core) (as-put entry) ≡ seen (rules.after job core entry) = sym one.1 ∙ entry-same job core k.as_many entry never legal.0 in
           let holds = subst (λ (c : Core). Holds (as-job job) rows c (steps_after s (as-put entry))) same (entry-holds (as-job job) rows free (chosen-by-locks job.program) (is-watched job range) (seen core) s (as-put entry) h one.0) in
           let goes = entry-goes job rows core k s h entry never legal.0 parts.0 in
@@ -399,7 +401,7 @@ opening-side job n side e = from job.settings.replicas n e
     from (suc n) (suc i) f = from n i f
 
 kept-opening : (job : Asked) (rows : Rows) → Kept job rows (rules.opening_core job)
-kept-opening job rows = record { as_many = opening-many job; turns = turns; parks = parks; alive = alive }
+kept-opening job rows = record { as_many = opening-many job; whole = opening-whole job; turns = turns; parks = parks; alive = alive }
   where
     turns : AllInTurn rows (rules.opening_core job).sides
     turns n side e m = subst (λ (s : Side). InTurn rows m 0 (rank_in s.mutexes m) s.gets) (opening-side job n side e) (nothing-got rows m 0 0 refl)
@@ -527,6 +529,10 @@ module _ (job : Asked) (rows : Rows) (others : ℕ) (core : Run) (replicas : len
   nothing_there : core.leases ≡ []
   nothing_there = none-lent-is core parts.1
 
+  -- each replica is at home
+  all-offered : (n t : ℕ) → offers core n t ≡ true
+  all-offered n t = offers-home core n t k.whole ∙ ap (λ (leases : List Lease). not (list_any (λ lease. lease.replica == n) leases)) nothing_there
+
   -- no vote, no free and no lease of a thread
   none-of : (t : ℕ) → lives_on core.kernel t ≡ true → (may_vote core t ≡ false) × (may_free job core t ≡ false) × (any_below (length core.replicas) (λ replica. is_lendable core replica t) ≡ false)
   none-of t lives =
@@ -555,8 +561,8 @@ module _ (job : Asked) (rows : Rows) (others : ℕ) (core : Run) (replicas : len
               let parked = k.parks n side r.0 e r.1 w.other w.parking w.parked in
               let lives = k.alive parts.0 n side e w.other w.parking w.parked in
               let unstopped : is_unstopped w.other r.0 ≡ true = ap (λ (o : Option Thread). option_map_or (λ (x : Thread). is_none x.stop) o false) parked.there ∙ ap is_none parked.unstopped in
-              let home : is_home core n ≡ true = ap (λ (leases : List Lease). not (list_any (λ lease. lease.replica == n) leases)) nothing_there in
-              let awake : is_awake core n w.other ≡ true = and_from (is_home core n && lives_on core.kernel w.other) _ (and_from _ _ home lives) (ap (λ (o : Option Replica). option_map_or (is_unstopped w.other) o false) r.1 ∙ unstopped) in
+              let offered : offers core n w.other ≡ true = all-offered n w.other in
+              let awake : is_awake core n w.other ≡ true = and_from (offers core n w.other && lives_on core.kernel w.other) _ (and_from _ _ offered lives) (ap (λ (o : Option Replica). option_map_or (is_unstopped w.other) o false) r.1 ∙ unstopped) in
               let asked : has_asked w.parking mutex.rank ≡ false = ap (has_asked w.parking) rank ∙ w.unasked in
               let kept : is_kept core side w.other w.parking ≡ false =
               ap (λ (a : ℕ). option_map_or (λ m. is_some m.owner || has_asked w.parking m.rank && is_barred core side w.other w.parking.mutex w.parking.rank) (mutex_in side.mutexes a) false) w.on
@@ -612,9 +618,6 @@ module _ (job : Asked) (rows : Rows) (others : ℕ) (core : Run) (replicas : len
         unlent : is_lendable core n t ≡ false
         unlent = never_below (length core.replicas) (λ replica. is_lendable core replica t) (none-of t lives).2 n (slice_get_within core.replicas n q.replica q.here)
 
-        home : is_home core n ≡ true
-        home = ap (λ (leases : List Lease). not (list_any (λ lease. lease.replica == n) leases)) nothing_there
-
         made : (x : Thread) × (slice_get q.replica.threads t ≡ Some x)
         made =
             let h = each-get _ (seen core).peers g.copies g.each n peer e in
@@ -630,7 +633,7 @@ module _ (job : Asked) (rows : Rows) (others : ℕ) (core : Run) (replicas : len
             (made.0, made.1, stop.0, stop.1)
 
         awake : is_unstopped t q.replica ≡ true → is_awake core n t ≡ true
-        awake f = and_from (is_home core n && lives_on core.kernel t) _ (and_from _ _ home lives) (ap (λ (o : Option Replica). option_map_or (is_unstopped t) o false) q.here ∙ f)
+        awake f = and_from (offers core n t && lives_on core.kernel t) _ (and_from _ _ (all-offered n t) lives) (ap (λ (o : Option Replica). option_map_or (is_unstopped t) o false) q.here ∙ f)
 
         not-true : (b : Bool) → not b ≡ false → b ≡ true
         not-true true f = refl

@@ -37,11 +37,11 @@ use Rattle.ro_peer.specs.Peers.{Peer}
 use Rattle.ro_peer.specs.Gets.{InRows}
 use Rattle.ro_settings.specs.declared.Settings.{Settings}
 use Rattle.ro_settings.specs.Ranges.{InRange}
-use Rattle.ro_legal.specs.Core.{Job as Asked, Core as Run, is_going, nothing_lent, is_home, may_vote, opening_replicas, opening_core as opening_voted}
+use Rattle.ro_legal.specs.Core.{Job as Asked, Core as Run, is_going, nothing_lent, is_home, offers, may_vote, opening_replicas, opening_core as opening_voted}
 use Rattle.ro_legal.specs.Event.{Event}
 use Rattle.ro_legal.specs.Sides.{Side, opening_side, peer_with, peers_of}
 use Rattle.ro_legal.specs.Cooperative as rules
-use Rattle.ro_legal.proofs.Leases.{lendable-awake}
+use Rattle.ro_legal.proofs.Leases.{lendable-awake, offers-home}
 use Rattle.ro_legal.proofs.Ordered.{VoteParts, length-opening, vote-parts, free-parts, going-parts}
 use Rattle.std.proofs.lemmas.List.{length-set, length-replicate}
 use Rattle.ro_legal.proofs.Lists.{length-changed, length-mapped, get-all, get-within}
@@ -137,19 +137,22 @@ served-open (Ends kernel how) e = refl
 -- ---- what is allowed
 
 module _ (job : Asked) (core : Run) (as_many : length core.sides ≡ length core.replicas) where
-  take-may : (lease : Lease) → rules.IsAllowed job core (Take lease) → MayTake (seen core) lease
-  take-may lease m = record {
+  take-may : core.sharing ≡ None → (lease : Lease) → rules.IsAllowed job core (Take lease) → MayTake (seen core) lease
+  take-may whole lease m = record {
     going = m.going;
-    lives = home.1;
+    lives = offered.1;
     unstopped = there (slice_get core.replicas lease.replica) refl parts.1;
-    home = home.0;
+    home = home;
   }
     where
-      parts : ((is_home core lease.replica && lives_on core.kernel lease.thread) ≡ true) × (option_map_or (is_unstopped lease.thread) (slice_get core.replicas lease.replica) false ≡ true)
+      parts : ((offers core lease.replica lease.thread && lives_on core.kernel lease.thread) ≡ true) × (option_map_or (is_unstopped lease.thread) (slice_get core.replicas lease.replica) false ≡ true)
       parts = and_parts _ _ (lendable-awake core lease.replica lease.thread m.lendable)
 
-      home : (is_home core lease.replica ≡ true) × (lives_on core.kernel lease.thread ≡ true)
-      home = and_parts _ _ parts.0
+      offered : (offers core lease.replica lease.thread ≡ true) × (lives_on core.kernel lease.thread ≡ true)
+      offered = and_parts _ _ parts.0
+
+      home : is_home core lease.replica ≡ true
+      home = sym (offers-home core lease.replica lease.thread whole) ∙ offered.0
 
       there : (o : Option Replica) → slice_get core.replicas lease.replica ≡ o → option_map_or (is_unstopped lease.thread) o false ≡ true → option_map_or (λ (peer : Peer). is_unstopped lease.thread peer.replica) (slice_get (peers_of core.replicas core.sides) lease.replica) false ≡ true
       there None e f = absurd (false≢true f)
@@ -204,14 +207,14 @@ module _ (job : Asked) (core : Run) (as_many : length core.sides ≡ length core
   end-may how (rules.for_free thread may e) = absurd e
 
   -- an entry that is no end
-  pub entry-may : (entry : Entry) → ((how : How) → entry ≢ End how) → rules.IsAllowed job core entry → IsAllowed (as-job job) (rows_for (as-put entry)) (seen core) (as-put entry)
-  entry-may (Take lease) never m = take-may lease m
-  entry-may (Put lease count hit) never m = may-put job core lease count m.ran
-  entry-may (Part lease count hit) never m = may-put job core lease count m.ran
-  entry-may (Vote thread count won lost did) never m = vote-may thread count won lost did m
-  entry-may (Free thread) never m = free-may thread m
-  entry-may (Scrub won lost) never m = absurd m
-  entry-may (End how) never m = absurd (never how refl)
+  pub entry-may : core.sharing ≡ None → (entry : Entry) → ((how : How) → entry ≢ End how) → rules.IsAllowed job core entry → IsAllowed (as-job job) (rows_for (as-put entry)) (seen core) (as-put entry)
+  entry-may whole (Take lease) never m = take-may whole lease m
+  entry-may whole (Put lease count hit) never m = may-put job core lease count m.ran
+  entry-may whole (Part lease count hit) never m = may-put job core lease count m.ran
+  entry-may whole (Vote thread count won lost did) never m = vote-may thread count won lost did m
+  entry-may whole (Free thread) never m = free-may thread m
+  entry-may whole (Scrub won lost) never m = absurd m
+  entry-may whole (End how) never m = absurd (never how refl)
 
   pub entry-same : (entry : Entry) → ((how : How) → entry ≢ End how) → rules.IsAllowed job core entry → after (as-job job) (rows_for (as-put entry)) (seen core) (as-put entry) ≡ seen (rules.after job core entry)
   unfolding rules.after
@@ -264,6 +267,30 @@ as-many-after job core (Vote thread count won lost did) e = event-many job core 
 as-many-after job core (Free thread) e = event-many job core thread _ (rules.freed_event job core thread) e
 as-many-after job core (Scrub won lost) e = e
 as-many-after job core (End how) e = e
+
+-- ---- each lease is of a whole replica
+
+event-sharing : (job : Asked) (core : Run) (thread : ℕ) (stop : Option Stop) (o : Option Event) → (rules.core_after_event job core thread stop o).sharing ≡ core.sharing
+event-sharing job core thread stop None = refl
+event-sharing job core thread stop (Some event) = refl
+
+pub sharing-after : (job : Asked) (core : Run) (entry : Entry) → (rules.after job core entry).sharing ≡ core.sharing
+unfolding rules.after
+sharing-after job core (Take lease) = refl
+sharing-after job core (Put lease count hit) = by (rules.lease_run job core lease count)
+  where
+    by : (o : Option Peer) → (rules.core_after_put job core lease count o).sharing ≡ core.sharing
+    by None = refl
+    by (Some peer) = refl
+sharing-after job core (Part lease count hit) = by (rules.lease_run job core lease count)
+  where
+    by : (o : Option Peer) → (rules.core_after_part job core lease count o).sharing ≡ core.sharing
+    by None = refl
+    by (Some peer) = refl
+sharing-after job core (Vote thread count won lost did) = event-sharing job core thread (rules.voted_stop core thread) (rules.voted_event job core thread)
+sharing-after job core (Free thread) = event-sharing job core thread _ (rules.freed_event job core thread)
+sharing-after job core (Scrub won lost) = refl
+sharing-after job core (End how) = refl
 
 -- ---- a journal
 
@@ -319,14 +346,14 @@ over-is : (job : Asked) (core : Run) (entry : Entry) (how : How) → entry ≡ E
 unfolding rules.after
 over-is job core entry how e = ap (λ (x : Entry). (rules.after job core x).ended) e
 
-pub theirs : (job : Asked) (rows : Rows) (core : Run) → length core.sides ≡ length core.replicas → (journal : List Entry) → rules.LegalFrom job core journal → InRows rows (rules.gets_from job core journal) → IsTheirs job rows core journal
-theirs job rows core as_many [] legal h = record { legal = tt; behind = is-seen core }
-theirs job rows core as_many (entry ∷ journal) legal h = ⊎_elim ended (goes_on (theirs job rows (rules.after job core entry) (as-many-after job core entry as_many) journal)) (is-end entry)
+pub theirs : (job : Asked) (rows : Rows) (core : Run) → length core.sides ≡ length core.replicas → core.sharing ≡ None → (journal : List Entry) → rules.LegalFrom job core journal → InRows rows (rules.gets_from job core journal) → IsTheirs job rows core journal
+theirs job rows core as_many whole [] legal h = record { legal = tt; behind = is-seen core }
+theirs job rows core as_many whole (entry ∷ journal) legal h = ⊎_elim ended (goes_on (theirs job rows (rules.after job core entry) (as-many-after job core entry as_many) (sharing-after job core entry ∙ whole) journal)) (is-end entry)
   where
     goes_on : (rules.LegalFrom job (rules.after job core entry) journal → InRows rows (rules.gets_from job (rules.after job core entry) journal) → IsTheirs job rows (rules.after job core entry) journal) → ((how : How) → entry ≢ End how) → IsTheirs job rows core (entry ∷ journal)
     goes_on later never =
         let parts = in-front rows (rules.gets_of job core entry) _ h in
-        let one = entry-so (as-job job) rows (seen core) (as-put entry) (entry-may job core as_many entry never legal.0) (subst (InRows rows) (sym (got-same job core as_many entry)) parts.0) in
+        let one = entry-so (as-job job) rows (seen core) (as-put entry) (entry-may job core as_many whole entry never legal.0) (subst (InRows rows) (sym (got-same job core as_many entry)) parts.0) in
         let same : after (as-job job) rows (seen core) (as-put entry) ≡ seen (rules.after job core entry) = sym one.1 ∙ entry-same job core as_many entry never legal.0 in
         let rest = later legal.1 parts.1 in
         record {
@@ -408,6 +435,10 @@ pub opening-many : (job : Asked) → length (rules.opening_core job).sides ≡ l
 unfolding rules.opening_core opening_voted
 opening-many job = length-replicate job.settings.replicas opening_side ∙ sym (length-opening job job.settings.replicas)
 
+pub opening-whole : (job : Asked) → (rules.opening_core job).sharing ≡ None
+unfolding rules.opening_core opening_voted
+opening-whole job = refl
+
 -- ---- what a legal journal says
 
 abbrev pub nothing : Steps
@@ -429,7 +460,7 @@ is-watched job range = ne_eqb 0 job.settings.watchdog (λ e. let least = range.w
 
 module _ (job : Asked) (rows : Rows) (free : RaceFree job.program) (range : InRange job.settings) (unstruck : job.faults ≡ []) (journal : List Entry) (legal : rules.Legal job journal) (in_rows : InRows rows (rules.gets_from job (rules.opening_core job) journal)) where
   its : IsTheirs job rows (rules.opening_core job) journal
-  its = theirs job rows (rules.opening_core job) (opening-many job) journal legal in_rows
+  its = theirs job rows (rules.opening_core job) (opening-many job) (opening-whole job) journal legal in_rows
 
   pub its-legal : LegalFrom (as-job job) rows (opening_core (as-job job)) (map as-put journal)
   its-legal = subst (λ (c : Core). LegalFrom (as-job job) rows c (map as-put journal)) (seen-opening job unstruck) its.legal

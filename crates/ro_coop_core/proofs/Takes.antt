@@ -1,6 +1,6 @@
 -- A take, in the fields of a core.
 use Rattle.std.proofs.Common.{◌≡◌, ℕ, zero, suc, ◌+◌, ◌^◌, ◌<◌, ◌≤◌, Bool, true, false, not, ◌||◌, cond, List, [], ◌∷◌, ◌++◌, length, get_or, Option, Some, None, refl, sym, ap, ◌∙◌, subst, arith, lt-ltb}
-use Rattle.std.specs.Prelude.{◌==◌, IfSome, slice_get, slice_set, slice_index_or}
+use Rattle.std.specs.Prelude.{◌==◌, IfSome, IsSome, slice_get, slice_set, slice_index_or}
 use Rattle.std.specs.Option.{option_and_then, option_map, option_map_or}
 use Rattle.std.proofs.lemmas.Bool.{and_parts, ne_eqb}
 use Rattle.std.proofs.lemmas.List.{length-set}
@@ -29,6 +29,7 @@ use Rattle.ro_legal.proofs.Journals.{outcome_of-append}
 use Rattle.ro_legal.proofs.Leases.{AtHome, lendable_there, lendable-awake, has_replica}
 use Rattle.ro_legal.proofs.Lists.{get-set-same}
 use Rattle.ro_legal.proofs.TogetherCounts.{most-bounds}
+use Rattle.ro_legal.proofs.TogetherLeases.{lends-whole}
 use Rattle.ro_coop_core.specs.declared.seats.Partner.{Partner}
 use Rattle.ro_coop_core.specs.declared.seats.Seat.{Seat}
 use Rattle.ro_coop_core.specs.Seats.{Homed, IsSeated, AreSeated, IsPartner, AreNumbered, AreNear, KnowEach, KnowsParked}
@@ -77,7 +78,7 @@ module _ (f : Fields) (h : Holds f) (lease : Lease) (allowed : MayTake f.job (co
   take-goes = goes f h allowed.going
 
   at-home : AtHome (core_in f) lease.replica
-  at-home = lendable_there (core_in f) lease.replica lease.thread allowed.lendable
+  at-home = lendable_there (core_in f) lease.replica lease.thread (lends-whole f.job f.journal).none allowed.lendable
 
   -- the partner in the seat
   pub record Leaves (partner : Partner) : Type 0 where
@@ -101,6 +102,10 @@ module _ (f : Fields) (h : Holds f) (lease : Lease) (allowed : MayTake f.job (co
 
   pub take-within : lease.replica < length f.seats
   take-within = let less = slice_get_within (core_in f).replicas lease.replica at-home.value at-home.there in let count = h.seats_are.count in omega arith
+
+  -- it is in its seat
+  pub take-here : (seat : Seat) → slice_get f.seats lease.replica ≡ Some seat → IsSome seat.home
+  take-here seat there = h.seats_are.at_home lease.replica seat there ∙ at-home.home
 
   -- its seat is empty
   take-seated : (seat : Seat) → slice_get f.seats lease.replica ≡ Some seat → AreSeated f.job (after f.job (core_in f) (Take lease)) (slice_set f.seats lease.replica (record seat { home = None }))

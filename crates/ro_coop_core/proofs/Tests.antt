@@ -18,10 +18,11 @@ use Rattle.ro_legal.specs.declared.actions.Streak.{Streak}
 use Rattle.ro_legal.specs.Streaks.{comes_last}
 use Rattle.ro_legal.specs.declared.parkings.Parking.{Parking}
 use Rattle.ro_legal.specs.Sides.{Side, peer_with}
-use Rattle.ro_legal.specs.Core.{Job, Core, is_going, nothing_lent, is_home, is_awake, is_parked, is_kept, is_lendable, may_vote}
+use Rattle.ro_legal.specs.Core.{Job, Core, is_going, nothing_lent, is_home, offers, is_awake, is_parked, is_kept, is_lendable, may_vote}
 use Rattle.ro_legal.specs.Action.{threads_made, is_turn, is_scrub_due}
 use Rattle.ro_legal.specs.Cooperative.{peer_in}
-use Rattle.ro_legal.proofs.Leases.{asleep-unlent}
+use Rattle.ro_legal.proofs.Leases.{asleep-unlent, offers-home}
+use Rattle.ro_legal.proofs.TogetherLeases.{lends-whole}
 use Rattle.ro_legal.proofs.Ordered.{none-lent-is}
 use Rattle.ro_coop_core.specs.declared.seats.Partner.{Partner}
 use Rattle.ro_coop_core.specs.declared.seats.Seat.{Seat}
@@ -117,9 +118,15 @@ module _ (f : Fields) (h : Holds f) where
 
   -- ---- a lease
 
+  -- its replica is at home, since each is of a whole one
+  awake-by : (number thread : ℕ) → is_awake (core_in f) number thread ≡ (is_home (core_in f) number && lives_on (core_in f).kernel thread && option_map_or (is_unstopped thread) (slice_get (core_in f).replicas number) false)
+  awake-by number thread =
+      ap (λ (b : Bool). b && lives_on (core_in f).kernel thread && option_map_or (is_unstopped thread) (slice_get (core_in f).replicas number) false)
+      (offers-home (core_in f) number thread (lends-whole f.job f.journal).none)
+
   -- what is left of its test but for the locks
   pub awake-is : (number thread : ℕ) (seat : Seat) → slice_get f.seats number ≡ Some seat → (seat_unstopped thread seat && lives_on f.kernel.kernel thread) ≡ is_awake (core_in f) number thread
-  awake-is number thread seat there = by seat.home refl
+  awake-is number thread seat there = by seat.home refl ∙ sym (awake-by number thread)
     where
       unstopped : Partner → Bool
       unstopped partner = is_unstopped thread (replica_of partner.peer.replica)
@@ -130,7 +137,8 @@ module _ (f : Fields) (h : Holds f) where
       swap false true = refl
       swap false false = refl
 
-      by : (o : Option Partner) → seat.home ≡ o → (option_map_or unstopped seat.home false && lives_on f.kernel.kernel thread) ≡ is_awake (core_in f) number thread
+      by : (o : Option Partner) → seat.home ≡ o
+          → (option_map_or unstopped seat.home false && lives_on f.kernel.kernel thread) ≡ (is_home (core_in f) number && lives_on (core_in f).kernel thread && option_map_or (is_unstopped thread) (slice_get (core_in f).replicas number) false)
       by None e =
           ap (λ (o : Option Partner). option_map_or unstopped o false && lives_on f.kernel.kernel thread) e
           ∙ sym (ap (λ (b : Bool). b && lives_on (core_in f).kernel thread && option_map_or (is_unstopped thread) (slice_get (core_in f).replicas number) false) (away number seat there e))
@@ -145,7 +153,7 @@ module _ (f : Fields) (h : Holds f) where
 
   pub awake-home : (number thread : ℕ) → is_awake (core_in f) number thread ≡ true → is_home (core_in f) number ≡ true
   awake-home number thread awake =
-      let parts = and_parts (is_home (core_in f) number && lives_on (core_in f).kernel thread) (option_map_or (is_unstopped thread) (slice_get (core_in f).replicas number) false) awake in
+      let parts = and_parts (is_home (core_in f) number && lives_on (core_in f).kernel thread) (option_map_or (is_unstopped thread) (slice_get (core_in f).replicas number) false) (sym (awake-by number thread) ∙ awake) in
       (and_parts (is_home (core_in f) number) (lives_on (core_in f).kernel thread) parts.0).0
 
   -- where a thread is parked
@@ -208,5 +216,5 @@ module _ (f : Fields) (h : Holds f) where
   pub lends-within : (replica thread : ℕ) → f.job.settings.replicas ≤ replica → false ≡ is_lendable (core_in f) replica thread
   lends-within replica thread far =
       let past : slice_get (core_in f).replicas replica ≡ None = slice_get_past (core_in f).replicas replica (omega (arith, count-is)) in
-      let home : Bool = is_home (core_in f) replica && lives_on (core_in f).kernel thread in
+      let home : Bool = offers (core_in f) replica thread && lives_on (core_in f).kernel thread in
       sym (asleep-unlent (core_in f) replica thread (ap (λ (o : Option Replica). home && option_map_or (is_unstopped thread) o false) past ∙ and_right home false refl))

@@ -9,7 +9,7 @@ use Rattle.ro_journal.specs.declared.losers.Lost.{Lost}
 use Rattle.ro_kernel.specs.Kernel.{lives_on}
 use Rattle.ro_replica.specs.Replica.{Replica}
 use Rattle.ro_replica.specs.Views.{is_unstopped}
-use Rattle.ro_legal.specs.Core.{Job, Core, is_going, nothing_lent, is_home, is_lendable}
+use Rattle.ro_legal.specs.Core.{Job, Core, is_going, nothing_lent, offers, is_lendable}
 use Rattle.ro_legal.specs.Legal.{MayVote, EndsVote, may_scrub, MayScrub, EndsScrub}
 use Rattle.ro_legal.specs.Action.{lend_next}
 use Rattle.ro_core.specs.Fields.{Fields, core_in, Holds}
@@ -42,8 +42,8 @@ none-ends job core thread count won lost did m other = (
 pub lends-within : (f : Fields) → Holds f → (replica thread : ℕ) → f.job.settings.replicas ≤ replica → false ≡ is_lendable (core_in f) replica thread
 lends-within f h replica thread far = sym (asleep-unlent (core_in f) replica thread (by (slice_get (core_in f).replicas replica) refl))
   where
-    by : (o : Option Replica) → slice_get (core_in f).replicas replica ≡ o → (is_home (core_in f) replica && lives_on (core_in f).kernel thread && option_map_or (is_unstopped thread) o false) ≡ false
-    by None e = and-last (is_home (core_in f) replica && lives_on (core_in f).kernel thread)
+    by : (o : Option Replica) → slice_get (core_in f).replicas replica ≡ o → (offers (core_in f) replica thread && lives_on (core_in f).kernel thread && option_map_or (is_unstopped thread) o false) ≡ false
+    by None e = and-last (offers (core_in f) replica thread && lives_on (core_in f).kernel thread)
     by (Some r) e = absurd (let w = slice_get_within (core_in f).replicas replica r e in let c = count-is f h in omega arith)
 
 -- ---- a scrub

@@ -71,10 +71,10 @@ opening-grouped job groups none = record {
 -- ---- a run
 
 put-into : (job : Job) (core : Core) (lease : Lease) (count hit : ℕ) (may : MayPut job core lease count hit) (lent : LentThread core lease.replica lease.thread) (groups new : Groups) (value : Replica)
-    → slice_get (core_after_put job core lease count (Some may.ran)).replicas lease.replica ≡ Some value → AreGrouped core.replicas groups → Returns lease.replica lease.thread (is_some (stop_of value lease.thread)) groups new
-    → AreGrouped (core_after_put job core lease count (Some may.ran)).replicas new
+    → slice_get (core_after_put job core lease count (Some may.returns.ran)).replicas lease.replica ≡ Some value → AreGrouped core.replicas groups → Returns lease.replica lease.thread (is_some (stop_of value lease.thread)) groups new
+    → AreGrouped (core_after_put job core lease count (Some may.returns.ran)).replicas new
 put-into job core lease count hit may lent groups new value became h back = record {
-  count = kept-count (cases_Bool (is_some (stop_of value lease.thread))) ∙ h.count ∙ sym (length-set core.replicas lease.replica (arrived job core.kernel lease.thread count may.ran.replica));
+  count = kept-count (cases_Bool (is_some (stop_of value lease.thread))) ∙ h.count ∙ sym (length-set core.replicas lease.replica (arrived job core.kernel lease.thread count may.returns.ran.replica));
   each = λ number t r e. by number t r e (cases_eq number lease.replica) (cases_eq t lease.thread);
 }
   where
@@ -86,8 +86,8 @@ put-into job core lease count hit may lent groups new value became h back = reco
     kept number t d (inl e) = (back.noted e).others number t d
     kept number t d (inr e) = ap (λ (g : Groups). stands g number t) (back.same e)
 
-    arrived-is : value ≡ arrived job core.kernel lease.thread count may.ran.replica
-    arrived-is = some-injective (sym became ∙ get-set-same core.replicas lease.replica lent.lent (arrived job core.kernel lease.thread count may.ran.replica) lent.in_core)
+    arrived-is : value ≡ arrived job core.kernel lease.thread count may.returns.ran.replica
+    arrived-is = some-injective (sym became ∙ get-set-same core.replicas lease.replica lent.lent (arrived job core.kernel lease.thread count may.returns.ran.replica) lent.in_core)
 
     -- the thread that ran
     own : (is_some (stop_of value lease.thread) ≡ true) ⊎ (is_some (stop_of value lease.thread) ≡ false) → stands new lease.replica lease.thread ≡ is_some (stop_of value lease.thread)
@@ -101,18 +101,18 @@ put-into job core lease count hit may lent groups new value became h back = reco
     beside t differs =
         kept lease.replica t (inr differs) (cases_Bool (is_some (stop_of value lease.thread))) ∙ h.each lease.replica t lent.lent lent.in_core
         ∙ ap (λ (o : Option Thread). is_some (option_and_then (λ (x : Thread). x.stop) o))
-        (sym (changed-other (with_stop (arrival job core.kernel lease.thread count may.ran.replica)) may.ran.replica.threads lease.thread t differs ∙ (lent-meets job core lease count may.ran lent may.runs).only.others t differs))
+        (sym (changed-other (with_stop (arrival job core.kernel lease.thread count may.returns.ran.replica)) may.returns.ran.replica.threads lease.thread t differs ∙ (lent-meets job core lease count may.returns.ran lent may.returns.runs).only.others t differs))
         ∙ ap (λ (r : Replica). is_some (stop_of r t)) (sym arrived-is)
 
-    by : (number t : ℕ) (r : Replica) → slice_get (core_after_put job core lease count (Some may.ran)).replicas number ≡ Some r → (number ≡ lease.replica) ⊎ (number ≢ lease.replica) → (t ≡ lease.thread) ⊎ (t ≢ lease.thread) → stands new number t ≡ is_some (stop_of r t)
+    by : (number t : ℕ) (r : Replica) → slice_get (core_after_put job core lease count (Some may.returns.ran)).replicas number ≡ Some r → (number ≡ lease.replica) ⊎ (number ≢ lease.replica) → (t ≡ lease.thread) ⊎ (t ≢ lease.thread) → stands new number t ≡ is_some (stop_of r t)
     by number t r e (inr other) _ =
         kept number t (inl other) (cases_Bool (is_some (stop_of value lease.thread)))
-        ∙ h.each number t r (sym (slice_get-set_other core.replicas lease.replica number (arrived job core.kernel lease.thread count may.ran.replica) (λ k. other (sym k))) ∙ e)
+        ∙ h.each number t r (sym (slice_get-set_other core.replicas lease.replica number (arrived job core.kernel lease.thread count may.returns.ran.replica) (λ k. other (sym k))) ∙ e)
     by number t r e (inl same) (inl here) =
-        let is : value ≡ r = some-injective (sym became ∙ ap (slice_get (core_after_put job core lease count (Some may.ran)).replicas) (sym same) ∙ e) in
+        let is : value ≡ r = some-injective (sym became ∙ ap (slice_get (core_after_put job core lease count (Some may.returns.ran)).replicas) (sym same) ∙ e) in
         ap (λ (n : ℕ). stands new n t) same ∙ ap (stands new lease.replica) here ∙ own (cases_Bool (is_some (stop_of value lease.thread))) ∙ ap (λ (x : Replica). is_some (stop_of x lease.thread)) is ∙ ap (λ (n : ℕ). is_some (stop_of r n)) (sym here)
     by number t r e (inl same) (inr differs) =
-        let is : value ≡ r = some-injective (sym became ∙ ap (slice_get (core_after_put job core lease count (Some may.ran)).replicas) (sym same) ∙ e) in
+        let is : value ≡ r = some-injective (sym became ∙ ap (slice_get (core_after_put job core lease count (Some may.returns.ran)).replicas) (sym same) ∙ e) in
         ap (λ (n : ℕ). stands new n t) same ∙ beside t differs ∙ ap (λ (x : Replica). is_some (stop_of x t)) is
 
 -- a put keeps the groups
@@ -121,9 +121,9 @@ pub put-grouped : (job : Job) (core : Core) (lease : Lease) (count hit : ℕ) (m
     → AreGrouped (after job core (Put lease count hit)).replicas new
 unfolding after
 put-grouped job core lease count hit may go groups new value became h back =
-    let is = ap (core_after_put job core lease count) may.runs in
+    let is = ap (core_after_put job core lease count) may.returns.runs in
     subst (λ (c : Core). AreGrouped c.replicas new) (sym is)
-    (put-into job core lease count hit may (lent-thread core lease.replica lease.thread (go lease may.out)) groups new value (sym (ap (λ (c : Core). slice_get c.replicas lease.replica) is) ∙ became) h back)
+    (put-into job core lease count hit may (lent-thread core lease.replica lease.thread (go lease may.returns.out)) groups new value (sym (ap (λ (c : Core). slice_get c.replicas lease.replica) is) ∙ became) h back)
 
 -- ---- a copy
 

@@ -8,15 +8,15 @@ use Rattle.std.proofs.lemmas.Option.{slice_get_within, slice_get-get_or}
 use Rattle.ro_journal.specs.declared.Entry.TheVariants.{Take, Put}
 use Rattle.ro_kernel.specs.Kernel.{Kernel}
 use Rattle.ro_kernel.proofs.Kept.{slice_get-set_other}
-use Rattle.ro_plain.specs.Machine.{layout_in}
 use Rattle.ro_replica.specs.Replica.{Replica}
-use Rattle.ro_replica.specs.Runs.{RanTo, run_of}
+use Rattle.ro_replica.specs.Runs.{RanTo}
 use Rattle.ro_replica.specs.Seen.{ReplicaOf, replica_of}
 use Rattle.ro_journal.specs.declared.Lease.{Lease}
 use Rattle.ro_legal.specs.Core.{Job, Core, is_home, is_lease}
 use Rattle.ro_legal.specs.Legal.{lease_run, arrived, core_after_put, after, MayPut}
 use Rattle.ro_core.specs.Seen.{IsOfJob}
 use Rattle.ro_core.specs.Fields.{Seated, AreSeated}
+use Rattle.ro_legal.proofs.Ordered.{put-parts}
 use Rattle.ro_legal.proofs.Leases.{Apart, has_replica, gone, others_stay}
 use Rattle.ro_legal.proofs.Lists.{get-set-same}
 
@@ -65,11 +65,7 @@ take_seated job core seats lease value seated there = record {
 
 -- a run is of a replica that is there
 run_there : (job : Job) (core : Core) (lease : Lease) (count : ℕ) (ran : RanTo) → lease_run job core lease count ≡ Some ran → (r : Replica) × (slice_get core.replicas lease.replica ≡ Some r)
-run_there job core lease count ran e = by (slice_get core.replicas lease.replica) refl e
-  where
-    by : (o : Option Replica) → slice_get core.replicas lease.replica ≡ o → option_and_then (λ r. run_of (layout_in job.program core.kernel) job.settings.watchdog count r lease.thread) o ≡ Some ran → (r : Replica) × (slice_get core.replicas lease.replica ≡ Some r)
-    by None f g = absurd (let h : None ≡ Some ran = g in cc)
-    by (Some r) f g = (r, f)
+run_there job core lease count ran e = let p = put-parts job core lease count ran e in (p.lent, p.there)
 
 pub seat_within : (job : Job) (core : Core) (seats : List (Option ReplicaOf)) (lease : Lease) (count : ℕ) (ran : RanTo) → AreSeated job core seats → lease_run job core lease count ≡ Some ran → lease.replica < length seats
 seat_within job core seats lease count ran seated e =
@@ -85,10 +81,10 @@ pub put_seated : (job : Job) (core : Core) (seats : List (Option ReplicaOf)) (le
     → AreSeated job (after job core (Put lease count hit)) (slice_set seats lease.replica (Some value))
 unfolding after
 put_seated job core seats lease count hit value apart seated m program became =
-    let new : Core = core_after_put job core lease count (Some m.ran) in
-    let is : core_after_put job core lease count (lease_run job core lease count) ≡ new = ap (core_after_put job core lease count) m.runs in
+    let new : Core = core_after_put job core lease count (Some m.returns.ran) in
+    let is : core_after_put job core lease count (lease_run job core lease count) ≡ new = ap (core_after_put job core lease count) m.returns.runs in
     subst (λ (c : Core). AreSeated job c (slice_set seats lease.replica (Some value))) (sym is) (record {
-      count = length-set seats lease.replica (Some value) ∙ seated.count ∙ sym (length-set core.replicas lease.replica (arrived job core.kernel lease.thread count m.ran.replica));
+      count = length-set seats lease.replica (Some value) ∙ seated.count ∙ sym (length-set core.replicas lease.replica (arrived job core.kernel lease.thread count m.returns.ran.replica));
       each = λ number. by number (sym (ap (λ (c : Core). slice_get c.replicas lease.replica) is) ∙ became) (lease.replica == number) refl;
     })
   where
@@ -96,21 +92,21 @@ put_seated job core seats lease count hit value apart seated m program became =
     left = filter (λ l. not (is_lease lease l)) core.leases
 
     within : lease.replica < length seats
-    within = seat_within job core seats lease count m.ran seated m.runs
+    within = seat_within job core seats lease count m.returns.ran seated m.returns.runs
 
-    by : (number : ℕ) → slice_get (core_after_put job core lease count (Some m.ran)).replicas lease.replica ≡ Some (replica_of value) → (b : Bool) → (lease.replica == number) ≡ b
-        → Seated job (core_after_put job core lease count (Some m.ran)) number (slice_get (slice_set seats lease.replica (Some value)) number)
+    by : (number : ℕ) → slice_get (core_after_put job core lease count (Some m.returns.ran)).replicas lease.replica ≡ Some (replica_of value) → (b : Bool) → (lease.replica == number) ≡ b
+        → Seated job (core_after_put job core lease count (Some m.returns.ran)) number (slice_get (slice_set seats lease.replica (Some value)) number)
     by number there true e =
         let same : lease.replica ≡ number = eqb-true lease.replica number e in
         let in_seat : slice_get (slice_set seats lease.replica (Some value)) lease.replica ≡ Some (Some value) = get-set-same seats lease.replica _ (Some value) (slice_get-get_or seats lease.replica None within) in
-        let home : not (has_replica lease.replica (filter (λ l. not (is_lease lease l)) core.leases)) ≡ true = ap not (gone lease core.leases apart m.out) in
-        subst (λ (n : ℕ). Seated job (core_after_put job core lease count (Some m.ran)) n (slice_get (slice_set seats lease.replica (Some value)) n)) same
-        (subst (λ (o : Option (Option ReplicaOf)). Seated job (core_after_put job core lease count (Some m.ran)) lease.replica o) (sym in_seat) (home, program, there))
+        let home : not (has_replica lease.replica (filter (λ l. not (is_lease lease l)) core.leases)) ≡ true = ap not (gone lease core.leases apart m.returns.out) in
+        subst (λ (n : ℕ). Seated job (core_after_put job core lease count (Some m.returns.ran)) n (slice_get (slice_set seats lease.replica (Some value)) n)) same
+        (subst (λ (o : Option (Option ReplicaOf)). Seated job (core_after_put job core lease count (Some m.returns.ran)) lease.replica o) (sym in_seat) (home, program, there))
     by number there false e =
         let ne : lease.replica ≡ number → ⊥ = differ_by lease.replica number e in
         let kept : slice_get (slice_set seats lease.replica (Some value)) number ≡ slice_get seats number = slice_get-set_other seats lease.replica number (Some value) ne in
-        subst (λ (o : Option (Option ReplicaOf)). Seated job (core_after_put job core lease count (Some m.ran)) number o) (sym kept)
-        (same_seat job core (core_after_put job core lease count (Some m.ran)) number (slice_get seats number) refl
+        subst (λ (o : Option (Option ReplicaOf)). Seated job (core_after_put job core lease count (Some m.returns.ran)) number o) (sym kept)
+        (same_seat job core (core_after_put job core lease count (Some m.returns.ran)) number (slice_get seats number) refl
         (ap not (others_stay lease number core.leases (λ f. ne (sym f))))
         (slice_get-set_other core.replicas lease.replica number _ ne)
         (seated.each number))

@@ -20,7 +20,8 @@ use Rattle.ro_legal.specs.Streaks.{comes_last}
 use Rattle.ro_core.specs.Fields.{AreSeated, one_end, Fields, core_in, blocked_at, IsAsleep, DoOthersSleep, Holds}
 use Rattle.ro_legal.proofs.Journals.{replay_more, outcome_of-append}
 use Rattle.ro_core.proofs.Homes.{put_seated, seat_within}
-use Rattle.ro_legal.proofs.Leases.{fewer, put-only, leases_apart}
+use Rattle.ro_legal.proofs.Beside.{leases_apart}
+use Rattle.ro_legal.proofs.Leases.{fewer, put-only}
 use Rattle.ro_core.specs.Grouped.{Returns}
 use Rattle.std.proofs.lemmas.Option.{slice_get_within}
 use Rattle.ro_legal.proofs.Grants.{lent-go, lent-thread}
@@ -54,13 +55,13 @@ out-going f h lease out = by f.due refl
 
 module _ (f : Fields) (h : Holds f) (lease : Lease) (count hit : ℕ) (allowed : MayPut f.job (core_in f) lease count hit) where
   still : f.ended ≡ None
-  still = h.ended_is ∙ allowed.not_ended
+  still = h.ended_is ∙ allowed.returns.not_ended
 
   put-not-due : f.due ≡ None
-  put-not-due = out-going f h lease allowed.out
+  put-not-due = out-going f h lease allowed.returns.out
 
   pub put-within : lease.replica < length f.seats
-  put-within = seat_within f.job (core_in f) f.seats lease count allowed.ran h.seats_are allowed.runs
+  put-within = seat_within f.job (core_in f) f.seats lease count allowed.returns.ran h.seats_are allowed.returns.runs
 
   -- its group, and the thread, are there
   pub put-group : lease.replica < length f.groups
@@ -68,7 +69,7 @@ module _ (f : Fields) (h : Holds f) (lease : Lease) (count hit : ℕ) (allowed :
 
   pub put-few : lease.thread < 16
   put-few =
-      let lent = lent-thread (core_in f) lease.replica lease.thread (lent-go f.job f.journal h.legal lease allowed.out) in
+      let lent = lent-thread (core_in f) lease.replica lease.thread (lent-go f.job f.journal h.legal lease allowed.returns.out) in
       let order = ordered f.job f.journal h.legal in
       let made = (order.sound lease.replica lent.lent lent.in_core).all_made in
       let within = slice_get_within lent.lent.threads lease.thread lent.went lent.in_lent in
@@ -76,7 +77,7 @@ module _ (f : Fields) (h : Holds f) (lease : Lease) (count hit : ℕ) (allowed :
       omega arith
 
   pub put-fewer : length (filter (λ l. not (is_lease lease l)) f.leases) + 1 ≤ length f.leases
-  put-fewer = fewer (is_lease lease) f.leases (ap (list_any (is_lease lease)) h.leases_are ∙ allowed.out)
+  put-fewer = fewer (is_lease lease) f.leases (ap (list_any (is_lease lease)) h.leases_are ∙ allowed.returns.out)
 
   pub put-room : 0 < f.places
   put-room = let k = h.room in omega (arith, put-fewer)
@@ -110,7 +111,7 @@ module _ (f : Fields) (h : Holds f) (lease : Lease) (count hit : ℕ) (allowed :
   put-asleep f' value r leases back others = moved-asleep f f' r (record { asleep = λ t less early. by t early (others.asleep t less early); unlent = ap (list_all (λ l. comes_last f.streak l.thread)) leases ∙ kept-last f.leases others.unlent })
     where
       last : comes_last f.streak lease.thread ≡ true
-      last = put-last f.leases (ap (list_any (is_lease lease)) h.leases_are ∙ allowed.out) others.unlent
+      last = put-last f.leases (ap (list_any (is_lease lease)) h.leases_are ∙ allowed.returns.out) others.unlent
 
       other : (t : ℕ) → comes_last f.streak t ≡ false → t ≢ lease.thread
       other t early e = true≢false (sym last ∙ ap (comes_last f.streak) (sym e) ∙ early)
@@ -125,7 +126,7 @@ module _ (f : Fields) (h : Holds f) (lease : Lease) (count hit : ℕ) (allowed :
   unfolding after
   put-holds f' value program became r wrote journal leases seats back less =
       let core : Core = core_in f in
-      let is : core_after_put f.job core lease count (lease_run f.job core lease count) ≡ core_after_put f.job core lease count (Some allowed.ran) = ap (core_after_put f.job core lease count) allowed.runs in
+      let is : core_after_put f.job core lease count (lease_run f.job core lease count) ≡ core_after_put f.job core lease count (Some allowed.returns.ran) = ap (core_after_put f.job core lease count) allowed.returns.runs in
       holds-step f f' (Put lease count hit) h allowed (record {
         job = r.job;
         journal = journal;

@@ -24,6 +24,7 @@ use Rattle.ro_legal.specs.declared.actions.Streak.{Streak}
 use Rattle.ro_legal.specs.Streaks.{comes_last}
 use Rattle.ro_core.specs.Fields.{spare_of, Seated, AreSeated, IsSeat, one_end, Fields, core_in, blocked_at, IsAsleep, OthersSleep, DoOthersSleep, Holds}
 use Rattle.ro_legal.proofs.Journals.{replay_more, outcome_of-append}
+use Rattle.ro_legal.proofs.Beside.{lends-whole}
 use Rattle.ro_legal.proofs.Leases.{AtHome, lendable-awake, lendable_there}
 use Rattle.ro_core.proofs.Homes.{seat_there, take_seated}
 use Rattle.ro_core.specs.Grouped.{AreGrouped}
@@ -75,7 +76,7 @@ module _ (f : Fields) (h : Holds f) (lease : Lease) (allowed : MayTake f.job (co
   take-goes = goes f h allowed.going
 
   at-home : AtHome (core_in f) lease.replica
-  at-home = lendable_there (core_in f) lease.replica lease.thread allowed.lendable
+  at-home = lendable_there (core_in f) lease.replica lease.thread (lends-whole f.job f.journal).none allowed.lendable
 
   pub take-seat : IsSeat f.seats lease.replica
   take-seat = seat_there f.job (core_in f) f.seats lease.replica at-home.value h.seats_are at-home.home at-home.there

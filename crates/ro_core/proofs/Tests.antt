@@ -17,7 +17,7 @@ use Rattle.ro_replica.specs.Views.{is_unstopped}
 use Rattle.ro_replica.specs.Seen.{ReplicaOf, replica_of}
 use Rattle.ro_legal.specs.declared.actions.Action.TheVariants.{Vote as DoVote}
 use Rattle.ro_journal.specs.declared.Lease.{Lease}
-use Rattle.ro_legal.specs.Core.{Job, Core, is_going, nothing_lent, is_home, is_awake, is_lendable, may_vote, may_free}
+use Rattle.ro_legal.specs.Core.{Job, Core, is_going, nothing_lent, is_home, offers, is_awake, is_lendable, may_vote, may_free}
 use Rattle.ro_legal.specs.declared.actions.Streak.{Streak}
 use Rattle.ro_legal.specs.Streaks.{is_long, comes_last}
 use Rattle.ro_legal.specs.Action.{or_else, lowest_below, map_action, threads_made, is_turn, may_vote_in, may_lend_in, lend_in, lend_turn, turn_next}
@@ -26,7 +26,8 @@ use Rattle.ro_core.specs.Fields.{Seated, AreSeated, AreHome, seat_unstopped, Fie
 use Rattle.ro_core.specs.Grouped.{seat_stopped}
 use Rattle.ro_group.specs.Groups.{is_ready}
 use Rattle.ro_core.proofs.Grouped.{ready-all}
-use Rattle.ro_legal.proofs.Leases.{lendable-awake, asleep-unlent, awake-lendable}
+use Rattle.ro_legal.proofs.Beside.{lends-whole}
+use Rattle.ro_legal.proofs.Leases.{lendable-is, offers-home, asleep-unlent, awake-lendable}
 use Rattle.ro_legal.proofs.Ordered.{ordered, vote-parts}
 use Rattle.ro_legal.proofs.Lowest.{lowest-found, lowest-none, lowest-never, lowest-same, lend-test, lends-none}
 use Rattle.ro_core.proofs.Sitting.{home-count}
@@ -126,6 +127,10 @@ module _ (f : Fields) (h : Holds f) where
   abbrev free-test : (thread : ℕ) → Bool → ℕ → Kernel → Option Call → Bool
   free-test thread going lent kernel call = going && (lent == 0) && option_map_or (λ c. serves (setup_of f.job.program) kernel thread c) call false
 
+  -- each lease is of a whole replica
+  offers-is : (replica thread : ℕ) → offers (core_in f) replica thread ≡ is_home (core_in f) replica
+  offers-is replica thread = offers-home (core_in f) replica thread (lends-whole f.job f.journal).none
+
   -- and that of a lease
   is-awake-is : (replica thread : ℕ) (seat : Option ReplicaOf) → slice_get f.seats replica ≡ Some seat → (seat_unstopped thread seat && lives_on f.kernel.kernel thread) ≡ is_awake (core_in f) replica thread
   is-awake-is replica thread seat there = by seat (subst (λ (o : Option (Option ReplicaOf)). Seated f.job (core_in f) replica o) there (h.seats_are.each replica))
@@ -137,12 +142,12 @@ module _ (f : Fields) (h : Holds f) where
       swap false false = refl
 
       by : (seat : Option ReplicaOf) → Seated f.job (core_in f) replica (Some seat) → (seat_unstopped thread seat && lives_on f.kernel.kernel thread) ≡ is_awake (core_in f) replica thread
-      by None away = sym (ap (λ (b : Bool). b && lives_on (core_in f).kernel thread && option_map_or (is_unstopped thread) (slice_get (core_in f).replicas replica) false) away)
+      by None away = sym (ap (λ (b : Bool). b && lives_on (core_in f).kernel thread && option_map_or (is_unstopped thread) (slice_get (core_in f).replicas replica) false) (offers-is replica thread ∙ away))
       by (Some value) s =
           swap (is_unstopped thread (replica_of value)) (lives_on f.kernel.kernel thread)
-          ∙ ap (λ (b : Bool). b && lives_on f.kernel.kernel thread && is_unstopped thread (replica_of value)) (sym s.0)
-          ∙ ap (λ (k : Kernel). is_home (core_in f) replica && lives_on k thread && is_unstopped thread (replica_of value)) (sym kernel-is)
-          ∙ ap (λ (o : Option Replica). is_home (core_in f) replica && lives_on (core_in f).kernel thread && option_map_or (is_unstopped thread) o false) (sym s.2)
+          ∙ ap (λ (b : Bool). b && lives_on f.kernel.kernel thread && is_unstopped thread (replica_of value)) (sym (offers-is replica thread ∙ s.0))
+          ∙ ap (λ (k : Kernel). offers (core_in f) replica thread && lives_on k thread && is_unstopped thread (replica_of value)) (sym kernel-is)
+          ∙ ap (λ (o : Option Replica). offers (core_in f) replica thread && lives_on (core_in f).kernel thread && option_map_or (is_unstopped thread) o false) (sym s.2)
 
   pub is-lendable-is : (replica thread : ℕ) (seat : Option ReplicaOf) → slice_get f.seats replica ≡ Some seat → (seat_unstopped thread seat && lives_on f.kernel.kernel thread) ≡ is_lendable (core_in f) replica thread
   is-lendable-is replica thread seat there = is-awake-is replica thread seat there ∙ awake-lendable (core_in f) replica thread no-sides
@@ -182,12 +187,12 @@ module _ (f : Fields) (h : Holds f) where
   -- a thread that has exited, or stands still in every replica, can be lent in none
   pub gone : (thread : ℕ) → lives_on f.kernel.kernel thread ≡ false → (replica : ℕ) → is_lendable (core_in f) replica thread ≡ false
   gone thread dead replica = asleep-unlent (core_in f) replica thread
-      (and_left (is_home (core_in f) replica && lives_on (core_in f).kernel thread) (option_map_or (is_unstopped thread) (slice_get (core_in f).replicas replica) false)
-      (and_right (is_home (core_in f) replica) (lives_on (core_in f).kernel thread) (ap (λ (k : Kernel). lives_on k thread) kernel-is ∙ dead)))
+      (and_left (offers (core_in f) replica thread && lives_on (core_in f).kernel thread) (option_map_or (is_unstopped thread) (slice_get (core_in f).replicas replica) false)
+      (and_right (offers (core_in f) replica thread) (lives_on (core_in f).kernel thread) (ap (λ (k : Kernel). lives_on k thread) kernel-is ∙ dead)))
 
   pub standing : (thread : ℕ) → not (is_ready f.groups thread) ≡ false → (replica : ℕ) → is_lendable (core_in f) replica thread ≡ false
   standing thread ready replica = asleep-unlent (core_in f) replica thread
-      (and_right (is_home (core_in f) replica && lives_on (core_in f).kernel thread) (option_map_or (is_unstopped thread) (slice_get (core_in f).replicas replica) false)
+      (and_right (offers (core_in f) replica thread && lives_on (core_in f).kernel thread) (option_map_or (is_unstopped thread) (slice_get (core_in f).replicas replica) false)
       (unstopped (core_in f).replicas replica (sym (ready-all (core_in f).replicas f.groups thread h.groups_are) ∙ told (is_ready f.groups thread) ready)))
     where
       one : (r : Replica) → is_some (stop_of r thread) ≡ true → is_unstopped thread r ≡ false
@@ -281,9 +286,7 @@ pub voted-made : (core : Core) (thread : ℕ) → may_vote core thread ≡ true 
 voted-made core thread e = lives-within core.kernel thread (vote-parts core thread e).live
 
 pub lent-made : (core : Core) (replica thread : ℕ) → is_lendable core replica thread ≡ true → thread < threads_made core
-lent-made core replica thread e =
-    let parts = and_parts (is_home core replica && lives_on core.kernel thread) (option_map_or (is_unstopped thread) (slice_get core.replicas replica) false) (lendable-awake core replica thread e) in
-    lives-within core.kernel thread (and_parts (is_home core replica) (lives_on core.kernel thread) parts.0).1
+lent-made core replica thread e = lives-within core.kernel thread (lendable-is core replica thread e).lives
 
 -- where each other thread can be lent nowhere
 others-unlent : (core : Core) → ((t : ℕ) → t < threads_made core → comes_last core.streak t ≡ false → (r : ℕ) → is_lendable core r t ≡ false) → lend_turn core false ≡ None

@@ -19,6 +19,7 @@ use Rattle.ro_legal.specs.Modes as modes
 use Rattle.ro_legal.specs.Modes.{Mode}
 use Rattle.ro_legal.specs.Jobs.{CanRun}
 use Rattle.ro_legal.specs.Rules.{IsFit, Legal, IsAllowed, IsNext, replay}
+use Rattle.ro_legal.proofs.Beside.{lends-whole}
 use Rattle.ro_legal.proofs.Journals as voted_journals
 use Rattle.ro_legal.proofs.TogetherJournals as together_journals
 use Rattle.ro_legal.proofs.Ordered.{going-parts}
@@ -95,7 +96,7 @@ module _ (job : Job) (before : List Entry) (lease : Lease) (rest : List Turned) 
 
       at-once : VotedReturn taken
       at-once =
-          lent_returns job voted-start lease lent.quantum back.took.count back.took.hit lent.replica back.replica gives.stop (going-parts voted-start voted-parts.1.going).1 is.replica is.program gives.program quantum
+          lent_returns job voted-start lease lent.quantum back.took.count back.took.hit lent.replica back.replica gives.stop (lends-whole job before) (going-parts voted-start voted-parts.1.going).1 is.replica is.program gives.program quantum
           (subst (λ (l : Lease). Runs lent.replica.layout lent.replica.watchdog lent.quantum l.thread (replica_of lent.replica) (replica_of back.replica) back.took.count back.took.hit gives.stop) its gives.runs)
           (plain_core job taken) refl voted-taken
 

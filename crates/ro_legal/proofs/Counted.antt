@@ -21,14 +21,15 @@ use Rattle.ro_plain.specs.Machine.{layout_in}
 use Rattle.ro_plain.proofs.Calls.{some-injective}
 use Rattle.ro_legal.specs.Core.{Job, Core, opening_core}
 use Rattle.ro_legal.specs.Event.{Event, with_copy, with_recovered}
-use Rattle.ro_legal.specs.Legal.{HasArrived, arrived, arrival, core_after_put, core_after_event, event_in, freed_event, after, IsAllowed, LegalFrom, Legal, replay_from, replay}
+use Rattle.ro_event.specs.declared.stops.Stop.{Stop}
+use Rattle.ro_legal.specs.Legal.{HasArrived, Returns, stopped, core_after_lease, core_after_event, event_in, freed_event, after, IsAllowed, LegalFrom, Legal, replay_from, replay}
 use Rattle.ro_legal.specs.Sound.{Counts, AreCounted}
 use Rattle.ro_legal.proofs.Lists.{ChangedFrom, unchanged, changed_here, get-changed, get-set-cases, MappedFrom, get-map, get-append-cases}
 use Rattle.ro_legal.proofs.Sound.{Instructs, instructs, instructed, RunParts, run-parts}
 use Rattle.ro_legal.proofs.Copies.{AfterCopy, not_lost, is_copy, after-copy, still-there}
 use Rattle.ro_legal.proofs.Effects.{backed_after, threads_after}
+use Rattle.ro_legal.proofs.Leases.{put-by, part-by}
 use Rattle.ro_legal.proofs.Ordered.{put-parts, get-opening, one-thread, event-parts, scrub-winner}
-use Rattle.ro_kernel.specs.Kernel.{Kernel}
 
 -- more are counted too
 counts-more : (less more : ℕ) (replica : Replica) → less ≤ more → Counts less replica → Counts more replica
@@ -133,17 +134,24 @@ counted-event most core thread count replicas (Some event) each h = λ number r 
     by : (r : Replica) (number : ℕ) → MappedFrom (λ x. cancelled (applied event.effect x)) replicas number r → Counts most r
     by r number m = subst (Counts most) m.gives (counts-applied most event.effect m.from (each number m.from m.there))
 
-counted-put : (most : ℕ) (job : Job) (core : Core) (lease : Lease) (count : ℕ) (ran : RanTo) → Counts (most + job.settings.quantum) ran.replica → AreCounted most core → AreCounted (most + job.settings.quantum) (core_after_put job core lease count (Some ran))
-counted-put most job core lease count ran came h = λ number r e. by number r (get-set-cases core.replicas lease.replica number (arrived job core.kernel lease.thread count ran.replica) r e)
-  where
-    by : (number : ℕ) (r : Replica) → ((number ≢ lease.replica) × (slice_get core.replicas number ≡ Some r)) ⊎ ((number ≡ lease.replica) × (arrived job core.kernel lease.thread count ran.replica ≡ r)) → Counts (most + job.settings.quantum) r
-    by number r (inl e) = counts-more most (most + job.settings.quantum) r (omega arith) (h number r e.1)
-    by number r (inr e) = subst (Counts (most + job.settings.quantum)) e.1
-        (counts-changed (most + job.settings.quantum) (with_stop (arrival job core.kernel lease.thread count ran.replica)) (λ x. refl) ran.replica.threads lease.thread came)
+-- a lease that came back
+module _ (most : ℕ) (job : Job) (core : Core) (lease : Lease) (count hit : ℕ) (back : Returns job core lease count hit) (few : count ≤ job.settings.quantum) (h : AreCounted most core) (stop : Option Stop) (wishes : (replica thread : ℕ) → List ℕ) (misses : (replica thread : ℕ) → ℕ) where
+  came : Counts (most + job.settings.quantum) back.ran.replica
+  came =
+      let parts = put-parts job core lease count back.ran back.runs in
+      counts-more (most + count) (most + job.settings.quantum) back.ran.replica (omega arith)
+      (counts-run most (layout_in job.program core.kernel) job.settings.watchdog count lease.thread parts.lent back.ran parts.runs (h lease.replica parts.lent parts.there))
 
-few-arrive : (job : Job) (kernel : Kernel) (thread count : ℕ) (replica : Replica) → HasArrived job kernel thread count replica → count ≤ job.settings.quantum
-few-arrive job kernel thread count replica (inl e) = omega arith
-few-arrive job kernel thread count replica (inr e) = let less : count < job.settings.quantum = e.0 in omega arith
+  counted-back : AreCounted (most + job.settings.quantum) (core_after_lease core lease stop wishes misses back.ran.replica)
+  counted-back = λ number r e. by number r (get-set-cases core.replicas lease.replica number (stopped lease.thread stop back.ran.replica) r e)
+    where
+      by : (number : ℕ) (r : Replica) → ((number ≢ lease.replica) × (slice_get core.replicas number ≡ Some r)) ⊎ ((number ≡ lease.replica) × (stopped lease.thread stop back.ran.replica ≡ r)) → Counts (most + job.settings.quantum) r
+      by number r (inl e) = counts-more most (most + job.settings.quantum) r (omega arith) (h number r e.1)
+      by number r (inr e) = subst (Counts (most + job.settings.quantum)) e.1 (counts-changed (most + job.settings.quantum) (with_stop stop) (λ x. refl) back.ran.replica.threads lease.thread came)
+
+few-arrive : (job : Job) (core : Core) (lease : Lease) (count : ℕ) (replica : Replica) → HasArrived job core lease count replica → count ≤ job.settings.quantum
+few-arrive job core lease count replica (inl e) = omega arith
+few-arrive job core lease count replica (inr e) = let less : count < job.settings.quantum = e.0 in omega arith
 
 more-counted : (less more : ℕ) (core : Core) → less ≤ more → AreCounted less core → AreCounted more core
 more-counted less more core h counts = λ number r e. counts-more less more r h (counts number r e)
@@ -152,12 +160,11 @@ counted-after : (most : ℕ) (job : Job) (core : Core) (entry : Entry) → IsAll
 unfolding after
 counted-after most job core (Take lease) may h = more-counted most (most + job.settings.quantum) (after job core (Take lease)) (omega arith) h
 counted-after most job core (Put lease count hit) may h =
-    let parts = put-parts job core lease count may.ran may.runs in
-    let few = few-arrive job core.kernel lease.thread count may.ran.replica may.arrives in
-    let came = counts-run most (layout_in job.program core.kernel) job.settings.watchdog count lease.thread parts.lent may.ran parts.runs (h lease.replica parts.lent parts.there) in
-    subst (λ (o : Option RanTo). AreCounted (most + job.settings.quantum) (core_after_put job core lease count o)) (sym may.runs)
-    (counted-put most job core lease count may.ran (counts-more (most + count) (most + job.settings.quantum) may.ran.replica (omega arith) came) h)
-counted-after most job core (Part lease count hit) may h = absurd may
+    put-by job core lease count hit may (AreCounted (most + job.settings.quantum))
+    (counted-back most job core lease count hit may.returns (few-arrive job core lease count may.returns.ran.replica may.arrives) h)
+counted-after most job core (Part lease count hit) may h =
+    let less : count < job.settings.quantum = may.early in
+    part-by job core lease count hit may (AreCounted (most + job.settings.quantum)) (counted-back most job core lease count hit may.returns (omega arith) h)
 counted-after most job core (Vote thread count won lost did) may h =
     let e = event-parts job core thread won may.event may.comes in
     more-counted most (most + job.settings.quantum) (core_after_event core thread count (with_recovered won (numbers lost) core.replicas) (event_in job core thread won)) (omega arith)

@@ -1,8 +1,9 @@
 -- Every stop for a page that stands in a legal journal's replicas is for one of the 2^20 pages, which is not backed.
-use Rattle.std.specs.Prelude.{◌≡◌, ◌≢◌, ◌<◌, ◌^◌, ℕ, zero, suc, ◌⊎◌, ◌||◌, Bool, true, false, cond, ◌==◌, List, [], ◌∷◌, length, map, not, Option, Some, None, slice_get}
+use Rattle.std.specs.Prelude.{◌≡◌, ◌≢◌, ◌<◌, ◌^◌, ℕ, zero, suc, ◌⊎◌, ◌||◌, Bool, true, false, cond, ◌==◌, List, [], ◌∷◌, length, map, not, Option, Some, None, slice_get, slice_set, is_some}
 use Rattle.std.specs.List.{filter, fold}
 use Rattle.std.specs.Option.{option_and_then}
 use Rattle.std.proofs.Common.{refl, sym, ap, ◌∙◌, subst, inl, inr}
+use Rattle.std.proofs.lemmas.Bool.{true≢false}
 use Rattle.ro_event.specs.declared.effects.Made.{Made}
 use Rattle.ro_event.specs.declared.stops.Stop.{Stop}
 use Rattle.ro_event.specs.declared.stops.Stop.TheVariants.{Calls, Trap, PageFault, Watchdog}
@@ -25,13 +26,17 @@ use Rattle.ro_plain.specs.Machine.{layout_in}
 use Rattle.ro_plain.proofs.Calls.{some-injective}
 use Rattle.ro_legal.specs.Core.{Job, Core, opening_core}
 use Rattle.ro_legal.specs.Event.{Event, with_copy, with_recovered}
-use Rattle.ro_legal.specs.Legal.{arrived, arrival, core_after_put, core_after_event, event_in, freed_event, after, IsAllowed, Legal, replay}
+use Rattle.ro_thread.specs.Parts.{missed}
+use Rattle.ro_legal.specs.Parts.{Lent, Whole, wanted}
+use Rattle.ro_legal.specs.Legal.{Returns, MayPart, wanted_by, stopped, arrival, core_after_event, event_in, freed_event, after, IsAllowed, Legal, replay}
 use Rattle.ro_legal.specs.Sound.{IsFault, HasFaults, BacksNone, FaultsWait}
 use Rattle.ro_legal.proofs.Journals.{legal-keeps}
 use Rattle.ro_legal.proofs.Lists.{ChangedFrom, unchanged, changed_here, get-changed, get-set-cases, MappedFrom, get-map, get-append-cases}
 use Rattle.ro_legal.proofs.Sound.{Instructs, instructs, instructed, RunParts, run-parts}
 use Rattle.ro_legal.proofs.Copies.{AfterCopy, not_lost, is_copy, after-copy, still-there}
 use Rattle.ro_legal.proofs.Effects.{backed_after, threads_after}
+use Rattle.ro_legal.proofs.Beside.{LendsWhole}
+use Rattle.ro_legal.proofs.Leases.{put-is, part-is}
 use Rattle.ro_legal.proofs.Ordered.{put-parts, get-opening, one-thread, event-parts, scrub-winner}
 use Rattle.ro_legal.proofs.FaultPages.{fault-standing}
 use Rattle.ro_kernel.specs.Kernel.{Kernel}
@@ -105,6 +110,29 @@ fault-cond backed false o h = h
 -- the stop at which a run arrives
 fault-arrival : (job : Job) (kernel : Kernel) (thread count : ℕ) (replica : Replica) → IsFault replica.backed (arrival job kernel thread count replica)
 fault-arrival job kernel thread count replica = fault-cond replica.backed (count == job.settings.quantum) _ (fault-standing-at job kernel thread replica)
+
+-- the fault of a page that is backed is no stop
+none-missed : (backed : Backed) (o : Option Stop) → IsFault backed o → missed backed o ≡ None
+none-missed backed None h = refl
+none-missed backed (Some (Calls call)) h = refl
+none-missed backed (Some (Trap code)) h = refl
+none-missed backed (Some Watchdog) h = refl
+none-missed backed (Some (PageFault page)) h = ap (λ (b : Bool). cond b (Some page) None) (h page refl).1
+
+-- so a lease of a whole replica wants no page
+pub whole-wants-none : (job : Job) (kernel : Kernel) (thread : ℕ) (replica : Replica) → wanted (layout_in job.program kernel) job.settings.watchdog Whole replica thread ≡ None
+whole-wants-none job kernel thread replica =
+    none-missed replica.backed (standing_at (layout_in job.program kernel) job.settings.watchdog replica thread) (fault-standing-at job kernel thread replica)
+
+pub whole-wants : (job : Job) (core : Core) (lease : Lease) (replica : Replica) → core.lent lease.driver ≡ Whole → wanted_by job core lease replica ≡ None
+whole-wants job core lease replica whole =
+    ap (λ (lent : Lent). wanted (layout_in job.program core.kernel) job.settings.watchdog lent replica lease.thread) whole
+    ∙ whole-wants-none job core.kernel lease.thread replica
+
+-- and no part comes back of one
+pub no-part : (job : Job) (core : Core) (lease : Lease) (count hit : ℕ) → LendsWhole core → MayPart job core lease count hit → ⊥
+no-part job core lease count hit h may =
+    true≢false (sym may.wants ∙ ap is_some (whole-wants job core lease may.returns.ran.replica (h.whole lease.driver)))
 
 -- stops for pages that are backed by now are gone
 kept-fault : (old new : Backed) (o : Option Stop) → IsFault old o → IsFault new (cond (is_cancelled new o) None o)
@@ -194,21 +222,29 @@ fault-event core thread count replicas (Some event) each h = λ number r e. by r
     by : (r : Replica) (number : ℕ) → MappedFrom (λ x. cancelled (applied event.effect x)) replicas number r → HasFaults r
     by r number m = subst HasFaults m.gives (fault-applied event.effect m.from (each number m.from m.there))
 
-fault-put : (job : Job) (core : Core) (lease : Lease) (count : ℕ) (ran : RanTo) → HasFaults ran.replica → FaultsWait core.replicas → FaultsWait (core_after_put job core lease count (Some ran)).replicas
-fault-put job core lease count ran came h = λ number r e. by number r (get-set-cases core.replicas lease.replica number (arrived job core.kernel lease.thread count ran.replica) r e)
-  where
-    by : (number : ℕ) (r : Replica) → ((number ≢ lease.replica) × (slice_get core.replicas number ≡ Some r)) ⊎ ((number ≡ lease.replica) × (arrived job core.kernel lease.thread count ran.replica ≡ r)) → HasFaults r
-    by number r (inl e) = h number r e.1
-    by number r (inr e) = subst HasFaults e.1 (fault-changed ran.replica.backed (with_stop (arrival job core.kernel lease.thread count ran.replica)) (λ x k. fault-arrival job core.kernel lease.thread count ran.replica) ran.replica.threads lease.thread came)
+-- a lease that came back
+module _ (job : Job) (core : Core) (lease : Lease) (count hit : ℕ) (back : Returns job core lease count hit) (h : FaultsWait core.replicas) (stop : Option Stop) (waits : IsFault back.ran.replica.backed stop) where
+  came : HasFaults back.ran.replica
+  came =
+      let parts = put-parts job core lease count back.ran back.runs in
+      fault-run (layout_in job.program core.kernel) job.settings.watchdog count lease.thread parts.lent back.ran parts.runs (h lease.replica parts.lent parts.there)
+
+  fault-back : FaultsWait (slice_set core.replicas lease.replica (stopped lease.thread stop back.ran.replica))
+  fault-back = λ number r e. by number r (get-set-cases core.replicas lease.replica number (stopped lease.thread stop back.ran.replica) r e)
+    where
+      by : (number : ℕ) (r : Replica) → ((number ≢ lease.replica) × (slice_get core.replicas number ≡ Some r)) ⊎ ((number ≡ lease.replica) × (stopped lease.thread stop back.ran.replica ≡ r)) → HasFaults r
+      by number r (inl e) = h number r e.1
+      by number r (inr e) = subst HasFaults e.1 (fault-changed back.ran.replica.backed (with_stop stop) (λ x k. waits) back.ran.replica.threads lease.thread came)
 
 fault-after : (job : Job) (core : Core) (entry : Entry) → IsAllowed job core entry → FaultsWait core.replicas → FaultsWait (after job core entry).replicas
 unfolding after
 fault-after job core (Take lease) may h = h
 fault-after job core (Put lease count hit) may h =
-    let parts = put-parts job core lease count may.ran may.runs in
-    let came = fault-run (layout_in job.program core.kernel) job.settings.watchdog count lease.thread parts.lent may.ran parts.runs (h lease.replica parts.lent parts.there) in
-    subst (λ (o : Option RanTo). FaultsWait (core_after_put job core lease count o).replicas) (sym may.runs) (fault-put job core lease count may.ran came h)
-fault-after job core (Part lease count hit) may h = absurd may
+    subst (λ (c : Core). FaultsWait c.replicas) (sym (put-is job core lease count hit may))
+    (fault-back job core lease count hit may.returns h (arrival job core.kernel lease.thread count may.returns.ran.replica) (fault-arrival job core.kernel lease.thread count may.returns.ran.replica))
+fault-after job core (Part lease count hit) may h =
+    subst (λ (c : Core). FaultsWait c.replicas) (sym (part-is job core lease count hit may))
+    (fault-back job core lease count hit may.returns h None (λ page e. absurd (let f : None ≡ Some (PageFault page) = e in cc)))
 fault-after job core (Vote thread count won lost did) may h =
     let e = event-parts job core thread won may.event may.comes in
     fault-event core thread count (with_recovered won (numbers lost) core.replicas) (event_in job core thread won) (each-copied won e.winner (numbers lost) core.replicas e.there h) h

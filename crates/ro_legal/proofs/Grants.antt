@@ -1,9 +1,9 @@
 -- A thread that stands at a call stands there until it is answered, or its replica becomes a copy.
-use Rattle.std.specs.Prelude.{◌≡◌, ◌≢◌, ℕ, ◌⊎◌, Bool, true, false, not, cond, ◌&&◌, ◌||◌, List, [], ◌∷◌, ◌++◌, Option, Some, None, is_none, slice_get}
+use Rattle.std.specs.Prelude.{◌≡◌, ◌≢◌, ◌==◌, ℕ, ◌⊎◌, Bool, true, false, not, cond, ◌&&◌, ◌||◌, List, [], ◌∷◌, ◌++◌, Option, Some, None, is_none, slice_get}
 use Rattle.std.specs.List.{filter, list_any}
 use Rattle.std.specs.Option.{option_map_or, option_and_then}
 use Rattle.std.proofs.Common.{refl, sym, ap, ◌∙◌, subst, inl, inr}
-use Rattle.std.proofs.lemmas.Bool.{true≢false, false≢true, and_parts, cases_Bool, cases_eq}
+use Rattle.std.proofs.lemmas.Bool.{true≢false, false≢true, cases_Bool, cases_eq}
 use Rattle.std.proofs.lemmas.Option.{option_and_then_some}
 use Rattle.ro_event.specs.declared.calls.Call.{Call}
 use Rattle.ro_event.specs.declared.effects.Made.{Made}
@@ -19,7 +19,8 @@ use Rattle.ro_journal.specs.declared.How.{How}
 use Rattle.ro_journal.specs.declared.Entry.{Entry}
 use Rattle.ro_journal.specs.declared.Entry.TheVariants.{Take, Put, Part, Vote, Free, Scrub, End}
 use Rattle.ro_kernel.proofs.Kept.{slice_get-set_other}
-use Rattle.ro_kernel.specs.Kernel.{Setup, Kernel, lives_on}
+use Rattle.ro_region.specs.declared.Range.{Range}
+use Rattle.ro_kernel.specs.Kernel.{Setup, Kernel, ranges_in}
 use Rattle.ro_kernel.specs.Serve.{Served as Serving, Done, Parked as Parks, Blocked as Blocks, Ends, serve, put_out, asked}
 use Rattle.ro_thread.specs.declared.Thread.{Thread}
 use Rattle.ro_replica.specs.Replica.{Replica, changed_at, thread_after, with_made, without_cancelled, is_cancelled, applied, cancelled}
@@ -28,16 +29,17 @@ use Rattle.ro_replica.specs.Views.{is_unstopped}
 use Rattle.ro_plain.specs.Machine.{setup_of, layout_in}
 use Rattle.ro_plain.proofs.Calls.{some-injective, slice_get-append}
 use Rattle.ro_journal.specs.declared.Lease.{Lease}
-use Rattle.ro_legal.specs.Core.{Job, Core, opening_core, is_home, is_lease, is_out, is_lendable}
+use Rattle.ro_legal.specs.Core.{Job, Core, opening_core, is_lease, is_out, is_lendable}
 use Rattle.ro_legal.specs.Event.{Event, quiet_effect, call_event, event_of, with_recovered}
-use Rattle.ro_legal.specs.Legal.{lease_run, arrival, arrived, core_after_put, core_after_event, event_in, freed_event, after, IsAllowed, MayPut, MayVote, MayFree, Legal, replay}
-use Rattle.ro_legal.specs.Laws.{thread_in, leaves_blocked, LeavesBlocked, LetsGoOn}
+use Rattle.ro_legal.specs.Legal.{lease_run, stopped, core_after_lease, core_after_event, event_in, freed_event, after, IsAllowed, Returns, MayVote, MayFree, Legal, replay}
+use Rattle.ro_legal.specs.Laws.{AreBeside, elsewhere, sharing, thread_in, leaves_blocked, LeavesBlocked, LetsGoOn}
 use Rattle.ro_legal.proofs.Lists.{get-map-there, get-set-same, changed-is-set, changed-other}
 use Rattle.ro_legal.proofs.Copies.{copied-other}
 use Rattle.ro_legal.proofs.Effects.{backed_after, threads_after}
 use Rattle.ro_legal.proofs.Happens.{Happens, event-happens, call-happens}
 use Rattle.ro_legal.proofs.Journals.{LegalFrom-parts, legal-keeps, replay_more}
-use Rattle.ro_legal.proofs.Leases.{Apart, lendable-awake, has_replica, same-lease, out_has, gone, event_leases, apart_after}
+use Rattle.ro_legal.proofs.Leases.{OneEach, lendable-is, same-lease, out_number, gone_number, event_leases, one-after, put-by, part-by}
+use Rattle.ro_legal.proofs.Beside.{beside-both, LendsWell, lends-after, lends-opening}
 use Rattle.ro_legal.proofs.Ordered.{put-parts, vote-parts, free-parts, scrub-parts, event-parts, freed-is}
 use Rattle.ro_legal.proofs.Outcomes.{over_from}
 use Rattle.ro_legal.proofs.Retired.{RunMeets, meets}
@@ -73,47 +75,15 @@ unfolding after
 go-take job core lease lendable h other e = by (is_lease other lease) refl e
   where
     lent : goes_in core lease.replica lease.thread ≡ true
-    lent = (and_parts (is_home core lease.replica && lives_on core.kernel lease.thread) _ (lendable-awake core lease.replica lease.thread lendable)).1
+    lent = let is = lendable-is core lease.replica lease.thread lendable in ap (λ (o : Option Replica). option_map_or (is_unstopped lease.thread) o false) is.there ∙ is.unstopped
 
     by : (b : Bool) → is_lease other lease ≡ b → (b || is_out core other) ≡ true → goes_in core other.replica other.thread ≡ true
     by true is f = subst (λ (l : Lease). goes_in core l.replica l.thread ≡ true) (same-lease other lease is) lent
     by false is f = h other f
 
-go-put : (job : Job) (core : Core) (lease : Lease) (count hit : ℕ) → MayPut job core lease count hit → Apart core.leases → LentGo core → LentGo (after job core (Put lease count hit))
-unfolding after
-go-put job core lease count hit may apart h =
-    subst (λ (o : Option RanTo). LentGo (core_after_put job core lease count o)) (sym may.runs) there
-  where
-    left : List Lease
-    left = filter (λ l. not (is_lease lease l)) core.leases
-
-    there : LentGo (core_after_put job core lease count (Some may.ran))
-    there other e =
-        let apart_from : other.replica ≢ lease.replica = λ same. true≢false (sym (out_has other left e) ∙ ap (λ (n : ℕ). has_replica n left) same ∙ gone lease core.leases apart may.out) in
-        ap (λ (o : Option Replica). option_map_or (is_unstopped other.thread) o false) (slice_get-set_other core.replicas lease.replica other.replica (arrived job core.kernel lease.thread count may.ran.replica) (λ k. apart_from (sym k)))
-        ∙ h other (any-filter (is_lease other) (λ l. not (is_lease lease l)) core.leases e)
-
 -- where nothing is lent
 pub go-none : (core : Core) → core.leases ≡ [] → LentGo core
 go-none core none lease e = absurd (true≢false (sym e ∙ ap (list_any (is_lease lease)) none))
-
-pub go-after : (job : Job) (core : Core) (entry : Entry) → IsAllowed job core entry → Apart core.leases → LentGo core → LentGo (after job core entry)
-unfolding after
-go-after job core (Take lease) may apart h = go-take job core lease may.lendable h
-go-after job core (Put lease count hit) may apart h = go-put job core lease count hit may apart h
-go-after job core (Part lease count hit) may apart h = absurd may
-go-after job core (Vote thread count won lost did) may apart h =
-    go-none (core_after_event core thread count (with_recovered won (numbers lost) core.replicas) (event_in job core thread won)) (event_leases core thread count (with_recovered won (numbers lost) core.replicas) (event_in job core thread won) ∙ (vote-parts core thread may.may).alone)
-go-after job core (Free thread) may apart h =
-    go-none (core_after_event core thread 0 core.replicas (freed_event job core thread)) (event_leases core thread 0 core.replicas (freed_event job core thread) ∙ (free-parts job core thread may.may).alone)
-go-after job core (Scrub won lost) may apart h = go-none (after job core (Scrub won lost)) (scrub-parts core may.may).alone
-go-after job core (End how) may apart h = h
-
--- in a legal journal each thread that is lent can go on
-pub lent-go : (job : Job) (journal : List Entry) → Legal job journal → LentGo (replay job journal)
-unfolding opening_core
-lent-go job journal legal =
-    (legal-keeps job (λ core. Apart core.leases × LentGo core) (λ core entry may h. (apart_after job core entry may h.0, go-after job core entry may h.0 h.1)) (opening_core job) journal legal (tt, go-none (opening_core job) refl)).1
 
 -- the thread that a put gives back was there, and did not stand still
 pub record LentThread (core : Core) (replica thread : ℕ) : Type 0 where
@@ -144,6 +114,82 @@ lent-meets job core lease count ran lent runs =
     let parts = put-parts job core lease count ran runs in
     meets (layout_in job.program core.kernel) job.settings.watchdog count lease.thread lent.went lent.lent ran lent.in_lent
     (ap (λ (r : Replica). run_of (layout_in job.program core.kernel) job.settings.watchdog count r lease.thread) (some-injective (sym lent.in_core ∙ parts.there)) ∙ parts.runs)
+
+-- ---- what is lent goes on
+
+module _ (job : Job) (core : Core) (lease : Lease) (count hit : ℕ) (back : Returns job core lease count hit) (well : LendsWell job core) (one : OneEach core.leases) (h : LentGo core) (stop : Option Stop) (wishes : (replica thread : ℕ) → List ℕ) (misses : (replica thread : ℕ) → ℕ) where
+  abbrev new : Core
+  new = core_after_lease core lease stop wishes misses back.ran.replica
+
+  lent : LentThread core lease.replica lease.thread
+  lent = lent-thread core lease.replica lease.thread (h lease back.out)
+
+  go-back : LentGo (core_after_lease core lease stop wishes misses back.ran.replica)
+  go-back other e = by (beside-both ranges core.lent lease other core.leases well.beside back.out out differ)
+    where
+      ranges : List Range
+      ranges = ranges_in (setup_of job.program) core.kernel
+
+      out : is_out core other ≡ true
+      out = any-filter (is_lease other) (λ l. not (is_lease lease l)) core.leases e
+
+      -- it is not the lease that came back
+      differ : lease ≢ other
+      differ same =
+          let gone_now : list_any (λ l. l.driver == lease.driver) (filter (λ l. not (is_lease lease l)) core.leases) ≡ false = gone_number (λ l. l.driver) lease core.leases one back.out in
+          true≢false (sym (out_number (λ l. l.driver) other (filter (λ l. not (is_lease lease l)) core.leases) e) ∙ ap (λ (l : Lease). list_any (λ x. x.driver == l.driver) (filter (λ x. not (is_lease lease x)) core.leases)) (sym same) ∙ gone_now)
+
+      away : other.replica ≢ lease.replica → goes_in new other.replica other.thread ≡ true
+      away apart =
+          ap (λ (o : Option Replica). option_map_or (is_unstopped other.thread) o false) (slice_get-set_other core.replicas lease.replica other.replica (stopped lease.thread stop back.ran.replica) (λ k. apart (sym k)))
+          ∙ h other out
+
+      beside : other.thread ≢ lease.thread → (replica : ℕ) → other.replica ≡ replica → replica ≡ lease.replica → goes_in new replica other.thread ≡ true
+      beside apart replica its same =
+          let here : slice_get new.replicas replica ≡ Some (stopped lease.thread stop back.ran.replica) =
+          ap (slice_get new.replicas) same ∙ get-set-same core.replicas lease.replica lent.lent (stopped lease.thread stop back.ran.replica) lent.in_core in
+          let threads : slice_get (changed_at (with_stop stop) back.ran.replica.threads lease.thread) other.thread ≡ slice_get lent.lent.threads other.thread =
+          changed-other (with_stop stop) back.ran.replica.threads lease.thread other.thread apart ∙ (lent-meets job core lease count back.ran lent back.runs).only.others other.thread apart in
+          let before : is_unstopped other.thread lent.lent ≡ true =
+          sym (ap (λ (o : Option Replica). option_map_or (is_unstopped other.thread) o false) (ap (slice_get core.replicas) (its ∙ same) ∙ lent.in_core)) ∙ h other out in
+          ap (λ (o : Option Replica). option_map_or (is_unstopped other.thread) o false) here
+          ∙ ap (λ (o : Option Thread). option_map_or (λ t. is_none t.stop) o false) threads ∙ before
+
+      by : AreBeside ranges core.lent lease other → goes_in new other.replica other.thread ≡ true
+      by (elsewhere apart) = away (λ e. apart (sym e))
+      by (sharing ones others apart has have both) = either (cases_eq other.replica lease.replica)
+        where
+          either : (other.replica ≡ lease.replica) ⊎ (other.replica ≢ lease.replica) → goes_in new other.replica other.thread ≡ true
+          either (inl same) = beside (λ e. apart (sym e)) other.replica refl same
+          either (inr differs) = away differs
+
+pub go-after : (job : Job) (core : Core) (entry : Entry) → IsAllowed job core entry → LendsWell job core → OneEach core.leases → LentGo core → LentGo (after job core entry)
+unfolding after
+go-after job core (Take lease) may well one h = go-take job core lease may.lendable h
+go-after job core (Put lease count hit) may well one h = put-by job core lease count hit may LentGo (go-back job core lease count hit may.returns well one h)
+go-after job core (Part lease count hit) may well one h = part-by job core lease count hit may LentGo (go-back job core lease count hit may.returns well one h)
+go-after job core (Vote thread count won lost did) may well one h =
+    go-none (core_after_event core thread count (with_recovered won (numbers lost) core.replicas) (event_in job core thread won)) (event_leases core thread count (with_recovered won (numbers lost) core.replicas) (event_in job core thread won) ∙ (vote-parts core thread may.may).alone)
+go-after job core (Free thread) may well one h =
+    go-none (core_after_event core thread 0 core.replicas (freed_event job core thread)) (event_leases core thread 0 core.replicas (freed_event job core thread) ∙ (free-parts job core thread may.may).alone)
+go-after job core (Scrub won lost) may well one h = go-none (after job core (Scrub won lost)) (scrub-parts core may.may).alone
+go-after job core (End how) may well one h = h
+
+-- in a legal journal each thread that is lent can go on, and leases can be out at once
+pub record GoesOn (job : Job) (core : Core) : Type 0 where
+  pub well : LendsWell job core
+  pub one : OneEach core.leases
+  pub goes : LentGo core
+
+pub goes-after : (job : Job) (core : Core) (entry : Entry) → IsAllowed job core entry → GoesOn job core → GoesOn job (after job core entry)
+goes-after job core entry may h = record { well = lends-after job core entry may h.well; one = one-after job core entry may h.one; goes = go-after job core entry may h.well h.one h.goes }
+
+pub goes-opening : (job : Job) → GoesOn job (opening_core job)
+unfolding opening_core
+goes-opening job = record { well = lends-opening job; one = tt; goes = go-none (opening_core job) refl }
+
+pub lent-go : (job : Job) (journal : List Entry) → Legal job journal → LentGo (replay job journal)
+lent-go job journal legal = (legal-keeps job (GoesOn job) (goes-after job) (opening_core job) journal legal (goes-opening job)).goes
 
 -- ---- what stands at a call
 
@@ -237,41 +283,39 @@ abbrev Goes : Core → Entry → (replica thread : ℕ) → Thread → Type 0
 Goes new entry replica thread stands =
     (thread_in new replica thread ≡ Some stands) ⊎ (LeavesBlocked entry thread × (thread_in new replica thread ≡ Some (record stands { since = 0 }))) ⊎ LetsGoOn entry replica thread
 
-put-keeps : (job : Job) (core : Core) (lease : Lease) (count hit : ℕ) → MayPut job core lease count hit → LentGo core → (replica thread : ℕ) (stands : Thread) (call : Call)
-    → Found core replica thread stands → stands.stop ≡ Some (Calls call) → thread_in (after job core (Put lease count hit)) replica thread ≡ Some stands
-unfolding after
-put-keeps job core lease count hit may go replica thread stands call f at =
-    subst (λ (o : Option RanTo). thread_in (core_after_put job core lease count o) replica thread ≡ Some stands) (sym may.runs) (by (cases_eq replica lease.replica))
-  where
-    new : Core
-    new = core_after_put job core lease count (Some may.ran)
+module _ (job : Job) (core : Core) (lease : Lease) (count hit : ℕ) (back : Returns job core lease count hit) (go : LentGo core) (stop : Option Stop) (wishes : (replica thread : ℕ) → List ℕ) (misses : (replica thread : ℕ) → ℕ) (replica thread : ℕ) (stands : Thread) (call : Call) (f : Found core replica thread stands) (at : stands.stop ≡ Some (Calls call)) where
+  abbrev behind : Core
+  behind = core_after_lease core lease stop wishes misses back.ran.replica
 
-    lent : LentThread core lease.replica lease.thread
-    lent = lent-thread core lease.replica lease.thread (go lease may.out)
+  went : LentThread core lease.replica lease.thread
+  went = lent-thread core lease.replica lease.thread (go lease back.out)
 
-    here : replica ≡ lease.replica → thread_in new replica thread ≡ Some stands
-    here same =
-        let is : lent.lent ≡ f.value = some-injective (sym lent.in_core ∙ ap (slice_get core.replicas) (sym same) ∙ f.in_core) in
-        let there : slice_get lent.lent.threads thread ≡ Some stands = ap (λ (r : Replica). slice_get r.threads thread) is ∙ f.there in
-        let other : thread ≢ lease.thread = λ e. let both : lent.went ≡ stands = some-injective (sym lent.in_lent ∙ ap (slice_get lent.lent.threads) (sym e) ∙ there) in
-        (let g : None ≡ Some (Calls call) = sym lent.goes ∙ ap (λ (x : Thread). x.stop) both ∙ at in cc)
-        in
-        found-is new replica thread stands (record {
-          value = arrived job core.kernel lease.thread count may.ran.replica;
-          in_core = ap (slice_get new.replicas) same ∙ get-set-same core.replicas lease.replica lent.lent (arrived job core.kernel lease.thread count may.ran.replica) lent.in_core;
-          there = changed-other (with_stop (arrival job core.kernel lease.thread count may.ran.replica)) may.ran.replica.threads lease.thread thread other ∙ (lent-meets job core lease count may.ran lent may.runs).only.others thread other ∙ there;
-        })
+  here : replica ≡ lease.replica → thread_in behind replica thread ≡ Some stands
+  here same =
+      let is : went.lent ≡ f.value = some-injective (sym went.in_core ∙ ap (slice_get core.replicas) (sym same) ∙ f.in_core) in
+      let there : slice_get went.lent.threads thread ≡ Some stands = ap (λ (r : Replica). slice_get r.threads thread) is ∙ f.there in
+      let other : thread ≢ lease.thread = λ e. let both : went.went ≡ stands = some-injective (sym went.in_lent ∙ ap (slice_get went.lent.threads) (sym e) ∙ there) in
+      (let g : None ≡ Some (Calls call) = sym went.goes ∙ ap (λ (x : Thread). x.stop) both ∙ at in cc)
+      in
+      found-is behind replica thread stands (record {
+        value = stopped lease.thread stop back.ran.replica;
+        in_core = ap (slice_get behind.replicas) same ∙ get-set-same core.replicas lease.replica went.lent (stopped lease.thread stop back.ran.replica) went.in_core;
+        there = changed-other (with_stop stop) back.ran.replica.threads lease.thread thread other ∙ (lent-meets job core lease count back.ran went back.runs).only.others thread other ∙ there;
+      })
 
-    away : replica ≢ lease.replica → thread_in new replica thread ≡ Some stands
-    away differs = found-is new replica thread stands (record {
-      value = f.value;
-      in_core = slice_get-set_other core.replicas lease.replica replica (arrived job core.kernel lease.thread count may.ran.replica) (λ k. differs (sym k)) ∙ f.in_core;
-      there = f.there;
-    })
+  elsewhere_is : replica ≢ lease.replica → thread_in behind replica thread ≡ Some stands
+  elsewhere_is differs = found-is behind replica thread stands (record {
+    value = f.value;
+    in_core = slice_get-set_other core.replicas lease.replica replica (stopped lease.thread stop back.ran.replica) (λ k. differs (sym k)) ∙ f.in_core;
+    there = f.there;
+  })
 
-    by : (replica ≡ lease.replica) ⊎ (replica ≢ lease.replica) → thread_in new replica thread ≡ Some stands
-    by (inl same) = here same
-    by (inr differs) = away differs
+  back-keeps : thread_in (core_after_lease core lease stop wishes misses back.ran.replica) replica thread ≡ Some stands
+  back-keeps = by (cases_eq replica lease.replica)
+    where
+      by : (replica ≡ lease.replica) ⊎ (replica ≢ lease.replica) → thread_in behind replica thread ≡ Some stands
+      by (inl same) = here same
+      by (inr differs) = elsewhere_is differs
 
 vote-keeps : (job : Job) (core : Core) (voted count won : ℕ) (lost : Lost) (did : Did) → MayVote job core voted count won lost did → (replica thread : ℕ) (stands : Thread) (call : Call)
     → Found core replica thread stands → stands.stop ≡ Some (Calls call) → Goes (after job core (Vote voted count won lost did)) (Vote voted count won lost did) replica thread stands
@@ -339,8 +383,8 @@ entry-keeps : (job : Job) (core : Core) (entry : Entry) → IsAllowed job core e
     → Found core replica thread stands → stands.stop ≡ Some (Calls call) → Goes (after job core entry) entry replica thread stands
 unfolding after
 entry-keeps job core (Take lease) may go replica thread stands call f at = inl (found-is core replica thread stands f)
-entry-keeps job core (Put lease count hit) may go replica thread stands call f at = inl (put-keeps job core lease count hit may go replica thread stands call f at)
-entry-keeps job core (Part lease count hit) may go replica thread stands call f at = absurd may
+entry-keeps job core (Put lease count hit) may go replica thread stands call f at = inl (put-by job core lease count hit may (λ c. thread_in c replica thread ≡ Some stands) (λ stop wishes misses. back-keeps job core lease count hit may.returns go stop wishes misses replica thread stands call f at))
+entry-keeps job core (Part lease count hit) may go replica thread stands call f at = inl (part-by job core lease count hit may (λ c. thread_in c replica thread ≡ Some stands) (λ stop wishes misses. back-keeps job core lease count hit may.returns go stop wishes misses replica thread stands call f at))
 entry-keeps job core (Vote voted count won lost did) may go replica thread stands call f at = vote-keeps job core voted count won lost did may replica thread stands call f at
 entry-keeps job core (Free freed) may go replica thread stands call f at = free-keeps job core freed may replica thread stands call f at
 entry-keeps job core (Scrub won lost) may go replica thread stands call f at = scrub-keeps job core won lost replica thread stands f

@@ -1,10 +1,11 @@
 -- The leases that are out: no two of them are of one replica, nor of one driver.
 use Rattle.std.proofs.Common.{◌≡◌, ℕ, ◌+◌, ◌≤◌, Bool, true, false, true≢false, not, cond, ◌&&◌, ◌||◌, List, [], ◌∷◌, length, Option, Some, None, refl, sym, ap, ◌∙◌, subst, arith, eqb-true, eq-eqb}
-use Rattle.std.specs.Prelude.{◌==◌, slice_get}
+use Rattle.std.specs.Prelude.{◌==◌, slice_get, take}
 use Rattle.std.specs.List.{filter, find, list_any}
 use Rattle.std.specs.Option.{option_map_or}
 use Rattle.std.proofs.lemmas.Bool.{and_parts, and_from}
 use Rattle.std.proofs.lemmas.List.Filters.{length-filter_both}
+use Rattle.ro_event.specs.declared.stops.Stop.{Stop}
 use Rattle.ro_journal.specs.Losers.{numbers}
 use Rattle.ro_journal.specs.declared.Entry.{Entry}
 use Rattle.ro_journal.specs.declared.Entry.TheVariants.{Take, Put, Part, Vote, Free, Scrub, End}
@@ -14,11 +15,14 @@ use Rattle.ro_replica.specs.Views.{is_unstopped}
 use Rattle.ro_journal.specs.declared.Lease.{Lease}
 use Rattle.ro_journal.specs.Leases.{lease_to}
 use Rattle.ro_legal.specs.Sides.{Side}
-use Rattle.ro_legal.specs.Core.{Job, Core, opening_core, is_home, is_lease, is_kept, is_parked, is_awake, is_lendable}
-use Rattle.ro_kernel.specs.Kernel.{lives_on}
+use Rattle.ro_legal.specs.Parts.{Sharing, is_lent}
+use Rattle.ro_legal.specs.Core.{Job, Core, opening_core, is_home, is_lease, is_kept, is_parked, is_taken, is_free, bars, is_open, shares, offers, offers_by, is_awake, is_lendable}
+use Rattle.ro_kernel.specs.Kernel.{lives_on, ranges_in}
 use Rattle.ro_legal.specs.Event.{Event, with_recovered}
-use Rattle.ro_legal.specs.Legal.{core_after_put, core_after_event, lease_run, event_in, freed_event, after, MayTake, IsAllowed, Legal, replay}
+use Rattle.ro_legal.specs.Legal.{arrival, faulted, wishing, missing, wanted_by, core_after_lease, core_after_put, core_after_part, core_after_event, lease_run, event_in, freed_event, after, MayTake, MayPut, MayPart, IsAllowed, Legal, replay}
+use Rattle.ro_region.specs.Permission.{is_writable}
 use Rattle.ro_legal.proofs.Journals.{legal-keeps}
+use Rattle.ro_legal.proofs.Lists.{all-from}
 
 -- ---- what may be lent
 
@@ -154,11 +158,40 @@ pub event_leases : (core : Core) (thread count : ℕ) (replicas : List Replica) 
 event_leases core thread count replicas None = refl
 event_leases core thread count replicas (Some event) = refl
 
--- a put changes no more than the replicas, the leases, and how much the last entry wrote
-pub put-only : (job : Job) (core : Core) (lease : Lease) (count : ℕ) (ran : Option RanTo)
-    → core_after_put job core lease count ran ≡ record core { replicas = (core_after_put job core lease count ran).replicas; leases = (core_after_put job core lease count ran).leases; wrote = (core_after_put job core lease count ran).wrote }
+-- a lease that comes back changes no more than the replicas, the leases, what is wished and missed, and how much the last entry wrote
+abbrev pub Leased : (core after : Core) → Type 0
+Leased core after = after ≡ record core { replicas = after.replicas; leases = after.leases; wishes = after.wishes; misses = after.misses; wrote = after.wrote }
+
+pub put-only : (job : Job) (core : Core) (lease : Lease) (count : ℕ) (ran : Option RanTo) → Leased core (core_after_put job core lease count ran)
 put-only job core lease count None = refl
 put-only job core lease count (Some ran) = refl
+
+pub part-only : (job : Job) (core : Core) (lease : Lease) (ran : Option RanTo) → Leased core (core_after_part job core lease ran)
+part-only job core lease None = refl
+part-only job core lease (Some ran) = refl
+
+-- the core behind it
+pub put-is : (job : Job) (core : Core) (lease : Lease) (count hit : ℕ) (may : MayPut job core lease count hit)
+    → after job core (Put lease count hit) ≡ core_after_lease core lease (arrival job core.kernel lease.thread count may.returns.ran.replica)
+    (wishing lease.replica lease.thread (faulted (arrival job core.kernel lease.thread count may.returns.ran.replica)) core.wishes) core.misses may.returns.ran.replica
+unfolding after
+put-is job core lease count hit may = ap (core_after_put job core lease count) may.returns.runs
+
+pub part-is : (job : Job) (core : Core) (lease : Lease) (count hit : ℕ) (may : MayPart job core lease count hit)
+    → after job core (Part lease count hit) ≡ core_after_lease core lease None
+    (wishing lease.replica lease.thread (wanted_by job core lease may.returns.ran.replica) core.wishes) (missing lease.replica lease.thread core.misses) may.returns.ran.replica
+unfolding after
+part-is job core lease count hit may = ap (core_after_part job core lease) may.returns.runs
+
+-- what holds of the core behind a lease that came back, whatever stands, is wished and was missed then
+abbrev pub Behind : (Core → Type 0) → Core → Lease → Replica → Type 0
+Behind P core lease replica = (stop : Option Stop) (wishes : (replica thread : ℕ) → List ℕ) (misses : (replica thread : ℕ) → ℕ) → P (core_after_lease core lease stop wishes misses replica)
+
+pub put-by : (job : Job) (core : Core) (lease : Lease) (count hit : ℕ) (may : MayPut job core lease count hit) (P : Core → Type 0) → Behind P core lease may.returns.ran.replica → P (after job core (Put lease count hit))
+put-by job core lease count hit may P each = subst P (sym (put-is job core lease count hit may)) (each _ _ _)
+
+pub part-by : (job : Job) (core : Core) (lease : Lease) (count hit : ℕ) (may : MayPart job core lease count hit) (P : Core → Type 0) → Behind P core lease may.returns.ran.replica → P (after job core (Part lease count hit))
+part-by job core lease count hit may P each = subst P (sym (part-is job core lease count hit may)) (each _ _ _)
 
 -- what fewer leases keep, and a take keeps, each entry keeps
 pub leases_keep : (job : Job) (Q : List Lease → Type 0) → ((p : Lease → Bool) (leases : List Lease) → Q leases → Q (filter p leases))
@@ -171,36 +204,64 @@ leases_keep job Q fewer takes core (Put lease count hit) m h = by (lease_run job
     by : (ran : Option RanTo) → Q (core_after_put job core lease count ran).leases
     by None = h
     by (Some ran) = fewer (λ other. not (is_lease lease other)) core.leases h
-leases_keep job Q fewer takes core (Part lease count hit) m h = absurd m
+leases_keep job Q fewer takes core (Part lease count hit) m h = by (lease_run job core lease count)
+  where
+    by : (ran : Option RanTo) → Q (core_after_part job core lease ran).leases
+    by None = h
+    by (Some ran) = fewer (λ other. not (is_lease lease other)) core.leases h
 leases_keep job Q fewer takes core (Vote thread count won lost did) m h = subst Q (sym (event_leases core thread count (with_recovered won (numbers lost) core.replicas) (event_in job core thread won))) h
 leases_keep job Q fewer takes core (Free thread) m h = subst Q (sym (event_leases core thread 0 core.replicas (freed_event job core thread))) h
 leases_keep job Q fewer takes core (Scrub won lost) m h = h
 leases_keep job Q fewer takes core (End how) m h = h
 
--- no take lends a replica twice
-pub apart_take : (job : Job) (core : Core) (lease : Lease) → MayTake job core lease → Apart core.leases → Apart (lease ∷ core.leases)
-apart_take job core lease m h =
-    let p = and_parts (is_home core lease.replica && lives_on core.kernel lease.thread) _ (lendable-awake core lease.replica lease.thread m.lendable) in
-    let q = and_parts (is_home core lease.replica) (lives_on core.kernel lease.thread) p.0 in
-    (not_false (has_replica lease.replica core.leases) q.0, h)
+-- what may be lent is there
+pub record IsThere (core : Core) (replica thread : ℕ) : Type 0 where
+  pub offered : offers core replica thread ≡ true
+  pub lives : lives_on core.kernel thread ≡ true
+  pub value : Replica
+  pub there : slice_get core.replicas replica ≡ Some value
+  pub unstopped : is_unstopped thread value ≡ true
+
+pub lendable-is : (core : Core) (replica thread : ℕ) → is_lendable core replica thread ≡ true → IsThere core replica thread
+lendable-is core replica thread e =
+    let p = and_parts (offers core replica thread && lives_on core.kernel thread) (option_map_or (is_unstopped thread) (slice_get core.replicas replica) false) (lendable-awake core replica thread e) in
+    let q = and_parts (offers core replica thread) (lives_on core.kernel thread) p.0 in
+    some q.0 q.1 (slice_get core.replicas replica) refl p.1
+  where
+    some : offers core replica thread ≡ true → lives_on core.kernel thread ≡ true → (o : Option Replica) → slice_get core.replicas replica ≡ o → option_map_or (is_unstopped thread) o false ≡ true → IsThere core replica thread
+    some offered lives None f g = absurd (true≢false (sym g))
+    some offered lives (Some r) f g = record { offered = offered; lives = lives; value = r; there = f; unstopped = g }
+
+-- where each lease is of a whole replica, its replica is at home
+pub record AtHome (core : Core) (replica : ℕ) : Type 0 where
+  pub home : is_home core replica ≡ true
+  pub value : Replica
+  pub there : slice_get core.replicas replica ≡ Some value
+
+pub offers-home : (core : Core) (replica thread : ℕ) → core.sharing ≡ None → offers core replica thread ≡ is_home core replica
+offers-home core replica thread none = ap (λ (sharing : Option Sharing). offers_by sharing core replica thread) none
+
+pub lendable_there : (core : Core) (replica thread : ℕ) → core.sharing ≡ None → is_lendable core replica thread ≡ true → AtHome core replica
+lendable_there core replica thread none e =
+    let is = lendable-is core replica thread e in
+    record { home = sym (offers-home core replica thread none) ∙ is.offered; value = is.value; there = is.there }
+
+-- where each lease is of a whole replica, no take lends one twice
+pub apart_take : (job : Job) (core : Core) (lease : Lease) → core.sharing ≡ None → MayTake job core lease → Apart core.leases → Apart (lease ∷ core.leases)
+apart_take job core lease none m h = (not_false (has_replica lease.replica core.leases) (lendable_there core lease.replica lease.thread none m.lendable).home, h)
 
 -- nor to a driver twice
 pub one_take : (job : Job) (core : Core) (lease : Lease) → MayTake job core lease → OneEach core.leases → OneEach (lease ∷ core.leases)
 one_take job core lease m h = (not_false (has_driver lease.driver core.leases) m.driver_is_idle, h)
 
--- each entry keeps them apart
-pub apart_after : (job : Job) (core : Core) (entry : Entry) → IsAllowed job core entry → Apart core.leases → Apart (after job core entry).leases
-apart_after job core entry m h = leases_keep job (λ leases. Apart leases) (differ-filter (λ lease. lease.replica)) (apart_take job) core entry m h
+-- each entry keeps them so
+pub one-after : (job : Job) (core : Core) (entry : Entry) → IsAllowed job core entry → OneEach core.leases → OneEach (after job core entry).leases
+one-after job core entry m h = leases_keep job (λ leases. OneEach leases) (differ-filter (λ lease. lease.driver)) (one_take job) core entry m h
 
--- in a legal journal no two leases are of one replica
-pub leases_apart : (job : Job) (journal : List Entry) → Legal job journal → Apart (replay job journal).leases
-unfolding opening_core
-leases_apart job journal legal = legal-keeps job (λ core. Apart core.leases) (apart_after job) (opening_core job) journal legal tt
-
--- nor of one driver
+-- in a legal journal no two leases are of one driver
 pub one_each : (job : Job) (journal : List Entry) → Legal job journal → OneEach (replay job journal).leases
 unfolding opening_core
-one_each job journal legal = legal-keeps job (λ core. OneEach core.leases) (leases_keep job (λ leases. OneEach leases) (differ-filter (λ lease. lease.driver)) (one_take job)) (opening_core job) journal legal tt
+one_each job journal legal = legal-keeps job (λ core. OneEach core.leases) (one-after job) (opening_core job) journal legal tt
 
 -- a lease that is out is of its replica
 pub out_has : (lease : Lease) (leases : List Lease) → list_any (is_lease lease) leases ≡ true → has_replica lease.replica leases ≡ true
@@ -230,22 +291,6 @@ others_stay own other (lease ∷ leases) ne = by (is_lease own lease) refl (othe
         rest ∙ sym (ap (λ (b : Bool). b || has_replica other leases) other_is)
     by false is rest = ap (λ (b : Bool). (lease.replica == other) || b) rest
 
--- what may be lent is at home
-pub record AtHome (core : Core) (replica : ℕ) : Type 0 where
-  pub home : is_home core replica ≡ true
-  pub value : Replica
-  pub there : slice_get core.replicas replica ≡ Some value
-
-pub lendable_there : (core : Core) (replica thread : ℕ) → is_lendable core replica thread ≡ true → AtHome core replica
-lendable_there core replica thread e =
-    let p = and_parts (is_home core replica && lives_on core.kernel thread) (option_map_or (is_unstopped thread) (slice_get core.replicas replica) false) (lendable-awake core replica thread e) in
-    let q = and_parts (is_home core replica) (lives_on core.kernel thread) p.0 in
-    some q.0 (slice_get core.replicas replica) refl p.1
-  where
-    some : is_home core replica ≡ true → (o : Option Replica) → slice_get core.replicas replica ≡ o → option_map_or (is_unstopped thread) o false ≡ true → AtHome core replica
-    some home None f g = absurd (true≢false (sym g))
-    some home (Some r) f g = record { home = home; value = r; there = f }
-
 pub fewer : {X : Type 0} (p : X → Bool) (xs : List X) → list_any p xs ≡ true → length (filter (λ x. not (p x)) xs) + 1 ≤ length xs
 fewer p [] e = absurd (true≢false (sym e))
 fewer p (x ∷ xs) e = by (p x) refl (λ later. fewer p xs later)
@@ -253,3 +298,33 @@ fewer p (x ∷ xs) e = by (p x) refl (λ later. fewer p xs later)
     by : (b : Bool) → p x ≡ b → (list_any p xs ≡ true → length (filter (λ x. not (p x)) xs) + 1 ≤ length xs) → length (cond (not b) (x ∷ filter (λ x. not (p x)) xs) (filter (λ x. not (p x)) xs)) + 1 ≤ length (x ∷ xs)
     by true is rest = omega (arith, length-filter_both p (λ x. not (p x)) (λ x. refl) xs)
     by false is rest = let h : length (filter (λ x. not (p x)) xs) + 1 ≤ length xs = rest (sym (ap (λ (b : Bool). b || list_any p xs) is) ∙ e) in omega arith
+
+-- ---- where nothing is lent
+
+module _ (core : Core) (replica thread : ℕ) (none : core.leases ≡ []) where
+  -- no lease has a page
+  untaken : (sharing : Sharing) (page : ℕ) → is_free sharing core replica page ≡ true
+  untaken sharing page = by (is_writable (ranges_in sharing.setup core.kernel) page) (is_taken core replica page) (ap (list_any (λ lease. (lease.replica == replica) && is_lent (core.lent lease.driver) page)) none)
+    where
+      by : (b c : Bool) → c ≡ false → not (b && c) ≡ true
+      by true c e = ap not e
+      by false c e = refl
+
+  -- so all that a lease needs is there, be it of a whole replica or of pages
+  pub offers-none : offers core replica thread ≡ true
+  offers-none = by core.sharing
+    where
+      home : is_home core replica ≡ true
+      home = ap (λ (leases : List Lease). not (list_any (λ lease. lease.replica == replica) leases)) none
+
+      opens : (sharing : Sharing) → is_open sharing core replica thread ≡ true
+      opens sharing = and_from _ _ (ap (λ (leases : List Lease). not (list_any (bars core replica thread) leases)) none)
+          (all-from (is_free sharing core replica) (take 2 (core.wishes replica thread)) (λ i page e. untaken sharing page))
+
+      either : (b one other : Bool) → one ≡ true → other ≡ true → cond b one other ≡ true
+      either true one other e f = e
+      either false one other e f = f
+
+      by : (sharing : Option Sharing) → offers_by sharing core replica thread ≡ true
+      by None = home
+      by (Some sharing) = either (shares sharing core replica thread) _ _ (opens sharing) home

@@ -22,10 +22,14 @@ pub mod Sound
 -- the ranges that were given lie where they may
 pub mod Mapped
 -- ---- what every legal journal keeps, and what comes next
+-- a run of a lease of some pages
+pub mod PageRuns
 -- what each entry keeps of the core
 pub mod Ordered
 -- no two leases that are out are of one replica, nor of one driver
 pub mod Leases
+-- which leases can be out at once
+pub mod Beside
 -- no thread has retired more than a quantum for each entry
 pub mod Counted
 -- how a legal journal ends

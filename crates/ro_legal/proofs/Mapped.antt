@@ -18,7 +18,7 @@ use Rattle.ro_replica.specs.Runs.{RanTo}
 use Rattle.ro_plain.specs.Machine.{setup_of}
 use Rattle.ro_legal.specs.Core.{Job, Core, opening_core}
 use Rattle.ro_legal.specs.Event.{call_event, event_of, with_recovered}
-use Rattle.ro_legal.specs.Legal.{core_after_put, core_after_event, lease_run, event_with, after, replay_from, replay}
+use Rattle.ro_legal.specs.Legal.{core_after_put, core_after_part, core_after_event, lease_run, event_with, after, replay_from, replay}
 
 -- a call, which may be served with what a vote found
 call-mapped : (setup : Setup) (kernel : Kernel) (thread : ℕ) (call put : Call) (payload : List ℕ) → IsMapped kernel.given → IsMapped (call_event kernel thread call payload (serve setup kernel thread put)).kernel.given
@@ -44,6 +44,11 @@ module _ (job : Job) (core : Core) (mapped : IsMapped core.kernel.given) where
   put-mapped lease count None = mapped
   put-mapped lease count (Some ran) = mapped
 
+  -- a part
+  part-mapped : (lease : Lease) (o : Option RanTo) → IsMapped (core_after_part job core lease o).kernel.given
+  part-mapped lease None = mapped
+  part-mapped lease (Some ran) = mapped
+
   -- a vote
   vote-mapped : (thread count : ℕ) (replicas : List Replica) (o : Option Replica) → IsMapped (core_after_event core thread count replicas (option_and_then (λ winner. option_map (event_with job core thread winner) (stop_of winner thread)) o)).kernel.given
   vote-mapped thread count replicas None = mapped
@@ -63,7 +68,7 @@ module _ (job : Job) (core : Core) (mapped : IsMapped core.kernel.given) where
   unfolding after
   after-mapped (Take lease) = mapped
   after-mapped (Put lease count hit) = put-mapped lease count (lease_run job core lease count)
-  after-mapped (Part lease count hit) = mapped
+  after-mapped (Part lease count hit) = part-mapped lease (lease_run job core lease count)
   after-mapped (Vote thread count won lost did) = vote-mapped thread count (with_recovered won (numbers lost) core.replicas) (slice_get core.replicas won)
   after-mapped (Free thread) = free-mapped thread (core.blocked thread)
   after-mapped (Scrub won lost) = mapped

@@ -13,12 +13,12 @@ use Rattle.ro_settings.specs.declared.Mode.TheVariants.{Voted, Cooperative}
 use Rattle.ro_replica.specs.Replica.{Replica}
 use Rattle.ro_peer.specs.Peers.{Peer}
 use Rattle.ro_legal.specs.declared.actions.Action.TheVariants.{Vote as DoVote, Free as DoFree, Scrub as DoScrub, Lend}
-use Rattle.ro_legal.specs.Core.{Job, Core, is_going, is_idle, is_lease}
+use Rattle.ro_legal.specs.Core.{Job, Core, is_going, is_idle}
 use Rattle.ro_legal.specs.Core as voted_core
 use Rattle.ro_legal.specs.Event.{Event, with_recovered}
 use Rattle.ro_legal.specs.Laws.{Names}
 use Rattle.ro_legal.specs.Sound.{IsOver}
-use Rattle.ro_legal.specs.Legal.{MayTake, EndsFree, EndsAlone, cut_output, lease_run, core_after_event, event_in, freed_event}
+use Rattle.ro_legal.specs.Legal.{MayTake, EndsFree, cut_output, lease_run, core_after_take, core_after_event, event_in, freed_event}
 use Rattle.ro_legal.specs.Legal as votes
 use Rattle.ro_legal.specs.Action.{next_action}
 use Rattle.ro_legal.specs.Cooperative as together
@@ -31,8 +31,8 @@ use Rattle.ro_legal.proofs.Lasts.{last_from, ended_cut}
 use Rattle.ro_legal.proofs.TogetherLasts.{last-from, ended-cut}
 use Rattle.ro_legal.proofs.Ordered.{ordered}
 use Rattle.ro_legal.proofs.Together.{keeps-replicas}
-use Rattle.ro_legal.proofs.Leases.{put-only, event_leases}
-use Rattle.ro_legal.proofs.Lasting.{put_idles, idle_after, all_idle}
+use Rattle.ro_legal.proofs.Leases.{put-only, part-only, event_leases}
+use Rattle.ro_legal.proofs.Lasting.{put_idles, part-idles as voted-part-idles, idle_after, all_idle}
 use Rattle.ro_legal.proofs.TogetherLeases.{all-idle, put-idles, part-idles, idle-after, event-leases}
 
 -- what is the same in both modes
@@ -151,7 +151,7 @@ put-idle Voted job journal lease count hit legal = put_idles job journal lease c
 put-idle Cooperative job journal lease count hit legal = put-idles job journal lease count hit legal
 
 pub part-idle : (mode : Mode) (job : Job) (journal : List Entry) (lease : Lease) (count hit : ℕ) → Legal mode job (journal ++ Part lease count hit ∷ []) → is_idle (replay mode job (journal ++ Part lease count hit ∷ [])) lease.driver ≡ true
-part-idle Voted job journal lease count hit legal = absurd (legal-parts Voted job journal (Part lease count hit) legal).1
+part-idle Voted job journal lease count hit legal = voted-part-idles job journal lease count hit legal
 part-idle Cooperative job journal lease count hit legal = part-idles job journal lease count hit legal
 
 -- an entry that doesn't name the driver lends it nothing
@@ -175,7 +175,7 @@ take-next Voted job core lease next = next
 take-next Cooperative job core lease next = next
 
 -- what the core is after one
-pub after-take : (mode : Mode) (job : Job) (core : Core) (lease : Lease) → after mode job core (Take lease) ≡ record core { leases = lease ∷ core.leases; wrote = 0 }
+pub after-take : (mode : Mode) (job : Job) (core : Core) (lease : Lease) → after mode job core (Take lease) ≡ core_after_take core lease
 unfolding votes.after together.after
 after-take Voted job core lease = refl
 after-take Cooperative job core lease = refl
@@ -310,7 +310,7 @@ unfolding votes.after together.after
 output-grows mode job core (End how) other = absurd (other how refl)
 output-grows Voted job core (Take lease) other = omega arith
 output-grows Voted job core (Put lease count hit) other = let same = ap (λ (c : Core). c.output) (put-only job core lease count (lease_run job core lease count)) in let long = ap length same in omega arith
-output-grows Voted job core (Part lease count hit) other = omega arith
+output-grows Voted job core (Part lease count hit) other = let same = ap (λ (c : Core). c.output) (part-only job core lease (lease_run job core lease count)) in let long = ap length same in omega arith
 output-grows Voted job core (Vote thread count won lost did) other = event-grows core thread count (with_recovered won (numbers lost) core.replicas) (event_in job core thread won)
 output-grows Voted job core (Free thread) other = event-grows core thread 0 core.replicas (freed_event job core thread)
 output-grows Voted job core (Scrub won lost) other = omega arith

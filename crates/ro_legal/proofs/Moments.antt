@@ -20,15 +20,16 @@ use Rattle.ro_plain.specs.Machine.{setup_of}
 use Rattle.ro_plain.proofs.Calls.{some-injective}
 use Rattle.ro_legal.specs.Core.{Job, Core, opening_core}
 use Rattle.ro_legal.specs.Event.{Event, call_event, with_copy, with_recovered}
-use Rattle.ro_legal.specs.Legal.{arrival, arrived, core_after_put, core_after_event, after, IsAllowed, MayPut, LegalFrom, Legal, replay_from, replay}
+use Rattle.ro_event.specs.declared.stops.Stop.{Stop}
+use Rattle.ro_legal.specs.Legal.{stopped, core_after_lease, core_after_event, after, IsAllowed, Returns, LegalFrom, Legal, replay_from, replay}
 use Rattle.ro_legal.specs.Laws.{is_run, count_of, hit_in, has_run, retired, hits, has_come}
 use Rattle.ro_legal.specs.Sound.{IsOrdered}
 use Rattle.ro_legal.proofs.Lists.{ChangedFrom, unchanged, changed_here, get-changed, MappedFrom, get-map, get-append-cases, get-set-cases}
 use Rattle.ro_legal.proofs.Copies.{AfterCopy, not_lost, is_copy, after-copy, still-there}
 use Rattle.ro_legal.proofs.Effects.{backed_after, threads_after}
-use Rattle.ro_legal.proofs.Leases.{Apart, apart_after}
+use Rattle.ro_legal.proofs.Leases.{put-by, part-by}
 use Rattle.ro_legal.proofs.Ordered.{AreSound, copied-sound, get-opening, one-thread, event-parts, free-parts, scrub-winner, freed-is, ordered-after, ordered-opening}
-use Rattle.ro_legal.proofs.Grants.{LentGo, go-after, go-none, LentThread, lent-thread, lent-meets}
+use Rattle.ro_legal.proofs.Grants.{LentGo, GoesOn, goes-after, goes-opening, LentThread, lent-thread, lent-meets}
 use Rattle.ro_legal.proofs.Retired.{RunMeets, filter-filter, filter-same, length-parts, is_passed, same-bool, not-or}
 
 -- ---- a journal with one entry more
@@ -371,30 +372,50 @@ meets-event job journal entry core thread count replicas event quiet same h numb
 meets-same : (job : Job) (journal : List Entry) (entry : Entry) (core : Core) → ((number : ℕ) → IsQuiet number entry) → AllMeet job journal core → AllMeet job (journal ++ entry ∷ []) core
 meets-same job journal entry core quiet h number r e = meets-quiet job journal entry number r r (quiet number) (same-replica r) (h number r e)
 
-meets-ran : (job : Job) (journal : List Entry) (core : Core) (lease : Lease) (count hit : ℕ) → (may : MayPut job core lease count hit) → LentGo core → AllMeet job journal core
-    → AllMeet job (journal ++ Put lease count hit ∷ []) (core_after_put job core lease count (Some may.ran))
-meets-ran job journal core lease count hit may go h number r e = by (get-set-cases core.replicas lease.replica number (arrived job core.kernel lease.thread count may.ran.replica) r e)
+meets-back : (job : Job) (journal : List Entry) (core : Core) (lease : Lease) (count hit : ℕ) (back : Returns job core lease count hit) → LentGo core → AllMeet job journal core → (stop : Option Stop) (wishes : (replica thread : ℕ) → List ℕ) (misses : (replica thread : ℕ) → ℕ)
+    → AllMeet job (journal ++ Put lease count hit ∷ []) (core_after_lease core lease stop wishes misses back.ran.replica)
+meets-back job journal core lease count hit back go h stop wishes misses number r e = by (get-set-cases core.replicas lease.replica number (stopped lease.thread stop back.ran.replica) r e)
   where
     lent : LentThread core lease.replica lease.thread
-    lent = lent-thread core lease.replica lease.thread (go lease may.out)
+    lent = lent-thread core lease.replica lease.thread (go lease back.out)
 
-    came : Meets job (journal ++ Put lease count hit ∷ []) lease.replica (arrived job core.kernel lease.thread count may.ran.replica)
-    came = meets-put job journal lease count hit lent.lent (arrived job core.kernel lease.thread count may.ran.replica) may.ran lent.went (with_stop (arrival job core.kernel lease.thread count may.ran.replica)) (λ x. refl)
-        lent.in_lent (lent-meets job core lease count may.ran lent may.runs) may.struck refl refl (h lease.replica lent.lent lent.in_core)
+    came : Meets job (journal ++ Put lease count hit ∷ []) lease.replica (stopped lease.thread stop back.ran.replica)
+    came = meets-put job journal lease count hit lent.lent (stopped lease.thread stop back.ran.replica) back.ran lent.went (with_stop stop) (λ x. refl)
+        lent.in_lent (lent-meets job core lease count back.ran lent back.runs) back.struck refl refl (h lease.replica lent.lent lent.in_core)
 
     quiet : number ≢ lease.replica → IsQuiet number (Put lease count hit)
     quiet d = ((λ t. and_left (lease.replica == number) (lease.thread == t) (ne_eqb lease.replica number (λ (k : lease.replica ≡ number). d (sym k)))), ap (λ (b : Bool). cond b hit 0) (ne_eqb lease.replica number (λ (k : lease.replica ≡ number). d (sym k))))
 
-    by : ((number ≢ lease.replica) × (slice_get core.replicas number ≡ Some r)) ⊎ ((number ≡ lease.replica) × (arrived job core.kernel lease.thread count may.ran.replica ≡ r)) → Meets job (journal ++ Put lease count hit ∷ []) number r
+    by : ((number ≢ lease.replica) × (slice_get core.replicas number ≡ Some r)) ⊎ ((number ≡ lease.replica) × (stopped lease.thread stop back.ran.replica ≡ r)) → Meets job (journal ++ Put lease count hit ∷ []) number r
     by (inl f) = meets-quiet job journal (Put lease count hit) number r r (quiet f.0) (same-replica r) (h number r f.1)
     by (inr f) = subst (λ (n : ℕ). Meets job (journal ++ Put lease count hit ∷ []) n r) (sym f.0) (subst (Meets job (journal ++ Put lease count hit ∷ []) lease.replica) f.1 came)
+
+-- a part gives back a run as a put does
+meets-part : (job : Job) (journal : List Entry) (lease : Lease) (count hit number : ℕ) (r : Replica) → Meets job (journal ++ Put lease count hit ∷ []) number r → Meets job (journal ++ Part lease count hit ∷ []) number r
+meets-part job journal lease count hit number r h = record {
+  waiting = h.waiting ∙ filter-same _ _ (λ fault. ap (λ (b : Bool). (fault.replica == number) && not b) (come fault)) job.faults;
+  struck = hits-more journal (Part lease count hit) number ∙ sym (hits-more journal (Put lease count hit) number) ∙ h.struck ∙ ap length (filter-same _ _ (λ fault. ap (λ (b : Bool). (fault.replica == number) && b) (come fault)) job.faults);
+  made = λ place x e. h.made place x e ∙ done number place;
+  unmade = λ place e. sym (ran number place) ∙ h.unmade place e;
+}
+  where
+    ran : (replica thread : ℕ) → has_run (journal ++ Put lease count hit ∷ []) replica thread ≡ has_run (journal ++ Part lease count hit ∷ []) replica thread
+    ran replica thread = has_run-more journal (Put lease count hit) replica thread ∙ sym (has_run-more journal (Part lease count hit) replica thread)
+
+    done : (replica thread : ℕ) → retired (journal ++ Put lease count hit ∷ []) replica thread ≡ retired (journal ++ Part lease count hit ∷ []) replica thread
+    done replica thread = retired-more journal (Put lease count hit) replica thread ∙ sym (retired-more journal (Part lease count hit) replica thread)
+
+    come : (fault : Fault) → has_come (journal ++ Put lease count hit ∷ []) fault ≡ has_come (journal ++ Part lease count hit ∷ []) fault
+    come fault = (λ t. ran fault.replica fault.thread t && nat_le fault.at (done fault.replica fault.thread t))
 
 meets-after : (job : Job) (journal : List Entry) (core : Core) (entry : Entry) → IsAllowed job core entry → IsOrdered job core → LentGo core → AllMeet job journal core → AllMeet job (journal ++ entry ∷ []) (after job core entry)
 unfolding after
 meets-after job journal core (Take lease) may ordered go h = λ number r e. meets-same job journal (Take lease) core (λ n. ((λ t. refl), refl)) h number r e
 meets-after job journal core (Put lease count hit) may ordered go h =
-    subst (λ (o : Option RanTo). AllMeet job (journal ++ Put lease count hit ∷ []) (core_after_put job core lease count o)) (sym may.runs) (meets-ran job journal core lease count hit may go h)
-meets-after job journal core (Part lease count hit) may ordered go h = absurd may
+    put-by job core lease count hit may (AllMeet job (journal ++ Put lease count hit ∷ [])) (meets-back job journal core lease count hit may.returns go h)
+meets-after job journal core (Part lease count hit) may ordered go h =
+    part-by job core lease count hit may (AllMeet job (journal ++ Part lease count hit ∷ []))
+    (λ stop wishes misses number r e. meets-part job journal lease count hit number r (meets-back job journal core lease count hit may.returns go h stop wishes misses number r e))
 meets-after job journal core (Vote thread count won lost did) may ordered go h =
     let e = event-parts job core thread won may.event may.comes in
     subst (λ (o : Option Event). AllMeet job (journal ++ Vote thread count won lost did ∷ []) (core_after_event core thread count (with_recovered won (numbers lost) core.replicas) o)) (sym may.comes)
@@ -410,12 +431,12 @@ meets-after job journal core (Scrub won lost) may ordered go h = λ number r e.
     meets-quiet job journal (Scrub won lost) number s.0 r ((λ t. refl), refl) s.2 (h number s.0 s.1)
 meets-after job journal core (End how) may ordered go h = λ number r e. meets-same job journal (End how) core (λ n. ((λ t. refl), refl)) h number r e
 
-meets-from : (job : Job) (before : List Entry) (core : Core) (journal : List Entry) → LegalFrom job core journal → IsOrdered job core → Apart core.leases → LentGo core → AllMeet job before core → AllMeet job (before ++ journal) (replay_from job core journal)
-meets-from job before core [] legal ordered apart go h = subst (λ (xs : List Entry). AllMeet job xs core) (sym (append-nil before)) h
-meets-from job before core (entry ∷ journal) legal ordered apart go h =
+meets-from : (job : Job) (before : List Entry) (core : Core) (journal : List Entry) → LegalFrom job core journal → IsOrdered job core → GoesOn job core → AllMeet job before core → AllMeet job (before ++ journal) (replay_from job core journal)
+meets-from job before core [] legal ordered go h = subst (λ (xs : List Entry). AllMeet job xs core) (sym (append-nil before)) h
+meets-from job before core (entry ∷ journal) legal ordered go h =
     subst (λ (xs : List Entry). AllMeet job xs (replay_from job core (entry ∷ journal))) (append_assoc before (entry ∷ []) journal)
-    (meets-from job (before ++ entry ∷ []) (after job core entry) journal legal.1 (ordered-after job core entry legal.0 ordered) (apart_after job core entry legal.0 apart) (go-after job core entry legal.0 apart go)
-    (meets-after job before core entry legal.0 ordered go h))
+    (meets-from job (before ++ entry ∷ []) (after job core entry) journal legal.1 (ordered-after job core entry legal.0 ordered) (goes-after job core entry legal.0 go)
+    (meets-after job before core entry legal.0 ordered go.goes h))
 
 meets-opening : (job : Job) (number : ℕ) → Meets job [] number (opening_replica job.program.image job.faults number)
 unfolding opening_replica
@@ -441,5 +462,5 @@ meets-opening job number = record {
 -- what every legal journal says of its replicas
 pub all-meet : (job : Job) (journal : List Entry) → Legal job journal → (number : ℕ) (replica : Replica) → slice_get (replay job journal).replicas number ≡ Some replica → Meets job journal number replica
 unfolding opening_core
-all-meet job journal legal = meets-from job [] (opening_core job) journal legal (ordered-opening job) tt (go-none (opening_core job) refl)
+all-meet job journal legal = meets-from job [] (opening_core job) journal legal (ordered-opening job) (goes-opening job)
     (λ number r e. subst (Meets job [] number) (get-opening job job.settings.replicas number r e) (meets-opening job number))

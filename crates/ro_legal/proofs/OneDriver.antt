@@ -10,7 +10,7 @@ use Rattle.ro_replica.specs.Runs.{RanTo}
 use Rattle.ro_journal.specs.declared.Lease.{Lease}
 use Rattle.ro_legal.specs.Core.{Job, Core, opening_core, is_lease, is_out}
 use Rattle.ro_legal.specs.Event.{with_recovered}
-use Rattle.ro_legal.specs.Legal.{core_after_put, event_in, freed_event, after, MayTake, MayPut, LegalFrom, Legal, replay_from, replay}
+use Rattle.ro_legal.specs.Legal.{core_after_take, core_after_put, core_after_part, event_in, freed_event, after, MayTake, MayPut, MayPart, LegalFrom, Legal, replay_from, replay}
 use Rattle.ro_legal.specs.Sound.{IsOrdered}
 use Rattle.ro_legal.proofs.Leases.{same-lease, event_leases}
 use Rattle.ro_legal.proofs.Ordered.{ordered-opening, ordered-after, vote-parts, free-parts, scrub-parts, end-alone}
@@ -27,11 +27,11 @@ module _ (job : Job) (one : job.settings.drivers ≡ 1) where
 
   -- the core in which one lease is out
   abbrev pub lent_out : Core → Lease → Core
-  lent_out core lease = record core { leases = lease ∷ []; wrote = 0 }
+  lent_out core lease = record (core_after_take core lease) { leases = lease ∷ [] }
 
   taken : (core : Core) (lease : Lease) → core.leases ≡ [] → after job core (Take lease) ≡ lent_out core lease
   unfolding after
-  taken core lease home = ap (λ (ls : List Lease). record core { leases = lease ∷ ls; wrote = 0 }) home
+  taken core lease home = ap (λ (ls : List Lease). record (core_after_take core lease) { leases = lease ∷ ls }) home
 
   pub still_lent : (core : Core) (lease : Lease) → (lent_out core lease).leases ≡ [] → ⊥
   still_lent core lease e = cc (e)
@@ -43,8 +43,14 @@ module _ (job : Job) (one : job.settings.drivers ≡ 1) where
   put_home : (core : Core) (lease back : Lease) (count hit : ℕ) → MayPut job (lent_out core lease) back count hit → (after job (lent_out core lease) (Put back count hit)).leases ≡ []
   unfolding after
   put_home core lease back count hit m =
-      ap (λ (o : Option RanTo). (core_after_put job (lent_out core lease) back count o).leases) m.runs
-      ∙ ap (λ (b : Bool). cond (not b) (lease ∷ []) []) (its_own core lease back m.out)
+      ap (λ (o : Option RanTo). (core_after_put job (lent_out core lease) back count o).leases) m.returns.runs
+      ∙ ap (λ (b : Bool). cond (not b) (lease ∷ []) []) (its_own core lease back m.returns.out)
+
+  part_home : (core : Core) (lease back : Lease) (count hit : ℕ) → MayPart job (lent_out core lease) back count hit → (after job (lent_out core lease) (Part back count hit)).leases ≡ []
+  unfolding after
+  part_home core lease back count hit m =
+      ap (λ (o : Option RanTo). (core_after_part job (lent_out core lease) back o).leases) m.returns.runs
+      ∙ ap (λ (b : Bool). cond (not b) (lease ∷ []) []) (its_own core lease back m.returns.out)
 
   -- another take of the one driver
   pub no_take : (core : Core) (lease other : Lease) → lease.driver ≡ 0 → MayTake job (lent_out core lease) other → ⊥
@@ -79,8 +85,13 @@ module _ (job : Job) (one : job.settings.drivers ≡ 1) where
       let zero_is = first core lease legal.0 in
       let o' = ordered-after job core (Take lease) legal.0 o in
       let home' : (after job (after job core (Take lease)) (Put back n k)).leases ≡ [] = ap (λ (c : Core). (after job c (Put back n k)).leases) (taken core lease home) ∙ put_home core lease back n k m in
-      (zero_is, ap (λ (l : Lease). l.driver) (sym (same-lease back lease (its_own core lease back m.out))) ∙ zero_is, turns_from (after job (after job core (Take lease)) (Put back n k)) js (ordered-after job (after job core (Take lease)) (Put back n k) legal.1.0 o') legal.1.1 home' end)
-  turns_from core (Take lease ∷ Part back n k ∷ js) o legal home end = absurd legal.1.0
+      (zero_is, ap (λ (l : Lease). l.driver) (sym (same-lease back lease (its_own core lease back m.returns.out))) ∙ zero_is, turns_from (after job (after job core (Take lease)) (Put back n k)) js (ordered-after job (after job core (Take lease)) (Put back n k) legal.1.0 o') legal.1.1 home' end)
+  turns_from core (Take lease ∷ Part back n k ∷ js) o legal home end =
+      let m : MayPart job (lent_out core lease) back n k = subst (λ (c : Core). MayPart job c back n k) (taken core lease home) legal.1.0 in
+      let zero_is = first core lease legal.0 in
+      let o' = ordered-after job core (Take lease) legal.0 o in
+      let home' : (after job (after job core (Take lease)) (Part back n k)).leases ≡ [] = ap (λ (c : Core). (after job c (Part back n k)).leases) (taken core lease home) ∙ part_home core lease back n k m in
+      (zero_is, ap (λ (l : Lease). l.driver) (sym (same-lease back lease (its_own core lease back m.returns.out))) ∙ zero_is, turns_from (after job (after job core (Take lease)) (Part back n k)) js (ordered-after job (after job core (Take lease)) (Part back n k) legal.1.0 o') legal.1.1 home' end)
   turns_from core (Take lease ∷ Vote v n w l i ∷ js) o legal home end =
       still_lent core lease (sym (ap (λ (c : Core). c.leases) (taken core lease home)) ∙ (vote-parts (after job core (Take lease)) v legal.1.0.may).alone)
   turns_from core (Take lease ∷ Free v ∷ js) o legal home end =
@@ -90,8 +101,9 @@ module _ (job : Job) (one : job.settings.drivers ≡ 1) where
   turns_from core (Take lease ∷ End how ∷ js) o legal home end =
       still_lent core lease (sym (ap (λ (c : Core). c.leases) (taken core lease home)) ∙ end-alone job (after job core (Take lease)) how legal.1.0.1 (ordered-after job core (Take lease) legal.0 o))
   turns_from core (Put lease n k ∷ js) o legal home end =
-      true≢false (sym legal.0.out ∙ ap (list_any (is_lease lease)) home)
-  turns_from core (Part lease n k ∷ js) o legal home end = absurd legal.0
+      true≢false (sym legal.0.returns.out ∙ ap (list_any (is_lease lease)) home)
+  turns_from core (Part lease n k ∷ js) o legal home end =
+      true≢false (sym legal.0.returns.out ∙ ap (list_any (is_lease lease)) home)
   turns_from core (Vote t n w l i ∷ js) o legal home end =
       turns_from (after job core (Vote t n w l i)) js (ordered-after job core (Vote t n w l i) legal.0 o) legal.1 (voted_home core t n w l i home) end
   turns_from core (Free t ∷ js) o legal home end =

@@ -35,9 +35,12 @@ use Rattle.ro_plain.proofs.Calls.{some-injective}
 use Rattle.ro_journal.specs.declared.Lease.{Lease}
 use Rattle.ro_legal.specs.Core.{Job, Core, opening_replicas, opening_core, is_going, nothing_lent, may_vote, may_free}
 use Rattle.ro_legal.specs.Event.{Event, call_event, with_copy, with_recovered, core_after}
-use Rattle.ro_legal.specs.Legal.{lease_run, arrived, arrival, core_after_put, event_with, event_in, freed_event, core_after_event, after, IsAllowed, MayTake, MayPut, MayVote, MayFree, may_scrub, MayScrub, MayEnd, due, alone, for_vote, for_free, for_scrub, Legal, replay}
+use Rattle.ro_legal.specs.Parts.{run_with}
+use Rattle.ro_legal.specs.Legal.{lease_run, stopped, core_after_lease, event_with, event_in, freed_event, core_after_event, after, IsAllowed, MayTake, Returns, MayPut, MayPart, MayVote, MayFree, may_scrub, MayScrub, MayEnd, due, alone, for_vote, for_free, for_scrub, Legal, replay}
 use Rattle.ro_legal.specs.Sound.{IsSound, IsOrdered}
 use Rattle.ro_legal.proofs.Lists.{get-set-cases, listed-filter, MappedFrom, get-map, length-mapped, get-append-cases}
+use Rattle.ro_legal.proofs.PageRuns.{run-with-is-run}
+use Rattle.ro_legal.proofs.Leases.{put-by, part-by}
 use Rattle.ro_legal.proofs.Sound.{sound-changed, run-well}
 use Rattle.ro_legal.proofs.Copies.{AfterCopy, not_lost, is_copy, after-copy, length-with-copy, still-there, sound-recovered}
 use Rattle.ro_legal.proofs.Effects.{backed_after, sound-applied}
@@ -83,46 +86,49 @@ pub record PutParts (job : Job) (core : Core) (lease : Lease) (count : ℕ) (ran
 
 pub put-parts : (job : Job) (core : Core) (lease : Lease) (count : ℕ) (ran : RanTo) → lease_run job core lease count ≡ Some ran → PutParts job core lease count ran
 put-parts job core lease count ran e =
-    option_and_then_some (λ r. run_of (layout_in job.program core.kernel) job.settings.watchdog count r lease.thread) (slice_get core.replicas lease.replica) ran e (λ lent there runs. record { lent = lent; there = there; runs = runs })
+    option_and_then_some (λ r. run_with (layout_in job.program core.kernel) job.settings.watchdog (core.lent lease.driver) count r lease.thread) (slice_get core.replicas lease.replica) ran e
+    (λ lent there runs. record { lent = lent; there = there; runs = run-with-is-run (layout_in job.program core.kernel) job.settings.watchdog (core.lent lease.driver) count lent lease.thread ran runs })
 
 -- no lease is left where none was
 pub none-left : (p : Lease → Bool) (leases : List Lease) → leases ≡ [] → filter p leases ≡ []
 none-left p leases e = ap (filter p) e
 
-ordered-ran : (job : Job) (core : Core) (lease : Lease) (count hit : ℕ) (may : MayPut job core lease count hit) → IsOrdered job core → IsOrdered job (core_after_put job core lease count (Some may.ran))
-ordered-ran job core lease count hit may h = record {
-  replica_count = length-set core.replicas lease.replica _ ∙ h.replica_count;
-  no_sides = h.no_sides;
-  backed = h.backed;
-  sound = λ number r e. by number r (get-set-cases core.replicas lease.replica number (arrived job core.kernel lease.thread count may.ran.replica) r e);
-  some_life = h.some_life;
-  few_lives = h.few_lives;
-  within_limit = h.within_limit;
-  blocked_live = h.blocked_live;
-  waits_begun = h.waits_begun;
-  due_alone = λ how e. none-left _ core.leases (h.due_alone how e);
-  due_over = h.due_over;
-  wrote_alone = λ (some : 0 < 0). absurd (omega arith);
-}
-  where
-    parts : PutParts job core lease count may.ran
-    parts = put-parts job core lease count may.ran may.runs
+module _ (job : Job) (core : Core) (lease : Lease) (count hit : ℕ) (back : Returns job core lease count hit) (h : IsOrdered job core) (stop : Option Stop) (wishes : (replica thread : ℕ) → List ℕ) (misses : (replica thread : ℕ) → ℕ) where
+  parts : PutParts job core lease count back.ran
+  parts = put-parts job core lease count back.ran back.runs
 
-    new : Core
-    new = core_after_put job core lease count (Some may.ran)
+  abbrev behind : Core
+  behind = core_after_lease core lease stop wishes misses back.ran.replica
 
-    came : IsSound job core h.backed lease.replica (arrived job core.kernel lease.thread count may.ran.replica)
-    came = sound-changed job core h.backed lease.replica may.ran.replica (with_stop (arrival job core.kernel lease.thread count may.ran.replica)) lease.thread (λ x k. k)
-        (run-well job core h.backed lease.replica (layout_in job.program core.kernel) count lease.thread parts.lent may.ran parts.runs (h.sound lease.replica parts.lent parts.there)).sound
+  came : IsSound job core h.backed lease.replica (stopped lease.thread stop back.ran.replica)
+  came = sound-changed job core h.backed lease.replica back.ran.replica (with_stop stop) lease.thread (λ x k. k)
+      (run-well job core h.backed lease.replica (layout_in job.program core.kernel) count lease.thread parts.lent back.ran parts.runs (h.sound lease.replica parts.lent parts.there)).sound
 
-    by : (number : ℕ) (r : Replica) → ((number ≢ lease.replica) × (slice_get core.replicas number ≡ Some r)) ⊎ ((number ≡ lease.replica) × (arrived job core.kernel lease.thread count may.ran.replica ≡ r)) → IsSound job new h.backed number r
-    by number r (inl e) = sound-with job core new h.backed number r refl (h.sound number r e.1)
-    by number r (inr e) = subst (λ (n : ℕ). IsSound job new h.backed n r) (sym e.0) (subst (IsSound job new h.backed lease.replica) e.1 (sound-with job core new h.backed lease.replica (arrived job core.kernel lease.thread count may.ran.replica) refl came))
+  by : (number : ℕ) (r : Replica) → ((number ≢ lease.replica) × (slice_get core.replicas number ≡ Some r)) ⊎ ((number ≡ lease.replica) × (stopped lease.thread stop back.ran.replica ≡ r)) → IsSound job behind h.backed number r
+  by number r (inl e) = sound-with job core behind h.backed number r refl (h.sound number r e.1)
+  by number r (inr e) = subst (λ (n : ℕ). IsSound job behind h.backed n r) (sym e.0) (subst (IsSound job behind h.backed lease.replica) e.1 (sound-with job core behind h.backed lease.replica (stopped lease.thread stop back.ran.replica) refl came))
+
+  ordered-back : IsOrdered job (core_after_lease core lease stop wishes misses back.ran.replica)
+  ordered-back = record {
+    replica_count = length-set core.replicas lease.replica _ ∙ h.replica_count;
+    no_sides = h.no_sides;
+    backed = h.backed;
+    sound = λ number r e. by number r (get-set-cases core.replicas lease.replica number (stopped lease.thread stop back.ran.replica) r e);
+    some_life = h.some_life;
+    few_lives = h.few_lives;
+    within_limit = h.within_limit;
+    blocked_live = h.blocked_live;
+    waits_begun = h.waits_begun;
+    due_alone = λ how e. none-left _ core.leases (h.due_alone how e);
+    due_over = h.due_over;
+    wrote_alone = λ (some : 0 < 0). absurd (omega arith);
+  }
 
 ordered-put : (job : Job) (core : Core) (lease : Lease) (count hit : ℕ) → MayPut job core lease count hit → IsOrdered job core → IsOrdered job (after job core (Put lease count hit))
-unfolding after
-ordered-put job core lease count hit may h =
-    subst (λ (o : Option RanTo). IsOrdered job (core_after_put job core lease count o)) (sym may.runs) (ordered-ran job core lease count hit may h)
+ordered-put job core lease count hit may h = put-by job core lease count hit may (IsOrdered job) (ordered-back job core lease count hit may.returns h)
+
+ordered-part : (job : Job) (core : Core) (lease : Lease) (count hit : ℕ) → MayPart job core lease count hit → IsOrdered job core → IsOrdered job (after job core (Part lease count hit))
+ordered-part job core lease count hit may h = part-by job core lease count hit may (IsOrdered job) (ordered-back job core lease count hit may.returns h)
 
 -- ---- an event
 
@@ -398,7 +404,7 @@ ordered-opening job = record {
 pub ordered-after : (job : Job) (core : Core) (entry : Entry) → IsAllowed job core entry → IsOrdered job core → IsOrdered job (after job core entry)
 ordered-after job core (Take lease) may h = ordered-take job core lease may h
 ordered-after job core (Put lease count hit) may h = ordered-put job core lease count hit may h
-ordered-after job core (Part lease count hit) may h = absurd may
+ordered-after job core (Part lease count hit) may h = ordered-part job core lease count hit may h
 ordered-after job core (Vote thread count won lost did) may h = ordered-vote job core thread count won lost did may h
 ordered-after job core (Free thread) may h = ordered-free job core thread may h
 ordered-after job core (Scrub won lost) may h = ordered-scrub job core won lost may h

@@ -9,7 +9,7 @@ use Rattle.ro_replica.specs.Replica.{Replica}
 use Rattle.ro_legal.specs.Core.{Job, Core, opening_core}
 use Rattle.ro_legal.specs.Event.{Event, with_recovered}
 use Rattle.ro_legal.specs.Legal.{core_after_event, lease_run, event_in, freed_event, after, IsAllowed, LegalFrom, Legal, replay_from, replay}
-use Rattle.ro_legal.proofs.Leases.{put-only}
+use Rattle.ro_legal.proofs.Leases.{put-only, part-only}
 use Rattle.ro_legal.proofs.Ordered.{going-parts, vote-parts, free-parts, scrub-parts}
 
 event_ended : (core : Core) (thread count : ℕ) (replicas : List Replica) (event : Option Event) → (core_after_event core thread count replicas event).ended ≡ core.ended
@@ -19,8 +19,8 @@ event_ended core thread count replicas (Some event) = refl
 -- nothing is allowed behind an end
 pub ended-none : (job : Job) (core : Core) (entry : Entry) → IsAllowed job core entry → core.ended ≡ None
 ended-none job core (Take lease) may = (going-parts core may.going).1
-ended-none job core (Put lease count hit) may = may.not_ended
-ended-none job core (Part lease count hit) may = absurd may
+ended-none job core (Put lease count hit) may = may.returns.not_ended
+ended-none job core (Part lease count hit) may = may.returns.not_ended
 ended-none job core (Vote thread count won lost did) may = (vote-parts core thread may.may).not_ended
 ended-none job core (Free thread) may = (free-parts job core thread may.may).not_ended
 ended-none job core (Scrub won lost) may = (scrub-parts core may.may).not_ended
@@ -36,7 +36,8 @@ ended_from job core [] e legal = e
 ended_from job core (Take lease ∷ journal) e legal = ended_from job (after job core (Take lease)) journal e legal.1
 ended_from job core (Put lease count hit ∷ journal) e legal =
     ended_from job (after job core (Put lease count hit)) journal (ap (λ (c : Core). c.ended) (put-only job core lease count (lease_run job core lease count)) ∙ e) legal.1
-ended_from job core (Part lease count hit ∷ journal) e legal = absurd legal.0
+ended_from job core (Part lease count hit ∷ journal) e legal =
+    ended_from job (after job core (Part lease count hit)) journal (ap (λ (c : Core). c.ended) (part-only job core lease (lease_run job core lease count)) ∙ e) legal.1
 ended_from job core (Vote thread count won lost did ∷ journal) e legal =
     ended_from job (after job core (Vote thread count won lost did)) journal (event_ended core thread count (with_recovered won (numbers lost) core.replicas) (event_in job core thread won) ∙ e) legal.1
 ended_from job core (Free thread ∷ journal) e legal =

@@ -11,7 +11,7 @@ use Rattle.ro_legal.specs.declared.actions.Action.TheVariants.{Vote as DoVote, F
 use Rattle.ro_legal.specs.Core.{Job, Core, is_idle}
 use Rattle.ro_legal.specs.Laws.{Names}
 use Rattle.ro_legal.specs.Sound.{IsOver}
-use Rattle.ro_legal.specs.Legal.{MayTake, cut_output}
+use Rattle.ro_legal.specs.Legal.{MayTake, cut_output, core_after_take}
 use Rattle.ro_legal.specs.Action.{next_action}
 use Rattle.ro_legal.specs.Rules.{IsFit, after, replay, IsAllowed, Legal, DecidesVote, DecidesFree, DecidesScrub, IsNext, EachIsNext}
 use Rattle.ro_legal.proofs.Modes as modes
@@ -86,7 +86,7 @@ take-may job = modes.take-may job.settings.mode job
 pub take-next : (job : Job) (core : Core) (lease : Lease) → next_action job core ≡ Lend lease.replica lease.thread → IsNext job core (Take lease)
 take-next job = modes.take-next job.settings.mode job
 
-pub after-take : (job : Job) (core : Core) (lease : Lease) → after job core (Take lease) ≡ record core { leases = lease ∷ core.leases; wrote = 0 }
+pub after-take : (job : Job) (core : Core) (lease : Lease) → after job core (Take lease) ≡ core_after_take core lease
 after-take job = modes.after-take job.settings.mode job
 
 pub put-next : (job : Job) (core : Core) (lease : Lease) (count hit : ℕ) → IsNext job core (Put lease count hit)

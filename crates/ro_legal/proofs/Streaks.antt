@@ -13,7 +13,7 @@ use Rattle.ro_legal.specs.Event.{Event, with_recovered}
 use Rattle.ro_legal.specs.Legal.{core_after_event, lease_run, after, IsAllowed, LegalFrom, Legal, replay_from, replay}
 use Rattle.ro_legal.specs.Action.{threads_made, next_action}
 use Rattle.ro_legal.specs.Laws.{NothingFor, NotLendable}
-use Rattle.ro_legal.proofs.Leases.{put-only}
+use Rattle.ro_legal.proofs.Leases.{put-only, part-only}
 use Rattle.ro_legal.proofs.Nexts.{last_voted, last_lent}
 use Rattle.ro_legal.proofs.Ordered.{vote-parts, free-parts, freed-is}
 
@@ -23,7 +23,7 @@ entry-streak : (job : Job) (core : Core) (entry : Entry) → IsAllowed job core 
 unfolding after
 entry-streak job core (Take lease) may = refl
 entry-streak job core (Put lease count hit) may = ap (λ (c : Core). c.streak) (put-only job core lease count (lease_run job core lease count))
-entry-streak job core (Part lease count hit) may = absurd may
+entry-streak job core (Part lease count hit) may = ap (λ (c : Core). c.streak) (part-only job core lease (lease_run job core lease count))
 entry-streak job core (Vote thread count won lost did) may =
     ap (λ (o : Option Event). (core_after_event core thread count (with_recovered won (numbers lost) core.replicas) o).streak) may.comes
     ∙ ap (after_event core.streak thread) (vote-parts core thread may.may).unblocked

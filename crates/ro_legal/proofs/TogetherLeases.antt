@@ -19,12 +19,13 @@ use Rattle.ro_legal.specs.Sides.{Parking, Side, peer_with}
 use Rattle.ro_legal.specs.Core.{Job, Core, is_idle, is_lease, is_out}
 use Rattle.ro_legal.specs.Core.{opening_core as opening_voted}
 use Rattle.ro_legal.specs.Event.{Event}
-use Rattle.ro_legal.specs.Legal.{MayTake}
+use Rattle.ro_legal.specs.Legal.{MayTake, core_after_take, stopped}
 use Rattle.ro_legal.specs.Laws.{Names}
 use Rattle.ro_legal.specs.Kept.{KeepsReplicas, HasPeer}
-use Rattle.ro_legal.specs.Cooperative.{opening_core, lease_gets, arrival, parking_of, side_after, stopped, core_after_lease, core_after_put, core_after_part, lease_run, voted_stop, voted_event, freed_event, core_after_event, after, MayEnd, due, alone, for_vote, for_free, IsAllowed, Legal, replay}
+use Rattle.ro_legal.specs.Cooperative.{opening_core, lease_gets, arrival, parking_of, side_after, core_after_lease, core_after_put, core_after_part, lease_run, voted_stop, voted_event, freed_event, core_after_event, after, MayEnd, due, alone, for_vote, for_free, IsAllowed, Legal, replay_from, replay}
 use Rattle.ro_legal.proofs.Lists.{changed-other}
 use Rattle.ro_legal.proofs.Leases.{has_driver, has-filter, not_false, Apart, OneEach, same-lease, differ-filter, gone_number, apart_take, one_take}
+use Rattle.ro_legal.proofs.Beside.{LendsWhole, whole-take}
 use Rattle.ro_legal.proofs.Lasting.{none_found, found_in_rest, other_replica, AreBelow, below-filter, none_left}
 use Rattle.ro_legal.proofs.Ordered.{none-lent-is, vote-parts, free-parts}
 use Rattle.ro_legal.proofs.Together.{keeps-replicas}
@@ -39,29 +40,70 @@ event-leases job core thread stop (Some event) = refl
 
 -- what fewer leases keep, and a take keeps, each entry keeps
 leases-keep : (job : Job) (Q : List Lease → Type 0) → ((p : Lease → Bool) (leases : List Lease) → Q leases → Q (filter p leases))
-    → ((core : Core) (lease : Lease) → MayTake job core lease → Q core.leases → Q (lease ∷ core.leases))
-    → (core : Core) (entry : Entry) → IsAllowed job core entry → Q core.leases → Q (after job core entry).leases
+    → (core : Core) → ((lease : Lease) → MayTake job core lease → Q core.leases → Q (lease ∷ core.leases))
+    → (entry : Entry) → IsAllowed job core entry → Q core.leases → Q (after job core entry).leases
 unfolding after
-leases-keep job Q fewer takes core (Take lease) m h = takes core lease m h
-leases-keep job Q fewer takes core (Put lease count hit) m h =
+leases-keep job Q fewer core takes (Take lease) m h = takes lease m h
+leases-keep job Q fewer core takes (Put lease count hit) m h =
     subst (λ (o : Option Peer). Q (core_after_put job core lease count o).leases) (sym m.ran.runs) (fewer (λ other. not (is_lease lease other)) core.leases h)
-leases-keep job Q fewer takes core (Part lease count hit) m h =
+leases-keep job Q fewer core takes (Part lease count hit) m h =
     subst (λ (o : Option Peer). Q (core_after_part job core lease count o).leases) (sym m.ran.runs) (fewer (λ other. not (is_lease lease other)) core.leases h)
-leases-keep job Q fewer takes core (Vote thread count won lost did) m h = subst Q (sym (event-leases job core thread (voted_stop core thread) (voted_event job core thread))) h
-leases-keep job Q fewer takes core (Free thread) m h = subst Q (sym (event-leases job core thread _ (freed_event job core thread))) h
-leases-keep job Q fewer takes core (Scrub won lost) m h = absurd m
-leases-keep job Q fewer takes core (End how) m h = h
+leases-keep job Q fewer core takes (Vote thread count won lost did) m h = subst Q (sym (event-leases job core thread (voted_stop core thread) (voted_event job core thread))) h
+leases-keep job Q fewer core takes (Free thread) m h = subst Q (sym (event-leases job core thread _ (freed_event job core thread))) h
+leases-keep job Q fewer core takes (Scrub won lost) m h = absurd m
+leases-keep job Q fewer core takes (End how) m h = h
 
 -- what fewer leases keep, and a take keeps, holds of those that a legal journal leaves
 leases-kept : (job : Job) (Q : List Lease → Type 0) → ((p : Lease → Bool) (leases : List Lease) → Q leases → Q (filter p leases))
     → ((core : Core) (lease : Lease) → MayTake job core lease → Q core.leases → Q (lease ∷ core.leases))
     → Q [] → (journal : List Entry) → Legal job journal → Q (replay job journal).leases
 unfolding opening_core opening_voted
-leases-kept job Q fewer takes none journal legal = legal-keeps job (λ core. Q core.leases) (leases-keep job Q fewer takes) (opening_core job) journal legal none
+leases-kept job Q fewer takes none journal legal = legal-keeps job (λ core. Q core.leases) (λ core. leases-keep job Q fewer core (takes core)) (opening_core job) journal legal none
 
--- no two leases are of one replica
+-- each is of a whole replica
+whole-put : (job : Job) (core : Core) (lease : Lease) (count : ℕ) (o : Option Peer) → LendsWhole core → LendsWhole (core_after_put job core lease count o)
+whole-put job core lease count None h = h
+whole-put job core lease count (Some peer) h = record { none = h.none; whole = h.whole }
+
+whole-part : (job : Job) (core : Core) (lease : Lease) (count : ℕ) (o : Option Peer) → LendsWhole core → LendsWhole (core_after_part job core lease count o)
+whole-part job core lease count None h = h
+whole-part job core lease count (Some peer) h = record { none = h.none; whole = h.whole }
+
+whole-event : (job : Job) (core : Core) (thread : ℕ) (stop : Option Stop) (event : Option Event) → LendsWhole core → LendsWhole (core_after_event job core thread stop event)
+whole-event job core thread stop None h = h
+whole-event job core thread stop (Some event) h = record { none = h.none; whole = h.whole }
+
+whole-after : (job : Job) (core : Core) (entry : Entry) → LendsWhole core → LendsWhole (after job core entry)
+unfolding after
+whole-after job core (Take lease) h = whole-take core lease h
+whole-after job core (Put lease count hit) h = whole-put job core lease count (lease_run job core lease count) h
+whole-after job core (Part lease count hit) h = whole-part job core lease count (lease_run job core lease count) h
+whole-after job core (Vote thread count won lost did) h = whole-event job core thread (voted_stop core thread) (voted_event job core thread) h
+whole-after job core (Free thread) h = whole-event job core thread _ (freed_event job core thread) h
+whole-after job core (Scrub won lost) h = h
+whole-after job core (End how) h = record { none = h.none; whole = h.whole }
+
+whole-from : (job : Job) (core : Core) (journal : List Entry) → LendsWhole core → LendsWhole (replay_from job core journal)
+whole-from job core [] h = h
+whole-from job core (entry ∷ journal) h = whole-from job (after job core entry) journal (whole-after job core entry h)
+
+whole-opening : (job : Job) → LendsWhole (opening_core job)
+unfolding opening_core opening_voted
+whole-opening job = record { none = refl; whole = λ driver. refl }
+
+pub lends-whole : (job : Job) (journal : List Entry) → LendsWhole (replay job journal)
+lends-whole job journal = whole-from job (opening_core job) journal (whole-opening job)
+
+-- so no two are of one replica
+apart-opening : (job : Job) → Apart (opening_core job).leases
+unfolding opening_core opening_voted
+apart-opening job = tt
+
 leases-apart : (job : Job) (journal : List Entry) → Legal job journal → Apart (replay job journal).leases
-leases-apart job journal legal = leases-kept job (λ leases. Apart leases) (differ-filter (λ lease. lease.replica)) (apart_take job) tt journal legal
+leases-apart job journal legal = (legal-keeps job (λ core. LendsWhole core × Apart core.leases) keeps (opening_core job) journal legal (whole-opening job, apart-opening job)).1
+  where
+    keeps : (core : Core) (entry : Entry) → IsAllowed job core entry → LendsWhole core × Apart core.leases → LendsWhole (after job core entry) × Apart (after job core entry).leases
+    keeps core entry may h = (whole-after job core entry h.0, leases-keep job (λ leases. Apart leases) (differ-filter (λ lease. lease.replica)) core (λ lease m. apart_take job core lease h.0.none m) entry may h.1)
 
 -- nor of one driver
 one-each : (job : Job) (journal : List Entry) → Legal job journal → OneEach (replay job journal).leases
@@ -132,7 +174,7 @@ module _ (job : Job) (core : Core) (driver : ℕ) (lease : Lease) (kernel : Kern
   none-out : core.leases ≡ [] → ⊥
   none-out none = none_found driver lease core.leases none out.held
 
-  out-take : (other : Lease) → other.driver ≢ driver → HasPeer (record core { leases = other ∷ core.leases; wrote = 0 }) driver lease kernel peer
+  out-take : (other : Lease) → other.driver ≢ driver → HasPeer (core_after_take core other) driver lease kernel peer
   out-take other differs = record {
     held = ap (λ (b : Bool). cond b (Some other) (find (λ (l : Lease). l.driver == driver) core.leases)) (ne_eqb other.driver driver differs) ∙ out.held;
     there = out.there;

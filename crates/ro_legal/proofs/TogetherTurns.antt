@@ -15,7 +15,7 @@ use Rattle.ro_journal.specs.declared.Entry.TheVariants.{Take, Put, Part, Vote, F
 use Rattle.ro_peer.specs.Peers.{Peer}
 use Rattle.ro_legal.specs.Core.{Job, Core, is_lease, is_out}
 use Rattle.ro_legal.specs.Core.{opening_core as opening_voted}
-use Rattle.ro_legal.specs.Legal.{MayTake}
+use Rattle.ro_legal.specs.Legal.{MayTake, core_after_take}
 use Rattle.ro_legal.specs.Turns.{TakesTurns}
 use Rattle.ro_legal.specs.Cooperative.{opening_core, core_after_put, core_after_part, voted_stop, voted_event, freed_event, after, MayPut, MayPart, MayEnd, due, alone, for_vote, for_free, LegalFrom, Legal, replay_from, replay}
 use Rattle.ro_legal.proofs.Leases.{same-lease}
@@ -26,7 +26,7 @@ use Rattle.ro_legal.proofs.TogetherLeases.{event-leases}
 module _ (job : Job) (one : job.settings.drivers ≡ 1) where
   taken : (core : Core) (lease : Lease) → core.leases ≡ [] → after job core (Take lease) ≡ lent_out job one core lease
   unfolding after
-  taken core lease home = ap (λ (ls : List Lease). record core { leases = lease ∷ ls; wrote = 0 }) home
+  taken core lease home = ap (λ (ls : List Lease). record (core_after_take core lease) { leases = lease ∷ ls }) home
 
   -- nothing else comes while it is out
   lent-still : (core : Core) (lease : Lease) → core.leases ≡ [] → (after job core (Take lease)).leases ≡ [] → ⊥

@@ -1,6 +1,7 @@
 -- A cooperative run, in which replicas answer the calls on some mutexes by themselves: which entries are allowed in its core,
 -- and the core that each leaves. There are no faults, copies and scrubs. A lease is judged as if whoever asks got the mutex;
 -- what was got is held against the rows of the lock page when it is closed.
+pub use Rattle.ro_legal.specs.Legal.{stopped}
 use Rattle.std.specs.Prelude.{◌≡◌, ◌⊎◌, ℕ, ◌+◌, ◌-◌, ◌<◌, ◌≤◌, max, IsTrue, IsSome, Bool, true, false, not, ◌&&◌, List, [], ◌∷◌, ◌++◌, length, map, replicate, Option, Some, None, is_none, ◌==◌, if◌then◌else◌, slice_get, slice_set}
 use Rattle.std.specs.List.{filter, list_all}
 use Rattle.std.specs.Option.{option_and_then, option_map, option_map_or}
@@ -23,7 +24,7 @@ use Rattle.ro_journal.specs.Plan.{event_steps}
 use Rattle.ro_mutex.specs.Owners.{owner_of}
 use Rattle.ro_kernel.specs.Kernel.{Kernel, released}
 use Rattle.ro_replica.specs.Replica.{Replica, changed_at, stop_of, applied, cancelled}
-use Rattle.ro_replica.specs.Runs.{standing_at, with_stop}
+use Rattle.ro_replica.specs.Runs.{standing_at}
 use Rattle.ro_plain.specs.Machine.{layout_in}
 use Rattle.ro_orders.specs.Turns.{Chosen, is_cooperative}
 use Rattle.ro_orders.specs.Choices.{chosen_of}
@@ -36,7 +37,7 @@ use Rattle.ro_legal.specs.Core.{Job, Core, is_lease, is_out, may_vote, may_free,
 use Rattle.ro_legal.specs.Core.{opening_core as opening_voted}
 use Rattle.ro_legal.specs.Event.{Event}
 use Rattle.ro_legal.specs.Streaks.{after_event}
-use Rattle.ro_legal.specs.Legal.{MayTake, EndsAlone, EndsFree, event_in, freed_event as freed_in, since_in, cut_output}
+use Rattle.ro_legal.specs.Legal.{MayTake, EndsAlone, EndsFree, core_after_take, event_in, freed_event as freed_in, since_in, cut_output}
 
 unfoldable pub opening_core : Job → Core
 opening_core job = record (opening_voted job) { sides = replicate job.settings.replicas opening_side }
@@ -90,10 +91,6 @@ done_in replica thread = option_map_or (λ t. t.done) (slice_get replica.threads
 abbrev pub most_done : List Replica → (thread : ℕ) → ℕ
 most_done [] thread = 0
 most_done (replica ∷ replicas) thread = max (done_in replica thread) (most_done replicas thread)
-
--- the replica, with the thread's stop
-abbrev pub stopped : (thread : ℕ) → Option Stop → Replica → Replica
-stopped thread stop replica = record replica { threads = changed_at (with_stop stop) replica.threads thread }
 
 -- what the replica has beside: what it got more, and where the thread came back
 abbrev pub side_after : (thread : ℕ) → Peer → List Get → Option Parking → Side → Side
@@ -159,6 +156,10 @@ core_after job core thread stop event = record {
   replicas = replicas_after event.effect (entered_by (chosen_of job.program) core.kernel event.kernel stop) core.replicas core.sides;
   sides = map (side_served thread (entered_by (chosen_of job.program) core.kernel event.kernel stop)) core.sides;
   leases = core.leases;
+  sharing = core.sharing;
+  lent = core.lent;
+  wishes = core.wishes;
+  misses = core.misses;
   kernel = event.kernel;
   blocked = λ t. if t == thread then event.blocked else core.blocked t;
   steps = core.steps + event_steps event.did;
@@ -191,7 +192,7 @@ core_after_event job core thread stop (Some event) = core_after job (settled cor
 
 -- the core after an entry
 unfoldable pub after : Job → Core → Entry → Core
-after job core (Take lease) = record core { leases = lease ∷ core.leases; wrote = 0 }
+after job core (Take lease) = core_after_take core lease
 after job core (Put lease count hit) = core_after_put job core lease count (lease_run job core lease count)
 after job core (Part lease count hit) = core_after_part job core lease count (lease_run job core lease count)
 after job core (Vote thread count won lost did) = core_after_event job core thread (voted_stop core thread) (voted_event job core thread)

@@ -1,5 +1,6 @@
 pub mod Streaks
 pub mod Sides
+pub mod Parts
 pub mod Core
 pub mod Event
 pub mod Legal

@@ -12,15 +12,17 @@ ghost use Rattle.ro_journal.specs.declared.Entry.TheVariants.{Put, Part, End};
 ghost use Rattle.ro_journal.specs.declared.How.{How};
 ghost use Rattle.ro_legal.specs.declared.actions.Action.TheVariants as act;
 ghost use Rattle.ro_journal.specs.declared.Lease.{Lease};
-ghost use Rattle.ro_legal.specs.Core.{Job, Core, opening_core, is_going, is_idle, is_lendable, may_vote, may_free, nothing_lent};
+ghost use Rattle.ro_legal.specs.Parts.{Pages, run_with};
+ghost use Rattle.ro_legal.specs.Core.{Job, Core, opening_core, is_going, is_idle, is_out, is_lendable, may_vote, may_free, nothing_lent};
 ghost use Rattle.ro_legal.specs.Legal.{Legal, MayEnd, may_scrub, replay};
 ghost use Rattle.ro_legal.specs.Streaks.{AreOfThread, votes_in, streak_of};
 ghost use Rattle.ro_legal.specs.Action.{threads_made, next_action, EachIsNext};
-ghost use Rattle.ro_legal.specs.Laws.{NothingFor, NotLendable, Names, HasLease, thread_in, Answers, LeavesBlocked, LetsGoOn, hits, has_come};
+ghost use Rattle.ro_legal.specs.Laws.{NothingFor, NotLendable, Names, HasLease, AreBeside, thread_in, Answers, LeavesBlocked, LetsGoOn, hits, has_come};
 ghost use Rattle.ro_legal.specs.Turns.{TakesTurns};
 ghost use Rattle.ro_legal.specs.Cooperative.{Legal as LegalTogether, replay as replay_together};
 ghost use Rattle.ro_legal.specs.Kept.{KeepsReplicas, KeepsMutexes, HasPeer, NoFurtherAhead};
-ghost use Rattle.ro_kernel.specs.Kernel.{Kernel};
+ghost use Rattle.ro_kernel.specs.Kernel.{Kernel, ranges_in};
+ghost use Rattle.ro_plain.specs.Machine.{setup_of};
 ghost use Rattle.ro_peer.specs.Peers.{Peer};
 
 /// Nothing follows an end.
@@ -75,14 +77,27 @@ pub fn next_may_be_done()
     ensures over { (job : Job) (core : Core) → next_action job core ≡ act.Over → is_some core.ended ≡ true }
 {}
 
-/// A lease lasts: an entry that doesn't name its driver leaves it out, and its replica as it was.
+/// A lease lasts: an entry that doesn't name its driver leaves it out, and what it has of its replica as it was.
 pub fn leases_last()
     ensures { (job : Job) (journal : List Entry) (entry : Entry) → Legal job (journal ++ entry ∷ []) → (driver by : ℕ) → Names by entry → by ≢ driver → (lease : Lease) (replica : Replica) → HasLease (replay job journal) driver lease replica → HasLease (replay job (journal ++ entry ∷ [])) driver lease replica }
 {}
 
-/// A driver holds one lease at the most: behind its put it holds none.
+/// Two leases that are out are of two replicas, or of two threads that were lent pages, of which both have none that may be
+/// written.
+pub fn leases_are_apart()
+    ensures { (job : Job) (journal : List Entry) → Legal job journal → (one other : Lease) → is_out (replay job journal) one ≡ true → is_out (replay job journal) other ≡ true → one ≢ other → AreBeside (ranges_in (setup_of job.program) (replay job journal).kernel) (replay job journal).lent one other }
+{}
+
+/// A driver holds one lease at the most: where its lease came back it holds none.
 pub fn leases_come_back()
-    ensures { (job : Job) (journal : List Entry) (lease : Lease) (count hit : ℕ) → Legal job (journal ++ Put lease count hit ∷ []) → is_idle (replay job (journal ++ Put lease count hit ∷ [])) lease.driver ≡ true }
+    ensures put { (job : Job) (journal : List Entry) (lease : Lease) (count hit : ℕ) → Legal job (journal ++ Put lease count hit ∷ []) → is_idle (replay job (journal ++ Put lease count hit ∷ [])) lease.driver ≡ true }
+    ensures part { (job : Job) (journal : List Entry) (lease : Lease) (count hit : ℕ) → Legal job (journal ++ Part lease count hit ∷ []) → is_idle (replay job (journal ++ Part lease count hit ∷ [])) lease.driver ≡ true }
+{}
+
+/// The run of a lease of some pages is a run of its whole replica, as that is when the lease comes back, in which no fault is
+/// struck.
+pub fn pages_run_as_the_whole()
+    ensures { (layout : Layout) (watchdog count thread : ℕ) (pages : List ℕ) (replica : Replica) (ran : RanTo) → run_with layout watchdog (Pages pages) count replica thread ≡ Some ran → (run_of layout watchdog count replica thread ≡ Some ran) × (ran.hit ≡ 0) }
 {}
 
 /// Where no driver holds a lease, nothing is lent.

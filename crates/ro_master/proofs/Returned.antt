@@ -23,8 +23,8 @@ pub was_out : (mode : Mode) (job : Job) (core : Core) (lease : Lease) (entry : E
 was_out mode job core lease entry (count, hit, is) may = by mode is may
   where
     by : (mode : Mode) → (entry ≡ Put lease count hit) ⊎ (entry ≡ Part lease count hit) → IsAllowed mode job core entry → WasOut core
-    by Voted (inl e) may = let m = subst (IsAllowed Voted job core) e may in record { some = some_out lease core.leases m.out; not_ended = m.not_ended }
-    by Voted (inr e) may = absurd (subst (IsAllowed Voted job core) e may)
+    by Voted (inl e) may = let m = subst (IsAllowed Voted job core) e may in record { some = some_out lease core.leases m.returns.out; not_ended = m.returns.not_ended }
+    by Voted (inr e) may = let m = subst (IsAllowed Voted job core) e may in record { some = some_out lease core.leases m.returns.out; not_ended = m.returns.not_ended }
     by Cooperative (inl e) may = let m = subst (IsAllowed Cooperative job core) e may in record { some = some_out lease core.leases m.ran.out; not_ended = m.ran.not_ended }
     by Cooperative (inr e) may = let m = subst (IsAllowed Cooperative job core) e may in record { some = some_out lease core.leases m.ran.out; not_ended = m.ran.not_ended }
 

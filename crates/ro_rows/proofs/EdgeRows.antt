@@ -15,7 +15,7 @@ use Rattle.ro_exec.specs.Meaning.{meaning}
 use Rattle.ro_exec.specs.Next.{fetch_stop, instruction_stop, next}
 use Rattle.ro_exec.specs.Threads.{first_cpu, made_cpu}
 use Rattle.ro_kernel.specs.Serve.{serve, payload_of}
-use Rattle.ro_kernel.specs.Kernel.{Kernel}
+use Rattle.ro_journal.specs.declared.Lease.{Lease}
 use Rattle.ro_journal.specs.declared.Did.TheVariants.{Served, Blocked}
 use Rattle.ro_journal.specs.declared.How.{How}
 use Rattle.ro_journal.specs.declared.How.TheVariants.{Exit, Deadlock, Differ, NoMajority, Limit, Sink}
@@ -61,13 +61,13 @@ no-stop None e s = let f : false ≡ true = s in cc
 no-stop (Some stop) e s = absurd (let f : false ≡ true = e in cc)
 
 -- a run of so many instructions, fewer than a quantum, that comes to no stop
-no-arrival : (job : Job) (kernel : Kernel) (thread count : ℕ) (o : Option RanTo) (ran : RanTo) → o ≡ Some ran → option_map (λ (r : RanTo). is_none (arrival job kernel thread count r.replica)) o ≡ Some true → count < job.settings.quantum → HasArrived job kernel thread count ran.replica → ⊥
-no-arrival job kernel thread count o ran e f low (inl whole) = omega arith
-no-arrival job kernel thread count o ran e f low (inr g) =
-    no-stop (arrival job kernel thread count ran.replica) (some-injective (sym (ap (option_map (λ (r : RanTo). is_none (arrival job kernel thread count r.replica))) e) ∙ f)) g.1
+no-arrival : (job : Job) (core : Core) (lease : Lease) (count : ℕ) (o : Option RanTo) (ran : RanTo) → o ≡ Some ran → option_map (λ (r : RanTo). is_none (arrival job core.kernel lease.thread count r.replica)) o ≡ Some true → count < job.settings.quantum → HasArrived job core lease count ran.replica → ⊥
+no-arrival job core lease count o ran e f low (inl whole) = omega arith
+no-arrival job core lease count o ran e f low (inr g) =
+    no-stop (arrival job core.kernel lease.thread count ran.replica) (some-injective (sym (ap (option_map (λ (r : RanTo). is_none (arrival job core.kernel lease.thread count r.replica))) e) ∙ f)) g.1
 
 -- how many faults a run struck
-hit-is : (o : Option RanTo) (ran : RanTo) (hit : ℕ) → o ≡ Some ran → option_map (λ (r : RanTo). r.hit) o ≡ Some hit → ran.hit ≡ hit
+pub hit-is : (o : Option RanTo) (ran : RanTo) (hit : ℕ) → o ≡ Some ran → option_map (λ (r : RanTo). r.hit) o ≡ Some hit → ran.hit ≡ hit
 hit-is o ran hit e f = some-injective (sym (ap (option_map (λ (r : RanTo). r.hit)) e) ∙ f)
 
 -- ---- length_row
@@ -113,23 +113,23 @@ take-not-next h = let f : act.Lend 0 0 ≡ act.Lend 1 0 = h in cc
 
 pub put-at-stop : IsAllowed exit_job (replay exit_job (Take (lease_to 0 0 0) ∷ [])) (Put (lease_to 0 0 0) 2 0)
 unfolding opening_core opening_replica struck execute applied cancelled recovered verdict_of event_of after next_action first_cpu made_cpu next fetch_stop instruction_stop instruction_of call_at permits_of alu_of taken_by meaning serve payload_of
-put-at-stop = record { not_ended = refl; out = refl; ran = _; runs = refl; struck = refl; arrives = inr (lit< tt, refl) }
+put-at-stop = record { returns = record { not_ended = refl; out = refl; ran = _; runs = refl; struck = refl }; arrives = inr (lit< tt, refl, refl) }
 
 pub put-early : IsAllowed exit_job (replay exit_job (Take (lease_to 0 0 0) ∷ [])) (Put (lease_to 0 0 0) 1 0) → ⊥
 unfolding opening_core opening_replica struck execute applied cancelled recovered verdict_of event_of after next_action first_cpu made_cpu next fetch_stop instruction_stop instruction_of call_at permits_of alu_of taken_by meaning serve payload_of
-put-early h = no-arrival exit_job (replay exit_job (Take (lease_to 0 0 0) ∷ [])).kernel 0 1 _ h.ran h.runs refl (lit< tt) h.arrives
+put-early h = no-arrival exit_job (replay exit_job (Take (lease_to 0 0 0) ∷ [])) (lease_to 0 0 0) 1 _ h.returns.ran h.returns.runs refl (lit< tt) h.arrives
 
 pub put-late : IsAllowed exit_job (replay exit_job (Take (lease_to 0 0 0) ∷ [])) (Put (lease_to 0 0 0) 3 0) → ⊥
 unfolding opening_core opening_replica struck execute applied cancelled recovered verdict_of event_of after next_action first_cpu made_cpu next fetch_stop instruction_stop instruction_of call_at permits_of alu_of taken_by meaning serve payload_of
-put-late h = let f : None ≡ Some h.ran = h.runs in cc
+put-late h = let f : None ≡ Some h.returns.ran = h.returns.runs in cc
 
 pub put-another : IsAllowed exit_job (replay exit_job (Take (lease_to 0 0 0) ∷ [])) (Put (lease_to 1 0 0) 2 0) → ⊥
 unfolding opening_core opening_replica struck execute applied cancelled recovered verdict_of event_of after next_action first_cpu made_cpu next fetch_stop instruction_stop instruction_of call_at permits_of alu_of taken_by meaning serve payload_of
-put-another h = let f : false ≡ true = h.out in cc
+put-another h = let f : false ≡ true = h.returns.out in cc
 
 pub put-unstruck : IsAllowed exit_job (replay exit_job (Take (lease_to 0 0 0) ∷ [])) (Put (lease_to 0 0 0) 2 1) → ⊥
 unfolding opening_core opening_replica struck execute applied cancelled recovered verdict_of event_of after next_action first_cpu made_cpu next fetch_stop instruction_stop instruction_of call_at permits_of alu_of taken_by meaning serve payload_of
-put-unstruck h = let f : h.ran.hit ≡ 0 = hit-is _ h.ran 0 h.runs refl in let g : h.ran.hit ≡ 1 = h.struck in omega arith
+put-unstruck h = let f : h.returns.ran.hit ≡ 0 = hit-is _ h.returns.ran 0 h.returns.runs refl in let g : h.returns.ran.hit ≡ 1 = h.returns.struck in omega arith
 
 -- ---- differ_row
 

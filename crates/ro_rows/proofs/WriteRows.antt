@@ -29,7 +29,7 @@ use Rattle.ro_rows.specs.Rows.{IdealEnds, decisions, hello_job, failing_journal,
 -- the journal is legal
 pub failing-legal : Legal hello_job failing_journal
 unfolding opening_core opening_replica struck execute applied cancelled recovered verdict_of event_of after next_action first_cpu made_cpu next fetch_stop instruction_stop instruction_of call_at permits_of alu_of taken_by meaning serve payload_of
-failing-legal = (record { going = refl; driver_exists = lit< tt; driver_is_idle = refl; lendable = refl }, (record { not_ended = refl; out = refl; ran = _; runs = refl; struck = refl; arrives = inr (lit< tt, refl) }, (record { going = refl; driver_exists = lit< tt; driver_is_idle = refl; lendable = refl }, (record { not_ended = refl; out = refl; ran = _; runs = refl; struck = refl; arrives = inr (lit< tt, refl) }, (record { going = refl; driver_exists = lit< tt; driver_is_idle = refl; lendable = refl }, (record { not_ended = refl; out = refl; ran = _; runs = refl; struck = refl; arrives = inr (lit< tt, refl) }, (record { may = refl; verdict = refl; count_is = refl; event = _; comes = refl; did_is = refl; fits = lit≤ tt }, ((refl, alone (refl, lit< tt)), tt))))))))
+failing-legal = (record { going = refl; driver_exists = lit< tt; driver_is_idle = refl; lendable = refl }, (record { returns = record { not_ended = refl; out = refl; ran = _; runs = refl; struck = refl }; arrives = inr (lit< tt, refl, refl) }, (record { going = refl; driver_exists = lit< tt; driver_is_idle = refl; lendable = refl }, (record { returns = record { not_ended = refl; out = refl; ran = _; runs = refl; struck = refl }; arrives = inr (lit< tt, refl, refl) }, (record { going = refl; driver_exists = lit< tt; driver_is_idle = refl; lendable = refl }, (record { returns = record { not_ended = refl; out = refl; ran = _; runs = refl; struck = refl }; arrives = inr (lit< tt, refl, refl) }, (record { may = refl; verdict = refl; count_is = refl; event = _; comes = refl; did_is = refl; fits = lit≤ tt }, ((refl, alone (refl, lit< tt)), tt))))))))
 
 -- what the journal writes
 pub failing-output : output_of hello_job failing_journal ≡ 104 ∷ 101 ∷ []

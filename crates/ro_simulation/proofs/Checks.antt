@@ -18,22 +18,30 @@ use Rattle.ro_plain.proofs.Ahead.{is-none-from}
 use Rattle.ro_simulation.proofs.Entries.{or-cases}
 use Rattle.ro_legal.specs.Core.{Job, Core, is_going, is_idle, is_out, is_lendable, may_vote, may_free, views_of}
 use Rattle.ro_legal.specs.Event.{Event}
-use Rattle.ro_legal.specs.Legal.{arrival, lease_run, since_in, event_in, HasArrived, MayPut, MayVote, MayEnd, due, IsAllowed, after, LegalFrom}
-use Rattle.ro_kernel.specs.Kernel.{Kernel}
+use Rattle.ro_legal.specs.Legal.{wanted_by, arrival, lease_run, since_in, event_in, HasArrived, MayPut, MayVote, MayEnd, due, IsAllowed, after, LegalFrom}
+use Rattle.ro_legal.specs.Parts.{Lent, Whole, Pages, is_all, wanted}
+use Rattle.ro_plain.specs.Machine.{layout_in}
+use Rattle.ro_replica.specs.Replica.{Replica}
+use Rattle.ro_legal.proofs.FaultStops.{whole-wants-none}
 
 -- whether a take is allowed
 abbrev pub test_take : Job → Core → Lease → Bool
 test_take job core lease = is_going core && nat_lt lease.driver job.settings.drivers && is_idle core lease.driver && is_lendable core lease.replica lease.thread
 
+-- whether the thread of a lease wants no page, which one of a whole replica never does
+abbrev pub test_unwanting : Job → Core → Lease → Replica → Bool
+test_unwanting job core lease replica = is_all (core.lent lease.driver) || is_none (wanted_by job core lease replica)
+
 -- whether a run struck so many faults and arrived
-abbrev pub test_ran : Job → Kernel → (thread count hit : ℕ) → Option RanTo → Bool
-test_ran job kernel thread count hit None = false
-test_ran job kernel thread count hit (Some ran) =
-    (ran.hit == hit) && ((count == job.settings.quantum) || (nat_lt count job.settings.quantum && is_some (arrival job kernel thread count ran.replica)))
+abbrev pub test_ran : Job → Core → Lease → (count hit : ℕ) → Option RanTo → Bool
+test_ran job core lease count hit None = false
+test_ran job core lease count hit (Some ran) =
+    (ran.hit == hit) && ((count == job.settings.quantum)
+    || (nat_lt count job.settings.quantum && is_some (arrival job core.kernel lease.thread count ran.replica) && test_unwanting job core lease ran.replica))
 
 -- whether a put is allowed
 abbrev pub test_put : Job → Core → Lease → (count hit : ℕ) → Bool
-test_put job core lease count hit = is_none core.ended && is_out core lease && test_ran job core.kernel lease.thread count hit (lease_run job core lease count)
+test_put job core lease count hit = is_none core.ended && is_out core lease && test_ran job core lease count hit (lease_run job core lease count)
 
 -- whether two optional numbers are the same
 abbrev pub same_number : Option ℕ → Option ℕ → Bool
@@ -123,16 +131,24 @@ verdict-is : (v : Verdict) (won : ℕ) (lost : List ℕ) → test_verdict v won 
 verdict-is Split won lost e = absurd (false≢true e)
 verdict-is (Won w l) won lost e = let p = and_parts _ _ e in let a = eqb-true w won p.0 in let b = same-list l lost p.1 in λ i. Won (a i) (b i)
 
+-- what passes wants no page
+unwanting : (job : Job) (core : Core) (lease : Lease) (replica : Replica) → test_unwanting job core lease replica ≡ true → wanted_by job core lease replica ≡ None
+unwanting job core lease replica e = by (core.lent lease.driver) e
+  where
+    by : (lent : Lent) → (is_all lent || is_none (wanted (layout_in job.program core.kernel) job.settings.watchdog lent replica lease.thread)) ≡ true → wanted (layout_in job.program core.kernel) job.settings.watchdog lent replica lease.thread ≡ None
+    by Whole f = whole-wants-none job core.kernel lease.thread replica
+    by (Pages pages) f = is-none-from _ f
+
 -- a put that passes is allowed
-put-allowed : (job : Job) (core : Core) (lease : Lease) (count hit : ℕ) → core.ended ≡ None → is_out core lease ≡ true → (o : Option RanTo) → lease_run job core lease count ≡ o → test_ran job core.kernel lease.thread count hit o ≡ true → MayPut job core lease count hit
+put-allowed : (job : Job) (core : Core) (lease : Lease) (count hit : ℕ) → core.ended ≡ None → is_out core lease ≡ true → (o : Option RanTo) → lease_run job core lease count ≡ o → test_ran job core lease count hit o ≡ true → MayPut job core lease count hit
 put-allowed job core lease count hit on out None e f = absurd (false≢true f)
 put-allowed job core lease count hit on out (Some ran) e f =
     let p = and_parts _ _ f in
-    record { not_ended = on; out = out; ran = ran; runs = e; struck = eqb-true ran.hit hit p.0; arrives = by (or-cases _ _ p.1) }
+    record { returns = record { not_ended = on; out = out; ran = ran; runs = e; struck = eqb-true ran.hit hit p.0 }; arrives = by (or-cases _ _ p.1) }
   where
-    by : ((count == job.settings.quantum) ≡ true) ⊎ ((nat_lt count job.settings.quantum && is_some (arrival job core.kernel lease.thread count ran.replica)) ≡ true) → HasArrived job core.kernel lease.thread count ran.replica
+    by : ((count == job.settings.quantum) ≡ true) ⊎ ((nat_lt count job.settings.quantum && is_some (arrival job core.kernel lease.thread count ran.replica) && test_unwanting job core lease ran.replica) ≡ true) → HasArrived job core lease count ran.replica
     by (inl g) = inl (eqb-true count job.settings.quantum g)
-    by (inr g) = let q = and_parts _ _ g in inr (ltb-true count job.settings.quantum q.0, q.1)
+    by (inr g) = let q = and_parts _ _ g in let r = and_parts _ _ q.0 in inr (ltb-true count job.settings.quantum r.0, r.1, unwanting job core lease ran.replica q.1)
 
 -- a vote that passes is allowed
 vote-allowed : (job : Job) (core : Core) (thread count won : ℕ) (lost : Lost) (did : Did) → may_vote core thread ≡ true → verdict_of (views_of job core thread) ≡ Won won (numbers lost) → since_in core thread won ≡ Some count → (o : Option Event) → event_in job core thread won ≡ o → test_event did o ≡ true → core.steps + count + event_steps did ≤ job.settings.limit → MayVote job core thread count won lost did

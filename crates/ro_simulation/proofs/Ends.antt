@@ -1,6 +1,6 @@
 -- How the machine stands where a journal ends.
-use Rattle.std.specs.Prelude.{◌≡◌, ◌≢◌, ℕ, zero, suc, ◌*◌, ◌<◌, [], ◌≤◌, Bool, true, false, not, ◌&&◌, ◌||◌, ◌==◌, List, length, Option, Some, None, is_none, is_some, slice_get}
-use Rattle.std.specs.List.{list_all, list_any}
+use Rattle.std.specs.Prelude.{◌≡◌, ◌≢◌, ℕ, zero, suc, ◌*◌, ◌<◌, [], ◌≤◌, Bool, true, false, ◌&&◌, ◌||◌, List, length, Option, Some, None, is_none, is_some, slice_get}
+use Rattle.std.specs.List.{list_all}
 use Rattle.std.specs.Option.{option_map_or, option_and_then}
 use Rattle.std.proofs.Common.{refl, sym, ap, ◌∙◌, arith, inl, inr, ⊎_elim}
 use Rattle.std.proofs.lemmas.Bool.{true≢false, false≢true, and_parts, and_from, cases_eq}
@@ -23,11 +23,10 @@ use Rattle.ro_replica.specs.Replica.{Replica, stop_of}
 use Rattle.ro_plain.specs.Machine.{Program, setup_of, Machine, called, step_by, next_of, steppable, step, payload_in}
 use Rattle.ro_plain.specs.Order.{RaceFree}
 use Rattle.ro_plain.proofs.Calls.{steppable-parts, step-at}
-use Rattle.ro_journal.specs.declared.Lease.{Lease}
-use Rattle.ro_legal.specs.Core.{Job, Core, any_below, is_going, nothing_lent, is_home, is_lendable, may_vote, may_free, views_of, snapshots_of}
+use Rattle.ro_legal.specs.Core.{Job, Core, any_below, is_going, nothing_lent, offers, is_lendable, may_vote, may_free, views_of, snapshots_of}
 use Rattle.ro_replica.specs.Views.{is_unstopped}
 use Rattle.ro_legal.specs.Legal.{is_stuck, may_scrub, MayEnd, due, alone, for_vote, for_free, for_scrub}
-use Rattle.ro_legal.proofs.Leases.{awake-lendable}
+use Rattle.ro_legal.proofs.Leases.{awake-lendable, offers-none}
 use Rattle.ro_legal.proofs.Ordered.{scrub-parts}
 use Rattle.ro_vote.specs.Prevails.{NonePrevails}
 use Rattle.ro_simulation.proofs.Scrubs.{some-good as some-still, always-prevails}
@@ -138,16 +137,16 @@ module _ (job : Job) (odds : List ℕ) (journal : List Entry) (core : Core) (h :
     nothing = none-of-three _ _ _ (none-below (length core.kernel.lives) (λ thread. may_vote core thread || may_free job core thread || any_below (length core.replicas) (λ replica. is_lendable core replica thread))
         (not-true-from _ (and_parts _ _ stuck).1) u (live-within core.kernel.lives u alive))
 
-    -- every replica is home
-    at_home : (i : ℕ) → is_home core i ≡ true
-    at_home i = ap (λ (l : List Lease). not (list_any (λ lease. lease.replica == i) l)) (none-lent core lent)
+    -- every replica is offered to the thread
+    offered : (i : ℕ) → offers core i u ≡ true
+    offered i = offers-none core i u (none-lent core lent)
 
     -- the thread is stopped in a replica
     is-stopped : (i : ℕ) (r : Replica) → slice_get core.replicas i ≡ Some r → is_some (stop_of r u) ≡ true
     is-stopped i r e =
         let short = slice_get_within core.replicas i r e in
         let unlent : is_lendable core i u ≡ false = none-below (length core.replicas) (λ replica. is_lendable core replica u) nothing.2 i short in
-        let none : option_map_or (is_unstopped u) (slice_get core.replicas i) false ≡ false = last-false (is_home core i && lives_on core.kernel u) _ (and_from _ _ (at_home i) alive) (awake-lendable core i u h.no_sides ∙ unlent) in
+        let none : option_map_or (is_unstopped u) (slice_get core.replicas i) false ≡ false = last-false (offers core i u && lives_on core.kernel u) _ (and_from _ _ (offered i) alive) (awake-lendable core i u h.no_sides ∙ unlent) in
         let here : is_unstopped u r ≡ false = sym (ap (λ (o : Option Replica). option_map_or (is_unstopped u) o false) e) ∙ none in
         let thread = get-within r.threads u (let low = live-within core.kernel.lives u alive in let all = (h.sound i r e).all_made in omega arith) in
         let is_open : is_none thread.0.stop ≡ false = sym (ap (λ (o : Option Thread). option_map_or (λ t. is_none t.stop) o false) thread.1) ∙ here in

@@ -19,7 +19,7 @@ use Rattle.ro_legal.proofs.Journals.{LegalFrom-parts, replay_from-append}
 use Rattle.ro_legal.specs.Core.{Job, Core, opening_core}
 use Rattle.ro_legal.specs.Event.{Event, call_event, with_recovered}
 use Rattle.ro_legal.specs.Legal.{lease_run, event_in, freed_event, core_after_event, after, MayPut, MayEnd, IsAllowed, LegalFrom, Legal, replay_from, replay}
-use Rattle.ro_legal.proofs.Leases.{put-only}
+use Rattle.ro_legal.proofs.Leases.{put-only, part-only}
 use Rattle.ro_legal.proofs.Outcomes.{ended-none, over_from}
 use Rattle.ro_vote.specs.Numbers.{is_among, AtMostHalf}
 use Rattle.ro_simulation.specs.Invariant.{Agrees, TracksIdeal}
@@ -27,6 +27,7 @@ use Rattle.ro_simulation.specs.Theorem.{event_payload, payload_by, payloads_from
 use Rattle.ro_simulation.proofs.Votes.{after-vote}
 use Rattle.ro_simulation.proofs.Frees.{after-free}
 use Rattle.ro_simulation.proofs.Entries.{after-take, after-calm-put, after-struck-put}
+use Rattle.ro_simulation.proofs.Parted.{part-calm, after-part}
 use Rattle.ro_simulation.proofs.Scrubs.{after-scrub}
 use Rattle.ro_simulation.proofs.Opening.{opening-holds}
 
@@ -50,6 +51,7 @@ after-end-ended job core how = refl
 pub data IsStep : Entry → Type 0 where
   takes : {lease : Lease} → IsStep (Take lease)
   puts : {lease : Lease} {count hit : ℕ} → IsStep (Put lease count hit)
+  parts : {lease : Lease} {count hit : ℕ} → IsStep (Part lease count hit)
   votes : {thread count won : ℕ} {lost : Lost} {did : Did} → IsStep (Vote thread count won lost did)
   frees : {thread : ℕ} → IsStep (Free thread)
   scrubs : {won : ℕ} {lost : Lost} → IsStep (Scrub won lost)
@@ -83,7 +85,9 @@ step-leaves job core (Take lease) takes = record { output = sym (append-nil core
 step-leaves job core (Put lease count hit) puts =
     let is = put-only job core lease count (lease_run job core lease count) in
     record { output = ap (λ (c : Core). c.output) is ∙ sym (append-nil core.output); ended = ap (λ (c : Core). c.ended) is }
-step-leaves job core (Part lease count hit) kind = elim kind [ ]
+step-leaves job core (Part lease count hit) parts =
+    let is = part-only job core lease (lease_run job core lease count) in
+    record { output = ap (λ (c : Core). c.output) is ∙ sym (append-nil core.output); ended = ap (λ (c : Core). c.ended) is }
 step-leaves job core (Vote thread count won lost did) votes = event-leaves core thread count (with_recovered won (numbers lost) core.replicas) (event_in job core thread won)
 step-leaves job core (Free thread) frees =
     subst (Leaves core (core_after_event core thread 0 core.replicas (freed_event job core thread))) (free-no-payload job core thread (core.blocked thread))
@@ -128,6 +132,7 @@ pub record Struck (job : Job) (Q : List ℕ → Type 0) (struck : ℕ) (core : C
 pub data IsCalm : Entry → Type 0 where
   takes_calm : {lease : Lease} → IsCalm (Take lease)
   puts_calm : {lease : Lease} {count hit : ℕ} → hit ≡ 0 → IsCalm (Put lease count hit)
+  parts_calm : {lease : Lease} {count hit : ℕ} → hit ≡ 0 → IsCalm (Part lease count hit)
   votes_calm : {thread count won : ℕ} {lost : Lost} {did : Did} → IsCalm (Vote thread count won lost did)
   frees_calm : {thread : ℕ} → IsCalm (Free thread)
 
@@ -168,7 +173,7 @@ module _ (job : Job) (free : RaceFree job.program) (Q : List Entry → List ℕ 
   after-entry : (odds : List ℕ) (journal rest : List Entry) (q : Q journal odds) (entry : Entry) → whole ≡ journal ++ entry ∷ rest → (core : Core) (reached : Reached job odds journal core) → IsAllowed job core entry → AfterEntry job Q journal core entry
   after-entry odds journal rest q (Take lease) whole_is core reached h = is_step odds (policy.calm odds journal (Take lease) takes_calm q) takes (after-take job odds journal core reached.holds lease h)
   after-entry odds journal rest q (Put lease count hit) whole_is core reached h = after-put odds journal rest q lease count hit whole_is core reached h
-  after-entry odds journal rest q (Part lease count hit) whole_is core reached h = absurd h
+  after-entry odds journal rest q (Part lease count hit) whole_is core reached h = is_step odds (policy.calm odds journal (Part lease count hit) (parts_calm (part-calm job core lease count hit h)) q) parts (after-part job core lease count hit h odds journal reached.holds free)
   after-entry odds journal rest q (Vote thread count won lost did) whole_is core reached h = is_step odds (policy.calm odds journal (Vote thread count won lost did) votes_calm q) votes (after-vote job free odds journal core reached.holds thread count won did lost h).holds
   after-entry odds journal rest q (Free thread) whole_is core reached h = is_step odds (policy.calm odds journal (Free thread) frees_calm q) frees (after-free job free odds journal core reached.holds thread h)
   after-entry odds journal rest q (Scrub won lost) whole_is core reached h =

@@ -141,7 +141,7 @@ struck-there : (job : Job) (journal : List Entry) → Legal job journal → (bef
 struck-there job journal legal before rest lease count hit whole =
     let parts = LegalFrom-parts job (opening_core job) before (Put lease count hit ∷ rest) (subst (Legal job) whole legal) in
     let may : MayPut job (replay job before) lease count hit = parts.1.0 in
-    let p = put-parts job (replay job before) lease count may.ran may.runs in
+    let p = put-parts job (replay job before) lease count may.returns.ran may.returns.runs in
     slice_get_within (replay job before).replicas lease.replica p.lent p.there
 
 -- they strike it while every other is alike, however many replicas there are

@@ -190,7 +190,3 @@ module _ (job : Job) (free : RaceFree job.program) (before : List ℕ) (machine 
       };
       stops = λ number. record { stands = λ other stop alive e stopped. stop_arrived number other stop alive stopped (get-changed _ replica.threads t number other e) };
     }
-
-  -- a whole lease without a fault
-  pub agrees-after-lease : (n : ℕ) (replica : Replica) (ran : RanTo) → run_of (layout_in job.program machine.kernel) job.settings.watchdog n replica t ≡ Some ran → ran.hit ≡ 0 → Agrees job machine replica → Agrees job machine (arrived job machine.kernel t n ran.replica)
-  agrees-after-lease n replica ran e none h = agrees-arrived n ran.replica (but-ran n replica ran e none (record { runs_ahead = h.runs_ahead; stops = λ number d. h.stops number }))

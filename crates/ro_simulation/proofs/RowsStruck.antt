@@ -80,15 +80,15 @@ unfolding opening opening_core opening_replica struck execute applied cancelled 
 legal-one = (
   record { going = refl; driver_exists = lit< tt; driver_is_idle = refl; lendable = refl },
   (
-    record { not_ended = refl; out = refl; ran = _; runs = refl; struck = refl; arrives = inr (lit< tt, refl) },
+    record { returns = record { not_ended = refl; out = refl; ran = _; runs = refl; struck = refl }; arrives = inr (lit< tt, refl, refl) },
     (
       record { going = refl; driver_exists = lit< tt; driver_is_idle = refl; lendable = refl },
       (
-        record { not_ended = refl; out = refl; ran = _; runs = refl; struck = refl; arrives = inr (lit< tt, refl) },
+        record { returns = record { not_ended = refl; out = refl; ran = _; runs = refl; struck = refl }; arrives = inr (lit< tt, refl, refl) },
         (
           record { going = refl; driver_exists = lit< tt; driver_is_idle = refl; lendable = refl },
           (
-            record { not_ended = refl; out = refl; ran = _; runs = refl; struck = refl; arrives = inr (lit< tt, refl) },
+            record { returns = record { not_ended = refl; out = refl; ran = _; runs = refl; struck = refl }; arrives = inr (lit< tt, refl, refl) },
             (
               record { may = refl; verdict = refl; count_is = refl; event = _; comes = refl; did_is = refl; fits = lit≤ tt },
               ((refl, due refl), tt),
@@ -136,15 +136,15 @@ unfolding opening opening_core opening_replica struck execute applied cancelled 
 legal-two = (
   record { going = refl; driver_exists = lit< tt; driver_is_idle = refl; lendable = refl },
   (
-    record { not_ended = refl; out = refl; ran = _; runs = refl; struck = refl; arrives = inr (lit< tt, refl) },
+    record { returns = record { not_ended = refl; out = refl; ran = _; runs = refl; struck = refl }; arrives = inr (lit< tt, refl, refl) },
     (
       record { going = refl; driver_exists = lit< tt; driver_is_idle = refl; lendable = refl },
       (
-        record { not_ended = refl; out = refl; ran = _; runs = refl; struck = refl; arrives = inr (lit< tt, refl) },
+        record { returns = record { not_ended = refl; out = refl; ran = _; runs = refl; struck = refl }; arrives = inr (lit< tt, refl, refl) },
         (
           record { going = refl; driver_exists = lit< tt; driver_is_idle = refl; lendable = refl },
           (
-            record { not_ended = refl; out = refl; ran = _; runs = refl; struck = refl; arrives = inr (lit< tt, refl) },
+            record { returns = record { not_ended = refl; out = refl; ran = _; runs = refl; struck = refl }; arrives = inr (lit< tt, refl, refl) },
             (
               record { may = refl; verdict = refl; count_is = refl; event = _; comes = refl; did_is = refl; fits = lit≤ tt },
               ((refl, due refl), tt),

@@ -61,7 +61,7 @@ slip = usual_job loading_guest slipping
 -- the journal is legal
 pub slipped-legal : Legal (usual_job loading_guest slipping) slipped
 unfolding opening opening_core opening_replica struck execute applied cancelled recovered verdict_of event_of after first_cpu made_cpu steppable step next fetch_stop instruction_stop instruction_of call_at permits_of alu_of meaning serve payload_of
-slipped-legal = (record { going = refl; driver_exists = lit< tt; driver_is_idle = refl; lendable = refl }, (record { not_ended = refl; out = refl; ran = _; runs = refl; struck = refl; arrives = inr (lit< tt, refl) }, (record { going = refl; driver_exists = lit< tt; driver_is_idle = refl; lendable = refl }, (record { not_ended = refl; out = refl; ran = _; runs = refl; struck = refl; arrives = inr (lit< tt, refl) }, (record { going = refl; driver_exists = lit< tt; driver_is_idle = refl; lendable = refl }, (record { not_ended = refl; out = refl; ran = _; runs = refl; struck = refl; arrives = inr (lit< tt, refl) }, (record { may = refl; verdict = refl; count_is = refl; event = _; comes = refl; did_is = refl; fits = lit≤ tt }, (record { going = refl; driver_exists = lit< tt; driver_is_idle = refl; lendable = refl }, (record { not_ended = refl; out = refl; ran = _; runs = refl; struck = refl; arrives = inr (lit< tt, refl) }, (record { going = refl; driver_exists = lit< tt; driver_is_idle = refl; lendable = refl }, (record { not_ended = refl; out = refl; ran = _; runs = refl; struck = refl; arrives = inr (lit< tt, refl) }, (record { going = refl; driver_exists = lit< tt; driver_is_idle = refl; lendable = refl }, (record { not_ended = refl; out = refl; ran = _; runs = refl; struck = refl; arrives = inr (lit< tt, refl) }, ((refl, for_vote 0 refl (refl, lit≤ tt)), tt))))))))))))))
+slipped-legal = (record { going = refl; driver_exists = lit< tt; driver_is_idle = refl; lendable = refl }, (record { returns = record { not_ended = refl; out = refl; ran = _; runs = refl; struck = refl }; arrives = inr (lit< tt, refl, refl) }, (record { going = refl; driver_exists = lit< tt; driver_is_idle = refl; lendable = refl }, (record { returns = record { not_ended = refl; out = refl; ran = _; runs = refl; struck = refl }; arrives = inr (lit< tt, refl, refl) }, (record { going = refl; driver_exists = lit< tt; driver_is_idle = refl; lendable = refl }, (record { returns = record { not_ended = refl; out = refl; ran = _; runs = refl; struck = refl }; arrives = inr (lit< tt, refl, refl) }, (record { may = refl; verdict = refl; count_is = refl; event = _; comes = refl; did_is = refl; fits = lit≤ tt }, (record { going = refl; driver_exists = lit< tt; driver_is_idle = refl; lendable = refl }, (record { returns = record { not_ended = refl; out = refl; ran = _; runs = refl; struck = refl }; arrives = inr (lit< tt, refl, refl) }, (record { going = refl; driver_exists = lit< tt; driver_is_idle = refl; lendable = refl }, (record { returns = record { not_ended = refl; out = refl; ran = _; runs = refl; struck = refl }; arrives = inr (lit< tt, refl, refl) }, (record { going = refl; driver_exists = lit< tt; driver_is_idle = refl; lendable = refl }, (record { returns = record { not_ended = refl; out = refl; ran = _; runs = refl; struck = refl }; arrives = inr (lit< tt, refl, refl) }, ((refl, for_vote 0 refl (refl, lit≤ tt)), tt))))))))))))))
 
 -- ---- replicas of one thread
 

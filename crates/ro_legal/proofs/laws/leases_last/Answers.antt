@@ -1,5 +1,5 @@
-use Rattle.ro_legal.proofs.Lasting.{lease_lasts}
+use Rattle.ro_legal.proofs.Lasting.{lease-stays}
 use Rattle.ro_legal.proofs.laws.leases_last.Goals as goal
 
 pub returns : goal.returns
-returns c = lease_lasts
+returns c = lease-stays

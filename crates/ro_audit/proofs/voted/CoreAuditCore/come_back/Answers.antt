@@ -1,7 +1,7 @@
 use Rattle.std.proofs.Common.{◌≡◌, sym, ◌∙◌, subst, true≢false}
 use Rattle.ro_lease.specs.Loans.{BackOf, Gives}
 use Rattle.ro_core.specs.Runs.{fields_of, job_of}
-use Rattle.ro_audit.proofs.VotedReturns.{may-return, told-entry, told-otherwise, told-lease}
+use Rattle.ro_audit.proofs.VotedReturns.{may-return, told-entry, told-otherwise, told-lease, no-part-comes}
 use Rattle.ro_audit.proofs.voted.CoreAuditCore.come_back.Goals as goal
 
 pub returns-then-came_to-clause-returns : goal.returns-then-came_to-clause-returns
@@ -23,3 +23,7 @@ returns-clause-returns c =
     let its = told-lease c.args.lent.lease c.in-Put.lease c.in-Put.count c.in-Put.hit c.args.entry.now c.requires.returns c.in-Put.is in
     told-otherwise job journal c.args.lent back c.requires.lends.0 c.requires.lends.1 gives c.in-Put.lease c.in-Put.count c.in-Put.hit c.args.entry.now its c.in-Put.is
     (λ same. true≢false (sym (c.came_to.ensures.1 same) ∙ c.if-came_to.false))
+
+pub returns-in_default : goal.returns-in_default
+returns-in_default c =
+    record { returns = no-part-comes (job_of c.args.self.now) (fields_of c.args.self.now).journal c.requires.lends.0 c.args.lent.lease c.args.entry.now c.requires.returns (λ lease count hit is. c.in_default.not-Put lease count hit is); knows = tt }

@@ -5,8 +5,17 @@ use Rattle.ro_coop_core.specs.declared.seats.Seat.{Seat}
 use Rattle.ro_coop_core.specs.Fields.{Fields, core_in}
 use Rattle.ro_coop_core.specs.Runs.{fields_of}
 use Rattle.ro_coop_core.specs.Seats.{KnowEach}
-use Rattle.ro_coop_core.proofs.Takes.{spare_parts, read-seat, take-within, take-leaves, take-holds, take-few, take-known, take-count, take-left, take-lent, take-output}
+use Rattle.ro_coop_core.proofs.Takes.{spare_parts, read-seat, take-within, take-here, take-leaves, take-holds, take-few, take-known, take-count, take-left, take-lent, take-output}
 use Rattle.ro_coop_core.proofs.cores.Core.take.Goals as goal
+
+pub index_mut-requires : goal.index_mut-requires
+index_mut-requires c = omega (arith, take-within (fields_of c.args.self.now) c.requires.holds c.args.lease c.requires.allowed, c.args.self.now.seats.ok.0)
+
+pub leave-partner-requires : goal.leave-partner-requires
+leave-partner-requires c =
+    let f : Fields = fields_of c.args.self.now in
+    let there = read-seat f.seats c.args.lease.replica c.index_mut.result.now (take-within f c.requires.holds c.args.lease c.requires.allowed) c.index_mut.ensures.value in
+    take-here f c.requires.holds c.args.lease c.requires.allowed c.index_mut.result.now there
 
 pub limit-requires : goal.limit-requires
 limit-requires c =

@@ -13,6 +13,7 @@ mod WriteRows
 mod OtherRows
 mod OrderRows
 mod EdgeRows
+mod LendRows
 mod TableRows
 mod RaceRows
 mod FiveRow

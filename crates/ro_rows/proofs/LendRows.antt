@@ -20,13 +20,13 @@ use Rattle.ro_vote.specs.Verdict.{verdict_of}
 use Rattle.ro_replica.specs.Replica.{opening_replica, applied, cancelled, recovered}
 use Rattle.ro_replica.specs.Runs.{RanTo, struck, execute}
 use Rattle.ro_plain.proofs.Calls.{some-injective}
-use Rattle.ro_legal.specs.Parts.{Whole, Pages}
+use Rattle.ro_legal.specs.Parts.{Whole, Pages, wish_with}
 use Rattle.ro_legal.specs.Core.{Job, Core, opening_core, lent_to, is_lendable}
 use Rattle.ro_legal.specs.Event.{event_of}
 use Rattle.ro_legal.specs.Legal.{HasArrived, IsAllowed, wanted_by, after, replay}
 use Rattle.ro_legal.specs.Action.{next_action}
 use Rattle.ro_rows.specs.Edges.{round}
-use Rattle.ro_rows.specs.Lending.{storing_job, lending_job, lending, behind_in, behind, parts, first_out, second_parted, second_waits, missed_by}
+use Rattle.ro_rows.specs.Lending.{storing_job, struck_job, lending_job, lending, behind_in, behind, parts, first_out, second_parted, second_waits, missed_by}
 use Rattle.ro_rows.proofs.EdgeRows.{hit-is}
 
 -- whether the thread of a run wants a page
@@ -62,6 +62,18 @@ lend-eight = refl
 pub lend-nine : lent_to (missed_by 9 (behind (parts 0 0))) 0 0 ≡ Whole
 unfolding opening_core opening_replica struck execute applied cancelled recovered verdict_of event_of after next_action first_cpu made_cpu next fetch_stop instruction_stop instruction_of call_at permits_of alu_of taken_by meaning serve payload_of
 lend-nine = refl
+
+pub lend-struck : lent_to (behind_in (struck_job 4102) []) 0 0 ≡ Whole
+unfolding opening_core opening_replica struck execute applied cancelled recovered verdict_of event_of after next_action first_cpu made_cpu next fetch_stop instruction_stop instruction_of call_at permits_of alu_of taken_by meaning serve payload_of
+lend-struck = refl
+
+pub lend-later : lent_to (behind_in (struck_job 4103) []) 0 0 ≡ Pages []
+unfolding opening_core opening_replica struck execute applied cancelled recovered verdict_of event_of after next_action first_cpu made_cpu next fetch_stop instruction_stop instruction_of call_at permits_of alu_of taken_by meaning serve payload_of
+lend-later = refl
+
+pub lend-of-another : lent_to (behind_in (struck_job 4102) []) 0 1 ≡ Pages []
+unfolding opening_core opening_replica struck execute applied cancelled recovered verdict_of event_of after next_action first_cpu made_cpu next fetch_stop instruction_stop instruction_of call_at permits_of alu_of taken_by meaning serve payload_of
+lend-of-another = refl
 
 pub lend-unshared : lent_to (replay lending_job (round 0 6 Served)) 0 0 ≡ Whole
 unfolding opening_core opening_replica struck execute applied cancelled recovered verdict_of event_of after next_action first_cpu made_cpu next fetch_stop instruction_stop instruction_of call_at permits_of alu_of taken_by meaning serve payload_of
@@ -120,6 +132,14 @@ part-data = (record { going = refl; driver_exists = lit< tt; driver_is_idle = re
 pub part-wishes : (behind (parts 0 0)).wishes 0 0 ≡ 17 ∷ 16 ∷ []
 unfolding opening_core opening_replica struck execute applied cancelled recovered verdict_of event_of after next_action first_cpu made_cpu next fetch_stop instruction_stop instruction_of call_at permits_of alu_of taken_by meaning serve payload_of
 part-wishes = refl
+
+pub part-again : wish_with 3 (1 ∷ 2 ∷ 3 ∷ 4 ∷ []) ≡ 3 ∷ 1 ∷ 2 ∷ 4 ∷ []
+unfolding opening_core opening_replica struck execute applied cancelled recovered verdict_of event_of after next_action first_cpu made_cpu next fetch_stop instruction_stop instruction_of call_at permits_of alu_of taken_by meaning serve payload_of
+part-again = refl
+
+pub part-sixteen : wish_with 17 (16 ∷ 15 ∷ 14 ∷ 13 ∷ 12 ∷ 11 ∷ 10 ∷ 9 ∷ 8 ∷ 7 ∷ 6 ∷ 5 ∷ 4 ∷ 3 ∷ 2 ∷ 1 ∷ []) ≡ 17 ∷ 16 ∷ 15 ∷ 14 ∷ 13 ∷ 12 ∷ 11 ∷ 10 ∷ 9 ∷ 8 ∷ 7 ∷ 6 ∷ 5 ∷ 4 ∷ 3 ∷ 2 ∷ []
+unfolding opening_core opening_replica struck execute applied cancelled recovered verdict_of event_of after next_action first_cpu made_cpu next fetch_stop instruction_stop instruction_of call_at permits_of alu_of taken_by meaning serve payload_of
+part-sixteen = refl
 
 pub part-misses : (behind (parts 0 0)).misses 0 0 ≡ 2
 unfolding opening_core opening_replica struck execute applied cancelled recovered verdict_of event_of after next_action first_cpu made_cpu next fetch_stop instruction_stop instruction_of call_at permits_of alu_of taken_by meaning serve payload_of

@@ -4,6 +4,7 @@ use Rattle.ro_journal.specs.Leases.{lease_to}
 use Rattle.ro_journal.specs.declared.Did.TheVariants.{Served}
 use Rattle.ro_journal.specs.declared.Entry.{Entry}
 use Rattle.ro_journal.specs.declared.Entry.TheVariants.{Take, Part}
+use Rattle.ro_faults.specs.declared.Target.TheVariants.{Register}
 use Rattle.ro_plain.specs.Machine.{Program, setup_of}
 use Rattle.ro_legal.specs.Core.{Job, Core}
 use Rattle.ro_legal.specs.Legal.{replay, replay_from}
@@ -22,6 +23,10 @@ storing_job write = let job = small_job (storing_guest write) [] 3 1000000000 in
 
 abbrev pub lending_job : Job
 lending_job = storing_job false
+
+-- a register of thread 0 is to be struck in replica 0, at this moment
+abbrev pub struck_job : (at : ℕ) → Job
+struck_job at = record lending_job { faults = record { replica = 0; thread = 0; at = at; target = Register 9 0 } ∷ [] }
 
 -- the core, in a run that lends pages
 abbrev pub lending : Job → Core → Core

@@ -3,14 +3,15 @@ ghost use Rattle.std.specs.Prelude.{◌≡◌, true, false, [], ◌∷◌, ◌++
 ghost use Rattle.ro_journal.specs.Leases.{lease_to};
 ghost use Rattle.ro_journal.specs.declared.Did.TheVariants.{Served};
 ghost use Rattle.ro_journal.specs.declared.Entry.TheVariants.{Take, Put, Part};
-ghost use Rattle.ro_legal.specs.Parts.{Whole, Pages};
+ghost use Rattle.ro_legal.specs.Parts.{Whole, Pages, wish_with};
 ghost use Rattle.ro_legal.specs.Core.{opening_core, lent_to, is_lendable};
 ghost use Rattle.ro_legal.specs.Legal.{IsAllowed, replay};
 ghost use Rattle.ro_rows.specs.Edges.{round};
-ghost use Rattle.ro_rows.specs.Lending.{storing_job, lending_job, lending, behind_in, behind, parts, first_out, second_parted, second_waits, missed_by};
+ghost use Rattle.ro_rows.specs.Lending.{storing_job, struck_job, lending_job, lending, behind_in, behind, parts, first_out, second_parted, second_waits, missed_by};
 
 /// A row: a thread is lent with the pages that it wishes, the last one missed first, and with its whole replica where the run lends
-/// no pages, where the thread is alone, and where it missed pages more than eight times. Two threads of a replica are out at once,
+/// no pages, where the thread is alone, where a fault of it may be struck within a quantum, and where it missed pages more than
+/// eight times. Two threads of a replica are out at once,
 /// each with its code where that may not be written; a thread is not lent while one of the first two pages of its wish is out, nor
 /// twice, nor its whole replica while another thread of that is out.
 pub fn lend_row()
@@ -20,6 +21,9 @@ pub fn lend_row()
     ensures alone { lent_to (lending lending_job (opening_core lending_job)) 0 0 ≡ Whole }
     ensures eight { lent_to (missed_by 8 (behind (parts 0 0))) 0 0 ≡ Pages (17 ∷ 16 ∷ []) }
     ensures nine { lent_to (missed_by 9 (behind (parts 0 0))) 0 0 ≡ Whole }
+    ensures struck { lent_to (behind_in (struck_job 4102) []) 0 0 ≡ Whole }
+    ensures later { lent_to (behind_in (struck_job 4103) []) 0 0 ≡ Pages [] }
+    ensures of_another { lent_to (behind_in (struck_job 4102) []) 0 1 ≡ Pages [] }
     ensures unshared { lent_to (replay lending_job (round 0 6 Served)) 0 0 ≡ Whole }
     ensures both { IsAllowed lending_job (behind first_out) (Take (lease_to 1 0 1)) }
     ensures not_twice { is_lendable (behind first_out) 0 0 ≡ false }
@@ -32,7 +36,7 @@ pub fn lend_row()
 {}
 
 /// A row: a lease comes back for the want of a page that its replica has and that it was not lent, of the code before any
-/// instruction, of data behind those that need none. Then it is no put. That page comes first in its wish, the lease is no longer
+/// instruction, of data behind those that need none. Then it is no put. That page comes first in its wish, which has sixteen pages at most, each once; the lease is no longer
 /// out, and its thread missed a page once more. With the two pages that it needs it comes to its call, and is a put and no part; a
 /// part is not earlier either, and no fault is struck.
 pub fn part_row()
@@ -40,6 +44,8 @@ pub fn part_row()
     ensures no_put { IsAllowed lending_job (behind (Take (lease_to 0 0 0) ∷ [])) (Put (lease_to 0 0 0) 0 0) → ⊥ }
     ensures data { IsAllowed lending_job (behind second_waits) (Take (lease_to 1 0 1)) × IsAllowed lending_job (behind (second_waits ++ Take (lease_to 1 0 1) ∷ [])) (Part (lease_to 1 0 1) 1 0) }
     ensures wishes { (behind (parts 0 0)).wishes 0 0 ≡ 17 ∷ 16 ∷ [] }
+    ensures again { wish_with 3 (1 ∷ 2 ∷ 3 ∷ 4 ∷ []) ≡ 3 ∷ 1 ∷ 2 ∷ 4 ∷ [] }
+    ensures sixteen { wish_with 17 (16 ∷ 15 ∷ 14 ∷ 13 ∷ 12 ∷ 11 ∷ 10 ∷ 9 ∷ 8 ∷ 7 ∷ 6 ∷ 5 ∷ 4 ∷ 3 ∷ 2 ∷ 1 ∷ []) ≡ 17 ∷ 16 ∷ 15 ∷ 14 ∷ 13 ∷ 12 ∷ 11 ∷ 10 ∷ 9 ∷ 8 ∷ 7 ∷ 6 ∷ 5 ∷ 4 ∷ 3 ∷ 2 ∷ [] }
     ensures misses { (behind (parts 0 0)).misses 0 0 ≡ 2 }
     ensures home { (behind (parts 0 0)).leases ≡ [] }
     ensures put { IsAllowed lending_job (behind first_out) (Put (lease_to 0 0 0) 4 0) }

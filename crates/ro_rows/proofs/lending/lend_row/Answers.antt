@@ -1,4 +1,4 @@
-use Rattle.ro_rows.proofs.LendRows.{lend-first, lend-nothing, lend-wished, lend-alone, lend-eight, lend-nine, lend-unshared, lend-both, lend-not-twice, lend-code, lend-written, lend-free, lend-taken, lend-other, lend-whole}
+use Rattle.ro_rows.proofs.LendRows.{lend-first, lend-nothing, lend-wished, lend-alone, lend-eight, lend-nine, lend-struck, lend-later, lend-of-another, lend-unshared, lend-both, lend-not-twice, lend-code, lend-written, lend-free, lend-taken, lend-other, lend-whole}
 use Rattle.ro_rows.proofs.lending.lend_row.Goals as goal
 
 pub returns-clause-first : goal.returns-clause-first
@@ -18,6 +18,15 @@ returns-clause-eight c = lend-eight
 
 pub returns-clause-nine : goal.returns-clause-nine
 returns-clause-nine c = lend-nine
+
+pub returns-clause-struck : goal.returns-clause-struck
+returns-clause-struck c = lend-struck
+
+pub returns-clause-later : goal.returns-clause-later
+returns-clause-later c = lend-later
+
+pub returns-clause-of_another : goal.returns-clause-of_another
+returns-clause-of_another c = lend-of-another
 
 pub returns-clause-unshared : goal.returns-clause-unshared
 returns-clause-unshared c = lend-unshared

@@ -1,4 +1,4 @@
-use Rattle.ro_rows.proofs.LendRows.{part-code, part-no-put, part-data, part-wishes, part-misses, part-home, part-put, part-no-part, part-early, part-struck}
+use Rattle.ro_rows.proofs.LendRows.{part-code, part-no-put, part-data, part-wishes, part-again, part-sixteen, part-misses, part-home, part-put, part-no-part, part-early, part-struck}
 use Rattle.ro_rows.proofs.lending.part_row.Goals as goal
 
 pub returns-clause-code : goal.returns-clause-code
@@ -12,6 +12,12 @@ returns-clause-data c = part-data
 
 pub returns-clause-wishes : goal.returns-clause-wishes
 returns-clause-wishes c = part-wishes
+
+pub returns-clause-again : goal.returns-clause-again
+returns-clause-again c = part-again
+
+pub returns-clause-sixteen : goal.returns-clause-sixteen
+returns-clause-sixteen c = part-sixteen
 
 pub returns-clause-misses : goal.returns-clause-misses
 returns-clause-misses c = part-misses

@@ -14,6 +14,10 @@ pub record Held : Type 0 where
   pub spare : ℕ
   pub numbers : List ℕ
 
+-- how many pages a memory of a few can be lent
+abbrev pub most_lent : ℕ
+most_lent = 16
+
 abbrev pub coded_held : Coded Held
 coded_held =
     code_by (FinMap nat_cmp (List ℕ) × (ℕ × List ℕ)) (coded× (map.code coded_ℕ (coded_list coded_ℕ)) (coded× coded_ℕ (coded_list coded_ℕ)))

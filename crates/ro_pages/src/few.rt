@@ -3,7 +3,7 @@ ghost use Rattle.std.specs.Prelude.{ℕ, ◌≡◌, ◌≢◌, ◌+◌, ◌/◌,
 ghost use Rattle.std.specs.FinMap as map;
 ghost use Rattle.std.specs.List.{slice_get};
 ghost use Rattle.ro_pages.specs.Directories.{is_listed};
-ghost use Rattle.ro_pages.specs.Held.{memory_of, has_page};
+ghost use Rattle.ro_pages.specs.Held.{memory_of, has_page, most_lent};
 ghost use Rattle.ro_pages.specs.Words.{bytes_in};
 
 use crate::access::Memory;
@@ -16,7 +16,7 @@ use std::marker::Model;
 use std::mem;
 
 /// How many pages a memory of a few can be lent.
-pub const MOST_LENT: u32 = 8;
+pub const MOST_LENT: u32 = 16;
 
 /// Pages that a memory has lent, each with its number, and pages of its own for more of them.
 ///
@@ -34,7 +34,7 @@ pub struct FewPages {
 
 impl Model for FewPages {
     ghost use Rattle.std.specs.Prelude.{◌≡◌, ◌+◌, ◌≤◌, length, vec_len, vec_capacity};
-    ghost use Rattle.ro_pages.specs.Held.{Held, coded_held, pages_of};
+    ghost use Rattle.ro_pages.specs.Held.{Held, coded_held, most_lent, pages_of};
     ghost use Rattle.ro_pages.specs.Words.{bytes_in};
 
     ghost Value = { Held };
@@ -43,7 +43,7 @@ impl Model for FewPages {
 
     ghost view = { λ s. record { pages = pages_of (λ b. bytes_in b.value) s.directory.numbers s.backed.items; spare = vec_len s.spare; numbers = s.directory.numbers } };
 
-    ghost invariant = { λ s. (length s.directory.numbers ≡ length s.backed.items) × (vec_len s.backed + vec_len s.spare ≤ vec_capacity s.backed) × (vec_len s.backed + vec_len s.spare ≤ vec_capacity s.spare) × (vec_len s.spare ≤ s.directory.room) × (length s.directory.numbers + vec_len s.spare ≡ 8) };
+    ghost invariant = { λ s. (length s.directory.numbers ≡ length s.backed.items) × (vec_len s.backed + vec_len s.spare ≤ vec_capacity s.backed) × (vec_len s.backed + vec_len s.spare ≤ vec_capacity s.spare) × (vec_len s.spare ≤ s.directory.room) × (length s.directory.numbers + vec_len s.spare ≡ most_lent) };
 }
 
 impl FewPages {
@@ -113,7 +113,7 @@ impl FewPages {
     pub fn new(alloc: Global) -> Result<FewPages, AllocError>
         ensures pages { IfOk result (λ f. f.pages ≡ map.empty) }
         ensures numbers { IfOk result (λ f. f.numbers ≡ []) }
-        ensures spare { IfOk result (λ f. f.spare ≡ 8) }
+        ensures spare { IfOk result (λ f. f.spare ≡ most_lent) }
     {
         let directory = ShortDirectory::new(alloc, MOST_LENT)?;
         let backed = Vec::with_capacity(alloc, MOST_LENT as usize)?;
@@ -128,11 +128,11 @@ impl FewPages {
         })
     }
 
-    /// Each page that it has is listed, and there is room for eight with those that it has.
+    /// Each page that it has is listed, and there is room for the most with those that it has.
     #[inline(always)]
     pub fn each_listed(&self)
         ensures listed { (page : ℕ) → is_listed self.now.numbers page ≡ has_page self.now.pages page }
-        ensures room { length self.now.numbers + self.now.spare ≡ 8 }
+        ensures room { length self.now.numbers + self.now.spare ≡ most_lent }
     {
         let _spare = self.spare.len();
     }

@@ -1,8 +1,8 @@
 -- Elements of lists that are changed in one place, and of lists that are filtered.
-use Rattle.std.specs.Prelude.{◌≡◌, ℕ, zero, suc, Bool, true, false, not, cond, List, [], ◌∷◌, Some, None, slice_get, slice_set}
+use Rattle.std.specs.Prelude.{◌≡◌, ℕ, zero, suc, ◌<◌, Bool, true, false, not, cond, List, [], ◌∷◌, length, Option, Some, None, slice_get, slice_set}
 use Rattle.std.specs.List.{filter}
-use Rattle.std.specs.Option.{option_map}
-use Rattle.std.proofs.Common.{refl, sym, ap, ◌∙◌}
+use Rattle.std.specs.Option.{option_map, option_and_then}
+use Rattle.std.proofs.Common.{refl, sym, ap, ◌∙◌, arith}
 use Rattle.ro_replica.specs.Replica.{changed_at}
 
 -- the element that was changed
@@ -16,6 +16,12 @@ pub get_set : {X : Type 0} (xs : List X) (i : ℕ) (x y : X) → slice_get xs i 
 get_set [] i x y h = absurd (let e : None ≡ Some x = h in cc)
 get_set (z ∷ xs) zero x y h = refl
 get_set (z ∷ xs) (suc i) x y h = get_set xs i x y h
+
+-- of one that is there, what the change makes
+pub got_changed : {X Y : Type 0} (g : X → Option Y) (f : X → X) (y : Option Y) → ((x : X) → g (f x) ≡ y) → (xs : List X) (i : ℕ) → i < length xs → option_and_then g (slice_get (changed_at f xs i) i) ≡ y
+got_changed g f y is [] i within = absurd (omega arith)
+got_changed g f y is (x ∷ xs) zero within = is x
+got_changed g f y is (x ∷ xs) (suc i) within = got_changed g f y is xs i (omega arith)
 
 -- an element that is set to itself
 pub set_itself : {X : Type 0} (xs : List X) (i : ℕ) (x : X) → slice_get xs i ≡ Some x → slice_set xs i x ≡ xs

@@ -16,11 +16,11 @@ use Rattle.ro_thread.proofs.Parts.{running, lent-run}
 use Rattle.ro_replica.specs.Replica.{Replica, changed_at}
 use Rattle.ro_replica.specs.Runs.{run_of, standing_in, standing_at, with_stop}
 use Rattle.ro_replica.specs.Seen.{Runs}
-use Rattle.ro_pages.specs.Held.{memory_of, has_page}
-use Rattle.ro_replica.specs.Lent.{LentIn, put_back, RunsOut, LaneOf, ComesHome}
+use Rattle.ro_pages.specs.Held.{Held, memory_of, has_page}
+use Rattle.ro_replica.specs.Lent.{LentIn, put_back, RunsOut, LaneOf, LaneRuns, ComesHome}
 use Rattle.ro_replica.proofs.Elements.{get_set, changed_of_set}
 use Rattle.ro_replica.proofs.Strikes.{NoneDue, struck_none}
-use Rattle.ro_replica.proofs.Segments.{placed, run_of_instructions}
+use Rattle.ro_replica.proofs.Segments.{placed, run_of_instructions, instructions_keep_stop}
 use Rattle.ro_replica.proofs.Counted.{instructions_done}
 
 module _ (layout : Layout) (watchdog quantum thread count : ℕ) (lent : Backed) (part : Memory) (begun : Thread) (replica : Replica) (is : LentIn lent thread count part begun replica) (stop : Option Stop) (end : Thread) (after : Memory) (run : IsRun layout watchdog lent quantum count stop (running begun part) (running end after)) where
@@ -99,18 +99,30 @@ lent-comes-back layout watchdog quantum thread count lent part begun replica is 
   λ page. is-part layout watchdog quantum thread count lent part begun replica is stop end after run stop page (whole layout watchdog quantum thread count lent part begun replica is stop end after run).comes,
 )
 
--- the same of a lane, and of what it is after its run
-pub lent-comes-home : (quantum thread count : ℕ) (stop : Option Stop) (lane after : LaneOf) (replica : Replica) → LentIn (has_page lane.held.pages) thread count (memory_of lane.held.pages) lane.thread replica
-    → IsRun lane.layout lane.watchdog (has_page lane.held.pages) quantum count stop (running lane.thread (memory_of lane.held.pages)) (running after.thread (memory_of after.held.pages))
-    → ComesHome quantum thread count stop lane after replica
-lent-comes-home quantum thread count stop lane after replica is run =
-    let both = lent-comes-back lane.layout lane.watchdog quantum thread count (has_page lane.held.pages) (memory_of lane.held.pages) lane.thread replica is stop after.thread (memory_of after.held.pages) run in
-    record { put = both.0; part = both.1 }
+-- a thread that is put at the stop at which it is
+without-it : (stop : Option Stop) (end : Thread) → end.stop ≡ stop → with_stop stop end ≡ end
+without-it stop end h = ap (λ (s : Option Stop). record { cpu = end.cpu; since = end.since; done = end.done; stop = s }) (sym h)
 
--- the same, where the lane is seen by another name
-pub lane-home : (quantum thread count : ℕ) (stop : Option Stop) (view old after : LaneOf) (replica : Replica) → view ≡ old → LentIn (has_page old.held.pages) thread count (memory_of old.held.pages) old.thread replica
-    → IsRun view.layout view.watchdog (has_page view.held.pages) quantum count stop (running view.thread (memory_of view.held.pages)) (running after.thread (memory_of after.held.pages))
-    → ComesHome quantum thread count stop old after replica
-lane-home quantum thread count stop view old after replica same is run =
-    subst (λ (v : LaneOf). ComesHome quantum thread count stop v after replica) same
-    (lent-comes-home quantum thread count stop view after replica (subst (λ (v : LaneOf). LentIn (has_page v.held.pages) thread count (memory_of v.held.pages) v.thread replica) (sym same) is) run)
+-- A lane behind a run of its thread, which stands at its stop: seen by another name, what it was before.
+module _ (quantum count : ℕ) (stop : Option Stop) (view lane : LaneOf) (held : Held) (moved : List ℕ) (end : Thread) (same : view ≡ lane)
+    (run : IsRun view.layout view.watchdog (has_page view.held.pages) quantum count stop (running view.thread (memory_of view.held.pages)) (running end (memory_of held.pages)))
+    (pages : has_page held.pages ≡ has_page view.held.pages) where
+  abbrev after : LaneOf
+  after = record view { held = held; moved = moved; thread = with_stop stop end }
+
+  kept : with_stop view.thread.stop (with_stop stop end) ≡ end
+  kept = without-it view.thread.stop end (instructions_keep_stop view.layout view.watchdog (has_page view.held.pages) count (running view.thread (memory_of view.held.pages)) (running end (memory_of held.pages)) run.runs)
+
+  pub lane-runs : LaneRuns quantum count lane after
+  lane-runs = subst (λ (v : LaneOf). LaneRuns quantum count v after) same
+      (record {
+        pages = pages;
+        runs = subst (λ (t : Thread). IsRun view.layout view.watchdog (has_page view.held.pages) quantum count stop (running view.thread (memory_of view.held.pages)) (running t (memory_of held.pages))) (sym kept) run;
+      })
+
+  pub lane-home : (thread : ℕ) (replica : Replica) → LentIn (has_page lane.held.pages) thread count (memory_of lane.held.pages) lane.thread replica → ComesHome quantum thread count stop lane after replica
+  lane-home thread replica is =
+      subst (λ (v : LaneOf). ComesHome quantum thread count stop v after replica) same
+      (let both = lent-comes-back view.layout view.watchdog quantum thread count (has_page view.held.pages) (memory_of view.held.pages) view.thread replica
+      (subst (λ (v : LaneOf). LentIn (has_page v.held.pages) thread count (memory_of v.held.pages) v.thread replica) (sym same) is) stop end (memory_of held.pages) run in
+      record { put = both.0; part = both.1 })

@@ -53,6 +53,25 @@ one_is_done layout watchdog backed running after e = by (running.thread.since ==
     by false (Stands stop) h = absurd (cc)
     by false (Executes instr) h = let same : after_instruction running instr ≡ after = cc in ap (λ (r : Running). r.thread.done) (sym same)
 
+-- nor does one instruction change where the thread stands still
+one_keeps_stop : (layout : Layout) (watchdog : ℕ) (backed : Backed) (running after : Running) → one_instruction layout watchdog backed running ≡ Some after → after.thread.stop ≡ running.thread.stop
+one_keeps_stop layout watchdog backed running after e = by (running.thread.since == watchdog) (next layout backed running.memory running.thread.cpu) e
+  where
+    by : (b : Bool) (n : Next) → cond b None (after_next running n) ≡ Some after → after.thread.stop ≡ running.thread.stop
+    by true n h = absurd (cc)
+    by false (Stands stop) h = absurd (cc)
+    by false (Executes instr) h = let same : after_instruction running instr ≡ after = cc in ap (λ (r : Running). r.thread.stop) (sym same)
+
+-- no instructions do
+pub instructions_keep_stop : (layout : Layout) (watchdog : ℕ) (backed : Backed) (count : ℕ) (running after : Running) → instructions layout watchdog backed count running ≡ Some after → after.thread.stop ≡ running.thread.stop
+instructions_keep_stop layout watchdog backed zero running after e = let same : running ≡ after = cc in ap (λ (r : Running). r.thread.stop) (sym same)
+instructions_keep_stop layout watchdog backed (suc n) running after e = by (one_instruction layout watchdog backed running) refl e (instructions_keep_stop layout watchdog backed n)
+  where
+    by : (o : Option Running) → one_instruction layout watchdog backed running ≡ o → option_and_then (instructions layout watchdog backed n) o ≡ Some after
+        → ((running after : Running) → instructions layout watchdog backed n running ≡ Some after → after.thread.stop ≡ running.thread.stop) → after.thread.stop ≡ running.thread.stop
+    by None one h more = absurd (cc)
+    by (Some mid) one h more = more mid after h ∙ one_keeps_stop layout watchdog backed running mid one
+
 -- a run of instructions in which no fault is due, and the rest of the run
 pub run_of_instructions : (layout : Layout) (watchdog count rest : ℕ) (replica : Replica) (number : ℕ) (thread : Thread) (end : Running) → slice_get replica.threads number ≡ Some thread → ((k : ℕ) → k < count → NoneDue number (thread.done + k) replica) → instructions layout watchdog replica.backed count (record { thread = thread; memory = replica.memory }) ≡ Some end → run_of layout watchdog (count + rest) replica number ≡ run_of layout watchdog rest (placed replica number end) number
 run_of_instructions layout watchdog zero rest replica number thread end there none e =

@@ -14,7 +14,9 @@ use Rattle.ro_pages.specs.Directories.{is_listed}
 use Rattle.ro_pages.specs.Held.{Held, memory_of, has_page}
 use Rattle.ro_exec.specs.Next.{Layout, Backed}
 use Rattle.ro_exec.specs.Parts.{SameIn, with_part, IsMore}
+use Rattle.ro_image.specs.Image.{Image}
 use Rattle.ro_thread.specs.declared.Thread.{Thread}
+use Rattle.ro_thread.specs.Runs.{IsRun}
 use Rattle.ro_thread.specs.Stops.{standing}
 use Rattle.ro_thread.specs.Parts.{missed}
 use Rattle.ro_replica.specs.Replica.{Replica, changed_at}
@@ -63,6 +65,12 @@ pub record IsLaneFor (lane : LaneOf) (replica : ReplicaOf) : Type 0 where
   pub replica_has : replica.layout.ranges ≡ replica.given ++ first
   pub calls : lane.layout.calls ≡ replica.layout.calls
 
+-- a lane with no page, for replicas of the program of an image
+pub record IsSpareLane (image : Image) (lane : LaneOf) : Type 0 where
+  pub ranges : lane.layout.ranges ≡ lane.given ++ image.ranges
+  pub calls : lane.layout.calls ≡ image.calls
+  pub none : lane.held.numbers ≡ []
+
 -- the lane has what never changes in a run as the replica has it now
 pub record HasProgram (lane : LaneOf) (replica : ReplicaOf) : Type 0 where
   pub layout : lane.layout ≡ replica.layout
@@ -82,6 +90,14 @@ pub record SameProgramOf (one other : LaneOf) : Type 0 where
   pub layout : one.layout ≡ other.layout
   pub given : one.given ≡ other.given
   pub watchdog : one.watchdog ≡ other.watchdog
+
+-- A lane behind a run of so many instructions, over the pages that it was lent. Its thread is what the run made of it, and stands
+-- at the stop that is kept.
+pub record LaneRuns (quantum count : ℕ) (before after : LaneOf) : Type 0 where
+  pub pages : has_page after.held.pages ≡ has_page before.held.pages
+  pub runs : IsRun before.layout before.watchdog (has_page before.held.pages) quantum count after.thread.stop
+      (record { thread = before.thread; memory = memory_of before.held.pages })
+      (record { thread = with_stop before.thread.stop after.thread; memory = memory_of after.held.pages })
 
 -- What comes back of a lease that was run: a put of its replica as that is by then, or, for the want of a page, a part.
 pub record ComesHome (quantum thread count : ℕ) (stop : Option Stop) (lane after : LaneOf) (replica : Replica) : Type 0 where

@@ -1,16 +1,16 @@
 //! A thread that is lent with some of its replica's pages.
 ghost use Rattle.std.specs.Prelude.{◌≡◌, ◌+◌, ◌<◌, ◌^◌, ℕ, [], false, true, length, IfOk};
-ghost use Rattle.ro_pages.specs.Held.{has_page, memory_of};
-ghost use Rattle.ro_thread.specs.Runs.{IsRun};
+ghost use Rattle.ro_pages.specs.Held.{has_page, memory_of, most_lent};
 ghost use Rattle.ro_replica.specs.Replica.{Replica as ReplicaSeen};
 ghost use Rattle.ro_replica.specs.Seen.{replica_of, SameProgram};
-ghost use Rattle.ro_replica.specs.Lent.{LentIn, IsLaneFor, SameProgramOf, ComesHome, put_back};
+ghost use Rattle.ro_replica.specs.Lent.{LaneRuns, LentIn, IsSpareLane, SameProgramOf, ComesHome, put_back};
 
 use crate::cpus::first_cpu;
 use crate::opening::unstopped;
 use crate::replicas::Replica;
 use ro_event::{CallTable, Stop};
 use ro_exec::Learnt;
+use ro_image::Executable;
 use ro_pages::{FewPages, MOST_LENT};
 use ro_region::Regions;
 use ro_thread::{RunEnd, Thread};
@@ -22,6 +22,7 @@ use std::marker::Model;
 pub struct Lane {
     pub(crate) regions: Regions,
     calls: CallTable,
+    /// That of the replica that it was lent with last, at first 0.
     pub(crate) watchdog: u32,
     pub(crate) pages: FewPages,
     /// Those of its pages that have left the replica for the time; the others are copies. There is a place for each page.
@@ -32,7 +33,7 @@ pub struct Lane {
 impl Model for Lane {
     ghost use Rattle.std.specs.Prelude.{◌≤◌, length, vec_capacity};
     ghost use Rattle.std.specs.Coded.{codes};
-    ghost use Rattle.ro_pages.specs.Held.{coded_held};
+    ghost use Rattle.ro_pages.specs.Held.{coded_held, most_lent};
     ghost use Rattle.ro_region.specs.Permission.{ranges_of};
     ghost use Rattle.ro_replica.specs.Lent.{LaneOf};
 
@@ -42,24 +43,24 @@ impl Model for Lane {
 
     ghost view = { λ l. record { layout = record { ranges = ranges_of l.regions; calls = l.calls }; given = l.regions.given; watchdog = l.watchdog; held = l.pages; moved = l.moved.items; thread = l.thread } };
 
-    ghost invariant = { λ l. (l.thread.since ≤ l.watchdog) × (length l.moved.items ≤ length l.pages.numbers) × (8 ≤ vec_capacity l.moved) };
+    ghost invariant = { λ l. (l.thread.since ≤ l.watchdog) × (length l.moved.items ≤ length l.pages.numbers) × (most_lent ≤ vec_capacity l.moved) };
 }
 
 impl Lane {
-    /// A lane for replicas of the same program as a given one, with no page and with room for eight. What it needs of memory
-    /// it takes here.
+    /// A lane for replicas of the program of an image, with no page and with room for as many as a wish has. What it needs of
+    /// memory it takes here.
     ///
     /// # Errors
     /// Where there is no memory.
-    pub fn new(alloc: Global, replica: &Replica) -> Result<Lane, AllocError>
-        ensures lane { IfOk result (λ lane. IsLaneFor lane replica.now) }
-        ensures none { IfOk result (λ lane. lane.held.numbers ≡ []) }
-        ensures room { IfOk result (λ lane. lane.held.spare ≡ 8) }
+    pub fn new(alloc: Global, image: &Executable, regions: Regions) -> Result<Lane, AllocError>
+        requires regions { regions ≡ record { given = []; first = image.now.ranges } }
+        ensures lane { IfOk result (IsSpareLane image.now) }
+        ensures room { IfOk result (λ lane. lane.held.spare ≡ most_lent) }
     {
         Ok(Lane {
-            regions: replica.regions.opening(alloc)?,
-            calls: CallTable::new(*replica.calls.addresses()),
-            watchdog: replica.watchdog,
+            regions,
+            calls: CallTable::new(*image.calls().addresses()),
+            watchdog: 0,
             pages: FewPages::new(alloc)?,
             moved: Vec::with_capacity(alloc, MOST_LENT as usize)?,
             thread: unstopped(first_cpu(0)),
@@ -73,19 +74,18 @@ impl Lane {
         self.moved.as_slice()
     }
 
-    /// Runs the thread until it stands at a stop, or for a quantum of instructions. It sees the pages that it was lent, and
-    /// stands at the fault of any other page that it needs.
-    pub fn run(&mut self, quantum: u32) -> RunEnd
+    /// Runs the thread until it stands at a stop, or for a quantum of instructions, and answers how many were retired. It sees
+    /// the pages that it was lent, and stands at the fault of any other page that it needs. Its stop is kept here.
+    pub fn run(&mut self, quantum: u32) -> u32
         requires { self.old.thread.done + quantum < 2 ^ 128 }
         ensures program { SameProgramOf self.new self.old }
-        ensures run { IsRun self.old.layout self.old.watchdog (has_page self.old.held.pages) quantum result.count result.stop (record { thread = self.old.thread; memory = memory_of self.old.held.pages }) (record { thread = self.new.thread; memory = memory_of self.new.held.pages }) }
-        ensures pages { has_page self.new.held.pages ≡ has_page self.old.held.pages }
+        ensures runs { LaneRuns quantum result self.old self.new }
         ensures numbers { self.new.held.numbers ≡ self.old.held.numbers }
         ensures moved { self.new.moved ≡ self.old.moved }
-        ensures home { (replica : ReplicaSeen) (thread : ℕ) → LentIn (has_page self.old.held.pages) thread result.count (memory_of self.old.held.pages) self.old.thread replica → ComesHome quantum thread result.count result.stop self.old self.new replica }
+        ensures home { (replica : ReplicaSeen) (thread : ℕ) → LentIn (has_page self.old.held.pages) thread result (memory_of self.old.held.pages) self.old.thread replica → ComesHome quantum thread result self.new.thread.stop self.old self.new replica }
     {
         let mut learnt = Learnt::nothing();
-        ro_thread::run(
+        let RunEnd { count, stop } = ro_thread::run(
             &mut self.thread,
             &mut self.pages,
             &mut learnt,
@@ -93,7 +93,16 @@ impl Lane {
             &self.calls,
             quantum,
             self.watchdog,
-        )
+        );
+        self.thread.stop = stop;
+        count
+    }
+
+    /// The stop at which the thread stands still, if it does.
+    pub fn stop(&self) -> Option<Stop>
+        ensures { result ≡ self.now.thread.stop }
+    {
+        self.thread.stop
     }
 }
 

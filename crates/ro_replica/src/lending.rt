@@ -7,7 +7,7 @@ ghost use Rattle.ro_event.specs.declared.stops.Stop.{Stop};
 ghost use Rattle.ro_region.specs.Permission.{is_writable, ranges_of};
 ghost use Rattle.ro_pages.specs.Bytes.{Memory};
 ghost use Rattle.ro_pages.specs.Directories.{is_listed};
-ghost use Rattle.ro_pages.specs.Held.{has_page, memory_of};
+ghost use Rattle.ro_pages.specs.Held.{has_page, memory_of, most_lent};
 ghost use Rattle.ro_exec.specs.Parts.{SameBeside};
 ghost use Rattle.ro_thread.specs.declared.Thread.{Thread};
 ghost use Rattle.ro_replica.specs.Runs.{is_due};
@@ -28,11 +28,12 @@ impl Replica {
         requires going { IsTrue (is_unstopped thread (replica_of self.old)) }
         requires lane { IsLaneFor lane.old self.old }
         requires none { lane.old.held.numbers ≡ [] }
-        requires few { length wish.now ≤ 8 }
+        requires few { length wish.now ≤ most_lent }
         requires low { All (λ page. page < 2 ^ 20) wish.now }
         ensures program { SameProgram self.new self.old }
         ensures lane { HasProgram lane.new self.old }
         ensures pages { (page : ℕ) → has_page lane.new.held.pages page ≡ (is_listed wish.now page && has_page self.old.held.pages page) }
+        ensures began { slice_get self.old.threads thread ≡ Some lane.new.thread }
         ensures moved { (page : ℕ) → is_listed lane.new.moved page ≡ (has_page lane.new.held.pages page && is_writable self.old.layout.ranges page) }
         ensures lent { (count : ℕ) → ((k : ℕ) → k ≤ count → filter (is_due thread (lane.new.thread.done + k)) self.old.waiting ≡ []) → LentIn (has_page lane.new.held.pages) thread count (memory_of lane.new.held.pages) lane.new.thread (replica_of self.old) }
         ensures rest { replica_of self.new ≡ record (replica_of self.old) { memory = memory_of self.new.held.pages } }
@@ -65,10 +66,10 @@ fn lend_all(
     wish: &[u32],
 )
     requires none { few.old.numbers ≡ [] }
-    requires few { length wish.now ≤ 8 }
+    requires few { length wish.now ≤ most_lent }
     requires low { All (λ page. page < 2 ^ 20) wish.now }
     requires home { moved.old.items ≡ [] }
-    requires room { 8 ≤ vec_capacity moved.old }
+    requires room { most_lent ≤ vec_capacity moved.old }
     ensures lent { AreLent (ranges_of regions.now) (is_listed wish.now) pages.old.pages pages.new.pages few.new.pages moved.new.items }
     ensures backed { has_page pages.new.pages ≡ has_page pages.old.pages }
     ensures numbers { pages.new.numbers ≡ pages.old.numbers }
@@ -91,9 +92,9 @@ fn lend_one(
     page: u32,
 )
     requires page { page < 2 ^ 20 }
-    requires few { length few.old.numbers < 8 }
+    requires few { length few.old.numbers < most_lent }
     requires fewer { length moved.old.items ≤ length few.old.numbers }
-    requires room { 8 ≤ vec_capacity moved.old }
+    requires room { most_lent ≤ vec_capacity moved.old }
     ensures lent { (wished : ℕ → Bool) (home : FinMap nat_cmp (List ℕ)) → has_page pages.old.pages ≡ has_page home → AreLent (ranges_of regions.now) wished home pages.old.pages few.old.pages moved.old.items → AreLent (ranges_of regions.now) (λ other. wished other || (page == other)) home pages.new.pages few.new.pages moved.new.items }
     ensures backed { has_page pages.new.pages ≡ has_page pages.old.pages }
     ensures numbers { pages.new.numbers ≡ pages.old.numbers }

@@ -1,5 +1,8 @@
 //! Replicas.
-ghost use Rattle.std.specs.Prelude.{◌≡◌, ◌≤◌, OnOk, length};
+ghost use Rattle.std.specs.Prelude.{◌≡◌, ◌≤◌, OnOk, length, slice_get, true};
+ghost use Rattle.std.specs.Option.{option_map_or};
+ghost use Rattle.ro_pages.specs.Held.{has_page};
+ghost use Rattle.ro_replica.specs.Runs.{is_calm};
 ghost use Rattle.ro_replica.specs.Replica.{stop_of, word_at};
 ghost use Rattle.ro_replica.specs.Views.{is_unstopped};
 ghost use Rattle.ro_replica.specs.Seen.{replica_of, Keeps};
@@ -80,6 +83,23 @@ impl Replica {
         ensures { result ≡ stop_of (replica_of self.now) thread }
     {
         self.threads.get(thread as usize)?.stop
+    }
+
+    /// Whether a page is backed.
+    pub fn has_page(&self, page: u32) -> bool
+        ensures { result ≡ has_page self.now.held.pages page }
+    {
+        self.pages.has_page(page)
+    }
+
+    /// Whether no fault of a thread is due, and none in so many instructions more. Of a thread that was not made, none is.
+    pub fn is_calm(&self, thread: u32, count: u32) -> bool
+        ensures { result ≡ option_map_or (is_calm count thread (replica_of self.now)) (slice_get self.now.threads thread) true }
+    {
+        match self.threads.get(thread as usize) {
+            Some(stands) => self.waiting.is_calm(thread, stands.done, count),
+            None => true,
+        }
     }
 
     /// The word at an address in little-endian order, as a fetch of a program sees it, whoever may execute it. None where the

@@ -1,6 +1,6 @@
 //! Running a thread of a replica, with the faults that are due.
 ghost use Rattle.std.specs.Prelude.{◌≡◌, ◌+◌, ◌-◌, ◌<◌, ◌≤◌, ℕ, [], true, false, IsTrue, length, filter};
-ghost use Rattle.ro_replica.specs.Replica.{changed_at};
+ghost use Rattle.ro_replica.specs.Replica.{changed_at, stop_of};
 ghost use Rattle.ro_replica.specs.Runs.{is_due, with_stop};
 ghost use Rattle.ro_replica.specs.Rounds.{IsStruck, Leads};
 ghost use Rattle.ro_replica.specs.Views.{is_unstopped};
@@ -30,6 +30,7 @@ impl Replica {
         requires countable { CanCount quantum self.old thread }
         ensures program { SameProgram self.new self.old }
         ensures runs { Runs self.old.layout self.old.watchdog quantum thread (replica_of self.old) (replica_of self.new) result.count result.hit result.stop }
+        ensures stands { stop_of (replica_of self.new) thread ≡ result.stop }
     {
         let hit = self.strike(thread);
         let mut ran = Ran {
@@ -112,6 +113,9 @@ fn until_due(waiting: &Waiting, thread: u32, done: u128, most: u32) -> u32
     ensures free { (k : ℕ) → k < result → filter (is_due thread (done + k)) waiting.now ≡ [] }
     ensures some { filter (is_due thread done) waiting.now ≡ [] → 0 < most → 0 < result }
 {
+    if waiting.is_empty() {
+        return most;
+    }
     let moment = waiting.moment(thread);
     if done < moment && u128::from(most) <= moment - done {
         return most;

@@ -24,7 +24,7 @@ impl Replica {
         ensures threads { length self.new.threads ≡ length self.old.threads }
     {
         let done = self.threads[thread as usize].done;
-        if done < self.waiting.moment(thread) {
+        if self.waiting.is_known_free(thread, done) {
             return 0;
         }
         self.strike_due(thread, done)

@@ -1,6 +1,6 @@
 //! The faults that wait to be struck, and for each thread a moment before which none comes.
-ghost use Rattle.std.specs.Prelude.{◌≡◌, ◌≤◌, ◌<◌, ℕ, List, [], not, length, slice_index_or};
-ghost use Rattle.std.specs.List.{All, filter};
+ghost use Rattle.std.specs.Prelude.{◌≡◌, ◌≤◌, ◌<◌, ◌+◌, ◌^◌, ◌==◌, ◌&&◌, ℕ, List, [], true, nat_le, not, length, slice_index_or};
+ghost use Rattle.std.specs.List.{All, filter, list_any};
 ghost use Rattle.ro_faults.specs.declared.Fault.{Fault as FaultSeen};
 ghost use Rattle.ro_replica.specs.Runs.{is_due};
 ghost use Rattle.ro_replica.specs.Seen.{AreLater};
@@ -74,6 +74,27 @@ impl Waiting {
         }
     }
 
+    /// Whether no faults wait at all.
+    pub(crate) fn is_empty(&self) -> bool
+        ensures { result ≡ true → self.now ≡ [] }
+    {
+        self.faults.is_empty()
+    }
+
+    /// Whether it is known that none is due of a thread that has retired so many instructions.
+    pub(crate) fn is_known_free(&self, thread: u32, done: u128) -> bool
+        ensures { result ≡ true → filter (is_due thread done) self.now ≡ [] }
+    {
+        self.is_empty() || done < self.moment(thread)
+    }
+
+    /// Whether none is due of a thread that has retired so many instructions, and none in so many more.
+    pub(crate) fn is_calm(&self, thread: u32, done: u128, count: u32) -> bool
+        ensures { result ≡ not (list_any (λ fault. (fault.thread == thread) && (nat_le done fault.at && nat_le fault.at (done + count))) self.now) }
+    {
+        !any_within(self.faults.as_slice(), thread, done, count)
+    }
+
     /// The faults of a thread that are due wait no longer.
     pub(crate) fn forget(&mut self, thread: u32, done: u128)
         ensures { self.new ≡ filter (λ fault. not (is_due thread done fault)) self.old }
@@ -119,6 +140,23 @@ fn earlier(fault: &Fault, thread: u32, earliest: u64) -> u64
     } else {
         earliest
     }
+}
+
+/// Whether one of these faults is due of a thread that has retired so many instructions, or in so many more.
+fn any_within(faults: &[Fault], thread: u32, done: u128, count: u32) -> bool
+    ensures { result ≡ list_any (λ fault. (fault.thread == thread) && (nat_le done fault.at && nat_le fault.at (done + count))) faults.now }
+{
+    faults
+        .iter()
+        .any(|fault| is_within(fault, thread, done, count))
+}
+
+/// The same of one fault.
+fn is_within(fault: &Fault, thread: u32, done: u128, count: u32) -> bool
+    ensures { result ≡ ((fault.now.thread == thread) && (nat_le done fault.now.at && nat_le fault.now.at (done + count))) }
+{
+    let at = u128::from(fault.at);
+    fault.thread == thread && done <= at && at - done <= u128::from(count)
 }
 
 /// Whether a fault is one of a thread that has retired so many instructions.

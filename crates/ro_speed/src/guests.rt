@@ -33,6 +33,11 @@ impl Guest {
         }
     }
 
+    /// Whether it needs no more pages than a lease has.
+    pub fn is_narrow(self) -> bool {
+        !matches!(self, Guest::Wide)
+    }
+
     pub fn words(self) -> &'static [u32] {
         match self {
             Guest::Mix => &MIX,

@@ -4,7 +4,7 @@ ghost use Rattle.ro_exec.specs.Registers.{register};
 
 use ro_event::{CallTable, FUNCTIONS};
 use ro_exec::{Cpu, Learnt};
-use ro_pages::{Memory, Pages};
+use ro_pages::{FewPages, Memory, Pages};
 use ro_region::{Range, Regions};
 use ro_thread::{Thread, run};
 use std::alloc::{AllocError, Global};
@@ -20,20 +20,23 @@ const HEAP_PAGES: u32 = 32;
 
 const STACK_TOP: u32 = 0x7001_0000;
 
+/// The pages that no heap has.
+const FIRST_PAGES: [u32; 3] = [CODE / 4096, DATA / 4096, STACK_TOP / 4096 - 1];
+
 /// One thread, and all that its instructions need.
 #[derive(Drop)]
-pub struct Machine {
+pub struct Machine<M: Memory> {
     thread: Thread,
-    pages: Pages,
+    memory: M,
     regions: Regions,
     calls: CallTable,
 }
 
-impl Machine {
+impl Machine<Pages> {
     /// A machine that runs these words for so many turns.
-    pub fn new(alloc: Global, words: &[u32], turns: u32) -> Result<Machine, AllocError> {
+    pub fn new(alloc: Global, words: &[u32], turns: u32) -> Result<Machine<Pages>, AllocError> {
         let mut pages = Pages::new(alloc)?;
-        for page in [CODE / 4096, DATA / 4096, STACK_TOP / 4096 - 1] {
+        for page in FIRST_PAGES {
             back(&mut pages, page)?;
         }
         for page in HEAP / 4096..HEAP / 4096 + HEAP_PAGES {
@@ -61,12 +64,34 @@ impl Machine {
                 done: 0,
                 stop: None,
             },
-            pages,
+            memory: pages,
             regions: regions(alloc)?,
             calls: calls(),
         })
     }
 
+    /// The same machine over a few pages, those beside the heap, as a lease has them.
+    pub fn with_few(self, alloc: Global) -> Result<Machine<FewPages>, AllocError> {
+        let Machine {
+            thread,
+            memory: mut pages,
+            regions,
+            calls,
+        } = self;
+        let mut few = FewPages::new(alloc)?;
+        for page in FIRST_PAGES {
+            lend(&mut pages, page, &mut few);
+        }
+        Ok(Machine {
+            thread,
+            memory: few,
+            regions,
+            calls,
+        })
+    }
+}
+
+impl<M: Memory> Machine<M> {
     /// Runs to the first stop by quanta of instructions, each after a release, and counts the instructions before it.
     pub fn run(&mut self, quantum: u32) -> u64 {
         let mut count: u64 = 0;
@@ -78,7 +103,7 @@ impl Machine {
             }
             let ran = run(
                 &mut self.thread,
-                &mut self.pages,
+                &mut self.memory,
                 &mut learnt,
                 &self.regions,
                 &self.calls,
@@ -109,6 +134,13 @@ fn back(pages: &mut Pages, page: u32) -> Result<(), AllocError> {
         pages.back(page);
     }
     Ok(())
+}
+
+/// Lends a page.
+fn lend(pages: &mut Pages, page: u32, few: &mut FewPages) {
+    if page < 0x10_0000 && pages.backed(page) && !few.has_page(page) && few.has_room() {
+        pages.lend(page, few);
+    }
 }
 
 /// Small segments that fill no page, a heap of 1 MiB, and the stacks of 16 threads.

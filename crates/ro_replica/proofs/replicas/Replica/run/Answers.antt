@@ -1,10 +1,14 @@
-use Rattle.std.proofs.Common.{◌≡◌, ◌+◌, ◌-◌, ◌<◌, ℕ, not, None, ◌∙◌, ap, subst, arith}
+use Rattle.std.proofs.Common.{refl, ◌≡◌, ◌+◌, ◌-◌, ◌<◌, ℕ, length, not, None, ◌∙◌, ap, subst, arith}
 use Rattle.ro_exec.specs.Next.{Layout}
+use Rattle.ro_thread.specs.declared.Thread.{Thread}
+use Rattle.ro_replica.specs.Replica.{Replica, stop_of}
+use Rattle.ro_replica.specs.Runs.{with_stop}
 use Rattle.ro_replica.specs.Rounds.{IsStruck}
 use Rattle.ro_replica.specs.Seen.{replica_of, CanCount}
+use Rattle.ro_replica.proofs.Elements.{got_changed}
 use Rattle.ro_replica.proofs.SoFar.{same_again}
 use Rattle.ro_replica.proofs.Going.{leads_same, struck_now, countable_struck}
-use Rattle.ro_replica.proofs.UnderWay.{begins, goes, ends, smaller, some_not_none}
+use Rattle.ro_replica.proofs.UnderWay.{begins, goes, ends, smaller, some_not_none, unstopped-made}
 use Rattle.ro_replica.proofs.replicas.Replica.run.Goals as goal
 use Rattle.ro_replica.proofs.replicas.Replica.run.Goals.{then-loop-ran-test+else-is_none, else-loop-ran-test}
 
@@ -50,3 +54,11 @@ returns-clause-runs c =
     let struck : IsStruck c.args.self.now.layout (replica_of c.loop-ran.self) c.args.thread =
     subst (λ (l : Layout). IsStruck l (replica_of c.loop-ran.self) c.args.thread) c.loop-ran.invariant.program.layout c.loop-ran.invariant.struck in
     ends _ _ _ _ _ _ _ _ _ _ c.loop-ran.invariant.way struck over c.set_stop.ensures.stop
+
+pub returns-clause-stands : goal.returns-clause-stands
+returns-clause-stands c =
+    let made : c.args.thread < length c.loop-ran.self.threads =
+    let was = unstopped-made c.args.thread c.args.self.now.threads c.requires.going in
+    let same = c.loop-ran.invariant.threads in omega arith in
+    ap (λ (r : Replica). stop_of r c.args.thread) c.set_stop.ensures.stop
+    ∙ got_changed (λ (t : Thread). t.stop) (with_stop c.loop-ran.ran.stop) c.loop-ran.ran.stop (λ t. refl) c.loop-ran.self.threads c.args.thread made

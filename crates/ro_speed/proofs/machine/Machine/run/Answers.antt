@@ -1,4 +1,4 @@
 use Rattle.ro_speed.proofs.machine.Machine.run.Goals as goal
 
 pub loop-init : goal.loop-init
-loop-init c = c.nothing-learnt.ensures _ _ _
+loop-init g c = c.nothing-learnt.ensures _ _ _

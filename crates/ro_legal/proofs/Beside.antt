@@ -1,8 +1,8 @@
 -- Which leases can be out at once.
-use Rattle.std.specs.Prelude.{◌≡◌, ◌≢◌, ◌⊎◌, ℕ, Bool, true, false, not, cond, ◌&&◌, ◌||◌, ◌==◌, List, [], ◌∷◌, Option, Some, None, if◌then◌else◌}
-use Rattle.std.specs.List.{filter, find, list_any}
-use Rattle.std.proofs.Common.{refl, sym, ap, ◌∙◌, subst, inl, inr, eqb-true, eq-eqb, ne_eqb}
-use Rattle.std.proofs.lemmas.Bool.{true≢false, and_parts, and_from, or_parts, cases_eq}
+use Rattle.std.specs.Prelude.{◌≡◌, ◌≢◌, ◌⊎◌, ◌≤◌, nat_lt, ℕ, Bool, true, false, not, cond, ◌&&◌, ◌||◌, ◌==◌, List, [], ◌∷◌, Option, Some, None}
+use Rattle.std.specs.List.{filter, list_any}
+use Rattle.std.proofs.Common.{refl, sym, ap, ◌∙◌, subst, inl, inr, eqb-true, eq-eqb}
+use Rattle.std.proofs.lemmas.Bool.{true≢false, and_parts, and_from, or_parts, cases_eq, le-ltb}
 use Rattle.ro_region.specs.declared.Range.{Range}
 use Rattle.ro_region.specs.Permission.{is_writable}
 use Rattle.ro_pages.specs.Directories.{is_listed}
@@ -12,15 +12,15 @@ use Rattle.ro_journal.specs.declared.Entry.TheVariants.{Take, Put, Part, Vote, F
 use Rattle.ro_kernel.specs.Kernel.{ranges_in}
 use Rattle.ro_plain.specs.Machine.{setup_of}
 use Rattle.ro_legal.specs.Parts.{Lent, Whole, Pages, Sharing, is_all, is_lent}
-use Rattle.ro_legal.specs.Core.{Job, Core, opening_core, is_home, is_lease, is_taken, is_free, bars, shares, is_open, lent_by, lent_to, offers_by}
+use Rattle.ro_legal.specs.Core.{Job, Core, opening_core, sharing_of, is_home, is_lease, is_taken, is_free, bars, shares, is_open, lent_by, lent_to, offers_by}
 use Rattle.ro_replica.specs.Replica.{Replica}
 use Rattle.ro_replica.specs.Runs.{RanTo}
 use Rattle.ro_journal.specs.Losers.{numbers}
 use Rattle.ro_legal.specs.Event.{Event, with_recovered}
-use Rattle.ro_legal.specs.Legal.{core_after_take, core_after_put, core_after_part, core_after_event, lease_run, event_in, freed_event, after, MayTake, IsAllowed, Legal, replay_from, replay, replay_with}
+use Rattle.ro_legal.specs.Legal.{core_after_take, core_after_put, core_after_part, core_after_event, lease_run, event_in, freed_event, after, MayTake, IsAllowed, Legal, replay_from, replay}
 use Rattle.ro_legal.specs.Laws.{AreBeside, elsewhere, sharing}
 use Rattle.ro_legal.proofs.Journals.{legal-keeps}
-use Rattle.ro_legal.proofs.Leases.{Apart, has_replica, same-lease, lendable-is, Behind, put-by, part-by, event_leases}
+use Rattle.ro_legal.proofs.Leases.{same-lease, lendable-is, Behind, put-by, part-by, event_leases}
 use Rattle.ro_legal.proofs.Ordered.{vote-parts, free-parts}
 
 -- ---- each beside each
@@ -133,7 +133,7 @@ some-passes p lease (l ∷ leases) e f = by (is_lease lease l) refl e (λ g. som
     by false is g later = later-true (p l) (list_any p leases) (later g)
 
 -- what is listed behind a filter passes it
-listed-passes : (p : ℕ → Bool) (pages : List ℕ) (page : ℕ) → is_listed (filter p pages) page ≡ true → p page ≡ true
+pub listed-passes : (p : ℕ → Bool) (pages : List ℕ) (page : ℕ) → is_listed (filter p pages) page ≡ true → p page ≡ true
 listed-passes p [] page e = absurd (true≢false (sym e))
 listed-passes p (n ∷ pages) page e = by (listed-passes p pages page) (p n) refl e
   where
@@ -194,6 +194,33 @@ event-sharing : (core : Core) (thread count : ℕ) (replicas : List Replica) (o 
 event-sharing core thread count replicas None = refl
 event-sharing core thread count replicas (Some event) = refl
 
+put-sharing : (job : Job) (core : Core) (lease : Lease) (count : ℕ) (o : Option RanTo) → (core_after_put job core lease count o).sharing ≡ core.sharing
+put-sharing job core lease count None = refl
+put-sharing job core lease count (Some ran) = refl
+
+part-sharing : (job : Job) (core : Core) (lease : Lease) (o : Option RanTo) → (core_after_part job core lease o).sharing ≡ core.sharing
+part-sharing job core lease None = refl
+part-sharing job core lease (Some ran) = refl
+
+sharing-after : (job : Job) (core : Core) (entry : Entry) → (after job core entry).sharing ≡ core.sharing
+unfolding after
+sharing-after job core (Take lease) = refl
+sharing-after job core (Put lease count hit) = put-sharing job core lease count (lease_run job core lease count)
+sharing-after job core (Part lease count hit) = part-sharing job core lease (lease_run job core lease count)
+sharing-after job core (Vote thread count won lost did) = event-sharing core thread count (with_recovered won (numbers lost) core.replicas) (event_in job core thread won)
+sharing-after job core (Free thread) = event-sharing core thread 0 core.replicas (freed_event job core thread)
+sharing-after job core (Scrub won lost) = refl
+sharing-after job core (End how) = refl
+
+sharing-from : (job : Job) (core : Core) (journal : List Entry) → (replay_from job core journal).sharing ≡ core.sharing
+sharing-from job core [] = refl
+sharing-from job core (entry ∷ journal) = sharing-from job (after job core entry) journal ∙ sharing-after job core entry
+
+-- whether pages are lent is the same all along
+pub sharing-stays : (job : Job) (journal : List Entry) → (replay job journal).sharing ≡ sharing_of job
+unfolding opening_core
+sharing-stays job journal = sharing-from job (opening_core job) journal
+
 -- The leases that are out can be out at once, by what the job's run goes by.
 pub record LendsWell (job : Job) (core : Core) : Type 0 where
   pub setup_is : (s : Sharing) → core.sharing ≡ Some s → s.setup ≡ setup_of job.program
@@ -202,23 +229,25 @@ pub record LendsWell (job : Job) (core : Core) : Type 0 where
 lends-none : (job : Job) (core : Core) → core.leases ≡ [] → ((s : Sharing) → core.sharing ≡ Some s → s.setup ≡ setup_of job.program) → LendsWell job core
 lends-none job core none setup = record { setup_is = setup; beside = subst (λ (leases : List Lease). AllBeside (ranges_in (setup_of job.program) core.kernel) core.lent leases) (sym none) tt }
 
-module _ (job : Job) (core : Core) (lease : Lease) (m : MayTake job core lease) (h : LendsWell job core) where
-  -- what each driver's lease has behind it
-  abbrev lent : ℕ → Lent
-  lent = λ driver. if driver == lease.driver then lent_to core lease.replica lease.thread else core.lent driver
-
-  kept : (other : Lease) → list_any (is_lease other) core.leases ≡ true → lent other.driver ≡ core.lent other.driver
-  kept other e =
+-- what each lease has behind a take
+module _ (job : Job) (core : Core) (lease : Lease) (m : MayTake job core lease) where
+  -- the others have what they had
+  pub take-keeps : (other : Lease) → list_any (is_lease other) core.leases ≡ true → (core_after_take core lease).lent other.driver ≡ core.lent other.driver
+  take-keeps other e =
       ap (λ (b : Bool). cond b (lent_to core lease.replica lease.thread) (core.lent other.driver))
       (none-passes (λ l. l.driver == lease.driver) other core.leases m.driver_is_idle e)
 
-  own : lent lease.driver ≡ lent_to core lease.replica lease.thread
-  own = ap (λ (b : Bool). cond b (lent_to core lease.replica lease.thread) (core.lent lease.driver)) (eq-eqb lease.driver lease.driver refl)
+  pub take-lends : (core_after_take core lease).lent lease.driver ≡ lent_to core lease.replica lease.thread
+  take-lends = ap (λ (b : Bool). cond b (lent_to core lease.replica lease.thread) (core.lent lease.driver)) (eq-eqb lease.driver lease.driver refl)
+
+module _ (job : Job) (core : Core) (lease : Lease) (m : MayTake job core lease) (h : LendsWell job core) where
+  abbrev lent : ℕ → Lent
+  lent = (core_after_take core lease).lent
 
   module _ (other : Lease) (e : list_any (is_lease other) core.leases ≡ true) where
     by-sharing : (s : Sharing) → core.sharing ≡ Some s → (b : Bool) → shares s core lease.replica lease.thread ≡ b → cond b (is_open s core lease.replica lease.thread) (is_home core lease.replica) ≡ true
         → lent lease.driver ≡ cond b (Pages (filter (is_free s core lease.replica) (core.wishes lease.replica lease.thread))) Whole → AreBeside (ranges job core lease) lent lease other
-    by-sharing s is true f opens has = open-beside job core lease s (h.setup_is s is) lent has (and_parts _ _ opens).0 other e (kept other e)
+    by-sharing s is true f opens has = open-beside job core lease s (h.setup_is s is) lent has (and_parts _ _ opens).0 other e (take-keeps job core lease m other e)
     by-sharing s is false f home has = home-beside job core lease lent home other e
 
     by-offer : (o : Option Sharing) → core.sharing ≡ o → offers_by o core lease.replica lease.thread ≡ true → lent lease.driver ≡ lent_by o core lease.replica lease.thread → AreBeside (ranges job core lease) lent lease other
@@ -226,12 +255,12 @@ module _ (job : Job) (core : Core) (lease : Lease) (m : MayTake job core lease) 
     by-offer (Some s) is f has = by-sharing s is (shares s core lease.replica lease.thread) refl f has
 
     new-beside : AreBeside (ranges job core lease) lent lease other
-    new-beside = by-offer core.sharing refl (lendable-is core lease.replica lease.thread m.lendable).offered own
+    new-beside = by-offer core.sharing refl (lendable-is core lease.replica lease.thread m.lendable).offered (take-lends job core lease m)
 
   lends-take : LendsWell job (core_after_take core lease)
   lends-take = record {
     setup_is = h.setup_is;
-    beside = (beside-each (ranges job core lease) lent lease core.leases new-beside, same-each (ranges job core lease) core.lent lent core.leases kept h.beside);
+    beside = (beside-each (ranges job core lease) lent lease core.leases new-beside, same-each (ranges job core lease) core.lent lent core.leases (take-keeps job core lease m) h.beside);
   }
 
 lends-back : (job : Job) (core : Core) (lease : Lease) (replica : Replica) → LendsWell job core → Behind (LendsWell job) core lease replica
@@ -254,9 +283,23 @@ lends-after job core (Free thread) may h =
 lends-after job core (Scrub won lost) may h = record { setup_is = h.setup_is; beside = h.beside }
 lends-after job core (End how) may h = record { setup_is = h.setup_is; beside = h.beside }
 
+-- how the job's run lends pages, if it does
+pub sharing-is : (job : Job) (s : Sharing) → sharing_of job ≡ Some s → s ≡ record { setup = setup_of job.program; quantum = job.settings.quantum }
+unfolding sharing_of
+sharing-is job s = by (nat_lt 1 job.settings.drivers)
+  where
+    by : (b : Bool) → cond b (Some (record { setup = setup_of job.program; quantum = job.settings.quantum })) None ≡ Some s → s ≡ record { setup = setup_of job.program; quantum = job.settings.quantum }
+    by true e = cc
+    by false e = absurd (let f : None ≡ Some s = e in cc)
+
+-- one driver lends none
+pub sharing-one : (job : Job) → job.settings.drivers ≤ 1 → sharing_of job ≡ None
+unfolding sharing_of
+sharing-one job few = ap (λ (b : Bool). cond b (Some (record { setup = setup_of job.program; quantum = job.settings.quantum })) None) (le-ltb 1 job.settings.drivers few)
+
 pub lends-opening : (job : Job) → LendsWell job (opening_core job)
 unfolding opening_core
-lends-opening job = record { setup_is = λ s e. absurd (let f : None ≡ Some s = e in cc); beside = tt }
+lends-opening job = record { setup_is = λ s e. ap (λ (x : Sharing). x.setup) (sharing-is job s e); beside = tt }
 
 -- in a legal journal the leases that are out can be out at once
 pub lends-well : (job : Job) (journal : List Entry) → Legal job journal → LendsWell job (replay job journal)
@@ -302,32 +345,10 @@ whole-from : (job : Job) (core : Core) (journal : List Entry) → LendsWhole cor
 whole-from job core [] h = h
 whole-from job core (entry ∷ journal) h = whole-from job (after job core entry) journal (whole-after job core entry h)
 
-pub lends-whole : (job : Job) (journal : List Entry) → LendsWhole (replay job journal)
+pub lends-whole : (job : Job) (journal : List Entry) → sharing_of job ≡ None → LendsWhole (replay job journal)
 unfolding opening_core
-lends-whole job journal = whole-from job (opening_core job) journal (record { none = refl; whole = λ driver. refl })
-
--- also while a failing sink's end is due
-pub lends-whole-with : (job : Job) (journal : List Entry) (failed : Option ℕ) → LendsWhole (replay_with job journal failed)
-lends-whole-with job journal None = lends-whole job journal
-lends-whole-with job journal (Some bytes) = let h = lends-whole job journal in record { none = h.none; whole = h.whole }
+lends-whole job journal none = whole-from job (opening_core job) journal (record { none = none; whole = λ driver. refl })
 
 -- and behind a take
 pub taken-whole : (core : Core) (lease : Lease) → LendsWhole core → (core_after_take core lease).lent lease.driver ≡ Whole
 taken-whole core lease h = (whole-take core lease h).whole lease.driver
-
--- then none is of a replica of which another is out
-apart-all : (permitted : List Range) (lent : ℕ → Lent) → ((driver : ℕ) → lent driver ≡ Whole) → (one : Lease) (leases : List Lease) → BesideAll permitted lent one leases → has_replica one.replica leases ≡ false
-apart-all permitted lent whole one [] h = refl
-apart-all permitted lent whole one (lease ∷ leases) h = by (apart-all permitted lent whole one leases h.1) h.0
-  where
-    by : has_replica one.replica leases ≡ false → AreBeside permitted lent one lease → ((lease.replica == one.replica) || has_replica one.replica leases) ≡ false
-    by rest (elsewhere apart) = ap (λ (b : Bool). b || has_replica one.replica leases) (ne_eqb lease.replica one.replica (λ e. apart (sym e))) ∙ rest
-    by rest (sharing ones others apart has have both) = absurd (let f : Whole ≡ Pages ones = sym (whole one.driver) ∙ has in cc)
-
-apart-each : (permitted : List Range) (lent : ℕ → Lent) → ((driver : ℕ) → lent driver ≡ Whole) → (leases : List Lease) → AllBeside permitted lent leases → Apart leases
-apart-each permitted lent whole [] h = tt
-apart-each permitted lent whole (lease ∷ leases) h = (apart-all permitted lent whole lease leases h.0, apart-each permitted lent whole leases h.1)
-
--- in a legal journal no two leases are of one replica
-pub leases_apart : (job : Job) (journal : List Entry) → Legal job journal → Apart (replay job journal).leases
-leases_apart job journal legal = apart-each _ (replay job journal).lent (lends-whole job journal).whole (replay job journal).leases (lends-well job journal legal).beside

@@ -1,8 +1,8 @@
 -- What a copy of a replica keeps.
-use Rattle.std.specs.Prelude.{◌≡◌, ◌≢◌, ℕ, zero, suc, ◌≤◌, ◌⊎◌, ◌==◌, false, List, [], ◌∷◌, length, Option, Some, None, slice_get, slice_set}
+use Rattle.std.specs.Prelude.{◌≡◌, ◌≢◌, ℕ, zero, suc, ◌≤◌, ◌⊎◌, ◌||◌, ◌==◌, Bool, false, List, [], ◌∷◌, length, Option, Some, None, slice_get, slice_set}
 use Rattle.std.specs.Option.{option_map_or}
 use Rattle.std.proofs.Common.{refl, sym, ap, ◌∙◌, subst, arith, inl, inr}
-use Rattle.std.proofs.lemmas.Bool.{true≢false, eq-eqb}
+use Rattle.std.proofs.lemmas.Bool.{true≢false, eq-eqb, ne_eqb}
 use Rattle.std.proofs.lemmas.List.{length-set}
 use Rattle.std.proofs.lemmas.Option.{slice_get_within}
 use Rattle.ro_vote.specs.Numbers.{is_among}
@@ -99,6 +99,34 @@ length-with-copy won (lost ∷ losers) replicas = length-with-copy won losers (w
 pub still-there : (won lost : ℕ) (replicas : List Replica) (winner : Replica) → slice_get replicas won ≡ Some winner → (w : Replica) × (slice_get (with_copy won lost replicas) won ≡ Some w)
 still-there won lost replicas winner there =
     get-within (with_copy won lost replicas) won (let e = length-copy won lost replicas in let l = slice_get_within replicas won winner there in omega arith)
+
+-- what a copy has where its winner does, each has after a vote's copies where the winner did and all that didn't lose
+pub copies-keep : (P Q : Replica → Type 0) → ((r : Replica) → P r → Q r) → ((winner loser : Replica) → P winner → Q loser → P (recovered winner loser))
+    → (won : ℕ) (lost : List ℕ) (replicas : List Replica) (winner : Replica) → slice_get replicas won ≡ Some winner → P winner
+    → ((number : ℕ) (r : Replica) → slice_get replicas number ≡ Some r → Q r) → ((number : ℕ) (r : Replica) → is_among lost number ≡ false → slice_get replicas number ≡ Some r → P r)
+    → (number : ℕ) (r : Replica) → slice_get (with_recovered won lost replicas) number ≡ Some r → P r
+copies-keep P Q weaker keeps won [] replicas winner there h all others number r e = others number r refl e
+copies-keep P Q weaker keeps won (lost ∷ losers) replicas winner there h all others number r e =
+    copies-keep P Q weaker keeps won losers (with_copy won lost replicas) w.0 w.1 (first w.0 (after-copy won lost replicas winner won w.0 there w.1))
+    (λ n x f. each n x (after-copy won lost replicas winner n x there f)) (λ n x stays f. other n x stays (after-copy won lost replicas winner n x there f)) number r e
+  where
+    w : (w : Replica) × (slice_get (with_copy won lost replicas) won ≡ Some w)
+    w = still-there won lost replicas winner there
+
+    copy : (winner loser : Replica) → slice_get replicas won ≡ Some winner → slice_get replicas lost ≡ Some loser → P (recovered winner loser)
+    copy won_is loser a b = keeps won_is loser (subst P (some-injective (sym there ∙ a)) h) (all lost loser b)
+
+    first : (r : Replica) → AfterCopy won lost replicas won r → P r
+    first r (not_lost d e) = subst P (some-injective (sym there ∙ e)) h
+    first r (is_copy winner loser same a b e) = subst P e (copy winner loser a b)
+
+    each : (number : ℕ) (r : Replica) → AfterCopy won lost replicas number r → Q r
+    each number r (not_lost d e) = all number r e
+    each number r (is_copy winner loser same a b e) = weaker r (subst P e (copy winner loser a b))
+
+    other : (number : ℕ) (r : Replica) → is_among losers number ≡ false → AfterCopy won lost replicas number r → P r
+    other number r stays (not_lost d e) = others number r (ap (λ (b : Bool). b || is_among losers number) (ne_eqb lost number (λ k. d (sym k))) ∙ stays) e
+    other number r stays (is_copy winner loser same a b e) = subst P e (copy winner loser a b)
 
 -- after a copy each replica but the loser is as it was
 copy-other : (won lost : ℕ) (replicas : List Replica) (number : ℕ) → lost ≢ number → slice_get (with_copy won lost replicas) number ≡ slice_get replicas number

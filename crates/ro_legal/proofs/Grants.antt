@@ -1,5 +1,5 @@
 -- A thread that stands at a call stands there until it is answered, or its replica becomes a copy.
-use Rattle.std.specs.Prelude.{◌≡◌, ◌≢◌, ◌==◌, ℕ, ◌⊎◌, Bool, true, false, not, cond, ◌&&◌, ◌||◌, List, [], ◌∷◌, ◌++◌, Option, Some, None, is_none, slice_get}
+use Rattle.std.specs.Prelude.{◌≡◌, ◌≢◌, ◌==◌, ℕ, ◌⊎◌, Bool, true, false, not, cond, ◌||◌, List, [], ◌∷◌, ◌++◌, Option, Some, None, is_none, slice_get}
 use Rattle.std.specs.List.{filter, list_any}
 use Rattle.std.specs.Option.{option_map_or, option_and_then}
 use Rattle.std.proofs.Common.{refl, sym, ap, ◌∙◌, subst, inl, inr}
@@ -117,6 +117,18 @@ lent-meets job core lease count ran lent runs =
 
 -- ---- what is lent goes on
 
+-- a lease that is still out behind another that came back
+module _ (core : Core) (lease other : Lease) (one : OneEach core.leases) (back : is_out core lease ≡ true) (e : list_any (is_lease other) (filter (λ l. not (is_lease lease l)) core.leases) ≡ true) where
+  -- it was out before
+  pub was-out : is_out core other ≡ true
+  was-out = any-filter (is_lease other) (λ l. not (is_lease lease l)) core.leases e
+
+  -- it is not the lease that came back
+  pub is-another : lease ≢ other
+  is-another same =
+      let gone_now : list_any (λ l. l.driver == lease.driver) (filter (λ l. not (is_lease lease l)) core.leases) ≡ false = gone_number (λ l. l.driver) lease core.leases one back in
+      true≢false (sym (out_number (λ l. l.driver) other (filter (λ l. not (is_lease lease l)) core.leases) e) ∙ ap (λ (l : Lease). list_any (λ x. x.driver == l.driver) (filter (λ x. not (is_lease lease x)) core.leases)) (sym same) ∙ gone_now)
+
 module _ (job : Job) (core : Core) (lease : Lease) (count hit : ℕ) (back : Returns job core lease count hit) (well : LendsWell job core) (one : OneEach core.leases) (h : LentGo core) (stop : Option Stop) (wishes : (replica thread : ℕ) → List ℕ) (misses : (replica thread : ℕ) → ℕ) where
   abbrev new : Core
   new = core_after_lease core lease stop wishes misses back.ran.replica
@@ -125,19 +137,13 @@ module _ (job : Job) (core : Core) (lease : Lease) (count hit : ℕ) (back : Ret
   lent = lent-thread core lease.replica lease.thread (h lease back.out)
 
   go-back : LentGo (core_after_lease core lease stop wishes misses back.ran.replica)
-  go-back other e = by (beside-both ranges core.lent lease other core.leases well.beside back.out out differ)
+  go-back other e = by (beside-both ranges core.lent lease other core.leases well.beside back.out out (is-another core lease other one back.out e))
     where
       ranges : List Range
       ranges = ranges_in (setup_of job.program) core.kernel
 
       out : is_out core other ≡ true
-      out = any-filter (is_lease other) (λ l. not (is_lease lease l)) core.leases e
-
-      -- it is not the lease that came back
-      differ : lease ≢ other
-      differ same =
-          let gone_now : list_any (λ l. l.driver == lease.driver) (filter (λ l. not (is_lease lease l)) core.leases) ≡ false = gone_number (λ l. l.driver) lease core.leases one back.out in
-          true≢false (sym (out_number (λ l. l.driver) other (filter (λ l. not (is_lease lease l)) core.leases) e) ∙ ap (λ (l : Lease). list_any (λ x. x.driver == l.driver) (filter (λ x. not (is_lease lease x)) core.leases)) (sym same) ∙ gone_now)
+      out = was-out core lease other one back.out e
 
       away : other.replica ≢ lease.replica → goes_in new other.replica other.thread ≡ true
       away apart =
@@ -194,10 +200,10 @@ lent-go job journal legal = (legal-keeps job (GoesOn job) (goes-after job) (open
 -- ---- what stands at a call
 
 -- where a thread is found
-record Found (core : Core) (replica thread : ℕ) (stands : Thread) : Type 0 where
-  value : Replica
-  in_core : slice_get core.replicas replica ≡ Some value
-  there : slice_get value.threads thread ≡ Some stands
+pub record Found (core : Core) (replica thread : ℕ) (stands : Thread) : Type 0 where
+  pub value : Replica
+  pub in_core : slice_get core.replicas replica ≡ Some value
+  pub there : slice_get value.threads thread ≡ Some stands
 
 found : (core : Core) (replica thread : ℕ) (stands : Thread) → thread_in core replica thread ≡ Some stands → Found core replica thread stands
 found core replica thread stands e = option_and_then_some (λ r. slice_get r.threads thread) (slice_get core.replicas replica) stands e (λ r f g. record { value = r; in_core = f; there = g })
@@ -220,7 +226,7 @@ made-keeps (Some made) [] i x e = e
 made-keeps (Some made) (y ∷ threads) i x e = slice_get-append (y ∷ threads) _ i x e
 
 -- an effect of another thread leaves it
-effect-keeps : (effect : Effect) (replica : Replica) (thread : ℕ) (stands : Thread) (call : Call) → thread ≢ effect.thread → slice_get replica.threads thread ≡ Some stands → stands.stop ≡ Some (Calls call)
+pub effect-keeps : (effect : Effect) (replica : Replica) (thread : ℕ) (stands : Thread) (call : Call) → thread ≢ effect.thread → slice_get replica.threads thread ≡ Some stands → stands.stop ≡ Some (Calls call)
     → slice_get (cancelled (applied effect replica)).threads thread ≡ Some stands
 unfolding applied cancelled
 effect-keeps effect replica thread stands call other there at =
@@ -240,7 +246,7 @@ event-keeps core voted count replicas event replica thread value stands call own
     })
 
 -- what an event that blocks does to its thread: its count since the last vote begins anew
-blocked-stands : (core : Core) (voted count : ℕ) (replicas : List Replica) (event : Event) (replica : ℕ) (value : Replica) (stands : Thread) (call : Call)
+pub blocked-stands : (core : Core) (voted count : ℕ) (replicas : List Replica) (event : Event) (replica : ℕ) (value : Replica) (stands : Thread) (call : Call)
     → event.effect ≡ quiet_effect voted None false → slice_get replicas replica ≡ Some value → slice_get value.threads voted ≡ Some stands → stands.stop ≡ Some (Calls call)
     → thread_in (core_after_event core voted count replicas (Some event)) replica voted ≡ Some (record stands { since = 0 })
 unfolding applied cancelled
@@ -310,7 +316,7 @@ module _ (job : Job) (core : Core) (lease : Lease) (count hit : ℕ) (back : Ret
     there = f.there;
   })
 
-  back-keeps : thread_in (core_after_lease core lease stop wishes misses back.ran.replica) replica thread ≡ Some stands
+  pub back-keeps : thread_in (core_after_lease core lease stop wishes misses back.ran.replica) replica thread ≡ Some stands
   back-keeps = by (cases_eq replica lease.replica)
     where
       by : (replica ≡ lease.replica) ⊎ (replica ≢ lease.replica) → thread_in behind replica thread ≡ Some stands

@@ -18,16 +18,16 @@ use Rattle.ro_replica.specs.Replica.{Replica}
 use Rattle.ro_replica.specs.Runs.{RanTo, with_stop}
 use Rattle.ro_plain.specs.Machine.{setup_of, layout_in}
 use Rattle.ro_journal.specs.declared.Lease.{Lease}
-use Rattle.ro_legal.specs.Parts.{Lent, Whole, Pages, seen_pages, run_with}
+use Rattle.ro_legal.specs.Parts.{Lent, Pages, seen_pages, run_with}
 use Rattle.ro_legal.specs.Core.{Job, Core, opening_core, is_idle, is_lease, lease_of, lent_to}
 use Rattle.ro_legal.specs.Event.{with_recovered}
 use Rattle.ro_legal.specs.Legal.{lease_run, stopped, core_after_lease, core_after_put, core_after_part, event_in, freed_event, after, IsAllowed, Returns, Legal, replay}
-use Rattle.ro_legal.specs.Laws.{Names, IsKept, IsStill, HasLease, HasWhole, AreBeside, elsewhere, sharing}
+use Rattle.ro_legal.specs.Laws.{Names, IsKept, IsStill, HasLease, AreBeside, elsewhere, sharing}
 use Rattle.ro_legal.specs.Sound.{IsOrdered}
 use Rattle.ro_legal.proofs.Lists.{get-set-same, changed-other}
 use Rattle.ro_legal.proofs.Journals.{LegalFrom-parts, legal-keeps, replay_more}
 use Rattle.ro_legal.proofs.Leases.{has_replica, has_driver, Apart, OneEach, or_true, not_false, same-lease, has-filter, gone_number, out_found, event_leases, leases_keep, one_each, out_has, put-only, part-only, Behind, put-by, part-by}
-use Rattle.ro_legal.proofs.Beside.{beside-both, LendsWell, lends-well, lends-whole}
+use Rattle.ro_legal.proofs.Beside.{beside-both, LendsWell, lends-well}
 use Rattle.ro_legal.proofs.PageRuns.{LeavesRest, leaves-rest}
 use Rattle.ro_legal.proofs.Ordered.{ordered, vote-parts, free-parts, scrub-parts, end-alone}
 
@@ -109,7 +109,7 @@ found-driver driver lease (l ∷ leases) e = by (l.driver == driver) refl e (fou
     by false is f later = later f
 
 -- another driver's lease comes back
-module _ (job : Job) (core : Core) (well : LendsWell job core) (driver : ℕ) (lease : Lease) (taken : Replica) (out : HasLease core driver lease taken) (other : Lease) (count hit : ℕ) (back : Returns job core other count hit) (differs : other.driver ≢ driver) (stop : Option Stop) (wishes : (replica thread : ℕ) → List ℕ) (misses : (replica thread : ℕ) → ℕ) where
+module _ (job : Job) (core : Core) (well : LendsWell job core) (driver : ℕ) (lease : Lease) (lent : Lent) (taken : Replica) (out : HasLease core driver lease lent taken) (other : Lease) (count hit : ℕ) (back : Returns job core other count hit) (differs : other.driver ≢ driver) (stop : Option Stop) (wishes : (replica thread : ℕ) → List ℕ) (misses : (replica thread : ℕ) → ℕ) where
   abbrev behind : Core
   behind = core_after_lease core other stop wishes misses back.ran.replica
 
@@ -130,9 +130,10 @@ module _ (job : Job) (core : Core) (well : LendsWell job core) (driver : ℕ) (l
       keeps : (l : Lease) → (l.driver == driver) ≡ true → not (is_lease other l) ≡ true
       keeps l is = not_other l is (is_lease other l) refl
 
-  away : other.replica ≢ lease.replica → HasLease behind driver lease taken
+  away : other.replica ≢ lease.replica → HasLease behind driver lease lent taken
   away apart = record {
     held = still_held;
+    has = out.has;
     now = out.now;
     there = slice_get-set_other core.replicas other.replica lease.replica _ apart ∙ out.there;
     still = out.still;
@@ -153,7 +154,7 @@ module _ (job : Job) (core : Core) (well : LendsWell job core) (driver : ℕ) (l
     rest = leaves-rest (layout_in job.program core.kernel) job.settings.watchdog others count other.thread out.now back.ran runs
 
     kept : IsKept ones lease.thread taken out.now
-    kept = subst (λ (l : Lent). IsStill l lease.thread taken out.now) has out.still
+    kept = subst (λ (l : Lent). IsStill l lease.thread taken out.now) (sym out.has ∙ has) out.still
 
     -- a byte of a page of this lease
     byte : (a : ℕ) → seen_pages (Pages ones) taken.backed (page_of a) ≡ true → (b : Bool) → seen_pages (Pages others) out.now.backed (page_of a) ≡ b → out.now.memory a ≡ back.ran.replica.memory a
@@ -170,61 +171,53 @@ module _ (job : Job) (core : Core) (well : LendsWell job core) (driver : ℕ) (l
       waiting = rest.waiting ∙ kept.waiting;
     }
 
-    here : HasLease behind driver lease taken
+    here : HasLease behind driver lease lent taken
     here = record {
       held = still_held;
+      has = out.has;
       now = stopped other.thread stop back.ran.replica;
       there = ap (slice_get behind.replicas) (sym same) ∙ get-set-same core.replicas other.replica out.now (stopped other.thread stop back.ran.replica) there_now;
-      still = subst (λ (l : Lent). IsStill l lease.thread taken (stopped other.thread stop back.ran.replica)) (sym has) still;
+      still = subst (λ (l : Lent). IsStill l lease.thread taken (stopped other.thread stop back.ran.replica)) (sym has ∙ out.has) still;
       not_ended = out.not_ended;
     }
 
-  out-back : HasLease (core_after_lease core other stop wishes misses back.ran.replica) driver lease taken
+  out-back : HasLease (core_after_lease core other stop wishes misses back.ran.replica) driver lease lent taken
   out-back = by beside
     where
-      by : AreBeside (ranges_in (setup_of job.program) core.kernel) core.lent lease other → HasLease behind driver lease taken
+      by : AreBeside (ranges_in (setup_of job.program) core.kernel) core.lent lease other → HasLease behind driver lease lent taken
       by (elsewhere apart) = away (λ e. apart (sym e))
       by (sharing ones others apart has have both) = either (cases_eq other.replica lease.replica)
         where
-          either : (other.replica ≡ lease.replica) ⊎ (other.replica ≢ lease.replica) → HasLease behind driver lease taken
+          either : (other.replica ≡ lease.replica) ⊎ (other.replica ≢ lease.replica) → HasLease behind driver lease lent taken
           either (inl same) = here same ones others apart (ap core.lent (sym own) ∙ has) have both
           either (inr differ) = away differ
 
 -- an entry of another driver leaves the lease
-pub out_after : (job : Job) (core : Core) (driver : ℕ) (lease : Lease) (taken : Replica) (by : ℕ) (entry : Entry) → IsOrdered job core → LendsWell job core → IsAllowed job core entry → Names by entry → by ≢ driver → HasLease core driver lease taken → HasLease (after job core entry) driver lease taken
+pub out_after : (job : Job) (core : Core) (driver : ℕ) (lease : Lease) (lent : Lent) (taken : Replica) (by : ℕ) (entry : Entry) → IsOrdered job core → LendsWell job core → IsAllowed job core entry → Names by entry → by ≢ driver → HasLease core driver lease lent taken → HasLease (after job core entry) driver lease lent taken
 unfolding after
-out_after job core driver lease taken by (Take other) o well m names ne out = record {
+out_after job core driver lease lent taken by (Take other) o well m names ne out = record {
   held = ap (λ (b : Bool). cond b (Some other) (find (λ (l : Lease). l.driver == driver) core.leases)) (ne_eqb other.driver driver (λ e. ne (sym names ∙ e))) ∙ out.held;
+  has = ap (λ (b : Bool). cond b (lent_to core other.replica other.thread) (core.lent driver)) (ne_eqb driver other.driver (λ e. ne (sym names ∙ sym e))) ∙ out.has;
   now = out.now;
   there = out.there;
-  still = subst (λ (l : Lent). IsStill l lease.thread taken out.now) (sym (ap (λ (b : Bool). cond b (lent_to core other.replica other.thread) (core.lent driver)) (ne_eqb driver other.driver (λ e. ne (sym names ∙ sym e))))) out.still;
+  still = out.still;
   not_ended = out.not_ended;
 }
-out_after job core driver lease taken by (Put other count hit) o well m names ne out =
-    put-by job core other count hit m (λ c. HasLease c driver lease taken) (out-back job core well driver lease taken out other count hit m.returns (λ e. ne (sym names ∙ e)))
-out_after job core driver lease taken by (Part other count hit) o well m names ne out =
-    part-by job core other count hit m (λ c. HasLease c driver lease taken) (out-back job core well driver lease taken out other count hit m.returns (λ e. ne (sym names ∙ e)))
-out_after job core driver lease taken by (Vote thread count won lost did) o well m names ne out = absurd (none_found driver lease core.leases (vote-parts core thread m.may).alone out.held)
-out_after job core driver lease taken by (Free thread) o well m names ne out = absurd (none_found driver lease core.leases (free-parts job core thread m.may).alone out.held)
-out_after job core driver lease taken by (Scrub won lost) o well m names ne out = absurd (none_found driver lease core.leases (scrub-parts core m.may).alone out.held)
-out_after job core driver lease taken by (End how) o well m names ne out = absurd (none_found driver lease core.leases (end-alone job core how m.1 o) out.held)
+out_after job core driver lease lent taken by (Put other count hit) o well m names ne out =
+    put-by job core other count hit m (λ c. HasLease c driver lease lent taken) (out-back job core well driver lease lent taken out other count hit m.returns (λ e. ne (sym names ∙ e)))
+out_after job core driver lease lent taken by (Part other count hit) o well m names ne out =
+    part-by job core other count hit m (λ c. HasLease c driver lease lent taken) (out-back job core well driver lease lent taken out other count hit m.returns (λ e. ne (sym names ∙ e)))
+out_after job core driver lease lent taken by (Vote thread count won lost did) o well m names ne out = absurd (none_found driver lease core.leases (vote-parts core thread m.may).alone out.held)
+out_after job core driver lease lent taken by (Free thread) o well m names ne out = absurd (none_found driver lease core.leases (free-parts job core thread m.may).alone out.held)
+out_after job core driver lease lent taken by (Scrub won lost) o well m names ne out = absurd (none_found driver lease core.leases (scrub-parts core m.may).alone out.held)
+out_after job core driver lease lent taken by (End how) o well m names ne out = absurd (none_found driver lease core.leases (end-alone job core how m.1 o) out.held)
 
 -- and so in a legal journal
-pub lease-stays : (job : Job) (journal : List Entry) (entry : Entry) → Legal job (journal ++ entry ∷ []) → (driver by : ℕ) → Names by entry → by ≢ driver → (lease : Lease) (taken : Replica) → HasLease (replay job journal) driver lease taken → HasLease (replay job (journal ++ entry ∷ [])) driver lease taken
-lease-stays job journal entry legal driver by names ne lease taken out =
+pub lease-stays : (job : Job) (journal : List Entry) (entry : Entry) → Legal job (journal ++ entry ∷ []) → (driver by : ℕ) → Names by entry → by ≢ driver → (lease : Lease) (lent : Lent) (taken : Replica) → HasLease (replay job journal) driver lease lent taken → HasLease (replay job (journal ++ entry ∷ [])) driver lease lent taken
+lease-stays job journal entry legal driver by names ne lease lent taken out =
     let parts = LegalFrom-parts job (opening_core job) journal (entry ∷ []) legal in
-    subst (λ (c : Core). HasLease c driver lease taken) (sym (replay_more job journal entry))
-    (out_after job (replay job journal) driver lease taken by entry (ordered job journal parts.0) (lends-well job journal parts.0) parts.1.0 names ne out)
-
--- where each lease is of a whole replica, that is as it was
-pub lease_lasts : (job : Job) (journal : List Entry) (entry : Entry) → Legal job (journal ++ entry ∷ []) → (driver by : ℕ) → Names by entry → by ≢ driver → (lease : Lease) (value : Replica) → HasWhole (replay job journal) driver lease value → HasWhole (replay job (journal ++ entry ∷ [])) driver lease value
-lease_lasts job journal entry legal driver by names ne lease value out =
-    let whole : (replay job journal).lent driver ≡ Whole = (lends-whole job journal).whole driver in
-    let later : (replay job (journal ++ entry ∷ [])).lent driver ≡ Whole = (lends-whole job (journal ++ entry ∷ [])).whole driver in
-    let stays = lease-stays job journal entry legal driver by names ne lease value
-    (record { held = out.held; now = value; there = out.there; still = subst (λ (l : Lent). IsStill l lease.thread value value) (sym whole) refl; not_ended = out.not_ended }) in
-    let same : stays.now ≡ value = subst (λ (l : Lent). IsStill l lease.thread value stays.now) later stays.still in
-    record { held = stays.held; there = stays.there ∙ ap Some same; not_ended = stays.not_ended }
+    subst (λ (c : Core). HasLease c driver lease lent taken) (sym (replay_more job journal entry))
+    (out_after job (replay job journal) driver lease lent taken by entry (ordered job journal parts.0) (lends-well job journal parts.0) parts.1.0 names ne out)
 
 -- while a lease is out, no entry changes the kernel
 pub out_kernel : (job : Job) (core : Core) (driver : ℕ) (lease : Lease) (entry : Entry) → IsAllowed job core entry → lease_of core driver ≡ Some lease → (after job core entry).kernel ≡ core.kernel

@@ -59,6 +59,14 @@ pub mod FaultStops
 pub mod Lasting
 -- with one driver each lease comes back in the next entry
 pub mod OneDriver
+-- while a lease of pages is out, it has those that its thread wishes most
+pub mod Wishes
+-- a thread that came back for the want of two pages, one after the other, wants no third one
+pub mod Wanting
+-- how often a thread missed a page since its last vote
+pub mod Misses
+-- a blocked thread stands at a call in every replica
+pub mod Blocked
 -- whose votes came last, and that such a thread comes behind all others
 pub mod Streaks
 -- scrubs come in time

@@ -8,15 +8,16 @@ use Rattle.std.proofs.lemmas.Option.{slice_get_within}
 use Rattle.ro_event.specs.declared.calls.Call.{Call}
 use Rattle.ro_event.specs.declared.stops.Stop.{Stop}
 use Rattle.ro_event.specs.declared.stops.Stop.TheVariants.{Calls, Trap, PageFault, Watchdog}
-use Rattle.ro_event.specs.Views.{View}
+use Rattle.ro_event.specs.Views.{View, same_view}
+use Rattle.ro_event.proofs.Same.{view-true}
 use Rattle.ro_region.specs.declared.Range.{Range}
 use Rattle.ro_pages.specs.Bytes.{Memory, bytes_at, Span}
 use Rattle.ro_kernel.specs.Serve.{capped, is_write, is_good_write, payload_of, payload_span, is_atomic}
 use Rattle.ro_kernel.specs.Kernel.{ranges_in}
 use Rattle.ro_thread.specs.declared.Thread.{Thread}
-use Rattle.ro_vote.specs.Verdict.{verdict_of, Won}
+use Rattle.ro_vote.specs.Verdict.{verdict_of, Won, differing_from}
 use Rattle.ro_vote.specs.Numbers.{is_among}
-use Rattle.ro_vote.proofs.Verdicts.{WonBy, won-by, loser-within, winner-stays}
+use Rattle.ro_vote.proofs.Verdicts.{WonBy, won-by, loses-at, loser-within, winner-stays}
 use Rattle.ro_replica.specs.Replica.{Replica, stop_of}
 use Rattle.ro_replica.specs.Views.{payload_at, view_with, view_of}
 use Rattle.ro_plain.specs.Machine.{setup_of}
@@ -42,6 +43,16 @@ won-in views won lost e = record {
 -- the winner's view is that of the majority
 pub won-view : (views : List View) (won : ℕ) (lost : List ℕ) (view : View) (w : WonBy views won lost) → slice_get views won ≡ Some view → w.view ≡ view
 won-view views won lost view w e = some-injective (sym w.there ∙ e)
+
+-- a view that didn't lose is the winner's
+pub same-as-won : (views : List View) (won : ℕ) (lost : List ℕ) (w : WonBy views won lost) (number : ℕ) (view : View) → is_among lost number ≡ false → slice_get views number ≡ Some view → w.view ≡ view
+same-as-won views won lost w number view stays there = by (same_view w.view view) refl
+  where
+    by : (b : Bool) → same_view w.view view ≡ b → w.view ≡ view
+    by true same = view-true w.view view same
+    by false other =
+        let loses : is_among (differing_from w.view 0 views) (0 + number) ≡ true = loses-at w.view 0 views number view there other in
+        absurd (true≢false (sym loses ∙ ap (is_among (differing_from w.view 0 views)) (let z : 0 + number ≡ number = omega arith in z) ∙ ap (λ (l : List ℕ). is_among l number) w.losers ∙ stays))
 
 -- ---- views and replicas
 

@@ -40,7 +40,7 @@ use Rattle.ro_legal.specs.Streaks.{after_event}
 use Rattle.ro_legal.specs.Legal.{MayTake, EndsAlone, EndsFree, core_after_take, event_in, freed_event as freed_in, since_in, cut_output}
 
 unfoldable pub opening_core : Job → Core
-opening_core job = record (opening_voted job) { sides = replicate job.settings.replicas opening_side }
+opening_core job = record (opening_voted job) { sides = replicate job.settings.replicas opening_side; sharing = None }
 
 -- the replica of this number, as one that answers
 abbrev pub peer_in : Core → (number : ℕ) → Option Peer

@@ -1,8 +1,10 @@
 -- What is lent of a replica: all of it, or a few of its pages.
-use Rattle.std.specs.Prelude.{ℕ, ◌+◌, Bool, true, false, not, ◌&&◌, List, ◌∷◌, take, Option, None, nat_le, ◌==◌, if◌then◌else◌, slice_get, slice_set}
-use Rattle.std.specs.List.{filter, list_any}
+pub use Rattle.ro_replica.specs.Runs.{is_calm}
+use Rattle.std.specs.Prelude.{ℕ, Bool, true, false, not, ◌&&◌, List, ◌∷◌, take, Option, None, ◌==◌, if◌then◌else◌, slice_get, slice_set}
+use Rattle.std.specs.List.{filter}
 use Rattle.std.specs.Option.{option_and_then, option_map}
 use Rattle.ro_pages.specs.Directories.{is_listed}
+use Rattle.ro_pages.specs.Held.{most_lent}
 use Rattle.ro_exec.specs.Next.{Layout, Backed}
 use Rattle.ro_kernel.specs.Kernel.{Setup}
 use Rattle.ro_thread.specs.declared.Thread.{Thread}
@@ -24,7 +26,7 @@ pub record Sharing : Type 0 where
 
 -- how many pages a thread wishes at most, and how often it may miss one between two votes before its leases are whole
 abbrev pub most_wishes : ℕ
-most_wishes = 16
+most_wishes = most_lent
 
 abbrev pub most_misses : ℕ
 most_misses = 8
@@ -45,11 +47,6 @@ is_lent (Pages pages) page = is_listed pages page
 abbrev pub seen_pages : Lent → Backed → Backed
 seen_pages Whole backed = backed
 seen_pages (Pages pages) backed = λ page. is_listed pages page && backed page
-
--- no fault of the thread is due before, within or behind so many instructions
-abbrev pub is_calm : (count thread : ℕ) → Replica → Thread → Bool
-is_calm count number replica thread =
-    not (list_any (λ fault. (fault.thread == number) && (nat_le thread.done fault.at && nat_le fault.at (thread.done + count))) replica.waiting)
 
 abbrev pub ran_to : (number : ℕ) → Replica → Running → RanTo
 ran_to number replica running =

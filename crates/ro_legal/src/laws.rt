@@ -1,6 +1,6 @@
 //! What holds of every legal journal.
 ghost use Rattle.std.specs.Prelude.{false, true, is_some, ◌≡◌, ◌≢◌, ◌<◌, ◌≤◌, ◌+◌, ◌⊎◌, ◌&&◌, ◌==◌, ◌∷◌, ◌++◌, ℕ, List, [], Some, None, not, length, slice_get};
-ghost use Rattle.std.specs.List.{filter};
+ghost use Rattle.std.specs.List.{All, filter};
 ghost use Rattle.ro_event.specs.declared.calls.Call.{Call};
 ghost use Rattle.ro_event.specs.declared.stops.Stop.TheVariants.{Calls, PageFault};
 ghost use Rattle.ro_exec.specs.Next.{Layout};
@@ -12,12 +12,13 @@ ghost use Rattle.ro_journal.specs.declared.Entry.TheVariants.{Put, Part, End};
 ghost use Rattle.ro_journal.specs.declared.How.{How};
 ghost use Rattle.ro_legal.specs.declared.actions.Action.TheVariants as act;
 ghost use Rattle.ro_journal.specs.declared.Lease.{Lease};
-ghost use Rattle.ro_legal.specs.Parts.{Pages, run_with};
+ghost use Rattle.ro_journal.specs.Leases.{lease_to};
+ghost use Rattle.ro_legal.specs.Parts.{Lent, Pages, most_misses, run_with};
 ghost use Rattle.ro_legal.specs.Core.{Job, Core, opening_core, is_going, is_idle, is_out, is_lendable, may_vote, may_free, nothing_lent};
 ghost use Rattle.ro_legal.specs.Legal.{Legal, MayEnd, may_scrub, replay};
 ghost use Rattle.ro_legal.specs.Streaks.{AreOfThread, votes_in, streak_of};
 ghost use Rattle.ro_legal.specs.Action.{threads_made, next_action, EachIsNext};
-ghost use Rattle.ro_legal.specs.Laws.{NothingFor, NotLendable, Names, HasLease, AreBeside, thread_in, Answers, LeavesBlocked, LetsGoOn, hits, has_come};
+ghost use Rattle.ro_legal.specs.Laws.{NothingFor, NotLendable, Names, HasLease, AreBeside, thread_in, Answers, LeavesBlocked, LetsGoOn, hits, has_come, parts_since, LeavesThread};
 ghost use Rattle.ro_legal.specs.Turns.{TakesTurns};
 ghost use Rattle.ro_legal.specs.Cooperative.{Legal as LegalTogether, replay as replay_together};
 ghost use Rattle.ro_legal.specs.Kept.{KeepsReplicas, KeepsMutexes, HasPeer, NoFurtherAhead};
@@ -79,7 +80,7 @@ pub fn next_may_be_done()
 
 /// A lease lasts: an entry that doesn't name its driver leaves it out, and what it has of its replica as it was.
 pub fn leases_last()
-    ensures { (job : Job) (journal : List Entry) (entry : Entry) → Legal job (journal ++ entry ∷ []) → (driver by : ℕ) → Names by entry → by ≢ driver → (lease : Lease) (replica : Replica) → HasLease (replay job journal) driver lease replica → HasLease (replay job (journal ++ entry ∷ [])) driver lease replica }
+    ensures { (job : Job) (journal : List Entry) (entry : Entry) → Legal job (journal ++ entry ∷ []) → (driver by : ℕ) → Names by entry → by ≢ driver → (lease : Lease) (lent : Lent) (replica : Replica) → HasLease (replay job journal) driver lease lent replica → HasLease (replay job (journal ++ entry ∷ [])) driver lease lent replica }
 {}
 
 /// Two leases that are out are of two replicas, or of two threads that were lent pages, of which both have none that may be
@@ -98,6 +99,19 @@ pub fn leases_come_back()
 /// struck.
 pub fn pages_run_as_the_whole()
     ensures { (layout : Layout) (watchdog count thread : ℕ) (pages : List ℕ) (replica : Replica) (ran : RanTo) → run_with layout watchdog (Pages pages) count replica thread ≡ Some ran → (run_of layout watchdog count replica thread ≡ Some ran) × (ran.hit ≡ 0) }
+{}
+
+/// A thread misses at most nine pages in a replica from one of its votes to the next, and the core keeps how many. Behind nine its
+/// leases are of the whole replica, so no page goes to and fro for ever between two threads.
+pub fn misses_are_few()
+    ensures few { (job : Job) (journal : List Entry) → Legal job journal → (replica thread : ℕ) → parts_since journal replica thread ≤ most_misses + 1 }
+    ensures counted { (job : Job) (journal : List Entry) → Legal job journal → (replica thread : ℕ) → (replay job journal).misses replica thread ≡ parts_since journal replica thread }
+{}
+
+/// Behind a part no two more of the same thread come in a row in which it executed nothing, where no entry between them changes
+/// anything for it. So a thread that came back for the want of a page goes on by its second lease from then on at the latest.
+pub fn no_three_parts()
+    ensures { (job : Job) (replica thread : ℕ) (before first second : List Entry) (one two three count hit_one hit_two hit_three : ℕ) → Legal job (before ++ Part (lease_to one replica thread) count hit_one ∷ (first ++ Part (lease_to two replica thread) 0 hit_two ∷ (second ++ Part (lease_to three replica thread) 0 hit_three ∷ []))) → All (LeavesThread replica thread) first → All (LeavesThread replica thread) second → ⊥ }
 {}
 
 /// Where no driver holds a lease, nothing is lent.

@@ -1,9 +1,10 @@
 //! The leases that are out, the newest first.
-ghost use Rattle.std.specs.Prelude.{◌≡◌, ◌<◌, ◌==◌, ◌∷◌, [], vec_len, vec_capacity, not, true};
+ghost use Rattle.std.specs.Prelude.{◌≡◌, ◌<◌, ◌==◌, ◌∷◌, [], vec_len, vec_capacity, is_some, not, true};
 ghost use Rattle.std.specs.List.{filter, find, list_any};
-ghost use Rattle.ro_legal.specs.Core.{is_lease};
+ghost use Rattle.ro_legal.specs.Core.{Job, is_lease, sharing_of};
 
 use ro_journal::Lease;
+use ro_settings::Settings;
 
 /// Notes a lease; there is room for it.
 pub fn note_lease(leases: &mut Vec<Lease>, lease: Lease)
@@ -58,4 +59,12 @@ fn is_another(lease: &Lease, gone: &Lease) -> bool
     ensures { result ≡ not (is_lease gone.now lease.now) }
 {
     !(lease.driver == gone.driver && lease.replica == gone.replica && lease.thread == gone.thread)
+}
+
+/// Whether pages are lent in a run with these settings.
+#[tactic(auto, unfolding(crate::specs::Core::sharing_of))]
+pub fn lends_pages(settings: &Settings) -> bool
+    ensures { (job : Job) → job.settings ≡ settings.now → result ≡ is_some (sharing_of job) }
+{
+    settings.drivers > 1
 }

@@ -12,9 +12,9 @@ pub use laws::{
     cooperative_drivers_take_turns, cooperative_journals_keep_mutexes,
     cooperative_journals_keep_replicas, cooperative_leases_come_back, cooperative_leases_last,
     end_is_last, granted_everywhere, idle_drivers_hold_nothing, leases_are_apart, leases_come_back,
-    leases_last, next_may_be_done, no_other_flip, one_driver_takes_turns, one_grant_order,
-    others_come_first, page_faults_wait, pages_run_as_the_whole, same_pages, scrubs_come_in_time,
-    streaks_are_counted, struck_once,
+    leases_last, misses_are_few, next_may_be_done, no_other_flip, no_three_parts,
+    one_driver_takes_turns, one_grant_order, others_come_first, page_faults_wait,
+    pages_run_as_the_whole, same_pages, scrubs_come_in_time, streaks_are_counted, struck_once,
 };
-pub use leases_out::{forget_lease, has_lease, lease_of, note_lease};
+pub use leases_out::{forget_lease, has_lease, lease_of, lends_pages, note_lease};
 pub use parkings::Parking;

@@ -21,7 +21,7 @@ use Rattle.ro_vote.specs.Verdict.{verdict_of}
 use Rattle.ro_replica.specs.Replica.{opening_replica, applied, cancelled, recovered}
 use Rattle.ro_replica.specs.Runs.{struck, execute}
 use Rattle.ro_plain.specs.Machine.{opening, steppable, step}
-use Rattle.ro_legal.specs.Core.{opening_core}
+use Rattle.ro_legal.specs.Core.{sharing_of, opening_core}
 use Rattle.ro_legal.specs.Event.{event_of}
 use Rattle.ro_legal.specs.Legal.{Legal, after, output_of}
 use Rattle.ro_legal.specs.Action.{next_action, EachIsNext}
@@ -46,12 +46,12 @@ exit-image = refl
 
 -- one driver makes this journal
 pub exit-driven : driven 8 exit_job ≡ exit_journal
-unfolding opening_core opening_replica struck execute applied cancelled recovered verdict_of event_of after next_action first_cpu made_cpu next fetch_stop instruction_stop instruction_of call_at permits_of alu_of meaning serve payload_of
+unfolding opening_core sharing_of opening_replica struck execute applied cancelled recovered verdict_of event_of after next_action first_cpu made_cpu next fetch_stop instruction_stop instruction_of call_at permits_of alu_of meaning serve payload_of
 exit-driven = refl
 
 -- it passes the test of legality
 passes : test_legal exit_job (opening_core exit_job) exit_journal ≡ true
-unfolding opening_core opening_replica struck execute applied cancelled recovered verdict_of event_of after first_cpu made_cpu next fetch_stop instruction_stop instruction_of call_at permits_of alu_of meaning serve payload_of
+unfolding opening_core sharing_of opening_replica struck execute applied cancelled recovered verdict_of event_of after first_cpu made_cpu next fetch_stop instruction_stop instruction_of call_at permits_of alu_of meaning serve payload_of
 passes = refl
 
 -- the journal is legal
@@ -60,7 +60,7 @@ exit-legal = legal-by-test exit_job (opening_core exit_job) exit_journal passes
 
 -- each entry is what the core does next
 pub exit-next : EachIsNext exit_job (opening_core exit_job) exit_journal
-unfolding opening_core opening_replica struck execute applied cancelled recovered verdict_of event_of after next_action first_cpu made_cpu next fetch_stop instruction_stop instruction_of call_at permits_of alu_of meaning serve payload_of
+unfolding opening_core sharing_of opening_replica struck execute applied cancelled recovered verdict_of event_of after next_action first_cpu made_cpu next fetch_stop instruction_stop instruction_of call_at permits_of alu_of meaning serve payload_of
 exit-next = (refl, (tt, (refl, (tt, (refl, (tt, (refl, (inl refl, tt))))))))
 
 -- the unreplicated machine ends by the exit
@@ -70,5 +70,5 @@ exit-ideal = record { machine = _; ideal_is = refl; ends = refl; writes = refl }
 
 -- nothing is written
 pub exit-output : output_of exit_job exit_journal ≡ []
-unfolding opening_core opening_replica struck execute applied cancelled recovered verdict_of event_of after first_cpu made_cpu next fetch_stop instruction_stop instruction_of call_at permits_of alu_of meaning serve payload_of
+unfolding opening_core sharing_of opening_replica struck execute applied cancelled recovered verdict_of event_of after first_cpu made_cpu next fetch_stop instruction_stop instruction_of call_at permits_of alu_of meaning serve payload_of
 exit-output = refl

@@ -20,7 +20,7 @@ use Rattle.ro_plain.specs.Machine.{Machine, opening, steppable, step}
 use Rattle.ro_plain.specs.Accesses.{accesses}
 use Rattle.ro_plain.specs.Order.{sync_of, RaceFree}
 use Rattle.ro_plain.proofs.Calls.{some-injective}
-use Rattle.ro_legal.specs.Core.{opening_core}
+use Rattle.ro_legal.specs.Core.{sharing_of, opening_core}
 use Rattle.ro_legal.specs.Event.{event_of}
 use Rattle.ro_legal.specs.Legal.{Legal, after, output_of}
 use Rattle.ro_legal.specs.Action.{next_action}
@@ -39,7 +39,7 @@ hidden-race-free = explored-free 16 hidden_job.program refl
 
 -- it passes the test of legality
 passes : test_legal hidden_job (opening_core hidden_job) (driven 30 hidden_job) ≡ true
-unfolding opening_core opening_replica struck execute applied cancelled recovered verdict_of event_of after next_action first_cpu made_cpu next fetch_stop instruction_stop instruction_of call_at permits_of alu_of taken_by meaning serve payload_of
+unfolding opening_core sharing_of opening_replica struck execute applied cancelled recovered verdict_of event_of after next_action first_cpu made_cpu next fetch_stop instruction_stop instruction_of call_at permits_of alu_of taken_by meaning serve payload_of
 passes = refl
 
 -- the journal is legal
@@ -48,17 +48,17 @@ hidden-legal = legal-by-test hidden_job (opening_core hidden_job) (driven 30 hid
 
 -- this is what it decides
 pub hidden-decides : decisions (driven 30 hidden_job) ≡ Vote 0 5 0 (One 1) Served ∷ Vote 0 3 0 (Two 3 4) Served ∷ Vote 0 2 0 Nobody Served ∷ End (Exit 0) ∷ []
-unfolding opening_core opening_replica struck execute applied cancelled recovered verdict_of event_of after next_action first_cpu made_cpu next fetch_stop instruction_stop instruction_of call_at permits_of alu_of taken_by meaning serve payload_of
+unfolding opening_core sharing_of opening_replica struck execute applied cancelled recovered verdict_of event_of after next_action first_cpu made_cpu next fetch_stop instruction_stop instruction_of call_at permits_of alu_of taken_by meaning serve payload_of
 hidden-decides = refl
 
 -- what the journal writes
 pub hidden-output : output_of hidden_job (driven 30 hidden_job) ≡ 104 ∷ 101 ∷ 108 ∷ 108 ∷ 110 ∷ []
-unfolding opening_core opening_replica struck execute applied cancelled recovered verdict_of event_of after next_action first_cpu made_cpu next fetch_stop instruction_stop instruction_of call_at permits_of alu_of taken_by meaning serve payload_of
+unfolding opening_core sharing_of opening_replica struck execute applied cancelled recovered verdict_of event_of after next_action first_cpu made_cpu next fetch_stop instruction_stop instruction_of call_at permits_of alu_of taken_by meaning serve payload_of
 hidden-output = refl
 
 -- the unreplicated machine of the journal
 pub hidden-ideal : IdealEnds hidden_job (driven 30 hidden_job) (Exit 0) (104 ∷ 101 ∷ 108 ∷ 108 ∷ 111 ∷ [])
-unfolding opening_core opening_replica struck execute applied cancelled recovered verdict_of event_of after next_action first_cpu made_cpu next fetch_stop instruction_stop instruction_of call_at permits_of alu_of taken_by meaning serve payload_of opening steppable step
+unfolding opening_core sharing_of opening_replica struck execute applied cancelled recovered verdict_of event_of after next_action first_cpu made_cpu next fetch_stop instruction_stop instruction_of call_at permits_of alu_of taken_by meaning serve payload_of opening steppable step
 hidden-ideal = record { machine = _; ideal_is = refl; ends = refl; writes = refl }
 
 -- lists that begin so differ

@@ -18,3 +18,5 @@ mod TableRows
 mod RaceRows
 mod FiveRow
 mod HiddenRow
+mod NineRow
+mod SharedRow

@@ -16,7 +16,7 @@ use Rattle.ro_vote.specs.Verdict.{verdict_of}
 use Rattle.ro_replica.specs.Replica.{opening_replica, applied, cancelled, recovered}
 use Rattle.ro_replica.specs.Runs.{struck, execute}
 use Rattle.ro_plain.specs.Machine.{Machine, opening, steppable, step}
-use Rattle.ro_legal.specs.Core.{opening_core}
+use Rattle.ro_legal.specs.Core.{sharing_of, opening_core}
 use Rattle.ro_legal.specs.Event.{event_of}
 use Rattle.ro_legal.specs.Legal.{Legal, IsAllowed, after, replay, alone}
 use Rattle.ro_legal.specs.Action.{next_action}
@@ -30,12 +30,12 @@ use Rattle.ro_rows.specs.Rows.{IdealEnds, lost_job, lost_before, lost_journal}
 
 -- the entries before the end pass the test of legality
 passes : test_legal lost_job (opening_core lost_job) lost_before ≡ true
-unfolding opening_core opening_replica struck execute applied cancelled recovered verdict_of event_of after next_action first_cpu made_cpu next fetch_stop instruction_stop instruction_of call_at permits_of alu_of taken_by meaning serve payload_of
+unfolding opening_core sharing_of opening_replica struck execute applied cancelled recovered verdict_of event_of after next_action first_cpu made_cpu next fetch_stop instruction_stop instruction_of call_at permits_of alu_of taken_by meaning serve payload_of
 passes = refl
 
 -- nothing else is possible after them
 stuck : IsAllowed lost_job (replay lost_job lost_before) (End Deadlock)
-unfolding opening_core opening_replica struck execute applied cancelled recovered verdict_of event_of after next_action first_cpu made_cpu next fetch_stop instruction_stop instruction_of call_at permits_of alu_of taken_by meaning serve payload_of
+unfolding opening_core sharing_of opening_replica struck execute applied cancelled recovered verdict_of event_of after next_action first_cpu made_cpu next fetch_stop instruction_stop instruction_of call_at permits_of alu_of taken_by meaning serve payload_of
 stuck = (refl, alone refl)
 
 -- the journal is legal
@@ -44,7 +44,7 @@ lost-legal = LegalFrom-append lost_job (opening_core lost_job) lost_before (End 
 
 -- one driver makes this journal
 pub lost-driven : driven 100 lost_job ≡ lost_journal
-unfolding opening_core opening_replica struck execute applied cancelled recovered verdict_of event_of after next_action first_cpu made_cpu next fetch_stop instruction_stop instruction_of call_at permits_of alu_of taken_by meaning serve payload_of
+unfolding opening_core sharing_of opening_replica struck execute applied cancelled recovered verdict_of event_of after next_action first_cpu made_cpu next fetch_stop instruction_stop instruction_of call_at permits_of alu_of taken_by meaning serve payload_of
 lost-driven = refl
 
 -- no thread can step in a machine that was computed
@@ -53,7 +53,7 @@ no-step machine o thread e f = some-injective (sym (ap (option_map (λ (m : Mach
 
 -- no thread can step in the unreplicated machine
 none : (thread : ℕ) → option_map (λ (m : Machine). step lost_guest m thread) (ideal lost_job lost_journal) ≡ Some None
-unfolding opening_core opening_replica struck execute applied cancelled recovered verdict_of event_of after next_action first_cpu made_cpu next fetch_stop instruction_stop instruction_of call_at permits_of alu_of taken_by meaning serve payload_of opening steppable step
+unfolding opening_core sharing_of opening_replica struck execute applied cancelled recovered verdict_of event_of after next_action first_cpu made_cpu next fetch_stop instruction_stop instruction_of call_at permits_of alu_of taken_by meaning serve payload_of opening steppable step
 none zero = refl
 none (suc thread) = refl
 
@@ -63,5 +63,5 @@ ideal-of machine e on output = record { machine = machine; ideal_is = e; ends = 
 
 -- the unreplicated machine of the journal
 pub lost-ideal : IdealEnds lost_job lost_journal Deadlock []
-unfolding opening_core opening_replica struck execute applied cancelled recovered verdict_of event_of after next_action first_cpu made_cpu next fetch_stop instruction_stop instruction_of call_at permits_of alu_of taken_by meaning serve payload_of opening steppable step
+unfolding opening_core sharing_of opening_replica struck execute applied cancelled recovered verdict_of event_of after next_action first_cpu made_cpu next fetch_stop instruction_stop instruction_of call_at permits_of alu_of taken_by meaning serve payload_of opening steppable step
 lost-ideal = ideal-of _ refl refl refl

@@ -17,7 +17,7 @@ use Rattle.ro_replica.specs.Runs.{struck, execute}
 use Rattle.ro_plain.specs.Machine.{Program, opening, steppable, step}
 use Rattle.ro_plain.specs.Accesses.{accesses}
 use Rattle.ro_plain.specs.Order.{Unlocks, Locks, Makes, Joins, Exits, Nothing, sync_of, accesses_at, HappensBefore, in_thread, by_mutex, by_word, by_creation, by_join, chain}
-use Rattle.ro_legal.specs.Core.{opening_core}
+use Rattle.ro_legal.specs.Core.{sharing_of, opening_core}
 use Rattle.ro_legal.specs.Event.{event_of}
 use Rattle.ro_legal.specs.Legal.{after}
 use Rattle.ro_legal.specs.Action.{next_action}
@@ -27,7 +27,7 @@ use Rattle.ro_rows.specs.Order.{locking_plan, syncs_from, bytes, none}
 
 -- the plan of one driver
 pub plan-is : plan_of (driven 200 (usual_job locking_guest [])) ≡ locking_plan
-unfolding opening_core opening_replica struck execute applied cancelled recovered verdict_of event_of after next_action first_cpu made_cpu next fetch_stop instruction_stop instruction_of call_at permits_of alu_of taken_by meaning serve payload_of
+unfolding opening_core sharing_of opening_replica struck execute applied cancelled recovered verdict_of event_of after next_action first_cpu made_cpu next fetch_stop instruction_stop instruction_of call_at permits_of alu_of taken_by meaning serve payload_of
 plan-is = refl
 
 -- what each step means

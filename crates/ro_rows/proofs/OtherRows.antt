@@ -17,7 +17,7 @@ use Rattle.ro_vote.specs.Verdict.{Won, verdict_of}
 use Rattle.ro_replica.specs.Replica.{opening_replica, applied, cancelled, recovered}
 use Rattle.ro_replica.specs.Runs.{struck, execute}
 use Rattle.ro_plain.specs.Machine.{Machine, opening, steppable, step, run}
-use Rattle.ro_legal.specs.Core.{opening_core}
+use Rattle.ro_legal.specs.Core.{sharing_of, opening_core}
 use Rattle.ro_legal.specs.Event.{event_of}
 use Rattle.ro_legal.specs.Legal.{IsAllowed, after, replay}
 use Rattle.ro_legal.specs.Action.{next_action}
@@ -28,7 +28,7 @@ use Rattle.ro_rows.specs.Rows.{before_vote}
 
 -- a vote that names no loser where there is one is not allowed
 pub loser-named : IsAllowed (usual_job exit_guest (flip_a0 1 ∷ [])) (replay (usual_job exit_guest (flip_a0 1 ∷ [])) before_vote) (Vote 0 2 0 Nobody Served) → ⊥
-unfolding opening_core opening_replica struck execute applied cancelled recovered verdict_of event_of after next_action first_cpu made_cpu next fetch_stop instruction_stop instruction_of call_at permits_of alu_of taken_by meaning serve payload_of
+unfolding opening_core sharing_of opening_replica struck execute applied cancelled recovered verdict_of event_of after next_action first_cpu made_cpu next fetch_stop instruction_stop instruction_of call_at permits_of alu_of taken_by meaning serve payload_of
 loser-named h = let e : Won 0 (1 ∷ []) ≡ Won 0 [] = h.verdict in cc
 
 -- the jump runs on

@@ -16,7 +16,7 @@ use Rattle.ro_journal.specs.declared.Entry.TheVariants.{Vote, End}
 use Rattle.ro_vote.specs.Verdict.{verdict_of}
 use Rattle.ro_replica.specs.Replica.{opening_replica, applied, cancelled, recovered}
 use Rattle.ro_replica.specs.Runs.{struck, execute}
-use Rattle.ro_legal.specs.Core.{opening_core}
+use Rattle.ro_legal.specs.Core.{sharing_of, opening_core}
 use Rattle.ro_legal.specs.Event.{event_of}
 use Rattle.ro_legal.specs.Legal.{Legal, after}
 use Rattle.ro_legal.specs.Action.{next_action}
@@ -26,7 +26,7 @@ use Rattle.ro_rows.specs.Rows.{decisions, single_job}
 
 -- it passes the test of legality
 passes : test_legal single_job (opening_core single_job) (driven 20 single_job) ≡ true
-unfolding opening_core opening_replica struck execute applied cancelled recovered verdict_of event_of after next_action first_cpu made_cpu next fetch_stop instruction_stop instruction_of call_at permits_of alu_of taken_by meaning serve payload_of
+unfolding opening_core sharing_of opening_replica struck execute applied cancelled recovered verdict_of event_of after next_action first_cpu made_cpu next fetch_stop instruction_stop instruction_of call_at permits_of alu_of taken_by meaning serve payload_of
 passes = refl
 
 -- the journal is legal
@@ -35,10 +35,10 @@ single-legal = legal-by-test single_job (opening_core single_job) (driven 20 sin
 
 -- this is what it decides
 pub single-decides : decisions (driven 20 single_job) ≡ Vote 0 2 0 Nobody Served ∷ End (Exit 7) ∷ []
-unfolding opening_core opening_replica struck execute applied cancelled recovered verdict_of event_of after next_action first_cpu made_cpu next fetch_stop instruction_stop instruction_of call_at permits_of alu_of taken_by meaning serve payload_of
+unfolding opening_core sharing_of opening_replica struck execute applied cancelled recovered verdict_of event_of after next_action first_cpu made_cpu next fetch_stop instruction_stop instruction_of call_at permits_of alu_of taken_by meaning serve payload_of
 single-decides = refl
 
 -- how many entries there are
 pub single-length : length (driven 20 single_job) ≡ 20
-unfolding opening_core opening_replica struck execute applied cancelled recovered verdict_of event_of after next_action first_cpu made_cpu next fetch_stop instruction_stop instruction_of call_at permits_of alu_of taken_by meaning serve payload_of
+unfolding opening_core sharing_of opening_replica struck execute applied cancelled recovered verdict_of event_of after next_action first_cpu made_cpu next fetch_stop instruction_stop instruction_of call_at permits_of alu_of taken_by meaning serve payload_of
 single-length = refl

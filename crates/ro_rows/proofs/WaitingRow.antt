@@ -18,7 +18,7 @@ use Rattle.ro_vote.specs.Verdict.{verdict_of}
 use Rattle.ro_replica.specs.Replica.{opening_replica, applied, cancelled, recovered}
 use Rattle.ro_replica.specs.Runs.{struck, execute}
 use Rattle.ro_plain.specs.Machine.{opening, steppable, step}
-use Rattle.ro_legal.specs.Core.{opening_core}
+use Rattle.ro_legal.specs.Core.{sharing_of, opening_core}
 use Rattle.ro_legal.specs.Event.{event_of}
 use Rattle.ro_legal.specs.Legal.{Legal, after}
 use Rattle.ro_legal.specs.Action.{next_action}
@@ -28,7 +28,7 @@ use Rattle.ro_rows.specs.Rows.{IdealEnds, decisions, waiting_job}
 
 -- it passes the test of legality
 passes : test_legal waiting_job (opening_core waiting_job) (driven 200 waiting_job) ≡ true
-unfolding opening_core opening_replica struck execute applied cancelled recovered verdict_of event_of after next_action first_cpu made_cpu next fetch_stop instruction_stop instruction_of call_at permits_of alu_of taken_by meaning serve payload_of
+unfolding opening_core sharing_of opening_replica struck execute applied cancelled recovered verdict_of event_of after next_action first_cpu made_cpu next fetch_stop instruction_stop instruction_of call_at permits_of alu_of taken_by meaning serve payload_of
 passes = refl
 
 -- the journal is legal
@@ -37,15 +37,15 @@ waiting-legal = legal-by-test waiting_job (opening_core waiting_job) (driven 200
 
 -- this is what it decides
 pub waiting-decides : decisions (driven 200 waiting_job) ≡ Vote 0 3 0 Nobody Served ∷ Vote 0 6 0 Nobody Served ∷ Vote 0 3 0 Nobody WasParked ∷ Vote 1 3 0 Nobody Served ∷ Vote 1 2 0 Nobody Served ∷ Vote 1 2 0 Nobody Served ∷ Free 0 ∷ Vote 0 2 0 Nobody Served ∷ Vote 0 3 0 Nobody WasBlocked ∷ Vote 1 2 0 Nobody Served ∷ Free 0 ∷ Vote 0 2 0 Nobody Served ∷ End (Exit 5) ∷ []
-unfolding opening_core opening_replica struck execute applied cancelled recovered verdict_of event_of after next_action first_cpu made_cpu next fetch_stop instruction_stop instruction_of call_at permits_of alu_of taken_by meaning serve payload_of
+unfolding opening_core sharing_of opening_replica struck execute applied cancelled recovered verdict_of event_of after next_action first_cpu made_cpu next fetch_stop instruction_stop instruction_of call_at permits_of alu_of taken_by meaning serve payload_of
 waiting-decides = refl
 
 -- and so long is its plan
 pub waiting-steps : length (plan_of (driven 200 waiting_job)) ≡ 39
-unfolding opening_core opening_replica struck execute applied cancelled recovered verdict_of event_of after next_action first_cpu made_cpu next fetch_stop instruction_stop instruction_of call_at permits_of alu_of taken_by meaning serve payload_of
+unfolding opening_core sharing_of opening_replica struck execute applied cancelled recovered verdict_of event_of after next_action first_cpu made_cpu next fetch_stop instruction_stop instruction_of call_at permits_of alu_of taken_by meaning serve payload_of
 waiting-steps = refl
 
 -- the unreplicated machine of the journal
 pub waiting-ideal : IdealEnds waiting_job (driven 200 waiting_job) (Exit 5) []
-unfolding opening_core opening_replica struck execute applied cancelled recovered verdict_of event_of after next_action first_cpu made_cpu next fetch_stop instruction_stop instruction_of call_at permits_of alu_of taken_by meaning serve payload_of opening steppable step
+unfolding opening_core sharing_of opening_replica struck execute applied cancelled recovered verdict_of event_of after next_action first_cpu made_cpu next fetch_stop instruction_stop instruction_of call_at permits_of alu_of taken_by meaning serve payload_of opening steppable step
 waiting-ideal = record { machine = _; ideal_is = refl; ends = refl; writes = refl }

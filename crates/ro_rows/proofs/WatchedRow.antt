@@ -16,7 +16,7 @@ use Rattle.ro_journal.specs.declared.Entry.TheVariants.{Vote, End}
 use Rattle.ro_vote.specs.Verdict.{verdict_of}
 use Rattle.ro_replica.specs.Replica.{opening_replica, applied, cancelled, recovered}
 use Rattle.ro_replica.specs.Runs.{struck, execute}
-use Rattle.ro_legal.specs.Core.{opening_core}
+use Rattle.ro_legal.specs.Core.{sharing_of, opening_core}
 use Rattle.ro_legal.specs.Event.{event_of}
 use Rattle.ro_legal.specs.Legal.{Legal, after}
 use Rattle.ro_legal.specs.Action.{next_action}
@@ -26,7 +26,7 @@ use Rattle.ro_rows.specs.Rows.{decisions, watched_job}
 
 -- it passes the test of legality
 passes : test_legal watched_job (opening_core watched_job) (driven 20 watched_job) ≡ true
-unfolding opening_core opening_replica struck execute applied cancelled recovered verdict_of event_of after next_action first_cpu made_cpu next fetch_stop instruction_stop instruction_of call_at permits_of alu_of taken_by meaning serve payload_of
+unfolding opening_core sharing_of opening_replica struck execute applied cancelled recovered verdict_of event_of after next_action first_cpu made_cpu next fetch_stop instruction_stop instruction_of call_at permits_of alu_of taken_by meaning serve payload_of
 passes = refl
 
 -- the journal is legal
@@ -35,5 +35,5 @@ watched-legal = legal-by-test watched_job (opening_core watched_job) (driven 20 
 
 -- this is what it decides
 pub watched-decides : decisions (driven 20 watched_job) ≡ Vote 0 9 0 (One 2) Served ∷ End (Exit 7) ∷ []
-unfolding opening_core opening_replica struck execute applied cancelled recovered verdict_of event_of after next_action first_cpu made_cpu next fetch_stop instruction_stop instruction_of call_at permits_of alu_of taken_by meaning serve payload_of
+unfolding opening_core sharing_of opening_replica struck execute applied cancelled recovered verdict_of event_of after next_action first_cpu made_cpu next fetch_stop instruction_stop instruction_of call_at permits_of alu_of taken_by meaning serve payload_of
 watched-decides = refl

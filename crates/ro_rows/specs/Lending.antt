@@ -1,14 +1,17 @@
 -- Cores of a run that lends pages.
-use Rattle.std.specs.Prelude.{ℕ, Bool, false, List, [], ◌∷◌, ◌++◌, Some, None}
+use Rattle.std.specs.Prelude.{ℕ, ◌*◌, Bool, true, false, List, [], ◌∷◌, ◌++◌, map, Some, None}
+use Rattle.std.specs.List.{range_with_len}
 use Rattle.ro_journal.specs.Leases.{lease_to}
 use Rattle.ro_journal.specs.declared.Did.TheVariants.{Served}
 use Rattle.ro_journal.specs.declared.Entry.{Entry}
-use Rattle.ro_journal.specs.declared.Entry.TheVariants.{Take, Part}
+use Rattle.ro_journal.specs.declared.Entry.TheVariants.{Take, Put, Part}
 use Rattle.ro_faults.specs.declared.Target.TheVariants.{Register}
-use Rattle.ro_plain.specs.Machine.{Program, setup_of}
+use Rattle.ro_image.specs.Image.{ranges_with}
+use Rattle.ro_plain.specs.Machine.{Program}
 use Rattle.ro_legal.specs.Core.{Job, Core}
-use Rattle.ro_legal.specs.Legal.{replay, replay_from}
+use Rattle.ro_legal.specs.Legal.{replay}
 use Rattle.ro_simulation.specs.Guests.{guest}
+use Rattle.ro_simulation.specs.Drives.{driven_from}
 use Rattle.ro_rows.specs.Edges.{small_job, round}
 
 -- Thread 0 makes thread 1, whose number the call stores in page 17 and so backs that, stores to the page itself, and joins it.
@@ -24,17 +27,17 @@ storing_job write = let job = small_job (storing_guest write) [] 3 1000000000 in
 abbrev pub lending_job : Job
 lending_job = storing_job false
 
+-- the same guest with one driver
+abbrev pub one_driver_job : Job
+one_driver_job = small_job (storing_guest false) [] 3 1000000000
+
 -- a register of thread 0 is to be struck in replica 0, at this moment
 abbrev pub struck_job : (at : ℕ) → Job
 struck_job at = record lending_job { faults = record { replica = 0; thread = 0; at = at; target = Register 9 0 } ∷ [] }
 
--- the core, in a run that lends pages
-abbrev pub lending : Job → Core → Core
-lending job core = record core { sharing = Some (record { setup = setup_of job.program; quantum = job.settings.quantum }) }
-
 -- the core behind the vote on thread 0's call, and behind these entries more: both threads can go on
 abbrev pub behind_in : Job → List Entry → Core
-behind_in job entries = replay_from job (lending job (replay job (round 0 6 Served))) entries
+behind_in job entries = replay job (round 0 6 Served ++ entries)
 
 abbrev pub behind : List Entry → Core
 behind entries = behind_in lending_job entries
@@ -59,3 +62,48 @@ second_waits = first_out ++ Take (lease_to 1 0 1) ∷ Part (lease_to 1 0 1) 0 0 
 -- each thread of the core missed pages so often
 abbrev pub missed_by : ℕ → Core → Core
 missed_by count core = record core { misses = λ replica thread. count }
+
+-- Both go on at once, until thread 1 wants the page that thread 0 has. That is given back, and then thread 1 stores to it too.
+abbrev pub shared_start : List Entry
+shared_start = round 0 6 Served ++ second_parted ++ Put (lease_to 0 0 0) 4 0 ∷ Take (lease_to 1 0 1) ∷ Put (lease_to 1 0 1) 3 0 ∷ []
+
+-- and then one driver does what comes next
+abbrev pub shared_journal : List Entry
+shared_journal = shared_start ++ driven_from 100 lending_job (replay lending_job shared_start)
+
+abbrev pub is_part : Entry → Bool
+is_part (Part lease count hit) = true
+is_part entry = false
+
+-- ---- a thread that misses many pages
+
+-- Thread 0 makes thread 1, and then stores to nine pages, one after the other, of each of which the file has a byte. The first store
+-- is right behind the call.
+abbrev pub wide_guest : Program
+wide_guest =
+    let narrow = guest (record { addresses = Some 0x100C0 ∷ None ∷ None ∷ None ∷ None ∷ None ∷ None ∷ None ∷ None ∷ [] }) false 196
+    (0x00010437 ∷ 0x0001B537 ∷ 0x00000593 ∷ 0x0B440613 ∷ 0x00000693 ∷ 0x000122B7 ∷ 0x054000EF ∷ 0x00028023 ∷ 0x000132B7 ∷ 0x00028023 ∷ 0x000142B7 ∷ 0x00028023 ∷ 0x000152B7 ∷ 0x00028023 ∷ 0x000162B7 ∷ 0x00028023 ∷ 0x000172B7 ∷ 0x00028023 ∷ 0x000182B7 ∷ 0x00028023 ∷ 0x000192B7 ∷ 0x00028023 ∷ 0x0001A2B7 ∷ 0x00028023 ∷ 0x00000513 ∷ 0x05D00893 ∷ 0x00000073 ∷ 0x00008067 ∷ []) in
+    record narrow {
+      image = record narrow.image {
+        pieces = narrow.image.pieces ++ map (λ page. record { place = page * 4096; bytes = 0 ∷ [] }) (range_with_len 18 9);
+        ranges = ranges_with (record { start = 0x10000; length = 196; read = true; write = false; execute = true } ∷ record { start = 0x12000; length = 0x9000; read = true; write = true; execute = false } ∷ []) 0x1B000;
+        heap = 0x1B000;
+      };
+    }
+
+-- with two drivers
+abbrev pub wide_job : Job
+wide_job = let job = small_job wide_guest [] 3 1000000000 in record job { settings = record job.settings { drivers = 2 } }
+
+-- a lease of thread 0 in replica 0 that comes back for the want of a page
+abbrev pub part : (count : ℕ) → List Entry
+part count = Take (lease_to 0 0 0) ∷ Part (lease_to 0 0 0) count 0 ∷ []
+
+-- It comes back for the want of its code, then of the page of its store, with no instruction between, and then of the page of each
+-- further store.
+abbrev pub nine_parts : List Entry
+nine_parts = round 0 7 Served ++ part 0 ++ part 0 ++ part 2 ++ part 2 ++ part 2 ++ part 2 ++ part 2 ++ part 2 ++ part 2
+
+-- the next lease has the tenth page, too, and by it the thread comes to its call
+abbrev pub behind_nine : List Entry
+behind_nine = nine_parts ++ Take (lease_to 0 0 0) ∷ Put (lease_to 0 0 0) 5 0 ∷ []

@@ -33,7 +33,7 @@ pub use edges::{
     differ_row, due_row, free_first_row, late_row, length_row, limit_row, parted_row, put_row,
     sink_row, snapshot_row, stuck_row, take_row, vote_row, waiters_row, watch_row,
 };
-pub use lending::{lend_row, part_row};
+pub use lending::{lend_row, nine_row, part_row, shared_row};
 pub use order::{
     accesses_row, atomics_row, before_row, calls_row, races_row, sync_row, unordered_row, words_row,
 };

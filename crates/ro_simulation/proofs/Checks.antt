@@ -18,7 +18,7 @@ use Rattle.ro_plain.proofs.Ahead.{is-none-from}
 use Rattle.ro_simulation.proofs.Entries.{or-cases}
 use Rattle.ro_legal.specs.Core.{Job, Core, is_going, is_idle, is_out, is_lendable, may_vote, may_free, views_of}
 use Rattle.ro_legal.specs.Event.{Event}
-use Rattle.ro_legal.specs.Legal.{wanted_by, arrival, lease_run, since_in, event_in, HasArrived, MayPut, MayVote, MayEnd, due, IsAllowed, after, LegalFrom}
+use Rattle.ro_legal.specs.Legal.{wanted_by, arrival, lease_run, since_in, event_in, HasArrived, MayPut, MayPart, MayVote, MayEnd, due, IsAllowed, after, LegalFrom}
 use Rattle.ro_legal.specs.Parts.{Lent, Whole, Pages, is_all, wanted}
 use Rattle.ro_plain.specs.Machine.{layout_in}
 use Rattle.ro_replica.specs.Replica.{Replica}
@@ -42,6 +42,17 @@ test_ran job core lease count hit (Some ran) =
 -- whether a put is allowed
 abbrev pub test_put : Job → Core → Lease → (count hit : ℕ) → Bool
 test_put job core lease count hit = is_none core.ended && is_out core lease && test_ran job core lease count hit (lease_run job core lease count)
+
+-- whether a run struck so many faults and wants a page
+abbrev pub test_wanting : Job → Core → Lease → (count hit : ℕ) → Option RanTo → Bool
+test_wanting job core lease count hit None = false
+test_wanting job core lease count hit (Some ran) =
+    (ran.hit == hit) && (nat_lt count job.settings.quantum && is_some (wanted_by job core lease ran.replica))
+
+-- whether a part is allowed
+abbrev pub test_part : Job → Core → Lease → (count hit : ℕ) → Bool
+test_part job core lease count hit =
+    is_none core.ended && is_out core lease && test_wanting job core lease count hit (lease_run job core lease count)
 
 -- whether two optional numbers are the same
 abbrev pub same_number : Option ℕ → Option ℕ → Bool
@@ -90,7 +101,7 @@ test_end _ _ = false
 abbrev pub test_entry : Job → Core → Entry → Bool
 test_entry job core (Take lease) = test_take job core lease
 test_entry job core (Put lease count hit) = test_put job core lease count hit
-test_entry job core (Part lease count hit) = false
+test_entry job core (Part lease count hit) = test_part job core lease count hit
 test_entry job core (Vote thread count won lost did) = test_vote job core thread count won lost did
 test_entry job core (Free thread) = may_free job core thread && nat_le (core.steps + 1) job.settings.limit
 test_entry job core (Scrub won lost) = false
@@ -150,6 +161,13 @@ put-allowed job core lease count hit on out (Some ran) e f =
     by (inl g) = inl (eqb-true count job.settings.quantum g)
     by (inr g) = let q = and_parts _ _ g in let r = and_parts _ _ q.0 in inr (ltb-true count job.settings.quantum r.0, r.1, unwanting job core lease ran.replica q.1)
 
+-- a part that passes is allowed
+part-allowed : (job : Job) (core : Core) (lease : Lease) (count hit : ℕ) → core.ended ≡ None → is_out core lease ≡ true → (o : Option RanTo) → lease_run job core lease count ≡ o → test_wanting job core lease count hit o ≡ true → MayPart job core lease count hit
+part-allowed job core lease count hit on out None e f = absurd (false≢true f)
+part-allowed job core lease count hit on out (Some ran) e f =
+    let p = and_parts _ _ f in let q = and_parts _ _ p.1 in
+    record { returns = record { not_ended = on; out = out; ran = ran; runs = e; struck = eqb-true ran.hit hit p.0 }; early = ltb-true count job.settings.quantum q.0; wants = q.1 }
+
 -- a vote that passes is allowed
 vote-allowed : (job : Job) (core : Core) (thread count won : ℕ) (lost : Lost) (did : Did) → may_vote core thread ≡ true → verdict_of (views_of job core thread) ≡ Won won (numbers lost) → since_in core thread won ≡ Some count → (o : Option Event) → event_in job core thread won ≡ o → test_event did o ≡ true → core.steps + count + event_steps did ≤ job.settings.limit → MayVote job core thread count won lost did
 vote-allowed job core thread count won lost did may verdict since None e f fits = absurd (false≢true f)
@@ -169,7 +187,9 @@ entry-allowed job core (Take lease) e =
 entry-allowed job core (Put lease count hit) e =
     let a = and_parts _ _ e in let b = and_parts _ _ a.0 in
     put-allowed job core lease count hit (is-none-from core.ended b.0) b.1 _ refl a.1
-entry-allowed job core (Part lease count hit) e = absurd (false≢true e)
+entry-allowed job core (Part lease count hit) e =
+    let a = and_parts _ _ e in let b = and_parts _ _ a.0 in
+    part-allowed job core lease count hit (is-none-from core.ended b.0) b.1 _ refl a.1
 entry-allowed job core (Vote thread count won lost did) e =
     let a = and_parts _ _ e in let b = and_parts _ _ a.0 in let c = and_parts _ _ b.0 in let d = and_parts _ _ c.0 in
     vote-allowed job core thread count won lost did d.0 (verdict-is _ won (numbers lost) d.1) (same-number _ _ c.1) _ refl b.1 (leb-true _ _ a.1)

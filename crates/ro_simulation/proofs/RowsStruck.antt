@@ -26,7 +26,7 @@ use Rattle.ro_faults.specs.declared.Fault.{Fault}
 use Rattle.ro_replica.specs.Replica.{Replica, opening_replica, applied, cancelled, recovered}
 use Rattle.ro_replica.specs.Runs.{struck, execute}
 use Rattle.ro_plain.specs.Machine.{Machine, opening, steppable, step, run}
-use Rattle.ro_legal.specs.Core.{Job, opening_core}
+use Rattle.ro_legal.specs.Core.{Job, sharing_of, opening_core}
 use Rattle.ro_legal.specs.Event.{event_of}
 use Rattle.ro_legal.specs.Legal.{Legal, after, output_of, due}
 use Rattle.ro_legal.specs.Ideal.{ahead, IsAlike, StaysApart}
@@ -76,7 +76,7 @@ only-one x one other a b = ap (λ (f : Fault). f.replica) (sym (one-listed x one
 
 -- the journal is legal
 legal-one : Legal (usual_job exit_guest (flip_a0 1 ∷ [])) one_struck
-unfolding opening opening_core opening_replica struck execute applied cancelled recovered verdict_of event_of after first_cpu made_cpu steppable step next fetch_stop instruction_stop instruction_of call_at permits_of alu_of meaning serve payload_of
+unfolding opening opening_core sharing_of opening_replica struck execute applied cancelled recovered verdict_of event_of after first_cpu made_cpu steppable step next fetch_stop instruction_stop instruction_of call_at permits_of alu_of meaning serve payload_of
 legal-one = (
   record { going = refl; driver_exists = lit< tt; driver_is_idle = refl; lendable = refl },
   (
@@ -102,7 +102,7 @@ legal-one = (
 
 -- it writes nothing
 no-output : output_of (usual_job exit_guest (flip_a0 1 ∷ [])) one_struck ≡ []
-unfolding opening opening_core opening_replica struck execute applied cancelled recovered verdict_of event_of after first_cpu made_cpu steppable step next fetch_stop instruction_stop instruction_of call_at permits_of alu_of meaning serve payload_of
+unfolding opening opening_core sharing_of opening_replica struck execute applied cancelled recovered verdict_of event_of after first_cpu made_cpu steppable step next fetch_stop instruction_stop instruction_of call_at permits_of alu_of meaning serve payload_of
 no-output = refl
 
 -- it does not end by a sink
@@ -132,7 +132,7 @@ twice = usual_job exit_guest (flip_a0 0 ∷ flip_a0 1 ∷ [])
 
 -- the journal is legal
 pub legal-two : Legal (usual_job exit_guest (flip_a0 0 ∷ flip_a0 1 ∷ [])) two_struck
-unfolding opening opening_core opening_replica struck execute applied cancelled recovered verdict_of event_of after first_cpu made_cpu steppable step next fetch_stop instruction_stop instruction_of call_at permits_of alu_of meaning serve payload_of
+unfolding opening opening_core sharing_of opening_replica struck execute applied cancelled recovered verdict_of event_of after first_cpu made_cpu steppable step next fetch_stop instruction_stop instruction_of call_at permits_of alu_of meaning serve payload_of
 legal-two = (
   record { going = refl; driver_exists = lit< tt; driver_is_idle = refl; lendable = refl },
   (
@@ -187,6 +187,6 @@ six-not-alike r thread steps there six h =
 
 -- faults do not stay apart
 pub not-apart : StaysApart (usual_job exit_guest (flip_a0 0 ∷ flip_a0 1 ∷ [])) two_struck → ⊥
-unfolding opening opening_core opening_replica struck execute applied cancelled recovered verdict_of event_of after first_cpu made_cpu steppable step next fetch_stop instruction_stop instruction_of call_at permits_of alu_of meaning serve payload_of
+unfolding opening opening_core sharing_of opening_replica struck execute applied cancelled recovered verdict_of event_of after first_cpu made_cpu steppable step next fetch_stop instruction_stop instruction_of call_at permits_of alu_of meaning serve payload_of
 not-apart apart =
     six-not-alike _ _ refl refl refl (apart-before (usual_job exit_guest (flip_a0 0 ∷ flip_a0 1 ∷ [])) two_struck (lit< tt) apart first_part (Take (lease_to 0 2 0) ∷ Put (lease_to 0 2 0) 2 0 ∷ Vote 0 2 0 (One 2) Served ∷ End (Exit 6) ∷ []) (lease_to 0 1 0) 2 1 refl (lit< tt) 0 _ (λ (e : 0 ≡ 1). omega arith) refl)

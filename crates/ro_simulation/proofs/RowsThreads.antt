@@ -17,7 +17,7 @@ use Rattle.ro_replica.specs.Replica.{opening_replica, applied, cancelled, recove
 use Rattle.ro_replica.specs.Runs.{struck, execute}
 use Rattle.ro_plain.specs.Order.{RaceFree}
 use Rattle.ro_plain.proofs.Calls.{some-injective}
-use Rattle.ro_legal.specs.Core.{Job, opening_core}
+use Rattle.ro_legal.specs.Core.{Job, sharing_of, opening_core}
 use Rattle.ro_legal.specs.Event.{event_of}
 use Rattle.ro_legal.specs.Legal.{Legal, after, output_of}
 use Rattle.ro_legal.specs.Ideal.{StaysApart}
@@ -32,25 +32,25 @@ use Rattle.ro_simulation.proofs.Laws.{one-struck-apart}
 
 -- the journal passes the test
 passes : test_legal (usual_job locking_guest []) (opening_core (usual_job locking_guest [])) (driven 200 (usual_job locking_guest [])) ≡ true
-unfolding opening_core opening_replica struck execute applied cancelled recovered verdict_of event_of after next_action first_cpu made_cpu next fetch_stop instruction_stop instruction_of call_at permits_of alu_of meaning serve payload_of
+unfolding opening_core sharing_of opening_replica struck execute applied cancelled recovered verdict_of event_of after next_action first_cpu made_cpu next fetch_stop instruction_stop instruction_of call_at permits_of alu_of meaning serve payload_of
 passes = refl
 
 -- it writes both letters
 writes : output_of (usual_job locking_guest []) (driven 200 (usual_job locking_guest [])) ≡ 65 ∷ 66 ∷ []
-unfolding opening_core opening_replica struck execute applied cancelled recovered verdict_of event_of after next_action first_cpu made_cpu next fetch_stop instruction_stop instruction_of call_at permits_of alu_of meaning serve payload_of
+unfolding opening_core sharing_of opening_replica struck execute applied cancelled recovered verdict_of event_of after next_action first_cpu made_cpu next fetch_stop instruction_stop instruction_of call_at permits_of alu_of meaning serve payload_of
 writes = refl
 
 -- it ends by the exit
 outcome : outcome_of (driven 200 (usual_job locking_guest [])) ≡ Some (Exit 0)
-unfolding opening_core opening_replica struck execute applied cancelled recovered verdict_of event_of after next_action first_cpu made_cpu next fetch_stop instruction_stop instruction_of call_at permits_of alu_of meaning serve payload_of
+unfolding opening_core sharing_of opening_replica struck execute applied cancelled recovered verdict_of event_of after next_action first_cpu made_cpu next fetch_stop instruction_stop instruction_of call_at permits_of alu_of meaning serve payload_of
 outcome = refl
 
 -- no fault names any replica
-no-fault-listed : AllOfOne []
+pub no-fault-listed : AllOfOne []
 no-fault-listed one other a b = absurd (let f : None ≡ Some one = a.1 in cc)
 
 -- a journal that exits with 0 is covered
-covered-by : (job : Job) (journal : List Entry) (output : List ℕ) → Legal job journal → StaysApart job journal → outcome_of journal ≡ Some (Exit 0) → output_of job journal ≡ output → Simulates job journal → IsCovered job journal (Exit 0) output
+pub covered-by : (job : Job) (journal : List Entry) (output : List ℕ) → Legal job journal → StaysApart job journal → outcome_of journal ≡ Some (Exit 0) → output_of job journal ≡ output → Simulates job journal → IsCovered job journal (Exit 0) output
 covered-by job journal output legal apart ends out s = record {
   legal = legal;
   apart = apart;

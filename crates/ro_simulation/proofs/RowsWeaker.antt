@@ -19,7 +19,7 @@ use Rattle.ro_replica.specs.Replica.{Replica, opening_replica, applied, cancelle
 use Rattle.ro_replica.specs.Runs.{struck, execute, standing_in}
 use Rattle.ro_plain.specs.Machine.{Machine, opening, steppable, step, PlainRun, done, then_plain, layout_in}
 use Rattle.ro_plain.proofs.Calls.{some-injective}
-use Rattle.ro_legal.specs.Core.{Job, opening_core}
+use Rattle.ro_legal.specs.Core.{Job, sharing_of, opening_core}
 use Rattle.ro_legal.specs.Event.{event_of}
 use Rattle.ro_legal.specs.Legal.{Legal, after, replay, for_vote}
 use Rattle.ro_plain.specs.Order.{RaceFree}
@@ -60,7 +60,7 @@ slip = usual_job loading_guest slipping
 
 -- the journal is legal
 pub slipped-legal : Legal (usual_job loading_guest slipping) slipped
-unfolding opening opening_core opening_replica struck execute applied cancelled recovered verdict_of event_of after first_cpu made_cpu steppable step next fetch_stop instruction_stop instruction_of call_at permits_of alu_of meaning serve payload_of
+unfolding opening opening_core sharing_of opening_replica struck execute applied cancelled recovered verdict_of event_of after first_cpu made_cpu steppable step next fetch_stop instruction_stop instruction_of call_at permits_of alu_of meaning serve payload_of
 slipped-legal = (record { going = refl; driver_exists = lit< tt; driver_is_idle = refl; lendable = refl }, (record { returns = record { not_ended = refl; out = refl; ran = _; runs = refl; struck = refl }; arrives = inr (lit< tt, refl, refl) }, (record { going = refl; driver_exists = lit< tt; driver_is_idle = refl; lendable = refl }, (record { returns = record { not_ended = refl; out = refl; ran = _; runs = refl; struck = refl }; arrives = inr (lit< tt, refl, refl) }, (record { going = refl; driver_exists = lit< tt; driver_is_idle = refl; lendable = refl }, (record { returns = record { not_ended = refl; out = refl; ran = _; runs = refl; struck = refl }; arrives = inr (lit< tt, refl, refl) }, (record { may = refl; verdict = refl; count_is = refl; event = _; comes = refl; did_is = refl; fits = lit≤ tt }, (record { going = refl; driver_exists = lit< tt; driver_is_idle = refl; lendable = refl }, (record { returns = record { not_ended = refl; out = refl; ran = _; runs = refl; struck = refl }; arrives = inr (lit< tt, refl, refl) }, (record { going = refl; driver_exists = lit< tt; driver_is_idle = refl; lendable = refl }, (record { returns = record { not_ended = refl; out = refl; ran = _; runs = refl; struck = refl }; arrives = inr (lit< tt, refl, refl) }, (record { going = refl; driver_exists = lit< tt; driver_is_idle = refl; lendable = refl }, (record { returns = record { not_ended = refl; out = refl; ran = _; runs = refl; struck = refl }; arrives = inr (lit< tt, refl, refl) }, ((refl, for_vote 0 refl (refl, lit≤ tt)), tt))))))))))))))
 
 -- ---- replicas of one thread
@@ -90,7 +90,7 @@ module _ (job : Job) (journal : List Entry) (machine end : Machine) (r : Replica
 
 -- the others are nearly alike at the first strike
 nearly-first : (number : ℕ) (r : Replica) → number ≢ 0 → slice_get (replay slip until_first).replicas number ≡ Some r → IsNearlyAlike slip until_first r
-unfolding opening opening_core opening_replica struck execute applied cancelled recovered verdict_of event_of after first_cpu made_cpu steppable step next fetch_stop instruction_stop instruction_of call_at permits_of alu_of meaning serve payload_of
+unfolding opening opening_core sharing_of opening_replica struck execute applied cancelled recovered verdict_of event_of after first_cpu made_cpu steppable step next fetch_stop instruction_stop instruction_of call_at permits_of alu_of meaning serve payload_of
 nearly-first zero r d e = absurd (d refl)
 nearly-first (suc zero) r d e = subst (IsNearlyAlike slip until_first) (some-injective e) (nearly-by slip until_first _ _ _ _ refl refl done refl refl refl (λ stop (f : None ≡ Some stop). absurd cc))
 nearly-first (suc (suc zero)) r d e = subst (IsNearlyAlike slip until_first) (some-injective e) (nearly-by slip until_first _ _ _ _ refl refl done refl refl refl (λ stop (f : None ≡ Some stop). absurd cc))
@@ -98,15 +98,15 @@ nearly-first (suc (suc (suc number))) r d e = absurd (let f : None ≡ Some r = 
 
 -- and at the second
 nearly-struck : (r : Replica) → slice_get (replay slip until_second).replicas 0 ≡ Some r → IsNearlyAlike slip until_second r
-unfolding opening opening_core opening_replica struck execute applied cancelled recovered verdict_of event_of after first_cpu made_cpu steppable step next fetch_stop instruction_stop instruction_of call_at permits_of alu_of meaning serve payload_of
+unfolding opening opening_core sharing_of opening_replica struck execute applied cancelled recovered verdict_of event_of after first_cpu made_cpu steppable step next fetch_stop instruction_stop instruction_of call_at permits_of alu_of meaning serve payload_of
 nearly-struck r e = subst (IsNearlyAlike slip until_second) (some-injective e) (nearly-by slip until_second _ _ _ _ refl refl (then_plain (record { cpu = _; instr = _; live = refl; executes = refl }) refl (then_plain (record { cpu = _; instr = _; live = refl; executes = refl }) refl (then_plain (record { cpu = _; instr = _; live = refl; executes = refl }) refl (then_plain (record { cpu = _; instr = _; live = refl; executes = refl }) refl (then_plain (record { cpu = _; instr = _; live = refl; executes = refl }) refl (then_plain (record { cpu = _; instr = _; live = refl; executes = refl }) refl (done))))))) refl refl refl (λ stop f. f))
 
 nearly-third : (r : Replica) → slice_get (replay slip until_second).replicas 2 ≡ Some r → IsNearlyAlike slip until_second r
-unfolding opening opening_core opening_replica struck execute applied cancelled recovered verdict_of event_of after first_cpu made_cpu steppable step next fetch_stop instruction_stop instruction_of call_at permits_of alu_of meaning serve payload_of
+unfolding opening opening_core sharing_of opening_replica struck execute applied cancelled recovered verdict_of event_of after first_cpu made_cpu steppable step next fetch_stop instruction_stop instruction_of call_at permits_of alu_of meaning serve payload_of
 nearly-third r e = subst (IsNearlyAlike slip until_second) (some-injective e) (nearly-by slip until_second _ _ _ _ refl refl done refl refl refl (λ stop (f : None ≡ Some stop). absurd cc))
 
 nearly-second : (number : ℕ) (r : Replica) → number ≢ 1 → slice_get (replay slip until_second).replicas number ≡ Some r → IsNearlyAlike slip until_second r
-unfolding opening opening_core opening_replica struck execute applied cancelled recovered verdict_of event_of after first_cpu made_cpu steppable step next fetch_stop instruction_stop instruction_of call_at permits_of alu_of meaning serve payload_of
+unfolding opening opening_core sharing_of opening_replica struck execute applied cancelled recovered verdict_of event_of after first_cpu made_cpu steppable step next fetch_stop instruction_stop instruction_of call_at permits_of alu_of meaning serve payload_of
 nearly-second zero r d e = nearly-struck r e
 nearly-second (suc zero) r d e = absurd (d refl)
 nearly-second (suc (suc zero)) r d e = nearly-third r e

@@ -8,28 +8,37 @@ use Rattle.ro_journal.specs.declared.Entry.{Entry}
 use Rattle.ro_journal.specs.declared.Entry.TheVariants.{Take}
 use Rattle.ro_journal.specs.declared.Lease.{Lease}
 use Rattle.ro_kernel.specs.Kernel.{Kernel}
+use Rattle.ro_replica.specs.Replica.{Replica}
 use Rattle.ro_replica.specs.Seen.{replica_of}
 use Rattle.ro_peer.specs.Seen.{peer_of}
-use Rattle.ro_lease.specs.Loans as replicas
+use Rattle.ro_lease.specs.declared.Loan.{Loan}
+use Rattle.ro_lease.specs.declared.Loan.TheVariants as loans
+use Rattle.ro_lease.specs.declared.Lent.{Lent as VotedLent}
+use Rattle.ro_core.specs.Seen.{IsLaneOfJob}
+use Rattle.ro_core.specs.Seen as voted_seen
+use Rattle.ro_core.proofs.Returning.{lent-has, lent-goes}
+use Rattle.ro_cores.specs.Cores.{plain_core}
 use Rattle.ro_coop_lease.specs.declared.Lent.{Lent}
 use Rattle.ro_coop_core.specs.Seen as shared_seen
 use Rattle.ro_legal.specs.Core.{Job, Core, is_idle, is_lease, is_out, lease_of}
 use Rattle.ro_legal.specs.Legal.{MayTake}
 use Rattle.ro_legal.specs.Legal as votes
 use Rattle.ro_legal.specs.Cooperative as together
-use Rattle.ro_legal.specs.Laws.{HasWhole, Names}
+use Rattle.ro_legal.specs.Laws.{HasLease, Names}
 use Rattle.ro_legal.specs.Lent.{IsOfJob}
+use Rattle.ro_legal.specs.Parts.{Lent as Lending, Whole, Pages}
+use Rattle.ro_legal.proofs.Journals.{replay_more}
 use Rattle.ro_legal.specs.Modes.{Mode}
 use Rattle.ro_legal.specs.Modes as modes
 use Rattle.ro_legal.specs.Rules.{IsFit, Legal, replay}
 use Rattle.ro_legal.proofs.Leases.{OneEach, has_driver, same-lease, out_number}
-use Rattle.ro_legal.proofs.Lasting.{lease_lasts, kernel_lasts}
+use Rattle.ro_legal.proofs.Lasting.{lease-stays, kernel_lasts}
 use Rattle.ro_legal.proofs.TogetherLeases.{lease-lasts}
 use Rattle.ro_legal.proofs.Ordered.{going-parts}
 use Rattle.ro_legal.proofs.Rules.{replay-more, after-take, others-idle, put-idle, part-idle}
 use Rattle.ro_cores.specs.Loans.{LentOf, IsLent, Returns, lease_in, plain_run}
-use Rattle.ro_cores.proofs.VotedLeases.{lending}
-use Rattle.ro_audit.specs.Following.{LendsReplica, LendsPeer, Lends, Slot}
+use Rattle.ro_cores.proofs.Lending.{lending}
+use Rattle.ro_audit.specs.Following.{LendsLoan, LendsReplica, LendsPeer, Lends, Slot}
 
 -- each driver's slot is what is lent to it
 abbrev pub AreSlots : Job → Core → List (Option LentOf) → Type 0
@@ -41,15 +50,6 @@ module _ (job : Job) (core : Core) (alive : core.ended ≡ None) where
   -- a lease that was just taken is the driver's
   first-held : (lease : Lease) → lease_of (lending core lease) lease.driver ≡ Some lease
   first-held lease = ap (λ (b : Bool). cond b (Some lease) (find (λ (l : Lease). l.driver == lease.driver) core.leases)) (eq-eqb lease.driver lease.driver refl)
-
-  replica-goes : (lent : replicas.LentOf) → lent.quantum ≡ job.settings.quantum → IsOfJob job core.kernel lent.replica → slice_get core.replicas lent.lease.replica ≡ Some (replica_of lent.replica) → LendsReplica job (lending core lent.lease) lent
-  replica-goes lent quantum program there = record {
-    quantum_is = quantum;
-    program = program;
-    held = first-held lent.lease;
-    there = there;
-    not_ended = alive;
-  }
 
   peer-goes : (lent : Lent) → lent.quantum ≡ job.settings.quantum → (journal : List Entry) → together.replay job journal ≡ core → shared_seen.IsLent (plain_run job journal) lent.lease.replica lent.lease.thread lent.partner → LendsPeer job (lending core lent.lease) lent
   peer-goes lent quantum journal at is = record {
@@ -64,15 +64,43 @@ module _ (job : Job) (core : Core) (alive : core.ended ≡ None) where
     not_ended = alive;
   }
 
+-- what a replica lends
+module _ (job : Job) (journal : List Entry) (lease : Lease) (may : MayTake job (votes.replay job journal) lease) where
+  abbrev taken : List Entry
+  taken = journal ++ Take lease ∷ []
+
+  same-kernel : (votes.replay job taken).kernel ≡ (votes.replay job journal).kernel
+  unfolding votes.after
+  same-kernel = ap (λ (c : Core). c.kernel) (replay_more job journal (Take lease))
+
+  loan-goes : (loan : Loan) → voted_seen.IsLent (plain_core job journal) lease.replica lease.thread loan → LendsLoan job (votes.replay job taken) lease loan
+  loan-goes (loans.Whole value) is = record {
+    out = lent-has job journal lease (loans.Whole value) is may;
+    program = subst (λ (k : Kernel). IsOfJob job k value) (sym same-kernel) is.program;
+  }
+  loan-goes (loans.Part lane) is = record {
+    pages = is.pages;
+    taken = is.replica;
+    out = lent-has job journal lease (loans.Part lane) is may;
+    program = subst (λ (k : Kernel). IsLaneOfJob job k lane) (sym same-kernel) is.program;
+    began = is.began;
+    has = is.has;
+    same = is.same;
+    low = is.low;
+    calm = is.calm;
+  }
+
+replica-goes : (job : Job) (journal : List Entry) (lent : VotedLent) → MayTake job (votes.replay job journal) lent.lease → lent.quantum ≡ job.settings.quantum → voted_seen.IsLent (plain_core job journal) lent.lease.replica lent.lease.thread lent.loan
+    → LendsReplica job (votes.replay job (journal ++ Take lent.lease ∷ [])) lent
+replica-goes job journal lent may quantum is = record { quantum_is = quantum; goes = lent-goes (plain_core job journal) lent quantum is; loan = loan-goes job journal lent.lease may lent.loan is }
+
 -- what is lent is out behind its take
 pub take-lends : (job : Job) (journal : List Entry) (lent : LentOf) → MayTake job (replay job journal) (lease_in lent) → IsLent job journal lent → Lends job (replay job (journal ++ Take (lease_in lent) ∷ [])) lent
-take-lends job journal (inl lent) may is =
-    let at : replay job (journal ++ Take lent.lease ∷ []) ≡ lending (replay job journal) lent.lease = replay-more job journal (Take lent.lease) ∙ after-take job (replay job journal) lent.lease in (
-      is.0,
-      subst (λ (c : Core). LendsReplica job c lent) (sym at) (replica-goes job (replay job journal) (going-parts (replay job journal) may.going).1 lent is.1
-          (subst (λ (m : Mode). IsOfJob job (modes.replay m job journal).kernel lent.replica) (sym is.0) is.2.program)
-          (subst (λ (m : Mode). slice_get (modes.replay m job journal).replicas lent.lease.replica ≡ Some (replica_of lent.replica)) (sym is.0) is.2.replica)),
-    )
+take-lends job journal (inl lent) may is = (
+  is.0,
+  subst (λ (m : Mode). LendsReplica job (modes.replay m job (journal ++ Take lent.lease ∷ [])) lent) (sym is.0)
+      (replica-goes job journal lent (subst (λ (m : Mode). MayTake job (modes.replay m job journal) lent.lease) is.0 may) is.1 is.2),
+)
 take-lends job journal (inr lent) may is =
     let at : replay job (journal ++ Take lent.lease ∷ []) ≡ lending (replay job journal) lent.lease = replay-more job journal (Take lent.lease) ∙ after-take job (replay job journal) lent.lease in (
       is.0,
@@ -84,12 +112,32 @@ take-lends job journal (inr lent) may is =
 
 module _ (job : Job) (journal : List Entry) (entry : Entry) where
   -- by votes
-  replica-stays : (lent : replicas.LentOf) (by : ℕ) → votes.Legal job (journal ++ entry ∷ []) → Names by entry → by ≢ lent.lease.driver → LendsReplica job (votes.replay job journal) lent → LendsReplica job (votes.replay job (journal ++ entry ∷ [])) lent
-  replica-stays lent by legal names ne s =
-      let out : HasWhole (votes.replay job journal) lent.lease.driver lent.lease (replica_of lent.replica) = record { held = s.held; there = s.there; not_ended = s.not_ended } in
-      let still = lease_lasts job journal entry legal lent.lease.driver by names ne lent.lease (replica_of lent.replica) out in
-      let kernel = kernel_lasts job journal entry legal lent.lease.driver lent.lease s.held in
-      record { quantum_is = s.quantum_is; program = subst (λ (k : Kernel). IsOfJob job k lent.replica) (sym kernel) s.program; held = still.held; there = still.there; not_ended = still.not_ended }
+  module _ (legal : votes.Legal job (journal ++ entry ∷ [])) (lease : Lease) (by : ℕ) (names : Names by entry) (ne : by ≢ lease.driver) where
+    out-stays : (lent : Lending) (taken : Replica) → HasLease (votes.replay job journal) lease.driver lease lent taken → HasLease (votes.replay job (journal ++ entry ∷ [])) lease.driver lease lent taken
+    out-stays = lease-stays job journal entry legal lease.driver by names ne lease
+
+    kernel-stays : lease_of (votes.replay job journal) lease.driver ≡ Some lease → (votes.replay job (journal ++ entry ∷ [])).kernel ≡ (votes.replay job journal).kernel
+    kernel-stays = kernel_lasts job journal entry legal lease.driver lease
+
+    loan-stays : (loan : Loan) → LendsLoan job (votes.replay job journal) lease loan → LendsLoan job (votes.replay job (journal ++ entry ∷ [])) lease loan
+    loan-stays (loans.Whole value) s = record {
+      out = out-stays Whole (replica_of value) s.out;
+      program = subst (λ (k : Kernel). IsOfJob job k value) (sym (kernel-stays s.out.held)) s.program;
+    }
+    loan-stays (loans.Part lane) s = record {
+      pages = s.pages;
+      taken = s.taken;
+      out = out-stays (Pages s.pages) s.taken s.out;
+      program = subst (λ (k : Kernel). IsLaneOfJob job k lane) (sym (kernel-stays s.out.held)) s.program;
+      began = s.began;
+      has = s.has;
+      same = s.same;
+      low = s.low;
+      calm = s.calm;
+    }
+
+  replica-stays : (lent : VotedLent) (by : ℕ) → votes.Legal job (journal ++ entry ∷ []) → Names by entry → by ≢ lent.lease.driver → LendsReplica job (votes.replay job journal) lent → LendsReplica job (votes.replay job (journal ++ entry ∷ [])) lent
+  replica-stays lent by legal names ne s = record { quantum_is = s.quantum_is; goes = s.goes; loan = loan-stays legal lent.lease by names ne lent.loan s.loan }
 
   -- in a cooperative run
   peer-stays : (lent : Lent) (by : ℕ) → job.faults ≡ [] → together.Legal job (journal ++ entry ∷ []) → Names by entry → by ≢ lent.lease.driver → LendsPeer job (together.replay job journal) lent → LendsPeer job (together.replay job (journal ++ entry ∷ [])) lent
@@ -162,8 +210,12 @@ slots-return job journal lease entry lent fit legal returns within slots =
 
 -- ---- where nothing is lent, and an entry lends nothing
 
+loan-held : (job : Job) (core : Core) (lease : Lease) (loan : Loan) → LendsLoan job core lease loan → lease_of core lease.driver ≡ Some lease
+loan-held job core lease (loans.Whole value) s = s.out.held
+loan-held job core lease (loans.Part lane) s = s.out.held
+
 lends-held : (job : Job) (core : Core) (lent : LentOf) → Lends job core lent → lease_of core (lease_in lent).driver ≡ Some (lease_in lent)
-lends-held job core (inl lent) s = s.1.held
+lends-held job core (inl lent) s = loan-held job core lent.lease lent.loan s.1.loan
 lends-held job core (inr lent) s = s.1.held
 
 slot-alone : (job : Job) (core core' : Core) (driver : ℕ) → core.leases ≡ [] → core'.leases ≡ core.leases → (o : Option LentOf) → Slot job core driver o → Slot job core' driver o

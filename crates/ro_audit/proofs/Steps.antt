@@ -87,8 +87,8 @@ take-followed old new lease loan lent lent' rows output same_lease f may a same 
 
 -- ---- a return
 
-pub return-followed : (old new : CoreOf) (lease : Lease) (entry : Entry) (back : BackOf) (lent lent' : List (Option LentOf)) (rows rows' : Rows) (output : List ℕ) → Follows old lent rows output → Returns lease entry → MayReturn old.job old.journal back → entry_of back ≡ entry
-    → Appends old new (entry_of back) → output_of new.job new.journal ≡ output_of old.job old.journal → lease.driver < length lent → lent' ≡ slice_set lent lease.driver None → KnowsGot old.job (old.journal ++ entry ∷ []) rows' → Followed old entry None new lent' rows' output
+pub return-followed : (old new : CoreOf) (lease : Lease) (entry : Entry) (back : BackOf) (lent lent' : List (Option LentOf)) (rows rows' : Rows) (output : List ℕ) → Follows old lent rows output → Returns lease entry → MayReturn old.job old.journal back → entry_of (left_by old) back ≡ entry
+    → Appends old new (entry_of (left_by old) back) → output_of new.job new.journal ≡ output_of old.job old.journal → lease.driver < length lent → lent' ≡ slice_set lent lease.driver None → KnowsGot old.job (old.journal ++ entry ∷ []) rows' → Followed old entry None new lent' rows' output
 return-followed old new lease entry back lent lent' rows rows' output f returns may its appends same within is knows =
     let allowed = subst (IsAllowed old.job (left_by old)) its (loan-allowed old.job old.journal back may) in
     let a = subst (Appends old new) its appends in
@@ -101,10 +101,10 @@ return-followed old new lease entry back lent lent' rows rows' output f returns 
     )
 
 -- what came back, where something did, and that all it got is known
-pub came-back : {B : Type 0} (back_of : B → BackOf) (job : Job) (journal : List Entry) (entry : Entry) (result : Result B Why) (back : B) → result ≡ Ok back → MatchResult result (λ b. MayReturn job journal (back_of b) × (entry_of (back_of b) ≡ entry)) (λ why. IsRefused job journal entry why)
-    → MayReturn job journal (back_of back) × (entry_of (back_of back) ≡ entry)
+pub came-back : {B : Type 0} (back_of : B → BackOf) (job : Job) (journal : List Entry) (entry : Entry) (result : Result B Why) (back : B) → result ≡ Ok back → MatchResult result (λ b. MayReturn job journal (back_of b) × (entry_of (replay job journal) (back_of b) ≡ entry)) (λ why. IsRefused job journal entry why)
+    → MayReturn job journal (back_of back) × (entry_of (replay job journal) (back_of back) ≡ entry)
 came-back {B = B} back_of job journal entry result back is w =
-    subst (λ (r : Result B Why). MatchResult r (λ b. MayReturn job journal (back_of b) × (entry_of (back_of b) ≡ entry)) (λ why. IsRefused job journal entry why)) is w
+    subst (λ (r : Result B Why). MatchResult r (λ b. MayReturn job journal (back_of b) × (entry_of (replay job journal) (back_of b) ≡ entry)) (λ why. IsRefused job journal entry why)) is w
 
 pub came-known : {B : Type 0} (P : Type 0) (result : Result B Why) (back : B) → result ≡ Ok back → OnOk result P → P
 came-known {B = B} P result back is w = subst (λ (r : Result B Why). OnOk r P) is w

@@ -1,45 +1,76 @@
 -- A journal that is followed, by the rules of the job's mode.
-use Rattle.std.specs.Prelude.{◌≡◌, ◌≢◌, ◌<◌, ⊤, ℕ, true, IsTrue, List, [], ◌∷◌, ◌++◌, length, Option, Some, None, slice_get, slice_index_or}
+use Rattle.std.specs.Prelude.{◌≡◌, ◌≢◌, ◌<◌, ⊤, ℕ, true, IsTrue, List, [], ◌∷◌, ◌++◌, ◌^◌, length, Option, Some, None, slice_get, slice_index_or}
 use mathlib.Core.Logic.{inl, inr}
 use Rattle.ro_settings.specs.declared.Mode.TheVariants.{Voted, Cooperative}
 use Rattle.ro_journal.specs.declared.How.{How}
 use Rattle.ro_journal.specs.declared.Entry.{Entry}
+use Rattle.ro_journal.specs.declared.Lease.{Lease}
 use Rattle.ro_replica.specs.Views.{is_unstopped}
-use Rattle.ro_replica.specs.Seen.{replica_of, CanCount}
+use Rattle.ro_replica.specs.Seen.{ReplicaOf, replica_of, CanCount}
 use Rattle.ro_orders.specs.Copies.{Rows}
 use Rattle.ro_peer.specs.declared.mutexes.Mutex.{Mutex}
 use Rattle.ro_peer.specs.Gets.{Get, InRows}
 use Rattle.ro_peer.specs.Seen.{peer_of, by_address}
 use Rattle.ro_peer.specs.Leases.{IsAmong}
-use Rattle.ro_lease.specs.Loans as replicas
+use Rattle.ro_pages.specs.Held.{has_page, memory_of}
+use Rattle.ro_exec.specs.Parts.{SameIn}
+use Rattle.ro_replica.specs.Replica.{Replica}
+use Rattle.ro_replica.specs.Lent.{LaneOf}
+use Rattle.ro_lease.specs.Loans.{CanGo}
+use Rattle.ro_lease.specs.declared.Loan.{Loan}
+use Rattle.ro_lease.specs.declared.Loan.TheVariants as loans
+use Rattle.ro_lease.specs.declared.Lent.{Lent as VotedLent}
 use Rattle.ro_coop_lease.specs.declared.Lent.{Lent}
 use Rattle.ro_legal.specs.Core.{Job, Core, is_idle, may_vote, may_free, lease_of}
 use Rattle.ro_legal.specs.Jobs.{CanRun}
 use Rattle.ro_legal.specs.Legal.{EndsFree}
+use Rattle.ro_legal.specs.Laws.{HasLease}
 use Rattle.ro_legal.specs.Lent.{IsOfJob}
+use Rattle.ro_legal.specs.Parts.{Whole, Pages, is_calm, seen_pages}
 use Rattle.ro_legal.specs.Modes.{InMode}
 use Rattle.ro_legal.specs.Cooperative.{peer_in}
 use Rattle.ro_legal.specs.Rules.{IsFit, Legal, IsAllowed, EndsVote, EndsScrub, output_of}
-use Rattle.ro_core.specs.Seen.{CoreOf, Appends}
+use Rattle.ro_core.specs.Seen.{CoreOf, Appends, IsLaneOfJob}
 use Rattle.ro_cores.specs.Cores.{left_by}
 use Rattle.ro_cores.specs.Loans.{LentOf, IsJoined, lease_in, mutexes_in}
 use Rattle.ro_audit.specs.declared.follower.InPlace.{InPlace}
 use Rattle.ro_audit.specs.declared.follower.InPlace.TheVariants.{OfVote, OfFree, OfScrub}
 use Rattle.ro_audit.specs.declared.follower.Walk.{Walk}
-use Rattle.ro_audit.specs.declared.follower.Walk.TheVariants.{Whole, Stopped}
+use Rattle.ro_audit.specs.declared.follower.Walk.TheVariants.{Stopped}
+use Rattle.ro_audit.specs.declared.follower.Walk.TheVariants as walks
 use Rattle.ro_audit.specs.declared.follower.Why.{Why}
 use Rattle.ro_audit.specs.declared.follower.Why.TheVariants.{Comes}
 use Rattle.ro_audit.specs.Audits.{FirstIllegal, IsRefused, got_in, scrubs}
 
 -- ---- what is lent
 
--- a replica that is lent: its lease is out, and it is the core's
-pub record LendsReplica (job : Job) (core : Core) (lent : replicas.LentOf) : Type 0 where
+-- a whole replica that is lent: its lease is out, and it is the core's
+pub record LendsWhole (job : Job) (core : Core) (lease : Lease) (value : ReplicaOf) : Type 0 where
+  pub out : HasLease core lease.driver lease Whole (replica_of value)
+  pub program : IsOfJob job core.kernel value
+
+-- A thread that is lent with some pages of its replica: its lease is out, they are as they were in the replica when it was taken, and
+-- no fault of the thread is due in a quantum.
+pub record LendsPages (job : Job) (core : Core) (lease : Lease) (lane : LaneOf) : Type 0 where
+  pub pages : List ℕ
+  pub taken : Replica
+  pub out : HasLease core lease.driver lease (Pages pages) taken
+  pub program : IsLaneOfJob job core.kernel lane
+  pub began : slice_get taken.threads lease.thread ≡ Some lane.thread
+  pub has : has_page lane.held.pages ≡ seen_pages (Pages pages) taken.backed
+  pub same : SameIn (has_page lane.held.pages) (memory_of lane.held.pages) taken.memory
+  pub low : (page : ℕ) → has_page lane.held.pages page ≡ true → page < 2 ^ 20
+  pub calm : is_calm job.settings.quantum lease.thread taken lane.thread ≡ true
+
+abbrev pub LendsLoan : Job → Core → Lease → Loan → Type 0
+LendsLoan job core lease (loans.Whole value) = LendsWhole job core lease value
+LendsLoan job core lease (loans.Part lane) = LendsPages job core lease lane
+
+-- what is lent of a replica, which can run for a quantum
+pub record LendsReplica (job : Job) (core : Core) (lent : VotedLent) : Type 0 where
   pub quantum_is : lent.quantum ≡ job.settings.quantum
-  pub program : IsOfJob job core.kernel lent.replica
-  pub held : lease_of core lent.lease.driver ≡ Some lent.lease
-  pub there : slice_get core.replicas lent.lease.replica ≡ Some (replica_of lent.replica)
-  pub not_ended : core.ended ≡ None
+  pub goes : CanGo lent
+  pub loan : LendsLoan job core lent.lease lent.loan
 
 -- a peer that is lent: its lease is out, it is the core's, and its thread can run for the quantum
 pub record LendsPeer (job : Job) (core : Core) (lent : Lent) : Type 0 where
@@ -124,7 +155,7 @@ pub record AtEntry (core : CoreOf) (journal : List Entry) (place : ℕ) (entry :
 
 -- what became of a journal: all of it was followed, or an entry is not allowed
 abbrev pub Walked : Job → List Entry → Walk → CoreOf → (output : List ℕ) → Type 0
-Walked job journal Whole core output = (core.journal ≡ journal) × (output ≡ output_of job journal) × IsJoined job journal
+Walked job journal walks.Whole core output = (core.journal ≡ journal) × (output ≡ output_of job journal) × IsJoined job journal
 Walked job journal (Stopped place why) core output = FirstIllegal job journal place why
 
 -- ---- the trail

@@ -1,5 +1,5 @@
--- A lent peer that comes back as an entry tells, or does not.
-use Rattle.std.specs.Prelude.{◌≡◌, ◌≢◌, ◌⊎◌, ◌<◌, ◌≤◌, ℕ, true, List, [], Some, None, is_some, if◌then◌else◌, slice_get}
+-- What comes back as an entry tells, or does not: what entries tell, and peers.
+use Rattle.std.specs.Prelude.{◌≡◌, ◌≢◌, ◌⊎◌, ◌<◌, ◌≤◌, ◌==◌, ◌&&◌, ℕ, true, List, [], Some, None, is_some, if◌then◌else◌, slice_get}
 use Rattle.ro_journal.specs.declared.Lease.{Lease}
 use Rattle.ro_journal.specs.declared.Entry.{Entry}
 use Rattle.ro_journal.specs.declared.Entry.TheVariants.{Put, Part}
@@ -11,6 +11,7 @@ use Rattle.ro_peer.specs.Gets.{got_in}
 use Rattle.ro_peer.specs.Seen.{peer_of}
 use Rattle.ro_peer.specs.Leases.{PeerRuns, KeepsRows, Wins, waiting_at}
 use Rattle.ro_locking.specs.Asking.{below, ceiling_of}
+use Rattle.ro_lease.specs.declared.Took.{Took}
 use Rattle.ro_coop_lease.specs.declared.Lent.{Lent}
 use Rattle.ro_audit.specs.declared.follower.Why.{Why}
 use Rattle.ro_audit.specs.declared.follower.Why.TheVariants.{Ran, NoPut, NoPart, OtherGot}
@@ -25,6 +26,10 @@ told_entry lease told = if told.waits then Part lease told.count told.hit else P
 -- why it does not come back so, where its thread stands otherwise
 abbrev pub refusal_of : Told → Why
 refusal_of told = if told.waits then NoPart else NoPut
+
+-- why it doesn't, where its run came to these counts: they are others, or it comes back by the other entry
+abbrev pub otherwise : Told → Took → Why
+otherwise told took = if (took.count == told.count) && (took.hit == told.hit) then refusal_of told else Ran took.count took.hit
 
 -- the same loan, but for what the thread's run made of the peer
 pub record SameLoan (old new : Lent) : Type 0 where

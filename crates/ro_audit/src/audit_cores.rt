@@ -168,6 +168,6 @@ pub trait AuditCore: RunCore<Lent: Drop> {
         requires returns { Returns (lease_in (Self.lent_of lent)) entry.now }
         requires lends { Lends (Self.seen self.now).job (left_by (Self.seen self.now)) (Self.lent_of lent) }
         requires knows { KnowsGot (Self.seen self.now).job (Self.seen self.now).journal (got_of got.old) }
-        ensures returns { IfOk result (λ came. MatchResult came (λ back. MayReturn (Self.seen self.now).job (Self.seen self.now).journal (Self.back_of back) × (entry_of (Self.back_of back) ≡ entry.now)) (λ why. IsRefused (Self.seen self.now).job (Self.seen self.now).journal entry.now why)) }
+        ensures returns { IfOk result (λ came. MatchResult came (λ back. MayReturn (Self.seen self.now).job (Self.seen self.now).journal (Self.back_of back) × (entry_of (left_by (Self.seen self.now)) (Self.back_of back) ≡ entry.now)) (λ why. IsRefused (Self.seen self.now).job (Self.seen self.now).journal entry.now why)) }
         ensures knows { IfOk result (λ came. OnOk came (KnowsGot (Self.seen self.now).job ((Self.seen self.now).journal ++ entry.now ∷ []) (got_of got.new))) };
 }

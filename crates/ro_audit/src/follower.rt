@@ -48,9 +48,10 @@ pub enum Why {
     NotOut,
     /// The run of the lease comes back after so many instructions and faults.
     Ran { count: u32, hit: u32 },
-    /// The lease doesn't come back so: its thread stands at nothing for which a vote is held, or faults are told where there are none.
+    /// The lease doesn't come back so: its thread waits for a page or stands at nothing for which a vote is held, or faults are told
+    /// where there are none.
     NoPut,
-    /// The lease doesn't come back so: its thread waits at no lock there, or replicas answer no calls by themselves.
+    /// The lease doesn't come back so: its thread waits for no page, and at no lock there, or replicas answer no calls by themselves.
     NoPart,
     /// The lease gets a mutex that another thread got.
     OtherGot,
@@ -501,7 +502,7 @@ fn unless_same(came: Entry, entry: &Entry) -> Option<Why>
     }
 }
 
-fn is_same(came: &Entry, entry: &Entry) -> bool
+pub(crate) fn is_same(came: &Entry, entry: &Entry) -> bool
     ensures { IsTrue result ↔ (came.now ≡ entry.now) }
 {
     came == entry

@@ -1,4 +1,4 @@
-//! A lent peer that comes back as an entry tells, or does not.
+//! What comes back as an entry tells, or does not: what entries tell, and peers.
 ghost use Rattle.std.specs.Prelude.{◌≡◌, ◌≤◌, ◌<◌, [], IfOk, IfSome, IsTrue, MatchResult, length};
 ghost use Rattle.ro_journal.specs.declared.Lease.{Lease as LeaseSeen};
 ghost use Rattle.ro_replica.specs.Seen.{CanCount, replica_of};
@@ -20,7 +20,7 @@ use std::alloc::AllocError;
 pub(crate) struct Told {
     pub count: u32,
     pub hit: u32,
-    /// Whether its thread waits at a lock.
+    /// Whether its thread waits, at a lock or for a page.
     pub waits: bool,
 }
 
@@ -45,8 +45,8 @@ impl Told {
         }
     }
 
-    // Why a lease doesn't come back so, where its thread stands otherwise.
-    fn refusal(self) -> Why
+    /// Why a lease doesn't come back so, where its thread stands otherwise.
+    pub fn refusal(self) -> Why
         ensures { result ≡ refusal_of self }
     {
         if self.waits { Why::NoPart } else { Why::NoPut }

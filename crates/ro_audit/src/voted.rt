@@ -1,9 +1,12 @@
 //! The core that keeps the rules of votes, as an audit needs it.
-ghost use Rattle.std.specs.Prelude.{◌≡◌, ◌↔◌, IsTrue};
+ghost use Rattle.std.specs.Prelude.{◌≡◌};
+ghost use Rattle.ro_audit.specs.Returning.{otherwise};
 
 use crate::audit_cores::AuditCore;
-use crate::follower::Why;
+use crate::follower::{Why, is_same};
+use crate::returning::Told;
 use ro_core::Core;
+use ro_cores::RunCore;
 use ro_event::Call;
 use ro_faults::Fault;
 use ro_image::Executable;
@@ -107,21 +110,25 @@ impl AuditCore for Core {
         lent: Lent,
         entry: &Entry,
     ) -> Result<Result<Back, Why>, AllocError> {
-        let Entry::Put { count, hit, .. } = *entry else {
-            return Ok(Err(Why::NoPart));
-        };
         let back = lent.run();
-        if came_to(&back.took, count, hit) {
+        if is_same(&self.entry(&back), entry) {
             return Ok(Ok(back));
         }
-        let Took { count, hit } = back.took;
-        Ok(Err(Why::Ran { count, hit }))
+        Ok(Err(why_otherwise(Told::of(entry), &back.took)))
     }
 }
 
-// Whether a run came to so many instructions and faults.
-fn came_to(took: &Took, count: u32, hit: u32) -> bool
-    ensures { IsTrue result ↔ ((took.now.count ≡ count) × (took.now.hit ≡ hit)) }
+// Why a lease doesn't come back as it is told, where its run came to these counts: they are others, or it comes back by the other
+// entry.
+fn why_otherwise(told: Told, took: &Took) -> Why
+    ensures { result ≡ otherwise told took.now }
 {
-    took.count == count && took.hit == hit
+    if took.count == told.count && took.hit == told.hit {
+        told.refusal()
+    } else {
+        Why::Ran {
+            count: took.count,
+            hit: took.hit,
+        }
+    }
 }

@@ -1,6 +1,6 @@
 -- What the questions to a core answer, from its fields.
-use Rattle.std.proofs.Common.{◌≡◌, ℕ, ◌≤◌, Bool, true, false, not, ◌&&◌, Option, Some, None, refl, sym, ap, ◌∙◌, subst, arith}
-use Rattle.std.specs.Prelude.{◌↔◌, is_none, slice_get}
+use Rattle.std.proofs.Common.{◌≡◌, ℕ, ◌<◌, ◌≤◌, Bool, true, false, not, ◌&&◌, length, Option, Some, None, refl, sym, ap, ◌∙◌, subst, arith}
+use Rattle.std.specs.Prelude.{◌↔◌, IfSome, is_none, slice_get}
 use Rattle.std.specs.Option.{option_map_or}
 use Rattle.std.proofs.lemmas.Option.{slice_get_within}
 use Rattle.ro_journal.specs.declared.How.{How}
@@ -9,10 +9,14 @@ use Rattle.ro_journal.specs.declared.losers.Lost.{Lost}
 use Rattle.ro_kernel.specs.Kernel.{lives_on}
 use Rattle.ro_replica.specs.Replica.{Replica}
 use Rattle.ro_replica.specs.Views.{is_unstopped}
-use Rattle.ro_legal.specs.Core.{Job, Core, is_going, nothing_lent, offers, is_lendable}
+use Rattle.ro_legal.specs.Core.{Job, Core, is_going, is_home, nothing_lent, offers, is_lendable}
 use Rattle.ro_legal.specs.Legal.{MayVote, EndsVote, may_scrub, MayScrub, EndsScrub}
 use Rattle.ro_legal.specs.Action.{lend_next}
-use Rattle.ro_core.specs.Fields.{Fields, core_in, Holds}
+use Rattle.ro_replica.specs.Seen.{ReplicaOf, replica_of}
+use Rattle.ro_legal.proofs.Lists.{get-within}
+use Rattle.ro_core.specs.Fields.{Fields, IsSeat, Seated, core_in, Holds}
+use Rattle.ro_core.proofs.Away.{home-stays, whole-there}
+use Rattle.ro_core.proofs.Homes.{seat_there}
 use Rattle.ro_core.proofs.Tests.{count-is}
 use Rattle.ro_legal.proofs.Leases.{asleep-unlent}
 use Rattle.ro_legal.proofs.Lowest.{none-lent, some-none}
@@ -65,3 +69,22 @@ none-scrub-ends job core won lost m other = (
   λ f. absurd (let g : None ≡ Some other = f in cc),
   λ e. absurd (scrub-no-end job core won lost m other e),
 )
+
+-- ---- a replica of which nothing is out
+
+module _ (f : Fields) (h : Holds f) (number : ℕ) where
+  -- what is in its seat is the replica
+  pub home-there : is_home (core_in f) number ≡ true → (value : ReplicaOf) → slice_get f.seats number ≡ Some (Some value) → slice_get (core_in f).replicas number ≡ Some (replica_of value)
+  home-there home value there = whole-there f.job (core_in f) number value (subst (λ (o : Option (Option ReplicaOf)). Seated f.job (core_in f) number o) there (h.seats_are.each number)) home
+
+  -- and it is there
+  pub home-seat : number < length (core_in f).replicas → is_home (core_in f) number ≡ true → IsSeat f.seats number
+  home-seat less home =
+      let r = get-within (core_in f).replicas number less in
+      let s = seat_there f.job (core_in f) f.seats number r.0 h.seats_are (home-stays (core_in f) number home) r.1 in
+      (s.0, s.1)
+
+-- what is shown
+pub shows : {R : Type 0} {P Q : ReplicaOf → Type 0} (view : R → ReplicaOf) (o : Option R) → ((value : ReplicaOf) → P value → Q value) → IfSome o (λ r. P (view r)) → IfSome o (λ r. Q (view r))
+shows view None so p = tt
+shows view (Some r) so p = so (view r) p

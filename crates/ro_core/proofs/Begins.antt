@@ -1,6 +1,7 @@
 -- The fields of a run at its opening.
-use Rattle.std.proofs.Common.{◌≡◌, ◌⊎◌, inl, inr, ℕ, zero, suc, ◌<◌, ◌≤◌, true≢false, List, [], ◌∷◌, ◌++◌, length, Option, Some, None, refl, sym, ap, ◌∙◌, subst, arith}
-use Rattle.std.specs.Prelude.{false, replicate, slice_get}
+use Rattle.std.proofs.Common.{◌≡◌, ◌⊎◌, inl, inr, ℕ, zero, suc, ◌*◌, ◌<◌, ◌≤◌, true≢false, List, [], ◌∷◌, ◌++◌, length, Option, Some, None, refl, sym, ap, ◌∙◌, subst, arith}
+use Rattle.std.specs.Prelude.{IsSome, false, replicate, slice_get}
+use Rattle.std.specs.List.{All}
 use Rattle.std.specs.Option.{option_map_or}
 use Rattle.std.proofs.lemmas.Option.{slice_get_within}
 use Rattle.ro_journal.specs.Plan.{outcome_of}
@@ -14,15 +15,20 @@ use Rattle.ro_replica.specs.Replica.{Replica, opening_replica}
 use Rattle.ro_replica.specs.Seen.{ReplicaOf, IsOpening}
 use Rattle.ro_settings.specs.Ranges.{InRange}
 use Rattle.ro_legal.specs.Streaks.{no_streak}
-use Rattle.ro_legal.specs.Core.{Job, Core, opening_replicas, opening_core}
+use Rattle.ro_legal.specs.Core.{Job, Core, opening_replicas, opening_core, sharing_of}
 use Rattle.ro_legal.specs.Legal.{Legal, replay}
 use Rattle.ro_legal.proofs.Lowest.{lowest-never}
-use Rattle.ro_core.specs.Fields.{Seated, AreSeated, one_end, Fields, blocked_at, is_unblocked, first_unblocked, Holds}
+use Rattle.ro_core.specs.Fields.{AreNoted, lent_at, Seated, AreSeated, one_end, Fields, blocked_at, is_unblocked, first_unblocked, Holds}
+use Rattle.ro_replica.specs.Lent.{IsSpareLane}
+use Rattle.ro_legal.specs.Parts.{Whole}
+use Rattle.ro_core.specs.Wishing.{wish_place}
+use Rattle.ro_core.specs.declared.wishing.Wish.{Wish}
 use Rattle.ro_core.specs.Grouped.{AreGrouped}
 use Rattle.ro_core.specs.Opening.{IsFirst, AreFirst, NoneStands}
 use Rattle.ro_legal.proofs.Lists.{get-within, get-append-cases}
 use Rattle.ro_legal.proofs.Ordered.{length-opening, get-opening}
 use Rattle.ro_core.proofs.Grouped.{opening-grouped}
+use Rattle.ro_core.proofs.Away.{there-whole}
 use Rattle.ro_core.proofs.Held.{no-views}
 
 pub first-push : (image : Image) (faults : List Fault) (watchdog : ℕ) (seats : List (Option ReplicaOf)) (seat : Option ReplicaOf) → AreFirst image faults watchdog seats → IsFirst image faults watchdog (length seats) seat → AreFirst image faults watchdog (seats ++ seat ∷ [])
@@ -48,7 +54,31 @@ first-seated job seats first count = record { count = count ∙ sym (length-open
     by number (Some (Some value)) e =
         let f : IsOpening job.program.image number job.faults job.settings.watchdog value = first number (Some value) e in
         let less : number < length seats = slice_get_within seats number (Some value) e in
-        (refl, record { layout = f.layout; given = f.given; watchdog = f.watchdog_is }, opening-there job job.settings.replicas number (omega arith) ∙ ap (λ (r : Replica). Some r) (sym f.opening))
+        there-whole job (opening_core job) number value (opening_replica job.program.image job.faults number) refl (record { layout = f.layout; given = f.given; watchdog = f.watchdog_is })
+        (opening-there job job.settings.replicas number (omega arith)) f.opening
+
+-- nothing was lent yet, and no page missed
+pub record FirstLending (f : Fields) : Type 0 where
+  pub lent : (driver : ℕ) → lent_at f.lent driver ≡ Whole
+  pub lent_count : IsSome (sharing_of f.job) → length f.lent ≡ f.job.settings.drivers
+  pub wishes : (place : ℕ) (wish : Wish) → slice_get f.wishes place ≡ Some wish → (wish.pages.items ≡ []) × (wish.misses ≡ 0)
+  pub wish_count : IsSome (sharing_of f.job) → length f.wishes ≡ 16 * f.job.settings.replicas
+  pub lanes : f.lanes ≡ []
+
+first-noted : (f : Fields) → FirstLending f → AreNoted (opening_core f.job) f.job.settings.drivers f.lent f.wishes
+unfolding opening_core
+first-noted f first = (
+  λ driver less. first.lent driver,
+  λ lends. (
+    record {
+      count = first.wish_count lends ∙ ap (λ (n : ℕ). 16 * n) (sym (length-opening f.job f.job.settings.replicas));
+      each = λ replica thread wish less there.
+          let is = first.wishes (wish_place replica thread) wish there in
+          record { pages = is.0; misses = is.1 };
+    },
+    first.lent_count lends,
+  ),
+)
 
 nothing-blocked : (n thread : ℕ) → blocked_at (replicate n None) thread ≡ None
 nothing-blocked zero thread = refl
@@ -56,16 +86,18 @@ nothing-blocked (suc n) zero = refl
 nothing-blocked (suc n) (suc thread) = nothing-blocked n thread
 
 pub opening-holds : (f : Fields) → InRange f.job.settings → f.journal ≡ [] → AreFirst f.job.program.image f.job.faults f.job.settings.watchdog f.seats → length f.seats ≡ f.job.settings.replicas
-    → f.leases ≡ [] → f.kernel.setup ≡ setup_of f.job.program → f.kernel.kernel ≡ opening_kernel f.job.program.image.heap
+    → f.leases ≡ [] → FirstLending f → f.kernel.setup ≡ setup_of f.job.program → f.kernel.kernel ≡ opening_kernel f.job.program.image.heap
     → f.blocked ≡ replicate 16 None → f.unblocked ≡ None → f.others_sleep ≡ false → f.steps ≡ 0 → f.scrubbed ≡ 0 → f.streak ≡ no_streak → f.due ≡ None → f.ended ≡ None → f.sent ≡ 0 → f.wrote ≡ 0
     → length f.views ≡ f.job.settings.replicas → NoneStands f.job.settings.replicas f.groups → 1 ≤ f.places → Holds f
 unfolding opening_core
-opening-holds f in_range journal first count leases setup kernel blocked unblocked others steps scrubbed streak due ended sent wrote views none room =
+opening-holds f in_range journal first count leases lending setup kernel blocked unblocked others steps scrubbed streak due ended sent wrote views none room =
     let core : replay f.job f.journal ≡ opening_core f.job = ap (replay f.job) journal in
     record {
       in_range = in_range;
       legal = subst (Legal f.job) (sym journal) tt;
       leases_are = leases ∙ sym (ap (λ (x : Core). x.leases) core);
+      noted = subst (λ (x : Core). AreNoted x f.job.settings.drivers f.lent f.wishes) (sym core) (first-noted f lending);
+      lanes_are = subst (All (IsSpareLane f.job.program.image)) (sym lending.lanes) (λ k d less. absurd (omega arith));
       setup_is = setup;
       kernel_is = kernel ∙ sym (ap (λ (x : Core). x.kernel) core);
       blocked_count = ap length blocked;

@@ -1,7 +1,9 @@
 -- The fields of a core behind an event: a vote or a free.
-use Rattle.std.proofs.Common.{◌≡◌, ◌≢◌, ℕ, zero, suc, ◌+◌, ◌*◌, ◌<◌, ◌≤◌, Bool, true, false, true≢false, cond, List, [], ◌∷◌, ◌++◌, length, length-append, Option, Some, None, refl, sym, ap, ◌∙◌, subst, arith, eqb-true}
-use Rattle.std.specs.Prelude.{◌==◌, ◌^◌, if◌then◌else◌, IfSome, slice_get, slice_set}
-use Rattle.std.proofs.lemmas.Bool.{eq-eqb}
+use Rattle.std.proofs.Common.{◌≡◌, ◌≢◌, ℕ, zero, suc, ◌+◌, ◌*◌, ◌<◌, ◌≤◌, Bool, true, false, true≢false, cond, inl, inr, List, [], ◌∷◌, ◌++◌, length, length-append, Option, Some, None, refl, sym, ap, ◌∙◌, subst, arith, eqb-true}
+use Rattle.std.specs.Prelude.{◌==◌, ◌^◌, ◌⊎◌, if◌then◌else◌, IfSome, slice_get, slice_set}
+use Rattle.std.specs.List.{All}
+use Rattle.std.proofs.lemmas.Bool.{eq-eqb, ne_eqb, cases_eq}
+use Rattle.std.proofs.lemmas.Option.{slice_get_within}
 use Rattle.std.proofs.lemmas.List.{length-set}
 use Rattle.ro_journal.specs.declared.Entry.{Entry}
 use Rattle.ro_journal.specs.Plan.{event_steps, outcome_of}
@@ -11,6 +13,8 @@ use Rattle.ro_event.specs.Effects.{Effect}
 use Rattle.ro_region.specs.declared.Range.{Range}
 use Rattle.ro_replica.specs.Replica.{Replica}
 use Rattle.ro_replica.specs.Seen.{ReplicaOf, CanApply}
+use Rattle.ro_replica.specs.Lent.{IsSpareLane}
+use Rattle.ro_plain.proofs.Calls.{some-injective}
 use Rattle.ro_legal.specs.declared.actions.Streak.{Streak}
 use Rattle.ro_legal.specs.Streaks.{after_event}
 use Rattle.ro_legal.specs.Core.{Job, Core}
@@ -18,7 +22,11 @@ use Rattle.ro_legal.specs.Event.{Event, all_applied, core_after}
 use Rattle.ro_legal.specs.Legal.{after, IsAllowed, replay}
 use Rattle.ro_core.specs.Seen.{IsOfJob}
 use Rattle.ro_core.specs.Grouped.{AreGrouped}
-use Rattle.ro_core.specs.Fields.{AreSeated, AreHome, AreSpared, CanTake, one_end, Fields, core_in, blocked_at, first_unblocked, OthersSleep, CountsBytes, Holds}
+use Rattle.ro_core.specs.Fields.{AreNoted, AreWishes, IsWish, lent_at, AreSeated, AreHome, AreSpared, CanTake, one_end, Fields, core_in, blocked_at, first_unblocked, OthersSleep, CountsBytes, Holds}
+use Rattle.ro_core.specs.Wishing.{few_misses, wish_place, Forgives}
+use Rattle.ro_core.specs.declared.wishing.Wish.{Wish}
+use Rattle.ro_legal.proofs.Lists.{get-within}
+use Rattle.ro_legal.proofs.Ordered.{ordered}
 use Rattle.ro_legal.proofs.Happens.{Happens}
 use Rattle.ro_legal.proofs.Journals.{outcome_of-append, replay_more}
 use Rattle.ro_core.proofs.Tests.{seated-home}
@@ -46,8 +54,63 @@ blocked-set (b ∷ blocked) (suc thread) (suc t) call less = blocked-set blocked
         by true e = sym (eq-eqb (suc m) (suc n) (ap suc (eqb-true m n e)))
         by false e = sym (different (suc m) (suc n) (λ g. true≢false (sym (eq-eqb m n (let k : suc m ≡ suc n = g in omega arith)) ∙ e)))
 
+-- what is lent is the same, and the thread is said to have missed no page
+pub record Forgiven (f f' : Fields) (thread : ℕ) : Type 0 where
+  pub lent : f'.lent ≡ f.lent
+  pub lanes : f'.lanes ≡ f.lanes
+  pub wishes : Forgives thread f.job.settings.replicas f.wishes f'.wishes
+
+-- so it is noted of the core behind the event
+forgiven-noted : (f f' : Fields) → Holds f → (thread count : ℕ) (replicas : List Replica) (event : Event) → thread < 16 → length (all_applied event.effect replicas) ≡ length (core_in f).replicas → Forgiven f f' thread → AreNoted (core_after (core_in f) thread count replicas event) f.job.settings.drivers f'.lent f'.wishes
+forgiven-noted f f' h thread count replicas event few many same = (
+  λ driver less. ap (λ (xs : _). lent_at xs driver) same.lent ∙ h.noted.0 driver less,
+  λ lends.
+      let noted = h.noted.1 lends in (
+        record {
+          count = same.wishes.count ∙ noted.0.count ∙ ap (λ (n : ℕ). 16 * n) (sym many);
+          each = λ replica t wish less there. by replica t wish less there noted.0 (cases_eq t thread);
+        },
+        ap length same.lent ∙ noted.1,
+      ),
+)
+  where
+    made : length (core_in f).replicas ≡ f.job.settings.replicas
+    made = (ordered f.job f.journal h.legal).replica_count
+
+    -- the wish of a thread stands at no other's place
+    elsewhere : (replica t : ℕ) → t < 16 → t ≢ thread → (other : ℕ) → other < f.job.settings.replicas → wish_place replica t ≢ wish_place other thread
+    elsewhere replica t less ne other within e = ne (omega arith)
+
+    by : (replica t : ℕ) (wish : Wish) → t < 16 → slice_get f'.wishes (wish_place replica t) ≡ Some wish → AreWishes (core_in f) f.wishes → (t ≡ thread) ⊎ (t ≢ thread) → IsWish (core_after (core_in f) thread count replicas event) replica t wish
+    by replica t wish less there are (inr ne) =
+        let is = are.each replica t wish less (sym (same.wishes.others (wish_place replica t) (elsewhere replica t less ne)) ∙ there) in
+        record {
+          pages = is.pages;
+          misses = is.misses ∙ ap (λ (b : Bool). few_misses (cond b 0 ((core_in f).misses replica t))) (sym (ne_eqb t thread ne));
+        }
+    by replica t wish less there are (inl e) = its (get-within f.wishes (wish_place replica t) (let n = slice_get_within f'.wishes (wish_place replica t) wish there in let m = same.wishes.count in omega arith))
+      where
+        within : replica < f.job.settings.replicas
+        within =
+            let n = slice_get_within f'.wishes (wish_place replica t) wish there in
+            let m = same.wishes.count in
+            let c = are.count in
+            let k = made in
+            omega arith
+
+        its : (old : Wish) × (slice_get f.wishes (wish_place replica t) ≡ Some old) → IsWish (core_after (core_in f) thread count replicas event) replica t wish
+        its (old, was) =
+            let was_its : slice_get f.wishes (wish_place replica thread) ≡ Some old = ap (λ (k : ℕ). slice_get f.wishes (wish_place replica k)) (sym e) ∙ was in
+            let after = same.wishes.its replica old within was_its in
+            let now : after.0 ≡ wish = some-injective (sym after.1 ∙ ap (λ (k : ℕ). slice_get f'.wishes (wish_place replica k)) (sym e) ∙ there) in
+            let is = are.each replica t old less was in
+            record {
+              pages = ap (λ (w : Wish). w.pages.items) (sym now) ∙ after.2 ∙ is.pages;
+              misses = ap (λ (w : Wish). w.misses) (sym now) ∙ after.3 ∙ ap (λ (b : Bool). few_misses (cond b 0 ((core_in f).misses replica t))) (sym (eq-eqb t thread e));
+            }
+
 module _ (f f' : Fields) (h : Holds f) (entry : Entry) (allowed : IsAllowed f.job (core_in f) entry) (thread count : ℕ) (replicas : List Replica) (event : Event) (came : after f.job (core_in f) entry ≡ core_after (core_in f) thread count replicas event)
-    (goes : Goes f) (alone : f.leases ≡ []) (happens : Happens (core_in f).kernel thread event) (few : thread < 16) (journal : f'.journal ≡ f.journal ++ entry ∷ []) where
+    (goes : Goes f) (alone : f.leases ≡ []) (happens : Happens (core_in f).kernel thread event) (few : thread < 16) (many : length (all_applied event.effect replicas) ≡ length (core_in f).replicas) (journal : f'.journal ≡ f.journal ++ entry ∷ []) where
   core_alone : (core_in f).leases ≡ []
   core_alone = sym h.leases_are ∙ alone
 
@@ -63,13 +126,15 @@ module _ (f f' : Fields) (h : Holds f) (entry : Entry) (allowed : IsAllowed f.jo
   }
 
   -- the fields behind the event
-  pub happened-holds : f'.job ≡ f.job → AreHome f.job event.kernel f'.seats (all_applied event.effect replicas) → AreGrouped (all_applied event.effect replicas) f'.groups → f'.leases ≡ f.leases → f'.kernel.setup ≡ f.kernel.setup → f'.kernel.kernel ≡ event.kernel
+  pub happened-holds : f'.job ≡ f.job → AreHome f.job event.kernel f'.seats (all_applied event.effect replicas) → AreGrouped (all_applied event.effect replicas) f'.groups → f'.leases ≡ f.leases → Forgiven f f' thread → f'.kernel.setup ≡ f.kernel.setup → f'.kernel.kernel ≡ event.kernel
       → f'.blocked ≡ slice_set f.blocked thread event.blocked → f'.unblocked ≡ first_unblocked f'.kernel f'.blocked → (f'.others_sleep ≡ true → OthersSleep f'.kernel.kernel f'.blocked f'.groups f'.streak []) → f'.steps ≡ f.steps + count + event_steps event.did → f'.scrubbed ≡ f.scrubbed → f'.streak ≡ after_event f.streak thread (blocked_at f.blocked thread) → f'.due ≡ event.due → f'.ended ≡ f.ended → length f'.views ≡ length f'.seats
       → length event.payload ≤ 4096 * event_steps event.did → f'.sent ≡ f.sent + length event.payload → f'.wrote ≡ length event.payload → outcome_of (entry ∷ []) ≡ None → 1 ≤ f'.places → Holds f'
-  happened-holds job home groups leases setup kernel blocked unblocked others steps scrubbed streak due ended views written sent wrote no_end room = holds-step f f' entry h allowed (record {
+  happened-holds job home groups leases lending setup kernel blocked unblocked others steps scrubbed streak due ended views written sent wrote no_end room = holds-step f f' entry h allowed (record {
     job = job;
     journal = journal;
     leases = leases ∙ h.leases_are ∙ sym (ap (λ (c : Core). c.leases) came);
+    noted = subst (λ (c : Core). AreNoted c f.job.settings.drivers f'.lent f'.wishes) (sym came) (forgiven-noted f f' h thread count replicas event few many lending);
+    lanes = subst (All (IsSpareLane f.job.program.image)) (sym lending.lanes) h.lanes_are;
     setup = setup;
     kernel = kernel ∙ sym (ap (λ (c : Core). c.kernel) came);
     blocked_count = ap length blocked ∙ length-set f.blocked thread event.blocked ∙ h.blocked_count;

@@ -20,7 +20,7 @@ use Rattle.ro_legal.proofs.Journals.{outcome_of-append}
 use Rattle.ro_core.specs.Grouped.{AreGrouped}
 use Rattle.ro_legal.proofs.Ordered.{ordered, going-parts}
 use Rattle.ro_legal.proofs.Nexts.{end_next, end_is}
-use Rattle.ro_core.proofs.Held.{not-split, no-outcome, same-unblocked, same-asleep, holds-step}
+use Rattle.ro_core.proofs.Held.{not-split, no-outcome, same-unblocked, same-asleep, SameLending, same-noted, same-lanes, holds-step}
 
 end-seated : (job : Job) (core : Core) (seats : List (Option ReplicaOf)) (how : How) → AreSeated job core seats → AreSeated job (after job core (End how)) seats
 unfolding after
@@ -29,17 +29,19 @@ end-seated job core seats how h = record { count = h.count; each = λ number. by
     by : (number : ℕ) (o : Option (Option ReplicaOf)) → Seated job core number o → Seated job (after job core (End how)) number o
     by number None e = tt
     by number (Some None) e = e
-    by number (Some (Some value)) e = e
+    by number (Some (Some value)) s = record { stays = s.stays; own = s.own; replica = s.replica; there = s.there; home = record { threads = s.home.threads; waiting = s.home.waiting; backed = s.home.backed; bytes = record { same = s.home.bytes.same } } }
 
 -- the fields behind an end
 pub ended-holds : (f f' : Fields) → Holds f → (how : How) → f.ended ≡ None → MayEnd f.job (core_in f) how → CountsBytes f'.sent f'.wrote f'.steps (after f.job (core_in f) (End how)) → KeepsViews f.job (f.journal ++ End how ∷ []) f'.views
-    → f'.job ≡ f.job → f'.kernel ≡ f.kernel → f'.blocked ≡ f.blocked → f'.unblocked ≡ f.unblocked → f'.others_sleep ≡ f.others_sleep → f'.steps ≡ f.steps → f'.scrubbed ≡ f.scrubbed → f'.streak ≡ f.streak → f'.seats ≡ f.seats → f'.groups ≡ f.groups → f'.leases ≡ f.leases → f'.due ≡ None → f'.ended ≡ Some how
+    → f'.job ≡ f.job → f'.kernel ≡ f.kernel → f'.blocked ≡ f.blocked → f'.unblocked ≡ f.unblocked → f'.others_sleep ≡ f.others_sleep → f'.steps ≡ f.steps → f'.scrubbed ≡ f.scrubbed → f'.streak ≡ f.streak → f'.seats ≡ f.seats → f'.groups ≡ f.groups → f'.leases ≡ f.leases → SameLending f f' → f'.due ≡ None → f'.ended ≡ Some how
     → f'.journal ≡ f.journal ++ End how ∷ [] → f.places ≡ f'.places + 1 → Holds f'
 unfolding after
-ended-holds f f' h how none allowed counts kept job kernel blocked unblocked others steps scrubbed streak seats groups leases due ended journal less = holds-step f f' (End how) h (sym h.ended_is ∙ none, allowed) (record {
+ended-holds f f' h how none allowed counts kept job kernel blocked unblocked others steps scrubbed streak seats groups leases lending due ended journal less = holds-step f f' (End how) h (sym h.ended_is ∙ none, allowed) (record {
   job = job;
   journal = journal;
   leases = leases ∙ h.leases_are;
+  noted = same-noted f f' h lending (after f.job (core_in f) (End how)) refl refl refl refl refl;
+  lanes = same-lanes f f' h lending;
   setup = ap (λ (k : State). k.setup) kernel;
   kernel = ap (λ (k : State). k.kernel) kernel ∙ h.kernel_is;
   blocked_count = ap length blocked ∙ h.blocked_count;
@@ -182,7 +184,7 @@ module _ (f : Fields) (h : Holds f) (how : How) (now : Comes f.job (core_in f) h
       by (Sink taken) e = end-counts-sink taken sent e (cut taken e)
       by so e = kept (λ taken g. let k : so ≡ Sink taken = sym e ∙ g in cc)
 
-  pub end-holds : (f' : Fields) → CountsBytes f'.sent f'.wrote f'.steps (after f.job (core_in f) (End how)) → f'.job ≡ f.job → f'.kernel ≡ f.kernel → f'.blocked ≡ f.blocked → f'.unblocked ≡ f.unblocked → f'.others_sleep ≡ f.others_sleep → f'.steps ≡ f.steps → f'.scrubbed ≡ f.scrubbed → f'.streak ≡ f.streak → f'.seats ≡ f.seats → f'.groups ≡ f.groups → f'.leases ≡ f.leases → f'.due ≡ None → f'.ended ≡ Some how
+  pub end-holds : (f' : Fields) → CountsBytes f'.sent f'.wrote f'.steps (after f.job (core_in f) (End how)) → f'.job ≡ f.job → f'.kernel ≡ f.kernel → f'.blocked ≡ f.blocked → f'.unblocked ≡ f.unblocked → f'.others_sleep ≡ f.others_sleep → f'.steps ≡ f.steps → f'.scrubbed ≡ f.scrubbed → f'.streak ≡ f.streak → f'.seats ≡ f.seats → f'.groups ≡ f.groups → f'.leases ≡ f.leases → SameLending f f' → f'.due ≡ None → f'.ended ≡ Some how
       → f'.journal ≡ f.journal ++ End how ∷ [] → f.places ≡ f'.places + 1 → Holds f'
   end-holds f' counts = ended-holds f f' h how ended-none end-allowed.0 counts (not-split f.job _ f'.views how (outcome_of-append f.journal (End how ∷ []) (no-outcome f h ended-none)) not-by-views.0 not-by-views.1)
 

@@ -1,5 +1,5 @@
 -- Which threads stand still, as replicas run, are copied and are given effects.
-use Rattle.std.specs.Prelude.{◌≡◌, ◌≢◌, ◌⊎◌, ℕ, zero, suc, ◌+◌, ◌<◌, ◌≤◌, Bool, true, false, ◌&&◌, if◌then◌else◌, List, [], ◌∷◌, length, Option, Some, None, is_some, slice_get}
+use Rattle.std.specs.Prelude.{◌≡◌, ◌≢◌, ◌⊎◌, ℕ, zero, suc, ◌+◌, ◌<◌, ◌≤◌, Bool, true, false, ◌&&◌, if◌then◌else◌, List, [], ◌∷◌, length, Option, Some, None, is_some, slice_get, slice_set}
 use Rattle.std.specs.Option.{option_and_then}
 use Rattle.std.specs.List.{list_all}
 use Rattle.std.proofs.Common.{refl, sym, ap, ◌∙◌, subst, arith, inl, inr}
@@ -13,14 +13,13 @@ use Rattle.ro_event.specs.Effects.{Effect}
 use Rattle.ro_group.specs.Groups.{Groups, stands_in, stands, is_ready, Changes}
 use Rattle.ro_plain.proofs.Calls.{some-injective}
 use Rattle.ro_journal.specs.declared.Lease.{Lease}
-use Rattle.ro_journal.specs.declared.Entry.TheVariants.{Put}
 use Rattle.ro_thread.specs.declared.Thread.{Thread}
 use Rattle.ro_replica.specs.Replica.{Replica, applied, cancelled, recovered, stop_of, opening_replica}
-use Rattle.ro_replica.specs.Runs.{with_stop}
+use Rattle.ro_replica.specs.Runs.{RanTo, with_stop}
 use Rattle.ro_replica.specs.Seen.{ReplicaOf, replica_of}
 use Rattle.ro_legal.specs.Core.{Job, Core, opening_core}
 use Rattle.ro_legal.specs.Event.{with_copy, with_recovered, all_applied}
-use Rattle.ro_legal.specs.Legal.{arrival, arrived, core_after_put, after, MayPut}
+use Rattle.ro_legal.specs.Legal.{lease_run, stopped}
 use Rattle.ro_core.specs.Fields.{AreHome}
 use Rattle.ro_core.specs.Grouped.{AreGrouped, AreMade, seat_stopped, Returns, CopiesRow, Copies, Releases, SettlesSeat, Settles}
 use Rattle.ro_legal.specs.Sound.{BacksNone, FaultsWait}
@@ -30,7 +29,7 @@ use Rattle.ro_legal.proofs.Copies.{length-copy, still-there, recovered-threads, 
 use Rattle.ro_legal.proofs.Ordered.{length-opening, get-opening}
 use Rattle.ro_legal.proofs.FaultStops.{none-settled}
 use Rattle.ro_legal.proofs.Stops.{past-none, copied-stop, applied-other, applied-own, settled-stop}
-use Rattle.ro_legal.proofs.Grants.{LentGo, LentThread, lent-thread, lent-meets}
+use Rattle.ro_legal.proofs.Grants.{LentThread, lent-meets}
 
 -- ---- a thread that stands still in every replica
 
@@ -70,11 +69,11 @@ opening-grouped job groups none = record {
 
 -- ---- a run
 
-put-into : (job : Job) (core : Core) (lease : Lease) (count hit : ℕ) (may : MayPut job core lease count hit) (lent : LentThread core lease.replica lease.thread) (groups new : Groups) (value : Replica)
-    → slice_get (core_after_put job core lease count (Some may.returns.ran)).replicas lease.replica ≡ Some value → AreGrouped core.replicas groups → Returns lease.replica lease.thread (is_some (stop_of value lease.thread)) groups new
-    → AreGrouped (core_after_put job core lease count (Some may.returns.ran)).replicas new
-put-into job core lease count hit may lent groups new value became h back = record {
-  count = kept-count (cases_Bool (is_some (stop_of value lease.thread))) ∙ h.count ∙ sym (length-set core.replicas lease.replica (arrived job core.kernel lease.thread count may.returns.ran.replica));
+put-into : (job : Job) (core : Core) (lease : Lease) (count : ℕ) (ran : RanTo) (runs : lease_run job core lease count ≡ Some ran) (stop : Option Stop) (lent : LentThread core lease.replica lease.thread) (groups new : Groups) (value : Replica)
+    → slice_get (slice_set core.replicas lease.replica (stopped lease.thread stop ran.replica)) lease.replica ≡ Some value → AreGrouped core.replicas groups → Returns lease.replica lease.thread (is_some (stop_of value lease.thread)) groups new
+    → AreGrouped (slice_set core.replicas lease.replica (stopped lease.thread stop ran.replica)) new
+put-into job core lease count ran runs stop lent groups new value became h back = record {
+  count = kept-count (cases_Bool (is_some (stop_of value lease.thread))) ∙ h.count ∙ sym (length-set core.replicas lease.replica (stopped lease.thread stop ran.replica));
   each = λ number t r e. by number t r e (cases_eq number lease.replica) (cases_eq t lease.thread);
 }
   where
@@ -86,8 +85,8 @@ put-into job core lease count hit may lent groups new value became h back = reco
     kept number t d (inl e) = (back.noted e).others number t d
     kept number t d (inr e) = ap (λ (g : Groups). stands g number t) (back.same e)
 
-    arrived-is : value ≡ arrived job core.kernel lease.thread count may.returns.ran.replica
-    arrived-is = some-injective (sym became ∙ get-set-same core.replicas lease.replica lent.lent (arrived job core.kernel lease.thread count may.returns.ran.replica) lent.in_core)
+    arrived-is : value ≡ stopped lease.thread stop ran.replica
+    arrived-is = some-injective (sym became ∙ get-set-same core.replicas lease.replica lent.lent (stopped lease.thread stop ran.replica) lent.in_core)
 
     -- the thread that ran
     own : (is_some (stop_of value lease.thread) ≡ true) ⊎ (is_some (stop_of value lease.thread) ≡ false) → stands new lease.replica lease.thread ≡ is_some (stop_of value lease.thread)
@@ -101,29 +100,28 @@ put-into job core lease count hit may lent groups new value became h back = reco
     beside t differs =
         kept lease.replica t (inr differs) (cases_Bool (is_some (stop_of value lease.thread))) ∙ h.each lease.replica t lent.lent lent.in_core
         ∙ ap (λ (o : Option Thread). is_some (option_and_then (λ (x : Thread). x.stop) o))
-        (sym (changed-other (with_stop (arrival job core.kernel lease.thread count may.returns.ran.replica)) may.returns.ran.replica.threads lease.thread t differs ∙ (lent-meets job core lease count may.returns.ran lent may.returns.runs).only.others t differs))
+        (sym (changed-other (with_stop stop) ran.replica.threads lease.thread t differs ∙ (lent-meets job core lease count ran lent runs).only.others t differs))
         ∙ ap (λ (r : Replica). is_some (stop_of r t)) (sym arrived-is)
 
-    by : (number t : ℕ) (r : Replica) → slice_get (core_after_put job core lease count (Some may.returns.ran)).replicas number ≡ Some r → (number ≡ lease.replica) ⊎ (number ≢ lease.replica) → (t ≡ lease.thread) ⊎ (t ≢ lease.thread) → stands new number t ≡ is_some (stop_of r t)
+    by : (number t : ℕ) (r : Replica) → slice_get (slice_set core.replicas lease.replica (stopped lease.thread stop ran.replica)) number ≡ Some r → (number ≡ lease.replica) ⊎ (number ≢ lease.replica) → (t ≡ lease.thread) ⊎ (t ≢ lease.thread) → stands new number t ≡ is_some (stop_of r t)
     by number t r e (inr other) _ =
         kept number t (inl other) (cases_Bool (is_some (stop_of value lease.thread)))
-        ∙ h.each number t r (sym (slice_get-set_other core.replicas lease.replica number (arrived job core.kernel lease.thread count may.returns.ran.replica) (λ k. other (sym k))) ∙ e)
+        ∙ h.each number t r (sym (slice_get-set_other core.replicas lease.replica number (stopped lease.thread stop ran.replica) (λ k. other (sym k))) ∙ e)
     by number t r e (inl same) (inl here) =
-        let is : value ≡ r = some-injective (sym became ∙ ap (slice_get (core_after_put job core lease count (Some may.returns.ran)).replicas) (sym same) ∙ e) in
+        let is : value ≡ r = some-injective (sym became ∙ ap (slice_get (slice_set core.replicas lease.replica (stopped lease.thread stop ran.replica))) (sym same) ∙ e) in
         ap (λ (n : ℕ). stands new n t) same ∙ ap (stands new lease.replica) here ∙ own (cases_Bool (is_some (stop_of value lease.thread))) ∙ ap (λ (x : Replica). is_some (stop_of x lease.thread)) is ∙ ap (λ (n : ℕ). is_some (stop_of r n)) (sym here)
     by number t r e (inl same) (inr differs) =
-        let is : value ≡ r = some-injective (sym became ∙ ap (slice_get (core_after_put job core lease count (Some may.returns.ran)).replicas) (sym same) ∙ e) in
+        let is : value ≡ r = some-injective (sym became ∙ ap (slice_get (slice_set core.replicas lease.replica (stopped lease.thread stop ran.replica))) (sym same) ∙ e) in
         ap (λ (n : ℕ). stands new n t) same ∙ beside t differs ∙ ap (λ (x : Replica). is_some (stop_of x t)) is
 
--- a put keeps the groups
-pub put-grouped : (job : Job) (core : Core) (lease : Lease) (count hit : ℕ) (may : MayPut job core lease count hit) → LentGo core → (groups new : Groups) (value : Replica)
-    → slice_get (after job core (Put lease count hit)).replicas lease.replica ≡ Some value → AreGrouped core.replicas groups → Returns lease.replica lease.thread (is_some (stop_of value lease.thread)) groups new
-    → AreGrouped (after job core (Put lease count hit)).replicas new
-unfolding after
-put-grouped job core lease count hit may go groups new value became h back =
-    let is = ap (core_after_put job core lease count) may.returns.runs in
-    subst (λ (c : Core). AreGrouped c.replicas new) (sym is)
-    (put-into job core lease count hit may (lent-thread core lease.replica lease.thread (go lease may.returns.out)) groups new value (sym (ap (λ (c : Core). slice_get c.replicas lease.replica) is) ∙ became) h back)
+-- a lease that comes back keeps the groups
+pub return-grouped : (job : Job) (core new-core : Core) (lease : Lease) (count : ℕ) (ran : RanTo) (runs : lease_run job core lease count ≡ Some ran) (stop : Option Stop) → LentThread core lease.replica lease.thread
+    → new-core.replicas ≡ slice_set core.replicas lease.replica (stopped lease.thread stop ran.replica) → (groups new : Groups) (value : Replica)
+    → slice_get new-core.replicas lease.replica ≡ Some value → AreGrouped core.replicas groups → Returns lease.replica lease.thread (is_some (stop_of value lease.thread)) groups new
+    → AreGrouped new-core.replicas new
+return-grouped job core new-core lease count ran runs stop lent is groups new value became h back =
+    subst (λ (rs : List Replica). AreGrouped rs new) (sym is)
+    (put-into job core lease count ran runs stop lent groups new value (ap (λ (rs : List Replica). slice_get rs lease.replica) (sym is) ∙ became) h back)
 
 -- ---- a copy
 

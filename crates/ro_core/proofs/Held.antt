@@ -1,5 +1,11 @@
 -- The fields of a run behind one entry more.
-use Rattle.std.proofs.Common.{◌≡◌, ◌⊎◌, inl, inr, ℕ, ◌+◌, ◌≤◌, true, List, [], ◌∷◌, ◌++◌, length, Option, Some, None, sym, ap, ◌∙◌, subst, arith}
+use Rattle.std.proofs.Common.{◌≡◌, ◌⊎◌, inl, inr, ℕ, ◌+◌, ◌*◌, ◌≤◌, true, List, [], ◌∷◌, ◌++◌, length, Option, Some, None, sym, ap, ◌∙◌, subst, arith}
+use Rattle.std.specs.Prelude.{IsSome, slice_get}
+use Rattle.std.specs.List.{All}
+use Rattle.ro_replica.specs.Lent.{IsSpareLane}
+use Rattle.ro_legal.specs.Parts.{Sharing}
+use Rattle.ro_core.specs.declared.wishing.Wish.{Wish}
+use Rattle.ro_core.specs.Wishing.{few_misses, wish_place}
 use Rattle.ro_journal.specs.declared.How.{How}
 use Rattle.ro_journal.specs.declared.How.TheVariants.{Limit, Differ, NoMajority}
 use Rattle.ro_journal.specs.declared.Entry.{Entry}
@@ -17,7 +23,7 @@ use Rattle.ro_core.specs.Seen.{CoreOf, KeepsViews}
 use Rattle.ro_event.specs.declared.calls.Call.{Call}
 use Rattle.ro_group.specs.Groups.{Groups}
 use Rattle.ro_legal.specs.declared.actions.Streak.{Streak}
-use Rattle.ro_core.specs.Fields.{AreSeated, one_end, Fields, core_in, blocked_at, first_unblocked, OthersSleep, DoOthersSleep, CountsBytes, Holds}
+use Rattle.ro_core.specs.Fields.{AreNoted, AreSeated, lent_at, one_end, Fields, core_in, blocked_at, first_unblocked, OthersSleep, DoOthersSleep, CountsBytes, Holds}
 use Rattle.ro_core.specs.Grouped.{AreGrouped}
 use Rattle.ro_legal.proofs.Mapped.{stays-mapped}
 use Rattle.ro_legal.proofs.Journals.{outcome_of-append, replay_more, legal_more}
@@ -57,11 +63,42 @@ not-split job journal views how is a b = λ e. absurd (by e)
 
 -- ---- one entry more
 
+-- what is lent and wished, and the lanes that are kept for it, are the same
+pub record SameLending (f f' : Fields) : Type 0 where
+  pub lent : f'.lent ≡ f.lent
+  pub wishes : f'.wishes ≡ f.wishes
+  pub lanes : f'.lanes ≡ f.lanes
+
+-- it is noted of a core that lends the same, where no thread missed more or fewer pages
+pub same-noted : (f f' : Fields) → Holds f → SameLending f f' → (core : Core) → core.sharing ≡ (core_in f).sharing → core.lent ≡ (core_in f).lent → core.wishes ≡ (core_in f).wishes → core.misses ≡ (core_in f).misses → length core.replicas ≡ length (core_in f).replicas
+    → AreNoted core f.job.settings.drivers f'.lent f'.wishes
+same-noted f f' h same core sharing lent wishes misses count = (
+  λ driver less. ap (λ (xs : _). lent_at xs driver) same.lent ∙ h.noted.0 driver less ∙ ap (λ (g : _). g driver) (sym lent),
+  λ lends.
+      let noted = h.noted.1 (subst (λ (o : Option Sharing). IsSome o) sharing lends) in (
+        record {
+          count = ap length same.wishes ∙ noted.0.count ∙ ap (λ (n : ℕ). 16 * n) (sym count);
+          each = λ replica thread wish less there.
+              let is = noted.0.each replica thread wish less (ap (λ (ws : List Wish). slice_get ws (wish_place replica thread)) (sym same.wishes) ∙ there) in
+              record {
+                pages = is.pages ∙ ap (λ (g : _). g replica thread) (sym wishes);
+                misses = is.misses ∙ ap (λ (g : _). few_misses (g replica thread)) (sym misses);
+              };
+        },
+        ap length same.lent ∙ noted.1,
+      ),
+)
+
+pub same-lanes : (f f' : Fields) → Holds f → SameLending f f' → All (IsSpareLane f.job.program.image) f'.lanes
+same-lanes f f' h same = subst (All (IsSpareLane f.job.program.image)) (sym same.lanes) h.lanes_are
+
 -- what the fields are behind an entry
 pub record Becomes (f f' : Fields) (entry : Entry) : Type 0 where
   pub job : f'.job ≡ f.job
   pub journal : f'.journal ≡ f.journal ++ entry ∷ []
   pub leases : f'.leases ≡ (after f.job (core_in f) entry).leases
+  pub noted : AreNoted (after f.job (core_in f) entry) f.job.settings.drivers f'.lent f'.wishes
+  pub lanes : All (IsSpareLane f.job.program.image) f'.lanes
   pub setup : f'.kernel.setup ≡ f.kernel.setup
   pub kernel : f'.kernel.kernel ≡ (after f.job (core_in f) entry).kernel
   pub blocked_count : length f'.blocked ≡ 16
@@ -89,6 +126,8 @@ module _ (f f' : Fields) (entry : Entry) (h : Holds f) (allowed : IsAllowed f.jo
     in_range = subst (λ (j : Job). InRange j.settings) (sym b.job) h.in_range;
     legal = subst (λ (j : Job). Legal j f'.journal) (sym b.job) (subst (Legal f.job) (sym b.journal) (legal_more f.job f.journal entry h.legal allowed));
     leases_are = b.leases ∙ sym (ap (λ (c : Core). c.leases) core_is);
+    noted = subst (λ (j : Job). AreNoted (core_in f') j.settings.drivers f'.lent f'.wishes) (sym b.job) (subst (λ (c : Core). AreNoted c f.job.settings.drivers f'.lent f'.wishes) (sym core_is) b.noted);
+    lanes_are = subst (λ (j : Job). All (IsSpareLane j.program.image) f'.lanes) (sym b.job) b.lanes;
     setup_is = b.setup ∙ h.setup_is ∙ ap (λ (j : Job). setup_of j.program) (sym b.job);
     kernel_is = b.kernel ∙ sym (ap (λ (c : Core). c.kernel) core_is);
     blocked_count = b.blocked_count;

@@ -22,7 +22,7 @@ use Rattle.ro_core.proofs.Held.{Goes, goes}
 use Rattle.ro_legal.proofs.Happens.{Happens}
 use Rattle.ro_legal.proofs.Ordered.{ordered}
 use Rattle.ro_core.proofs.Sitting.{home-count}
-use Rattle.ro_core.proofs.Behind.{happened-holds, all-can-take}
+use Rattle.ro_core.proofs.Behind.{Forgiven, happened-holds, all-can-take}
 use Rattle.ro_core.proofs.Waits.{first-same, still-unblocked}
 use Rattle.ro_core.proofs.Tests.{lives-within}
 use Rattle.ro_core.proofs.Votes.{live-few, payload-due, payload-few, writes-step, comes-happens, length-applied}
@@ -78,6 +78,9 @@ module _ (r : Run) (o : Occurrence) (can : CanOccur r o) where
   many : length can.replicas ≡ f.job.settings.replicas
   many = sym (length-applied event.effect can.replicas) ∙ ap (λ (c : Core). length c.replicas) (sym new) ∙ order.replica_count
 
+  occurs-many : length (all_applied event.effect can.replicas) ≡ length (core_in f).replicas
+  occurs-many = length-applied event.effect can.replicas ∙ many ∙ sym (ordered f.job f.journal h.legal).replica_count
+
   pub occurs-seats : length r.seats.homes.items ≤ 5
   occurs-seats = let count = home-count f.job (core_in f).kernel r.seats.homes.items can.replicas can.stands.home in let m = many in let range = few-replicas f.job.settings.replicas h.in_range.replicas in omega arith
 
@@ -119,11 +122,11 @@ module _ (r : Run) (o : Occurrence) (can : CanOccur r o) where
   -- ---- the fields behind it
 
   module _ (f' : Fields) (job : f'.job ≡ f.job) (journal : f'.journal ≡ f.journal ++ o.entry ∷ []) (due : f'.due ≡ o.event.due) where
-    pub occurs-holds : AreHome f.job r.kernel.kernel f'.seats (all_applied o.event.effect can.replicas) → AreGrouped (all_applied o.event.effect can.replicas) f'.groups → f'.leases ≡ f.leases → f'.kernel ≡ r.kernel → f'.blocked ≡ slice_set r.blocked o.thread o.event.blocked → f'.unblocked ≡ first_unblocked f'.kernel f'.blocked
+    pub occurs-holds : AreHome f.job r.kernel.kernel f'.seats (all_applied o.event.effect can.replicas) → AreGrouped (all_applied o.event.effect can.replicas) f'.groups → f'.leases ≡ f.leases → Forgiven f f' o.thread → f'.kernel ≡ r.kernel → f'.blocked ≡ slice_set r.blocked o.thread o.event.blocked → f'.unblocked ≡ first_unblocked f'.kernel f'.blocked
         → (f'.others_sleep ≡ true → OthersSleep f'.kernel.kernel f'.blocked f'.groups f'.streak []) → f'.steps ≡ r.steps + o.steps → f'.scrubbed ≡ r.scrubbed → f'.streak ≡ after_event r.streak o.thread (blocked_at r.blocked o.thread) → f'.ended ≡ f.ended → f'.views ≡ f.views → f'.sent ≡ r.sent + length payload → f'.wrote ≡ length payload → 1 ≤ f'.places → Holds f'
-    occurs-holds home groups leases kernel blocked unblocked others counted scrubbed streak ended views sent wrote room =
-        happened-holds f f' h o.entry can.allowed o.thread can.count can.replicas event can.came goes-on can.alone happens occurs-few journal
-        job home groups leases (ap (λ (k : State). k.setup) kernel ∙ can.amid.setup) (ap (λ (k : State). k.kernel) kernel)
+    occurs-holds home groups leases lending kernel blocked unblocked others counted scrubbed streak ended views sent wrote room =
+        happened-holds f f' h o.entry can.allowed o.thread can.count can.replicas event can.came goes-on can.alone happens occurs-few occurs-many journal
+        job home groups leases lending (ap (λ (k : State). k.setup) kernel ∙ can.amid.setup) (ap (λ (k : State). k.kernel) kernel)
         (blocked ∙ ap (λ bs. slice_set bs o.thread o.event.blocked) can.amid.blocked) unblocked others
         (let a = can.counted in let b = can.amid.steps in omega arith) (scrubbed ∙ can.amid.scrubbed)
         (streak ∙ ap (λ s. after_event s o.thread (blocked_at r.blocked o.thread)) can.amid.streak ∙ ap (λ bs. after_event f.streak o.thread (blocked_at bs o.thread)) can.amid.blocked) due ended

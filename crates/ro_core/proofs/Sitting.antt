@@ -1,10 +1,10 @@
 -- Replicas in their seats that are changed one at a time.
 use Rattle.std.proofs.Common.{◌≡◌, ◌≢◌, ◌⊎◌, inl, inr, ℕ, zero, suc, ◌<◌, ◌≤◌, List, [], ◌∷◌, length, Option, Some, None, get_or, refl, sym, ap, ◌∙◌, subst}
-use Rattle.std.specs.Prelude.{slice_get, slice_set}
+use Rattle.std.specs.Prelude.{Bool, true, is_some, nat_lt, slice_get, slice_set}
 use Rattle.std.specs.Option.{option_map_or}
-use Rattle.std.proofs.lemmas.Bool.{cases_eq}
+use Rattle.std.proofs.lemmas.Bool.{cases_eq, ltb-true, true≢false}
 use Rattle.ro_pages.specs.Held.{has_page}
-use Rattle.std.proofs.lemmas.Option.{get_or_from_slice_get, slice_get_within}
+use Rattle.std.proofs.lemmas.Option.{get_or_from_slice_get, slice_get_read, slice_get_within}
 use Rattle.ro_kernel.proofs.Kept.{slice_get-set_other}
 use Rattle.ro_plain.proofs.Calls.{some-injective}
 use Rattle.ro_replica.specs.Replica.{Replica, recovered}
@@ -176,3 +176,19 @@ applied-cons job before after effect seats replicas seat seat' others others' is
     by (Some value) seat' [] h f = absurd h
     by (Some value) None (r ∷ replicas) h f = absurd (f r (h.0, h.1, tt))
     by (Some value) (Some value') (r ∷ replicas) h f = let one = f r (h.0, h.1, tt) in (one.0, one.1, rest replicas h.2)
+
+-- what an index finds in a seat in which a replica is
+pub seat-found : (seats : List (Option ReplicaOf)) (place : ℕ) (value : ReplicaOf) (found : Option ReplicaOf) → slice_get seats place ≡ Some (Some value) → found ≡ get_or seats place found → found ≡ Some value
+seat-found seats place value found there is = is ∙ get_or_from_slice_get seats place (Some value) found there
+
+-- whether a replica is in the seat that is found in this place
+pub seat-shown : (seats : List (Option ReplicaOf)) (place : ℕ) (shown : List (Option ReplicaOf)) (found : Option ReplicaOf) (some : Bool) → shown ≡ seats → true ≡ nat_lt place (length shown) → found ≡ get_or shown place found → some ≡ is_some found
+    → (some ≡ true → IsSeat seats place) × (IsSeat seats place → some ≡ true)
+seat-shown seats place shown found some same less is so = (λ e. by found at (sym so ∙ e), λ seat. so ∙ ap is_some (some-injective (sym at ∙ seat.1)))
+  where
+    at : slice_get seats place ≡ Some found
+    at = sym (ap (λ (xs : List (Option ReplicaOf)). slice_get xs place) same) ∙ slice_get_read shown (length shown) place found refl (ltb-true place (length shown) (sym less)) is
+
+    by : (o : Option ReplicaOf) → slice_get seats place ≡ Some o → is_some o ≡ true → IsSeat seats place
+    by None there e = absurd (true≢false (sym e))
+    by (Some value) there e = (value, there)

@@ -26,8 +26,8 @@ use Rattle.ro_core.specs.Fields.{Seated, AreSeated, AreHome, seat_unstopped, Fie
 use Rattle.ro_core.specs.Grouped.{seat_stopped}
 use Rattle.ro_group.specs.Groups.{is_ready}
 use Rattle.ro_core.proofs.Grouped.{ready-all}
-use Rattle.ro_legal.proofs.Beside.{lends-whole}
-use Rattle.ro_legal.proofs.Leases.{lendable-is, offers-home, asleep-unlent, awake-lendable}
+use Rattle.ro_core.proofs.Away.{home-stays, left-unoffered, whole-there, there-whole}
+use Rattle.ro_legal.proofs.Leases.{lendable-is, asleep-unlent, awake-lendable}
 use Rattle.ro_legal.proofs.Ordered.{ordered, vote-parts}
 use Rattle.ro_legal.proofs.Lowest.{lowest-found, lowest-none, lowest-never, lowest-same, lend-test, lends-none}
 use Rattle.ro_core.proofs.Sitting.{home-count}
@@ -72,8 +72,8 @@ all-home job core seats h none = home-at job core.kernel seats core.replicas h.c
 
     by : (n : ℕ) (o : Option (Option ReplicaOf)) → Seated job core n o → HomeAt job core.kernel o (slice_get core.replicas n)
     by n None s = tt
-    by n (Some None) s = true≢false (sym (home n) ∙ s)
-    by n (Some (Some value)) s = (s.1, s.2)
+    by n (Some None) s = true≢false (sym s ∙ home-stays core n (home n))
+    by n (Some (Some value)) s = (s.own, whole-there job core n value s (home n))
 
 -- and the other way round
 pub seated-home : (job : Job) (core : Core) (seats : List (Option ReplicaOf)) → AreHome job core.kernel seats core.replicas → core.leases ≡ [] → AreSeated job core seats
@@ -84,7 +84,7 @@ seated-home job core seats h none = record { count = home-count job core.kernel 
 
     by : (number : ℕ) (seats : List (Option ReplicaOf)) (replicas : List Replica) → AreHome job core.kernel seats replicas → (n : ℕ) → ((r : Option Replica) → slice_get replicas n ≡ r → slice_get core.replicas number ≡ r) → Seated job core number (slice_get seats n)
     by number [] [] h n same = tt
-    by number (Some value ∷ seats) (r ∷ replicas) h zero same = (home number, h.0, same (Some (replica_of value)) (ap (λ (x : Replica). Some x) (sym h.1)))
+    by number (Some value ∷ seats) (r ∷ replicas) h zero same = there-whole job core number value r (home-stays core number (home number)) h.0 (same (Some r) refl) h.1
     by number (Some value ∷ seats) (r ∷ replicas) h (suc n) same = by number seats replicas h.2 n same
     by number seats replicas h n same = absurd h
 
@@ -127,38 +127,35 @@ module _ (f : Fields) (h : Holds f) where
   abbrev free-test : (thread : ℕ) → Bool → ℕ → Kernel → Option Call → Bool
   free-test thread going lent kernel call = going && (lent == 0) && option_map_or (λ c. serves (setup_of f.job.program) kernel thread c) call false
 
-  -- each lease is of a whole replica
-  offers-is : (replica thread : ℕ) → offers (core_in f) replica thread ≡ is_home (core_in f) replica
-  offers-is replica thread = offers-home (core_in f) replica thread (lends-whole f.job f.journal).none
+  -- a replica of the core has a seat
+  pub seat-within : (replica : ℕ) → replica < length (core_in f).replicas → replica < length f.seats
+  seat-within replica less = let c = h.seats_are.count in omega arith
 
-  -- and that of a lease
-  is-awake-is : (replica thread : ℕ) (seat : Option ReplicaOf) → slice_get f.seats replica ≡ Some seat → (seat_unstopped thread seat && lives_on f.kernel.kernel thread) ≡ is_awake (core_in f) replica thread
-  is-awake-is replica thread seat there = by seat (subst (λ (o : Option (Option ReplicaOf)). Seated f.job (core_in f) replica o) there (h.seats_are.each replica))
+  -- and that of a lease, by the seat in its place
+  pub is-lendable-is : (replica thread : ℕ) (seat : Option ReplicaOf) → slice_get f.seats replica ≡ Some seat → (seat_unstopped thread seat && (lives_on f.kernel.kernel thread && offers (core_in f) replica thread)) ≡ is_lendable (core_in f) replica thread
+  is-lendable-is replica thread seat there = by seat (subst (λ (o : Option (Option ReplicaOf)). Seated f.job (core_in f) replica o) there (h.seats_are.each replica)) ∙ awake-lendable (core_in f) replica thread no-sides
     where
-      swap : (a b : Bool) → (a && b) ≡ (true && b && a)
-      swap true true = refl
-      swap true false = refl
-      swap false true = refl
-      swap false false = refl
+      swap : (a b c : Bool) → (a && (b && c)) ≡ (c && b && a)
+      swap true true true = refl
+      swap true true false = refl
+      swap true false true = refl
+      swap true false false = refl
+      swap false true true = refl
+      swap false true false = refl
+      swap false false true = refl
+      swap false false false = refl
 
-      by : (seat : Option ReplicaOf) → Seated f.job (core_in f) replica (Some seat) → (seat_unstopped thread seat && lives_on f.kernel.kernel thread) ≡ is_awake (core_in f) replica thread
-      by None away = sym (ap (λ (b : Bool). b && lives_on (core_in f).kernel thread && option_map_or (is_unstopped thread) (slice_get (core_in f).replicas replica) false) (offers-is replica thread ∙ away))
+      by : (seat : Option ReplicaOf) → Seated f.job (core_in f) replica (Some seat) → (seat_unstopped thread seat && (lives_on f.kernel.kernel thread && offers (core_in f) replica thread)) ≡ is_awake (core_in f) replica thread
+      by None away = sym (ap (λ (b : Bool). b && lives_on (core_in f).kernel thread && option_map_or (is_unstopped thread) (slice_get (core_in f).replicas replica) false) (left-unoffered (core_in f) replica thread away))
       by (Some value) s =
-          swap (is_unstopped thread (replica_of value)) (lives_on f.kernel.kernel thread)
-          ∙ ap (λ (b : Bool). b && lives_on f.kernel.kernel thread && is_unstopped thread (replica_of value)) (sym (offers-is replica thread ∙ s.0))
+          swap (is_unstopped thread (replica_of value)) (lives_on f.kernel.kernel thread) (offers (core_in f) replica thread)
           ∙ ap (λ (k : Kernel). offers (core_in f) replica thread && lives_on k thread && is_unstopped thread (replica_of value)) (sym kernel-is)
-          ∙ ap (λ (o : Option Replica). offers (core_in f) replica thread && lives_on (core_in f).kernel thread && option_map_or (is_unstopped thread) o false) (sym s.2)
-
-  pub is-lendable-is : (replica thread : ℕ) (seat : Option ReplicaOf) → slice_get f.seats replica ≡ Some seat → (seat_unstopped thread seat && lives_on f.kernel.kernel thread) ≡ is_lendable (core_in f) replica thread
-  is-lendable-is replica thread seat there = is-awake-is replica thread seat there ∙ awake-lendable (core_in f) replica thread no-sides
+          ∙ ap (λ (ts : List Thread). offers (core_in f) replica thread && lives_on (core_in f).kernel thread && option_map_or (λ (t : Thread). is_none t.stop) (slice_get ts thread) false) s.home.threads
+          ∙ ap (λ (o : Option Replica). offers (core_in f) replica thread && lives_on (core_in f).kernel thread && option_map_or (is_unstopped thread) o false) (sym s.there)
 
   -- the run is over where its fields say so
   pub over-is : (b : Bool) → b ≡ is_some f.ended → is_some (core_in f).ended ≡ b
   over-is b e = ap is_some (sym h.ended_is) ∙ sym e
-
-  -- a replica of the core has a seat
-  pub seat-within : (replica : ℕ) → replica < length (core_in f).replicas → replica < length f.seats
-  seat-within replica less = let c = h.seats_are.count in omega arith
 
   pub made-is : threads_made (core_in f) ≡ length f.kernel.kernel.lives
   made-is = ap (λ (k : Kernel). length k.lives) kernel-is
@@ -177,7 +174,7 @@ module _ (f : Fields) (h : Holds f) where
       ∙ ap (λ (n : ℕ). lowest_below n (may_free f.job (core_in f))) (sym made-is)
 
   -- and of a lease, by the seat in its place
-  pub lendable-at : (replica thread : ℕ) → replica < length (core_in f).replicas → (seat_unstopped thread (slice_index_or f.seats replica None) && lives_on f.kernel.kernel thread) ≡ is_lendable (core_in f) replica thread
+  pub lendable-at : (replica thread : ℕ) → replica < length (core_in f).replicas → (seat_unstopped thread (slice_index_or f.seats replica None) && (lives_on f.kernel.kernel thread && offers (core_in f) replica thread)) ≡ is_lendable (core_in f) replica thread
   lendable-at replica thread less = is-lendable-is replica thread (slice_index_or f.seats replica None) (slice_get-get_or f.seats replica None (seat-within replica less))
 
   -- a thread that doesn't come last

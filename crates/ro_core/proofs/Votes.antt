@@ -38,12 +38,14 @@ use Rattle.ro_legal.specs.Event.{Event, call_event, event_of, with_recovered, al
 use Rattle.ro_legal.specs.Legal.{event_in, core_after_event, after, MayVote, PassesLimit, MayEnd, for_vote, Legal, replay}
 use Rattle.ro_core.specs.Seen.{IsOfMajority, KeepsViews}
 use Rattle.ro_legal.specs.Sound.{IsFault}
-use Rattle.ro_core.specs.Fields.{one_end, blocked_at, AreSeated, AreHome, AreSpared, IsSeat, AreAllTwins, AreLosers, Fields, core_in, Holds}
+use Rattle.std.specs.List.{All}
+use Rattle.ro_replica.specs.Lent.{IsSpareLane}
+use Rattle.ro_core.specs.Fields.{one_end, blocked_at, AreNoted, AreSeated, AreHome, AreSpared, IsSeat, AreAllTwins, AreLosers, Fields, core_in, Holds}
 use Rattle.ro_serving.specs.Happening.{event_by, ComesOf, of_stop, of_blocked, LeavesWaiting}
 use Rattle.ro_core.specs.Runs.{fields_of, job_of, IsHeld, IsAmid, MakesRoom, CanOccur, payload_by}
 use Rattle.ro_core.specs.Grouped.{AreGrouped, AreMade}
 use Rattle.ro_core.specs.Seated.{Stands}
-use Rattle.ro_core.proofs.Held.{Goes, goes, same-unblocked, same-asleep}
+use Rattle.ro_core.proofs.Held.{Goes, SameLending, goes, same-unblocked, same-asleep, same-noted, same-lanes}
 use Rattle.ro_legal.proofs.Happens.{Happens, call-happens, event-happens}
 use Rattle.ro_legal.proofs.Ordered.{VoteParts, vote-parts, copied-sound, ordered}
 use Rattle.ro_legal.proofs.FaultStops.{each-copied, fault-stops}
@@ -378,14 +380,16 @@ length-applied effect replicas = length-mapped (λ replica. cancelled (applied e
 
 -- ---- fields that only made room
 
-kept-holds : (f f' : Fields) → Holds f → f.leases ≡ [] → f'.job ≡ f.job → f'.journal ≡ f.journal → AreHome f.job (core_in f).kernel f'.seats (core_in f).replicas → f'.leases ≡ f.leases → f'.kernel ≡ f.kernel → f'.blocked ≡ f.blocked → f'.unblocked ≡ f.unblocked → f'.others_sleep ≡ f.others_sleep → f'.steps ≡ f.steps → f'.scrubbed ≡ f.scrubbed → f'.streak ≡ f.streak → f'.due ≡ f.due → f'.ended ≡ f.ended → f'.views ≡ f.views → f'.sent ≡ f.sent → f'.wrote ≡ f.wrote
+kept-holds : (f f' : Fields) → Holds f → f.leases ≡ [] → f'.job ≡ f.job → f'.journal ≡ f.journal → AreHome f.job (core_in f).kernel f'.seats (core_in f).replicas → f'.leases ≡ f.leases → SameLending f f' → f'.kernel ≡ f.kernel → f'.blocked ≡ f.blocked → f'.unblocked ≡ f.unblocked → f'.others_sleep ≡ f.others_sleep → f'.steps ≡ f.steps → f'.scrubbed ≡ f.scrubbed → f'.streak ≡ f.streak → f'.due ≡ f.due → f'.ended ≡ f.ended → f'.views ≡ f.views → f'.sent ≡ f.sent → f'.wrote ≡ f.wrote
     → f'.groups ≡ f.groups → f.places ≤ f'.places → Holds f'
-kept-holds f f' h alone job journal home leases kernel blocked unblocked others steps scrubbed streak due ended views count wrote groups room =
+kept-holds f f' h alone job journal home leases lending kernel blocked unblocked others steps scrubbed streak due ended views count wrote groups room =
     let core : core_in f' ≡ core_in f = ap (λ (j : Job). replay j f'.journal) job ∙ ap (replay f.job) journal in
     record {
       in_range = subst (λ (j : Job). InRange j.settings) (sym job) h.in_range;
       legal = subst (λ (j : Job). Legal j f'.journal) (sym job) (subst (Legal f.job) (sym journal) h.legal);
       leases_are = leases ∙ h.leases_are ∙ sym (ap (λ (c : Core). c.leases) core);
+      noted = subst (λ (j : Job). AreNoted (core_in f') j.settings.drivers f'.lent f'.wishes) (sym job) (subst (λ (c : Core). AreNoted c f.job.settings.drivers f'.lent f'.wishes) (sym core) (same-noted f f' h lending (core_in f) refl refl refl refl refl));
+      lanes_are = subst (λ (j : Job). All (IsSpareLane j.program.image) f'.lanes) (sym job) (same-lanes f f' h lending);
       setup_is = ap (λ (k : State). k.setup) kernel ∙ h.setup_is ∙ ap (λ (j : Job). setup_of j.program) (sym job);
       kernel_is = ap (λ (k : State). k.kernel) kernel ∙ h.kernel_is ∙ sym (ap (λ (c : Core). c.kernel) core);
       blocked_count = ap length blocked ∙ h.blocked_count;
@@ -414,13 +418,16 @@ kept-holds f f' h alone job journal home leases kernel blocked unblocked others 
 pub ready-home : (f : Fields) → Holds f → f.leases ≡ [] → AreHome f.job (core_in f).kernel f.seats (core_in f).replicas
 ready-home f h alone = all-home f.job (core_in f) f.seats h.seats_are (sym h.leases_are ∙ alone)
 
-pub made-room : (f f' : Fields) → Holds f → f.leases ≡ [] → f'.job ≡ f.job → f'.journal ≡ f.journal → AreHome f.job (core_in f).kernel f'.seats (core_in f).replicas → f'.leases ≡ f.leases → f'.kernel ≡ f.kernel → f'.blocked ≡ f.blocked → f'.unblocked ≡ f.unblocked → f'.others_sleep ≡ f.others_sleep → f'.steps ≡ f.steps → f'.scrubbed ≡ f.scrubbed → f'.streak ≡ f.streak → f'.due ≡ f.due → f'.ended ≡ f.ended → f'.views ≡ f.views → f'.sent ≡ f.sent → f'.wrote ≡ f.wrote
+pub made-room : (f f' : Fields) → Holds f → f.leases ≡ [] → f'.job ≡ f.job → f'.journal ≡ f.journal → AreHome f.job (core_in f).kernel f'.seats (core_in f).replicas → f'.leases ≡ f.leases → SameLending f f' → f'.kernel ≡ f.kernel → f'.blocked ≡ f.blocked → f'.unblocked ≡ f.unblocked → f'.others_sleep ≡ f.others_sleep → f'.steps ≡ f.steps → f'.scrubbed ≡ f.scrubbed → f'.streak ≡ f.streak → f'.due ≡ f.due → f'.ended ≡ f.ended → f'.views ≡ f.views → f'.sent ≡ f.sent → f'.wrote ≡ f.wrote
     → f'.groups ≡ f.groups → f.places ≤ f'.places → MakesRoom f f'
-made-room f f' h alone job journal home leases kernel blocked unblocked others steps scrubbed streak due ended views count wrote groups room = record {
-  holds = kept-holds f f' h alone job journal home leases kernel blocked unblocked others steps scrubbed streak due ended views count wrote groups room;
+made-room f f' h alone job journal home leases lending kernel blocked unblocked others steps scrubbed streak due ended views count wrote groups room = record {
+  holds = kept-holds f f' h alone job journal home leases lending kernel blocked unblocked others steps scrubbed streak due ended views count wrote groups room;
   job = job;
   journal = journal;
   leases = leases;
+  lent = lending.lent;
+  wishes = lending.wishes;
+  lanes = lending.lanes;
   kernel = kernel;
   blocked = blocked;
   due = due;

@@ -10,6 +10,7 @@ ghost use Rattle.ro_core.specs.Runs.{fields_of, job_of, state_of, silent, IsHeld
 
 use crate::cores::Core;
 use crate::scrubbing::prevailing;
+use crate::sharing::is_home;
 use crate::voting::split_of;
 use ro_journal::{How, Lease};
 use ro_kernel::Kernel;
@@ -132,11 +133,15 @@ impl Core {
         &self.kernel
     }
 
-    /// A replica, where there is one of this number and it is not lent.
+    /// A replica, where there is one of this number and nothing of it is lent.
     pub fn replica(&self, number: u32) -> Option<&ReplicaBox>
         ensures there { Holds (fields_of self.now) → IfSome result (λ r. slice_get (state_of self.now).replicas number ≡ Some (replica_of r.now)) }
         ensures home { Holds (fields_of self.now) → IsSome result ↔ ((number < length (state_of self.now).replicas) × (is_home (state_of self.now) number ≡ true)) }
     {
-        self.seats.homes.get(number as usize)?.as_ref()
+        if is_home(self.leases.as_slice(), number) {
+            self.seats.replica(number)
+        } else {
+            None
+        }
     }
 }

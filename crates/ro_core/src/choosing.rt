@@ -281,12 +281,15 @@ impl Core {
     }
 
     // Whether a thread may be lent in a replica.
+    #[inline(always)]
     pub(crate) fn is_lendable(&self, replica: u32, thread: u32) -> bool
         requires holds { Holds (fields_of self.now) }
         requires replica { replica < length (state_of self.now).replicas }
         ensures { result ≡ is_lendable (state_of self.now) replica thread }
     {
-        self.seats.is_unstopped(replica, thread) && self.kernel.lives_on(thread)
+        self.seats.is_unstopped(replica, thread)
+            && self.kernel.lives_on(thread)
+            && self.offers(replica, thread)
     }
 }
 

@@ -12,12 +12,14 @@ ghost use Rattle.ro_core.specs.Fields.{Holds, HoldsUnseen};
 ghost use Rattle.ro_core.specs.Runs.{fields_of, job_of, state_of, silent};
 
 use crate::seats::Seats;
+use crate::wishing::{PageList, Wish};
 use ro_event::{Call, View};
 use ro_faults::Fault;
 use ro_image::Executable;
 use ro_journal::{Entry, How, Lease};
 use ro_kernel::Kernel;
 use ro_legal::Streak;
+use ro_replica::LaneBox;
 use ro_settings::Settings;
 use std::alloc::Global;
 
@@ -32,6 +34,12 @@ pub struct Core {
     pub(crate) journal: Vec<Entry>,
     pub(crate) seats: Seats,
     pub(crate) leases: Vec<Lease>,
+    /// Where pages are lent, for each driver those that its lease has, or none where that has a whole replica.
+    pub(crate) lent: Vec<Option<PageList>>,
+    /// Where pages are lent, what each thread of each replica wishes.
+    pub(crate) wishes: Vec<Wish>,
+    /// Lanes for the leases to come.
+    pub(crate) lanes: Vec<LaneBox>,
     pub(crate) kernel: Kernel,
     /// Of each thread the voted call on which it is blocked.
     pub(crate) blocked: [Option<Call>; THREADS],
@@ -120,6 +128,9 @@ impl Core {
             journal,
             seats: _,
             leases: _,
+            lent: _,
+            wishes: _,
+            lanes: _,
             kernel: _,
             blocked: _,
             unblocked: _,

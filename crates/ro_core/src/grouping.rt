@@ -12,7 +12,7 @@ ghost use Rattle.ro_core.specs.Grouped.{AreGrouped, AreMade, Returns, Copies, Co
 ghost use Rattle.ro_legal.specs.Sound.{BacksNone, FaultsWait};
 
 use crate::seats::is_stopped;
-use ro_event::Effect;
+use ro_event::{Effect, Stop};
 use ro_group::Groups;
 use ro_journal::Lost;
 use ro_replica::ReplicaBox;
@@ -24,6 +24,17 @@ pub(crate) fn note_return(groups: &mut Groups, replica: u32, thread: u32, lent: 
     ensures { Returns replica thread (is_some (stop_of (replica_of lent.now) thread)) groups.old groups.new }
 {
     if lent.stop(thread).is_some() {
+        groups.note(replica, thread);
+    }
+}
+
+/// Notes a thread of a replica that comes back, if it stands at a stop.
+pub(crate) fn note_stop(groups: &mut Groups, replica: u32, thread: u32, stop: Option<Stop>)
+    requires replica { replica < length groups.old }
+    requires thread { thread < 16 }
+    ensures { Returns replica thread (is_some stop) groups.old groups.new }
+{
+    if stop.is_some() {
         groups.note(replica, thread);
     }
 }

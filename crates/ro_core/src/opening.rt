@@ -1,21 +1,26 @@
 //! Opening a run.
-ghost use Rattle.std.specs.Prelude.{◌≡◌, ℕ, List, Option, None, IfErr, IfOk, length};
+ghost use Rattle.std.specs.Prelude.{◌≡◌, ◌≤◌, ◌*◌, ℕ, [], List, Option, None, Some, IfErr, IfOk, IsSome, length, slice_get};
 ghost use Rattle.ro_settings.specs.Ranges.{InRange};
 ghost use Rattle.ro_replica.specs.Seen.{AreFaults};
 ghost use Rattle.ro_core.specs.Seen.{Opens};
-ghost use Rattle.ro_core.specs.Fields.{Holds};
+ghost use Rattle.ro_legal.specs.Core.{Job, sharing_of};
+ghost use Rattle.ro_legal.specs.Parts.{Whole};
+ghost use Rattle.ro_core.specs.declared.wishing.Wish.{Wish as WishSeen};
+ghost use Rattle.ro_core.specs.Fields.{Holds, lent_at};
 ghost use Rattle.ro_core.specs.Opening.{AreFirst, IsOpened};
 ghost use Rattle.ro_core.specs.Runs.{fields_of, silent};
 
 use crate::cores::{Core, THREADS};
 use crate::seats::Seats;
+use crate::wishing::{PageList, Wish};
 use ro_event::{Stop, View};
 use ro_faults::Fault;
 use ro_group::Groups;
 use ro_image::Executable;
 use ro_journal::Entry;
 use ro_kernel::Kernel;
-use ro_legal::Streak;
+use ro_legal::{Streak, lends_pages};
+use ro_limits::MOST_THREADS;
 use ro_region::Regions;
 use ro_replica::{Replica, ReplicaBox};
 use ro_settings::Settings;
@@ -27,6 +32,8 @@ pub(crate) struct Opening {
     faults: Vec<Fault>,
     journal: Vec<Entry>,
     seats: Seats,
+    lent: Vec<Option<PageList>>,
+    wishes: Vec<Wish>,
     kernel: Kernel,
     views: Vec<View>,
 }
@@ -57,6 +64,9 @@ impl Core {
                 journal: opening.journal,
                 seats: opening.seats,
                 leases: Vec::new(alloc),
+                lent: opening.lent,
+                wishes: opening.wishes,
+                lanes: Vec::new(alloc),
                 kernel: opening.kernel,
                 blocked: [None; THREADS],
                 unblocked: None,
@@ -85,7 +95,8 @@ impl Opening {
         faults: &[Fault],
         settings: Settings,
     ) -> Result<Opening, AllocError>
-        requires { AreFaults faults.now }
+        requires faults { AreFaults faults.now }
+        requires replicas { settings.replicas ≤ 5 }
         ensures { IfOk result (IsOpened (record { program = record { image = image.now; input = input.now }; faults = faults.now; settings = settings })) }
     {
         let kernel = Kernel::new(alloc, image.heap(), image.ranges(), input)?;
@@ -97,10 +108,63 @@ impl Opening {
                 homes,
                 groups: Groups::new(alloc, settings.replicas)?,
             },
+            lent: first_lent(alloc, settings)?,
+            wishes: first_wishes(alloc, settings)?,
             kernel,
             views: blank_views(alloc, settings.replicas)?,
         })
     }
+}
+
+// Where pages are lent, a place for what each driver's lease has. None is out.
+fn first_lent(alloc: Global, settings: Settings) -> Result<Vec<Option<PageList>>, AllocError>
+    ensures none { IfOk result (λ lent. (driver : ℕ) → lent_at lent.items driver ≡ Whole) }
+    ensures count { IfOk result (λ lent. (job : Job) → job.settings ≡ settings → IsSome (sharing_of job) → length lent.items ≡ settings.drivers) }
+{
+    if lends_pages(&settings) {
+        whole_lent(alloc, settings.drivers)
+    } else {
+        Ok(Vec::new(alloc))
+    }
+}
+
+// So many drivers, of which none has pages.
+#[tactic(auto, using(crate::proofs::Wishings::whole_pushed))]
+fn whole_lent(alloc: Global, drivers: u32) -> Result<Vec<Option<PageList>>, AllocError>
+    ensures none { IfOk result (λ lent. (driver : ℕ) → lent_at lent.items driver ≡ Whole) }
+    ensures count { IfOk result (λ lent. length lent.items ≡ drivers) }
+{
+    let mut lent = Vec::new(alloc);
+    for _ in 0..drivers {
+        lent.push(None)?;
+    }
+    Ok(lent)
+}
+
+// Where pages are lent, a wish for each thread of each replica, of which none has missed a page.
+fn first_wishes(alloc: Global, settings: Settings) -> Result<Vec<Wish>, AllocError>
+    requires { settings.replicas ≤ 5 }
+    ensures none { IfOk result (λ wishes. (place : ℕ) (wish : WishSeen) → slice_get wishes.items place ≡ Some wish → (wish.pages.items ≡ []) × (wish.misses ≡ 0)) }
+    ensures count { IfOk result (λ wishes. (job : Job) → job.settings ≡ settings → IsSome (sharing_of job) → length wishes.items ≡ 16 * settings.replicas) }
+{
+    if lends_pages(&settings) {
+        blank_wishes(alloc, MOST_THREADS * settings.replicas)
+    } else {
+        Ok(Vec::new(alloc))
+    }
+}
+
+// So many threads, of which none has missed a page.
+#[tactic(auto, using(crate::proofs::Wishings::first_pushed))]
+fn blank_wishes(alloc: Global, count: u32) -> Result<Vec<Wish>, AllocError>
+    ensures none { IfOk result (λ wishes. (place : ℕ) (wish : WishSeen) → slice_get wishes.items place ≡ Some wish → (wish.pages.items ≡ []) × (wish.misses ≡ 0)) }
+    ensures count { IfOk result (λ wishes. length wishes.items ≡ count) }
+{
+    let mut wishes = Vec::new(alloc);
+    for _ in 0..count {
+        wishes.push(Wish::new())?;
+    }
+    Ok(wishes)
 }
 
 // The replicas in their seats.

@@ -1,5 +1,5 @@
 //! The replicas in their seats, each empty while its replica is lent, and which threads stand still.
-ghost use Rattle.std.specs.Prelude.{ℕ, ◌≡◌, ◌≢◌, ◌≤◌, ◌⊎◌, ◌<◌, ◌∷◌, [], List, Some, None, true, is_some, IfSome, OnOk, length, slice_get, slice_index_or, slice_set};
+ghost use Rattle.std.specs.Prelude.{ℕ, ◌≡◌, ◌≢◌, ◌≤◌, ◌⊎◌, ◌↔◌, ◌<◌, ◌∷◌, [], List, Some, None, true, is_some, IfSome, IsSome, OnOk, length, slice_get, slice_index_or, slice_set};
 ghost use Rattle.std.specs.List.{list_all, filter_map};
 ghost use Rattle.ro_group.specs.Groups.{is_ready};
 ghost use Rattle.ro_region.specs.Permission.{with_range};
@@ -8,20 +8,24 @@ ghost use Rattle.ro_plain.specs.Machine.{setup_of};
 ghost use Rattle.ro_replica.specs.Replica.{Replica as ReplicaSeen, stop_of};
 ghost use Rattle.ro_replica.specs.Views.{view_of};
 ghost use Rattle.ro_replica.specs.Seen.{ReplicaOf, replica_of, CanApply, AreTwins, Recovers};
+ghost use Rattle.ro_replica.specs.Lent.{SameProgramOf};
+ghost use Rattle.ro_replica.specs.Runs.{is_calm};
+ghost use Rattle.ro_pages.specs.Held.{has_page};
+ghost use Rattle.std.specs.Option.{option_map_or};
 ghost use Rattle.ro_journal.specs.Losers.{numbers};
 ghost use Rattle.ro_legal.specs.Core.{Job};
 ghost use Rattle.ro_legal.specs.Event.{all_applied, with_copy, with_recovered};
 ghost use Rattle.ro_core.specs.Fields.{IsSeat, AreHome, AreSpared, CanTake, KeepsSeat, AreAllTwins, AreLosers, seat_unstopped};
 ghost use Rattle.ro_core.specs.Grouped.{AreMade, Returns, seat_stopped};
 ghost use Rattle.ro_legal.specs.Sound.{FaultsWait};
-ghost use Rattle.ro_core.specs.Seated.{Stands};
+ghost use Rattle.ro_core.specs.Seated.{CanLend, CanTakeBack, LendsPages, Stands, TakesBack};
 
-use crate::grouping::{copy_stops, note_return, regroup};
-use ro_event::{Effect, View};
+use crate::grouping::{copy_stops, note_return, note_stop, regroup};
+use ro_event::{Effect, Stop, View};
 use ro_group::Groups;
 use ro_journal::Lost;
 use ro_recover::recover;
-use ro_replica::ReplicaBox;
+use ro_replica::{LaneBox, ReplicaBox};
 use ro_vote::Won;
 use std::alloc::AllocError;
 
@@ -52,6 +56,55 @@ impl Seats {
         ensures { result ≡ seat_unstopped thread (slice_index_or self.now.homes.items replica None) }
     {
         is_unstopped(&self.homes[replica as usize], thread)
+    }
+
+    /// Whether no fault of a thread of a replica at home is due, and none in so many instructions more.
+    pub fn is_calm(&self, replica: u32, thread: u32, count: u32) -> bool
+        requires { IsSeat self.now.homes.items replica }
+        ensures { (value : ReplicaOf) → slice_get self.now.homes.items replica ≡ Some (Some value) → result ≡ option_map_or (is_calm count thread (replica_of value)) (slice_get value.threads thread) true }
+    {
+        is_calm(&self.homes[replica as usize], thread, count)
+    }
+
+    /// Whether a page of a replica at home is backed.
+    pub fn has_page(&self, replica: u32, page: u32) -> bool
+        requires { IsSeat self.now.homes.items replica }
+        ensures { (value : ReplicaOf) → slice_get self.now.homes.items replica ≡ Some (Some value) → result ≡ has_page value.held.pages page }
+    {
+        has_page(&self.homes[replica as usize], page)
+    }
+
+    /// A replica that is in its seat.
+    pub fn replica(&self, replica: u32) -> Option<&ReplicaBox>
+        ensures there { IfSome result (λ r. slice_get self.now.homes.items replica ≡ Some (Some r.now)) }
+        ensures home { IsSome result ↔ IsSeat self.now.homes.items replica }
+    {
+        self.homes.get(replica as usize)?.as_ref()
+    }
+
+    /// Lends a thread of a replica at home with those pages of a wish that it has.
+    pub fn lend_pages(&mut self, replica: u32, lane: &mut LaneBox, thread: u32, wish: &[u32])
+        requires home { IsSeat self.old.homes.items replica }
+        requires can { (value : ReplicaOf) → slice_get self.old.homes.items replica ≡ Some (Some value) → CanLend thread wish.now lane.old value }
+        ensures homes { (value : ReplicaOf) → slice_get self.old.homes.items replica ≡ Some (Some value) → (after : ReplicaOf) × (self.new.homes.items ≡ slice_set self.old.homes.items replica (Some after)) × LendsPages thread wish.now value after lane.new }
+        ensures groups { self.new.groups ≡ self.old.groups }
+    {
+        lend_pages(&mut self.homes[replica as usize], lane, thread, wish);
+    }
+
+    /// Puts the thread and pages of a lane back into their replica, which is at home.
+    pub fn take_back(&mut self, replica: u32, thread: u32, lane: &mut LaneBox, stop: Option<Stop>)
+        requires home { IsSeat self.old.homes.items replica }
+        requires group { replica < length self.old.groups }
+        requires thread { thread < 16 }
+        requires can { (value : ReplicaOf) → slice_get self.old.homes.items replica ≡ Some (Some value) → CanTakeBack thread lane.old value }
+        ensures homes { (value : ReplicaOf) → slice_get self.old.homes.items replica ≡ Some (Some value) → (after : ReplicaOf) × (self.new.homes.items ≡ slice_set self.old.homes.items replica (Some after)) × TakesBack thread lane.old stop value after }
+        ensures groups { Returns replica thread (is_some stop) self.old.groups self.new.groups }
+        ensures lane { SameProgramOf lane.new lane.old }
+        ensures none { lane.new.held.numbers ≡ [] }
+    {
+        take_back(&mut self.homes[replica as usize], thread, lane, stop);
+        note_stop(&mut self.groups, replica, thread, stop);
     }
 
     /// Takes a replica out of its seat.
@@ -131,6 +184,48 @@ impl Seats {
             replicas,
             threads,
         );
+    }
+}
+
+fn is_calm(seat: &Option<ReplicaBox>, thread: u32, count: u32) -> bool
+    ensures { (value : ReplicaOf) → seat.now ≡ Some value → result ≡ option_map_or (is_calm count thread (replica_of value)) (slice_get value.threads thread) true }
+{
+    match seat {
+        Some(replica) => replica.is_calm(thread, count),
+        None => true,
+    }
+}
+
+fn has_page(seat: &Option<ReplicaBox>, page: u32) -> bool
+    ensures { (value : ReplicaOf) → seat.now ≡ Some value → result ≡ has_page value.held.pages page }
+{
+    match seat {
+        Some(replica) => replica.has_page(page),
+        None => false,
+    }
+}
+
+// Lends a thread of the replica in a seat with those pages of a wish that it has.
+fn lend_pages(seat: &mut Option<ReplicaBox>, lane: &mut LaneBox, thread: u32, wish: &[u32])
+    requires there { (value : ReplicaOf) × (seat.old ≡ Some value) }
+    requires can { (value : ReplicaOf) → seat.old ≡ Some value → CanLend thread wish.now lane.old value }
+    ensures { (value : ReplicaOf) → seat.old ≡ Some value → (after : ReplicaOf) × (seat.new ≡ Some after) × LendsPages thread wish.now value after lane.new }
+{
+    if let Some(replica) = seat {
+        replica.lend_pages(lane, thread, wish);
+    }
+}
+
+// Puts the thread and pages of a lane back into the replica in a seat.
+fn take_back(seat: &mut Option<ReplicaBox>, thread: u32, lane: &mut LaneBox, stop: Option<Stop>)
+    requires there { (value : ReplicaOf) × (seat.old ≡ Some value) }
+    requires can { (value : ReplicaOf) → seat.old ≡ Some value → CanTakeBack thread lane.old value }
+    ensures back { (value : ReplicaOf) → seat.old ≡ Some value → (after : ReplicaOf) × (seat.new ≡ Some after) × TakesBack thread lane.old stop value after }
+    ensures lane { SameProgramOf lane.new lane.old }
+    ensures none { lane.new.held.numbers ≡ [] }
+{
+    if let Some(replica) = seat {
+        replica.put_back(thread, lane, stop);
     }
 }
 

@@ -10,6 +10,7 @@ ghost use Rattle.ro_core.specs.Runs.{fields_of, job_of, state_of, silent, payloa
 
 use crate::choosing::{do_others_sleep, unblocked_behind};
 use crate::cores::Core;
+use crate::wishing::forgive;
 use ro_event::Call;
 use ro_journal::{Entry, How};
 use ro_serving::{Coming, Event, serve};
@@ -214,6 +215,7 @@ impl Core {
         self.sent += written as u64;
         self.wrote = written as u32;
         self.due = event.due;
+        forgive(self.wishes.as_mut_slice(), thread, self.settings.replicas);
     }
 }
 

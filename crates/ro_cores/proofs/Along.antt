@@ -4,16 +4,17 @@ use Rattle.ro_journal.specs.declared.Entry.{Entry}
 use Rattle.ro_journal.specs.declared.Lease.{Lease}
 use Rattle.ro_kernel.specs.Kernel.{Kernel}
 use Rattle.ro_replica.specs.Replica.{Replica}
+use Rattle.ro_legal.specs.Parts.{Lent}
 use Rattle.ro_peer.specs.Peers.{Peer}
 use Rattle.ro_legal.specs.Core.{Job}
 use Rattle.ro_legal.specs.Core as voted_core
-use Rattle.ro_legal.specs.Laws.{HasWhole}
+use Rattle.ro_legal.specs.Laws.{HasLease}
 use Rattle.ro_legal.specs.Legal as votes
 use Rattle.ro_legal.specs.Cooperative as together
 use Rattle.ro_legal.specs.Kept.{HasPeer, NoFurtherAhead}
 use Rattle.ro_legal.proofs.Journals as voted_journals
 use Rattle.ro_legal.proofs.TogetherJournals as together_journals
-use Rattle.ro_legal.proofs.Lasting.{lease_lasts, kernel_lasts}
+use Rattle.ro_legal.proofs.Lasting.{lease-stays, kernel_lasts}
 use Rattle.ro_legal.proofs.TogetherLeases.{lease-lasts}
 use Rattle.ro_legal.proofs.TogetherRanks.{ranks-grow}
 use Rattle.ro_cores.specs.History.{Turned, Owned, NoneBy, journal_of}
@@ -31,19 +32,19 @@ voted_over job before entry rest legal = subst (λ (js : List Entry). votes.Lega
 voted_first : (job : Job) (before : List Entry) (entry : Entry) (rest : List Entry) → votes.Legal job (before ++ (entry ∷ rest)) → votes.Legal job (before ++ entry ∷ [])
 voted_first job before entry rest legal = (voted_journals.LegalFrom-parts job (voted_core.opening_core job) (before ++ entry ∷ []) rest (voted_over job before entry rest legal)).0
 
-pub out_along : (job : Job) (driver : ℕ) (lease : Lease) (value : Replica) (before : List Entry) (rest : List Turned) → votes.Legal job (before ++ journal_of rest) → Owned rest → NoneBy driver rest → HasWhole (votes.replay job before) driver lease value → HasWhole (votes.replay job (before ++ journal_of rest)) driver lease value
-out_along job driver lease value before [] legal own none out = subst (λ (js : List Entry). HasWhole (votes.replay job js) driver lease value) (sym (append-nil before)) out
-out_along job driver lease value before (t ∷ ts) legal own none out =
+pub out_along : (job : Job) (driver : ℕ) (lease : Lease) (lent : Lent) (value : Replica) (before : List Entry) (rest : List Turned) → votes.Legal job (before ++ journal_of rest) → Owned rest → NoneBy driver rest → HasLease (votes.replay job before) driver lease lent value → HasLease (votes.replay job (before ++ journal_of rest)) driver lease lent value
+out_along job driver lease lent value before [] legal own none out = subst (λ (js : List Entry). HasLease (votes.replay job js) driver lease lent value) (sym (append-nil before)) out
+out_along job driver lease lent value before (t ∷ ts) legal own none out =
     let first = voted_first job before t.entry (journal_of ts) legal in
-    subst (λ (js : List Entry). HasWhole (votes.replay job js) driver lease value) (sym (move_over before t.entry (journal_of ts)))
-    (out_along job driver lease value (before ++ t.entry ∷ []) ts (voted_over job before t.entry (journal_of ts) legal) own.1 none.1 (lease_lasts job before t.entry first driver t.by own.0 none.0 lease value out))
+    subst (λ (js : List Entry). HasLease (votes.replay job js) driver lease lent value) (sym (move_over before t.entry (journal_of ts)))
+    (out_along job driver lease lent value (before ++ t.entry ∷ []) ts (voted_over job before t.entry (journal_of ts) legal) own.1 none.1 (lease-stays job before t.entry first driver t.by own.0 none.0 lease lent value out))
 
-pub kernel_along : (job : Job) (driver : ℕ) (lease : Lease) (value : Replica) (before : List Entry) (rest : List Turned) → votes.Legal job (before ++ journal_of rest) → Owned rest → NoneBy driver rest → HasWhole (votes.replay job before) driver lease value → (votes.replay job (before ++ journal_of rest)).kernel ≡ (votes.replay job before).kernel
-kernel_along job driver lease value before [] legal own none out = ap (λ (js : List Entry). (votes.replay job js).kernel) (append-nil before)
-kernel_along job driver lease value before (t ∷ ts) legal own none out =
+pub kernel_along : (job : Job) (driver : ℕ) (lease : Lease) (lent : Lent) (value : Replica) (before : List Entry) (rest : List Turned) → votes.Legal job (before ++ journal_of rest) → Owned rest → NoneBy driver rest → HasLease (votes.replay job before) driver lease lent value → (votes.replay job (before ++ journal_of rest)).kernel ≡ (votes.replay job before).kernel
+kernel_along job driver lease lent value before [] legal own none out = ap (λ (js : List Entry). (votes.replay job js).kernel) (append-nil before)
+kernel_along job driver lease lent value before (t ∷ ts) legal own none out =
     let first = voted_first job before t.entry (journal_of ts) legal in
     ap (λ (js : List Entry). (votes.replay job js).kernel) (move_over before t.entry (journal_of ts))
-    ∙ kernel_along job driver lease value (before ++ t.entry ∷ []) ts (voted_over job before t.entry (journal_of ts) legal) own.1 none.1 (lease_lasts job before t.entry first driver t.by own.0 none.0 lease value out)
+    ∙ kernel_along job driver lease lent value (before ++ t.entry ∷ []) ts (voted_over job before t.entry (journal_of ts) legal) own.1 none.1 (lease-stays job before t.entry first driver t.by own.0 none.0 lease lent value out)
     ∙ kernel_lasts job before t.entry first driver lease out.held
 
 -- ---- in a cooperative run

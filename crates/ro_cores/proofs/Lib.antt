@@ -1,5 +1,3 @@
--- what a driver of a run by votes that holds a lease may put back
-pub mod VotedLeases
 -- leases stay out
 pub mod Along
 -- what becomes of them may be put back

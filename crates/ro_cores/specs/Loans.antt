@@ -15,6 +15,8 @@ use Rattle.ro_locking.specs.Got.{HasGot}
 use Rattle.ro_legal.specs.Core.{Job, Core}
 use Rattle.ro_legal.specs.Modes.{Mode, InMode}
 use Rattle.ro_legal.specs.Cooperative as together
+use Rattle.ro_lease.specs.declared.Lent.{Lent as VotedLent}
+use Rattle.ro_lease.specs.declared.Back.{Back as VotedBack}
 use Rattle.ro_lease.specs.Loans as replicas
 use Rattle.ro_coop_lease.specs.declared.Lent.{Lent}
 use Rattle.ro_coop_lease.specs.declared.Back.{Back}
@@ -26,12 +28,12 @@ use Rattle.ro_cores.specs.Cores.{plain_core}
 
 -- ---- a lease's run
 
--- a replica with its lease, or a peer with its
+-- what a lease has of a replica by votes, or a peer with its lease
 abbrev pub LentOf : Type 0
-LentOf = replicas.LentOf ⊎ Lent
+LentOf = VotedLent ⊎ Lent
 
 abbrev pub BackOf : Type 0
-BackOf = replicas.BackOf ⊎ Back
+BackOf = VotedBack ⊎ Back
 
 -- a driver's pass of the lock page, in a cooperative run
 abbrev pub ShareOf : Type 0
@@ -45,10 +47,10 @@ abbrev pub lease_of : BackOf → Lease
 lease_of (inl back) = back.lease
 lease_of (inr back) = back.lease
 
--- the entry with which it comes back
-abbrev pub entry_of : BackOf → Entry
-entry_of (inl back) = Put back.lease back.took.count back.took.hit
-entry_of (inr back) = coop.return_of back.lease back.took.count back.took.came
+-- the entry with which it comes back to a core
+abbrev pub entry_of : Core → BackOf → Entry
+entry_of core (inl back) = votes.return_of core back
+entry_of core (inr back) = coop.return_of back.lease back.took.count back.took.came
 
 -- the entry brings this lease back
 abbrev pub Returns : Lease → Entry → Type 0
@@ -60,12 +62,12 @@ plain_run job journal = record { job = job; journal = journal; room = 0; views =
 
 -- the core that this journal leaves lends this
 abbrev pub IsLent : Job → List Entry → LentOf → Type 0
-IsLent job journal (inl lent) = (job.settings.mode ≡ Voted) × (lent.quantum ≡ job.settings.quantum) × votes.IsLent (plain_core job journal) lent.lease.replica lent.lease.thread lent.replica
+IsLent job journal (inl lent) = (job.settings.mode ≡ Voted) × (lent.quantum ≡ job.settings.quantum) × votes.IsLent (plain_core job journal) lent.lease.replica lent.lease.thread lent.loan
 IsLent job journal (inr lent) = (job.settings.mode ≡ Cooperative) × (lent.quantum ≡ job.settings.quantum) × coop.IsLent (plain_run job journal) lent.lease.replica lent.lease.thread lent.partner
 
 -- its thread can run
 abbrev pub CanGo : LentOf → Type 0
-CanGo (inl lent) = ⊤
+CanGo (inl lent) = replicas.CanGo lent
 CanGo (inr lent) = peers.CanGo lent
 
 -- what it may become, and the driver's pass by it, of which there is none where a replica is lent
@@ -76,8 +78,7 @@ Gives _ _ _ _ = ⊥
 
 -- it may be put back in the core that this journal leaves
 abbrev pub MayReturn : Job → List Entry → BackOf → Type 0
-MayReturn job journal (inl back) =
-    (job.settings.mode ≡ Voted) × (m : votes.MayReturn (plain_core job journal) back.lease.driver back.replica back.took.count back.took.hit) × (m.lease ≡ back.lease)
+MayReturn job journal (inl back) = (job.settings.mode ≡ Voted) × votes.MayReturn (plain_core job journal) back
 MayReturn job journal (inr back) =
     (job.settings.mode ≡ Cooperative) × (m : coop.MayReturn (plain_run job journal) back.lease.driver back.partner back.took.count back.took.came) × (m.lease ≡ back.lease)
 

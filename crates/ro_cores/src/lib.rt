@@ -9,5 +9,5 @@ mod together;
 mod voted;
 
 pub use laws::{loans_return, shares_know};
-pub use run_cores::{Remains, RunCore};
+pub use run_cores::{Lendable, Remains, RunCore};
 pub use sharing::{SharedPage, Spare};

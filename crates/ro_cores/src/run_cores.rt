@@ -34,6 +34,15 @@ pub struct Remains {
     pub journal: Vec<Entry>,
 }
 
+/// How many leases can be out at once.
+#[derive(Clone, Copy, Debug, PartialEq, Eq)]
+pub struct Lendable {
+    /// While as many threads live.
+    pub most: u32,
+    /// While those that are blocked on calls stay so.
+    pub now: u32,
+}
+
 /// A core that keeps the rules of a run, and what drivers run for it.
 pub trait RunCore: Sized {
     ghost use Rattle.std.specs.Prelude.{List, ℕ};
@@ -115,15 +124,17 @@ pub trait RunCore: Sized {
         ensures { result ≡ lease_in (lent_of lent.now) };
 
     /// The entry with which a lease comes back.
-    fn entry(back: &Self::Back) -> Entry
-        ensures { result ≡ entry_of (back_of back.now) };
+    fn entry(&self, back: &Self::Back) -> Entry
+        requires holds { holds self.now }
+        requires returns { MayReturn (seen self.now).job (seen self.now).journal (back_of back.now) }
+        ensures { result ≡ entry_of (left_by (seen self.now)) (back_of back.now) };
 
     /// Puts back what a lease has become.
     fn give_back(&mut self, back: Self::Back)
         requires holds { holds self.old }
         requires returns { MayReturn (seen self.old).job (seen self.old).journal (back_of back) }
         ensures holds { holds self.new }
-        ensures entry { Appends (seen self.old) (seen self.new) (entry_of (back_of back)) }
+        ensures entry { Appends (seen self.old) (seen self.new) (entry_of (left_by (seen self.old)) (back_of back)) }
         ensures output { (left_by (seen self.new)).output ≡ (left_by (seen self.old)).output };
 
     /// Votes on a thread that stands still in every replica: its event is done once, and the entry that was appended is answered,
@@ -195,6 +206,9 @@ pub trait RunCore: Sized {
     /// What it was asked for.
     fn settings(&self) -> Settings
         ensures { result ≡ (seen self.now).job.settings };
+
+    /// How many leases can be out at once. No clause speaks of it: it says which drivers are worth a wake.
+    fn lendable(&self) -> Lendable;
 
     /// How many bytes the events wrote, but for those that a failing sink did not take at the end.
     fn bytes(&self) -> u64

@@ -5,7 +5,7 @@ ghost use Rattle.ro_lockpage.specs.Pages.{PassOf};
 ghost use Rattle.ro_cores.specs.Loans.{IsShare, AgreesWith};
 ghost use Rattle.ro_cores.specs.Sharing.{AreSpare};
 
-use crate::run_cores::{Remains, RunCore};
+use crate::run_cores::{Lendable, Remains, RunCore};
 use crate::sharing::{SharedPage, Spare};
 use ro_coop_core::{Core, Finished, Voted};
 use ro_coop_lease::{Back, Lent};
@@ -78,7 +78,7 @@ impl RunCore for Core {
         lent.lease
     }
 
-    fn entry(back: &Back) -> Entry {
+    fn entry(&self, back: &Back) -> Entry {
         let lease = back.lease;
         let count = back.took.count;
         match back.took.came.waits_at() {
@@ -131,6 +131,12 @@ impl RunCore for Core {
 
     fn settings(&self) -> Settings {
         self.settings()
+    }
+
+    // Whole replicas are lent.
+    fn lendable(&self) -> Lendable {
+        let most = self.settings().replicas;
+        Lendable { most, now: most }
     }
 
     fn bytes(&self) -> u64 {

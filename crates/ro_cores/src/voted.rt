@@ -3,11 +3,11 @@ ghost use Rattle.std.specs.Prelude.{◌≡◌, ℕ, None, Some, slice_get};
 ghost use Rattle.ro_orders.specs.Copies.{Rows};
 ghost use Rattle.ro_cores.specs.Loans.{AgreesWith};
 
-use crate::run_cores::{Remains, RunCore};
+use crate::run_cores::{Lendable, Remains, RunCore};
 use ro_core::{Core, Finished, Voted};
 use ro_journal::{Entry, How, Lease};
-use ro_lease::{Back, Lent, Took};
-use ro_legal::Action;
+use ro_lease::{Back, Lent};
+use ro_legal::{Action, lends_pages};
 use ro_settings::Settings;
 use std::alloc::{AllocError, Global};
 
@@ -55,6 +55,7 @@ impl RunCore for Core {
         self.next_action()
     }
 
+    #[inline(always)]
     fn room(&mut self) -> Result<(), AllocError> {
         self.room()
     }
@@ -62,33 +63,27 @@ impl RunCore for Core {
     #[inline(always)]
     fn lend(&mut self, lease: Lease) -> Lent {
         let quantum = self.settings().quantum;
-        let replica = self.take(lease);
-        Lent::new(lease, quantum, replica)
-    }
-
-    #[inline(always)]
-    fn lease(lent: &Lent) -> Lease {
-        lent.lease()
-    }
-
-    #[inline(always)]
-    fn entry(back: &Back) -> Entry {
-        let Took { count, hit } = back.took;
-        Entry::Put {
-            lease: back.lease,
-            count,
-            hit,
+        let loan = self.take(lease);
+        Lent {
+            lease,
+            quantum,
+            loan,
         }
     }
 
     #[inline(always)]
+    fn lease(lent: &Lent) -> Lease {
+        lent.lease
+    }
+
+    #[inline(always)]
+    fn entry(&self, back: &Back) -> Entry {
+        self.return_of(back)
+    }
+
+    #[inline(always)]
     fn give_back(&mut self, back: Back) {
-        let Back {
-            lease,
-            replica,
-            took: Took { count, hit },
-        } = back;
-        self.put(lease.driver, replica, count, hit);
+        self.put(back);
     }
 
     #[inline(always)]
@@ -119,6 +114,19 @@ impl RunCore for Core {
 
     fn settings(&self) -> Settings {
         self.settings()
+    }
+
+    fn lendable(&self) -> Lendable {
+        let settings = self.settings();
+        let (live, going) = if lends_pages(&settings) {
+            threads_of(self)
+        } else {
+            (1, 1)
+        };
+        Lendable {
+            most: settings.replicas.saturating_mul(live),
+            now: settings.replicas.saturating_mul(going),
+        }
     }
 
     fn bytes(&self) -> u64 {
@@ -159,4 +167,19 @@ impl RunCore for Core {
     {
         let _shares = shares;
     }
+}
+
+// How many threads live, and how many of these are not blocked on a call; one at least.
+fn threads_of(core: &Core) -> (u32, u32) {
+    let mut live = 0u32;
+    let mut going = 0u32;
+    for thread in 0..core.kernel().made() {
+        if core.kernel().lives_on(thread) {
+            live = live.saturating_add(1);
+            if core.blocked_call(thread).is_none() {
+                going = going.saturating_add(1);
+            }
+        }
+    }
+    (live.max(1), going.max(1))
 }

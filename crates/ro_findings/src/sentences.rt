@@ -371,9 +371,12 @@ fn tell_illegal(text: &mut String, entry: &Entry, why: Why) -> Result<(), AllocE
         ),
         Why::NoPut => writeln!(
             text,
-            "No lease comes back so: a put is at a vote or behind a quantum, and has no faults."
+            "That is no put: the thread lacks a page of its replica, or waits at a lock, or goes on; or faults are told of a cooperative run."
         ),
-        Why::NoPart => writeln!(text, "No lease comes back so."),
+        Why::NoPart => writeln!(
+            text,
+            "That is no part: the quantum is over, or the thread lacks no page of its replica and waits at no lock; or faults are told of a cooperative run."
+        ),
         Why::OtherGot => writeln!(text, "The lease gets a mutex in another thread's turn."),
         Why::NoVote => writeln!(text, "The thread can't be voted on."),
         Why::NoFree => writeln!(text, "The thread has no call that can be served."),

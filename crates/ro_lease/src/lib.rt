@@ -1,84 +1,27 @@
-//! A replica that is lent to a driver, which runs it with no lock held, and what comes back.
+//! A replica that is lent to a driver, or a thread of it with a few of its pages; how a driver runs it with no lock held, and
+//! what comes back.
 #![tactic(auto)]
 
-ghost use Rattle.std.specs.Prelude.{◌≡◌};
-ghost use Rattle.ro_lease.specs.Loans.{CanGo};
+ghost use Rattle.ro_lease.specs.Loans.{CanGo, Gives};
 
 use ro_journal::Lease;
-use ro_replica::{Ran, ReplicaBox};
-use std::marker::Model;
+use ro_replica::{LaneBox, Ran, ReplicaBox};
 
-/// A lease and its replica, whose thread is to run for at most so many instructions.
+/// What a lease has of its replica.
+#[derive(Drop)]
+pub enum Loan {
+    /// All of it.
+    Whole(ReplicaBox),
+    /// A thread, and a few of its pages.
+    Part(LaneBox),
+}
+
+/// A lease and what it has, whose thread is to run for at most so many instructions.
 #[derive(Drop)]
 pub struct Lent {
-    lease: Lease,
-    quantum: u32,
-    replica: ReplicaBox,
-}
-
-impl Model for Lent {
-    ghost use Rattle.std.specs.Coded.{codes};
-    ghost use Rattle.ro_pages.specs.Held.{coded_held};
-    ghost use Rattle.ro_lease.specs.Loans.{LentOf, CanGo};
-
-    ghost Value = { LentOf };
-
-    ghost coded = { Prim.hlevel (codes, coded_held) };
-
-    ghost view = { λ l. record { lease = l.lease; quantum = l.quantum; replica = l.replica } };
-
-    ghost invariant = { λ l. CanGo l.quantum l.lease.thread l.replica };
-}
-
-impl Lent {
-    ghost use Rattle.ro_lease.specs.Loans.{Gives};
-
-    /// Lends the lease's replica to its driver, for a run of its thread.
-    pub fn new(lease: Lease, quantum: u32, replica: ReplicaBox) -> Lent
-        requires { CanGo quantum lease.thread replica }
-        ensures { result ≡ record { lease = lease; quantum = quantum; replica = replica } }
-    {
-        Lent {
-            lease,
-            quantum,
-            replica,
-        }
-    }
-
-    /// The lease.
-    pub fn lease(&self) -> Lease
-        ensures { result ≡ self.now.lease }
-    {
-        self.lease
-    }
-
-    /// The driver, the replica and the thread.
-    pub fn place(&self) -> (u32, u32, u32)
-        ensures { result ≡ (self.now.lease.driver, self.now.lease.replica, self.now.lease.thread) }
-    {
-        (self.lease.driver, self.lease.replica, self.lease.thread)
-    }
-
-    /// Runs the thread.
-    pub fn run(self) -> Back
-        ensures { Gives self result }
-    {
-        let Lent {
-            lease,
-            quantum,
-            mut replica,
-        } = self;
-        let Ran {
-            count,
-            hit,
-            stop: _,
-        } = replica.run(lease.thread, quantum);
-        Back {
-            lease,
-            replica,
-            took: Took { count, hit },
-        }
-    }
+    pub lease: Lease,
+    pub quantum: u32,
+    pub loan: Loan,
 }
 
 /// What a run took.
@@ -90,22 +33,47 @@ pub struct Took {
     pub hit: u32,
 }
 
-/// The replica after its run.
+/// What comes back: the lease, and what it had, after its run. Where the thread stands still, it says; nowhere after a whole
+/// quantum.
 #[derive(Drop)]
 pub struct Back {
     pub lease: Lease,
-    pub replica: ReplicaBox,
+    pub loan: Loan,
     pub took: Took,
 }
 
-impl Model for Back {
-    ghost use Rattle.std.specs.Coded.{codes};
-    ghost use Rattle.ro_pages.specs.Held.{coded_held};
-    ghost use Rattle.ro_lease.specs.Loans.{BackOf};
-
-    ghost Value = { BackOf };
-
-    ghost coded = { Prim.hlevel (codes, coded_held) };
-
-    ghost view = { λ b. record { lease = b.lease; replica = b.replica; took = b.took } };
+impl Lent {
+    /// Runs the thread.
+    pub fn run(self) -> Back
+        requires { CanGo self }
+        ensures { Gives self result }
+    {
+        let Lent {
+            lease,
+            quantum,
+            loan,
+        } = self;
+        match loan {
+            Loan::Whole(mut replica) => {
+                let Ran {
+                    count,
+                    hit,
+                    stop: _,
+                } = replica.run(lease.thread, quantum);
+                Back {
+                    lease,
+                    loan: Loan::Whole(replica),
+                    took: Took { count, hit },
+                }
+            }
+            Loan::Part(mut lane) => {
+                let count = lane.run(quantum);
+                Back {
+                    lease,
+                    loan: Loan::Part(lane),
+                    took: Took { count, hit: 0 },
+                }
+            }
+        }
+    }
 }

@@ -13,7 +13,7 @@ use Rattle.ro_legal.specs.Rules.{Legal}
 use Rattle.ro_legal.proofs.Modes.{IsDecision}
 use Rattle.ro_legal.proofs.Rules.{vote-decision, free-decision, scrub-decision}
 use Rattle.ro_core.specs.Seen.{CoreOf}
-use Rattle.ro_cores.specs.Cores.{state}
+use Rattle.ro_cores.specs.Cores.{left_by, state}
 use Rattle.ro_cores.specs.History.{Turned, Owned, AreWithin, BringsNone, turned, journal_of}
 use Rattle.ro_cores.specs.Loans.{LentOf, BackOf, ShareOf, SharedOf, SharesIn, IsShare, AllAgreeWith, IsJoined, IsLent, Knows, entry_of}
 use Rattle.ro_cores.proofs.Knowing.{knows-others, knows-own, knows-returns, knows-join}
@@ -99,12 +99,12 @@ held_rests start r p q share did known rest = by r (turn_knows start r p q share
 pub put_knows : (start : CoreOf) (back : BackOf) (h : HeldOf) (q : PassOf) → PutDid start back h.pass q → IsReturning start.job h back → KnowsSeen start.job q h.share
 put_knows start back h q did r =
     subst (λ (x : PassOf). KnowsSeen start.job x h.share) (sym m.pass)
-    (subst (λ (hs : List Turned). Knows start.job p.number (hs ++ turned p.number (entry_of back) ∷ []) h.share) whole
-    (subst (λ (s : ShareOf). Knows start.job p.number ((p.seen ++ z.rest) ++ turned p.number (entry_of back) ∷ []) s) (sym r.new_is)
-    (subst (λ (j : Job). Knows j p.number ((p.seen ++ z.rest) ++ turned p.number (entry_of back) ∷ []) may.new) same
-    (knows-returns job p.number p.seen z.rest may.holds.before may.lent may.old back may.new driven.can_run driven.fit may.holds.took may.holds.driver
+    (subst (λ (hs : List Turned). Knows start.job p.number (hs ++ turned p.number (entry_of (left_by did.old.core) back) ∷ []) h.share) whole
+    (subst (λ (s : ShareOf). Knows start.job p.number ((p.seen ++ z.rest) ++ turned p.number (entry_of (left_by did.old.core) back) ∷ []) s) (sym r.new_is)
+    (subst (λ (j : Job). Knows j p.number ((p.seen ++ z.rest) ++ turned p.number (entry_of (left_by did.old.core) back) ∷ []) may.new) same
+    (knows-returns job p.number p.seen z.rest may.holds.before (left_by did.old.core) may.lent may.old back may.new driven.can_run driven.fit may.holds.took may.holds.driver
     (owned_rest p.seen z.rest (subst Owned (sym whole) did.tied.owned)) z.none
-    (subst (λ (hs : List Turned). Legal job (journal_of (hs ++ turned p.number (entry_of back) ∷ []))) (sym whole) (subst (λ (js : List Entry). Legal job js) (sym (ap journal_of (sym m.history) ∙ did.now.journal)) driven.legal))
+    (subst (λ (hs : List Turned). Legal job (journal_of (hs ++ turned p.number (entry_of (left_by did.old.core) back) ∷ []))) (sym whole) (subst (λ (js : List Entry). Legal job js) (sym (ap journal_of (sym m.history) ∙ did.now.journal)) driven.legal))
     (subst (λ (j : Job). IsLent j may.holds.before may.lent) (sym same) may.holds.lends) may.gives
     (subst (λ (j : Job). Knows j p.number p.seen may.old) (sym same) r.knew)))))
   where

@@ -168,13 +168,13 @@ module _ (start core : CoreOf) (count : CountOf) (p : PassOf) (back : BackOf) (t
 
   -- the entry
   abbrev pub put_entry : Entry
-  put_entry = entry_of back
+  put_entry = entry_of (replay core.job core.journal) back
 
   put_allowed : IsAllowed core.job (replay core.job core.journal) put_entry
   put_allowed = loan-allowed core.job core.journal back put_returns
 
   was : WasOut (replay core.job core.journal)
-  was = was_out core.job.settings.mode core.job (replay core.job core.journal) (lease_of back) put_entry (loan-entry back) put_allowed
+  was = was_out core.job.settings.mode core.job (replay core.job core.journal) (lease_of back) put_entry (loan-entry (replay core.job core.journal) back) put_allowed
 
   -- while a lease is out the sink has not failed
   pub put_calm : core.failed ≡ None
@@ -186,21 +186,21 @@ module _ (start core : CoreOf) (count : CountOf) (p : PassOf) (back : BackOf) (t
 
   -- it is the pass's own
   put_names : Names p.number put_entry
-  put_names = names_return (lease_of back) put_entry p.number (loan-entry back) (ap (λ (l : Lease). l.driver) (loan-lease may.lent may.old back may.new may.gives) ∙ may.holds.driver)
+  put_names = names_return (lease_of back) put_entry p.number (loan-entry (replay core.job core.journal) back) (ap (λ (l : Lease). l.driver) (loan-lease may.lent may.old back may.new may.gives) ∙ may.holds.driver)
 
   module _ (new : CoreOf) (appends : Appends core new put_entry) (q : Quiet core new) where
     put_open : outcome_of core.journal ≡ None
     put_open = sym (ended-is core.job core.journal t.driven.legal) ∙ was.not_ended
 
     no_sink : (taken : ℕ) → outcome_of (put_entry ∷ []) ≡ Some (Sink taken) → ⊥
-    no_sink taken e = let f : None ≡ Some (Sink taken) = sym (loan-open back) ∙ e in cc
+    no_sink taken e = let f : None ≡ Some (Sink taken) = sym (loan-open (replay core.job core.journal) back) ∙ e in cc
 
     pub tied_put : (count' : CountOf) → count' ≡ counted count p.number put_entry → Tied start new count'
     tied_put count' c =
         tied_more start core new count count' p.number put_entry t appends c put_names k.number
         (driven_more core new put_entry t.driven appends put_allowed (loan-next core.job (replay core.job core.journal) back))
         (goes_quiet core new put_entry appends q (λ taken e. absurd (no_sink taken e)) (λ failed. absurd (not_failed core put_calm put_open failed)))
-        (none_last new.job new.journal new.views (more_open core new put_entry put_open appends (loan-open back)))
+        (none_last new.job new.journal new.views (more_open core new put_entry put_open appends (loan-open (replay core.job core.journal) back)))
 
     -- what the put did
     pub put_is : (count' : CountOf) → count' ≡ counted count p.number put_entry → (q' : PassOf) → q' ≡ added p count put_entry → PutIs (record { core = core; count = count }) (record { core = new; count = count' }) p q' back
@@ -211,7 +211,7 @@ module _ (start core : CoreOf) (count : CountOf) (p : PassOf) (back : BackOf) (t
   put_idle =
       ap (is_idle (after core.job (replay core.job core.journal) put_entry)) (sym (ap (λ (l : Lease). l.driver) (loan-lease may.lent may.old back may.new may.gives) ∙ may.holds.driver))
       ∙ ap (λ (c : Core). is_idle c (lease_of back).driver) (sym (replay-more core.job core.journal put_entry))
-      ∙ loan-idle core.job core.journal back (legal-more core.job core.journal put_entry t.driven.legal put_allowed)
+      ∙ loan-idle core.job core.journal (replay core.job core.journal) back (legal-more core.job core.journal put_entry t.driven.legal put_allowed)
 
 -- ---- what the pass knows afterwards
 
@@ -314,7 +314,7 @@ pub put_rests : (start : CoreOf) (old new : DeskOf) (p q : PassOf) (back : BackO
 put_rests start old new p q back t calm may m =
     subst (λ (j : Job). AtRest j q) t.goes.job
     (subst (AtRest old.core.job) (sym m.pass)
-    (ap (λ (c : Core). is_idle c p.number) (seen_added start old.core old.count p (entry_of back) t) ∙ put_idle start old.core old.count p back t calm m.knew may))
+    (ap (λ (c : Core). is_idle c p.number) (seen_added start old.core old.count p (entry_of (replay old.core.job old.core.journal) back) t) ∙ put_idle start old.core old.count p back t calm m.knew may))
 
 -- ---- the opening
 

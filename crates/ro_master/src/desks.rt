@@ -11,6 +11,7 @@ ghost use Rattle.ro_legal.specs.Rules.{DecidesVote, DecidesFree, DecidesScrub};
 ghost use Rattle.ro_cores.specs.Cores.{state};
 
 use crate::holding::{Back, Lent};
+use crate::lookout::Lookout;
 use crate::passes::{Counter, Pass};
 use crate::seats::Naming;
 use crate::sessions::Session;
@@ -118,6 +119,7 @@ impl<C: RunCore, K: Sink, N: Naming> Desk<C, K, N> {
         match self.core.vote(thread) {
             Ok(entry) => {
                 let _entries = self.core.entries();
+                note_lendable(&self.core, &mut self.waking);
                 self.waking.voted(&entry);
                 pass.add(&mut self.count, &entry);
                 Ok(())
@@ -137,6 +139,7 @@ impl<C: RunCore, K: Sink, N: Naming> Desk<C, K, N> {
         match self.core.free(thread) {
             Ok(entry) => {
                 let _entries = self.core.entries();
+                note_lendable(&self.core, &mut self.waking);
                 self.waking.stood();
                 pass.add(&mut self.count, &entry);
                 Ok(())
@@ -236,21 +239,69 @@ impl<C: RunCore, K: Sink, N: Naming> Desk<C, K, N> {
         matches!(self.core.next_action(), Action::Wait)
     }
 
-    /// Who is to be woken after the last turn, which answered this.
-    pub fn woken_by_turn(&mut self, answer: &Result<Turn<Lent<C>>, AllocError>) -> Wakes
+    /// Who is to be woken after the last turn, that of a pass of this number, which answered this.
+    pub fn woken_by_turn(
+        &mut self,
+        number: u32,
+        answer: &Result<Turn<Lent<C>>, AllocError>,
+        lookout: &Lookout,
+    ) -> Wakes
         ensures { self.new ≡ self.old }
     {
+        if self.waking.has_others() {
+            self.woken_of_others(number, answer, lookout)
+        } else {
+            Wakes::Nobody
+        }
+    }
+
+    // The same, where there are other drivers.
+    fn woken_of_others(
+        &mut self,
+        number: u32,
+        answer: &Result<Turn<Lent<C>>, AllocError>,
+        lookout: &Lookout,
+    ) -> Wakes
+        ensures { self.new ≡ self.old }
+    {
+        self.waking.came(number);
         match answer {
             Ok(Turn::Did) => {}
-            Ok(Turn::Leased(_) | Turn::Wait) => self.waking.stood(),
+            Ok(Turn::Leased(_)) => {
+                let wakes = self.woken_by_lease(lookout);
+                self.waking.wakes(wakes);
+            }
+            Ok(Turn::Wait) => {
+                self.waking.found_nothing(number);
+                lookout.expect_spares(self.waking.surplus());
+            }
             Ok(Turn::Over) | Err(_) => self.waking.left(),
         }
         self.waking.due()
     }
 
+    // Who is to be woken behind a take, where something can still be lent.
+    fn woken_by_lease(&self, lookout: &Lookout) -> Wakes {
+        let wakes = self.waking.another(lookout.called());
+        if wakes != Wakes::Nobody && self.lends() {
+            wakes
+        } else {
+            Wakes::Nobody
+        }
+    }
+
+    // Whether something can be lent.
+    fn lends(&self) -> bool {
+        matches!(self.core.next_action(), Action::Lend { .. })
+    }
+
     /// Who is to be woken after the last put.
     pub fn woken_by_put(&self) -> Wakes {
-        self.waking.due()
+        if self.waking.has_others() {
+            self.waking.due()
+        } else {
+            Wakes::Nobody
+        }
     }
 
     /// Whether a driver that found nothing to be done is spare from now on.
@@ -274,9 +325,21 @@ impl<C: RunCore, K: Sink, N: Naming> Desk<C, K, N> {
         self.waking.woke_up();
     }
 
-    /// Whether spare drivers rest.
-    pub fn spares_rest(&self) -> bool {
-        self.waking.spares_rest()
+    /// How many drivers are to become spare yet.
+    pub fn surplus(&self) -> u32 {
+        self.waking.surplus()
+    }
+
+    /// Whether a spare driver stays so.
+    pub fn stays_spare(&self) -> bool {
+        self.waking.stays_spare()
+    }
+
+    /// A spare driver comes back.
+    pub fn is_spare_no_more(&mut self)
+        ensures { self.new ≡ self.old }
+    {
+        self.waking.is_spare_no_more();
     }
 
     /// One turn of the pass's driver: exactly one entry of its own, or none.
@@ -312,11 +375,19 @@ impl<C: RunCore, K: Sink, N: Naming> Desk<C, K, N> {
         requires { MayGiveBack N.start.job pass.old back }
         ensures { PutIs self.old self.new pass.old pass.new back }
     {
-        let entry = back.entry();
+        let back = back.into_inner();
+        pass.learn(&mut self.count);
         let _entries = self.core.entries();
+        let entry = self.core.entry(&back);
         pass.add(&mut self.count, &entry);
         self.waking.came_back(&entry);
-        let back = back.into_inner();
         self.core.give_back(back);
+    }
+}
+
+// What can be lent behind an event, where there is somebody to be woken for it.
+fn note_lendable<C: RunCore, K: Sink>(core: &Session<C, K>, waking: &mut Waking) {
+    if waking.has_others() {
+        waking.can_lend(core.lendable());
     }
 }

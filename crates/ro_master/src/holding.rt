@@ -1,11 +1,11 @@
 //! What drivers hold: a pass with a share, and what was lent to them and comes back.
 ghost use Rattle.std.specs.Prelude.{◌≡◌};
-ghost use Rattle.ro_cores.specs.Loans.{CanGo, Gives, IsShare, lease_in, entry_of};
+ghost use Rattle.ro_cores.specs.Loans.{CanGo, Gives, IsShare, lease_in};
 
 use crate::passes::Pass;
 use crate::seats::Naming;
 use ro_cores::RunCore;
-use ro_journal::{Entry, Lease};
+use ro_journal::Lease;
 use std::marker::Model;
 
 /// What goes out to a driver with a lease.
@@ -72,13 +72,6 @@ impl<C: RunCore> Model for Back<C> {
 }
 
 impl<C: RunCore> Back<C> {
-    /// The entry with which it comes back.
-    pub fn entry(&self) -> Entry
-        ensures { result ≡ entry_of self.now }
-    {
-        C::entry(&self.what)
-    }
-
     /// What it is, for the core.
     pub fn into_inner(self) -> C::Back
         ensures { C.back_of result ≡ self }

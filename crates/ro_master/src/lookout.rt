@@ -20,6 +20,8 @@ const NO_ORDER: u32 = u32::MAX;
 pub struct Lookout {
     /// How often those that wait were called.
     calls: AtomicU64,
+    /// How many of them were called one by one, and did not hear it yet.
+    called: AtomicU32,
     /// Which replica comes next, behind a call in order.
     next: AtomicU32,
     /// How many drivers will become spare yet. Until there is none, nobody looks out.
@@ -31,6 +33,7 @@ impl Lookout {
     pub fn new(surplus: u32) -> Lookout {
         Lookout {
             calls: AtomicU64::new(0),
+            called: AtomicU32::new(0),
             next: AtomicU32::new(NO_ORDER),
             surplus: AtomicU32::new(surplus),
         }
@@ -39,18 +42,31 @@ impl Lookout {
     /// Calls those that wait, for whatever comes next.
     pub fn call(&self) {
         self.next.store(NO_ORDER, Relaxed);
+        self.called.store(0, Relaxed);
         self.calls.fetch_add(1, Relaxed);
+    }
+
+    /// Calls one of them.
+    pub fn call_one(&self) {
+        self.next.store(NO_ORDER, Relaxed);
+        self.called.fetch_add(1, Relaxed);
+    }
+
+    /// How many were called one by one, and did not hear it yet.
+    pub fn called(&self) -> u32 {
+        self.called.load(Relaxed)
     }
 
     /// Calls those that wait, behind a vote: each for the replica that it had.
     pub fn call_in_order(&self) {
         self.next.store(0, Relaxed);
+        self.called.store(0, Relaxed);
         self.calls.fetch_add(1, Relaxed);
     }
 
-    /// A driver became spare.
-    pub fn became_spare(&self) {
-        self.surplus.fetch_sub(1, Relaxed);
+    /// So many drivers are to become spare yet.
+    pub fn expect_spares(&self, surplus: u32) {
+        self.surplus.store(surplus, Relaxed);
     }
 
     /// Looks for a while whether those that wait are called, so that a short wait is no sleep.
@@ -60,12 +76,22 @@ impl Lookout {
         }
         let calls = self.calls.load(Relaxed);
         for _ in 0..LOOKS {
-            if self.calls.load(Relaxed) != calls {
+            if self.calls.load(Relaxed) != calls || self.hears_one() {
                 return true;
             }
             thread::yield_now();
         }
         false
+    }
+
+    // Whether one is called, and by this no more.
+    fn hears_one(&self) -> bool {
+        let called = self.called.load(Relaxed);
+        called > 0
+            && self
+                .called
+                .compare_exchange(called, called - 1, Relaxed, Relaxed)
+                .is_ok()
     }
 
     /// Waits a moment for those that had the replicas before this one.

@@ -19,7 +19,7 @@ use crate::lookout::Lookout;
 use crate::passes::{Counter, Opened, Pass};
 use crate::seats::Naming;
 use crate::sessions::Session;
-use crate::waking::Wakes;
+use crate::waking::{Rester, Wakes};
 use ro_cores::RunCore;
 use ro_io::{Gate, Sink};
 use ro_post::{Driver, Post, Turn};
@@ -35,7 +35,7 @@ pub struct Master<C: RunCore, K: Sink, N: Naming> {
     lookout: Lookout,
     /// It tells those that wait for a lease that there is something to be done.
     moved: Condvar,
-    /// It tells those that are spare that the run is over for a driver.
+    /// It tells those that are spare that they are of use again, or that the run is over for a driver.
     left: Condvar,
 }
 
@@ -107,7 +107,7 @@ impl<C: RunCore<Share: Drop>, K: Sink, N: Naming> Master<C, K, N> {
     {
         let mut desk = self.desk.lock(rt);
         let answer = desk.turn(pass);
-        let wakes = desk.woken_by_turn(&answer);
+        let wakes = desk.woken_by_turn(pass.number(), &answer, &self.lookout);
         (answer, wakes)
     }
 
@@ -182,7 +182,7 @@ impl<C: RunCore<Share: Drop>, K: Sink, N: Naming> Master<C, K, N> {
         let mut desk = self.desk.lock(rt);
         let put = put_if_any(&mut desk, pass, back);
         let answer = desk.turn(pass);
-        let wakes = desk.woken_by_turn(&answer);
+        let wakes = desk.woken_by_turn(pass.number(), &answer, &self.lookout);
         (answer, put, wakes)
     }
 
@@ -205,6 +205,9 @@ impl<C: RunCore<Share: Drop>, K: Sink, N: Naming> Master<C, K, N> {
                     self.moved.notify_one();
                 }
             }
+            Wakes::One(Rester::Lookout) => self.lookout.call_one(),
+            Wakes::One(Rester::Sleeper) => self.moved.notify_one(),
+            Wakes::One(Rester::Spare) => self.left.notify_one(),
             Wakes::All => {
                 self.lookout.call();
                 self.moved.notify_all();
@@ -374,15 +377,17 @@ impl<C: RunCore<Share: Drop>, K: Sink, N: Naming> Post for Master<C, K, N> {
         self.take_next(rt, held, back)
     }
 
-    // It looks out for a while, and then sleeps until something can be done, or, where it is spare, until a driver has left.
+    // It looks out for a while, and then sleeps until something can be done, or, where it is spare, until it is of use again or a
+    // driver has left.
     fn rest<R: Wait>(&self, rt: &R) {
         if self.lookout.is_called() {
             return;
         }
         let mut desk = self.desk.lock(rt);
         if desk.waits() && desk.becomes_spare() {
-            self.lookout.became_spare();
-            let _desk = self.left.wait_while(rt, desk, |desk| desk.spares_rest());
+            self.lookout.expect_spares(desk.surplus());
+            let mut desk = self.left.wait_while(rt, desk, |desk| desk.stays_spare());
+            desk.is_spare_no_more();
         } else {
             desk.fell_asleep();
             let mut desk = self.moved.wait_while(rt, desk, |desk| desk.waits());

@@ -12,10 +12,10 @@ ghost use Rattle.ro_legal.specs.Action.{next_action as next};
 ghost use Rattle.ro_legal.specs.Decides.{IsSplit};
 ghost use Rattle.ro_legal.specs.Rules.{IsFit, Legal, IsAllowed, IsNext, DecidesVote, DecidesFree, DecidesScrub, replay};
 ghost use Rattle.ro_core.specs.Seen.{EndsNow, Appends, IsOfMajority, Stays};
-ghost use Rattle.ro_cores.specs.Cores.{state, sent, Quiet, Sends, HasRoom, KeepsViews, with_sink};
+ghost use Rattle.ro_cores.specs.Cores.{left_by, state, sent, Quiet, Sends, HasRoom, KeepsViews, with_sink};
 ghost use Rattle.ro_cores.specs.Loans.{IsLent, MayReturn, entry_of, lease_in};
 
-use ro_cores::{Remains, RunCore};
+use ro_cores::{Lendable, Remains, RunCore};
 use ro_event::View;
 use ro_image::Executable;
 use ro_io::{Sink, send};
@@ -106,11 +106,19 @@ impl<C: RunCore, K: Sink> Session<C, K> {
         self.core.lend(lease)
     }
 
+    /// The entry with which a lease comes back.
+    pub fn entry(&self, back: &C::Back) -> Entry
+        requires { MayReturn self.now.job self.now.journal (C.back_of back.now) }
+        ensures { result ≡ entry_of (left_by self.now) (C.back_of back.now) }
+    {
+        self.core.entry(back)
+    }
+
     /// Puts back what a lease has become. No end by a failing sink is due.
     pub fn give_back(&mut self, back: C::Back)
         requires calm { self.old.failed ≡ None }
         requires returns { MayReturn self.old.job self.old.journal (C.back_of back) }
-        ensures entry { Appends self.old self.new (entry_of (C.back_of back)) }
+        ensures entry { Appends self.old self.new (entry_of (left_by self.old) (C.back_of back)) }
         ensures quiet { Quiet self.old self.new }
     {
         self.core.give_back(back);
@@ -196,6 +204,11 @@ impl<C: RunCore, K: Sink> Session<C, K> {
         ensures { result ≡ self.now.job.settings }
     {
         self.core.settings()
+    }
+
+    /// How many leases can be out at once.
+    pub fn lendable(&self) -> Lendable {
+        self.core.lendable()
     }
 
     // How many bytes have left.

@@ -421,12 +421,12 @@ const WHYS: &[(Why, &str, &str)] = &[
     ),
     (
         Why::NoPut,
-        "No lease comes back so: a put is at a vote or behind a quantum, and has no faults.",
+        "That is no put: the thread lacks a page of its replica, or waits at a lock, or goes on; or faults are told of a cooperative run.",
         r#"{"reason":"no_put"}"#,
     ),
     (
         Why::NoPart,
-        "No lease comes back so.",
+        "That is no part: the quantum is over, or the thread lacks no page of its replica and waits at no lock; or faults are told of a cooperative run.",
         r#"{"reason":"no_part"}"#,
     ),
     (

@@ -612,6 +612,33 @@ const PAGE_NAMES: [(&str, u32); 3] = [
     ("pthread_exit", 0x1_00A4),
 ];
 
+/// Thread 0 creates a thread, joins it and exits; thread 1 exits.
+const JOINS: [u32; 17] = [
+    0x0001_1537,
+    0x0000_0593,
+    0x0001_0637,
+    0x0906_0613,
+    0x0000_0693,
+    0x01C0_00EF,
+    0x0010_0513,
+    0x0000_0593,
+    0x0140_00EF,
+    0x0000_0513,
+    0x05D0_0893,
+    0x0000_0073,
+    0x0000_8067,
+    0x0000_8067,
+    0x0000_8067,
+    0x0000_0513,
+    0xFF9F_F0EF,
+];
+
+const JOINS_NAMES: [(&str, u32); 3] = [
+    ("pthread_create", 0x1_0084),
+    ("pthread_join", 0x1_0088),
+    ("pthread_exit", 0x1_008C),
+];
+
 /// Lists of faults, and journals.
 const TEXTS: &[(&str, &str)] = &[
     ("journal", SEVEN),
@@ -661,6 +688,10 @@ fn store(rt: &impl Abort, alloc: Global) -> Result<MemStore, Fail> {
     store.put(
         "byte",
         image_bytes(alloc, &same, 7, &PAGE_NAMES)?.as_slice(),
+    )?;
+    store.put(
+        "joins",
+        image_bytes(alloc, &JOINS, 5, &JOINS_NAMES)?.as_slice(),
     )?;
     for (name, text) in TEXTS {
         store.put(name, text.as_bytes())?;
@@ -761,6 +792,79 @@ fn assert_meeting<R: Threads + Wait + Abort + Sync>(
         gate.met.load(Ordering::SeqCst),
         1,
         "of {guest} behind {votes} votes"
+    );
+    Ok(())
+}
+
+/// A gate at which the third lease of thread 0 in replica 0 waits, for a while, until thread 1 was lent there twice. Where each lease
+/// is of a whole replica, it waits in vain: thread 1 is over by then, and was lent there once.
+#[derive(Drop)]
+struct Holding {
+    /// How often thread 0 came.
+    come: AtomicU64,
+    /// How often thread 1 did.
+    beside: AtomicU64,
+    /// Whether the one that waits saw it in time.
+    met: AtomicU64,
+}
+
+impl Holding {
+    fn hold(&self) {
+        for _ in 0..10_000_000u32 {
+            if self.beside.load(Ordering::SeqCst) >= 2 {
+                self.met.store(1, Ordering::SeqCst);
+                return;
+            }
+            thread::yield_now();
+        }
+    }
+}
+
+impl Gate for Holding {
+    type Passed = Place;
+
+    ghost place_of = { λ p. (p.driver, p.replica, p.thread) };
+
+    fn pass<R: Wait>(&self, _rt: &R, driver: u32, replica: u32, thread: u32) -> Place {
+        match (replica, thread) {
+            (0, 0) => {
+                if self.come.fetch_add(1, Ordering::SeqCst) == 2 {
+                    self.hold();
+                }
+            }
+            (0, 1) => {
+                self.beside.fetch_add(1, Ordering::SeqCst);
+            }
+            _ => {}
+        }
+        Place {
+            driver,
+            replica,
+            thread,
+        }
+    }
+
+    fn leave(&self, _passed: Place) {}
+}
+
+// While one driver stands at the gate with a thread of a replica and the page of its code, the other runs another thread of that
+// replica: it comes for the want of that page, and then with it.
+#[test]
+fn two_drivers_in_one_replica(rt: HostRuntime) -> Result<(), Fail> {
+    let alloc = rt.alloc();
+    let mut store = store(&rt, alloc)?;
+    let gate = Holding {
+        come: AtomicU64::new(0),
+        beside: AtomicU64::new(0),
+        met: AtomicU64::new(0),
+    };
+    let words = ["run", "joins", "--drivers", "2"];
+    let Came { done, report } = do_command(&rt, alloc, &words, &mut store, &[], &gate)?;
+    assert_eq!(rt; done.answer, Answer::Exit(0));
+    assert_eq!(rt; gate.met.load(Ordering::SeqCst), 1);
+    assert_eq!(rt;
+        report.bytes(),
+        b"votes 4 copies 0 struck 0 steps 17 bytes 0\nanswer exit 0\n".as_slice()
     );
     Ok(())
 }

@@ -39,7 +39,7 @@ returns-clause-holds c =
     let v = scrubbed-room (fields_of c.args.self.now) f c.args.won.won c.args.won.lost c.requires.scrubbed m in
     let made = subst (λ (n : ℕ). AreMade n (core_in f).replicas) (sym c.made-threads.ensures.made) (scrub-made f m.holds v.may) in
     let stands = c.heal.ensures.stands f.job (core_in f).kernel (core_in f).replicas (ready-stands c.prepare.new.self m.holds (scrub-alone f m.holds v.may)) made in
-    clean-holds f c.args.won.won c.args.won.lost v _ refl c.push_reserved.ensures.items stands.home stands.grouped refl refl refl refl refl refl refl refl refl refl refl refl refl
+    clean-holds f c.args.won.won c.args.won.lost v _ refl c.push_reserved.ensures.items stands.home stands.grouped refl (record { lent = refl; wishes = refl; lanes = refl }) refl refl refl refl refl refl refl refl refl refl refl refl
     (omega (arith, c.push_reserved.ensures.len, c.push_reserved.ensures.capacity, c.in_ok-prepare.ensures.room))
 
 pub returns-clause-output : goal.returns-clause-output

@@ -14,7 +14,7 @@ pub returns-clause-holds : goal.returns-clause-holds
 returns-clause-holds c =
     let f : Fields = record (fields_of c.args.self.now) { views = c.requires.holds.0 } in
     let room = conclude-room f c.requires.holds.1 c.args.how c.requires.going c.requires.allowed in
-    conclude-holds f c.requires.holds.1 c.args.how c.requires.going c.requires.allowed c.requires.not_sink _ refl refl refl refl refl refl refl refl refl refl refl refl refl refl refl c.push_reserved.ensures.items
+    conclude-holds f c.requires.holds.1 c.args.how c.requires.going c.requires.allowed c.requires.not_sink _ refl refl refl refl refl refl refl refl refl refl refl (record { lent = refl; wishes = refl; lanes = refl }) refl refl refl refl c.push_reserved.ensures.items
     (omega (arith, room, c.push_reserved.ensures.len, c.push_reserved.ensures.capacity)) c.requires.views
 
 pub returns-clause-output : goal.returns-clause-output

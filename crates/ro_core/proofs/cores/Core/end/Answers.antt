@@ -13,7 +13,7 @@ pub returns-clause-holds : goal.returns-clause-holds
 returns-clause-holds c =
     let f = fields_of c.args.self.now in
     let room = end-room f c.requires.holds c.args.how c.requires.now in
-    end-holds f c.requires.holds c.args.how c.requires.now _ (end-counts f c.requires.holds c.args.how c.requires.now c.sent_behind-self.result c.sent_behind-self.ensures.cut c.sent_behind-self.ensures.whole) refl refl refl refl refl refl refl refl refl refl refl refl refl
+    end-holds f c.requires.holds c.args.how c.requires.now _ (end-counts f c.requires.holds c.args.how c.requires.now c.sent_behind-self.result c.sent_behind-self.ensures.cut c.sent_behind-self.ensures.whole) refl refl refl refl refl refl refl refl refl refl refl (record { lent = refl; wishes = refl; lanes = refl }) refl refl
     c.push_reserved.ensures.items (omega (arith, room, c.push_reserved.ensures.len, c.push_reserved.ensures.capacity))
 
 pub returns-clause-allowed : goal.returns-clause-allowed

@@ -60,6 +60,9 @@ occur-requires c =
             job = ap (λ (x : Setup). record { program = record { image = c.prepare.new.self.image; input = x.input }; faults = c.prepare.new.self.faults.items; settings = c.prepare.new.self.settings }) setup;
             journal = refl;
             leases = refl;
+            lent = refl;
+            wishes = refl;
+            lanes = refl;
             setup = setup;
             blocked = refl;
             unblocked = refl;

@@ -1,4 +1,7 @@
-use Rattle.std.proofs.Common.{◌+◌, ◌++◌, ◌∷◌, [], length, refl, ap, ◌∙◌, arith}
+use Rattle.std.proofs.Common.{subst, ℕ, ◌+◌, ◌<◌, ◌++◌, ◌∷◌, [], length, refl, ap, ◌∙◌, sym, arith}
+use Rattle.std.proofs.lemmas.List.{with_items_is}
+use Rattle.ro_legal.specs.Core.{Job}
+use Rattle.ro_core.specs.Wishing.{Forgives}
 use Rattle.ro_core.specs.Fields.{core_in}
 use Rattle.ro_core.proofs.Occurring.{occurs-few, occurs-given, occurs-can, occurs-thread, occurs-threads, occurs-seats, occurs-steps, occurs-short, occurs-sent, occurs-unblocked, occurs-holds, occurs-wrote}
 use Rattle.ro_core.proofs.cores.Core.occur.Goals as goal
@@ -11,6 +14,9 @@ apply-requires-clause-can c = occurs-can _ _ c.requires.can
 
 pub apply-requires-clause-thread : goal.apply-requires-clause-thread
 apply-requires-clause-thread c = occurs-thread _ _ c.requires.can
+
+pub forgive-requires-clause-thread : goal.forgive-requires-clause-thread
+forgive-requires-clause-thread c = subst (λ (n : ℕ). n < 16) c.requires.can.own (occurs-thread _ _ c.requires.can)
 
 pub apply-requires-clause-threads : goal.apply-requires-clause-threads
 apply-requires-clause-threads c = occurs-threads _ _ c.requires.can
@@ -40,8 +46,14 @@ pub returns-clause-holds : goal.returns-clause-holds
 returns-clause-holds c =
     let can = c.requires.can in
     let stands = c.apply.ensures.stands can.before.job (core_in can.before).kernel c.args.self.now.kernel.kernel can.replicas (occurs-given _ _ can) can.stands can.made can.wait in
+    let wishes = with_items_is c.args.self.now.wishes c.forgive.new.wishes (c.forgive.ensures.count ∙ c.as_mut_slice.ensures.len) in
     occurs-holds _ _ can _ can.amid.job (c.push_reserved.ensures.items ∙ ap (λ js. js ++ c.args.noted.now.entry ∷ []) can.amid.journal) refl
-    stands.home stands.grouped can.amid.leases refl refl c.unblocked_behind-self.ensures c.do_others_sleep-self.ensures refl refl c.after_event-streak.ensures can.amid.ended can.amid.views (ap (λ xs. c.args.self.now.sent + length xs) c.payload-written.ensures) (ap (λ xs. length xs) c.payload-written.ensures) (let room = can.amid.room in omega (arith, c.push_reserved.ensures.len, c.push_reserved.ensures.capacity))
+    stands.home stands.grouped can.amid.leases (record {
+      lent = can.amid.lent;
+      lanes = can.amid.lanes;
+      wishes = subst (λ ws. Forgives c.args.noted.now.thread can.before.job.settings.replicas can.before.wishes ws) (sym wishes) (subst (λ (n : ℕ). Forgives c.args.noted.now.thread n can.before.wishes c.forgive.new.wishes) (ap (λ (j : Job). j.settings.replicas) can.amid.job)
+          (subst (λ ws. Forgives c.args.noted.now.thread c.args.self.now.settings.replicas ws c.forgive.new.wishes) can.amid.wishes (subst (λ ws. Forgives c.args.noted.now.thread c.args.self.now.settings.replicas ws c.forgive.new.wishes) c.as_mut_slice.ensures.value c.forgive.ensures)));
+    }) refl refl c.unblocked_behind-self.ensures c.do_others_sleep-self.ensures refl refl c.after_event-streak.ensures can.amid.ended can.amid.views (ap (λ xs. c.args.self.now.sent + length xs) c.payload-written.ensures) (ap (λ xs. length xs) c.payload-written.ensures) (let room = can.amid.room in omega (arith, c.push_reserved.ensures.len, c.push_reserved.ensures.capacity))
 
 pub returns-clause-wrote : goal.returns-clause-wrote
 returns-clause-wrote c = let can = c.requires.can in occurs-wrote _ _ can _ can.amid.job (c.push_reserved.ensures.items ∙ ap (λ js. js ++ c.args.noted.now.entry ∷ []) can.amid.journal) refl

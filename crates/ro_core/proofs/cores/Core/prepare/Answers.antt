@@ -9,11 +9,11 @@ reserve-requires-2 c = record { home = (_, _, _, ready-home (fields_of c.args.se
 pub returns-in_err-reserve-2-clause-makes : goal.returns-in_err-reserve-2-clause-makes
 returns-in_err-reserve-2-clause-makes c =
     made-room (fields_of c.args.self.now) _ c.requires.holds c.requires.alone refl c.in_ok-reserve.ensures.items
-    (c.reserve-2.ensures.kept _ _ _ (ready-home (fields_of c.args.self.now) c.requires.holds c.requires.alone)) refl refl refl refl refl refl refl refl refl refl refl refl refl c.reserve-2.ensures.groups
+    (c.reserve-2.ensures.kept _ _ _ (ready-home (fields_of c.args.self.now) c.requires.holds c.requires.alone)) refl (record { lent = refl; wishes = refl; lanes = refl }) refl refl refl refl refl refl refl refl refl refl refl refl c.reserve-2.ensures.groups
     (omega (arith, c.in_ok-reserve.ensures.capacity, c.in_ok-reserve.ensures.len))
 
 pub returns-clause-makes : goal.returns-clause-makes
 returns-clause-makes c =
     made-room (fields_of c.args.self.now) _ c.requires.holds c.requires.alone refl c.in_ok-reserve.ensures.items
-    (c.reserve-2.ensures.kept _ _ _ (ready-home (fields_of c.args.self.now) c.requires.holds c.requires.alone)) refl refl refl refl refl refl refl refl refl refl refl refl refl c.reserve-2.ensures.groups
+    (c.reserve-2.ensures.kept _ _ _ (ready-home (fields_of c.args.self.now) c.requires.holds c.requires.alone)) refl (record { lent = refl; wishes = refl; lanes = refl }) refl refl refl refl refl refl refl refl refl refl refl refl c.reserve-2.ensures.groups
     (omega (arith, c.in_ok-reserve.ensures.capacity, c.in_ok-reserve.ensures.len))

@@ -14,6 +14,10 @@ returns c =
       first = c.in_ok-homes.ensures.first;
       count = c.in_ok-homes.ensures.count;
       none = record { count = c.in_ok-new.ensures.count; none = c.in_ok-new.ensures.none };
+      lent = c.in_ok-first_lent.ensures.none;
+      lent_count = c.in_ok-first_lent.ensures.count;
+      wishes = c.in_ok-first_wishes.ensures.none;
+      wish_count = c.in_ok-first_wishes.ensures.count;
       setup = ap (λ (k : State). k.setup) c.kernel.view_is ∙ kernel.setup ∙ ap (λ rs. record { ranges = rs; heap = c.heap.result; input = c.args.input.now }) ranges ∙ ap (λ h. record { ranges = c.args.image.now.ranges; heap = h; input = c.args.input.now }) heap;
       kernel = search rules;
       views = c.in_ok-blank_views.ensures.count;

@@ -99,13 +99,14 @@ impl Core {
             self.revive(thread, reservation);
             return Ok(self.stop_at_limit(steps));
         }
-        let event = match coming.happen(self.alloc, &mut self.kernel, thread) {
-            Ok(event) => event,
+        let mut event = Event::nothing(self.alloc, thread);
+        match coming.happen(self.alloc, &mut self.kernel, thread, &mut event) {
+            Ok(()) => {}
             Err(error) => {
                 self.revive(thread, reservation);
                 return Err(error);
             }
-        };
+        }
         let entry = Entry::Vote {
             thread,
             count,
@@ -167,13 +168,14 @@ impl Core {
         self.prepare()?;
         let newcomer = self.newcomer_by(call);
         let reservation = self.lapse(thread);
-        let event = match serve(self.alloc, &mut self.kernel, thread, call) {
-            Ok(event) => event,
+        let mut event = Event::nothing(self.alloc, thread);
+        match serve(self.alloc, &mut self.kernel, thread, call, &mut event) {
+            Ok(()) => {}
             Err(error) => {
                 self.revive(thread, reservation);
                 return Err(error);
             }
-        };
+        }
         let entry = Entry::Free { thread };
         let noted = Noted {
             thread,

@@ -118,11 +118,8 @@ impl Core {
         }
         self.prepare()?;
         let threads = self.kernel.made();
-        // it stays where it was answered: to move it would copy it
-        let happened = coming.happen(self.alloc, &mut self.kernel, thread);
-        let Ok(event) = &happened else {
-            return Err(AllocError);
-        };
+        let mut event = Event::nothing(self.alloc, thread);
+        coming.happen(self.alloc, &mut self.kernel, thread, &mut event)?;
         self.seats.heal(&won, threads);
         let entry = Entry::Vote {
             thread,
@@ -139,7 +136,7 @@ impl Core {
             writer,
             threads,
         };
-        self.occur(event, &noted);
+        self.occur(&event, &noted);
         Ok(Voted { entry, writer })
     }
 
@@ -165,7 +162,8 @@ impl Core {
         }
         self.prepare()?;
         let threads = self.kernel.made();
-        let event = serve(self.alloc, &mut self.kernel, thread, call)?;
+        let mut event = Event::nothing(self.alloc, thread);
+        serve(self.alloc, &mut self.kernel, thread, call, &mut event)?;
         let entry = Entry::Free { thread };
         let noted = Noted {
             thread,

@@ -1,9 +1,9 @@
 //! The event of a vote: what the winner's stop comes to.
-ghost use Rattle.std.specs.Prelude.{ℕ, ◌≡◌, ◌≢◌, ◌<◌, List, IfOk, IfSome, OnErr, length, [], Some, None, true, false, if◌then◌else◌};
+ghost use Rattle.std.specs.Prelude.{ℕ, ◌≡◌, ◌≢◌, ◌<◌, List, IfSome, OnErr, OnOk, length, [], Some, None, true, false, if◌then◌else◌};
 ghost use Rattle.ro_kernel.specs.Kernel.{lives_on, Kernel as KernelSeen};
 ghost use Rattle.ro_kernel.specs.Mapped.{IsMapped};
 ghost use Rattle.ro_kernel.specs.Serve.{put_out, serve as serve_of};
-ghost use Rattle.ro_event.specs.Effects.{Effect as EffectSeen};
+ghost use Rattle.ro_event.specs.Effects.{Effect as EffectSeen, quiet};
 ghost use Rattle.ro_event.specs.declared.stops.Stop.{Stop as At};
 ghost use Rattle.ro_event.specs.declared.calls.Call.{Call as Asked};
 ghost use Rattle.ro_event.specs.declared.functions.Function.{Function as Posix};
@@ -28,6 +28,23 @@ pub struct Event {
     pub writes: bool,
     /// Whether it may change which of the calls on which threads are blocked would be done.
     pub moves: bool,
+}
+
+impl Event {
+    /// The event of a thread at which nothing happens, to be written over.
+    #[inline(always)]
+    pub fn nothing(alloc: Global, thread: u32) -> Event
+        ensures { result ≡ record { did = Did.Watch; effect = quiet thread; blocked = None; due = None; writes = false; moves = false } }
+    {
+        Event {
+            did: Did::Watch,
+            effect: Effect::quiet(alloc, thread),
+            blocked: None,
+            due: None,
+            writes: false,
+            moves: false,
+        }
+    }
 }
 
 /// What a thread's stop and what it shows come to.
@@ -66,7 +83,8 @@ impl Coming {
         }
     }
 
-    /// The event of a live thread of which this comes. It is a part of its caller, as `serve` is: else it would be copied on its way.
+    /// The event of a live thread of which this comes is written where the caller has a place for one: a large value that is
+    /// answered is copied on its way. For the same reason it is a part of its caller, as `serve` is.
     ///
     /// # Errors
     /// Where there is no memory; the kernel is as it was.
@@ -76,21 +94,25 @@ impl Coming {
         alloc: Global,
         kernel: &mut Kernel,
         thread: u32,
-    ) -> Result<Event, AllocError>
+        event: &mut Event,
+    ) -> Result<(), AllocError>
         requires { lives_on kernel.old.kernel thread ≡ true }
-        ensures event { IfOk result (λ e. (stop : At) (payload : List ℕ) → IsCause kernel.old.setup kernel.old.kernel thread stop payload self.now.did self.now.cause → IsEvent kernel.old.setup kernel.old.kernel kernel.new.kernel thread stop payload e) }
-        ensures leaves { IfOk result (λ e. e.moves ≡ false → LeavesWaiting kernel.old.kernel kernel.new.kernel) }
-        ensures room { IfOk result (λ e. IsMapped kernel.old.kernel.given → IfSome e.effect.range (λ range. length kernel.old.kernel.given < 4096)) }
+        ensures event { OnOk result ((stop : At) (payload : List ℕ) → IsCause kernel.old.setup kernel.old.kernel thread stop payload self.now.did self.now.cause → IsEvent kernel.old.setup kernel.old.kernel kernel.new.kernel thread stop payload event.new) }
+        ensures leaves { OnOk result (event.new.moves ≡ false → LeavesWaiting kernel.old.kernel kernel.new.kernel) }
+        ensures room { OnOk result (IsMapped kernel.old.kernel.given → IfSome event.new.effect.range (λ range. length kernel.old.kernel.given < 4096)) }
         ensures setup { kernel.new.setup ≡ kernel.old.setup }
         ensures err { OnErr result (kernel.new ≡ kernel.old) }
     {
         match self.cause {
-            Cause::Call(call) => serve(alloc, kernel, thread, call),
+            Cause::Call(call) => serve(alloc, kernel, thread, call, event),
             Cause::Quiet {
                 page,
                 releases,
                 due,
-            } => Ok(quiet_event(alloc, self.did, thread, page, releases, due)),
+            } => {
+                *event = quiet_event(alloc, self.did, thread, page, releases, due);
+                Ok(())
+            }
         }
     }
 }
@@ -133,7 +155,7 @@ fn quiet(did: Did, page: Option<u32>, releases: bool, due: Option<How>) -> Comin
     }
 }
 
-/// The event of a call of a live thread.
+/// The event of a call of a live thread is written to a place.
 ///
 /// # Errors
 /// Where there is no memory; the kernel is as it was.
@@ -143,36 +165,38 @@ pub fn serve(
     kernel: &mut Kernel,
     thread: u32,
     call: Call,
-) -> Result<Event, AllocError>
+    event: &mut Event,
+) -> Result<(), AllocError>
     requires { lives_on kernel.old.kernel thread ≡ true }
-    ensures event { IfOk result (IsCallEvent kernel.old.setup kernel.old.kernel kernel.new.kernel thread call) }
-    ensures leaves { IfOk result (λ e. e.moves ≡ false → LeavesWaiting kernel.old.kernel kernel.new.kernel) }
-    ensures room { IfOk result (λ e. IsMapped kernel.old.kernel.given → IfSome e.effect.range (λ range. length kernel.old.kernel.given < 4096)) }
+    ensures event { OnOk result (IsCallEvent kernel.old.setup kernel.old.kernel kernel.new.kernel thread call event.new) }
+    ensures leaves { OnOk result (event.new.moves ≡ false → LeavesWaiting kernel.old.kernel kernel.new.kernel) }
+    ensures room { OnOk result (IsMapped kernel.old.kernel.given → IfSome event.new.effect.range (λ range. length kernel.old.kernel.given < 4096)) }
     ensures setup { kernel.new.setup ≡ kernel.old.setup }
     ensures err { OnErr result (kernel.new ≡ kernel.old) }
 {
     let served = kernel.serve(thread, call)?;
-    Ok(event_of_call(alloc, thread, call, served))
+    write_served(alloc, thread, call, served, event);
+    Ok(())
 }
 
-// The event of a call that came to this.
+// Writes the event of a call that came to this.
 #[inline(always)]
-fn event_of_call(alloc: Global, thread: u32, call: Call, served: Served) -> Event
-    ensures moves { result.moves ≡ false → ((function : Posix) → call.which ≢ Which.Function function) × ((effect : EffectSeen) → served ≡ Served.Done effect → effect.range ≡ None) }
-    ensures event { (kernel after : KernelSeen) (payload : List ℕ) → (served ≡ Served.Blocked → after ≡ kernel) → call_event kernel thread call (put_out call.which payload) (outcome_with after served) ≡ event_by result after (if result.writes then payload else []) }
+fn write_served(alloc: Global, thread: u32, call: Call, served: Served, event: &mut Event)
+    ensures moves { event.new.moves ≡ false → ((function : Posix) → call.which ≢ Which.Function function) × ((effect : EffectSeen) → served ≡ Served.Done effect → effect.range ≡ None) }
+    ensures event { (kernel after : KernelSeen) (payload : List ℕ) → (served ≡ Served.Blocked → after ≡ kernel) → call_event kernel thread call (put_out call.which payload) (outcome_with after served) ≡ event_by event.new after (if event.new.writes then payload else []) }
 {
     match served {
-        Served::Done(effect) => Event {
-            did: Did::Served,
-            moves: effect.range.is_some() || is_function(call),
-            effect,
-            blocked: None,
-            due: None,
-            writes: puts_out(call),
-        },
-        Served::Parked => waiting_event(alloc, Did::Parked, thread, call),
-        Served::Blocked => waiting_event(alloc, Did::Blocked, thread, call),
-        Served::Ends(how) => ending_event(alloc, thread, how),
+        Served::Done(effect) => {
+            event.did = Did::Served;
+            event.moves = effect.range.is_some() || is_function(call);
+            event.effect = effect;
+            event.blocked = None;
+            event.due = None;
+            event.writes = puts_out(call);
+        }
+        Served::Parked => *event = waiting_event(alloc, Did::Parked, thread, call),
+        Served::Blocked => *event = waiting_event(alloc, Did::Blocked, thread, call),
+        Served::Ends(how) => *event = ending_event(alloc, thread, how),
     }
 }
 

@@ -82,8 +82,8 @@ occur-requires c =
     let call = c.in-Some.call in
     let r : Run = record lapse { kernel = c.serve.new.kernel } in
     record {
-      can = free-can before r m.holds c.args.thread may call there c.in-Ok.event c.newcomer_by-newcomer.result
+      can = free-can before r m.holds c.args.thread may call there c.serve.new.event c.newcomer_by-newcomer.result
           (sym (lapse-call before lapse c.args.thread m.holds alone is call) ∙ (ap (λ (out : List ℕ). call_event lapse.kernel.kernel c.args.thread call out (serve lapse.kernel.setup lapse.kernel.kernel c.args.thread call)) (sym (nothing-out call.which)) ∙ c.in-Ok.ensures.event []))
           (omega arith) (lapse-amid before lapse c.args.thread m.holds alone is c.serve.new.kernel) (c.serve.ensures.setup ∙ lapse-setup before lapse c.args.thread m.holds alone is) c.newcomer_by-newcomer.ensures
-          (lapse-room before lapse c.args.thread m.holds alone is c.in-Ok.event.effect.range c.in-Ok.ensures.room) c.in_ok-prepare.ensures.spared c.in_ok-prepare.ensures.places;
+          (lapse-room before lapse c.args.thread m.holds alone is c.serve.new.event.effect.range c.in-Ok.ensures.room) c.in_ok-prepare.ensures.spared c.in_ok-prepare.ensures.places;
     }

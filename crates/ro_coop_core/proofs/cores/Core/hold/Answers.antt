@@ -134,12 +134,12 @@ occur-requires c =
     let under = c.if-self-steps.false in
     let r : Run = record lapse { kernel = c.happen.new.kernel } in
     record {
-      can = hold-can before r c.args.thread view v c.in-Ok.event c.of-coming.result.did c.since-count.result c.steps-steps.result c.newcomer-newcomer.result
+      can = hold-can before r c.args.thread view v c.happen.new.event c.of-coming.result.did c.since-count.result c.steps-steps.result c.newcomer-newcomer.result
           (sym (lapse-event before lapse c.args.thread v.holds alone is view view refl) ∙ c.in-Ok.ensures.event view.stop view.payload caused)
           did (c.since-count.ensures ∙ ap (λ (w : View). w.since) (hold-first f c.args.thread view v c.index.result.now c.index.ensures)) c.steps-steps.ensures (omega arith)
           (lapse-amid before lapse c.args.thread v.holds alone is c.happen.new.kernel) (c.happen.ensures.setup ∙ lapse-setup before lapse c.args.thread v.holds alone is)
           (c.newcomer-newcomer.ensures ∙ ap (option_and_then (λ (w : View). newcomer_of before.cooperates before.kernel.kernel.owners w.stop)) (hold-there f c.args.thread view v))
-          (lapse-room before lapse c.args.thread v.holds alone is c.in-Ok.event.effect.range c.in-Ok.ensures.room) c.in_ok-prepare.ensures.spared c.in_ok-prepare.ensures.places;
+          (lapse-room before lapse c.args.thread v.holds alone is c.happen.new.event.effect.range c.in-Ok.ensures.room) c.in_ok-prepare.ensures.spared c.in_ok-prepare.ensures.places;
     }
 
 pub returns-clause-entry : goal.returns-clause-entry

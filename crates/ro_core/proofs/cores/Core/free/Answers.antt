@@ -55,7 +55,7 @@ occur-requires c =
     let setup = c.serve.ensures.setup in
     let r : Run = record c.prepare.new.self { kernel = c.serve.new.kernel } in
     record {
-      can = free-can f m.holds c.args.thread may c.in-Some.call (ap (λ (bs : List (Option Call)). blocked_at bs c.args.thread) m.blocked ∙ c.in-Some.is) r c.in_ok-event.event c.made-threads.result (ap (λ out. call_event f.kernel.kernel c.args.thread c.in-Some.call out (serve f.kernel.setup f.kernel.kernel c.args.thread c.in-Some.call)) (sym (nothing-out c.in-Some.call.which)) ∙ c.in_ok-event.ensures.event []) (omega arith)
+      can = free-can f m.holds c.args.thread may c.in-Some.call (ap (λ (bs : List (Option Call)). blocked_at bs c.args.thread) m.blocked ∙ c.in-Some.is) r c.serve.new.event c.made-threads.result (ap (λ out. call_event f.kernel.kernel c.args.thread c.in-Some.call out (serve f.kernel.setup f.kernel.kernel c.args.thread c.in-Some.call)) (sym (nothing-out c.in-Some.call.which)) ∙ c.in_ok-serve.ensures.event []) (omega arith)
           (record {
             job = ap (λ (x : Setup). record { program = record { image = c.prepare.new.self.image; input = x.input }; faults = c.prepare.new.self.faults.items; settings = c.prepare.new.self.settings }) setup;
             journal = refl;
@@ -74,7 +74,7 @@ occur-requires c =
             views = refl;
             room = c.in_ok-prepare.ensures.room;
           })
-          (c.in_ok-event.ensures.room (holds-mapped (fields_of c.prepare.new.self) m.holds)) (ready-stands c.prepare.new.self m.holds (free-alone f m.holds c.args.thread may)) c.in_ok-prepare.ensures.spared c.made-threads.ensures.made c.in_ok-event.ensures.leaves;
+          (c.in_ok-serve.ensures.room (holds-mapped (fields_of c.prepare.new.self) m.holds)) (ready-stands c.prepare.new.self m.holds (free-alone f m.holds c.args.thread may)) c.in_ok-prepare.ensures.spared c.made-threads.ensures.made c.in_ok-serve.ensures.leaves;
     }
 
 pub returns-clause-entry : goal.returns-clause-entry

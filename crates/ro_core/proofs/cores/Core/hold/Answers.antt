@@ -1,7 +1,6 @@
 use Rattle.ro_core.proofs.Held.{holds-mapped}
 use Rattle.std.proofs.Common.{◌≡◌, ◌+◌, ◌<◌, ◌++◌, ◌∷◌, [], ℕ, List, Option, length, refl, sym, ap, ◌∙◌, subst, arith}
 use Rattle.std.specs.Prelude.{◌⊎◌, IfSome, slice_get}
-use Rattle.std.proofs.lemmas.Result.{IfOk-at_ok}
 use Rattle.ro_journal.specs.declared.How.TheVariants.{Limit}
 use Rattle.ro_journal.specs.declared.Entry.{Entry}
 use Rattle.ro_journal.specs.declared.Entry.TheVariants.{Vote}
@@ -99,14 +98,14 @@ occur-requires c =
     let under = c.if-next-self.false in
     let limit : f.job.settings.limit ≡ old.job.settings.limit = ap (λ (j : Job). j.settings.limit) m.job in
     let steps = m.steps in
-    let setup = c.happen-happened.ensures.setup in
-    let r : Run = record c.prepare.new.self { seats = c.heal.new.self; kernel = c.happen-happened.new.kernel } in
+    let setup = c.happen.ensures.setup in
+    let r : Run = record c.prepare.new.self { seats = c.heal.new.self; kernel = c.happen.new.kernel } in
     let caused = subst (λ (k : State). IsCause k.setup k.kernel c.args.thread view.stop view.payload c.of-coming.result.did c.of-coming.result.cause) (sym m.kernel) c.of-coming.ensures.cause in
     let made = subst (λ (n : ℕ). AreMade n (core_in f).replicas) (sym c.made-threads.ensures.made) (hold-made-all f c.args.thread c.args.won.won c.args.won.lost v) in
     record {
-      can = subst (λ (w : Option ℕ). CanOccur r (record { thread = c.args.thread; event = c.in-Ok.event; entry = Vote c.args.thread c.since-count.result c.args.won.won c.args.won.lost c.of-coming.result.did; steps = c.from.result + c.steps.result; writer = w; threads = c.made-threads.result })) (sym (c.then_some-writer.ensures ∙ then-some c.in-Ok.event.writes c.args.won.won))
-          (hold-can f c.args.thread c.args.won.won c.args.won.lost v view there r c.in-Ok.event c.of-coming.result.did c.since-count.result (c.from.result + c.steps.result) c.made-threads.result
-          ((IfOk-at_ok _ c.in-Ok.is c.happen-happened.ensures.event) view.stop view.payload caused)
+      can = subst (λ (w : Option ℕ). CanOccur r (record { thread = c.args.thread; event = c.happen.new.event; entry = Vote c.args.thread c.since-count.result c.args.won.won c.args.won.lost c.of-coming.result.did; steps = c.from.result + c.steps.result; writer = w; threads = c.made-threads.result })) (sym (c.then_some-writer.ensures ∙ then-some c.happen.new.event.writes c.args.won.won))
+          (hold-can f c.args.thread c.args.won.won c.args.won.lost v view there r c.happen.new.event c.of-coming.result.did c.since-count.result (c.from.result + c.steps.result) c.made-threads.result
+          ((c.in_ok-happen.ensures.event) view.stop view.payload caused)
           (ap (λ (k : State). (event_of k.setup k.kernel c.args.thread view.stop view.payload).did) m.kernel ∙ c.of-coming.ensures.did)
           c.since-count.ensures (let a = c.since-count.ensures in let b = c.from.ensures in let d = c.steps.ensures in omega arith) (omega arith)
           (record {
@@ -127,7 +126,7 @@ occur-requires c =
             views = refl;
             room = c.in_ok-prepare.ensures.room;
           })
-          ((IfOk-at_ok _ c.in-Ok.is c.happen-happened.ensures.room) (holds-mapped (fields_of c.prepare.new.self) m.holds)) (c.heal.ensures.stands f.job (core_in f).kernel (core_in f).replicas (ready-stands c.prepare.new.self m.holds (hold-alone f c.args.thread c.args.won.won c.args.won.lost v)) made) (c.heal.ensures.spared c.in_ok-prepare.ensures.spared) c.made-threads.ensures.made (IfOk-at_ok _ c.in-Ok.is c.happen-happened.ensures.leaves));
+          ((c.in_ok-happen.ensures.room) (holds-mapped (fields_of c.prepare.new.self) m.holds)) (c.heal.ensures.stands f.job (core_in f).kernel (core_in f).replicas (ready-stands c.prepare.new.self m.holds (hold-alone f c.args.thread c.args.won.won c.args.won.lost v)) made) (c.heal.ensures.spared c.in_ok-prepare.ensures.spared) c.made-threads.ensures.made c.in_ok-happen.ensures.leaves);
     }
 
 pub returns-clause-entry : goal.returns-clause-entry
@@ -142,7 +141,7 @@ returns-clause-entry c =
           c.since-count.ensures (let a = c.since-count.ensures in let b = c.from.ensures in let d = c.steps.ensures in omega arith) (omega arith),
       refl,
       record {
-        job = c.occur.ensures.job ∙ ap (λ (x : Setup). record { program = record { image = c.prepare.new.self.image; input = x.input }; faults = c.prepare.new.self.faults.items; settings = c.prepare.new.self.settings }) c.happen-happened.ensures.setup ∙ m.job;
+        job = c.occur.ensures.job ∙ ap (λ (x : Setup). record { program = record { image = c.prepare.new.self.image; input = x.input }; faults = c.prepare.new.self.faults.items; settings = c.prepare.new.self.settings }) c.happen.ensures.setup ∙ m.job;
         journal = c.occur.ensures.journal ∙ ap (λ (js : List Entry). js ++ Vote c.args.thread c.since-count.result c.args.won.won c.args.won.lost c.of-coming.result.did ∷ []) m.journal;
       },
     )
@@ -151,21 +150,21 @@ pub returns-clause-writer : goal.returns-clause-writer
 returns-clause-writer c =
     let f : Fields = fields_of c.args.self.now in
     let view = c.index-view.result.now in
-    subst (λ (w : Option ℕ). IfSome w (λ number. number < length c.occur.new.self.views.items)) (sym (c.then_some-writer.ensures ∙ then-some c.in-Ok.event.writes c.args.won.won))
-    (hold-writer f c.args.thread c.args.won.won c.args.won.lost c.requires.held view (hold-there f c.args.thread c.args.won.won c.args.won.lost c.requires.held view c.index-view.ensures) c.occur.new.self.views.items c.in-Ok.event.writes (c.occur.ensures.views ∙ c.prepare.ensures.makes.views))
+    subst (λ (w : Option ℕ). IfSome w (λ number. number < length c.occur.new.self.views.items)) (sym (c.then_some-writer.ensures ∙ then-some c.happen.new.event.writes c.args.won.won))
+    (hold-writer f c.args.thread c.args.won.won c.args.won.lost c.requires.held view (hold-there f c.args.thread c.args.won.won c.args.won.lost c.requires.held view c.index-view.ensures) c.occur.new.self.views.items c.happen.new.event.writes (c.occur.ensures.views ∙ c.prepare.ensures.makes.views))
 
 pub returns-clause-wrote : goal.returns-clause-wrote
 returns-clause-wrote c =
     let f : Fields = fields_of c.args.self.now in
     let m = c.prepare.ensures.makes in
-    let job = ap (λ (x : Setup). record { program = record { image = c.prepare.new.self.image; input = x.input }; faults = c.prepare.new.self.faults.items; settings = c.prepare.new.self.settings }) c.happen-happened.ensures.setup ∙ m.job in
+    let job = ap (λ (x : Setup). record { program = record { image = c.prepare.new.self.image; input = x.input }; faults = c.prepare.new.self.faults.items; settings = c.prepare.new.self.settings }) c.happen.ensures.setup ∙ m.job in
     let before = ap (λ (j : Job). output_of j c.prepare.new.self.journal.items) job ∙ ap (output_of f.job) m.journal in
     subst (λ (xs : List ℕ). LastWrote (fields_of c.occur.new.self) xs (payload_by c.occur.new.self.views.items c.then_some-writer.result)) before
-    (subst (λ (vs : List View). LastWrote (fields_of c.occur.new.self) (output_of (record { program = record { image = c.prepare.new.self.image; input = c.happen-happened.new.kernel.setup.input }; faults = c.prepare.new.self.faults.items; settings = c.prepare.new.self.settings }) c.prepare.new.self.journal.items) (payload_by vs c.then_some-writer.result)) (sym c.occur.ensures.views) c.occur.ensures.wrote)
+    (subst (λ (vs : List View). LastWrote (fields_of c.occur.new.self) (output_of (record { program = record { image = c.prepare.new.self.image; input = c.happen.new.kernel.setup.input }; faults = c.prepare.new.self.faults.items; settings = c.prepare.new.self.settings }) c.prepare.new.self.journal.items) (payload_by vs c.then_some-writer.result)) (sym c.occur.ensures.views) c.occur.ensures.wrote)
 
 pub returns-clause-majority : goal.returns-clause-majority
 returns-clause-majority c =
     let f : Fields = fields_of c.args.self.now in
     let view = c.index-view.result.now in
-    subst (λ (w : Option ℕ). (payload_by c.occur.new.self.views.items w ≡ []) ⊎ IsOfMajority f.views (payload_by c.occur.new.self.views.items w)) (sym (c.then_some-writer.ensures ∙ then-some c.in-Ok.event.writes c.args.won.won))
-    (hold-majority f c.args.thread c.args.won.won c.args.won.lost c.requires.held view (hold-there f c.args.thread c.args.won.won c.args.won.lost c.requires.held view c.index-view.ensures) c.occur.new.self.views.items c.in-Ok.event.writes (c.occur.ensures.views ∙ c.prepare.ensures.makes.views))
+    subst (λ (w : Option ℕ). (payload_by c.occur.new.self.views.items w ≡ []) ⊎ IsOfMajority f.views (payload_by c.occur.new.self.views.items w)) (sym (c.then_some-writer.ensures ∙ then-some c.happen.new.event.writes c.args.won.won))
+    (hold-majority f c.args.thread c.args.won.won c.args.won.lost c.requires.held view (hold-there f c.args.thread c.args.won.won c.args.won.lost c.requires.held view c.index-view.ensures) c.occur.new.self.views.items c.happen.new.event.writes (c.occur.ensures.views ∙ c.prepare.ensures.makes.views))

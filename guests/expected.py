@@ -102,6 +102,7 @@ def atomics():
         "spin_by_store": (b"", 2 * 6),
         "spin_by_exchange": (b"", 2 * 6),
         "flag": (b"", 2 * 7),
+        "held_locks": (b"", 20 + 22),
         "message": (b"First a line,\nthen another one,\nand the last.\n", 0),
         "ticket": (b"", 2 * 6),
         "dekker": (b"", 2 * 5),

@@ -73,13 +73,21 @@ static void end(uint32_t size, uint32_t offset, uint32_t wanted)
         uint32_t new = cut(size, changed); \
         need(called_##name(area + offset, arguments, SEQUENTIAL) == (answer)); \
         end(size, offset, new); \
-        (void)old; \
+        (void)old, (void)operand; \
     }
 
 #define OPERATION(size, name, changed) \
     CHANGES(size, __atomic_fetch_##name##_##size, operand, old, changed) \
     CHANGES(size, __sync_fetch_and_##name##_##size, operand, old, changed) \
     CHANGES(size, __sync_##name##_and_fetch_##size, operand, new, changed)
+
+#define STORES(size, value) \
+    { \
+        NAMED(void, __atomic_store_##size, (void *, uint32_t, int)); \
+        uint32_t offset = begin(size), given = value; \
+        called___atomic_store_##size(area + offset, given, SEQUENTIAL); \
+        end(size, offset, given); \
+    }
 
 // A function that changes a value where it is the wanted one, which it is in every other call.
 #define COMPARES(size, name, is_old) \
@@ -127,15 +135,15 @@ static bool exchange_of(uint32_t size, void *place, void *expected, uint32_t des
         uint32_t loaded = begin(size), held = value_of(area + loaded, size); \
         need(called___atomic_load_##size(area + loaded, SEQUENTIAL) == held); \
         end(size, loaded, held); \
-        NAMED(void, __atomic_store_##size, (void *, uint32_t, int)); \
-        uint32_t stored = begin(size), given = draw(); \
-        called___atomic_store_##size(area + stored, given, SEQUENTIAL); \
-        end(size, stored, given); \
+        STORES(size, draw()) \
+        STORES(size, 0) \
+        STORES(size, UINT32_MAX) \
         NAMED(void, __sync_lock_release_##size, (void *)); \
         uint32_t released = begin(size); \
         called___sync_lock_release_##size(area + released); \
         end(size, released, 0); \
         CHANGES(size, __atomic_exchange_##size, operand, old, operand) \
+        CHANGES(size, __atomic_exchange_##size, old, old, old) \
         CHANGES(size, __sync_lock_test_and_set_##size, operand, old, operand) \
         OPERATION(size, add, old + operand) \
         OPERATION(size, sub, old - operand) \

@@ -88,12 +88,14 @@ INLINE uint32_t combined(enum operation operation, uint32_t old, uint32_t operan
     }
 }
 
+// What changes nothing isn't stored. So a thread that looks by exchanges makes no other thread's SC fail.
 INLINE uint32_t old_by_loop(struct field field, enum operation operation, uint32_t operand)
 {
-    uint32_t old;
-    do
+    uint32_t old, new;
+    do {
         old = load_reserved(field.word);
-    while (store_fails(field.word, word_with(field, old, combined(operation, value_in(field, old), operand))));
+        new = word_with(field, old, combined(operation, value_in(field, old), operand));
+    } while (new != old && store_fails(field.word, new));
     return old;
 }
 
@@ -123,6 +125,19 @@ INLINE uint32_t load(const volatile void *place, size_t size)
 {
     struct field field = field_of(place, size);
     return value_in(field, load_reserved(field.word));
+}
+
+// Zeros, as of a lock that is let go, and ones are stored by one instruction in any size. It stores whatever others store meanwhile.
+INLINE void store(volatile void *place, size_t size, uint32_t value)
+{
+    struct field field = field_of(place, size);
+    uint32_t bits = placed(field, value);
+    if (size < 4 && bits == 0)
+        amoand(field.word, ~field.mask);
+    else if (size < 4 && bits == field.mask)
+        amoor(field.word, field.mask);
+    else
+        old_word(field, EXCHANGE, value);
 }
 
 // The value before the operation.
@@ -200,7 +215,7 @@ INLINE bool compare_exchange(volatile void *place, size_t size, void *expected, 
     FUNCTION(void, __atomic_store_##size, (volatile void *place, uint32_t value, int order)) \
     { \
         (void)order; \
-        update(place, size, EXCHANGE, value); \
+        store(place, size, value); \
     } \
     FUNCTION(uint32_t, __atomic_exchange_##size, (volatile void *place, uint32_t value, int order)) \
     { \
@@ -219,7 +234,7 @@ INLINE bool compare_exchange(volatile void *place, size_t size, void *expected, 
     } \
     FUNCTION(void, __sync_lock_release_##size, (volatile void *place)) \
     { \
-        update(place, size, EXCHANGE, 0); \
+        store(place, size, 0); \
     } \
     FUNCTION(uint32_t, __sync_val_compare_and_swap_##size, (volatile void *place, uint32_t wanted, uint32_t desired)) \
     { \
@@ -269,7 +284,7 @@ FUNCTION(void, __atomic_store, (size_t size, volatile void *place, const void *v
 {
     (void)order;
     need_size(size);
-    update(place, size, EXCHANGE, own_value(value, size));
+    store(place, size, own_value(value, size));
 }
 
 FUNCTION(void, __atomic_exchange, (size_t size, volatile void *place, const void *value, void *old, int order))
@@ -298,7 +313,7 @@ FUNCTION(bool, __atomic_test_and_set, (volatile void *place, int order))
 FUNCTION(void, __atomic_clear, (volatile void *place, int order))
 {
     (void)order;
-    update(place, 1, EXCHANGE, 0);
+    store(place, 1, 0);
 }
 
 FUNCTION(void, __sync_synchronize, (void))

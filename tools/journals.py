@@ -1,4 +1,5 @@
 """Reports of Romain and their journals, as docs/USING.md gives them."""
+import collections
 import dataclasses
 
 
@@ -19,11 +20,13 @@ class Put:
     retired: int
     struck: int
     taken: int = 0  # the place in the journal of its `take`
+    beside: bool = False  # another thread of the replica was lent meanwhile
 
 
 @dataclasses.dataclass
 class Part(Put):
-    """The same before its quantum was over, its thread stopped for no vote."""
+    """The same before its quantum was over, its thread stopped for no vote: by votes it lacks a page that its replica has, in a
+    cooperative run it stands at a lock."""
 
 
 @dataclasses.dataclass
@@ -61,6 +64,7 @@ class Report:
     entries: list  # Put, Part, Vote, Free, Scrub, End in their order; without --journal none
     summary: dict  # votes, copies, struck, steps, bytes; empty where nothing ran
     answer: str
+    is_cooperative: bool = False
 
     def retired(self):
         """By thread, how many instructions replica 0 retired."""
@@ -93,20 +97,48 @@ def read_entry(line):
     return End(" ".join(words)) if kind == "end" else None
 
 
+def most_in_one_replica(entries):
+    """How many leases of one replica are out at once, at the most."""
+    out, most = collections.Counter(), 0
+    for entry in entries:
+        if isinstance(entry, Take):
+            out[entry.replica] += 1
+            most = max(most, out[entry.replica])
+        elif isinstance(entry, Put):
+            out[entry.replica] -= 1
+    return most
+
+
+class Out:
+    """The leases that are out: of each the place of its `take`, and whether another one of its replica was out meanwhile."""
+
+    def __init__(self):
+        self.leases = {}
+
+    def take(self, entry, place):
+        others = [lease for lease in self.leases if lease[1] == entry.replica]
+        self.leases |= {other: (self.leases[other][0], True) for other in others}
+        self.leases[entry.driver, entry.replica, entry.thread] = place, bool(others)
+
+    def put(self, entry, place):
+        entry.taken, entry.beside = self.leases.pop((entry.driver, entry.replica, entry.thread), (place, False))
+
+
 def read_report(text):
     """What a report says; the journal's `take` lines are kept as the place where a put's turn began."""
-    entries, summary, answer, takes = [], {}, "none", {}
-    for line in text.splitlines():
+    entries, summary, answer, out = [], {}, "none", Out()
+    lines = text.splitlines()
+    for line in lines:
         kind, *words = line.split(" ")
         entry = read_entry(line)
         if isinstance(entry, Take):
-            takes[entry.driver, entry.replica, entry.thread] = len(entries)
+            out.take(entry, len(entries))
         elif entry is not None:
             if isinstance(entry, Put):
-                entry.taken = takes.get((entry.driver, entry.replica, entry.thread), len(entries))
+                out.put(entry, len(entries))
             entries.append(entry)
         elif kind == "votes":
             summary = dict(zip([kind, *words][::2], map(int, words[::2])))
         elif kind == "answer":
             answer = " ".join(words)
-    return Report(entries, summary, answer)
+    return Report(entries, summary, answer, lines[:1] == ["romain 2 coop"])

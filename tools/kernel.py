@@ -230,6 +230,10 @@ class Kernel:
         """Whether each of the bytes may be all of this."""
         return all(self.permits(address, size, kind) for kind in (READ, WRITE, EXECUTE) if kinds & kind)
 
+    def is_writable(self, page: int) -> bool:
+        """Whether some byte of a page may be written."""
+        return any(kinds & WRITE and start < PAGE * (page + 1) and PAGE * page < end for start, end, kinds in self.ranges())
+
     def has_room(self, address: int) -> bool:
         """Whether a word can be stored there."""
         return address % 4 == 0 and self.permits(address, 4, WRITE)

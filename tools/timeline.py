@@ -5,13 +5,15 @@
     tools/timeline.py journal --faults one -o run.svg
 
 There is a lane for each thread of each replica. A bar is a run of instructions; time goes on by instructions, each replica
-for itself up to the vote that waits for it. A line is a vote, one over all lanes a scrub, an arrow a copy, a flash a strike; the
-lanes of a scrub's losers are framed there. Long runs that would take too much room are cut, and short ones get a least width, so
+for itself up to the vote that waits for it. Where two drivers were in one replica at once their bars are underlined. A triangle is
+a lease that came back by a `part`. A line is a vote, one over all lanes a scrub, an arrow a copy, a flash a strike; the lanes of a
+scrub's losers are framed there. Long runs that would take too much room are cut, and short ones get a least width, so
 a line of a long journal holds some dozens of votes. With the fault list, strikes stand where they struck; without, at the end of
 their turn. `-` is standard input, and standard output where no -o is given.
 """
 import argparse
 import bisect
+import collections
 import dataclasses
 import html
 import pathlib
@@ -19,7 +21,7 @@ import statistics
 import sys
 
 import sentences
-from journals import End, Free, Put, Scrub, Vote, read_report
+from journals import End, Free, Part, Put, Scrub, Vote, read_report
 
 LEFT, RIGHT, WIDTH = 96, 24, 1100  # margins and the whole width, in pixels
 LANE, BAR, GAP, HEAD, FOOT = 18, 10, 10, 22, 26  # a lane's height, a bar's, between threads, above and below a line's lanes
@@ -29,8 +31,8 @@ COLOURS = {"served": "#2171b5", "blocked": "#e6890a", "parked": "#8c510a", "mapp
            "trapped": "#a50f15", "free": "#238b45", "scrub": "#d4449c"}
 MEANS = {"served": "call served", "blocked": "call waits", "parked": "mutex left, call waits", "mapped": "page needed",
          "watch": "watchdog", "trapped": "trap", "free": "a waiting call served", "scrub": "scrub, all replicas compared whole"}
-RED, GREY, RUNS, LOST = "#d62728", "#666666", "#9ecae1", "#f4a6a6"
-OVERVIEW = 34  # the height of the overview
+RED, GREY, RUNS, LOST, BESIDE, PARTS = "#d62728", "#666666", "#9ecae1", "#f4a6a6", "#08306b", "#333333"
+OVERVIEW, LINE = 34, 3  # the height of the overview, and of a line below a bar
 
 
 @dataclasses.dataclass
@@ -38,7 +40,9 @@ class Bar:
     lane: tuple  # replica, thread
     start: int
     end: int
-    lost: bool = False  # behind a strike, before a copy
+    driver: int
+    lost: bool  # behind a strike, before a copy
+    beside: bool  # another driver was in the replica meanwhile
 
 
 @dataclasses.dataclass
@@ -65,6 +69,8 @@ class Drawing:
     bars: list
     marks: list
     strikes: list
+    parts: dict  # by lane and place, how many leases came back by a part there
+    waits: str  # for what they did
     lanes: list
     end: str
     length: int
@@ -108,7 +114,7 @@ class Clock:
         self.faults = faults
         self.at, self.retired, self.struck = {}, {}, set()
         self.now = 0
-        self.bars, self.marks, self.strikes = [], [], []
+        self.bars, self.marks, self.strikes, self.parts = [], [], [], collections.Counter()
 
     def put(self, entry):
         lane = entry.replica, entry.thread
@@ -118,10 +124,16 @@ class Clock:
         self.retired[lane] = before + entry.retired
         for at, title in self.strikes_of(lane, entry, start, before):
             self.strikes.append(Strike(lane, at, title))
-            self.bars.append(Bar(lane, start, at, entry.replica in self.struck))
+            self.bar(entry, start, at)
             self.struck.add(entry.replica)
             start = at
-        self.bars.append(Bar(lane, start, self.at[lane], entry.replica in self.struck))
+        self.bar(entry, start, self.at[lane])
+        if isinstance(entry, Part):
+            self.parts[lane, self.at[lane]] += 1
+
+    def bar(self, entry, start, end):
+        lane = entry.replica, entry.thread
+        self.bars.append(Bar(lane, start, end, entry.driver, entry.replica in self.struck, entry.beside))
 
     def strikes_of(self, lane, entry, start, before):
         """Of a turn in which faults were struck: where, and what they are."""
@@ -190,7 +202,8 @@ def layout(report, faults):
         if not ran or not ran.issuperset(replica for copy in mark.copies for replica in copy):
             sys.exit(f"timeline: this is no whole journal: nothing ran before: {mark.title}")
     length = max([clock.now, *clock.at.values()])
-    return Drawing(clock.bars, clock.marks, clock.strikes, lanes, end, length)
+    waits = "at a lock" if report.is_cooperative else "for a page"
+    return Drawing(clock.bars, clock.marks, clock.strikes, clock.parts, waits, lanes, end, length)
 
 
 class Scale:
@@ -245,6 +258,11 @@ def title(text):
     return f"<title>{html.escape(text)}</title>"
 
 
+def triangle(x, y):
+    """With its point there, which is its lowest."""
+    return f"M{number(x)} {number(y)} l-4 -6 h8 z"
+
+
 def number(value):
     return f"{value:.1f}".removesuffix(".0")
 
@@ -254,8 +272,8 @@ class Picture:
 
     def __init__(self, drawing, scale, summary):
         self.drawing, self.scale, self.summary, self.body = drawing, scale, summary, ""
-        self.parts = [(line, left, right, bar) for bar in drawing.bars if bar.end > bar.start
-                      for line, left, right in scale.gaps_of(bar.start, bar.end)]
+        self.bars = [(line, left, right, bar) for bar in drawing.bars if bar.end > bar.start
+                     for line, left, right in scale.gaps_of(bar.start, bar.end)]
         self.overview = OVERVIEW if len(scale.lines) > 3 else 0
         self.rows, self.tops, y = [], [], 62 + self.overview
         for needed in self.lanes_by_line():
@@ -268,10 +286,10 @@ class Picture:
     def lanes_by_line(self):
         """Of each line the lanes on which something is."""
         needed = [set() for _ in self.scale.lines]
-        for line, _, _, bar in self.parts:
+        for line, _, _, bar in self.bars:
             needed[line].add(bar.lane)
-        for strike in self.drawing.strikes:
-            needed[self.scale.place(strike.at)[0]].add(strike.lane)
+        for lane, at in [*((strike.lane, strike.at) for strike in self.drawing.strikes), *self.drawing.parts]:
+            needed[self.scale.place(at)[0]].add(lane)
         for mark in self.drawing.marks:
             needed[self.scale.place(mark.at)[0]] |= set(filter(mark.is_on, self.drawing.lanes))
         return needed
@@ -298,15 +316,15 @@ class Picture:
             self.whole()
         for line in range(len(self.scale.lines)):
             self.names(line)
-        for line, left, right, bar in self.parts:
-            self.add("rect", title(f"instructions: {bar.end - bar.start}"), x=number(LEFT + left),
-                     y=number(self.tops[line] + self.rows[line][bar.lane] + 4), width=number(max(0.5, right - left)),
-                     height=BAR, fill=LOST if bar.lost else RUNS)
+        for part in self.bars:
+            self.bar(*part)
         for line, x, length in self.scale.cuts:
             self.text(LEFT + x, self.tops[line + 1] - FOOT + 10, f"// {length} instructions", text_anchor="middle",
                       fill=GREY, font_size=9)
         for mark in self.drawing.marks:
             self.mark(mark)
+        for (lane, at), count in self.drawing.parts.items():
+            self.part(lane, at, count)
         for strike in self.drawing.strikes:
             self.strike(strike)
         self.end()
@@ -327,9 +345,20 @@ class Picture:
             if colour == RUNS or self.drawing.strikes:
                 self.add("rect", x=number(x), y=33, width=14, height=BAR, fill=colour)
                 x = self.label(x + 18, label)
+        self.shared_legend(LEFT + (WIDTH - LEFT) // 2)
 
-    def label(self, x, text):
-        self.text(x, 41, text)
+    def shared_legend(self, x):
+        """Beside the summary: what comes where several drivers run."""
+        if any(bar.beside for bar in self.drawing.bars):
+            self.add("rect", x=number(x), y=10, width=14, height=BAR, fill=RUNS)
+            self.add("rect", x=number(x), y=10 + BAR - LINE, width=14, height=LINE, fill=BESIDE)
+            x = self.label(x + 18, "runs with another driver in the replica", 18)
+        if self.drawing.parts:
+            self.add("path", d=triangle(x + 4, 17), fill=PARTS)
+            self.label(x + 12, f"a lease comes back {self.drawing.waits}", 18)
+
+    def label(self, x, text, y=41):
+        self.text(x, y, text)
         return x + 14 + 5.3 * len(text)
 
     def whole(self):
@@ -373,6 +402,18 @@ class Picture:
                 if lane[0] == copy[1]:
                     self.add("rect", title(mark.title), x=number(x - 4), y=number(self.tops[line] + y + 2), width=8,
                              height=LANE - 4, fill="none", stroke=RED)
+
+    def bar(self, line, left, right, bar):
+        x, y, width = number(LEFT + left), self.tops[line] + self.rows[line][bar.lane] + 4, number(max(0.5, right - left))
+        told = title(f"driver {bar.driver}, instructions: {bar.end - bar.start}")
+        self.add("rect", told, x=x, y=number(y), width=width, height=BAR, fill=LOST if bar.lost else RUNS)
+        if bar.beside:
+            self.add("rect", told, x=x, y=number(y + BAR - LINE), width=width, height=LINE, fill=BESIDE)
+
+    def part(self, lane, at, count):
+        line, x = self.scale.place(at)
+        told = title(f"a lease came back {self.drawing.waits}" + (f", {count} times" if count > 1 else ""))
+        self.add("path", told, d=triangle(LEFT + x, self.tops[line] + self.rows[line][lane] + 6), fill=PARTS)
 
     def strike(self, strike):
         line, x = self.scale.place(strike.at)

@@ -135,6 +135,7 @@ class Cooperative(Core):
 
     def __init__(self, job: Job, most_apart: int = MOST_APART):
         super().__init__(job)
+        self.lends_pages = False
         self.sides = [Side() for _ in self.replicas]
         self.most_apart = most_apart
 

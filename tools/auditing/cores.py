@@ -1,9 +1,10 @@
 """The core of a run and its journal, after crates/ro_legal/specs: which entries are allowed in a core, and what each does. Written
 after the definitions and for no speed, so that one shows an error of the other."""
+import collections
 import dataclasses
 
 from auditing.jobs import Entry, Fault, Job
-from auditing.replicas import Change, PageFault, Replica, Stands, Stop, Trap, View
+from auditing.replicas import Change, Lent, PageFault, Replica, Stands, Stop, Trap, View
 from journals import Free, Part, Put, Scrub, Take, Vote
 from kernel import PAGE, Atomic, Blocked, Call, Done, Effect, Kernel, Parked, opening_kernel
 
@@ -19,6 +20,9 @@ def needs(holds: bool, why: str):
 
 PARTS = [*(f"x{number}" for number in range(1, 32)), "pc", "since", "stop", "payload"]  # of a view, as they are told
 STEPS = {"served": 1, "trapped": 1, "parked": 1, "blocked": 0, "mapped": 0, "watch": 0}  # that an event itself adds to the plan
+MOST_WISHES = 16  # pages that a thread wishes of a replica
+MOST_WANTED = 2  # of them, that it can want where it stands
+MOST_MISSES = 8  # of pages, between two votes on a thread, before its leases are whole
 
 
 @dataclasses.dataclass
@@ -94,6 +98,11 @@ class Core:
         self.job = job
         self.replicas = [Replica(job, number) for number in range(job.replicas)]
         self.leases: list[Take] = []
+        self.lends_pages = job.drivers > 1  # else each lease has its whole replica
+        self.lent: dict[int, Lent] = {}  # by driver, what its lease has
+        # By replica and thread: the pages that it missed there, the last one first; and how often it did since its last event.
+        self.wishes: dict[tuple[int, int], list[int]] = collections.defaultdict(list)
+        self.misses = collections.Counter()
         self.kernel = opening_kernel(self.replicas[0])
         self.blocked: dict[int, Call] = {}  # by thread, the voted call on which it is blocked
         self.steps = 0
@@ -133,10 +142,13 @@ class Core:
     def stop_of(self, replica: Replica, thread: int) -> Stop | None:
         return replica.threads[thread].stop if thread < len(replica.threads) else None
 
+    def goes_on(self, number: int, thread: int) -> bool:
+        """The thread lives, and stands at no stop in the replica."""
+        return self.kernel.lives_on(thread) and self.replicas[number].threads[thread].stop is None
+
     def is_lendable(self, number: int, thread: int) -> bool:
-        """The replica is at home, and its thread lives and stands at no stop."""
-        is_home = number < len(self.replicas) and all(lease.replica != number for lease in self.leases)
-        return is_home and self.kernel.lives_on(thread) and self.replicas[number].threads[thread].stop is None
+        """The thread goes on in the replica, and what a lease of it has is there."""
+        return number < len(self.replicas) and self.goes_on(number, thread) and self.offers(number, thread)
 
     def may_vote(self, thread: int) -> bool:
         """Nothing is lent, and the thread stands at a stop in every replica, and isn't blocked."""
@@ -165,36 +177,94 @@ class Core:
     def owner_of(self, mutex: int) -> int | None:
         return self.kernel.owners[mutex]
 
-    # ---- A replica is lent, runs, and comes back
+    # ---- What a lease has of its replica
+
+    def shares(self, number: int, thread: int) -> bool:
+        """A lease of the thread has pages: another thread of the replica goes on, no fault of this one is due in a quantum, and it
+        missed pages seldom."""
+        return (self.lends_pages and self.misses[number, thread] <= MOST_MISSES
+                and any(other != thread and self.goes_on(number, other) for other in range(len(self.kernel.lives)))
+                and self.replicas[number].is_calm(thread, self.job.quantum))
+
+    def leases_of(self, number: int) -> list[tuple[Take, Lent]]:
+        """Those of the replica that are out, and what each has."""
+        return [(lease, self.lent[lease.driver]) for lease in self.leases if lease.replica == number]
+
+    def is_free(self, number: int, page: int) -> bool:
+        """No lease of the replica has the page, or no byte of it may be written."""
+        is_taken = any(lent is None or page in lent for _, lent in self.leases_of(number))
+        return not (is_taken and self.kernel.is_writable(page))
+
+    def is_open(self, number: int, thread: int) -> bool:
+        """Neither the thread is lent nor its whole replica, and the pages that it wishes most can be."""
+        is_barred = any(lease.thread == thread or lent is None for lease, lent in self.leases_of(number))
+        return not is_barred and all(self.is_free(number, page) for page in self.wishes[number, thread][:MOST_WANTED])
+
+    def offers(self, number: int, thread: int) -> bool:
+        """What a lease of the thread has is there."""
+        return self.is_open(number, thread) if self.shares(number, thread) else not self.leases_of(number)
+
+    def lent_to(self, number: int, thread: int) -> Lent:
+        """What a lease of the thread has, if it is taken now: of the pages that it wishes those that can be lent, or all."""
+        if not self.shares(number, thread):
+            return None
+        return frozenset(page for page in self.wishes[number, thread] if self.is_free(number, page))
+
+    def wish(self, number: int, thread: int, page: int):
+        """The thread missed the page in the replica."""
+        others = [other for other in self.wishes[number, thread] if other != page]
+        self.wishes[number, thread] = [page, *others][:MOST_WISHES]
+
+    # ---- A thread is lent, runs, and comes back
 
     def take(self, entry: Take):
         needs(self.is_going(), "the run ends")
         needs(entry.driver < self.job.drivers, "there is no such driver")
-        needs(all(lease.driver != entry.driver for lease in self.leases), "the driver has a replica")
+        needs(all(lease.driver != entry.driver for lease in self.leases), "the driver has a lease")
         needs(self.is_lendable(entry.replica, entry.thread), "the thread can't be lent")
+        self.lent[entry.driver] = self.lent_to(entry.replica, entry.thread)
         self.leases.append(entry)
         self.wrote = 0
 
     def put(self, entry: Put):
-        needs(self.ended is None, "the run has ended")
-        lease = Take(entry.driver, entry.replica, entry.thread)
-        needs(lease in self.leases, "it isn't lent")
-        needs(entry.retired <= self.job.quantum, "it ran past the quantum")
+        """After a whole quantum, or at a stop, wanting no page."""
+        wanted = self.run_lease(entry)
         replica, stop = self.replicas[entry.replica], None
-        thread = replica.threads[entry.thread]
-        try:
-            needs(replica.run(entry.thread, entry.retired) == entry.struck, "another number of faults was struck")
-        except Stands as stands:
-            raise Illegal(f"it ran past {stands.stop}") from stands
         if entry.retired < self.job.quantum:
-            stop = replica.next(thread)
+            needs(wanted is None, "it wants a page")
+            stop = replica.next(replica.threads[entry.thread])
             needs(not isinstance(stop, Change), "it came back at no stop")
-        thread.stop = stop
-        self.leases.remove(lease)
-        self.wrote = 0
+        if isinstance(stop, PageFault):
+            self.wish(entry.replica, entry.thread, stop.page)
+        self.return_lease(entry, stop)
 
     def part(self, entry: Part):
-        raise Illegal("no lease comes back so")
+        """For the want of a page, short of a quantum."""
+        wanted = self.run_lease(entry)
+        needs(entry.retired < self.job.quantum, "its quantum was over")
+        needs(wanted is not None, "it wants no page")
+        self.wish(entry.replica, entry.thread, wanted)
+        self.misses[entry.replica, entry.thread] += 1
+        self.return_lease(entry, None)
+
+    def run_lease(self, entry: Put) -> int | None:
+        """Runs a lease in its replica as that is by now, on what it has; the page that its thread wants behind it. Faults are struck
+        in leases of whole replicas alone, since none is due in any other."""
+        needs(self.ended is None, "the run has ended")
+        needs(Take(entry.driver, entry.replica, entry.thread) in self.leases, "it isn't lent")
+        needs(entry.retired <= self.job.quantum, "it ran past the quantum")
+        replica, lent = self.replicas[entry.replica], self.lent[entry.driver]
+        try:
+            needs(replica.run(entry.thread, entry.retired, lent) == entry.struck, "another number of faults was struck")
+        except Stands as stands:
+            raise Illegal(f"it ran past {stands.stop}") from stands
+        return replica.wanted(entry.thread, lent)
+
+    def return_lease(self, entry: Put, stop: Stop | None):
+        """Its thread stands at the stop, or goes on."""
+        self.replicas[entry.replica].threads[entry.thread].stop = stop
+        self.leases.remove(Take(entry.driver, entry.replica, entry.thread))
+        self.wrote = 0
 
     # ---- A vote is held, a call that waits is served
 
@@ -247,6 +317,8 @@ class Core:
         self.blocked.pop(thread, None)
         if event.blocked is not None:
             self.blocked[thread] = event.blocked
+        for number in range(len(self.replicas)):
+            self.misses[number, thread] = 0
         self.steps += added
         self.output += event.payload
         self.wrote = len(event.payload)

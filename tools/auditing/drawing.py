@@ -1,11 +1,11 @@
 """What is drawn: numbers and faults for a run of a small guest, legal journals that make other choices than the program does, and
 changes of journals."""
+import collections.abc
 import copy
 import random
 
 from auditing.cores import STEPS, Core
 from auditing.jobs import Entry, Job
-from auditing.replicas import Change
 from fuzzing import readers
 from fuzzing.machine import STACKS, STACK_SIZE, STACK_STEP
 from fuzzing.programs import BASE, PAGE
@@ -13,7 +13,7 @@ from journals import End, Free, Part, Put, Scrub, Take, Vote
 from kernel import MAPPED
 
 HEAD = "romain 2"
-CHOICES = {"replicas": [2, 3, 3, 5], "drivers": [1, 1, 2, 3, 8], "watchdog": [100, 100, 128, 10_000],
+CHOICES = {"replicas": [2, 3, 3, 5], "drivers": [1, 2, 2, 3, 8], "watchdog": [100, 100, 128, 10_000],
            "quantum": [1, 2, 3, 7, 64, 4_096], "limit": [3, 20, 60, 300, 2_000],
            "scrub": [0, 0, 1, 1, 7, 40, 300]}
 THREADS = [0, 0, 1, 2, 15]  # of which faults are drawn
@@ -70,7 +70,7 @@ def allowed(draw: random.Random, core: Core) -> list[Entry]:
         return [End("deadlock")]
     threads, replicas = range(len(core.kernel.lives)), range(len(core.replicas))
     idle = [driver for driver in range(core.job.drivers) if all(lease.driver != driver for lease in core.leases)]
-    found = [put_of(core, lease) for lease in core.leases]
+    found = [return_of(core, lease) for lease in core.leases]
     found += [Take(draw.choice(idle), replica, thread) for replica in replicas for thread in threads
               if idle and core.is_lendable(replica, thread)]
     found += [vote_of(core, thread) for thread in threads if core.may_vote(thread)]
@@ -79,14 +79,12 @@ def allowed(draw: random.Random, core: Core) -> list[Entry]:
     return found
 
 
-def put_of(core: Core, lease: Take) -> Put:
+def return_of(core: Core, lease: Take) -> Put:
     """A lease comes back in one way."""
-    replica, count = copy.deepcopy(core.replicas[lease.replica]), 0
-    thread, struck = replica.threads[lease.thread], replica.strike(lease.thread)
-    while count < core.job.quantum and isinstance(replica.next(thread), Change):
-        replica.execute(thread)
-        count, struck = count + 1, struck + replica.strike(lease.thread)
-    return Put(lease.driver, lease.replica, lease.thread, count, struck)
+    replica, lent = copy.deepcopy(core.replicas[lease.replica]), core.lent[lease.driver]
+    count, struck = replica.run_on(lease.thread, core.job.quantum, lent)
+    wants = count < core.job.quantum and replica.wanted(lease.thread, lent) is not None
+    return (Part if wants else Put)(lease.driver, lease.replica, lease.thread, count, struck)
 
 
 def vote_of(core: Core, thread: int) -> Vote | End:
@@ -171,14 +169,43 @@ def change_scrub(draw: random.Random, lines: list[str]):
     lines[place:place + 1] = [[f"scrub {draw.randrange(5)} {losers}"], [f"scrub {winner} {draw.choice(LOSERS)}"], []][how]
 
 
+BACK = {"put": "part", "part": "put"}  # how a lease comes back, and how else
+
+
+def places_of(lines: list[str], kinds: collections.abc.Container[str]) -> list[int]:
+    """Of entries of these kinds."""
+    return [place for place, line in enumerate(lines) if line.split(" ")[0] in kinds]
+
+
 def change_back(draw: random.Random, lines: list[str]):
     """A lease comes back in part in place of whole, or whole in place of in part."""
-    kinds = {"put": "part", "part": "put"}
-    places = [place for place, line in enumerate(lines) if line.split(" ")[0] in kinds]
+    places = places_of(lines, BACK)
     if places:
         place = draw.choice(places)
         kind, rest = lines[place].split(" ", 1)
-        lines[place] = f"{kinds[kind]} {rest}"
+        lines[place] = f"{BACK[kind]} {rest}"
+
+
+def change_count(draw: random.Random, lines: list[str]):
+    """A lease comes back sooner or later, now and then by the other entry."""
+    places = places_of(lines, BACK)
+    if places:
+        place = draw.choice(places)
+        kind, *lease, count, struck = lines[place].split(" ")
+        other = draw.choice((0, int(count) - 1, int(count) + 1, draw.randrange(int(count) + 1)))
+        lines[place] = " ".join([draw.choice((kind, kind, BACK[kind])), *lease, str(other), struck])
+
+
+def change_driver(draw: random.Random, lines: list[str]):
+    """Another driver takes a thread, and brings it back."""
+    places = places_of(lines, ("take",))
+    if places:
+        taken, other = draw.choice(places), str(draw.randrange(8))
+        lease = lines[taken].split(" ")[1:]
+        back = [place for place in places_of(lines, BACK) if place > taken and lines[place].split(" ")[1:4] == lease]
+        for place in [taken, *back[:1]]:
+            kind, _, *rest = lines[place].split(" ")
+            lines[place] = " ".join([kind, other, *rest])
 
 
 def drop(draw: random.Random, lines: list[str]):
@@ -211,8 +238,8 @@ def take_end(draw: random.Random, lines: list[str]):
     del lines[draw.choice((len(lines) - 1, draw.randrange(len(lines)))):]
 
 
-CHANGES = [change_number] * 4 + [change_vote, change_scrub, change_scrub, change_back, drop, drop, double, swap, swap, put_end,
-                                 put_end, take_end]
+CHANGES = [change_number] * 4 + [change_vote, change_scrub, change_scrub, change_back, change_back, change_count, change_driver, drop,
+                                 drop, double, swap, swap, put_end, put_end, take_end]
 
 
 def draw_change(draw: random.Random, lines: list[str]) -> list[str]:

@@ -5,10 +5,10 @@ import random
 from fuzzing.machine import EBREAK, ECALL, STACKS, STACK_STEP
 from fuzzing.programs import PAGE, form_a, form_b, form_i, form_s, put
 from kernel import LR, SC, THREADS
-from racing.programs import (ATOMICS, CONDITIONS, FIRST, MUTEXES, PLACE, RESULT, RETURN_PLACE, ROOM, VALUE, Function,
-                             linked)
+from racing.programs import (ATOMICS, CONDITIONS, FIRST, MUTEXES, PLACE, READ_WRITE_EXECUTE, RESULT, RETURN_PLACE, ROOM, VALUE,
+                             Function, linked)
 
-PLACES = [*MUTEXES, *CONDITIONS]  # of mutexes
+PLACES = [*MUTEXES, *CONDITIONS]  # of mutexes, in the segment
 DATA = STACKS + STACK_STEP * (THREADS - 1)  # the stack of a thread that is never made: a page for each mutex, and one more
 FLAG = 64  # where, in a mutex's page, the word is that threads wait for
 WORDS, SUM, SEEN = 8, 19, 20  # registers: a mutex's page, the answers of calls, and what was loaded
@@ -22,6 +22,8 @@ def add(register: int, other: int) -> int:
 
 class Drawn:
     """A program that is being drawn."""
+    places = PLACES
+    flags = READ_WRITE_EXECUTE
 
     def __init__(self, draw: random.Random):
         self.draw = draw
@@ -59,9 +61,9 @@ class Drawn:
 
     def guard(self, function: Function, mutex: int, outer: tuple[int, ...] = ()):
         """Locks a mutex, does something, and unlocks it; seldom another one between, or one lock more, or no unlock."""
-        self.call(function, "pthread_mutex_lock", PLACES[mutex])
+        self.call(function, "pthread_mutex_lock", self.places[mutex])
         if self.draw.randrange(12) == 0:
-            self.call(function, "pthread_mutex_lock", PLACES[mutex])
+            self.call(function, "pthread_mutex_lock", self.places[mutex])
         for _ in range(self.draw.randint(1, 2)):
             self.access(function, mutex)
         others = [other for other in range(self.mutexes) if other != mutex and other not in outer]
@@ -69,36 +71,36 @@ class Drawn:
             self.guard(function, self.draw.choice(others), (*outer, mutex))
             self.access(function, mutex)
         if self.draw.randrange(25):
-            self.call(function, "pthread_mutex_unlock", PLACES[mutex])
+            self.call(function, "pthread_mutex_unlock", self.places[mutex])
 
     def attempt(self, function: Function, mutex: int):
         """The same where a trylock gets the mutex."""
-        function.call("pthread_mutex_trylock", PLACES[mutex])
+        function.call("pthread_mutex_trylock", self.places[mutex])
         branch = len(function.words)
         function.words.append(0)
         self.access(function, mutex)
-        self.call(function, "pthread_mutex_unlock", PLACES[mutex])
+        self.call(function, "pthread_mutex_unlock", self.places[mutex])
         function.words[branch] = form_b(4 * (len(function.words) - branch), 0, 10, 1)
 
     def reserve(self, function: Function):
         """An SC, behind an LR and a few calls, of which each ends the reservation."""
         function.words += put(PLACE, ATOMICS[0]) + [form_a(LR, 0, PLACE, RESULT), add(SEEN, RESULT)]
         if self.draw.randrange(3):
-            self.call(function, "pthread_mutex_unlock", PLACES[self.draw.randrange(self.mutexes)])
+            self.call(function, "pthread_mutex_unlock", self.places[self.draw.randrange(self.mutexes)])
         function.words += put(PLACE, ATOMICS[0]) + [form_a(SC, VALUE, PLACE, RESULT), add(SUM, RESULT)]
 
     def look(self, function: Function, mutex: int):
         """Waits until the mutex's flag is set, by looking again and again."""
         start = len(function.words)
-        function.call("pthread_mutex_lock", PLACES[mutex])
+        function.call("pthread_mutex_lock", self.places[mutex])
         function.words += put(WORDS, DATA + PAGE * mutex) + [form_i(FLAG, WORDS, 2, VALUE, 0x03)]
-        function.call("pthread_mutex_unlock", PLACES[mutex])
+        function.call("pthread_mutex_unlock", self.places[mutex])
         function.words.append(form_b(4 * (start - len(function.words)), 0, VALUE, 0))
 
     def set_flag(self, function: Function, mutex: int):
-        function.call("pthread_mutex_lock", PLACES[mutex])
+        function.call("pthread_mutex_lock", self.places[mutex])
         function.words += put(WORDS, DATA + PAGE * mutex) + [form_i(1, 0, 0, VALUE, 0x13), form_s(FLAG, VALUE, WORDS, 2)]
-        function.call("pthread_mutex_unlock", PLACES[mutex])
+        function.call("pthread_mutex_unlock", self.places[mutex])
 
     def do(self, function: Function, what: str, number: int):
         if what == "make":
@@ -106,11 +108,11 @@ class Drawn:
         elif what == "join":
             self.call(function, "pthread_join", number, 0)
         elif what == "locked join":  # the other may wait for that mutex
-            self.call(function, "pthread_mutex_lock", PLACES[0])
+            self.call(function, "pthread_mutex_lock", self.places[0])
             self.call(function, "pthread_join", number, 0)
-            self.call(function, "pthread_mutex_unlock", PLACES[0])
+            self.call(function, "pthread_mutex_unlock", self.places[0])
         elif what in ("init", "destroy", "unlock"):
-            self.call(function, f"pthread_mutex_{what}", PLACES[number], 0)
+            self.call(function, f"pthread_mutex_{what}", self.places[number], 0)
         else:
             {"guard": self.guard, "attempt": self.attempt, "look": self.look, "set flag": self.set_flag,
              "reserve": lambda f, _: self.reserve(f), "waste": lambda f, _: self.waste(f)}[what](function, number)
@@ -160,4 +162,4 @@ class Drawn:
                     del function.words[before:]
                     break
             self.end(function, number == 0)
-        return linked(self.functions, OTHERWISE[self.tries:])
+        return linked(self.functions, OTHERWISE[self.tries:], self.flags)

@@ -21,6 +21,13 @@ def turns(core: Core) -> tuple[list[int], list[int]]:
     return [thread for thread in threads if thread != last], [thread for thread in threads if thread == last]
 
 
+def lend_turn(core: Core, threads: list[int]) -> list[Action]:
+    """The lowest of these threads of the lowest replica that can be lent, if one can."""
+    places = ((number, thread) for number in range(len(core.replicas)) for thread in threads)
+    lowest = next((place for place in places if core.is_lendable(*place)), None)
+    return [("lend", *lowest)] if lowest else []
+
+
 def next_action(core: Core) -> Action:
     """A free comes first, and a thread that had its votes in a row last; of the others, and of that one, a vote comes before a
     lease. No vote and no free comes before a scrub that is due."""
@@ -32,8 +39,7 @@ def next_action(core: Core) -> Action:
     found = [] if is_due else [("free", thread) for thread in range(len(core.kernel.lives)) if core.may_free(thread)]
     for threads in turns(core):
         found += [] if is_due or found else [("vote", thread) for thread in threads if core.may_vote(thread)]
-        found += [("lend", number, thread) for number in range(len(core.replicas)) for thread in threads
-                  if not found and core.is_lendable(number, thread)][:1]
+        found += [] if found else lend_turn(core, threads)
     if found:
         return found[0]
     return ("wait",) if core.leases else ("scrub",) if is_due else ("end", "deadlock")

@@ -3,7 +3,6 @@ from auditing.cooperative import Joined, leased
 from auditing.cores import Core
 from auditing.drawing import line_of
 from auditing.jobs import Entry, Job
-from auditing.replicas import Change
 from journals import Free, Part, Put, Scrub, Take, Vote
 
 
@@ -39,10 +38,13 @@ def reason_of_return(core: Core, entry: Put) -> dict:
         return {"reason": "not_out"}
     if isinstance(core, Joined):
         return reason_of_peer(core, entry)
-    if isinstance(entry, Part):
-        return {"reason": "no_part"}
-    count, hit = ran(core, lease)
-    return {"reason": "ran", "count": count, "hit": hit}
+    count, hit = core.replicas[lease.replica].run_on(lease.thread, core.job.quantum, core.lent[lease.driver])
+    return other_kind(entry) if (count, hit) == (entry.retired, entry.struck) else {"reason": "ran", "count": count, "hit": hit}
+
+
+def other_kind(entry: Put) -> dict:
+    """The lease comes back by the other of `put` and `part`, or by neither."""
+    return {"reason": "no_part" if isinstance(entry, Part) else "no_put"}
 
 
 def reason_of_peer(core: Joined, entry: Put) -> dict:
@@ -64,16 +66,7 @@ def reason_of_peer(core: Joined, entry: Put) -> dict:
             return {"reason": "other_got"} if is_others else {"reason": "ran", "count": count, "hit": 0}
     if entry.retired > core.job.quantum:
         return {"reason": "ran", "count": core.job.quantum, "hit": 0}
-    return {"reason": "no_part" if isinstance(entry, Part) else "no_put"}
-
-
-def ran(core: Core, lease: Take) -> tuple[int, int]:
-    """After how many instructions a lease comes back, and how many faults are struck before."""
-    replica = core.replicas[lease.replica]
-    count, hit = 0, replica.strike(lease.thread)
-    while count < core.job.quantum and isinstance(replica.next(replica.threads[lease.thread]), Change):
-        count, hit = count + 1, hit + replica.run(lease.thread, 1)
-    return count, hit
+    return other_kind(entry)
 
 
 def vote_comes_to(core: Core, thread: int) -> str:

@@ -53,6 +53,7 @@ class Thread:
     stop: Stop | None = None
 
 
+Lent = frozenset[int] | None  # the pages that a lease has of its replica; None: all of it
 View = tuple[list[int], int, int, Stop, bytes]  # registers, pc, instructions since, stop, and the payload
 Snapshot = tuple[dict[int, bytearray], list[tuple]]  # pages, and of each thread the same but the bytes
 
@@ -64,13 +65,15 @@ class Replica(Machine):
         self.waiting = [fault for fault in job.faults if fault.replica == number]
         self.struck: list[Fault] = []  # since it was last made a copy
         self.storing = 0, b""
+        self.lent: Lent = None  # what the thread sees whose next instruction is looked at
 
     # ---- What a thread does next
 
-    def next(self, thread: Thread) -> Stop | Change:
-        """The watchdog's stop, or what the thread does next. Nothing changes."""
+    def next(self, thread: Thread, lent: Lent = None) -> Stop | Change:
+        """The watchdog's stop, or what the thread does next, which sees what is lent alone. Nothing changes."""
         if thread.since == self.watchdog:
             return Watchdog()
+        self.lent = lent
         try:
             return self.change(thread.pc, thread.registers)
         except Stands as stands:
@@ -95,26 +98,44 @@ class Replica(Machine):
         raise Stands(Trap(cause))
 
     def place(self, address: int) -> tuple[bytearray, int]:
-        if address // PAGE not in self.pages:
-            raise Stands(PageFault(address // PAGE))
-        return self.pages[address // PAGE], address % PAGE
+        page = address // PAGE
+        if page not in self.pages or self.lent is not None and page not in self.lent:
+            raise Stands(PageFault(page))
+        return self.pages[page], address % PAGE
 
     def store(self, address: int, size: int, value: int):
         self.storable(address, size)
         self.storing = address, low_bytes(value, size)
 
+    def wanted(self, number: int, lent: Lent) -> int | None:
+        """The page that a thread wants: one that is backed, and at whose fault it stands with what is lent."""
+        stop = self.next(self.threads[number], lent)
+        return stop.page if isinstance(stop, PageFault) and stop.page in self.pages else None
+
     # ---- Runs
 
-    def run(self, number: int, count: int) -> int:
+    def run(self, number: int, count: int, lent: Lent = None) -> int:
         """So many instructions of a thread, and the faults that are due before, between and after them: how many were struck."""
         struck = self.strike(number)
         for _ in range(count):
-            self.execute(self.threads[number])
+            self.execute(self.threads[number], lent)
             struck += self.strike(number)
         return struck
 
-    def execute(self, thread: Thread):
-        change = self.next(thread)
+    def run_on(self, number: int, most: int, lent: Lent) -> tuple[int, int]:
+        """At most so many instructions of a thread, up to where it stands: how many there were, and how many faults were struck."""
+        count, struck = 0, self.strike(number)
+        while count < most and isinstance(self.next(self.threads[number], lent), Change):
+            count, struck = count + 1, struck + self.run(number, 1, lent)
+        return count, struck
+
+    def is_calm(self, number: int, count: int) -> bool:
+        """No fault of a thread is due before, within or behind so many instructions."""
+        done = self.threads[number].done
+        return not any(fault.thread == number and done <= fault.moment <= done + count for fault in self.waiting)
+
+    def execute(self, thread: Thread, lent: Lent):
+        change = self.next(thread, lent)
         if not isinstance(change, Change):
             raise Stands(change)
         self.carry(thread, change)

@@ -1,4 +1,4 @@
-"""What an audit tells of a journal: its JSON, and the sentences of its copies."""
+"""What an audit tells of a journal: its JSON, and the sentences of its copies and of what is not allowed."""
 from auditing.cores import Copy, Core, Judged, Whole, unlike, unlike_whole
 from auditing.drawing import line_of
 from auditing.jobs import Entry, Fault
@@ -15,6 +15,23 @@ UNFETCHED = 1, 2  # causes of a trap before the instruction was fetched
 WORDS = {  # of the parts of a view
     "pc": "the pc", "since": "the instructions since the last vote", "stop": "what it stands at", "payload": "what is written or found"}
 
+WHYS = {  # by the reason, with what is told beside it
+    "not_lendable": "The driver holds a lease or is none, or the thread can't be lent in that replica.",
+    "not_out": "No such lease is out.",
+    "ran": "The run of the lease comes back after {count} instructions and {hit} faults.",
+    "no_put": "That is no put: the thread lacks a page of its replica, or waits at a lock, or goes on; or faults are told of a cooperative "
+              "run.",
+    "no_part": "That is no part: the quantum is over, or the thread lacks no page of its replica and waits at no lock; or faults are told "
+               "of a cooperative run.",
+    "other_got": "The lease gets a mutex in another thread's turn.",
+    "no_vote": "The thread can't be voted on.",
+    "no_free": "The thread has no call that can be served.",
+    "no_scrub": "No scrub may be made here.",
+    "comes": "What is allowed in its place is: {entry}",
+    "no_end": "The run does not end so here.",
+    "behind": "The run has ended before.",
+}
+
 ABI_NAMES = {f"x{number}": name for number, name in enumerate(REGISTERS)}
 
 
@@ -27,6 +44,12 @@ def told(judged: Judged, entries: list[Entry]) -> dict:
         return {"entries": len(entries), "verdict": "illegal", "place": judged.place, "entry": line_of(entry), "why": why, "copies": copies}
     end = end_told(judged.core, entries) if judged.core.ended else None
     return {"entries": len(entries), "verdict": "legal", "steps": judged.core.steps, "end": end, "copies": copies}
+
+
+def illegal_lines(told: dict) -> list[str]:
+    """The sentences of what is told of an illegal journal: which entry is not allowed, and why it is not."""
+    why = told["why"]
+    return [f"The first entry that is not allowed is: {told['entry']}", WHYS[why["reason"]].format(**why)]
 
 
 def without_left_out(value):

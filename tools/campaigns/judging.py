@@ -92,7 +92,7 @@ class Story:
         text. The struck one may have stopped at once, and waited."""
         _, thread, moment = strike
         total, own, has_begun = 0, 0, False
-        for by, retired in re.compile(rf"\nput \d+ {replica} (\d+) (\d+)").findall(self.text, 0, until):
+        for by, retired in re.compile(rf"\np(?:ut|art) \d+ {replica} (\d+) (\d+)").findall(self.text, 0, until):
             if has_begun:
                 total += int(retired)
             elif int(by) == thread:

@@ -13,8 +13,11 @@ CODE = BASE + HEADERS
 GLOBAL = 0x10  # of a symbol, besides its type
 
 
-def executable(words: list[int], symbols: list[Symbol]) -> bytes:
-    """One segment that may be read, written and executed, which is the whole file up to its last word; and a section of it."""
+READ_EXECUTE, READ_WRITE_EXECUTE = 5, 7  # flags of a segment
+
+
+def executable(words: list[int], symbols: list[Symbol], flags: int = READ_WRITE_EXECUTE) -> bytes:
+    """One segment, which is the whole file up to its last word; and a section of it."""
     size = HEADERS + 4 * len(words)
     table, strings = bytes(16), b"\0"
     for symbol in symbols:
@@ -25,7 +28,7 @@ def executable(words: list[int], symbols: list[Symbol]) -> bytes:
     place = size + len(table) + len(strings)
     header = b"\x7fELF\1\1\1" + bytes(9) + struct.pack("<HHIIIIIHHHHHH", 2, 243, 1, CODE, 52, place, 0, 52, 32, 1, 40,
                                                        len(sections), 0)
-    segment = struct.pack("<8I", 1, 0, BASE, BASE, size, size, 7, PAGE)
+    segment = struct.pack("<8I", 1, 0, BASE, BASE, size, size, flags, PAGE)
     return (header + segment + struct.pack(f"<{len(words)}I", *words) + table + strings
             + b"".join(struct.pack("<10I", *section) for section in sections))
 
@@ -65,11 +68,12 @@ class Function:
         return self.words + [EBREAK] * (ROOM // 4 - len(self.words))
 
 
-def linked(functions: list[Function], left_out: tuple[str, ...] = ()) -> bytes:
+def linked(functions: list[Function], left_out: tuple[str, ...] = (), flags: int = READ_WRITE_EXECUTE) -> bytes:
     """The executable of a program's functions, which begins with the first; some names of POSIX functions may be left out."""
     words = [form_j(FIRST - CODE, 0)] + [EBREAK] * len(NAMES) + [0] * ((FIRST - SHARED) // 4)
     words += [word for function in functions for word in function.whole()]
-    return executable(words, [Symbol(address, address + 4, FUNCTION, name) for name, address in STUBS.items() if name not in left_out])
+    symbols = [Symbol(address, address + 4, FUNCTION, name) for name, address in STUBS.items() if name not in left_out]
+    return executable(words, symbols, flags)
 
 
 def draw_access(draw: random.Random, function: Function):

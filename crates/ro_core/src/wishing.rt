@@ -59,7 +59,7 @@ fn remove_all(pages: &mut PageList, page: u32)
 pub(crate) fn note_fault(wishes: &mut [Wish], place: usize, thread: u32, loan: &Loan, missed: bool)
     ensures { NotesFault place (stop_in thread loan.now) missed wishes.old wishes.new }
 {
-    // of whole leases alone nothing is noted
+    // where only whole replicas are lent nothing is noted
     if wishes.is_empty() {
         return;
     }

@@ -33,8 +33,8 @@ pub struct Took {
     pub hit: u32,
 }
 
-/// What comes back: the lease, and what it had, after its run. Where the thread stands still, it says; nowhere after a whole
-/// quantum.
+/// What comes back: the lease, and what it had, after its run. Where the thread stands still is kept in that; after a whole
+/// quantum it does nowhere.
 #[derive(Drop)]
 pub struct Back {
     pub lease: Lease,

@@ -1,11 +1,10 @@
 -- A run by its parts, from its begin to its end.
-use Rattle.std.specs.Prelude.{◌≡◌, ◌⊎◌, ℕ, zero, suc, ◌+◌, ◌-◌, ◌<◌, ◌≤◌, Bool, true, false, List, [], ◌∷◌, length, Option, Some, None, IsSome, is_some, is_none, if◌then◌else◌, slice_get}
-use Rattle.std.specs.Option.{option_map, option_map_or}
-use Rattle.std.proofs.Common.{refl, sym, ap, ◌∙◌, subst, arith, inl, inr, eq-eqb, true≢false}
+use Rattle.std.specs.Prelude.{◌≡◌, ◌⊎◌, ℕ, ◌+◌, ◌-◌, ◌<◌, ◌≤◌, Bool, true, false, Option, Some, None, IsSome, is_some, is_none, if◌then◌else◌}
+use Rattle.std.specs.Option.{option_map}
+use Rattle.std.proofs.Common.{refl, sym, ap, ◌∙◌, subst, arith, inl, inr, eq-eqb}
 use Rattle.std.proofs.lemmas.Bool.{ne_eqb}
 use Rattle.ro_event.specs.declared.stops.Stop.{Stop}
 use Rattle.ro_exec.specs.Next.{Layout}
-use Rattle.ro_thread.specs.declared.Thread.{Thread}
 use Rattle.ro_replica.specs.Replica.{Replica, changed_at}
 use Rattle.ro_replica.specs.Runs.{RanTo, struck, plus_hit, run_of, standing_at, with_stop}
 use Rattle.ro_replica.specs.Rounds.{IsStruck, Leads}
@@ -82,9 +81,3 @@ smaller layout watchdog thread quantum count more hit old new None stop none ear
 pub some_not_none : (stop : Option Stop) → is_some stop ≡ true → stop ≡ None → ⊥
 some_not_none None is none = let e : false ≡ true = is in cc
 some_not_none (Some s) is none = cc
-
--- a thread that is not stopped was made
-pub unstopped-made : (thread : ℕ) (threads : List Thread) → option_map_or (λ t. is_none t.stop) (slice_get threads thread) false ≡ true → thread < length threads
-unstopped-made thread [] h = absurd (true≢false (sym h))
-unstopped-made zero (t ∷ threads) h = omega arith
-unstopped-made (suc thread) (t ∷ threads) h = let more = unstopped-made thread threads h in omega arith

@@ -6,9 +6,10 @@ use Rattle.ro_replica.specs.Runs.{with_stop}
 use Rattle.ro_replica.specs.Rounds.{IsStruck}
 use Rattle.ro_replica.specs.Seen.{replica_of, CanCount}
 use Rattle.ro_replica.proofs.Elements.{got_changed}
+use Rattle.ro_replica.proofs.Loans.{unstopped-there}
 use Rattle.ro_replica.proofs.SoFar.{same_again}
 use Rattle.ro_replica.proofs.Going.{leads_same, struck_now, countable_struck}
-use Rattle.ro_replica.proofs.UnderWay.{begins, goes, ends, smaller, some_not_none, unstopped-made}
+use Rattle.ro_replica.proofs.UnderWay.{begins, goes, ends, smaller, some_not_none}
 use Rattle.ro_replica.proofs.replicas.Replica.run.Goals as goal
 use Rattle.ro_replica.proofs.replicas.Replica.run.Goals.{then-loop-ran-test+else-is_none, else-loop-ran-test}
 
@@ -58,7 +59,7 @@ returns-clause-runs c =
 pub returns-clause-stands : goal.returns-clause-stands
 returns-clause-stands c =
     let made : c.args.thread < length c.loop-ran.self.threads =
-    let was = unstopped-made c.args.thread c.args.self.now.threads c.requires.going in
+    let was = unstopped-there c.args.self.now.threads c.args.thread c.requires.going in
     let same = c.loop-ran.invariant.threads in omega arith in
     ap (λ (r : Replica). stop_of r c.args.thread) c.set_stop.ensures.stop
     ∙ got_changed (λ (t : Thread). t.stop) (with_stop c.loop-ran.ran.stop) c.loop-ran.ran.stop (λ t. refl) c.loop-ran.self.threads c.args.thread made

@@ -18,6 +18,9 @@ romain_runs_constructors:
     jalr t0
     j .Lnext
 .Lmain:
+    li a0, 0                    # no arguments: argc is 0, and argv and envp are the address of a word that is 0
+    mv a1, sp
+    mv a2, sp
     call main
 #ifdef ROMAIN_EXITS
     call exit

@@ -1,8 +1,8 @@
 // What newlib asks of a system: input and output, a heap and an end. There are no files and no other
 // processes.
 #include "call.h"
+#include "errors.h"
 #include "heap.h"
-#include <errno.h>
 #include <stddef.h>
 #include <stdint.h>
 #include <sys/stat.h>
@@ -19,7 +19,7 @@ static int fails(int error)
 // The kernel's answer, whose negative numbers are errors.
 static int answer(int value)
 {
-    return value < 0 ? fails(-value) : value;
+    return value < 0 ? fails(romain_error(-value)) : value;
 }
 
 int _read(int descriptor, void *place, size_t length)

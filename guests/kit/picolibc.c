@@ -1,9 +1,9 @@
-// For a program with picolibc: its thread-local data, its locks, its memory, its streams and its end. The library keeps errno and what some
-// of its functions remember in thread-local data, at tp: thread 0 has a block of its own among the data, a made thread one at
-// the upper end of its stack. Linked with --wrap=pthread_create, by which the program's calls of that come to the one here.
+// For a program with picolibc: its thread-local data, its locks, its memory, its streams and its end. The library keeps errno and what
+// some of its functions remember in thread-local data, at tp: thread 0 has a block of its own among the data, a made thread one at the
+// upper end of its stack. Linked with the files of threads/, which make the program's threads.
 #include "call.h"
 #include "heap.h"
-#include <errno.h>
+#include "threads/kernel.h"
 #include <picotls.h>
 #include <pthread.h>
 #include <stdbool.h>
@@ -29,43 +29,23 @@ static void begin_thread_zero(void)
 
 __attribute__((used, section(".preinit_array"))) static constructor *const first = begin_thread_zero;
 
-typedef void *thread_start(void *argument);
-
-// What made threads begin with. The kernel makes 15 beside the first, so the last entry is that of a call which it refuses.
-enum { THREADS = 16 };
-static struct made {
-    thread_start *start;
-    void *argument;
-} made[THREADS];
-
-static pthread_mutex_t making = PTHREAD_MUTEX_INITIALIZER;
-static unsigned count; // of made threads, under `making`
-static bool has_threads; // written before the first is made, and never again
-
-static void *begin_thread(void *begun)
+// What a made thread begins with (threads/thread.c).
+size_t romain_block_size(void)
 {
-    const struct made *own = begun;
-    begin_block(__builtin_alloca(_tls_size()));
-    return own->start(own->argument);
+    return _tls_size();
 }
 
-int __real_pthread_create(pthread_t *number, const pthread_attr_t *attributes, thread_start *start, void *argument);
+static _Thread_local unsigned own_number;
 
-int __wrap_pthread_create(pthread_t *number, const pthread_attr_t *attributes, thread_start *start, void *argument)
+void romain_begin_block(void *block, unsigned number)
 {
-    if ((uintptr_t)start % 4 != 0)
-        return EINVAL;
-    if (!has_threads)
-        has_threads = true;
-    int error = pthread_mutex_lock(&making);
-    if (error != 0)
-        return error;
-    made[count] = (struct made) { start, argument };
-    error = __real_pthread_create(number, attributes, begin_thread, &made[count]);
-    if (error == 0)
-        count++;
-    pthread_mutex_unlock(&making);
-    return error;
+    begin_block(block);
+    own_number = number;
+}
+
+unsigned romain_self(void)
+{
+    return own_number;
 }
 
 // The library's lock, which malloc and some others take. The thread that holds it may lock it again. It costs nothing as long as
@@ -79,7 +59,7 @@ struct __lock __lock___libc_recursive_mutex;
 
 void __retarget_lock_acquire_recursive(struct __lock *lock)
 {
-    int error = has_threads ? pthread_mutex_lock(&lock->mutex) : 0;
+    int error = romain_has_threads ? romain_error(kernel_mutex_lock(&lock->mutex)) : 0;
     if (error == EDEADLK)
         lock->again++;
     else if (error != 0)
@@ -88,12 +68,34 @@ void __retarget_lock_acquire_recursive(struct __lock *lock)
 
 void __retarget_lock_release_recursive(struct __lock *lock)
 {
-    if (!has_threads)
+    if (!romain_has_threads)
         return;
     if (lock->again > 0)
         lock->again--;
     else
-        pthread_mutex_unlock(&lock->mutex);
+        kernel_mutex_unlock(&lock->mutex);
+}
+
+// A stream that was opened has a lock of its own, which the library takes at each letter. One thread alone uses a stream, or all do
+// under a mutex, so it does nothing.
+void __retarget_lock_init(struct __lock **lock)
+{
+    *lock = NULL;
+}
+
+void __retarget_lock_close(struct __lock *lock)
+{
+    (void)lock;
+}
+
+void __retarget_lock_acquire(struct __lock *lock)
+{
+    (void)lock;
+}
+
+void __retarget_lock_release(struct __lock *lock)
+{
+    (void)lock;
 }
 
 // So many bytes more for malloc, which holds the lock meanwhile.

@@ -55,8 +55,4 @@ static inline int32_t write_all(const void *place, size_t length)
 // What the linker script names: data that begins as 0, the end of all data, and the heap, whose first byte is brk(NULL)'s.
 extern uint8_t __bss_start[], _end[], __heap_start[], __heap_end[];
 
-#ifndef __cplusplus
-int main(void);
-#endif
-
 #endif

@@ -216,7 +216,7 @@ alike : {A : Type 0} (b : Bool) (x : A) → cond b x x ≡ x
 alike true x = refl
 alike false x = refl
 
-lines_back : (version : Version) (line : ℕ) (entries : List Entry) → list_all (is_entry version) entries ≡ true → ends_last entries ≡ true → lines_entries version line (parts_of (entries_text entries)) ≡ Ok entries
+pub lines_back : (version : Version) (line : ℕ) (entries : List Entry) → list_all (is_entry version) entries ≡ true → ends_last entries ≡ true → lines_entries version line (parts_of (entries_text entries)) ≡ Ok entries
 lines_back version line [] h last = refl
 lines_back version line (entry ∷ []) h last =
     let is = (and_parts (is_entry version entry) true h).0 in

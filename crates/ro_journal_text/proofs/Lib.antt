@@ -5,3 +5,5 @@ pub mod Back
 pub mod Once
 pub mod Whole
 pub mod Wording
+pub mod HeadLines
+pub mod HeadBack

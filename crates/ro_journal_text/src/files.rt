@@ -1,13 +1,17 @@
 //! The texts of journals.
-ghost use Rattle.std.specs.Prelude.{◌≡◌, ◌∷◌, Ok, IfOk, IfErr};
+ghost use Rattle.std.specs.Prelude.{◌≡◌, ◌≤◌, ◌∷◌, Ok, IfOk, IfErr};
 ghost use Rattle.ro_text.specs.Lines.{parts_of};
 ghost use Rattle.ro_journal_text.specs.Texts.{journal_text};
+ghost use Rattle.ro_journal_text.specs.Records.{file_record, record_in};
+ghost use Rattle.ro_settings.specs.Ranges.{InRange};
 ghost use Rattle.ro_journal_text.specs.Reading.{refuses, file_journal, headed_journal, journal_in, lines_entries, is_end};
 
 use crate::entries::read_entry;
 use crate::errors::{JournalCode, JournalError};
 use crate::headings::{header, read_heading};
+use crate::heads::read_head;
 use crate::lines::entry_text;
+use crate::records::{FIRST_ENTRY, Recorded};
 use crate::versions::Version;
 use ro_journal::Entry;
 use ro_settings::Mode;
@@ -19,6 +23,13 @@ use std::alloc::{AllocError, Global};
 pub struct FileJournal {
     /// The mode of the run.
     pub mode: Mode,
+    pub entries: Vec<Entry>,
+}
+
+/// A journal that says of what run it is.
+#[derive(Drop)]
+pub struct RecordedJournal {
+    pub recorded: Recorded,
     pub entries: Vec<Entry>,
 }
 
@@ -53,6 +64,20 @@ pub fn read_journal(alloc: Global, bytes: &[u8]) -> Result<FileJournal, JournalE
     }
 }
 
+/// Reads a text whose head says of what run it is, as far as `read_journal` reads one.
+///
+/// # Errors
+/// The number of the first bad line and what is bad in it, or `NoMemory`.
+pub fn read_record(alloc: Global, bytes: &[u8]) -> Result<RecordedJournal, JournalError>
+    ensures read { IfOk result (λ journal. file_record bytes.now ≡ Ok (record_in journal)) }
+    ensures refused { IfErr result (λ error. refuses error (file_record bytes.now)) }
+    ensures in_range { IfOk result (λ journal. InRange journal.recorded.settings) }
+{
+    let (recorded, rest) = read_head(bytes)?;
+    let entries = read_entries(alloc, rest, Version::Second, FIRST_ENTRY)?;
+    Ok(RecordedJournal { recorded, entries })
+}
+
 // The journal behind a first line.
 #[tactic(auto, using(crate::proofs::Steps::none_headed, crate::proofs::Steps::headed_read, crate::proofs::Steps::headed_refused))]
 fn read_headed(alloc: Global, first: &[u8], rest: &[u8]) -> Result<FileJournal, JournalError>
@@ -65,21 +90,27 @@ fn read_headed(alloc: Global, first: &[u8], rest: &[u8]) -> Result<FileJournal, 
             code: JournalCode::Form,
         });
     };
-    let entries = read_entries(alloc, rest, heading.version())?;
+    let entries = read_entries(alloc, rest, heading.version(), 2)?;
     Ok(FileJournal {
         mode: heading.mode(),
         entries,
     })
 }
 
-// The entries of the lines behind the first.
-fn read_entries(alloc: Global, bytes: &[u8], version: Version) -> Result<Vec<Entry>, JournalError>
-    ensures read { IfOk result (λ entries. lines_entries version 2 (parts_of bytes.now) ≡ Ok entries.items) }
-    ensures refused { IfErr result (λ error. refuses error (lines_entries version 2 (parts_of bytes.now))) }
+// The entries of lines from a number on.
+fn read_entries(
+    alloc: Global,
+    bytes: &[u8],
+    version: Version,
+    first: u64,
+) -> Result<Vec<Entry>, JournalError>
+    requires { first ≤ 11 }
+    ensures read { IfOk result (λ entries. lines_entries version first (parts_of bytes.now) ≡ Ok entries.items) }
+    ensures refused { IfErr result (λ error. refuses error (lines_entries version first (parts_of bytes.now))) }
 {
     let mut entries = Vec::new(alloc);
     let mut rest = bytes;
-    let mut line = 2u64;
+    let mut line = first;
     while let Some((text, behind)) = first_line(rest) {
         match read_entry(text, version) {
             Ok(entry) => {

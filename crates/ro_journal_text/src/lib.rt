@@ -5,20 +5,28 @@
 //! line, without memory, or whole; it is read up to its first bad line, or to the line of the entry that ends the run. L is a
 //! dash, a replica, or two rising ones parted by a comma. A text whose first line is `romain 1` is read too: it has replicas
 //! 0 to 2 alone, and no two of them lose.
+//!
+//! A record is a journal that says of what run it is. Its first line is `romain 3 vote` or `romain 3 coop`; then come the lines
+//! `replicas N`, `drivers N`, `watchdog N`, `quantum N`, `limit N`, `scrub N`, `exe H`, `input H` and `faults H`, where H is a
+//! SHA-256 in lower-case hex, and then the entries as behind `romain 2`.
 #![tactic(auto)]
 
 mod entries;
 mod errors;
 mod files;
 mod headings;
+mod heads;
 mod laws;
 mod lines;
+mod records;
 mod versions;
 mod words;
 
 pub use errors::{JournalCode, JournalError};
-pub use files::{FileJournal, journal_text, read_journal};
+pub use files::{FileJournal, RecordedJournal, journal_text, read_journal, read_record};
 pub use headings::{Heading, header};
-pub use laws::{texts_read_back, texts_spelled_once};
+pub use heads::read_head;
+pub use laws::{heads_read_back, records_read_back, texts_read_back, texts_spelled_once};
 pub use lines::entry_text;
+pub use records::{DIGEST_BYTES, FIRST_ENTRY, Recorded, head_text};
 pub use versions::Version;
